@@ -1,0 +1,245 @@
+-- Which catalogue a text is.
+use Rattle.std.specs.Prelude.{ℕ, suc, Bool, true, false, not, if◌then◌else◌, ◌&&◌, ◌||◌, ◌==◌, nat_eq, nat_le, List, [], ◌∷◌, ◌++◌, map, length, position, codes, Option, Some, None, Result, Ok, Err, slice_index_or}
+use Rattle.std.specs.List.{list_all, list_any}
+use Rattle.std.specs.Str.{bytes_eq}
+use Rattle.std.specs.Str.Lines.{lines}
+use Rattle.dep_index.specs.declared.params.ParamKind.{ParamKind}
+use Rattle.dep_index.specs.declared.params.ParamKind.TheVariants as kind_is
+use Rattle.dep_index.specs.declared.params.Param.{Param}
+use Rattle.dep_index.specs.Table.{Module}
+use Rattle.dep_index.specs.Text.{words, is_comment, normal_form, is_name, number_within}
+
+-- what a catalogue says of a module, its symbols as the text has them
+pub record Description : Type 0 where
+  pub name : List ℕ
+  pub size : Option ℕ
+  pub exports : List (List ℕ)
+  pub needed_symbols : List (List ℕ)
+  pub params : List Param
+  pub softneeds : List (List ℕ)
+  pub permanent : Bool
+
+abbrev pub described : List ℕ → Description
+described name =
+    record {
+      name = name;
+      size = None;
+      exports = [];
+      needed_symbols = [];
+      params = [];
+      softneeds = [];
+      permanent = false;
+    }
+
+abbrev pub description_at : List Description → ℕ → Description
+description_at modules m = slice_index_or modules m (described [])
+
+-- what the words of a line say, by their form alone
+pub data Directive : Type 0 where
+  version : Directive
+  begin : List ℕ → Directive
+  size : ℕ → Directive
+  exports : List (List ℕ) → Directive
+  needs : List (List ℕ) → Directive
+  softneeds : List (List ℕ) → Directive
+  param : List ℕ → ParamKind → Directive
+  permanent : Directive
+
+-- why a text is no catalogue
+pub data Refusal : Type 0 where
+  bad : Refusal
+  duplicate : Refusal
+  twice_exported : Refusal
+  too_many : Refusal
+
+abbrev pub kind_of : List ℕ → Option ParamKind
+kind_of word =
+    if bytes_eq word (codes "int") then Some kind_is.Int
+    else (if bytes_eq word (codes "bool") then Some kind_is.Bool
+    else (if bytes_eq word (codes "charp") then Some kind_is.Charp else None))
+
+abbrev pub with_size : Option ℕ → Option Directive
+with_size None = None
+with_size (Some n) = Some (size n)
+
+abbrev pub with_kind : List ℕ → Option ParamKind → Option Directive
+with_kind name None = None
+with_kind name (Some kind) = Some (param name kind)
+
+-- the directive of each first word, by the words behind it
+abbrev pub begin_of : List (List ℕ) → Option Directive
+begin_of (name ∷ []) = if is_name name then Some (begin (normal_form name)) else None
+begin_of _ = None
+
+abbrev pub size_of : List (List ℕ) → Option Directive
+size_of (word ∷ []) = with_size (number_within 4294967295 word)
+size_of _ = None
+
+abbrev pub some_symbols : (List (List ℕ) → Directive) → List (List ℕ) → Option Directive
+some_symbols make [] = None
+some_symbols make (w ∷ ws) = Some (make (w ∷ ws))
+
+abbrev pub some_names : List (List ℕ) → Option Directive
+some_names [] = None
+some_names (w ∷ ws) = if list_all is_name (w ∷ ws) then Some (softneeds (map normal_form (w ∷ ws))) else None
+
+abbrev pub param_of : List (List ℕ) → Option Directive
+param_of (name ∷ word ∷ []) = if is_name name then with_kind (normal_form name) (kind_of word) else None
+param_of _ = None
+
+abbrev pub alone : Directive → List (List ℕ) → Option Directive
+alone directive [] = Some directive
+alone directive (w ∷ ws) = None
+
+abbrev pub version_of : List (List ℕ) → Option Directive
+version_of (word ∷ []) = if bytes_eq word (codes "2") then Some version else None
+version_of _ = None
+
+abbrev pub directive_of : List ℕ → List (List ℕ) → Option Directive
+directive_of word rest =
+    if bytes_eq word (codes "module") then begin_of rest
+    else (if bytes_eq word (codes "size") then size_of rest
+    else (if bytes_eq word (codes "exports") then some_symbols exports rest
+    else (if bytes_eq word (codes "needs") then some_symbols needs rest
+    else (if bytes_eq word (codes "param") then param_of rest
+    else (if bytes_eq word (codes "permanent") then alone permanent rest
+    else (if bytes_eq word (codes "version") then version_of rest
+    else (if bytes_eq word (codes "softneeds") then some_names rest else None)))))))
+
+-- what was read so far: whether a line that is not ignored came, whether the text is of version 2, and the
+-- descriptions in order, the last one open
+pub record Draft : Type 0 where
+  pub begun : Bool
+  pub is_version_2 : Bool
+  pub modules : List Description
+
+abbrev pub no_draft : Draft
+no_draft = record { begun = false; is_version_2 = false; modules = [] }
+
+-- how many modules the text may have
+abbrev pub limit : Draft → ℕ
+limit draft = if draft.is_version_2 then 1024 else 256
+
+abbrev pub has_name : List Description → List ℕ → Bool
+has_name modules name = list_any (λ m. bytes_eq name m.name) modules
+
+abbrev pub exports_symbol : List ℕ → Description → Bool
+exports_symbol symbol m = list_any (bytes_eq symbol) m.exports
+
+-- the slot of the module that exports a symbol
+abbrev pub exporter : List Description → List ℕ → Option ℕ
+exporter modules symbol = position (exports_symbol symbol) modules
+
+abbrev pub is_exported : List Description → List ℕ → Bool
+is_exported modules symbol = list_any (exports_symbol symbol) modules
+
+abbrev pub sized : Description → Option ℕ → ℕ → Result Description Refusal
+sized last None n = Ok (record last { size = Some n })
+sized last (Some k) n = Err bad
+
+abbrev pub with_last : List Description → Result Description Refusal → Result (List Description) Refusal
+with_last earlier (Ok m) = Ok (earlier ++ (m ∷ []))
+with_last earlier (Err e) = Err e
+
+-- the symbols of one line are exported one after the other
+abbrev pub export_each : Description → List Description → List (List ℕ) → Result Description Refusal
+export_each last earlier [] = Ok last
+export_each last earlier (s ∷ ss) =
+    if is_exported earlier s || exports_symbol s last
+    then Err twice_exported
+    else export_each (record last { exports = last.exports ++ (s ∷ []) }) earlier ss
+
+-- what a line that changes the last description makes of it
+abbrev pub change : Bool → List Description → Description → Directive → Result Description Refusal
+change is_version_2 earlier last version = Err bad
+change is_version_2 earlier last (begin name) = Err bad
+change is_version_2 earlier last (size n) = sized last last.size n
+change is_version_2 earlier last (exports ss) = export_each last earlier ss
+change is_version_2 earlier last (needs ss) = Ok (record last { needed_symbols = last.needed_symbols ++ ss })
+change is_version_2 earlier last (softneeds ns) =
+    if is_version_2 then Ok (record last { softneeds = last.softneeds ++ ns }) else Err bad
+change is_version_2 earlier last (param name kind) =
+    if list_any (λ p. bytes_eq name p.name) last.params
+    then Err bad
+    else Ok (record last { params = last.params ++ (record { name = name; kind = kind } ∷ []) })
+change is_version_2 earlier last permanent = Ok (record last { permanent = true })
+
+abbrev pub change_last : Bool → List Description → List Description → Directive → Result (List Description) Refusal
+change_last is_version_2 earlier [] directive = Err bad
+change_last is_version_2 earlier (m ∷ []) directive = with_last earlier (change is_version_2 earlier m directive)
+change_last is_version_2 earlier (m ∷ n ∷ ms) directive = change_last is_version_2 (earlier ++ (m ∷ [])) (n ∷ ms) directive
+
+abbrev pub with_modules : Draft → Result (List Description) Refusal → Result Draft Refusal
+with_modules draft (Ok modules) = Ok (record draft { begun = true; modules = modules })
+with_modules draft (Err e) = Err e
+
+-- the effect of a directive
+abbrev pub apply : Draft → Directive → Result Draft Refusal
+apply draft version =
+    if draft.begun then Err bad else Ok (record draft { begun = true; is_version_2 = true })
+apply draft (begin name) =
+    if has_name draft.modules name then Err duplicate
+    else (if nat_le (limit draft) (length draft.modules) then Err too_many
+    else Ok (record draft { begun = true; modules = draft.modules ++ (described name ∷ []) }))
+apply draft directive = with_modules draft (change_last draft.is_version_2 [] draft.modules directive)
+
+abbrev pub apply_some : Draft → Option Directive → Result Draft Refusal
+apply_some draft None = Err bad
+apply_some draft (Some directive) = apply draft directive
+
+-- one line, by its words
+abbrev pub read_words : Draft → List (List ℕ) → Result Draft Refusal
+read_words draft [] = Ok draft
+read_words draft (w ∷ ws) = apply_some draft (directive_of w ws)
+
+abbrev pub read_line : Draft → List ℕ → Result Draft Refusal
+read_line draft line = if is_comment line then Ok draft else read_words draft (words line)
+
+abbrev pub then_lines : ℕ → Result Draft Refusal → (Draft → Result Draft (Refusal × ℕ)) → Result Draft (Refusal × ℕ)
+then_lines n (Ok draft) go = go draft
+then_lines n (Err e) go = Err (e, n)
+
+-- the first fault has the number of its line, from 1
+abbrev pub read_lines : ℕ → Draft → List (List ℕ) → Result Draft (Refusal × ℕ)
+read_lines n draft [] = Ok draft
+read_lines n draft (l ∷ ls) = then_lines n (read_line draft l) (λ d. read_lines (suc n) d ls)
+
+abbrev pub modules_read : Result Draft (Refusal × ℕ) → Result (List Description) (Refusal × ℕ)
+modules_read (Ok draft) = Ok draft.modules
+modules_read (Err e) = Err e
+
+-- the meaning of a catalogue text: its descriptions, or the first fault with its line
+abbrev pub catalogue_of : List ℕ → Result (List Description) (Refusal × ℕ)
+catalogue_of text = modules_read (read_lines 1 no_draft (lines text))
+
+abbrev pub with_need : ℕ → List ℕ → Option ℕ → List ℕ
+with_need m found None = found
+with_need m found (Some k) = if k == m || list_any (nat_eq k) found then found else found ++ (k ∷ [])
+
+abbrev pub needs_from : List Description → ℕ → List ℕ → List (List ℕ) → List ℕ
+needs_from modules m found [] = found
+needs_from modules m found (s ∷ ss) = needs_from modules m (with_need m found (exporter modules s)) ss
+
+-- the needs of a slot: the exporters of its symbols in their order, without repeats and without itself
+abbrev pub needs_of : List Description → ℕ → List ℕ
+needs_of modules m = needs_from modules m [] (description_at modules m).needed_symbols
+
+-- the slot needs a symbol that no module exports
+abbrev pub has_unknown_symbol : List Description → ℕ → Bool
+has_unknown_symbol modules m = list_any (λ s. not (is_exported modules s)) (description_at modules m).needed_symbols
+
+-- what a table asks of a catalogue, slot by slot
+abbrev pub module_of : List Description → ℕ → Module
+module_of modules m =
+    record {
+      needs = needs_of modules m;
+      unknown_symbol = has_unknown_symbol modules m;
+      permanent = (description_at modules m).permanent;
+    }
+
+abbrev pub modules_from : List Description → ℕ → List Description → List Module
+modules_from modules m [] = []
+modules_from modules m (d ∷ later) = module_of modules m ∷ modules_from modules (suc m) later
+
+abbrev pub modules_of : List Description → List Module
+modules_of modules = modules_from modules 0 modules

@@ -1,0 +1,52 @@
+-- Legal histories: lists of calls with what they answered, and why removals are safe in them.
+use Rattle.std.specs.Prelude.{◌≡◌, ◌≢◌, ℕ, List, [], ◌∷◌, ◌++◌, map, true}
+use Rattle.dep_index.specs.declared.calls.Call.{Call}
+use Rattle.dep_index.specs.declared.calls.Call.TheVariants.{Get, EndLoad}
+use Rattle.dep_index.specs.declared.calls.Reply.{Reply}
+use Rattle.dep_index.specs.declared.calls.Reply.TheVariants.{Done, NotLive}
+use Rattle.dep_index.specs.Table.{Module, Table, pairs, users}
+use Rattle.dep_index.specs.Calls.{after, opening, replies}
+use Rattle.dep_index.specs.Laws.{AllInRange, IsRemoval, IsShutting}
+
+-- a call and what it answered
+pub record Answer : Type 0 where
+  pub call : Call
+  pub reply : Reply
+
+abbrev pub calls_in : List Answer → List Call
+calls_in history = map (λ (a : Answer). a.call) history
+
+abbrev pub replies_in : List Answer → List Reply
+replies_in history = map (λ (a : Answer). a.reply) history
+
+-- a history is legal: its calls are in range, and each answers what the one-thread table answers
+pub record IsLegal (catalogue : List Module) (workers : ℕ) (history : List Answer) : Type 0 where
+  pub range : AllInRange catalogue workers (calls_in history)
+  pub replay : replies catalogue (opening catalogue workers) (calls_in history) ≡ replies_in history
+
+-- the table after a history
+abbrev pub table_after : List Module → ℕ → List Answer → Table
+table_after catalogue workers history = after catalogue (opening catalogue workers) (calls_in history)
+
+-- no load of m ends well in these answers
+abbrev pub NoLoad : ℕ → List Answer → Type 0
+NoLoad m [] = Unit {0}
+NoLoad m (a ∷ later) = (a.call ≡ EndLoad m true → a.reply ≢ Done) × NoLoad m later
+
+-- a removal of m that answers Ok finds no reference to m and no module of the table that needs it; and after a
+-- removal or a drain of m that answers Ok no get of m succeeds, until a load of m ends well
+pub record RemovalsAreSafe (catalogue : List Module) (workers : ℕ) (history : List Answer) : Type 0 where
+  pub unused : (before later : List Answer) (removal : Answer) (m : ℕ)
+      → history ≡ before ++ removal ∷ later → IsRemoval m removal.call → removal.reply ≡ Done
+      → (pairs (table_after catalogue workers before).rows m ≡ 0)
+      × (users catalogue (table_after catalogue workers before).book m ≡ [])
+  pub shut : (before later between rest : List Answer) (shutting get : Answer) (m w : ℕ)
+      → history ≡ before ++ shutting ∷ later → IsShutting m shutting.call → shutting.reply ≡ Done
+      → later ≡ between ++ get ∷ rest → NoLoad m between → get.call ≡ Get w m
+      → get.reply ≡ NotLive
+
+-- the law: in every legal history removals are safe
+abbrev pub LegalIsSafe : Type 0
+LegalIsSafe =
+    (catalogue : List Module) (workers : ℕ) (history : List Answer) → IsLegal catalogue workers history
+    → RemovalsAreSafe catalogue workers history

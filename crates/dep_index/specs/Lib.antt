@@ -1,0 +1,10 @@
+pub mod Text
+pub mod Table
+pub mod Refusals
+pub mod Calls
+pub mod Laws
+pub mod History
+pub mod Words
+pub mod Slots
+pub mod Catalogue
+pub mod Dependencies

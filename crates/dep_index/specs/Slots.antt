@@ -1,0 +1,10 @@
+-- A catalogue's slots as the list of their modules_in.
+use Rattle.std.specs.Prelude.{List, [], ◌∷◌, map}
+use Rattle.dep_index.specs.declared.slots.Slot.{Slot}
+use Rattle.dep_index.specs.Table.{Module}
+
+abbrev pub module_in : Slot → Module
+module_in s = record { needs = s.needs.items; unknown_symbol = s.unknown_symbol; permanent = s.permanent }
+
+abbrev pub modules_in : List Slot → List Module
+modules_in slots = map module_in slots

@@ -1,0 +1,23 @@
+//! What all crates share: the calls on a module table and their replies, and the catalogue by slot.
+#![tactic(auto)]
+
+mod calls;
+pub mod laws;
+mod names;
+mod params;
+pub mod reads;
+mod refusals;
+mod slots;
+mod states;
+pub mod words;
+
+pub use calls::{Call, Reply};
+pub use names::Name;
+pub use params::{Param, ParamKind};
+pub use refusals::{
+    BeginDrainError, BeginLoadError, BeginRemoveError, EndLoadError, EndRemoveError, GetError,
+    PutError,
+};
+pub use slots::Slots;
+pub use states::ModuleState;
+pub use words::{Outcome, WordStep};

@@ -1,0 +1,75 @@
+//! Reads of states, needs and the order of loading.
+ghost use Rattle.std.specs.Prelude.{◌≡◌, ◌==◌, not, find, slice_index_or, filter};
+ghost use Rattle.std.specs.List.{list_any};
+ghost use Rattle.std.specs.Vec.{vec_capacity};
+ghost use Rattle.dep_index.specs.Table.{is_absent, is_loading, is_live, is_draining, is_unloading, needs_slot};
+
+use crate::slots::Slots;
+use crate::states::ModuleState;
+
+pub fn state_at(states: &[ModuleState], m: usize) -> ModuleState
+    ensures { result ≡ slice_index_or states.now m ModuleState.Absent }
+{
+    states.get(m).copied().unwrap_or(ModuleState::Absent)
+}
+
+pub fn is_live(state: ModuleState) -> bool
+    ensures { result ≡ is_live state }
+{
+    matches!(state, ModuleState::Live)
+}
+
+pub fn is_absent(state: ModuleState) -> bool
+    ensures { result ≡ is_absent state }
+{
+    matches!(state, ModuleState::Absent)
+}
+
+pub fn is_draining(state: ModuleState) -> bool
+    ensures { result ≡ is_draining state }
+{
+    matches!(state, ModuleState::Draining)
+}
+
+pub fn is_unloading(state: ModuleState) -> bool
+    ensures { result ≡ is_unloading state }
+{
+    matches!(state, ModuleState::Unloading)
+}
+
+pub fn is_loading(state: ModuleState) -> bool
+    ensures { result ≡ is_loading state }
+{
+    matches!(state, ModuleState::Loading)
+}
+
+/// The first need that is not live.
+pub fn first_missing(states: &[ModuleState], needs: &[u16]) -> Option<u16>
+    ensures { result ≡ find (λ n. not (is_live (slice_index_or states.now n ModuleState.Absent))) needs.now }
+{
+    needs
+        .iter()
+        .copied()
+        .find(|need| !is_live(state_at(states, *need as usize)))
+}
+
+pub fn needs_slot(shape: &Slots, m: usize, u: u16) -> bool
+    ensures { result ≡ needs_slot shape.now m u }
+{
+    let u = u as usize;
+    u < shape.len() && shape.needs(u).iter().any(|need| *need as usize == m)
+}
+
+pub fn has_users(shape: &Slots, order: &[u16], m: usize) -> bool
+    ensures { result ≡ list_any (needs_slot shape.now m) order.now }
+{
+    order.iter().any(|user| needs_slot(shape, m, *user))
+}
+
+/// A slot leaves the order.
+pub fn forget(order: &mut Vec<u16>, m: usize)
+    ensures after { order.new.items ≡ filter (λ s. not (s == m)) order.old.items }
+    ensures capacity { vec_capacity order.new ≡ vec_capacity order.old }
+{
+    order.retain(|slot| *slot as usize != m);
+}

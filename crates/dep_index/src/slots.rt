@@ -1,0 +1,90 @@
+//! What a table needs of a catalogue: needs and marks by slot.
+ghost use Rattle.std.specs.Prelude.{◌≡◌, ◌<◌, ◌≤◌, [], ◌∷◌, ◌++◌, length, IfOk};
+ghost use Rattle.dep_index.specs.Table.{module_at};
+
+use std::alloc::{AllocError, Global};
+use std::marker::Model;
+
+/// What the catalogue says of a slot.
+#[derive(Drop)]
+struct Slot {
+    needs: Vec<u16>,
+    unknown_symbol: bool,
+    permanent: bool,
+}
+
+/// The modules of a catalogue by slot. Contracts see it as the list of its modules_in.
+#[derive(Drop)]
+pub struct Slots {
+    slots: Vec<Slot>,
+}
+
+impl Model for Slots {
+    ghost use Rattle.std.specs.Prelude.{List, length, ◌≤◌};
+    ghost use Rattle.dep_index.specs.Table.{Module};
+
+    ghost Value = { List Module };
+
+    ghost use Rattle.dep_index.specs.Slots.{modules_in};
+
+    ghost view = { λ a. modules_in a.slots.items };
+
+    ghost invariant = { λ a. length a.slots.items ≤ 1024 };
+}
+
+impl Slots {
+    /// A shape with no module.
+    pub fn new(alloc: Global) -> Slots
+        ensures { result ≡ [] }
+    {
+        Slots {
+            slots: Vec::new(alloc),
+        }
+    }
+
+    /// Adds a module after the others.
+    pub fn push(
+        &mut self,
+        needs: Vec<u16>,
+        unknown_symbol: bool,
+        permanent: bool,
+    ) -> Result<(), AllocError>
+        requires room { length self.old < 1024 }
+        ensures { IfOk result (λ _. self.new ≡ self.old ++ record { needs = needs.items; unknown_symbol = unknown_symbol; permanent = permanent } ∷ []) }
+    {
+        self.slots.push(Slot {
+            needs,
+            unknown_symbol,
+            permanent,
+        })?;
+        Ok(())
+    }
+
+    pub fn len(&self) -> usize
+        ensures result_is { result ≡ length self.now }
+        ensures bound { length self.now ≤ 1024 }
+    {
+        self.slots.len()
+    }
+
+    pub fn needs(&self, m: usize) -> &[u16]
+        requires { m < length self.now }
+        ensures { result.now ≡ (module_at self.now m).needs }
+    {
+        &self.slots[m].needs
+    }
+
+    pub fn unknown_symbol(&self, m: usize) -> bool
+        requires { m < length self.now }
+        ensures { result ≡ (module_at self.now m).unknown_symbol }
+    {
+        self.slots[m].unknown_symbol
+    }
+
+    pub fn permanent(&self, m: usize) -> bool
+        requires { m < length self.now }
+        ensures { result ≡ (module_at self.now m).permanent }
+    {
+        self.slots[m].permanent
+    }
+}

@@ -1,0 +1,101 @@
+//! What one step on a root word does.
+ghost use Rattle.std.specs.Prelude.{◌≡◌, ◌<◌, ◌+◌, ◌≤◌, ◌^◌};
+ghost use Rattle.dep_index.specs.Words.{get_look, put_step, query_look, close_step, takes_effect};
+
+use crate::calls::Reply;
+
+/// What a step on a word comes to.
+#[derive(Clone, Copy, Debug, PartialEq, Eq, Drop)]
+pub enum Outcome {
+    /// The call takes effect.
+    Effect(Reply),
+    /// The call goes on to exchange this word.
+    GoesOn(u64),
+}
+
+/// The word after a step, and what the step comes to.
+#[derive(Clone, Copy, Debug, PartialEq, Eq, Drop)]
+pub struct WordStep {
+    pub word: u64,
+    pub outcome: Outcome,
+}
+
+/// The word of a module that is neither live nor draining.
+pub const CLOSED: u64 = 1 << 32;
+
+/// What is added to the word of a module that drains.
+pub const DRAINED: u64 = 1 << 33;
+
+/// The load of a get, by a leaf that holds the slot so often.
+pub fn get_look(count: u16, word: u64) -> WordStep
+    ensures { result ≡ get_look count word }
+{
+    let outcome = if word >= CLOSED {
+        Outcome::Effect(Reply::NotLive)
+    } else if count == 0 {
+        Outcome::GoesOn(word)
+    } else if count < u16::MAX {
+        Outcome::Effect(Reply::Done)
+    } else {
+        Outcome::Effect(Reply::TooMany)
+    };
+    WordStep { word, outcome }
+}
+
+/// The step of a put.
+pub fn put_step(count: u16, word: u64) -> WordStep
+    requires { count ≡ 1 → 0 < word }
+    ensures { result ≡ put_step count word }
+{
+    match count {
+        0 => WordStep {
+            word,
+            outcome: Outcome::Effect(Reply::NotHeld),
+        },
+        1 => WordStep {
+            word: word - 1,
+            outcome: Outcome::Effect(Reply::Done),
+        },
+        _ => WordStep {
+            word,
+            outcome: Outcome::Effect(Reply::Done),
+        },
+    }
+}
+
+/// The load of a query.
+pub fn query_look(word: u64) -> WordStep
+    ensures { result ≡ query_look word }
+{
+    let held = if word < CLOSED {
+        word > 0
+    } else {
+        word > DRAINED
+    };
+    let reply = if held { Reply::Yes } else { Reply::No };
+    WordStep {
+        word,
+        outcome: Outcome::Effect(reply),
+    }
+}
+
+/// The call takes effect.
+pub fn takes_effect(word: u64, reply: Reply) -> WordStep
+    ensures { result ≡ takes_effect word reply }
+{
+    WordStep {
+        word,
+        outcome: Outcome::Effect(reply),
+    }
+}
+
+/// GoesOn the expected word by the closed one; where it misses, there are references.
+pub fn close_step(expected: u64, word: u64) -> WordStep
+    ensures { result ≡ close_step expected word }
+{
+    if word == expected {
+        takes_effect(CLOSED, Reply::Done)
+    } else {
+        takes_effect(word, Reply::InUse)
+    }
+}
