@@ -1,4 +1,3 @@
-pub mod Rows
 pub mod Shown
 pub mod Soundness
 pub mod Lines
