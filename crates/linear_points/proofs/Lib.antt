@@ -1,0 +1,10 @@
+pub mod Replay
+pub mod Lives
+pub mod Courses
+pub mod Whole
+pub mod Range
+pub mod Numbers
+pub mod Prefixes
+pub mod Headline
+pub mod Found
+pub mod Accepted

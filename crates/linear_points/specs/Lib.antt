@@ -1,0 +1,4 @@
+pub mod Run
+pub mod Linearization
+pub mod Interval
+pub mod Refused
