@@ -1,14 +1,15 @@
 //! The table.
 ghost use Rattle.std.specs.Prelude.{◌≡◌, ◌<◌, ◌≤◌, length, IfOk, filter};
 ghost use Rattle.dep_index.specs.Table.{needs_slot};
+ghost use Rattle.dep_index.specs.Catalogue.{modules_of};
 ghost use Rattle.dep_index.specs.Calls.{opening, unload_refusal};
 ghost use Rattle.dep_index.specs.Refusals.{refusal_of, begin_drain_refusal, begin_remove_refusal};
 
 use crate::counts;
 use crate::modules::Modules;
 use dep_index::{
-    BeginDrainError, BeginLoadError, BeginRemoveError, EndLoadError, EndRemoveError, GetError,
-    ModuleState, PutError, Slots, reads,
+    BeginDrainError, BeginLoadError, BeginRemoveError, Catalogue, EndLoadError, EndRemoveError,
+    GetError, ModuleState, PutError, Slots, reads,
 };
 use std::alloc::{AllocError, Global};
 use std::marker::Model;
@@ -35,8 +36,17 @@ impl Model for Table {
 }
 
 impl Table {
-    /// The opening table over the slots of a catalogue: nothing is loaded, and nothing is held. It reserves
-    /// all room, so that no later call takes memory.
+    /// The opening table over a catalogue: nothing is loaded, and nothing is held. It reserves all room, so that no
+    /// later call takes memory.
+    pub fn new(alloc: Global, catalogue: &Catalogue, workers: usize) -> Result<Table, AllocError>
+        requires { workers ≤ 64 }
+        ensures over { IfOk result (λ t. t.catalogue ≡ modules_of catalogue.now) }
+        ensures opens { IfOk result (λ t. t.table ≡ opening (modules_of catalogue.now) workers) }
+    {
+        Table::over(alloc, catalogue.slots(alloc)?, workers)
+    }
+
+    /// The opening table over the slots of a catalogue, as `new`.
     pub fn over(alloc: Global, slots: Slots, workers: usize) -> Result<Table, AllocError>
         requires { workers ≤ 64 }
         ensures over { IfOk result (λ t. t.catalogue ≡ slots) }
