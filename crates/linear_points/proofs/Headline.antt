@@ -45,11 +45,11 @@ lives_at_start catalogue workers threads calls steps few accepted n =
 
 -- the points of events in which each call lives as it should
 within_of : (es : List Event) → ((n : ℕ) → Lives n Before es) → (k : ℕ) (d : Point) → k < length (points_from 0 es) → IsWithin es (get_or (points_from 0 es) k d)
-within_of es lives k d h = (
-  after_invoked 0 k es (get_or (points_from 0 es) k d) (slice_get_some (points_from 0 es) k d h) (lives _),
-  omega (arith, (in_span 0 k es (get_or (points_from 0 es) k d) (slice_get_some (points_from 0 es) k d h)).1),
-  last (first_index (is_returned (get_or (points_from 0 es) k d).call) 0 es) refl,
-) where
+within_of es lives k d h = record {
+  begun = after_invoked 0 k es (get_or (points_from 0 es) k d) (slice_get_some (points_from 0 es) k d h) (lives _);
+  made = omega (arith, (in_span 0 k es (get_or (points_from 0 es) k d) (slice_get_some (points_from 0 es) k d h)).1);
+  unreturned = last (first_index (is_returned (get_or (points_from 0 es) k d).call) 0 es) refl;
+} where
   last : (o : Option ℕ) → first_index (is_returned (get_or (points_from 0 es) k d).call) 0 es ≡ o → IfSome o (λ l. (get_or (points_from 0 es) k d).index ≤ l)
   last None e = tt
   last (Some l) e = before_returned 0 k Before es (get_or (points_from 0 es) k d) (slice_get_some (points_from 0 es) k d h) (lives _) l e
@@ -90,7 +90,7 @@ pub points_in_range : (catalogue : List Module) (workers : ℕ) (calls : List Ca
     → ((n l : ℕ) → first_step es n ≡ Some l → n < length calls) → All (IsWithin es) points → AllInRange catalogue workers (calls_in (answers calls points))
 points_in_range catalogue workers calls es [] range below within = tt
 points_in_range catalogue workers calls es (p ∷ points) range below within = (
-  numbered_in_range catalogue workers calls p.call range (number (first_step es p.call) refl (within 0 p (omega arith)).0),
+  numbered_in_range catalogue workers calls p.call range (number (first_step es p.call) refl (within 0 p (omega arith)).begun),
   points_in_range catalogue workers calls es points range below (λ k d h. within (suc k) d (omega (arith, h))),
 ) where
   number : (o : Option ℕ) → first_step es p.call ≡ o → IsSomeAnd o (λ first. first ≤ p.index) → p.call < length calls

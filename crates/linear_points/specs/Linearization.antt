@@ -46,11 +46,10 @@ returned_reply [] n = None
 returned_reply (e ∷ es) n = reply_in n e (returned_reply es n)
 
 -- the point lies between its call's first step and its last, both included; an open call goes on to the end
-abbrev pub IsWithin : List Event → Point → Type 0
-IsWithin es p =
-    IsSomeAnd (first_step es p.call) (λ first. first ≤ p.index)
-    × (p.index < length es)
-    × IfSome (last_step es p.call) (λ last. p.index ≤ last)
+pub record IsWithin (es : List Event) (p : Point) : Type 0 where
+  pub begun : IsSomeAnd (first_step es p.call) (λ first. first ≤ p.index)
+  pub made : p.index < length es
+  pub unreturned : IfSome (last_step es p.call) (λ last. p.index ≤ last)
 
 -- how often the call has a point
 abbrev pub point_count : ℕ → List Point → ℕ

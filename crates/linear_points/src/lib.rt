@@ -1,12 +1,16 @@
 //! Where each call of a run takes effect, and a checker of points that others name.
 #![tactic(auto)]
 
+mod checker;
+mod course;
 mod intervals;
 pub mod laws;
 mod linear;
+mod replays;
 mod runs;
 mod taken;
 
-pub use intervals::Interval;
+pub use checker::check_points;
+pub use intervals::{End, Interval};
 pub use linear::points;
 pub use taken::{Point, PointsError};

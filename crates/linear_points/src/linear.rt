@@ -24,7 +24,7 @@ pub fn points(
     threads: usize,
     steps: &[Step],
 ) -> Result<Vec<Point>, PointsError>
-    requires few { workers < 2 ^ 32 }
+    requires { workers < 2 ^ 32 }
 
     ensures run { OnOk result (IsRun (modules_of catalogue.now) workers threads steps.now) }
     ensures points { IfOk result (λ p. p.items ≡ run_points (modules_of catalogue.now) workers threads steps.now) }
@@ -34,9 +34,7 @@ pub fn points(
     ensures refused { IfErr result (IsRefusal (modules_of catalogue.now) workers threads steps.now) }
 {
     legal_is_safe();
-    let slots = catalogue.slots(alloc)?;
-    let machine = Machine::over(alloc, slots, workers, threads, steps.len())?;
-    let events = runs::events(alloc, machine, steps)?;
+    let events = runs::run(alloc, catalogue, workers, threads, steps)?;
     Ok(points_among(alloc, &events)?)
 }
 
