@@ -1,0 +1,15 @@
+//! Shell patterns over bytes, and the aliases of a modules.alias text.
+#![tactic(auto)]
+
+mod alias;
+mod laws;
+mod pattern;
+mod read;
+
+pub use alias::Alias;
+pub use laws::{match_is_decided, one_reading, reading_is_total};
+pub use pattern::{ByteRange, Item, Pattern, Set};
+pub use read::PatternError;
+
+#[cfg(test)]
+mod tests;
