@@ -8,3 +8,4 @@ pub mod Words
 pub mod Slots
 pub mod Catalogue
 pub mod Dependencies
+pub mod TextLaws

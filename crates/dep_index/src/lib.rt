@@ -9,6 +9,7 @@ pub mod reads;
 mod refusals;
 mod slots;
 mod states;
+pub mod text;
 pub mod words;
 
 pub use calls::{Call, Reply};
