@@ -1,6 +1,6 @@
 -- The test for a match says what the relation says.
-use Rattle.std.proofs.Common.{◌≡◌, ℕ, Bool, true, false, cond, ◌&&◌, ◌||◌, ◌⊎◌, ◌↔◌, inl, inr, List, [], ◌∷◌, ◌++◌, refl, sym, ◌∙◌, ap, subst, IsTrue}
-use Rattle.alias_match.specs.Pattern.{Piece, byte, any_byte, run, one_of, Matches, holds, any_end, takes_byte, takes, is_end, is_match}
+use Rattle.std.proofs.Common.{◌≡◌, ℕ, Bool, true, false, ◌&&◌, ◌||◌, ◌⊎◌, inl, inr, List, [], ◌∷◌, refl, ◌∙◌, ap}
+use Rattle.alias_match.specs.Pattern.{Piece, byte, any_byte, run, one_of, Matches, holds, any_end, takes_byte, is_end, is_match}
 use Rattle.alias_match.proofs.Matching.{IsEnd, whole, later, IsShort, Matches-run, run-Matches, Matches-short, short-Matches}
 
 or_true : (a b : Bool) → (a || b) ≡ true → (a ≡ true) ⊎ (b ≡ true)

@@ -1,6 +1,6 @@
 -- The laws by which a walk with one place to return to decides whether a pattern matches.
-use Rattle.std.proofs.Common.{◌≡◌, ℕ, suc, ◌+◌, ◌*◌, ◌<◌, ◌≤◌, ◌⊎◌, ◌↔◌, inl, inr, true, false, cond, not, nat_eq, nat_le, Option, Some, None, List, [], ◌∷◌, ◌++◌, map, length, refl, sym, ◌∙◌, ap, subst, arith, eqb-true, eq-eqb}
-use Rattle.alias_match.specs.Pattern.{Piece, byte, any_byte, run, one_of, Matches, StandsFor, holds, in_set}
+use Rattle.std.proofs.Common.{◌≡◌, ℕ, ◌≤◌, ◌⊎◌, inl, inr, true, false, nat_eq, Option, Some, None, List, [], ◌∷◌, ◌++◌, length, refl, sym, ◌∙◌, ap, subst, arith, eqb-true, eq-eqb}
+use Rattle.alias_match.specs.Pattern.{Piece, byte, any_byte, run, one_of, Matches, holds}
 
 -- u is an end of s
 pub data IsEnd : List ℕ → List ℕ → Type 0 where

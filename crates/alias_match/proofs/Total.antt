@@ -1,12 +1,11 @@
 -- Reading as a function is the reading.
-use Rattle.std.proofs.Common.{◌≡◌, ◌≢◌, ℕ, zero, suc, ◌≤◌, List, [], ◌∷◌, ◌++◌, length, drop, Bool, true, false, cond, not, ◌&&◌, ◌||◌, nat_eq, Result, Ok, Err, ◌⊎◌, inl, inr, refl, sym, ◌∙◌, ap, subst, arith, eqb-true}
+use Rattle.std.proofs.Common.{◌≡◌, ℕ, zero, suc, ◌≤◌, List, [], ◌∷◌, length, drop, Bool, true, false, cond, not, ◌&&◌, ◌||◌, nat_eq, Result, Ok, Err, ◌⊎◌, inl, inr, refl, ◌∙◌, ap, subst, arith, eqb-true}
 use Rattle.std.proofs.lemmas.Bool.Decides.{eqb_tells}
 use Rattle.alias_match.specs.declared.pattern.ByteRange.{ByteRange}
-use Rattle.alias_match.specs.declared.read.Letter.{Letter}
 use Rattle.alias_match.specs.declared.read.PatternError.{PatternError}
-use Rattle.alias_match.specs.declared.read.PatternError.TheVariants.{Unclosed, Class, Backslash, Memory}
+use Rattle.alias_match.specs.declared.read.PatternError.TheVariants.{Class}
 use Rattle.alias_match.specs.Pattern.{Piece, byte}
-use Rattle.alias_match.specs.Reading.{◌>>=◌, letter, range, member, class_mark, closes, one_byte, HasMembers, bad_member, last, more, unclosed, over, bad_item, item, ranges_before, HasItem, Reads, pieces_before, set, plain, plain_item, negates, after_sign, set_of, undashed, after_member, members_from, item_of, after_item, pieces_from, pattern_of}
+use Rattle.alias_match.specs.Reading.{◌>>=◌, letter, range, member, class_mark, closes, HasMembers, bad_member, last, more, unclosed, over, bad_item, item, ranges_before, HasItem, Reads, set, plain, plain_item, negates, after_sign, set_of, undashed, after_member, members_from, item_of, after_item, pieces_from, pattern_of}
 
 told : (b : Bool) → (b ≡ true) ⊎ (b ≡ false)
 told true = inl refl

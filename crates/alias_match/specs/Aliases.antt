@@ -1,12 +1,11 @@
 -- Which aliases a modules.alias text has: its lines `alias PATTERN TARGET`, as in modprobe.d(5).
-use Rattle.std.specs.Prelude.{ℕ, if◌then◌else◌, List, [], ◌∷◌, codes, Option, Some, None, Result, Ok, Err}
+use Rattle.std.specs.Prelude.{ℕ, if◌then◌else◌, List, [], ◌∷◌, codes, Option, Some, None, option_map}
+use Rattle.std.specs.Result.{result_ok}
 use Rattle.std.specs.List.{enumerate_from}
 use Rattle.std.specs.Str.{bytes_eq}
 use Rattle.std.specs.Str.Lines.{lines}
 use Rattle.dep_index.specs.Text.{words, is_comment, normal_form}
 use Rattle.alias_match.specs.declared.alias.Alias.{Alias}
-use Rattle.alias_match.specs.declared.read.PatternError.{PatternError}
-use Rattle.alias_match.specs.Pattern.{Piece}
 use Rattle.alias_match.specs.Reading.{pattern_of}
 
 -- what the lines of a text say: entries in the order of their lines, and the numbers of the lines without effect
@@ -33,15 +32,16 @@ abbrev pub entries_of : {Entry : Type 0} → (List (List ℕ) → Option Entry) 
 entries_of entry_of [] = record { entries = []; skipped = [] }
 entries_of entry_of (line ∷ later) = line_before entry_of line (entries_of entry_of later)
 
--- a target has its alias where the pattern before it can be read
-abbrev pub alias_for : List ℕ → Result (List Piece) PatternError → Option Alias
-alias_for target (Ok pattern) = Some (record { pattern = pattern; target = target })
-alias_for target (Err fault) = None
+-- the alias that three words are: `alias`, a pattern that can be read, and a name
+abbrev pub alias_from : List ℕ → List ℕ → List ℕ → Option Alias
+alias_from w pattern target =
+    if bytes_eq w (codes "alias")
+    then option_map (λ read. record { pattern = read; target = normal_form target }) (result_ok (pattern_of pattern))
+    else None
 
--- the alias that the words of a line are; words behind the target have no effect
+-- the alias that the words of a line are; words behind the third have no effect
 abbrev pub alias_of : List (List ℕ) → Option Alias
-alias_of (w ∷ pattern ∷ target ∷ ws) =
-    if bytes_eq w (codes "alias") then alias_for (normal_form target) (pattern_of pattern) else None
+alias_of (w ∷ pattern ∷ target ∷ ws) = alias_from w pattern target
 alias_of _ = None
 
 -- the meaning of a modules.alias text

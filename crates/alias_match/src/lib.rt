@@ -2,11 +2,13 @@
 #![tactic(auto)]
 
 mod alias;
+mod aliases;
 mod laws;
 mod pattern;
 mod read;
 
 pub use alias::Alias;
+pub use aliases::{Aliases, read_aliases};
 pub use laws::{match_is_decided, one_reading, reading_is_total};
 pub use pattern::{ByteRange, Item, Pattern, Set};
 pub use read::PatternError;

@@ -80,6 +80,9 @@ pub struct Pattern {
 }
 
 impl Model for Pattern {
+    ghost use Rattle.std.specs.Prelude.{List};
+    ghost use Rattle.alias_match.specs.Pattern.{Piece, pieces};
+
     ghost Value = { List Piece };
 
     ghost view = { λ p. pieces p.items.items };
