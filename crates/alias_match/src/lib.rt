@@ -10,7 +10,7 @@ mod read;
 pub use alias::Alias;
 pub use aliases::{Aliases, read_aliases};
 pub use laws::{match_is_decided, one_reading, reading_is_total};
-pub use pattern::{ByteRange, Item, Pattern, Set};
+pub use pattern::Pattern;
 pub use read::PatternError;
 
 #[cfg(test)]

@@ -10,22 +10,14 @@ use std::marker::Model;
 
 /// The bytes from the first to the last, none where the first is greater.
 #[derive(Clone, Copy, Debug, PartialEq, Eq, Drop)]
-pub struct ByteRange {
+pub(crate) struct ByteRange {
     pub first: u8,
     pub last: u8,
 }
 
-impl ByteRange {
-    pub fn contains(self, byte: u8) -> bool
-        ensures { result ≡ in_range byte self }
-    {
-        self.first <= byte && byte <= self.last
-    }
-}
-
 /// A set of bytes: those of its ranges, or all others.
 #[derive(Debug, Drop)]
-pub struct Set {
+pub(crate) struct Set {
     pub negated: bool,
     pub members: Vec<ByteRange>,
 }
@@ -52,7 +44,7 @@ fn is_member(members: &[ByteRange], byte: u8) -> bool
 
 /// One item of a pattern.
 #[derive(Debug, Drop)]
-pub enum Item {
+pub(crate) enum Item {
     Byte(u8),
     AnyByte,
     Run,
