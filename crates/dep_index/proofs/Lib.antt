@@ -10,3 +10,5 @@ pub mod WordLemmas
 pub mod LineLemmas
 pub mod BstrLemmas
 pub mod NumberLemmas
+pub mod SlotLemmas
+pub mod PairLemmas

@@ -9,3 +9,6 @@ pub mod Slots
 pub mod Catalogue
 pub mod Dependencies
 pub mod TextLaws
+pub mod Descriptions
+pub mod Faults
+pub mod Pairs

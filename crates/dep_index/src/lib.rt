@@ -2,6 +2,10 @@
 #![tactic(auto)]
 
 mod calls;
+mod catalogue;
+mod dependencies;
+mod details;
+mod faults;
 pub mod laws;
 mod names;
 mod params;
@@ -13,6 +17,9 @@ pub mod text;
 pub mod words;
 
 pub use calls::{Call, Reply};
+pub use catalogue::Catalogue;
+pub use dependencies::DepIndex;
+pub use faults::{CatError, DepError};
 pub use names::Name;
 pub use params::{Param, ParamKind};
 pub use refusals::{
