@@ -1,4 +1,6 @@
-ghost use Rattle.std.specs.Prelude.{◌≡◌, IfOk, length};
+ghost use Rattle.std.specs.Prelude.{◌≡◌, ◌<◌, IfOk, length};
+ghost use Rattle.root_row.specs.World.{slots};
+ghost use Rattle.root_row.specs.Seats.{IsOf};
 
 use crate::{Manager, OwnBook, OwnLeaf};
 use dep_index::{BeginRemoveError, GetError, ModuleState, PutError, Slots};
@@ -7,6 +9,7 @@ use std::process::Abort;
 use std::sync::{Mutex, Wait};
 use std::test::Fail;
 use std::thread;
+use std::thread::Threads;
 use use_indicator::reader::Reader;
 
 const TURNS: usize = 12_500;
@@ -145,50 +148,102 @@ fn guards_answer_as_the_manager_does(rt: HostRuntime) -> Result<(), Fail> {
     Ok(())
 }
 
-// What a worker does over and over beside the others: it takes what it gets and gives it back.
-fn work<R: Wait>(rt: &R, manager: &Manager, worker: usize) -> bool {
-    for _ in 0..TURNS {
-        if manager.get(rt, worker, 0) == Some(Ok(())) {
-            let _ = manager.put(rt, worker, 0);
+// What a worker does over and over beside the others: it takes what it gets, asks, and gives it back.
+fn work<R: Wait>(rt: &R, manager: &Manager, worker: usize) {
+    for turn in 0..TURNS {
+        let slot = turn % 2;
+        if manager.get(rt, worker, slot) == Some(Ok(())) {
+            let _ = manager.put(rt, worker, slot);
         }
     }
-    manager.held(rt, worker, 0) == Some(0)
 }
 
-// What the loader does: it loads, and removes or drains where nothing refuses.
+fn ask(manager: &Manager, reader: &mut Reader) -> bool
+    requires own { IsOf manager.now reader.old }
+    requires inside { 1 < slots manager.now.world }
+    ensures { IsOf manager.now reader.new }
+{
+    for turn in 0..TURNS {
+        let _ = manager.query(reader, turn % 2);
+    }
+    true
+}
+
+// What the loader does: it loads both modules, and removes or drains where nothing refuses.
 fn load_and_remove<R: Wait>(rt: &R, manager: &Manager) -> bool {
     for turn in 0..TURNS {
-        let _ = manager.begin_load(rt, 0);
-        let _ = manager.end_load(rt, 0, true);
-        if turn % 2 == 0 {
-            let _ = manager.begin_drain(rt, 0);
-        } else {
-            let _ = manager.begin_remove(rt, 0);
+        for slot in 0..2 {
+            let _ = manager.begin_load(rt, slot);
+            let _ = manager.end_load(rt, slot, true);
         }
-        let _ = manager.end_remove(rt, 0);
+        for slot in [1, 0] {
+            let _ = if turn % 2 == 0 {
+                manager.begin_drain(rt, slot).is_some()
+            } else {
+                manager.begin_remove(rt, slot).is_some()
+            };
+            let _ = manager.end_remove(rt, slot);
+        }
     }
-    manager.loaded(rt) <= 1
+    manager.loaded(rt) <= 2
+}
+
+// Whatever is left of the loads when all workers have ended.
+fn remove_all<R: Wait>(rt: &R, manager: &Manager) {
+    for slot in [1, 0] {
+        let _ = manager.end_remove(rt, slot);
+        let _ = manager.begin_remove(rt, slot);
+        let _ = manager.end_remove(rt, slot);
+    }
+}
+
+fn change<R: Threads + Wait + Sync>(rt: &R, manager: &Manager) {
+    thread::join(
+        rt,
+        move || on_scoped_threads(rt, manager),
+        move || load_and_remove(rt, manager),
+    );
+}
+
+fn change_and_ask<R: Threads + Wait + Sync>(rt: &R, manager: &Manager, reader: &mut Reader)
+    requires own { IsOf manager.now reader.old }
+    requires inside { 1 < slots manager.now.world }
+{
+    thread::join(
+        rt,
+        move || change(rt, manager),
+        move || ask(manager, reader),
+    );
 }
 
 #[test]
 fn threads_use_one_manager(rt: HostRuntime) -> Result<(), Fail> {
-    let (manager, _readers) = Manager::new(rt.alloc(), two_modules(rt.alloc())?, 2)?;
-    let (shared, host) = (&manager, &rt);
-    let (workers, loader) = thread::join(
-        host,
-        move || {
-            thread::join(
-                host,
-                move || work(host, shared, 0),
-                move || work(host, shared, 1),
-            )
-        },
-        move || load_and_remove(host, shared),
-    );
-    assert!(rt; workers.0 && workers.1 && loader);
-    let _ = manager.end_remove(&rt, 0);
-    let _ = manager.begin_remove(&rt, 0);
-    let _ = manager.end_remove(&rt, 0);
+    let (manager, mut readers) = Manager::new(rt.alloc(), two_modules(rt.alloc())?, 2)?;
+    let mut reader = readers.pop().ok_or("no reader")?;
+    change_and_ask(&rt, &manager, &mut reader);
+    assert_eq!(rt; manager.held(&rt, 0, 0), Some(0));
+    assert_eq!(rt; manager.held(&rt, 1, 1), Some(0));
+    remove_all(&rt, &manager);
     assert_eq!(rt; manager.loaded(&rt), 0);
+    Ok(())
+}
+
+// Two workers on threads of a scope, as the README shows them.
+fn on_scoped_threads<R: Threads + Wait + Sync>(rt: &R, manager: &Manager) {
+    thread::scope(thread::scope_env(), rt, |scope| {
+        for worker in 0..manager.workers() {
+            if scope.spawn(move || work(rt, manager, worker)).is_err() {
+                work(rt, manager, worker);
+            }
+        }
+    });
+}
+
+#[test]
+fn workers_on_scoped_threads(rt: HostRuntime) -> Result<(), Fail> {
+    let (manager, _readers) = Manager::new(rt.alloc(), two_modules(rt.alloc())?, 2)?;
+    load(&rt, &manager);
+    on_scoped_threads(&rt, &manager);
+    assert_eq!(rt; manager.begin_remove(&rt, 0), Some(Ok(())));
     Ok(())
 }
