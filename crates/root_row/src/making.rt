@@ -1,17 +1,17 @@
 //! A new row, and its seats.
 ghost use Rattle.std.specs.Prelude.{◌≡◌, ◌<◌, List, [], ◌++◌, length, All, IfOk};
 ghost use Rattle.dep_index.specs.Words.{closed};
-ghost use Rattle.root_row.specs.Rule.{Part};
+ghost use Rattle.root_row.specs.Views.{Part, worker_of};
 ghost use Rattle.root_row.specs.Seating.{first_member, other_members};
 ghost use Rattle.root_row.specs.Setting.{world_of, leaf_parts, reader_parts, new_view};
-ghost use Rattle.root_row.specs.Steps.{worker_of};
 ghost use Rattle.root_row.specs.Made.{AreNew, new_leaf, new_reader, new_book};
 
 use crate::book_seat::BookSeat;
 use crate::leaf_seat::LeafSeat;
+use crate::plays::FirstMember;
 use crate::read_seat::ReadSeat;
 use crate::row::Row;
-use crate::rule::{FirstMember, OneHistory, Setting};
+use crate::rule::{OneHistory, Setting};
 use crate::view::View;
 use atomic_table::{Seat, Table};
 use dep_index::Slots;
@@ -78,6 +78,7 @@ fn cut_leaves(
     ghost tail: { List Part }
     requires own { rest.old.table_id ≡ table.now.shared.table_id }
     requires words { 0 < table.now.shared.table_id.words }
+    requires all { workers ≡ table.now.shared.key.workers }
     requires view { rest.old.me ≡ (new_view (world_of table.now.shared.key) (leaf_parts (world_of table.now.shared.key) workers 0 ++ tail), []) }
     ensures leaves { IfOk result (λ v. AreNew (new_leaf table.now.shared.table_id (world_of table.now.shared.key)) workers v.items) }
     ensures rest { IfOk result (λ _. (rest.new.table_id ≡ table.now.shared.table_id) × (rest.new.me ≡ (new_view (world_of table.now.shared.key) tail, []))) }
