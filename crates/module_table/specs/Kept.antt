@@ -5,7 +5,7 @@ use Rattle.std.specs.Vec.{vec_capacity}
 use Rattle.dep_index.specs.declared.states.ModuleState.{ModuleState}
 use Rattle.dep_index.specs.Table.{Module}
 use Rattle.root_row.specs.declared.view.View.{View}
-use Rattle.root_row.specs.Steps.{book_of}
+use Rattle.root_row.specs.Views.{book_of}
 
 -- the states and the order are the view's, over the view's catalogue, and the order has room for every slot
 pub record IsInStep (states : Vec ModuleState) (order : Vec ℕ) (catalogue : List Module) (view : View) : Type 0 where

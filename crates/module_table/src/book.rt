@@ -5,9 +5,7 @@ use dep_index::{
     BeginDrainError, BeginLoadError, BeginRemoveError, Call, EndLoadError, EndRemoveError,
     ModuleState, Slots, reads,
 };
-use root_row::book_seat::BookSeat;
-use root_row::calls::BookCall;
-use root_row::row::Row;
+use root_row::{BookCall, BookSeat, Row};
 use std::alloc::{AllocError, Global};
 use std::marker::Model;
 
@@ -38,8 +36,9 @@ impl Book {
     ghost use Rattle.dep_index.specs.Calls.{book_refusal, unload_refusal};
     ghost use Rattle.dep_index.specs.Refusals.{reply_of, refusal_of, begin_load_refusal, end_load_refusal, begin_drain_refusal, begin_remove_refusal, end_remove_refusal};
     ghost use Rattle.root_row.specs.World.{slots};
-    ghost use Rattle.root_row.specs.Seats.{IsOf};
-    ghost use Rattle.root_row.specs.Steps.{BookAnswered, state_in, book_of};
+    ghost use Rattle.root_row.specs.Seats.{IsOf, KnowsTable};
+    ghost use Rattle.root_row.specs.Views.{state_in, book_of};
+    ghost use Rattle.root_row.specs.BookSteps.{BookAnswered};
 
     /// The book of a new row, over the row's catalogue. It reserves the order: no later call takes memory.
     pub fn new(alloc: Global, seat: BookSeat, catalogue: Slots) -> Result<Book, AllocError>
@@ -56,6 +55,14 @@ impl Book {
             order,
             catalogue,
         })
+    }
+
+    /// What the book has seen is a legal history, so removals are safe in it, and its states and order are those of
+    /// the table after it.
+    pub fn laws(&self)
+        ensures { KnowsTable self.now.view }
+    {
+        self.seat.laws()
     }
 
     /// How many modules are loaded, in any state.

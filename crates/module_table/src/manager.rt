@@ -1,7 +1,7 @@
 ghost use Rattle.std.specs.Prelude.{◌≡◌, All, IfOk, length};
 ghost use Rattle.std.specs.Arc.{arc_value};
 ghost use Rattle.root_row.specs.Made.{new_leaf};
-ghost use Rattle.root_row.specs.Steps.{worker_of};
+ghost use Rattle.root_row.specs.Views.{worker_of};
 
 use crate::book::Book;
 use crate::own_book::OwnBook;
@@ -10,14 +10,11 @@ use dep_index::{
     BeginDrainError, BeginLoadError, BeginRemoveError, EndLoadError, EndRemoveError, GetError,
     ModuleState, PutError, Slots,
 };
-use root_row::leaf_seat::LeafSeat;
-use root_row::read_seat::ReadSeat;
-use root_row::row::Row;
+use root_row::{LeafSeat, ReadSeat, Row};
 use std::alloc::{AllocError, Global};
 use std::marker::Model;
 use std::sync::{Arc, Mutex, Wait};
-use use_indicator::leaf::Leaf;
-use use_indicator::reader::Reader;
+use use_indicator::{Leaf, Reader};
 
 /// A row of root words, a lock for each worker's leaf and one for the book. Contracts see its row.
 ///
@@ -49,11 +46,8 @@ impl Manager {
     ghost use Rattle.root_row.specs.World.{slots};
     ghost use Rattle.root_row.specs.Made.{new_reader, AreNew};
     ghost use Rattle.root_row.specs.Seats.{IsOf};
-    ghost use Rattle.root_row.specs.Steps.{Answered, reader_of};
-    ghost use Rattle.dep_index.specs.declared.calls.Call.TheVariants.{InUse};
+    ghost use Rattle.root_row.specs.Steps.{ReaderAnswered};
     ghost use Rattle.dep_index.specs.declared.calls.Reply.TheVariants.{Yes, No};
-    ghost use Rattle.root_row.specs.declared.view.Name.TheVariants as name_is;
-    ghost use Rattle.root_row.specs.declared.view.Part.TheVariants as part_is;
 
     /// A manager over a catalogue, with a reader for each worker. Every module is Absent, and nothing is held.
     pub fn new(
@@ -108,7 +102,7 @@ impl Manager {
         requires own { IsOf self.now reader.old }
         requires inside { slot < slots self.now.world }
         ensures own { IsOf self.now reader.new }
-        ensures call { Answered reader.old.view (name_is.Reader (reader_of reader.old.view)) (InUse slot) (if result then Yes else No) (part_is.Reader (reader_of reader.old.view)) reader.new.view }
+        ensures call { ReaderAnswered reader.old.view slot (if result then Yes else No) reader.new.view }
     {
         reader.in_use(&self.row, slot)
     }

@@ -2,8 +2,7 @@ use crate::book::Book;
 use dep_index::{
     BeginDrainError, BeginLoadError, BeginRemoveError, EndLoadError, EndRemoveError, ModuleState,
 };
-use root_row::calls::BookCall;
-use root_row::row::Row;
+use root_row::{BookCall, Row};
 use std::alloc::Global;
 use std::marker::Model;
 use std::sync::Arc;
@@ -33,7 +32,8 @@ impl OwnBook {
     ghost use Rattle.dep_index.specs.Refusals.{reply_of, begin_load_refusal, end_load_refusal, begin_drain_refusal, begin_remove_refusal, end_remove_refusal};
     ghost use Rattle.root_row.specs.World.{slots};
     ghost use Rattle.root_row.specs.Seats.{IsOf};
-    ghost use Rattle.root_row.specs.Steps.{BookAnswered, state_in, book_of};
+    ghost use Rattle.root_row.specs.Views.{state_in, book_of};
+    ghost use Rattle.root_row.specs.BookSteps.{BookAnswered};
 
     pub fn new(book: Book, row: Arc<Row, Global>) -> OwnBook
         requires { IsOf (arc_value row) book }

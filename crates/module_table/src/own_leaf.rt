@@ -1,10 +1,9 @@
 use dep_index::{GetError, PutError};
-use root_row::calls::LeafCall;
-use root_row::row::Row;
+use root_row::{LeafCall, Row};
 use std::alloc::Global;
 use std::marker::Model;
 use std::sync::{Arc, Wait};
-use use_indicator::leaf::Leaf;
+use use_indicator::Leaf;
 
 /// A worker's leaf with its row. What a lock gives out is known by its type alone, so the type says that the
 /// leaf is of this row. Contracts see the leaf.
@@ -31,7 +30,8 @@ impl OwnLeaf {
     ghost use Rattle.dep_index.specs.Refusals.{reply_of, get_refusal, put_refusal};
     ghost use Rattle.root_row.specs.World.{slots};
     ghost use Rattle.root_row.specs.Seats.{IsOf};
-    ghost use Rattle.root_row.specs.Steps.{LeafAnswered, worker_of, counts_of, count_of};
+    ghost use Rattle.root_row.specs.Views.{count_of};
+    ghost use Rattle.root_row.specs.Steps.{LeafAnswered};
 
     pub fn new(leaf: Leaf, row: Arc<Row, Global>) -> OwnLeaf
         requires { IsOf (arc_value row) leaf }
@@ -53,7 +53,7 @@ impl OwnLeaf {
     /// Takes one reference. It may try again for ever while other workers change the word.
     pub fn get<R: Wait>(&mut self, rt: &R, slot: usize) -> Option<Result<(), GetError>>
         ensures range { MatchOption result ((slots self.old.view.world ≤ slot) × (self.new ≡ self.old)) (λ _. slot < slots self.old.view.world) }
-        ensures call { MatchOption result (self.new ≡ self.old) (λ r. LeafAnswered self.old.view (worker_of self.old.view) (counts_of self.old.view) slot LeafCall.Get (reply_of get_refusal r) self.new.view) }
+        ensures call { MatchOption result (self.new ≡ self.old) (λ r. LeafAnswered self.old.view slot LeafCall.Get (reply_of get_refusal r) self.new.view) }
         ensures row { self.new.row ≡ self.old.row }
     {
         if slot >= self.row.slots() {
@@ -65,7 +65,7 @@ impl OwnLeaf {
     /// Gives one reference back.
     pub fn put(&mut self, slot: usize) -> Option<Result<(), PutError>>
         ensures range { MatchOption result ((slots self.old.view.world ≤ slot) × (self.new ≡ self.old)) (λ _. slot < slots self.old.view.world) }
-        ensures call { MatchOption result (self.new ≡ self.old) (λ r. LeafAnswered self.old.view (worker_of self.old.view) (counts_of self.old.view) slot LeafCall.Put (reply_of put_refusal r) self.new.view) }
+        ensures call { MatchOption result (self.new ≡ self.old) (λ r. LeafAnswered self.old.view slot LeafCall.Put (reply_of put_refusal r) self.new.view) }
         ensures row { self.new.row ≡ self.old.row }
     {
         if slot >= self.row.slots() {

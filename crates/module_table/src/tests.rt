@@ -10,7 +10,7 @@ use std::sync::{Mutex, Wait};
 use std::test::Fail;
 use std::thread;
 use std::thread::Threads;
-use use_indicator::reader::Reader;
+use use_indicator::Reader;
 
 const TURNS: usize = 12_500;
 

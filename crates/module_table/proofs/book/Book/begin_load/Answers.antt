@@ -4,7 +4,7 @@ use Rattle.dep_index.specs.Calls.{book_refusal}
 use Rattle.dep_index.specs.Refusals.{refusal_of, begin_load_refusal}
 use Rattle.dep_index.specs.declared.calls.Call.TheVariants.{BeginLoad}
 use Rattle.root_row.specs.Seats.{Seated}
-use Rattle.root_row.specs.Steps.{book_of}
+use Rattle.root_row.specs.Views.{book_of}
 use Rattle.module_table.proofs.Room.{load_has_room}
 use Rattle.module_table.proofs.book.Book.begin_load.Goals as goal
 
