@@ -17,3 +17,4 @@ pub mod DirectiveLemmas
 pub mod ExportLemmas
 pub mod DraftLemmas
 pub mod NeedLemmas
+pub mod PathLemmas
