@@ -1,6 +1,10 @@
 //! The configuration of modprobe(8): the lines of modprobe.d(5).
 #![tactic(auto)]
 
+mod name_index;
+mod settings;
 mod softdep;
+mod word;
 
 pub use softdep::Softdep;
+pub use word::Word;
