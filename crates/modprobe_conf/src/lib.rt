@@ -1,6 +1,7 @@
 //! The configuration of modprobe(8): the lines of modprobe.d(5).
 #![tactic(auto)]
 
+mod entry;
 mod name_index;
 mod settings;
 mod softdep;
