@@ -1,1 +1,2 @@
 pub mod IndexLemmas
+pub mod JoinLemmas

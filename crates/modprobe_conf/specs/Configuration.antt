@@ -1,5 +1,5 @@
 -- What a configuration says: the lines of modprobe.d(5), joined, and what they say of a name.
-use Rattle.std.specs.Prelude.{◌≡◌, ℕ, suc, ◌-◌, Bool, false, true, if◌then◌else◌, ◌&&◌, ◌||◌, ◌==◌, nat_le, List, [], ◌∷◌, ◌++◌, map, length, take, codes, slice_index, Option, Some, None}
+use Rattle.std.specs.Prelude.{◌≡◌, ℕ, ◌+◌, ◌-◌, Bool, false, true, if◌then◌else◌, ◌&&◌, ◌||◌, ◌==◌, nat_le, List, [], ◌∷◌, ◌++◌, map, length, take, codes, slice_index, Option, Some, None}
 use Rattle.std.specs.List.{list_any}
 use Rattle.std.specs.Str.{bytes_eq}
 use Rattle.std.specs.Str.Lines.{lines}
@@ -21,8 +21,8 @@ abbrev pub joined_lines : ℕ → List (List ℕ) → List (ℕ × List ℕ)
 joined_lines number [] = []
 joined_lines number (line ∷ later) =
     if ends_with_backslash line
-    then onto_next number (take (length line - 1) line) (joined_lines (suc number) later)
-    else (number, line) ∷ joined_lines (suc number) later
+    then onto_next number (take (length line - 1) line) (joined_lines (number + 1) later)
+    else (number, line) ∷ joined_lines (number + 1) later
 
 -- the modules that a softdep line has loaded before and after its own, in the order of the line
 pub record SoftItems : Type 0 where

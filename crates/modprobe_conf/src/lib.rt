@@ -2,6 +2,7 @@
 #![tactic(auto)]
 
 mod entry;
+mod joined_lines;
 mod name_index;
 mod settings;
 mod softdep;
