@@ -1,6 +1,7 @@
 //! The configuration of modprobe(8): the lines of modprobe.d(5).
 #![tactic(auto)]
 
+mod conf;
 mod entry;
 mod joined_lines;
 mod name_index;
@@ -8,5 +9,6 @@ mod settings;
 mod softdep;
 mod word;
 
+pub use conf::{Conf, read_conf};
 pub use softdep::Softdep;
 pub use word::Word;
