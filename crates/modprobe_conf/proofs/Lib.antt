@@ -1,2 +1,3 @@
 pub mod IndexLemmas
 pub mod JoinLemmas
+pub mod SettingsLemmas
