@@ -10,6 +10,8 @@ use std::alloc::{AllocError, Global};
 
 mod one_thread;
 mod steps;
+mod threads;
+mod words;
 
 /// A catalogue of two modules, the second of which needs the first.
 fn two_modules(alloc: Global) -> Result<Slots, AllocError>
