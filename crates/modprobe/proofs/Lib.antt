@@ -1,0 +1,8 @@
+pub mod LineLemmas
+pub mod LeftLemmas
+pub mod CutLemmas
+pub mod SetupLemmas
+pub mod SlotLemmas
+pub mod RunLemmas
+pub mod NameLemmas
+pub mod ServeLemmas
