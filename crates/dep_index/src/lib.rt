@@ -3,11 +3,16 @@
 
 mod calls;
 mod catalogue;
+mod catalogue_text;
 mod dependencies;
 mod details;
+mod directives;
+mod draft;
+mod exporters;
 mod faults;
 pub mod laws;
 mod names;
+mod needs;
 mod params;
 pub mod reads;
 mod refusals;
@@ -18,6 +23,7 @@ pub mod words;
 
 pub use calls::{Call, Reply};
 pub use catalogue::Catalogue;
+pub use catalogue_text::read_catalogue;
 pub use dependencies::DepIndex;
 pub use faults::{CatError, DepError};
 pub use names::Name;
