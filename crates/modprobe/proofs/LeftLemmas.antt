@@ -12,7 +12,7 @@ use Rattle.dep_index.specs.Text.{ended, cut_lines}
 use Rattle.modprobe.specs.Lines.{EndsLine, GivesCut, ending_bytes}
 use Rattle.modprobe.specs.declared.lines.Ending.{Ending}
 use Rattle.modprobe.specs.declared.lines.Ending.TheVariants.{Absent}
-use Rattle.modprobe.proofs.LineLemmas.{lines-ended, lines-last, cut_lines-ended, cut_lines-last}
+use Rattle.dep_index.proofs.LineLemmas.{lines-ended, lines-last, cut_lines-ended, cut_lines-last}
 use Rattle.std.proofs.lemmas.List.Elements.{All-append}
 use Rattle.modprobe.specs.Lines.{left_of, HasNoFeed, IfTold, BeginsWithLongLine, GivesLine}
 use Rattle.modprobe.proofs.LineLemmas.{begins_with_long_line}

@@ -1,6 +1,5 @@
 pub mod LineLemmas
 pub mod LeftLemmas
-pub mod CutLemmas
 pub mod SetupLemmas
 pub mod SlotLemmas
 pub mod RunLemmas

@@ -1,50 +1,12 @@
--- The first line of a text.
-use Rattle.std.proofs.Common.{◌≡◌, ℕ, ◌+◌, ◌-◌, ◌<◌, ◌≤◌, Bool, true, false, cond, List, [], ◌∷◌, ◌++◌, length, take, refl, sym, ap, subst, ◌∙◌, arith}
+-- A text that begins with a line that is too long.
+use Rattle.std.proofs.Common.{◌≡◌, ℕ, ◌+◌, ◌-◌, ◌<◌, ◌≤◌, Bool, true, false, List, [], ◌∷◌, ◌++◌, length, take, refl, ap, subst, ◌∙◌, arith}
 use Rattle.std.specs.Prelude.{◌==◌, slice_index, if◌then◌else◌}
-use Rattle.std.specs.List.{slice_split, onto_first}
-use Rattle.std.specs.Str.Lines.{lines, lines_of_parts, strip_carriage_return}
-use Rattle.std.proofs.Math.Dec.{eqb-suc-zero}
+use Rattle.std.specs.Str.Lines.{lines, strip_carriage_return}
 use Rattle.std.proofs.lemmas.Bool.{eqb-true}
 use Rattle.std.proofs.lemmas.List.{append-nil, append_assoc, length-append, length-take}
-use Rattle.std.proofs.lemmas.List.Splits.{slice_split_at, slice_split_none}
 use Rattle.std.proofs.lemmas.List.Elements.{All-append, All-cons, All-nil}
-use Rattle.dep_index.specs.Text.{ended, cut_parts, cut_lines}
+use Rattle.dep_index.proofs.LineLemmas.{lines-ended, lines-last}
 use Rattle.modprobe.specs.Lines.{HasNoFeed, BeginsWithLongLine}
-
--- There is always a part.
-some_part : (text : List ℕ) → (first : List ℕ) × (more : List (List ℕ)) × (slice_split (λ b. b == 10) text ≡ first ∷ more)
-some_part [] = ([], [], refl)
-some_part (b ∷ bs) =
-    elim (b == 10) as (λ t. (first : List ℕ) × (more : List (List ℕ)) × (cond t ([] ∷ slice_split (λ x. x == 10) bs) (onto_first b (slice_split (λ x. x == 10) bs)) ≡ first ∷ more)) [
-      | true ↦ ([], slice_split (λ x. x == 10) bs, refl)
-      | false ↦ let r = some_part bs in (b ∷ r.0, r.1, ap (onto_first b) r.2)
-    ]
-
--- A line that ends is the first, and the lines after its end are the others.
-pub lines-ended : (line rest : List ℕ) → HasNoFeed line → lines (line ++ 10 ∷ rest) ≡ strip_carriage_return line ∷ lines rest
-lines-ended line rest none =
-    let r = some_part rest in
-    let here : slice_split (λ b. b == 10) (line ++ 10 ∷ rest) ≡ line ∷ slice_split (λ b. b == 10) rest = slice_split_at (λ b. b == 10) line 10 rest none refl in
-    ap lines_of_parts (here ∙ ap (λ parts. line ∷ parts) r.2) ∙ ap (λ parts. strip_carriage_return line ∷ lines_of_parts parts) (sym r.2)
-
-pub cut_lines-ended : (line rest : List ℕ) → HasNoFeed line → cut_lines (line ++ 10 ∷ rest) ≡ ended line ∷ cut_lines rest
-cut_lines-ended line rest none =
-    let r = some_part rest in
-    let here : slice_split (λ b. b == 10) (line ++ 10 ∷ rest) ≡ line ∷ slice_split (λ b. b == 10) rest = slice_split_at (λ b. b == 10) line 10 rest none refl in
-    ap cut_parts (here ∙ ap (λ parts. line ∷ parts) r.2) ∙ ap (λ parts. ended line ∷ cut_parts parts) (sym r.2)
-
-pub cut_lines-last : (line : List ℕ) → HasNoFeed line → 0 < length line → cut_lines line ≡ record { text = line; ending = [] } ∷ []
-cut_lines-last [] none some = absurd (omega arith)
-cut_lines-last (b ∷ bs) none some =
-    ap cut_parts (slice_split_none (λ x. x == 10) (b ∷ bs) none)
-    ∙ ap (λ t. if t then [] else record { text = b ∷ bs; ending = [] } ∷ []) (eqb-suc-zero (length bs))
-
--- A text without a line feed is one line.
-pub lines-last : (line : List ℕ) → HasNoFeed line → 0 < length line → lines line ≡ line ∷ []
-lines-last [] none some = absurd (omega arith)
-lines-last (b ∷ bs) none some =
-    ap lines_of_parts (slice_split_none (λ x. x == 10) (b ∷ bs) none)
-    ∙ ap (λ t. if t then [] else (b ∷ bs) ∷ []) (eqb-suc-zero (length bs))
 
 pub length-strip : (line : List ℕ) → length line ≤ length (strip_carriage_return line) + 1
 length-strip line =

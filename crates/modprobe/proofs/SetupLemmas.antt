@@ -13,7 +13,7 @@ use Rattle.modprobe.specs.declared.lines.LineFault.TheVariants.{Read, Memory, Tu
 use Rattle.dep_index.specs.Catalogue.{Description, catalogue_of}
 use Rattle.modprobe.specs.Session.{Setup}
 use Rattle.modprobe.specs.SetupInput.{of_sections, with_session, with_catalogue, GivesSetup}
-use Rattle.modprobe.proofs.CutLemmas.{map-cut_lines}
+use Rattle.dep_index.proofs.LineLemmas.{lines_have_texts}
 use Rattle.std.proofs.lemmas.Bool.{false≢true, true≢false, cond-true, cond-false, lt-ltb, le-ltb}
 
 sections-line : (current : Option Section) (parts : Parts) (line : Line) (more : List Line) (step : SectionStep) → step_of current parts line ≡ step
@@ -64,7 +64,7 @@ pub long_stops : (old middle : Option (List ℕ)) (current : Option Section) (pa
 long_stops None middle current parts before long = tt
 long_stops (Some old) None current parts before long = absurd before
 long_stops (Some old) (Some middle) current parts before long =
-    let cut = first_cut (cut_lines middle) long.0 long.1 (map-cut_lines middle ∙ long.2) in
+    let cut = first_cut (cut_lines middle) long.0 long.1 (lines_have_texts middle ∙ long.2) in
     let is_too_long : is_long cut.0.text ≡ true = lt-ltb 65535 (length cut.0.text) (rw cut.3 long.3) in
     let is : step_of current parts cut.0 ≡ stop too_long = cond-true _ _ _ is_too_long in
     before ∙ ap (sections current parts) cut.2 ∙ sections-line current parts cut.0 cut.1 (stop too_long) is
@@ -123,4 +123,4 @@ gives_setup None new parts modules gives is = tt
 gives_setup (Some old) None parts modules gives is = absurd gives
 gives_setup (Some old) (Some new) parts modules gives is =
     let s : Setup = record { catalogue = modules; dep_text = parts.dep_text; alias_text = parts.alias_text; conf_text = parts.conf_text } in
-    ap of_sections gives ∙ ap (λ r. with_session (cut_lines new) (with_catalogue parts r)) is ∙ ap (λ ls. Ok (s, ls)) (map-cut_lines new)
+    ap of_sections gives ∙ ap (λ r. with_session (cut_lines new) (with_catalogue parts r)) is ∙ ap (λ ls. Ok (s, ls)) (lines_have_texts new)

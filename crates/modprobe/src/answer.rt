@@ -136,7 +136,12 @@ fn put<'a, M: Modules>(setup: &'a Setup, table: &mut M, m: usize, worker: u64) -
     }
 }
 
-fn perform_on<'a, M: Modules>(setup: &'a Setup, table: &mut M, m: usize, action: Action) -> Answer<'a>
+fn perform_on<'a, M: Modules>(
+    setup: &'a Setup,
+    table: &mut M,
+    m: usize,
+    action: Action,
+) -> Answer<'a>
     requires slot { m < length (M.catalogue table.old) }
     requires over { M.catalogue table.old ≡ modules_of setup.now.catalogue }
     ensures text { text_of result ≡ (performed_on setup.now m action (M.table table.old)).0 }

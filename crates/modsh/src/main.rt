@@ -4,7 +4,6 @@
 mod drive;
 
 pub use drive::drive;
-
 use std::alloc::AllocError;
 use std::process::ExitCode;
 use std::{env, io};
