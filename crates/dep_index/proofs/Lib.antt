@@ -5,4 +5,10 @@ pub mod RunLaws
 pub mod StepLaws
 pub mod Room
 pub mod Replies
-mod Safe
+pub mod Safe
+pub mod WordLemmas
+pub mod LineLemmas
+pub mod BstrLemmas
+pub mod NumberLemmas
+pub mod SlotLemmas
+pub mod PairLemmas

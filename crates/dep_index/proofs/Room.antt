@@ -1,12 +1,11 @@
 -- The order of a lawful book has room for a slot that is Absent.
-use Rattle.std.proofs.Common.{◌≡◌, ◌≢◌, zero-add, ℕ, zero, suc, ◌+◌, ◌-◌, ◌<◌, ◌≤◌, Bool, true, false, not, ◌||◌, ◌⊎◌, eqb, ltb, leb, cond, List, [], ◌∷◌, ◌++◌, length, get_or, refl, sym, ◌∙◌, ap, subst, arith, rules, inl, inr}
+use Rattle.std.proofs.Common.{◌≡◌, ℕ, ◌+◌, ◌<◌, ◌≤◌, Bool, true, false, ◌||◌, ◌⊎◌, eqb, cond, List, [], ◌∷◌, length, refl, sym, ◌∙◌, ap, subst, arith, inl, inr}
 use Rattle.std.proofs.lemmas.Bool.Decides.{nat_tests}
-use Rattle.std.proofs.lemmas.Bool.{cases_Bool, cases_eq, cases_lt, eqb-true, eqb-false, eq-eqb, ne_eqb, or_cases, false≢true}
+use Rattle.std.proofs.lemmas.Bool.{cases_lt, eqb-true, eq-eqb, or_cases}
 use Rattle.std.proofs.lemmas.List.{get_or_past}
 use Rattle.std.proofs.lemmas.Map.Keys.{IsDistinct-cons}
 use Rattle.std.proofs.lemmas.Map.Steps.{length-le_from_distinct_below}
 use Rattle.std.specs.List.{count_by, list_any, IsDistinct, AllByRecursion}
-use Rattle.dep_index.specs.declared.states.ModuleState.{ModuleState}
 use Rattle.dep_index.specs.declared.states.ModuleState.TheVariants.{Absent}
 use Rattle.dep_index.specs.Table.{Book, state_of, is_absent}
 use Rattle.dep_index.specs.Laws.{OrderIsExact}

@@ -1,22 +1,19 @@
 -- The laws of the one-thread table over every list of calls.
-use Rattle.std.proofs.Common.{◌≡◌, ◌≢◌, ℕ, zero, suc, ◌+◌, ◌-◌, ◌<◌, ◌≤◌, Bool, true, false, not, ◌||◌, ◌&&◌, ◌⊎◌, eqb, ltb, leb, cond, List, [], ◌∷◌, ◌++◌, length, get_or, Option, Some, None, refl, sym, ◌∙◌, ap, subst, arith, rules, inl, inr, zero-add, get_or-set_same, get_or-set_other}
+use Rattle.std.proofs.Common.{◌≡◌, ◌≢◌, ℕ, zero, suc, ◌<◌, ◌≤◌, Bool, true, false, not, ◌||◌, ◌&&◌, ◌⊎◌, eqb, cond, List, [], ◌∷◌, length, get_or, Option, Some, None, refl, sym, ◌∙◌, ap, subst, arith, inl, inr, get_or-set_same, get_or-set_other}
 use Rattle.std.proofs.Math.ListN.{set, length-set, replicate}
-use Rattle.std.proofs.lemmas.Bool.Decides.{nat_tests}
-use Rattle.std.proofs.lemmas.Bool.{cases_Bool, cases_eq, cases_lt, eqb-true, eqb-false, eq-eqb, ne_eqb, or_parts, not-false, not-true, false≢true}
-use Rattle.std.proofs.lemmas.Grind.{common_steps}
+use Rattle.std.proofs.lemmas.Bool.{cases_eq, cases_lt, or_parts, false≢true}
 use Rattle.std.proofs.lemmas.List.{get_or-replicate, length-replicate, get_or_past}
-use Rattle.std.proofs.lemmas.List.Sums.{sum_by-cons, sum_by-set, sum_by_push}
-use Rattle.std.specs.List.{count_by, filter, find, list_any, sum_by}
+use Rattle.std.specs.List.{count_by, filter, list_any}
 use Rattle.std.specs.Option.{is_some, unwrap_or}
 use Rattle.dep_index.specs.declared.states.ModuleState.{ModuleState}
 use Rattle.dep_index.specs.declared.states.ModuleState.TheVariants.{Absent, Loading, Live, Draining, Unloading}
 use Rattle.dep_index.specs.declared.calls.Call.{Call}
 use Rattle.dep_index.specs.declared.calls.Call.TheVariants.{Get, Put, InUse as Query, BeginLoad, EndLoad, BeginDrain, BeginRemove, EndRemove}
 use Rattle.dep_index.specs.declared.calls.Reply.{Reply}
-use Rattle.dep_index.specs.declared.calls.Reply.TheVariants.{Done, Yes, No, NotLive, TooMany, NotHeld, Exists, UnknownSymbol, NeedNotLive, NotLoading, NoEntry, NeededBy, Permanent, InUse, NotUnloading}
-use Rattle.dep_index.specs.Table.{Module, Book, Table, state_of, is_absent, is_loading, is_live, is_draining, is_unloading, takes_references, needs_slot, users, has_users, pairs, count_of, is_held, holders, module_at}
-use Rattle.dep_index.specs.Calls.{refuse, or_else, refusal, book_refusal, held_refusal, unload_refusal, first_missing, missing_need, effect, book_effect, rows_effect, row_effect, with_state, without, answer, reply, next, after, opening, slot_of, worker_of, IsInRange, IsWorkerInRange}
-use Rattle.dep_index.specs.Laws.{IsShaped, OrderIsExact, PairsAreOpen, NeedsAreLive, IsLawful, AllInRange, AlwaysLawful, IsRemoval, RemovesUnused, NoReload, IsShutting, StaysShut}
+use Rattle.dep_index.specs.declared.calls.Reply.TheVariants.{Done, NotLive, TooMany, NotHeld, Exists, UnknownSymbol, NotLoading, NoEntry, NeededBy, Permanent, InUse, NotUnloading}
+use Rattle.dep_index.specs.Table.{Module, Book, Table, state_of, is_absent, is_live, is_draining, is_unloading, needs_slot, users, has_users, pairs, count_of, is_held}
+use Rattle.dep_index.specs.Calls.{refuse, or_else, refusal, book_refusal, unload_refusal, first_missing, missing_need, effect, row_effect, reply, next, after, opening, IsInRange}
+use Rattle.dep_index.specs.Laws.{IsShaped, IsLawful, AllInRange, AlwaysLawful, RemovesUnused, NoReload, IsShutting, StaysShut}
 use Rattle.dep_index.proofs.Lists.{filter_empty, sum_by-zeros, count_by-present}
 use Rattle.dep_index.proofs.TableLaws.{passed, both_passed, unload_passed, effect_lawful, free_when_unheld, ended_is_down, ended_is_free, not_live}
 

@@ -1,13 +1,13 @@
 -- A legal history is safe.
-use Rattle.std.proofs.Common.{◌≡◌, ◌≢◌, ℕ, true, List, [], ◌∷◌, ◌++◌, map, sym, ap, ◌∙◌, subst}
+use Rattle.std.proofs.Common.{◌≡◌, ℕ, List, [], ◌∷◌, ◌++◌, sym, ap, ◌∙◌, subst}
 use Rattle.dep_index.specs.declared.calls.Call.{Call}
-use Rattle.dep_index.specs.declared.calls.Call.TheVariants.{Get, EndLoad}
+use Rattle.dep_index.specs.declared.calls.Call.TheVariants.{Get}
 use Rattle.dep_index.specs.declared.calls.Reply.{Reply}
 use Rattle.dep_index.specs.declared.calls.Reply.TheVariants.{Done, NotLive}
 use Rattle.dep_index.specs.Table.{Module, Table, pairs, users}
 use Rattle.dep_index.specs.Calls.{reply, next, after, opening, replies}
 use Rattle.dep_index.specs.Laws.{AllInRange, IsRemoval, IsShutting, NoReload}
-use Rattle.dep_index.specs.History.{Answer, IsLegal, table_after, calls_in, replies_in, NoLoad, RemovalsAreSafe, LegalIsSafe}
+use Rattle.dep_index.specs.History.{Answer, IsLegal, table_after, calls_in, replies_in, NoLoad, LegalIsSafe}
 use Rattle.dep_index.proofs.RunLaws.{removes_unused, stays_shut}
 
 in_range_before : (catalogue : List Module) (workers : ℕ) (before later : List Answer)

@@ -1,24 +1,23 @@
 -- Each call's first step on its slot's word is right.
-use Rattle.std.proofs.Common.{◌≡◌, ◌≢◌, ℕ, zero, suc, ◌+◌, ◌-◌, ◌<◌, ◌≤◌, Bool, true, false, not, ◌||◌, ◌&&◌, ◌⊎◌, eqb, ltb, leb, cond, List, [], ◌∷◌, ◌++◌, length, get_or, Option, Some, None, refl, sym, ◌∙◌, ap, subst, add_comm, arith, rules, inl, inr, zero-add, get_or-set_same, get_or-set_other}
-use Rattle.std.proofs.Math.ListN.{set, length-set, replicate}
+use Rattle.std.proofs.Common.{◌≡◌, ◌≢◌, ℕ, ◌+◌, ◌-◌, ◌<◌, Bool, true, false, not, ◌||◌, ◌&&◌, eqb, ltb, cond, List, [], ◌∷◌, ◌++◌, length, get_or, Option, Some, None, refl, sym, ◌∙◌, ap, subst, add_comm, arith, get_or-set_same, get_or-set_other}
+use Rattle.std.proofs.Math.ListN.{set}
 use Rattle.std.proofs.lemmas.Bool.Decides.{nat_tests}
-use Rattle.std.proofs.lemmas.Bool.{cases_Bool, cases_eq, cases_lt, eqb-true, eqb-false, eq-eqb, ne_eqb, or_parts, not-false, not-true, false≢true}
-use Rattle.std.proofs.lemmas.List.Sums.{sum_by-cons, sum_by-set, sum_by_push, count_by-le-length}
-use Rattle.std.specs.List.{count_by, filter, find, list_any, sum_by}
+use Rattle.std.proofs.lemmas.Bool.{not-false}
+use Rattle.std.proofs.lemmas.List.Sums.{sum_by-set, count_by-le-length}
 use Rattle.std.specs.Option.{is_some, unwrap_or}
 use Rattle.dep_index.specs.declared.states.ModuleState.{ModuleState}
 use Rattle.dep_index.specs.declared.states.ModuleState.TheVariants.{Absent, Loading, Live, Draining, Unloading}
 use Rattle.dep_index.specs.declared.calls.Call.{Call}
 use Rattle.dep_index.specs.declared.calls.Call.TheVariants.{Get, Put, InUse as Query, BeginLoad, EndLoad, BeginDrain, BeginRemove, EndRemove}
 use Rattle.dep_index.specs.declared.calls.Reply.{Reply}
-use Rattle.dep_index.specs.declared.calls.Reply.TheVariants.{Done, Yes, No, NotLive, TooMany, NotHeld, Exists, UnknownSymbol, NeedNotLive, NotLoading, NoEntry, NeededBy, Permanent, InUse, NotUnloading}
-use Rattle.dep_index.specs.Table.{Module, Book, Table, state_of, is_absent, is_loading, is_live, is_draining, is_unloading, takes_references, needs_slot, users, has_users, pairs, count_of, is_held, holders, module_at}
-use Rattle.dep_index.specs.Calls.{refuse, or_else, refusal, book_refusal, held_refusal, unload_refusal, first_missing, missing_need, effect, book_effect, rows_effect, row_effect, with_state, without, answer, reply, next, after, opening, slot_of, worker_of, IsInRange, IsWorkerInRange}
-use Rattle.dep_index.specs.Laws.{IsShaped, OrderIsExact, PairsAreOpen, NeedsAreLive, IsLawful}
-use Rattle.dep_index.specs.Words.{MatchOutcome, word_in, word_of, get_look, takes_effect, put_step, query_look, close_step, book_step, word_step, unless_refused, WordStep, Outcome, Effect, GoesOn, is_open, closed, drained, shows_holders, IsRightStep, WordStepsAreRight}
+use Rattle.dep_index.specs.declared.calls.Reply.TheVariants.{Done, UnknownSymbol, InUse}
+use Rattle.dep_index.specs.Table.{Module, Table, state_of, is_absent, is_loading, is_live, is_draining, is_unloading, takes_references, has_users, count_of, is_held, holders, module_at}
+use Rattle.dep_index.specs.Calls.{refuse, or_else, refusal, book_refusal, unload_refusal, first_missing, missing_need, effect, without, answer, next, after, slot_of, IsInRange}
+use Rattle.dep_index.specs.Laws.{IsShaped, PairsAreOpen, IsLawful}
+use Rattle.dep_index.specs.Words.{word_in, word_of, takes_effect, close_step, book_step, word_step, unless_refused, WordStep, Outcome, Effect, GoesOn, closed, IsRightStep, WordStepsAreRight}
 use Rattle.dep_index.proofs.Lists.{sum_by-zeros}
-use Rattle.dep_index.proofs.TableLaws.{passed, both_passed, unload_passed, free_when_unheld, free_when_shut, none_held, absent_from, live_from, loading_from}
-use Rattle.dep_index.proofs.WordLaws.{Steps, get_steps, put_steps, query_steps, close_open_law, close_open_word, close_drain_law, close_drain_word}
+use Rattle.dep_index.proofs.TableLaws.{passed, unload_passed, free_when_shut, absent_from, live_from, loading_from}
+use Rattle.dep_index.proofs.WordLaws.{Steps, get_steps, put_steps, query_steps}
 
 word_of_either : (b : Bool) (one other : Table) (m : ℕ) → word_of (cond b one other) m ≡ cond b (word_of one m) (word_of other m)
 word_of_either true one other m = refl

@@ -1,16 +1,14 @@
 -- A step on a word answers what the one-thread table answers, and leaves the word that belongs to the next table.
-use Rattle.std.proofs.Common.{◌≡◌, ℕ, zero, suc, ◌+◌, ◌-◌, ◌<◌, ◌≤◌, Bool, true, false, not, eqb, ltb, leb, cond, List, [], ◌∷◌, length, get_or, Option, Some, None, unwrap_or, refl, sym, ◌∙◌, ap, subst, arith, rules}
+use Rattle.std.proofs.Common.{◌≡◌, ℕ, zero, suc, ◌+◌, ◌-◌, ◌<◌, Bool, true, false, not, eqb, ltb, leb, cond, Option, None, unwrap_or, refl, sym, ◌∙◌, ap, arith}
 use Rattle.std.proofs.lemmas.Bool.Decides.{nat_tests}
-use Rattle.std.proofs.lemmas.Grind.{common_steps}
 use Rattle.std.specs.Option.{is_some}
 use Rattle.dep_index.specs.declared.states.ModuleState.{ModuleState}
 use Rattle.dep_index.specs.declared.states.ModuleState.TheVariants.{Absent, Loading, Live, Draining, Unloading}
-use Rattle.dep_index.specs.declared.calls.Call.{Call}
 use Rattle.dep_index.specs.declared.calls.Reply.{Reply}
 use Rattle.dep_index.specs.declared.calls.Reply.TheVariants.{Done, Yes, No, NotLive, TooMany, NotHeld, InUse}
-use Rattle.dep_index.specs.Table.{Module, Book, Table, is_live, takes_references}
+use Rattle.dep_index.specs.Table.{is_live, takes_references}
 use Rattle.dep_index.specs.Calls.{refuse}
-use Rattle.dep_index.specs.Words.{MatchOutcome, word_in, get_look, takes_effect, put_step, query_look, close_step, WordStep, Outcome, Effect, GoesOn, is_open, closed, drained, shows_holders}
+use Rattle.dep_index.specs.Words.{MatchOutcome, word_in, get_look, takes_effect, put_step, query_look, close_step, WordStep, Effect, GoesOn, is_open}
 
 open_live : (n : ℕ) → n < 4294967296 → ltb n 4294967296 ≡ true
 open_live n h = grind (arith, nat_tests)

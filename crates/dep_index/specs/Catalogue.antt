@@ -1,5 +1,5 @@
 -- Which catalogue a text is.
-use Rattle.std.specs.Prelude.{ℕ, suc, Bool, true, false, not, if◌then◌else◌, ◌&&◌, ◌||◌, ◌==◌, nat_eq, nat_le, List, [], ◌∷◌, ◌++◌, map, length, position, codes, Option, Some, None, Result, Ok, Err, slice_index_or}
+use Rattle.std.specs.Prelude.{ℕ, suc, Bool, true, false, not, if◌then◌else◌, ◌||◌, ◌==◌, nat_eq, nat_le, List, [], ◌∷◌, ◌++◌, map, length, position, codes, Option, Some, None, Result, Ok, Err, slice_index_or}
 use Rattle.std.specs.List.{list_all, list_any}
 use Rattle.std.specs.Str.{bytes_eq}
 use Rattle.std.specs.Str.Lines.{lines}
@@ -122,6 +122,10 @@ limit draft = if draft.is_version_2 then 1024 else 256
 
 abbrev pub has_name : List Description → List ℕ → Bool
 has_name modules name = list_any (λ m. bytes_eq name m.name) modules
+
+-- the slot of a name
+abbrev pub slot_named : List Description → List ℕ → Option ℕ
+slot_named modules name = position (λ m. bytes_eq name m.name) modules
 
 abbrev pub exports_symbol : List ℕ → Description → Bool
 exports_symbol symbol m = list_any (bytes_eq symbol) m.exports

@@ -8,3 +8,7 @@ pub mod Words
 pub mod Slots
 pub mod Catalogue
 pub mod Dependencies
+pub mod TextLaws
+pub mod Descriptions
+pub mod Faults
+pub mod Pairs

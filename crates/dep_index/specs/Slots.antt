@@ -1,5 +1,5 @@
 -- A catalogue's slots as the list of their modules_in.
-use Rattle.std.specs.Prelude.{List, [], ◌∷◌, map}
+use Rattle.std.specs.Prelude.{List, map}
 use Rattle.dep_index.specs.declared.slots.Slot.{Slot}
 use Rattle.dep_index.specs.Table.{Module}
 

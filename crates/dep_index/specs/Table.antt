@@ -1,5 +1,5 @@
 -- The one-thread table: which modules are loaded, in which state, and who holds references to them.
-use Rattle.std.specs.Prelude.{◌≡◌, ℕ, ◌+◌, ◌-◌, ◌==◌, nat_lt, Bool, true, false, not, List, [], ◌∷◌, ◌++◌, length, filter, count_by, slice_index, slice_index_or, slice_set, Contains, if◌then◌else◌}
+use Rattle.std.specs.Prelude.{ℕ, ◌+◌, ◌==◌, nat_lt, Bool, true, false, List, [], length, filter, count_by, slice_index, slice_index_or}
 use Rattle.std.specs.List.{sum_by, list_any}
 use Rattle.dep_index.specs.declared.states.ModuleState.{ModuleState}
 use Rattle.dep_index.specs.declared.states.ModuleState.TheVariants.{Absent, Loading, Live, Draining, Unloading}

@@ -1,9 +1,9 @@
 -- The root words, and what one step on a word does.
-use Rattle.std.specs.Prelude.{◌≡◌, ◌≢◌, ◌<◌, length, ℕ, ◌+◌, ◌-◌, ◌==◌, nat_lt, Bool, true, false, List, [], ◌∷◌, Option, Some, None, if◌then◌else◌}
+use Rattle.std.specs.Prelude.{◌≡◌, ◌≢◌, ◌<◌, length, ℕ, ◌+◌, ◌-◌, ◌==◌, nat_lt, Bool, true, List, Option, Some, None, if◌then◌else◌}
 use Rattle.dep_index.specs.declared.states.ModuleState.{ModuleState}
 use Rattle.dep_index.specs.declared.states.ModuleState.TheVariants.{Live, Draining}
 use Rattle.dep_index.specs.declared.calls.Call.{Call}
-use Rattle.dep_index.specs.declared.calls.Call.TheVariants.{Get, Put, InUse as Query, BeginLoad, EndLoad, BeginDrain, BeginRemove, EndRemove}
+use Rattle.dep_index.specs.declared.calls.Call.TheVariants.{Get, Put, InUse as Query, EndLoad, BeginDrain, BeginRemove, EndRemove}
 use Rattle.dep_index.specs.declared.calls.Reply.{Reply}
 use Rattle.dep_index.specs.declared.calls.Reply.TheVariants.{Done, Yes, No, NotLive, TooMany, NotHeld, InUse}
 pub use Rattle.dep_index.specs.declared.words.Outcome.{Outcome}

@@ -2,6 +2,10 @@
 #![tactic(auto)]
 
 mod calls;
+mod catalogue;
+mod dependencies;
+mod details;
+mod faults;
 pub mod laws;
 mod names;
 mod params;
@@ -9,9 +13,13 @@ pub mod reads;
 mod refusals;
 mod slots;
 mod states;
+pub mod text;
 pub mod words;
 
 pub use calls::{Call, Reply};
+pub use catalogue::Catalogue;
+pub use dependencies::DepIndex;
+pub use faults::{CatError, DepError};
 pub use names::Name;
 pub use params::{Param, ParamKind};
 pub use refusals::{
