@@ -3,7 +3,7 @@ use Rattle.std.proofs.Common.{◌≡◌, ◌≢◌, ℕ, ◌+◌, ◌%◌, ◌^�
 use mathlib.Core.Option.{some, none}
 use lib.ListN.{get_elem?}
 use prog.Atomic.{either}
-use Rattle.atomic_table.specs.Table.{Me, Act, Valid, keeps, carried_after, step, stepped, Allows}
+use Rattle.atomic_table.specs.Table.{Me, Step, Act, Valid, keeps, carried_after, step, stepped, Allows}
 use Rattle.atomic_table.proofs.Lists.{exchanged, set_here}
 use Rattle.dep_index.specs.declared.states.ModuleState.{ModuleState}
 use Rattle.dep_index.specs.declared.states.ModuleState.TheVariants as state_is
@@ -18,13 +18,16 @@ use Rattle.dep_index.proofs.TableLaws.{unload_passed, live_from}
 use Rattle.root_row.specs.declared.calls.BookCall.{BookCall}
 use Rattle.root_row.specs.declared.calls.BookCall.TheVariants as book_is
 use Rattle.root_row.specs.declared.view.World.{World}
-use Rattle.root_row.specs.declared.view.Name.TheVariants as name_is
+use Rattle.root_row.specs.declared.view.SeatName.TheVariants as name_is
 use Rattle.root_row.specs.declared.view.Part.TheVariants as part_is
 use Rattle.root_row.specs.declared.view.Member.{Member}
 use Rattle.root_row.specs.declared.view.View.{View}
 use Rattle.root_row.specs.World.{slots}
-use Rattle.root_row.specs.Rule.{Part, member, table_after, name_of, Agrees, RowRule}
-use Rattle.root_row.specs.Steps.{word_after, IsOne, seen_in, part_in, book_in, book_of, IsBook, book_call, unrefused_look, book_look, BookAnswered, LookedBook, MayLeave, looked_book, Closed, tried_close, made, state_in}
+use Rattle.root_row.specs.History.{table_after, makes}
+use Rattle.root_row.specs.Views.{Part, member, name_of, IsOne, seen_in, part_in, book_in, book_of, IsBook, state_in}
+use Rattle.root_row.specs.Rule.{Agrees, RowRule}
+use Rattle.root_row.specs.Steps.{AtSlot, SeatState, word_after}
+use Rattle.root_row.specs.BookSteps.{book_call, unrefused_look, book_look, BookAnswered, LookedBook, MayLeave, TriedClose}
 use Rattle.root_row.proofs.Replay.{at_length, lawful_after}
 use Rattle.root_row.proofs.Moves as move
 
@@ -46,14 +49,9 @@ looked_book_one kind m found v w is told = by_case (book_look v.world (book_of v
     by_case (Some r) t = answered_book m kind r v w t.0
     by_case None t = subst IsBook (sym t) is
 
--- the order of the book's seat is exact
-exact_book : (world : World) (s : move.St) → RowRule world s → (id : ℕ) (w : View) → get_elem? s.views id ≡ some w → IsBook w → OrderIsExact (book_of w)
-exact_book world s kept id w at one =
-    subst OrderIsExact (move.fits_one world s kept id w (part_is.Book (book_of w)) one at).agrees (lawful_after world kept.log kept.in_range).order
-
 module _ (s : move.St) (id : ℕ) (v : View) (kept : RowRule v.world s) (at : get_elem? s.views id ≡ some v) (single : IsBook v) (m : ℕ) (inside : m < slots v.world) (c : List (ℕ × Unit {0})) where
   abbrev T : Table
-  T = table_after v.world kept.log
+  T = table_after v.world kept.history
 
   abbrev book : Book
   book = book_of v
@@ -65,7 +63,7 @@ module _ (s : move.St) (id : ℕ) (v : View) (kept : RowRule v.world s) (at : ge
   n = get_or s.words (m + 1) 0
 
   abbrev h : ℕ
-  h = holders (table_after v.world kept.log).rows m
+  h = holders (table_after v.world kept.history).rows m
 
   book_is_own : T.book ≡ book
   book_is_own = (move.fits_one v.world s kept id v x single at).agrees
@@ -82,6 +80,13 @@ module _ (s : move.St) (id : ℕ) (v : View) (kept : RowRule v.world s) (at : ge
   range book_is.BeginDrain = (inside, tt)
   range book_is.BeginRemove = (inside, tt)
   range book_is.EndRemove = (inside, tt)
+
+  maker : (kind : BookCall) → makes name_is.Book (book_call kind m) ≡ true
+  maker book_is.BeginLoad = refl
+  maker (book_is.EndLoad ok) = refl
+  maker book_is.BeginDrain = refl
+  maker book_is.BeginRemove = refl
+  maker book_is.EndRemove = refl
 
   others_stay : (kind : BookCall) (j : ℕ) → j ≢ m → word_of (next v.world.catalogue T (book_call kind m)) j ≡ word_of T j
   others_stay book_is.BeginLoad = move.others_stay v.world s kept (book_call book_is.BeginLoad m) (inside, tt)
@@ -133,11 +138,11 @@ module _ (s : move.St) (id : ℕ) (v : View) (kept : RowRule v.world s) (at : ge
       → Put n' (λ w. BookAnswered v m kind r w × (n' ≡ word_after w m))
   answers kind r n' is =
       let t = turns kind r n' (sym is.0) is.1 in (
-        move.next_view v.world s kept id v at x (given kind r) single (book_call kind m) m n' inside (range kind) t,
-        move.point v.world s kept id v at x (given kind r) single (book_call kind m) m n' inside (range kind) t c,
+        move.next_view v.world s kept id v at x (given kind r) single (book_call kind m) m n' inside (range kind) (maker kind) t,
+        move.point v.world s kept id v at x (given kind r) single (book_call kind m) m n' inside (range kind) (maker kind) t c,
         (
-          move.answered v.world s kept id v at x (given kind r) single (book_call kind m) m n' inside (range kind) t r (sym is.0),
-          move.word_is v.world s kept id v at x (given kind r) single (book_call kind m) m n' inside (range kind) t,
+          move.answered v.world s kept id v at x (given kind r) single (book_call kind m) m n' inside (range kind) (maker kind) t r (sym is.0),
+          move.word_is v.world s kept id v at x (given kind r) single (book_call kind m) m n' inside (range kind) (maker kind) t,
         ),
       )
 
@@ -232,6 +237,16 @@ module _ (s : move.St) (id : ℕ) (v : View) (kept : RowRule v.world s) (at : ge
       whole : (k : ℕ) → k < closed → (k + drained) % 18446744073709551616 ≡ k + drained
       whole k small = omega arith
 
+-- what the steps of the book tell
+abbrev pub looked_book : BookCall → Step (Unit {0}) → SeatState → ℕ → SeatState → Type 0
+looked_book kind = AtSlot (λ _ m v found w. LookedBook kind m v found w)
+
+abbrev pub tried_close : BookCall → Step (Unit {0}) → SeatState → ℕ → SeatState → Type 0
+tried_close kind = AtSlot (λ expected m v found w. TriedClose kind m v (found == expected) w)
+
+abbrev pub made : BookCall → Step (Unit {0}) → SeatState → ℕ → SeatState → Type 0
+made kind = AtSlot (λ _ m v _ w. BookAnswered v m kind Done w)
+
 module _ (world : World) (slots' id : ℕ) (me : Me (Unit {0}) View) (is : IsBook me.0) (m : ℕ) (inside : m < slots world) where
   -- what a step owes, at the world w
   abbrev Owes : move.St → (ℕ → ℕ) → (ℕ → Me (Unit {0}) View → Type 0) → World → Type 0
@@ -255,7 +270,6 @@ module _ (world : World) (slots' id : ℕ) (me : Me (Unit {0}) View) (is : IsBoo
         (
           refl,
           λ j e. subst (λ i. LookedBook kind i me.0 (get_or s.words (m + 1) 0) r.0) (move.same_slot m j e) r.2,
-          exact_book me.0.world (stepped s (m + 1) (get_or s.words (m + 1) 0) id me.1 r.0 keeps) r.1 id r.0 (set_here s.views id r.0 (at_length s.views id me.0 at)) (looked_book_one kind m (get_or s.words (m + 1) 0) me.0 r.0 is r.2),
         ),
       ))
 
@@ -284,7 +298,7 @@ module _ (world : World) (slots' id : ℕ) (me : Me (Unit {0}) View) (is : IsBoo
   -- a closing tells what it promises
   tells : (kind : BookCall) (found old : ℕ) (b : Bool) (w : View) → (found == old) ≡ b → BookAnswered me.0 m kind (cond b Done InUse) w
       → tried_close kind (step slots' (m + 1) old closed none) me found (w, me.1)
-  tells kind found old b w is t = (refl, λ j e. subst (λ i. Closed kind i me.0 (found == old) w) (move.same_slot m j e) (subst (λ (a : Bool). BookAnswered me.0 m kind (cond a Done InUse) w) (sym is) t))
+  tells kind found old b w is t = (refl, λ j e. subst (λ i. TriedClose kind i me.0 (found == old) w) (move.same_slot m j e) (subst (λ (a : Bool). BookAnswered me.0 m kind (cond a Done InUse) w) (sym is) t))
 
   closes : (kind : BookCall) (old : ℕ) → ((s : move.St) (kept : RowRule me.0.world s) (at : get_elem? s.views id ≡ some me.0) (inside' : m < slots me.0.world) → RightAt s id me.0 kept at is m inside' me.1 kind (close_step old (get_or s.words (m + 1) 0)))
       → Allows (RowRule world) slots' id me (m + 1) (λ n. either (eqb n old) closed n) (tried_close kind (step slots' (m + 1) old closed none) me)

@@ -3,7 +3,7 @@ use Rattle.std.proofs.Common.{◌≡◌, ◌≢◌, ℕ, zero, suc, ◌+◌, ◌
 use mathlib.Core.Option.{some, none}
 use lib.ListN.{get_elem?}
 use prog.Atomic.{either}
-use Rattle.atomic_table.specs.Table.{Me, Act, Valid, keeps, carried_after, step, stepped, Allows}
+use Rattle.atomic_table.specs.Table.{Me, Step, Act, Valid, keeps, carried_after, step, stepped, Allows}
 use Rattle.atomic_table.proofs.Lists.{set_here, set_else, exchanged}
 use Rattle.dep_index.specs.declared.states.ModuleState.{ModuleState}
 use Rattle.dep_index.specs.declared.states.ModuleState.TheVariants as state_is
@@ -20,13 +20,15 @@ use Rattle.dep_index.proofs.TableLaws.{none_held}
 use Rattle.root_row.specs.declared.calls.LeafCall.{LeafCall}
 use Rattle.root_row.specs.declared.calls.LeafCall.TheVariants as leaf_is
 use Rattle.root_row.specs.declared.view.World.{World}
-use Rattle.root_row.specs.declared.view.Name.TheVariants as name_is
+use Rattle.root_row.specs.declared.view.SeatName.TheVariants as name_is
 use Rattle.root_row.specs.declared.view.Part.TheVariants as part_is
 use Rattle.root_row.specs.declared.view.Member.{Member}
 use Rattle.root_row.specs.declared.view.View.{View}
 use Rattle.root_row.specs.World.{slots}
-use Rattle.root_row.specs.Rule.{Part, member, table_after, name_of, Agrees, RowRule}
-use Rattle.root_row.specs.Steps.{word_after, leaf_call, leaf_look, LeafAnswered, Looked, IsLeaf, IsOne, seen_in, part_in, worker_in, counts_in, worker_of, counts_of, count_of, looked, Arrived, arrived, departed}
+use Rattle.root_row.specs.History.{table_after, makes}
+use Rattle.root_row.specs.Views.{Part, member, name_of, IsLeaf, IsOne, seen_in, part_in, worker_in, counts_in, worker_of, counts_of, count_of}
+use Rattle.root_row.specs.Rule.{Agrees, RowRule}
+use Rattle.root_row.specs.Steps.{Answered, AtSlot, SeatState, word_after, leaf_call, leaf_look, LeafAnswered, Looked, TriedArrive}
 use Rattle.root_row.proofs.Replay.{get_or_at, at_length, shaped_after}
 use Rattle.root_row.proofs.Moves as move
 
@@ -61,7 +63,7 @@ holders_positive table w m held = at (holders table.rows m) refl where
 
 module _ (world : World) (s : move.St) (kept : RowRule world s) (id : ℕ) (v : View) (at : get_elem? s.views id ≡ some v) (worker : ℕ) (counts : List ℕ) (single : IsOne v (part_is.Leaf worker counts)) (m : ℕ) (inside : m < slots world) (c : List (ℕ × Unit {0})) where
   abbrev T : Table
-  T = table_after world kept.log
+  T = table_after world kept.history
 
   abbrev x : Part
   x = part_is.Leaf worker counts
@@ -85,11 +87,19 @@ module _ (world : World) (s : move.St) (kept : RowRule world s) (id : ℕ) (v : 
   found_is = kept.words m inside
 
   known : worker < world.workers
-  known = let a = at_length T.rows worker counts row_at in let b = (shaped_after world kept.log).rows in omega arith
+  known = let a = at_length T.rows worker counts row_at in let b = (shaped_after world kept.history).rows in omega arith
 
   range : (kind : LeafCall) → IsInRange (slots world) world.workers (leaf_call kind worker m)
   range leaf_is.Get = (inside, known)
   range leaf_is.Put = (inside, known)
+
+  maker : (kind : LeafCall) → makes (name_is.Leaf worker) (leaf_call kind worker m) ≡ true
+  maker leaf_is.Get = eq-eqb worker worker refl
+  maker leaf_is.Put = eq-eqb worker worker refl
+
+  -- the leaf's call had this answer
+  abbrev By : LeafCall → Reply → View → Type 0
+  By kind r w = Answered v (name_is.Leaf worker) (leaf_call kind worker m) r (part_is.Leaf worker (row_given r counts (leaf_call kind worker m))) w
 
   others_stay : (kind : LeafCall) (j : ℕ) → j ≢ m → word_of (next world.catalogue T (leaf_call kind worker m)) j ≡ word_of T j
   others_stay leaf_is.Get = move.others_stay world s kept (call_is.Get worker m) (inside, known)
@@ -131,18 +141,18 @@ module _ (world : World) (s : move.St) (kept : RowRule world s) (id : ℕ) (v : 
 
   -- the call was answered, and the word is n' now
   answers : (kind : LeafCall) (r : Reply) (n' : ℕ) → reply world.catalogue T (leaf_call kind worker m) ≡ r → n' ≡ word_of (next world.catalogue T (leaf_call kind worker m)) m
-      → (w : View) × RowRule world (stepped s (m + 1) n' id c w keeps) × LeafAnswered v worker counts m kind r w × (n' ≡ word_after w m)
+      → (w : View) × RowRule world (stepped s (m + 1) n' id c w keeps) × By kind r w × (n' ≡ word_after w m)
   answers kind r n' is here =
       let t = turns kind r n' is here in (
-        move.next_view world s kept id v at x (given kind r) single (leaf_call kind worker m) m n' inside (range kind) t,
-        move.point world s kept id v at x (given kind r) single (leaf_call kind worker m) m n' inside (range kind) t c,
-        move.answered world s kept id v at x (given kind r) single (leaf_call kind worker m) m n' inside (range kind) t r is,
-        move.word_is world s kept id v at x (given kind r) single (leaf_call kind worker m) m n' inside (range kind) t,
+        move.next_view world s kept id v at x (given kind r) single (leaf_call kind worker m) m n' inside (range kind) (maker kind) t,
+        move.point world s kept id v at x (given kind r) single (leaf_call kind worker m) m n' inside (range kind) (maker kind) t c,
+        move.answered world s kept id v at x (given kind r) single (leaf_call kind worker m) m n' inside (range kind) (maker kind) t r is,
+        move.word_is world s kept id v at x (given kind r) single (leaf_call kind worker m) m n' inside (range kind) (maker kind) t,
       )
 
   -- what a load gives: the call was answered, or nothing changed
   abbrev Load : LeafCall → Outcome → Type 0
-  Load kind o = (w : View) × RowRule world (stepped s (m + 1) n id c w keeps) × MatchOutcome o (λ r. LeafAnswered v worker counts m kind r w × (n ≡ word_after w m)) (λ _. w ≡ v)
+  Load kind o = (w : View) × RowRule world (stepped s (m + 1) n id c w keeps) × MatchOutcome o (λ r. By kind r w × (n ≡ word_after w m)) (λ _. w ≡ v)
 
   stays : (kind : LeafCall) (word : ℕ) → Load kind (GoesOn word)
   stays kind word = (v, move.still world s kept id v at (m + 1) c, refl)
@@ -166,10 +176,10 @@ module _ (world : World) (s : move.St) (kept : RowRule world s) (id : ℕ) (v : 
   looks_at leaf_is.Get = loads leaf_is.Get _ (get_look count n).outcome (get_look count n).word (get_look_word count n) get_right
   looks_at leaf_is.Put = put_looks (count == 1) refl
 
-  abbrev Step : ℕ → (View → Type 0) → Type 0
-  Step n' then = (w : View) × RowRule world (stepped s (m + 1) n' id c w keeps) × then w
+  abbrev Makes : ℕ → (View → Type 0) → Type 0
+  Makes n' then = (w : View) × RowRule world (stepped s (m + 1) n' id c w keeps) × then w
 
-  arrives_at : (old : ℕ) → n ≡ old → old < closed → count ≡ 0 → Step (old + 1) (λ w. LeafAnswered v worker counts m leaf_is.Get Done w)
+  arrives_at : (old : ℕ) → n ≡ old → old < closed → count ≡ 0 → Makes (old + 1) (λ w. By leaf_is.Get Done w)
   arrives_at old hit below none_held =
       let looked : IsRightStep world.catalogue T (call_is.Get worker m) (get_look 0 old) = subst (λ (z : ℕ × ℕ). IsRightStep world.catalogue T (call_is.Get worker m) (get_look z.0 z.1)) (λ i. (none_held i, hit i)) get_right in
       let right : IsRightStep world.catalogue T (call_is.Get worker m) (record { word = old; outcome = GoesOn old }) =
@@ -177,7 +187,7 @@ module _ (world : World) (s : move.St) (kept : RowRule world s) (id : ℕ) (v : 
       let a = answers leaf_is.Get Done (old + 1) right.0 (sym right.4) in
       (a.0, a.1, a.2)
 
-  departs_at : count ≡ 1 → Step ((n + 18446744073709551615) % 18446744073709551616) (λ w. LeafAnswered v worker counts m leaf_is.Put Done w)
+  departs_at : count ≡ 1 → Makes ((n + 18446744073709551615) % 18446744073709551616) (λ w. By leaf_is.Put Done w)
   departs_at one =
       let right : IsRightStep world.catalogue T (call_is.Put worker m) (put_step 1 n) = subst (λ (k : ℕ). IsRightStep world.catalogue T (call_is.Put worker m) (put_step k n)) one put_right in
       let held : 0 < holders T.rows m = holders_positive T worker m (let e = count_is in omega arith) in
@@ -190,11 +200,21 @@ module _ (world : World) (s : move.St) (kept : RowRule world s) (id : ℕ) (v : 
       less : (k : ℕ) → 0 < k → k < 18446744073709551616 → (k + 18446744073709551615) % 18446744073709551616 ≡ k - 1
       less k positive small = omega arith
 
+-- what the steps of a leaf tell
+abbrev pub looked : LeafCall → Step (Unit {0}) → SeatState → ℕ → SeatState → Type 0
+looked kind = AtSlot (λ _ m v found w. Looked kind m v found w)
+
+abbrev pub arrived : Step (Unit {0}) → SeatState → ℕ → SeatState → Type 0
+arrived = AtSlot (λ expected m v found w. TriedArrive m v (found == expected) w)
+
+abbrev pub departed : Step (Unit {0}) → SeatState → ℕ → SeatState → Type 0
+departed = AtSlot (λ _ m v _ w. LeafAnswered v m leaf_is.Put Done w)
+
 module _ (world : World) (slots' id : ℕ) (me : Me (Unit {0}) View) (is : IsLeaf me.0) (m : ℕ) (inside : m < slots world) where
   pub looks : (kind : LeafCall) → Allows (RowRule world) slots' id me (m + 1) (λ n. n) (looked kind (step slots' (m + 1) 0 0 none) me)
   looks kind s kept _ at small =
       let r = looks_at world s kept id me.0 at (worker_of me.0) (counts_of me.0) is m inside me.1 kind in
-      (r.0, keeps, tt, r.1, (refl, λ j e. subst (λ i. Looked kind (worker_of me.0) (counts_of me.0) i me.0 (get_or s.words (m + 1) 0) r.0) (move.same_slot m j e) r.2))
+      (r.0, keeps, tt, r.1, (refl, λ j e. subst (λ i. Looked kind i me.0 (get_or s.words (m + 1) 0) r.0) (move.same_slot m j e) r.2))
 
   pub arrives : (old : ℕ) → old < closed → count_of me.0 m ≡ 0 → Allows (RowRule world) slots' id me (m + 1) (λ n. either (eqb n old) (old + 1) n) (arrived (step slots' (m + 1) old (old + 1) none) me)
   arrives old below zero_is s kept _ at small = exchanged found old (old + 1) Goal hit miss
@@ -212,34 +232,34 @@ module _ (world : World) (slots' id : ℕ) (me : Me (Unit {0}) View) (is : IsLea
             keeps,
             tt,
             r.1,
-            (refl, λ j q. subst (λ i. Arrived i me.0 old (get_or s.words (m + 1) 0) r.0) (move.same_slot m j q) (subst (λ b. MatchBool b (LeafAnswered me.0 (worker_of me.0) (counts_of me.0) m leaf_is.Get Done r.0) (r.0 ≡ me.0)) (sym (eq-eqb (get_or s.words (m + 1) 0) old e)) r.2)),
+            (refl, λ j q. subst (λ i. TriedArrive i me.0 (get_or s.words (m + 1) 0 == old) r.0) (move.same_slot m j q) (subst (λ b. MatchBool b (LeafAnswered me.0 m leaf_is.Get Done r.0) (r.0 ≡ me.0)) (sym (eq-eqb (get_or s.words (m + 1) 0) old e)) r.2)),
           )
 
       miss : get_or s.words (m + 1) 0 ≢ old → Goal (get_or s.words (m + 1) 0)
-      miss ne = (me.0, keeps, tt, move.still world s kept id me.0 at (m + 1) me.1, (refl, λ j q. subst (λ b. MatchBool b (LeafAnswered me.0 (worker_of me.0) (counts_of me.0) j leaf_is.Get Done me.0) (me.0 ≡ me.0)) (sym (ne_eqb (get_or s.words (m + 1) 0) old ne)) refl))
+      miss ne = (me.0, keeps, tt, move.still world s kept id me.0 at (m + 1) me.1, (refl, λ j q. subst (λ b. MatchBool b (LeafAnswered me.0 j leaf_is.Get Done me.0) (me.0 ≡ me.0)) (sym (ne_eqb (get_or s.words (m + 1) 0) old ne)) refl))
 
   pub departs : count_of me.0 m ≡ 1 → Allows (RowRule world) slots' id me (m + 1) (λ n. (n + (2 ^ 64 - 1)) % 2 ^ 64) (departed (step slots' (m + 1) 1 0 none) me)
   departs one s kept _ at small =
       let r = departs_at world s kept id me.0 at (worker_of me.0) (counts_of me.0) is m inside me.1 one in
-      (r.0, keeps, tt, r.1, (refl, λ j e. subst (λ i. LeafAnswered me.0 (worker_of me.0) (counts_of me.0) i leaf_is.Put Done r.0) (move.same_slot m j e) r.2))
+      (r.0, keeps, tt, r.1, (refl, λ j e. subst (λ i. LeafAnswered me.0 i leaf_is.Put Done r.0) (move.same_slot m j e) r.2))
 
 -- a leaf's view stays one
 pub leaf_parts : (w : View) (a : ℕ) (counts : List ℕ) → IsOne w (part_is.Leaf a counts) → IsLeaf w
 leaf_parts w a counts e = let P : List Member → Type 0 = λ ps. ps ≡ member (part_is.Leaf (worker_in (part_in ps)) (counts_in (part_in ps))) (seen_in ps) ∷ [] in subst P (sym e) refl
 
-pub looked_leaf : (kind : LeafCall) (m found : ℕ) (v w : View) → IsLeaf v → Looked kind (worker_of v) (counts_of v) m v found w → IsLeaf w
+pub looked_leaf : (kind : LeafCall) (m found : ℕ) (v w : View) → IsLeaf v → Looked kind m v found w → IsLeaf w
 looked_leaf kind m found v w is told = by_case (leaf_look kind (count_of v m) found) told
   where
-    by_case : (o : Outcome) → MatchOutcome o (λ r. LeafAnswered v (worker_of v) (counts_of v) m kind r w × (found ≡ word_after w m)) (λ _. w ≡ v) → IsLeaf w
+    by_case : (o : Outcome) → MatchOutcome o (λ r. LeafAnswered v m kind r w × (found ≡ word_after w m)) (λ _. w ≡ v) → IsLeaf w
     by_case (Effect r) t = leaf_parts w (worker_of v) _ t.0.members
     by_case (GoesOn word) t = subst IsLeaf (sym t) is
 
-pub arrived_leaf : (m old found : ℕ) (v w : View) → IsLeaf v → Arrived m v old found w → IsLeaf w
-arrived_leaf m old found v w is told = by_case (found == old) told
+pub arrived_leaf : (m : ℕ) (made : Bool) (v w : View) → IsLeaf v → TriedArrive m v made w → IsLeaf w
+arrived_leaf m made v w is told = by_case made told
   where
-    by_case : (b : Bool) → MatchBool b (LeafAnswered v (worker_of v) (counts_of v) m leaf_is.Get Done w) (w ≡ v) → IsLeaf w
+    by_case : (b : Bool) → MatchBool b (LeafAnswered v m leaf_is.Get Done w) (w ≡ v) → IsLeaf w
     by_case true t = leaf_parts w (worker_of v) _ t.members
     by_case false t = subst IsLeaf (sym t) is
 
-pub departed_leaf : (m : ℕ) (v w : View) → LeafAnswered v (worker_of v) (counts_of v) m leaf_is.Put Done w → IsLeaf w
+pub departed_leaf : (m : ℕ) (v w : View) → LeafAnswered v m leaf_is.Put Done w → IsLeaf w
 departed_leaf m v w t = leaf_parts w (worker_of v) _ t.members

@@ -10,17 +10,18 @@ use Rattle.dep_index.proofs.RunLaws.{opening_absent}
 use Rattle.atomic_table.specs.Seated.{TableId}
 use Rattle.root_row.specs.declared.view.World.{World}
 use Rattle.root_row.specs.declared.rule.Setting.{Setting}
-use Rattle.root_row.specs.declared.view.Name.TheVariants as name_is
+use Rattle.root_row.specs.declared.view.SeatName.TheVariants as name_is
 use Rattle.root_row.specs.declared.view.Part.TheVariants as part_is
 use Rattle.root_row.specs.declared.view.Member.{Member}
 use Rattle.root_row.specs.declared.view.View.{View}
 use Rattle.root_row.specs.World.{slots, opened}
-use Rattle.root_row.specs.Rule.{Part, name_of, Agrees, Owner, FitsMember, Fits, RowRule}
+use Rattle.root_row.specs.Views.{Part, name_of}
+use Rattle.root_row.specs.Rule.{Agrees, Owner, FitsMember, Fits, IsAt, IsOfTable, HasAll, RowRule}
 use Rattle.root_row.specs.Setting.{world_of, leaf_parts, reader_parts, book_part, new_member, new_view, first_view}
 use Rattle.root_row.specs.Seats.{Seated}
 use Rattle.root_row.specs.Made.{AreNew}
 use Rattle.root_row.specs.Seating.{first_member, other_members}
-use Rattle.root_row.proofs.Replay.{at_or_past, get_or_at}
+use Rattle.root_row.proofs.Replay.{at_or_past, get_or_at, legal_none, callers_none}
 use Rattle.root_row.proofs.Seating.{at_snoc}
 
 pub at_replicate : {A : Type 0} (n : ℕ) (x : A) (i : ℕ) → i < n → get_elem? (replicate n x) i ≡ some x
@@ -49,6 +50,24 @@ reader_at (suc n) r tail (suc k) x e = ⊎_elim
     (λ t. let a = t.0 in inl (omega arith, ap part_is.Reader (let q : r + suc k ≡ r + 1 + k = omega arith in q) ∙ t.1))
     (λ t. let a = t.1 in inr (t.0, omega arith, t.2))
     (reader_at n (r + 1) tail k x e)
+
+mapped_at : (l : List Part) (k : ℕ) (x : Part) → get_elem? l k ≡ some x → get_elem? (map new_member l) k ≡ some (new_member x)
+mapped_at [] k x e = absurd (some-ne-none x (sym e))
+mapped_at (y ∷ ys) zero x e = ap (λ (z : Part). some (new_member z)) (some-injective y x e)
+mapped_at (y ∷ ys) (suc k) x e = mapped_at ys k x e
+
+leaf_there : (world : World) (n w : ℕ) (tail : List Part) (k : ℕ) → k < n → get_elem? (leaf_parts world n w ++ tail) k ≡ some (part_is.Leaf (w + k) (replicate (slots world) 0))
+leaf_there world zero w tail k lt = absurd (omega arith)
+leaf_there world (suc n) w tail zero lt = ap (λ u. some (part_is.Leaf u (replicate (slots world) 0))) (let q : w ≡ w + 0 = omega arith in q)
+leaf_there world (suc n) w tail (suc k) lt = leaf_there world n (w + 1) tail k (omega arith) ∙ ap (λ u. some (part_is.Leaf u (replicate (slots world) 0))) (let q : w + 1 + k ≡ w + suc k = omega arith in q)
+
+past_leaves : (world : World) (n w : ℕ) (tail : List Part) (k : ℕ) → get_elem? (leaf_parts world n w ++ tail) (n + k) ≡ get_elem? tail k
+past_leaves world zero w tail k = ap (λ i. get_elem? tail i) (let q : 0 + k ≡ k = omega arith in q)
+past_leaves world (suc n) w tail k = ap (λ i. get_elem? (leaf_parts world (suc n) w ++ tail) i) (let q : suc n + k ≡ suc (n + k) = omega arith in q) ∙ past_leaves world n (w + 1) tail k
+
+past_readers : (n r : ℕ) (tail : List Part) (k : ℕ) → get_elem? (reader_parts n r ++ tail) (n + k) ≡ get_elem? tail k
+past_readers zero r tail k = ap (λ i. get_elem? tail i) (let q : 0 + k ≡ k = omega arith in q)
+past_readers (suc n) r tail k = ap (λ i. get_elem? (reader_parts (suc n) r ++ tail) i) (let q : suc n + k ≡ suc (n + k) = omega arith in q) ∙ past_readers n (r + 1) tail k
 
 module _ (setting : Setting) where
   abbrev world : World
@@ -88,15 +107,40 @@ module _ (setting : Setting) where
   seats_fit zero v e = subst (λ (u : View). Fits (world_of setting) [] owner 0 u) (some-injective (first_view setting) v e) first_fits
   seats_fit (suc j) v e = absurd (some-ne-none v (sym e))
 
+  first_parts : List Part
+  first_parts = leaf_parts (world_of setting) setting.workers 0 ++ (reader_parts setting.readers 0 ++ book_part (world_of setting) ∷ [])
+
+  book_there : get_elem? first_parts (setting.workers + setting.readers) ≡ some (book_part (world_of setting))
+  unfolding first_parts
+  book_there =
+      past_leaves (world_of setting) setting.workers 0 (reader_parts setting.readers 0 ++ book_part (world_of setting) ∷ []) setting.readers
+      ∙ ap (λ i. get_elem? (reader_parts setting.readers 0 ++ book_part (world_of setting) ∷ []) i) (let q : setting.readers ≡ setting.readers + 0 = omega arith in q)
+      ∙ past_readers setting.readers 0 (book_part (world_of setting) ∷ []) 0
+
+  all_there : HasAll (world_of setting) (first_view setting ∷ []) owner
+  unfolding owner first_parts book_there
+  all_there (name_is.Leaf w) lt = (
+    new_member (part_is.Leaf (0 + w) (replicate (slots (world_of setting)) 0)),
+    (first_view setting, refl, mapped_at first_parts w (part_is.Leaf (0 + w) (replicate (slots (world_of setting)) 0)) (leaf_there (world_of setting) setting.workers 0 (reader_parts setting.readers 0 ++ book_part (world_of setting) ∷ []) w lt)),
+    ap name_is.Leaf (let q : 0 + w ≡ w = omega arith in q),
+  )
+  all_there (name_is.Reader r) of = absurd of
+  all_there name_is.Book of = (
+    new_member (book_part (world_of setting)),
+    (first_view setting, refl, mapped_at first_parts (setting.workers + setting.readers) (book_part (world_of setting)) book_there),
+    refl,
+  )
+
   pub opens : (words : List ℕ) → words ≡ replicate (slots (world_of setting) + 1) closed → setting.workers < closed → RowRule (world_of setting) (table.opening words [] (first_view setting))
   opens words is few = record {
-    log = [];
+    history = [];
     owner = owner;
     few = few;
-    in_range = tt;
-    legal = refl;
+    legal = legal_none (world_of setting);
+    callers = callers_none;
     whole = inl refl;
     seats = seats_fit;
+    there = all_there;
     wide = ap length is ∙ length-replicate (slots (world_of setting) + 1) closed;
     spare = ap (λ l. get_or l 0 0) is ∙ get_or-replicate (slots (world_of setting) + 1) 0 closed 0 (omega arith);
     words = λ m lt. ap (λ l. get_or l (m + 1) 0) is ∙ get_or-replicate (slots (world_of setting) + 1) (m + 1) closed 0 (omega arith) ∙ sym (ap (λ st. word_in st (holders (opened (world_of setting)).rows m)) (opening_absent setting.catalogue.value setting.workers m));

@@ -1,27 +1,48 @@
 //! A new row, and its seats.
 ghost use Rattle.std.specs.Prelude.{◌≡◌, ◌<◌, List, [], ◌++◌, length, All, IfOk};
+ghost use Rattle.dep_index.specs.Catalogue.{modules_of};
 ghost use Rattle.dep_index.specs.Words.{closed};
-ghost use Rattle.root_row.specs.Rule.{Part};
+ghost use Rattle.root_row.specs.Views.{Part, worker_of, reader_of};
 ghost use Rattle.root_row.specs.Seating.{first_member, other_members};
 ghost use Rattle.root_row.specs.Setting.{world_of, leaf_parts, reader_parts, new_view};
-ghost use Rattle.root_row.specs.Steps.{worker_of};
 ghost use Rattle.root_row.specs.Made.{AreNew, new_leaf, new_reader, new_book};
 
 use crate::book_seat::BookSeat;
 use crate::leaf_seat::LeafSeat;
+use crate::plays::FirstMember;
 use crate::read_seat::ReadSeat;
 use crate::row::Row;
-use crate::rule::{FirstMember, OneHistory, Setting};
+use crate::rule::{OneHistory, Setting};
 use crate::view::View;
 use atomic_table::{Seat, Table};
-use dep_index::Slots;
 use dep_index::words::CLOSED;
+use dep_index::{Catalogue, Slots};
 use std::alloc::{AllocError, Global};
 use std::snapshot::Snapshot;
 
 impl Row {
-    /// A row over a catalogue, with a seat for each leaf in order, the book's seat and the readers' seats.
+    /// A row over a catalogue, where all is absent, with the seat of each worker's leaf in order, the book's seat and the
+    /// readers' seats. No seat has seen anything.
     pub fn new(
+        alloc: Global,
+        catalogue: &Catalogue,
+        workers: usize,
+        readers: usize,
+    ) -> Result<(Row, Vec<LeafSeat>, BookSeat, Vec<ReadSeat>), AllocError>
+        requires few_workers { workers < closed }
+        ensures world { IfOk result (λ r. r.0.world ≡ record { catalogue = modules_of catalogue.now; workers = workers }) }
+        ensures leaves { IfOk result (λ r. AreNew (new_leaf r.0.id r.0.world) workers r.1.items) }
+        ensures unused { IfOk result (λ r. All (λ s. s ≡ new_leaf r.0.id r.0.world (worker_of s.view)) r.1.items) }
+        ensures book { IfOk result (λ r. r.2 ≡ new_book r.0.id r.0.world) }
+        ensures readers { IfOk result (λ r. AreNew (new_reader r.0.id r.0.world) readers r.3.items) }
+        ensures new_readers { IfOk result (λ r. All (λ s. s ≡ new_reader r.0.id r.0.world (reader_of s.view)) r.3.items) }
+    {
+        let slots = catalogue.slots(alloc)?;
+        Row::over(alloc, &slots, workers, readers)
+    }
+
+    /// The same over the slots of a catalogue.
+    pub fn over(
         alloc: Global,
         catalogue: &Slots,
         workers: usize,
@@ -33,6 +54,7 @@ impl Row {
         ensures unused { IfOk result (λ r. All (λ s. s ≡ new_leaf r.0.id r.0.world (worker_of s.view)) r.1.items) }
         ensures book { IfOk result (λ r. r.2 ≡ new_book r.0.id r.0.world) }
         ensures readers { IfOk result (λ r. AreNew (new_reader r.0.id r.0.world) readers r.3.items) }
+        ensures new_readers { IfOk result (λ r. All (λ s. s ≡ new_reader r.0.id r.0.world (reader_of s.view)) r.3.items) }
     {
         let slots = catalogue.len();
         let words = Vec::from_elem(alloc, CLOSED, slots + 1)?;
@@ -78,6 +100,7 @@ fn cut_leaves(
     ghost tail: { List Part }
     requires own { rest.old.table_id ≡ table.now.shared.table_id }
     requires words { 0 < table.now.shared.table_id.words }
+    requires all { workers ≡ table.now.shared.key.workers }
     requires view { rest.old.me ≡ (new_view (world_of table.now.shared.key) (leaf_parts (world_of table.now.shared.key) workers 0 ++ tail), []) }
     ensures leaves { IfOk result (λ v. AreNew (new_leaf table.now.shared.table_id (world_of table.now.shared.key)) workers v.items) }
     ensures rest { IfOk result (λ _. (rest.new.table_id ≡ table.now.shared.table_id) × (rest.new.me ≡ (new_view (world_of table.now.shared.key) tail, []))) }

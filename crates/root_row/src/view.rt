@@ -11,7 +11,7 @@ pub struct World {
 
 /// Who makes a call.
 #[derive(Clone, Copy, Drop)]
-pub enum Name {
+pub enum SeatName {
     Leaf(usize),
     Reader(usize),
     Book,
@@ -19,8 +19,8 @@ pub enum Name {
 
 /// One answered call of the history.
 #[derive(Clone, Copy, Drop)]
-pub struct HistoryEntry {
-    pub by: Name,
+pub struct SeatAnswer {
+    pub by: SeatName,
     pub call: Call,
     pub reply: Reply,
 }
@@ -49,7 +49,7 @@ pub enum Part {
 /// A part with the history that it has seen.
 pub struct Member {
     pub part: Part,
-    pub seen: LinkedList<HistoryEntry>,
+    pub seen: LinkedList<SeatAnswer>,
 }
 
 /// A seat's view. A leaf's, the book's and a reader's have one member, a pair's has two, a spent one's has none.

@@ -1,14 +1,15 @@
 //! The machine of steps.
-ghost use Rattle.std.specs.Prelude.{ℕ, ◌≡◌, ◌<◌, ◌^◌, length, Some, None, MatchResult, IfOk};
+ghost use Rattle.std.specs.Prelude.{◌≡◌, ◌<◌, ◌^◌, Some, None, MatchResult, IfOk};
 ghost use Rattle.dep_index.specs.Calls.{opening};
+ghost use Rattle.dep_index.specs.Catalogue.{modules_of};
 
 use crate::parts::Parts;
 use crate::steps::{Event, Step, StepError};
-use dep_index::Slots;
+use dep_index::{Catalogue, Slots};
 use std::alloc::{AllocError, Global};
 use std::marker::Model;
 
-/// The machine of steps over a catalogue. Contracts see it as the catalogue's modules by slot and its state.
+/// The machine of steps over a catalogue. Contracts see it as the catalogue's modules by slot and a state.
 #[derive(Drop)]
 pub struct Machine {
     slots: Slots,
@@ -33,8 +34,26 @@ impl Machine {
     ghost use Rattle.step_core.specs.Shown.{shown};
     ghost use Rattle.step_core.specs.StepLaw.{StepLaw, WordsAreRight};
 
-    /// The machine over these slots in its opening state: every module absent, every word closed, no reference,
-    /// no lock held, no thread in a call.
+    /// The machine over a catalogue in its opening state: every module absent, every word closed, no
+    /// reference, no lock held, no thread in a call. So many `calls` may be invoked. Its room is made here:
+    /// no step takes memory.
+    pub fn new(
+        alloc: Global,
+        catalogue: &Catalogue,
+        workers: usize,
+        threads: usize,
+        calls: usize,
+    ) -> Result<Machine, AllocError>
+        requires { workers < 2 ^ 32 }
+        ensures over { IfOk result (λ machine. machine.catalogue ≡ modules_of catalogue.now) }
+        ensures state { IfOk result (λ machine. machine.state ≡ start (modules_of catalogue.now) workers threads calls) }
+        ensures shows { IfOk result (λ machine. shown machine.state ≡ opening (modules_of catalogue.now) workers) }
+        ensures words { IfOk result (λ machine. WordsAreRight (modules_of catalogue.now) machine.state) }
+    {
+        Machine::over(alloc, catalogue.slots(alloc)?, workers, threads, calls)
+    }
+
+    /// The same over the modules by slot.
     pub fn over(
         alloc: Global,
         slots: Slots,
@@ -52,12 +71,16 @@ impl Machine {
         Ok(Machine { slots, parts })
     }
 
-    /// Makes one step, or says why it is refused; a refused step changes nothing. It takes no memory.
+    /// Makes one step, or says why it is refused: thread, worker or slot out of range, or no more calls,
+    /// tested in this order. A refused step changes nothing. An `Invoke` of a thread in a call gives
+    /// `Nothing`, before the number of calls is tested.
     pub fn step(&mut self, step: Step) -> Result<Event, StepError>
-        ensures refused { MatchResult result (λ event. step_refusal self.old.catalogue self.old.state step ≡ None) (λ error. step_refusal self.old.catalogue self.old.state step ≡ Some error) }
+        ensures refused { let refusal = step_refusal self.old.catalogue self.old.state step in
+            MatchResult result (λ event. refusal ≡ None) (λ error. refusal ≡ Some error) }
         ensures event { IfOk result (λ event. event ≡ (step_of self.old.catalogue self.old.state step).0) }
-        ensures state { MatchResult result (λ event. self.new.state ≡ (step_of self.old.catalogue self.old.state step).1) (λ error. self.new.state ≡ self.old.state) }
-        // a point answers what the one-thread table answers, and makes the shown table the next one; no other step changes it
+        ensures state { let after = (step_of self.old.catalogue self.old.state step).1 in
+            MatchResult result (λ event. self.new.state ≡ after) (λ error. self.new.state ≡ self.old.state) }
+        // a point answers what the one-thread table answers, and makes the shown table its next
         ensures shows { IfOk result (λ event. StepLaw self.old.catalogue self.old.state step event self.new.state) }
         ensures words { WordsAreRight self.new.catalogue self.new.state }
         ensures over { self.new.catalogue ≡ self.old.catalogue }

@@ -51,7 +51,7 @@ fn add_steps(steps: &mut Vec<Step>, plays: &[Play]) -> Result<(), AllocError> {
     Ok(())
 }
 
-/// The steps after snd is loaded that begin a call, that are its point, or that return, each with its index.
+/// The steps after snd is loaded at which a call begins, takes effect or returns, each with its index.
 fn marks(alloc: Global, threads: usize, plays: &[Play]) -> Result<Vec<(usize, Event)>, Fail> {
     let mut steps = Vec::new(alloc);
     add_steps(&mut steps, &LOADED)?;
@@ -344,7 +344,7 @@ fn drains(rt: HostRuntime) -> Result<(), Fail> {
     expect(&rt, rt.alloc(), 2, &plays, &wanted)
 }
 
-// A leaf that holds the module gets no further reference while it drains, and a query still answers yes.
+// A leaf that holds the module gets no further reference while it drains; a query still says yes.
 #[test]
 fn refuses_a_get_while_its_leaf_drains(rt: HostRuntime) -> Result<(), Fail> {
     let plays = [
