@@ -23,8 +23,7 @@ pub fn run(
     ensures told { IfOk result (λ es. es.items ≡ run_events (modules_of catalogue.now) workers threads steps.now) }
     ensures refused { IfErr result (IsRefusal (modules_of catalogue.now) workers threads steps.now) }
 {
-    let slots = catalogue.slots(alloc)?;
-    let machine = Machine::over(alloc, slots, workers, threads, steps.len())?;
+    let machine = Machine::new(alloc, catalogue, workers, threads, steps.len())?;
     events(alloc, machine, steps)
 }
 
