@@ -14,7 +14,8 @@ use Rattle.linear_points.specs.declared.intervals.Interval.{Interval}
 use Rattle.linear_points.specs.declared.intervals.End.{End}
 use Rattle.linear_points.specs.Run.{IsRun, run_start, run_events, run_calls}
 use Rattle.linear_points.specs.Linearization.{IsWithin, first_step, last_step}
-use Rattle.linear_points.specs.Interval.{AreIntervals, AreNumberedFrom, calls_made}
+use Rattle.linear_points.specs.Interval.{AreIntervals}
+use Rattle.linear_points.specs.Noted.{AreNumberedFrom, calls_made}
 use Rattle.linear_points.proofs.Numbers.{numbered_from, calls_are_made}
 use Rattle.linear_points.proofs.Whole.{slice_get_some}
 use Rattle.std.proofs.lemmas.List.{get_or-map, length-map}

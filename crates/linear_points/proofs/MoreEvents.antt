@@ -17,7 +17,8 @@ use Rattle.step_core.specs.Run.{invoked_call}
 use Rattle.linear_points.specs.declared.intervals.Interval.{Interval}
 use Rattle.linear_points.specs.declared.intervals.End.{End}
 use Rattle.linear_points.specs.Linearization.{first_index, first_step, last_step, returned_reply, reply_in, is_invoked, is_returned}
-use Rattle.linear_points.specs.Interval.{calls_made, AreNumberedFrom, NumbersCall, invoked_after, AreIntervals, closed, noted, no_interval, ReturnsBelow}
+use Rattle.linear_points.specs.Interval.{AreIntervals}
+use Rattle.linear_points.specs.Noted.{calls_made, AreNumberedFrom, NumbersCall, invoked_after, closed, noted, no_interval, ReturnsBelow}
 
 -- the intervals of the calls that the first i steps make, and what comes behind them
 pub record HasIntervals (steps : List Step) (es : List Event) (i : ℕ) (found : List Interval) : Type 0 where

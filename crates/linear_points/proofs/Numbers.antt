@@ -16,7 +16,7 @@ use Rattle.step_core.specs.StepLaw.{StepLaw}
 use Rattle.step_core.specs.Sound.{IsSound}
 use Rattle.step_core.proofs.WholeSteps.{steps_are_right}
 use Rattle.linear_points.specs.Linearization.{first_index, is_invoked}
-use Rattle.linear_points.specs.Interval.{calls_made, NumbersCall, invoked_after, AreNumberedFrom}
+use Rattle.linear_points.specs.Noted.{calls_made, NumbersCall, invoked_after, AreNumberedFrom}
 use Rattle.linear_points.proofs.Courses.{Course, line_course}
 
 -- one step of a thread numbers no new call

@@ -12,7 +12,7 @@ use Rattle.dep_index.specs.Laws.{AllInRange}
 use Rattle.step_core.specs.Run.{call_numbered}
 use Rattle.linear_points.specs.declared.taken.Point.{Point}
 use Rattle.linear_points.specs.declared.intervals.Interval.{Interval}
-use Rattle.linear_points.specs.Interval.{calls_at}
+use Rattle.linear_points.specs.Noted.{calls_at}
 use Rattle.linear_points.proofs.Numbers.{numbered_in_range}
 
 abbrev pub interval_calls : List Interval → List Call

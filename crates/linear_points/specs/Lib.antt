@@ -1,4 +1,5 @@
 pub mod Run
 pub mod Linearization
-pub mod Interval
 pub mod Refused
+pub mod Interval
+pub mod Noted

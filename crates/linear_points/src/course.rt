@@ -8,7 +8,8 @@ ghost use Rattle.step_core.specs.Run.{call_numbered};
 ghost use Rattle.linear_points.specs.Run.{IsRun, run_events, run_calls};
 ghost use Rattle.linear_points.specs.Linearization.{IsWithin, IsAsReturned, HasItsPoint, point_count};
 ghost use Rattle.linear_points.specs.Refused.{IsRefusal};
-ghost use Rattle.linear_points.specs.Interval.{AreIntervals, calls_at};
+ghost use Rattle.linear_points.specs.Interval.{AreIntervals};
+ghost use Rattle.linear_points.specs.Noted.{calls_at};
 
 use crate::intervals::{self, Interval};
 use crate::taken::{Point, PointsError};
@@ -44,6 +45,16 @@ impl Course {
         let events = runs::run(alloc, catalogue, workers, threads, steps)?;
         let intervals = intervals::intervals(alloc, steps, &events)?;
         Ok(Course { events, intervals })
+    }
+
+    fn into_intervals(self) -> Vec<Interval>
+        ensures { result ≡ self.intervals }
+    {
+        let Course {
+            events: _,
+            intervals,
+        } = self;
+        intervals
     }
 
     /// Whether the point lies between its call's first step and its last.
@@ -118,6 +129,25 @@ impl Course {
         }
         true
     }
+}
+
+/// The intervals of a run's calls, by the calls' numbers. `Step` names the first step that the machine refuses,
+/// `Memory` says that there was none to keep the intervals.
+pub fn call_intervals(
+    alloc: Global,
+    catalogue: &Catalogue,
+    workers: usize,
+    threads: usize,
+    steps: &[Step],
+) -> Result<Vec<Interval>, PointsError>
+    requires { workers < 2 ^ 32 }
+    ensures run { OnOk result (IsRun (modules_of catalogue.now) workers threads steps.now) }
+    ensures calls { IfOk result (λ found. map (λ i. i.call) found.items ≡ run_calls (modules_of catalogue.now) workers threads steps.now) }
+    ensures intervals { IfOk result (λ found. AreIntervals (run_events (modules_of catalogue.now) workers threads steps.now) found.items) }
+    ensures refused { IfErr result (IsRefusal (modules_of catalogue.now) workers threads steps.now) }
+{
+    let course = Course::of(alloc, catalogue, workers, threads, steps)?;
+    Ok(course.into_intervals())
 }
 
 /// How many points each call has, by its number.

@@ -1,6 +1,7 @@
 //! The intervals of a run's calls.
 ghost use Rattle.std.specs.Prelude.{◌≡◌, ◌≤◌, ◌↔◌, IsTrue, IfSome, length, map, IfOk, OnOk, MatchOption};
-ghost use Rattle.linear_points.specs.Interval.{AreNumberedFrom, AreIntervals, calls_made, closed, noted, ReturnsBelow};
+ghost use Rattle.linear_points.specs.Interval.{AreIntervals};
+ghost use Rattle.linear_points.specs.Noted.{AreNumberedFrom, calls_made, closed, noted, ReturnsBelow};
 
 use dep_index::{Call, Reply};
 use std::alloc::{AllocError, Global};

@@ -11,6 +11,7 @@ mod runs;
 mod taken;
 
 pub use checker::check_points;
+pub use course::call_intervals;
 pub use intervals::{End, Interval};
 pub use linear::points;
 pub use taken::{Point, PointsError};

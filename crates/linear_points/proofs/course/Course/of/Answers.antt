@@ -1,6 +1,6 @@
 use Rattle.std.proofs.Common.{sym, ◌∙◌, ap, subst, ◌≡◌, length}
 use Rattle.dep_index.specs.Catalogue.{modules_of}
-use Rattle.linear_points.specs.Interval.{AreNumberedFrom, calls_made}
+use Rattle.linear_points.specs.Noted.{AreNumberedFrom, calls_made}
 use Rattle.linear_points.specs.Run.{run_events}
 use Rattle.linear_points.proofs.Kept.{run_numbered, one_event_each, run_calls_made}
 use Rattle.linear_points.proofs.course.Course.of.Goals as goal
