@@ -9,6 +9,8 @@ mod linear;
 mod replays;
 mod runs;
 mod taken;
+#[cfg(test)]
+mod tests;
 
 pub use checker::check_points;
 pub use course::call_intervals;
