@@ -3,6 +3,7 @@
 
 mod figure;
 mod machine;
+mod points;
 mod words;
 
 use anyhow::Result;
@@ -14,15 +15,17 @@ use std::rt::Runtime;
 #[derive(Clone, Copy, Debug, PartialEq, Eq)]
 enum Benchmark {
     Machine,
+    Points,
     Words,
 }
 
-const ALL: [Benchmark; 2] = [Benchmark::Machine, Benchmark::Words];
+const ALL: [Benchmark; 3] = [Benchmark::Machine, Benchmark::Points, Benchmark::Words];
 
 impl Benchmark {
     fn name(self) -> &'static str {
         match self {
             Benchmark::Machine => "machine",
+            Benchmark::Points => "points",
             Benchmark::Words => "words",
         }
     }
@@ -30,6 +33,7 @@ impl Benchmark {
     fn measure<R: Runtime + AllocGlobal>(self, rt: &R) -> Result<()> {
         match self {
             Benchmark::Machine => machine::measure(rt),
+            Benchmark::Points => points::measure(rt),
             Benchmark::Words => words::measure(rt),
         }
     }
