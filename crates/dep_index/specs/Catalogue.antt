@@ -123,6 +123,10 @@ limit draft = if draft.is_version_2 then 1024 else 256
 abbrev pub has_name : List Description → List ℕ → Bool
 has_name modules name = list_any (λ m. bytes_eq name m.name) modules
 
+-- the slot of a name
+abbrev pub slot_named : List Description → List ℕ → Option ℕ
+slot_named modules name = position (λ m. bytes_eq name m.name) modules
+
 abbrev pub exports_symbol : List ℕ → Description → Bool
 exports_symbol symbol m = list_any (bytes_eq symbol) m.exports
 

@@ -9,3 +9,10 @@ pub mod Slots
 pub mod Catalogue
 pub mod Dependencies
 pub mod TextLaws
+pub mod Descriptions
+pub mod Faults
+pub mod Pairs
+pub mod Exports
+pub mod Directives
+pub mod Drafts
+pub mod Marks

@@ -87,4 +87,16 @@ impl Slots {
     {
         self.slots[m].permanent
     }
+
+    /// The same slots, for another owner.
+    pub fn copy(&self, alloc: Global) -> Result<Slots, AllocError>
+        ensures { IfOk result (λ copied. copied ≡ self.now) }
+    {
+        let mut copied = Slots::new(alloc);
+        for slot in &self.slots {
+            let needs = Vec::from_slice(alloc, &slot.needs)?;
+            copied.push(needs, slot.unknown_symbol, slot.permanent)?;
+        }
+        Ok(copied)
+    }
 }

@@ -1,0 +1,33 @@
+-- What the program keeps of a catalogue, as descriptions.
+use Rattle.std.specs.Prelude.{ℕ, List, map, Vec}
+use Rattle.std.specs.declared.alloc.Global.{Global}
+use Rattle.dep_index.specs.Catalogue.{Description}
+use Rattle.dep_index.specs.declared.details.Details.{Details}
+use Rattle.dep_index.specs.declared.details.Open.{Open}
+
+-- the texts that a list owns
+abbrev pub owned : List (Vec ℕ Global) → List (List ℕ)
+owned texts = map (λ text. text.items) texts
+
+abbrev pub description_in : List ℕ → Details → Description
+description_in name details =
+    record {
+      name = name;
+      size = details.size;
+      exports = owned details.exports.items;
+      needed_symbols = owned details.needed_symbols.items;
+      params = details.params.items;
+      softneeds = details.softneeds.items;
+      permanent = details.permanent;
+    }
+
+-- an entry of the index of names, as a description
+abbrev pub description_of : Vec ℕ Global × Details → Description
+description_of entry = description_in entry.0.items entry.1
+
+abbrev pub descriptions_in : List (Vec ℕ Global × Details) → List Description
+descriptions_in entries = map description_of entries
+
+-- the module that is open, as a description
+abbrev pub open_in : Open → Description
+open_in open_module = description_in open_module.name.items open_module.details

@@ -1,0 +1,128 @@
+//! A catalogue by slot.
+ghost use Rattle.std.specs.Prelude.{◌≡◌, ◌<◌, ◌≤◌, length, unwrap_or, IfOk};
+ghost use Rattle.dep_index.specs.Catalogue.{description_at, slot_named, needs_of, has_unknown_symbol, modules_of};
+ghost use Rattle.dep_index.specs.Descriptions.{descriptions_in};
+
+use crate::details::Details;
+use crate::names::Name;
+use crate::params::Param;
+use crate::slots::Slots;
+use indexmap::IndexMap;
+use std::alloc::{AllocError, Global};
+use std::marker::Model;
+
+/// The modules of a catalogue text. A module's slot is its place in the text, from 0.
+/// Contracts see it as the list of its descriptions.
+#[derive(Drop)]
+pub struct Catalogue {
+    modules: IndexMap<Vec<u8>, Details>,
+    slots: Slots,
+}
+
+impl Model for Catalogue {
+    ghost use Rattle.std.specs.Prelude.{List, length, ◌≡◌, ◌≤◌};
+    ghost use Rattle.dep_index.specs.Catalogue.{Description, modules_of};
+
+    ghost Value = { List Description };
+
+    ghost use Rattle.dep_index.specs.Descriptions.{descriptions_in};
+
+    ghost view = { λ c. descriptions_in c.modules.entries };
+
+    ghost invariant = { λ c. record { slots : c.slots ≡ modules_of (descriptions_in c.modules.entries); few : length c.modules.entries ≤ 1024 } };
+}
+
+impl Catalogue {
+    /// The modules, with what is known of them by slot.
+    pub(crate) fn new(modules: IndexMap<Vec<u8>, Details>, slots: Slots) -> Catalogue
+        requires slots { slots ≡ modules_of (descriptions_in modules.entries) }
+        requires few { length modules.entries ≤ 1024 }
+        ensures { result ≡ descriptions_in modules.entries }
+    {
+        Catalogue { modules, slots }
+    }
+
+    /// How many modules there are, at most 1,024.
+    pub fn len(&self) -> usize
+        ensures result_is { result ≡ length self.now }
+        ensures bound { length self.now ≤ 1024 }
+    {
+        self.modules.len()
+    }
+
+    /// The slot of a name, which is compared as it stands: names are kept in normal form.
+    pub fn slot(&self, name: &[u8]) -> Option<usize>
+        ensures { result ≡ slot_named self.now name.now }
+    {
+        self.modules.get_index_of(name)
+    }
+
+    /// The name of the module in the slot, in normal form.
+    pub fn name(&self, m: usize) -> &[u8]
+        requires { m < length self.now }
+        ensures { result.now ≡ (description_at self.now m).name }
+    {
+        let (name, _) = self.modules.get_index(m).unwrap();
+        name
+    }
+
+    /// The size of the module, 0 where the text has none.
+    pub fn size(&self, m: usize) -> u32
+        requires { m < length self.now }
+        ensures { result ≡ unwrap_or (description_at self.now m).size 0 }
+    {
+        let (_, details) = self.modules.get_index(m).unwrap();
+        details.size.unwrap_or(0)
+    }
+
+    /// The slots that the module needs: the exporters of its symbols, in the order of the symbols, each once and
+    /// never the module itself.
+    pub fn needs(&self, m: usize) -> &[u16]
+        requires { m < length self.now }
+        ensures { result.now ≡ needs_of self.now m }
+    {
+        self.slots.needs(m)
+    }
+
+    /// Whether the module needs a symbol that no module exports.
+    pub fn unknown_symbol(&self, m: usize) -> bool
+        requires { m < length self.now }
+        ensures { result ≡ has_unknown_symbol self.now m }
+    {
+        self.slots.unknown_symbol(m)
+    }
+
+    /// The parameters of the module, in the order of the text.
+    pub fn params(&self, m: usize) -> &[Param]
+        requires { m < length self.now }
+        ensures { result.now ≡ (description_at self.now m).params }
+    {
+        let (_, details) = self.modules.get_index(m).unwrap();
+        &details.params
+    }
+
+    /// Whether the module stays once it is loaded.
+    pub fn permanent(&self, m: usize) -> bool
+        requires { m < length self.now }
+        ensures { result ≡ (description_at self.now m).permanent }
+    {
+        self.slots.permanent(m)
+    }
+
+    /// The names of the modules that the module would have loaded before it, repeats kept; they need not be in the
+    /// catalogue.
+    pub fn softneeds(&self, m: usize) -> &[Name]
+        requires { m < length self.now }
+        ensures { result.now ≡ (description_at self.now m).softneeds }
+    {
+        let (_, details) = self.modules.get_index(m).unwrap();
+        &details.softneeds
+    }
+
+    /// Needs and marks by slot, for an owner of its own.
+    pub fn slots(&self, alloc: Global) -> Result<Slots, AllocError>
+        ensures { IfOk result (λ slots. slots ≡ modules_of self.now) }
+    {
+        self.slots.copy(alloc)
+    }
+}

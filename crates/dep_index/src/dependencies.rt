@@ -1,0 +1,45 @@
+//! The dependencies that a modules.dep text gives.
+ghost use Rattle.std.specs.Prelude.{◌≡◌};
+ghost use Rattle.std.specs.Option.{option_map};
+ghost use Rattle.dep_index.specs.Dependencies.{deps};
+ghost use Rattle.dep_index.specs.Pairs.{pairs_in};
+
+use crate::names::Name;
+use indexmap::IndexMap;
+use std::marker::Model;
+
+/// The lines of a modules.dep text (depmod(8)): for each name that has one, the names that it depends on.
+/// Contracts see it as the list of its pairs.
+#[derive(Drop)]
+pub struct DepIndex {
+    lines: IndexMap<Vec<u8>, Vec<Name>>,
+}
+
+impl Model for DepIndex {
+    ghost use Rattle.std.specs.Prelude.{List};
+    ghost use Rattle.dep_index.specs.Dependencies.{Pair};
+
+    ghost Value = { List Pair };
+
+    ghost use Rattle.dep_index.specs.Pairs.{pairs_in};
+
+    ghost view = { λ d. pairs_in d.lines.entries };
+}
+
+impl DepIndex {
+    /// The lines that were read.
+    pub(crate) fn new(lines: IndexMap<Vec<u8>, Vec<Name>>) -> DepIndex
+        ensures { result ≡ pairs_in lines.entries }
+    {
+        DepIndex { lines }
+    }
+
+    /// The names that the name depends on, in the order of its line, repeats kept, or `None` where it has no line.
+    /// The name is compared as it stands: names are kept in normal form.
+    pub fn deps(&self, name: &[u8]) -> Option<&[Name]>
+        ensures { option_map (λ names. names.now) result ≡ deps self.now name.now }
+    {
+        let names = self.lines.get(name)?;
+        Some(names)
+    }
+}

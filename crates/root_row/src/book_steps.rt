@@ -1,0 +1,123 @@
+//! The steps of the book.
+ghost use Rattle.std.specs.Prelude.{◌≡◌, ◌<◌, ◌⊎◌, true};
+ghost use Rattle.dep_index.specs.Laws.{OrderIsExact};
+ghost use Rattle.root_row.specs.World.{slots};
+ghost use Rattle.root_row.specs.Seats.{IsOf};
+ghost use Rattle.root_row.specs.Views.{book_of, state_in};
+ghost use Rattle.root_row.specs.BookSteps.{LookedBook, BookAnswered, MayLeave, TriedClose, closing};
+
+use crate::book_seat::BookSeat;
+use crate::calls::BookCall;
+use crate::plays::{
+    AskBeginDrain, AskBeginLoad, AskBeginRemove, AskEndLoad, AskEndRemove, AskFailLoad, Asked,
+    CloseDrained, CloseOpen, Drain, LookBook, Open,
+};
+use crate::row::Row;
+use dep_index::words::{CLOSED, DRAINED};
+use dep_index::{ModuleState, Reply};
+
+impl Row {
+    /// One load for a call of the book, which answers the word.
+    ///
+    /// It is the call's point, but where the book refuses nothing and the call ends a load well, begins a drain or a
+    /// removal, or removes a module that drains: those are made by `open`, `drain` and `try_close`.
+    pub fn look_book(&self, seat: &mut BookSeat, slot: usize, call: BookCall) -> u64
+        requires own { IsOf self.now seat.old }
+        requires inside { slot < slots self.now.world }
+        ensures own { IsOf self.now seat.new }
+        ensures point { LookedBook call slot seat.old.view result seat.new.view }
+        ensures exact { OrderIsExact (book_of seat.new.view) }
+    {
+        match call {
+            BookCall::BeginLoad => self.look_for::<AskBeginLoad>(seat, slot),
+            BookCall::EndLoad(true) => self.look_for::<AskEndLoad>(seat, slot),
+            BookCall::EndLoad(false) => self.look_for::<AskFailLoad>(seat, slot),
+            BookCall::BeginRemove => self.look_for::<AskBeginRemove>(seat, slot),
+            BookCall::EndRemove => self.look_for::<AskEndRemove>(seat, slot),
+            BookCall::BeginDrain => self.look_for::<AskBeginDrain>(seat, slot),
+        }
+    }
+
+    fn look_for<C: Asked>(&self, seat: &mut BookSeat, slot: usize) -> u64
+        requires own { IsOf self.now seat.old }
+        requires inside { slot < slots self.now.world }
+        ensures own { IsOf self.now seat.new }
+        ensures point { LookedBook C.kind slot seat.old.view result seat.new.view }
+        ensures exact { OrderIsExact (book_of seat.new.view) }
+    {
+        let shared = &self.table.shared;
+        shared.load::<LookBook<C>>(&mut seat.seat, slot + 1)
+    }
+
+    /// The exchange that opens the word of a slot whose load ends well. It is the point of `end_load`.
+    pub fn open(&self, seat: &mut BookSeat, slot: usize)
+        requires own { IsOf self.now seat.old }
+        requires inside { slot < slots self.now.world }
+        requires loading { state_in seat.old.view slot ≡ ModuleState.Loading }
+        ensures own { IsOf self.now seat.new }
+        ensures point { BookAnswered seat.old.view slot (BookCall.EndLoad true) Reply.Done seat.new.view }
+    {
+        let shared = &self.table.shared;
+        shared.compare_exchange::<Open>(&mut seat.seat, slot + 1, CLOSED, 0);
+    }
+
+    /// The addition that lets no further get in, while the references stay. It is the point of `begin_drain`.
+    pub fn drain(&self, seat: &mut BookSeat, slot: usize)
+        requires own { IsOf self.now seat.old }
+        requires inside { slot < slots self.now.world }
+        requires may { MayLeave seat.old.view slot }
+        ensures own { IsOf self.now seat.new }
+        ensures point { BookAnswered seat.old.view slot BookCall.BeginDrain Reply.Done seat.new.view }
+    {
+        let shared = &self.table.shared;
+        shared.fetch_add::<Drain>(&mut seat.seat, slot + 1, DRAINED);
+        seat.draining[slot] = true;
+    }
+
+    /// The exchange that closes the word of a slot that no leaf holds: the point of `begin_remove`, or of `end_remove`
+    /// where the module drains.
+    ///
+    /// Answers whether it was made. A miss is the answer InUse, and changes no word.
+    pub fn try_close(&self, seat: &mut BookSeat, slot: usize) -> bool
+        requires own { IsOf self.now seat.old }
+        requires inside { slot < slots self.now.world }
+        requires may { MayLeave seat.old.view slot ⊎ (state_in seat.old.view slot ≡ ModuleState.Draining) }
+        ensures own { IsOf self.now seat.new }
+        ensures point { TriedClose (closing (state_in seat.old.view slot)) slot seat.old.view result seat.new.view }
+    {
+        if seat.is_draining(slot) {
+            self.close_drained(seat, slot)
+        } else {
+            self.close_open(seat, slot)
+        }
+    }
+
+    fn close_open(&self, seat: &mut BookSeat, slot: usize) -> bool
+        requires own { IsOf self.now seat.old }
+        requires inside { slot < slots self.now.world }
+        requires may { MayLeave seat.old.view slot }
+        ensures own { IsOf self.now seat.new }
+        ensures point { TriedClose BookCall.BeginRemove slot seat.old.view result seat.new.view }
+    {
+        let shared = &self.table.shared;
+        shared.compare_exchange::<CloseOpen>(&mut seat.seat, slot + 1, 0, CLOSED) == 0
+    }
+
+    fn close_drained(&self, seat: &mut BookSeat, slot: usize) -> bool
+        requires own { IsOf self.now seat.old }
+        requires inside { slot < slots self.now.world }
+        requires drains { state_in seat.old.view slot ≡ ModuleState.Draining }
+        ensures own { IsOf self.now seat.new }
+        ensures point { TriedClose BookCall.EndRemove slot seat.old.view result seat.new.view }
+    {
+        let shared = &self.table.shared;
+        let found = shared.compare_exchange::<CloseDrained>(
+            &mut seat.seat,
+            slot + 1,
+            DRAINED,
+            CLOSED,
+        );
+        seat.draining[slot] = found != DRAINED;
+        found == DRAINED
+    }
+}

@@ -1,0 +1,59 @@
+//! What a seat knows, as plain data. No value of these types is made.
+use dep_index::{Call, ModuleState, Reply, Slots};
+use std::collections::LinkedList;
+use std::marker::Model;
+
+/// What a row is over: the catalogue by slot, and the number of workers.
+pub struct World {
+    pub catalogue: Slots,
+    pub workers: usize,
+}
+
+/// Who makes a call.
+#[derive(Clone, Copy, Drop)]
+pub enum SeatName {
+    Leaf(usize),
+    Reader(usize),
+    Book,
+}
+
+/// One answered call of the history.
+#[derive(Clone, Copy, Drop)]
+pub struct SeatAnswer {
+    pub by: SeatName,
+    pub call: Call,
+    pub reply: Reply,
+}
+
+/// The states by slot and the order of loading.
+pub struct Book {
+    states: LinkedList<ModuleState>,
+    order: LinkedList<usize>,
+}
+
+impl Model for Book {
+    ghost use Rattle.dep_index.specs.Table.{Book};
+
+    ghost Value = { Book };
+
+    ghost view = { λ b. record { states = b.states; order = b.order } };
+}
+
+/// A part of the row that a seat stands for: a leaf with its row of counts, a reader, or the book.
+pub enum Part {
+    Leaf(usize, LinkedList<usize>),
+    Reader(usize),
+    Book(Book),
+}
+
+/// A part with the history that it has seen.
+pub struct Member {
+    pub part: Part,
+    pub seen: LinkedList<SeatAnswer>,
+}
+
+/// A seat's view. A leaf's, the book's and a reader's have one member, a pair's has two, a spent one's has none.
+pub struct View {
+    pub world: World,
+    pub members: LinkedList<Member>,
+}
