@@ -1,0 +1,4 @@
+pub mod Pattern
+pub mod Reading
+pub mod Aliases
+pub mod ForProofs

@@ -1,0 +1,17 @@
+//! Shell patterns over bytes, and the aliases of a modules.alias text.
+#![tactic(auto)]
+
+mod alias;
+mod aliases;
+mod laws;
+mod pattern;
+mod read;
+
+pub use alias::Alias;
+pub use aliases::{Aliases, read_aliases};
+pub use laws::{match_is_decided, one_reading, reading_is_total};
+pub use pattern::Pattern;
+pub use read::PatternError;
+
+#[cfg(test)]
+mod tests;

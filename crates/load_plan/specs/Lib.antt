@@ -1,0 +1,7 @@
+pub mod Graph
+pub mod Walk
+pub mod Plan
+pub mod Laws
+pub mod Results
+pub mod ForProofs
+pub mod VisitSteps

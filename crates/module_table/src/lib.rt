@@ -1,0 +1,15 @@
+//! The book of loads, drains and removals, and a manager that keeps it and the leaves behind locks.
+#![tactic(auto)]
+
+mod book;
+mod manager;
+mod own_book;
+mod own_leaf;
+
+pub use book::Book;
+pub use manager::Manager;
+pub use own_book::OwnBook;
+pub use own_leaf::OwnLeaf;
+
+#[cfg(test)]
+mod tests;

@@ -1,0 +1,213 @@
+ghost use Rattle.std.specs.Prelude.{◌≡◌, All, IfOk, length};
+ghost use Rattle.std.specs.Arc.{arc_value};
+ghost use Rattle.root_row.specs.Made.{new_leaf};
+ghost use Rattle.root_row.specs.Views.{worker_of};
+
+use crate::book::Book;
+use crate::own_book::OwnBook;
+use crate::own_leaf::OwnLeaf;
+use dep_index::{
+    BeginDrainError, BeginLoadError, BeginRemoveError, Catalogue, EndLoadError, EndRemoveError,
+    GetError, ModuleState, PutError,
+};
+use root_row::{LeafSeat, ReadSeat, Row};
+use std::alloc::{AllocError, Global};
+use std::marker::Model;
+use std::sync::{Arc, Mutex, Wait};
+use use_indicator::{Leaf, Reader};
+
+/// A row of root words, a lock for each worker's leaf and one for the book. Contracts see its row.
+///
+/// A call that locks takes one lock, makes one call and lets go; it answers None where the worker, the slot or
+/// the place is out of range, and nothing is changed then. What it did under the lock no contract can say: a
+/// caller who wants to know takes the lock by `leaf` or `book`, and reads the contracts of `OwnLeaf` and `OwnBook`.
+#[derive(Drop)]
+pub struct Manager {
+    row: Arc<Row, Global>,
+    leaves: Vec<Mutex<OwnLeaf>>,
+    book: Mutex<OwnBook>,
+}
+
+impl Model for Manager {
+    ghost use Rattle.std.specs.Prelude.{◌≡◌, length};
+    ghost use Rattle.std.specs.Arc.{arc_value};
+    ghost use Rattle.root_row.specs.Seats.{RowIs};
+
+    ghost Value = { RowIs };
+
+    ghost view = { λ m. arc_value m.row };
+
+    ghost invariant = { λ m. length m.leaves.items ≡ (arc_value m.row).world.workers };
+}
+
+impl Manager {
+    ghost use Rattle.std.specs.Prelude.{◌≡◌, ◌<◌, ◌≤◌, ◌↔◌, All, IfOk, IsNone, if◌then◌else◌};
+    ghost use Rattle.dep_index.specs.Catalogue.{modules_of};
+    ghost use Rattle.dep_index.specs.Words.{closed};
+    ghost use Rattle.root_row.specs.World.{slots};
+    ghost use Rattle.root_row.specs.Made.{new_reader, AreNew};
+    ghost use Rattle.root_row.specs.Seats.{IsOf};
+    ghost use Rattle.root_row.specs.Steps.{ReaderAnswered};
+    ghost use Rattle.dep_index.specs.declared.calls.Reply.TheVariants.{Yes, No};
+
+    /// A manager over a catalogue, with a reader for each worker. Every module is Absent, and nothing is held.
+    pub fn new(
+        alloc: Global,
+        catalogue: &Catalogue,
+        workers: usize,
+    ) -> Result<(Manager, Vec<Reader>), AllocError>
+        requires few_workers { workers < closed }
+        ensures world { IfOk result (λ r. r.0.world ≡ record { catalogue = modules_of catalogue.now; workers = workers }) }
+        ensures readers { IfOk result (λ r. AreNew (new_reader r.0.id r.0.world) workers r.1.items) }
+        ensures own { IfOk result (λ r. All (IsOf r.0) r.1.items) }
+    {
+        let (row, leaf_seats, book_seat, read_seats) = Row::new(
+            alloc, catalogue, workers, workers,
+        )?;
+        let book = Book::new(alloc, book_seat, catalogue)?;
+        let row = Arc::new(alloc, row)?;
+        let leaves = own_leaves(alloc, &row, leaf_seats)?;
+        let book = Mutex::new(OwnBook::new(book, Arc::try_clone(&row)?));
+        let readers = readers_of(alloc, read_seats)?;
+        Ok((Manager { row, leaves, book }, readers))
+    }
+
+    /// How many workers there are.
+    pub fn workers(&self) -> usize
+        ensures { result ≡ self.now.world.workers }
+    {
+        self.leaves.len()
+    }
+
+    /// How many modules the catalogue has.
+    pub fn slots(&self) -> usize
+        ensures { result ≡ slots self.now.world }
+    {
+        self.row.slots()
+    }
+
+    /// The lock of a worker's leaf. It is None exactly where the worker is out of range.
+    pub fn leaf(&self, worker: usize) -> Option<&Mutex<OwnLeaf>>
+        ensures { IsNone result ↔ (self.now.world.workers ≤ worker) }
+    {
+        self.leaves.get(worker)
+    }
+
+    /// The lock of the book.
+    pub fn book(&self) -> &Mutex<OwnBook> {
+        &self.book
+    }
+
+    /// Whether some worker holds the module. It locks nothing.
+    pub fn query(&self, reader: &mut Reader, slot: usize) -> bool
+        requires own { IsOf self.now reader.old }
+        requires inside { slot < slots self.now.world }
+        ensures own { IsOf self.now reader.new }
+        ensures call { ReaderAnswered reader.old.view slot (if result then Yes else No) reader.new.view }
+    {
+        reader.in_use(&self.row, slot)
+    }
+
+    /// How often the worker holds the module.
+    pub fn held<R: Wait>(&self, rt: &R, worker: usize, slot: usize) -> Option<u32> {
+        self.leaf(worker)?.lock(rt).held(slot)
+    }
+
+    /// Takes one reference for the worker.
+    pub fn get<R: Wait>(&self, rt: &R, worker: usize, slot: usize) -> Option<Result<(), GetError>> {
+        self.leaf(worker)?.lock(rt).get(rt, slot)
+    }
+
+    /// Gives one reference of the worker back.
+    pub fn put<R: Wait>(&self, rt: &R, worker: usize, slot: usize) -> Option<Result<(), PutError>> {
+        self.leaf(worker)?.lock(rt).put(slot)
+    }
+
+    /// Begins a load.
+    pub fn begin_load<R: Wait>(&self, rt: &R, slot: usize) -> Option<Result<(), BeginLoadError>> {
+        self.book.lock(rt).begin_load(slot)
+    }
+
+    /// Ends a load, well or not.
+    pub fn end_load<R: Wait>(
+        &self,
+        rt: &R,
+        slot: usize,
+        ok: bool,
+    ) -> Option<Result<(), EndLoadError>> {
+        self.book.lock(rt).end_load(slot, ok)
+    }
+
+    /// Begins a drain.
+    pub fn begin_drain<R: Wait>(&self, rt: &R, slot: usize) -> Option<Result<(), BeginDrainError>> {
+        self.book.lock(rt).begin_drain(slot)
+    }
+
+    /// Begins a removal.
+    pub fn begin_remove<R: Wait>(
+        &self,
+        rt: &R,
+        slot: usize,
+    ) -> Option<Result<(), BeginRemoveError>> {
+        self.book.lock(rt).begin_remove(slot)
+    }
+
+    /// Ends a removal or a drain.
+    pub fn end_remove<R: Wait>(&self, rt: &R, slot: usize) -> Option<Result<(), EndRemoveError>> {
+        self.book.lock(rt).end_remove(slot)
+    }
+
+    /// The state of the module.
+    pub fn state<R: Wait>(&self, rt: &R, slot: usize) -> Option<ModuleState> {
+        self.book.lock(rt).state(slot)
+    }
+
+    /// How many modules are loaded, in any state.
+    pub fn loaded<R: Wait>(&self, rt: &R) -> usize {
+        self.book.lock(rt).loaded()
+    }
+
+    /// The loaded module at this place, the oldest first.
+    pub fn loaded_at<R: Wait>(&self, rt: &R, place: usize) -> Option<usize> {
+        self.book.lock(rt).loaded_at(place)
+    }
+}
+
+// A lock for each new seat of the row.
+fn own_leaves(
+    alloc: Global,
+    row: &Arc<Row, Global>,
+    seats: Vec<LeafSeat>,
+) -> Result<Vec<Mutex<OwnLeaf>>, AllocError>
+    requires { All (λ s. s ≡ new_leaf (arc_value row.now).id (arc_value row.now).world (worker_of s.view)) seats.items }
+    ensures { IfOk result (λ locks. length locks.items ≡ length seats.items) }
+{
+    let mut locks = Vec::new(alloc);
+    for seat in seats {
+        let lock = own_leaf(alloc, row, seat)?;
+        locks.push(lock)?;
+    }
+    Ok(locks)
+}
+
+fn own_leaf(
+    alloc: Global,
+    row: &Arc<Row, Global>,
+    seat: LeafSeat,
+) -> Result<Mutex<OwnLeaf>, AllocError>
+    requires { seat ≡ new_leaf (arc_value row.now).id (arc_value row.now).world (worker_of seat.view) }
+{
+    let leaf = Leaf::new(alloc, seat, row.slots())?;
+    let row = Arc::try_clone(row)?;
+    Ok(Mutex::new(OwnLeaf::new(leaf, row)))
+}
+
+fn readers_of(alloc: Global, seats: Vec<ReadSeat>) -> Result<Vec<Reader>, AllocError>
+    ensures { IfOk result (λ readers. readers.items ≡ seats.items) }
+{
+    let mut readers = Vec::with_capacity(alloc, seats.len())?;
+    for seat in seats {
+        readers.push(Reader::new(seat))?;
+    }
+    Ok(readers)
+}

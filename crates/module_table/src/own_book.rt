@@ -1,0 +1,131 @@
+use crate::book::Book;
+use dep_index::{
+    BeginDrainError, BeginLoadError, BeginRemoveError, EndLoadError, EndRemoveError, ModuleState,
+};
+use root_row::{BookCall, Row};
+use std::alloc::Global;
+use std::marker::Model;
+use std::sync::Arc;
+
+/// The book with its row. What a lock gives out is known by its type alone, so the type says that the book is
+/// of this row. Contracts see the book.
+#[derive(Drop)]
+pub struct OwnBook {
+    book: Book,
+    row: Arc<Row, Global>,
+}
+
+impl Model for OwnBook {
+    ghost use Rattle.std.specs.Arc.{arc_value};
+    ghost use Rattle.root_row.specs.Seats.{Seated, IsOf};
+
+    ghost Value = { Seated };
+
+    ghost view = { λ b. b.book };
+
+    ghost invariant = { λ b. IsOf (arc_value b.row) b.book };
+}
+
+impl OwnBook {
+    ghost use Rattle.std.specs.Prelude.{◌≡◌, ◌<◌, ◌≤◌, length, slice_index, MatchOption};
+    ghost use Rattle.std.specs.Arc.{arc_value};
+    ghost use Rattle.dep_index.specs.Refusals.{reply_of, begin_load_refusal, end_load_refusal, begin_drain_refusal, begin_remove_refusal, end_remove_refusal};
+    ghost use Rattle.root_row.specs.World.{slots};
+    ghost use Rattle.root_row.specs.Seats.{IsOf};
+    ghost use Rattle.root_row.specs.Views.{state_in, book_of};
+    ghost use Rattle.root_row.specs.BookSteps.{BookAnswered};
+
+    pub fn new(book: Book, row: Arc<Row, Global>) -> OwnBook
+        requires { IsOf (arc_value row) book }
+        ensures { result ≡ book }
+    {
+        OwnBook { book, row }
+    }
+
+    /// The state of a module. It is None where the slot is out of range, as for each call.
+    pub fn state(&self, slot: usize) -> Option<ModuleState>
+        ensures { MatchOption result (slots self.now.view.world ≤ slot) (λ s. (slot < slots self.now.view.world) × (s ≡ state_in self.now.view slot)) }
+    {
+        if slot >= self.row.slots() {
+            return None;
+        }
+        Some(self.book.state(slot))
+    }
+
+    /// How many modules are loaded, in any state.
+    pub fn loaded(&self) -> usize
+        ensures { result ≡ length (book_of self.now.view).order }
+    {
+        self.book.loaded()
+    }
+
+    /// The loaded module at this place, the oldest first. It is None past the end.
+    pub fn loaded_at(&self, place: usize) -> Option<usize>
+        ensures { MatchOption result (length (book_of self.now.view).order ≤ place) (λ s. (place < length (book_of self.now.view).order) × (s ≡ slice_index (book_of self.now.view).order place)) }
+    {
+        if place >= self.book.loaded() {
+            return None;
+        }
+        Some(self.book.loaded_at(place))
+    }
+
+    /// Begins a load: the module is then Loading, and the newest.
+    pub fn begin_load(&mut self, slot: usize) -> Option<Result<(), BeginLoadError>>
+        ensures range { MatchOption result ((slots self.old.view.world ≤ slot) × (self.new ≡ self.old)) (λ _. slot < slots self.old.view.world) }
+        ensures call { MatchOption result (self.new ≡ self.old) (λ r. BookAnswered self.old.view slot BookCall.BeginLoad (reply_of begin_load_refusal r) self.new.view) }
+        ensures row { self.new.row ≡ self.old.row }
+    {
+        if slot >= self.row.slots() {
+            return None;
+        }
+        Some(self.book.begin_load(&self.row, slot))
+    }
+
+    /// Ends a load: the module is then Live where it went well, else Absent.
+    pub fn end_load(&mut self, slot: usize, ok: bool) -> Option<Result<(), EndLoadError>>
+        ensures range { MatchOption result ((slots self.old.view.world ≤ slot) × (self.new ≡ self.old)) (λ _. slot < slots self.old.view.world) }
+        ensures call { MatchOption result (self.new ≡ self.old) (λ r. BookAnswered self.old.view slot (BookCall.EndLoad ok) (reply_of end_load_refusal r) self.new.view) }
+        ensures row { self.new.row ≡ self.old.row }
+    {
+        if slot >= self.row.slots() {
+            return None;
+        }
+        Some(self.book.end_load(&self.row, slot, ok))
+    }
+
+    /// Begins a drain: no further get is let in, and the references stay.
+    pub fn begin_drain(&mut self, slot: usize) -> Option<Result<(), BeginDrainError>>
+        ensures range { MatchOption result ((slots self.old.view.world ≤ slot) × (self.new ≡ self.old)) (λ _. slot < slots self.old.view.world) }
+        ensures call { MatchOption result (self.new ≡ self.old) (λ r. BookAnswered self.old.view slot BookCall.BeginDrain (reply_of begin_drain_refusal r) self.new.view) }
+        ensures row { self.new.row ≡ self.old.row }
+    {
+        if slot >= self.row.slots() {
+            return None;
+        }
+        Some(self.book.begin_drain(&self.row, slot))
+    }
+
+    /// Begins a removal of a module that nobody holds or needs: it is then Unloading.
+    pub fn begin_remove(&mut self, slot: usize) -> Option<Result<(), BeginRemoveError>>
+        ensures range { MatchOption result ((slots self.old.view.world ≤ slot) × (self.new ≡ self.old)) (λ _. slot < slots self.old.view.world) }
+        ensures call { MatchOption result (self.new ≡ self.old) (λ r. BookAnswered self.old.view slot BookCall.BeginRemove (reply_of begin_remove_refusal r) self.new.view) }
+        ensures row { self.new.row ≡ self.old.row }
+    {
+        if slot >= self.row.slots() {
+            return None;
+        }
+        Some(self.book.begin_remove(&self.row, slot))
+    }
+
+    /// Ends a removal, or a drain once no reference is left: the module is then Absent.
+    pub fn end_remove(&mut self, slot: usize) -> Option<Result<(), EndRemoveError>>
+        ensures range { MatchOption result ((slots self.old.view.world ≤ slot) × (self.new ≡ self.old)) (λ _. slot < slots self.old.view.world) }
+        ensures call { MatchOption result (self.new ≡ self.old) (λ r. BookAnswered self.old.view slot BookCall.EndRemove (reply_of end_remove_refusal r) self.new.view) }
+        ensures row { self.new.row ≡ self.old.row }
+    {
+        if slot >= self.row.slots() {
+            return None;
+        }
+        Some(self.book.end_remove(&self.row, slot))
+    }
+}

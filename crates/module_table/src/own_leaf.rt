@@ -1,0 +1,76 @@
+use dep_index::{GetError, PutError};
+use root_row::{LeafCall, Row};
+use std::alloc::Global;
+use std::marker::Model;
+use std::sync::{Arc, Wait};
+use use_indicator::Leaf;
+
+/// A worker's leaf with its row. What a lock gives out is known by its type alone, so the type says that the
+/// leaf is of this row. Contracts see the leaf.
+#[derive(Drop)]
+pub struct OwnLeaf {
+    leaf: Leaf,
+    row: Arc<Row, Global>,
+}
+
+impl Model for OwnLeaf {
+    ghost use Rattle.std.specs.Arc.{arc_value};
+    ghost use Rattle.root_row.specs.Seats.{Seated, IsOf};
+
+    ghost Value = { Seated };
+
+    ghost view = { λ l. l.leaf };
+
+    ghost invariant = { λ l. IsOf (arc_value l.row) l.leaf };
+}
+
+impl OwnLeaf {
+    ghost use Rattle.std.specs.Prelude.{◌≡◌, ◌<◌, ◌≤◌, MatchOption};
+    ghost use Rattle.std.specs.Arc.{arc_value};
+    ghost use Rattle.dep_index.specs.Refusals.{reply_of, get_refusal, put_refusal};
+    ghost use Rattle.root_row.specs.World.{slots};
+    ghost use Rattle.root_row.specs.Seats.{IsOf};
+    ghost use Rattle.root_row.specs.Views.{count_of};
+    ghost use Rattle.root_row.specs.Steps.{LeafAnswered};
+
+    pub fn new(leaf: Leaf, row: Arc<Row, Global>) -> OwnLeaf
+        requires { IsOf (arc_value row) leaf }
+        ensures { result ≡ leaf }
+    {
+        OwnLeaf { leaf, row }
+    }
+
+    /// How often the worker holds the module. It is None where the slot is out of range, as for each call.
+    pub fn held(&self, slot: usize) -> Option<u32>
+        ensures { MatchOption result (slots self.now.view.world ≤ slot) (λ count. (slot < slots self.now.view.world) × (count ≡ count_of self.now.view slot)) }
+    {
+        if slot >= self.row.slots() {
+            return None;
+        }
+        Some(self.leaf.held(slot))
+    }
+
+    /// Takes one reference. It may try again for ever while other workers change the word.
+    pub fn get<R: Wait>(&mut self, rt: &R, slot: usize) -> Option<Result<(), GetError>>
+        ensures range { MatchOption result ((slots self.old.view.world ≤ slot) × (self.new ≡ self.old)) (λ _. slot < slots self.old.view.world) }
+        ensures call { MatchOption result (self.new ≡ self.old) (λ r. LeafAnswered self.old.view slot LeafCall.Get (reply_of get_refusal r) self.new.view) }
+        ensures row { self.new.row ≡ self.old.row }
+    {
+        if slot >= self.row.slots() {
+            return None;
+        }
+        Some(self.leaf.get(rt, &self.row, slot))
+    }
+
+    /// Gives one reference back.
+    pub fn put(&mut self, slot: usize) -> Option<Result<(), PutError>>
+        ensures range { MatchOption result ((slots self.old.view.world ≤ slot) × (self.new ≡ self.old)) (λ _. slot < slots self.old.view.world) }
+        ensures call { MatchOption result (self.new ≡ self.old) (λ r. LeafAnswered self.old.view slot LeafCall.Put (reply_of put_refusal r) self.new.view) }
+        ensures row { self.new.row ≡ self.old.row }
+    {
+        if slot >= self.row.slots() {
+            return None;
+        }
+        Some(self.leaf.put(&self.row, slot))
+    }
+}

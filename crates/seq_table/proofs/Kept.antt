@@ -1,0 +1,50 @@
+-- A table is kept by each call.
+use Rattle.std.proofs.Common.{◌≡◌, ℕ, zero, suc, ◌<◌, ◌≤◌, true, false, leb, List, [], ◌∷◌, length, get_or, refl, sym, ap, subst, arith}
+use Rattle.std.proofs.Math.ListN.{set}
+use Rattle.std.proofs.lemmas.Bool.{lt-leb}
+use Rattle.std.specs.Global.{Vec}
+use Rattle.std.specs.Vec.{vec_capacity}
+use Rattle.dep_index.specs.declared.states.ModuleState.{ModuleState}
+use Rattle.dep_index.specs.declared.calls.Call.{Call}
+use Rattle.dep_index.specs.declared.calls.Call.TheVariants.{Get}
+use Rattle.dep_index.specs.Table.{Module, Table, is_live, state_of, count_of}
+use Rattle.dep_index.specs.Calls.{next, effect, IsInRange}
+use Rattle.dep_index.specs.Laws.{IsShaped, IsLawful}
+use Rattle.dep_index.proofs.RunLaws.{next_lawful, next_shaped}
+use Rattle.seq_table.specs.Rows.{rows_of, table_of, IsKept}
+
+pub get_or-rows_of : (rows : List (Vec ℕ)) (w : ℕ) (d : Vec ℕ) → w < length rows → get_or (rows_of rows) w [] ≡ (get_or rows w d).items
+get_or-rows_of [] w d h = absurd (omega arith)
+get_or-rows_of (row ∷ rows) zero d h = refl
+get_or-rows_of (row ∷ rows) (suc w) d h = get_or-rows_of rows w d (omega arith)
+
+pub rows_of-set : (rows : List (Vec ℕ)) (w : ℕ) (row : Vec ℕ) → rows_of (set rows w row) ≡ set (rows_of rows) w row.items
+rows_of-set [] w row = refl
+rows_of-set (r ∷ rows) zero row = refl
+rows_of-set (r ∷ rows) (suc w) row = ap (λ (rs : List (List ℕ)). r.items ∷ rs) (rows_of-set rows w row)
+
+pub length-rows_of : (rows : List (Vec ℕ)) → length (rows_of rows) ≡ length rows
+length-rows_of [] = refl
+length-rows_of (r ∷ rows) = ap suc (length-rows_of rows)
+
+-- parts that are the next table are kept
+pub kept_after : (catalogue : List Module) (states states' : Vec ModuleState) (order order' : Vec ℕ) (rows rows' : Vec (Vec ℕ)) (call : Call)
+    → IsKept catalogue states order rows → IsInRange (length catalogue) (length rows.items) call
+    → table_of states'.items order'.items rows'.items ≡ next catalogue (table_of states.items order.items rows.items) call
+    → length rows'.items ≡ length rows.items → vec_capacity order ≤ vec_capacity order'
+    → IsKept catalogue states' order' rows'
+kept_after catalogue states states' order order' rows rows' call kept range is same room =
+    record {
+      slots = kept.slots;
+      workers = rw same kept.workers;
+      shape = rw same (subst (λ (t : Table). IsShaped (length catalogue) (length rows.items) t) (sym is)
+          (next_shaped (length catalogue) (length rows.items) catalogue (table_of states.items order.items rows.items) call kept.shape));
+      lawful = subst (λ (t : Table). IsLawful catalogue t) (sym is)
+          (next_lawful catalogue (length rows.items) (table_of states.items order.items rows.items) call kept.shape kept.lawful range);
+      room = omega (arith, kept.room, room);
+    }
+
+-- a get that is done
+pub get_becomes : (catalogue : List Module) (table : Table) (w m : ℕ) → is_live (state_of table.book m) ≡ true → count_of table w m < 65535
+    → next catalogue table (Get w m) ≡ effect table (Get w m)
+get_becomes catalogue table w m live few = let room : leb 65535 (count_of table w m) ≡ false = lt-leb _ _ few in rw (live, room) refl

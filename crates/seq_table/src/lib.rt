@@ -1,0 +1,12 @@
+//! The table of modules, used by one thread.
+#![tactic(auto)]
+
+pub mod counts;
+mod modules;
+mod tables;
+
+pub use modules::Modules;
+pub use tables::Table;
+
+#[cfg(test)]
+mod tests;

@@ -1,0 +1,7 @@
+pub mod Shown
+pub mod Soundness
+pub mod Lines
+pub mod WholeSteps
+pub mod Premises
+pub mod RowsOf
+pub mod RunLaws

@@ -1,0 +1,16 @@
+use Rattle.std.proofs.Common.{◌<◌, ◌∙◌, sym, ap, subst, List, [], length, get_or, ℕ, arith}
+use Rattle.std.proofs.Math.ListN.{set}
+use Rattle.std.specs.Global.{Vec}
+use Rattle.step_core.specs.Kept.{rows_of}
+use Rattle.step_core.proofs.RowsOf.{rows_of-set, get_or-rows_of, length-rows_of}
+use Rattle.step_core.proofs.counts.Counts.set_count.Goals as goal
+
+pub returns : goal.returns
+returns c =
+    let worker : c.args.w < length (rows_of c.self.inside.rows.items) = subst (λ (rows : List (List ℕ)). c.args.w < length rows) (sym c.self.view_is) c.requires.worker in
+    let inside : c.args.w < length c.self.inside.rows.items = omega (arith, worker, length-rows_of c.self.inside.rows.items) in
+    rows_of-set c.self.inside.rows.items c.args.w _
+    ∙ ap (λ (row : List ℕ). set (rows_of c.self.inside.rows.items) c.args.w (set row c.args.m c.args.count))
+    (ap (λ (v : Vec ℕ). v.items) c.index_mut-row.ensures.value
+    ∙ sym (get_or-rows_of c.self.inside.rows.items c.args.w c.index_mut-row.result.now inside))
+    ∙ ap (λ (rows : List (List ℕ)). set rows c.args.w (set (get_or rows c.args.w []) c.args.m c.args.count)) c.self.view_is

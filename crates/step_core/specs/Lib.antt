@@ -1,0 +1,6 @@
+pub mod Machine
+pub mod Shown
+pub mod Run
+pub mod StepLaw
+pub mod Sound
+pub mod Kept

@@ -1,0 +1,80 @@
+//! The counts: how often each worker holds each slot.
+ghost use Rattle.std.specs.Prelude.{ℕ, ◌≡◌, ◌<◌, [], length, slice_index, slice_index_or, slice_set, replicate, IfOk};
+ghost use Rattle.dep_index.specs.Calls.{IsWorkerInRange, worker_of, slot_of, rows_effect};
+ghost use Rattle.dep_index.specs.declared.calls.Call.TheVariants.{Get};
+
+use dep_index::Call;
+use std::alloc::{AllocError, Global};
+use std::marker::Model;
+
+/// A row of counts for each worker. Contracts see them as lists.
+#[derive(Drop)]
+pub struct Counts {
+    rows: Vec<Vec<u16>>,
+}
+
+impl Model for Counts {
+    ghost use Rattle.std.specs.Prelude.{ℕ, List};
+
+    ghost Value = { List (List ℕ) };
+
+    ghost use Rattle.step_core.specs.Kept.{rows_of};
+
+    ghost view = { λ c. rows_of c.rows.items };
+}
+
+impl Counts {
+    /// Counts of zero.
+    pub fn new(alloc: Global, workers: usize, slots: usize) -> Result<Counts, AllocError>
+        ensures { IfOk result (λ counts. counts ≡ replicate workers (replicate slots 0)) }
+    {
+        let mut rows = Vec::with_capacity(alloc, workers)?;
+        for _ in 0..workers {
+            rows.push(vec![in alloc; 0u16; slots]?)?;
+        }
+        Ok(Counts { rows })
+    }
+
+    pub fn workers(&self) -> usize
+        ensures { result ≡ length self.now }
+    {
+        self.rows.len()
+    }
+
+    /// How often the worker holds the slot.
+    pub fn count(&self, w: usize, m: usize) -> u16
+        requires { w < length self.now }
+        ensures { result ≡ slice_index (slice_index_or self.now w []) m }
+    {
+        self.rows[w].get(m).copied().unwrap_or(0)
+    }
+
+    fn set_count(&mut self, w: usize, m: usize, count: u16)
+        requires worker { w < length self.old }
+        requires slot { m < length (slice_index_or self.old w []) }
+        ensures { self.new ≡ slice_set self.old w (slice_set (slice_index_or self.old w []) m count) }
+    {
+        let row = &mut self.rows[w];
+        row[m] = count;
+    }
+
+    /// Writes a call that is not refused.
+    pub fn write(&mut self, call: Call)
+        requires worker { IsWorkerInRange (length self.old) (worker_of call) }
+        requires slot { (w : ℕ) → w < length self.old → slot_of call < length (slice_index_or self.old w []) }
+        requires room { (w m : ℕ) → call ≡ Get w m → slice_index (slice_index_or self.old w []) m < 65535 }
+        ensures { self.new ≡ rows_effect self.old call }
+    {
+        match call {
+            Call::Get(w, m) => {
+                let count = self.count(w, m);
+                self.set_count(w, m, count + 1);
+            }
+            Call::Put(w, m) => {
+                let count = self.count(w, m);
+                self.set_count(w, m, count.saturating_sub(1));
+            }
+            _ => {}
+        }
+    }
+}

@@ -1,0 +1,63 @@
+//! The steps of the machine, and what they come to.
+
+use dep_index::{Call, Reply};
+
+/// One step of a thread, by its number.
+#[derive(Clone, Copy, Debug, PartialEq, Eq, Drop)]
+pub enum Step {
+    /// The thread begins a call.
+    Invoke(usize, Call),
+    /// The thread makes the next line of its call.
+    Go(usize),
+}
+
+/// What a step comes to. Calls are numbered from 0, in the order in which they were invoked.
+#[derive(Clone, Copy, Debug, PartialEq, Eq, Drop)]
+pub enum Event {
+    /// No change: the lock is held by another thread, the thread is in no call, or it is in one already.
+    Nothing,
+    /// The call begins.
+    Invoked(usize),
+    /// A line was made at which no call takes effect.
+    Moved,
+    /// The call takes effect, with this reply.
+    Point(usize, Reply),
+    /// The call returns the reply of its point.
+    Returned(usize, Reply),
+}
+
+/// Why a step is refused.
+#[derive(Clone, Copy, Debug, PartialEq, Eq, Drop)]
+pub enum StepError {
+    /// The thread is out of range.
+    Thread,
+    /// The worker of a get or a put is out of range.
+    Worker,
+    /// The slot is out of range.
+    Slot,
+    /// As many calls as there may be were invoked already.
+    Calls,
+}
+
+/// The next line of a call.
+#[derive(Clone, Copy, Debug, PartialEq, Eq, Drop)]
+pub enum Line {
+    /// Take the lock of the call.
+    Lock,
+    /// Make the step on the slot's word.
+    Word,
+    /// Exchange the word, if it is still this one, by the next.
+    Exchange(u64),
+    /// Write the count or the book.
+    Write,
+    /// Let go of the lock, and return.
+    Return(Reply),
+}
+
+/// A thread's call, and the line that it makes next.
+#[derive(Clone, Copy, Debug, PartialEq, Eq, Drop)]
+pub struct Activity {
+    pub number: usize,
+    pub call: Call,
+    pub line: Line,
+}
