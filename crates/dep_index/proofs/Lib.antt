@@ -12,3 +12,9 @@ pub mod BstrLemmas
 pub mod NumberLemmas
 pub mod SlotLemmas
 pub mod PairLemmas
+pub mod LinkLemmas
+pub mod DirectiveLemmas
+pub mod ExportLemmas
+pub mod DraftLemmas
+pub mod NeedLemmas
+pub mod PathLemmas

@@ -36,4 +36,11 @@ impl Name {
     {
         &self.bytes
     }
+
+    /// The bytes of the name.
+    pub fn into_bytes(self) -> Vec<u8>
+        ensures { result.items ≡ self }
+    {
+        self.bytes
+    }
 }

@@ -1,0 +1,3 @@
+pub mod IndexLemmas
+pub mod JoinLemmas
+pub mod SettingsLemmas
