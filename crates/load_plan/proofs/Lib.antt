@@ -7,3 +7,4 @@ pub mod Visiting
 pub mod VisitLaws
 pub mod Reached
 pub mod Steps
+pub mod Words
