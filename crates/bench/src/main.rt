@@ -1,6 +1,7 @@
 //! Measures the crates, one benchmark a call: `bench NAME`. With no argument it lists the benchmarks.
 #![tactic(auto)]
 
+mod catalogue;
 mod figure;
 mod machine;
 mod words;
@@ -13,15 +14,17 @@ use std::rt::Runtime;
 /// What can be measured.
 #[derive(Clone, Copy, Debug, PartialEq, Eq)]
 enum Benchmark {
+    Catalogue,
     Machine,
     Words,
 }
 
-const ALL: [Benchmark; 2] = [Benchmark::Machine, Benchmark::Words];
+const ALL: [Benchmark; 3] = [Benchmark::Catalogue, Benchmark::Machine, Benchmark::Words];
 
 impl Benchmark {
     fn name(self) -> &'static str {
         match self {
+            Benchmark::Catalogue => "catalogue",
             Benchmark::Machine => "machine",
             Benchmark::Words => "words",
         }
@@ -29,6 +32,7 @@ impl Benchmark {
 
     fn measure<R: Runtime + AllocGlobal>(self, rt: &R) -> Result<()> {
         match self {
+            Benchmark::Catalogue => catalogue::measure(rt),
             Benchmark::Machine => machine::measure(rt),
             Benchmark::Words => words::measure(rt),
         }
