@@ -3,6 +3,7 @@ use Rattle.std.specs.Prelude.{ℕ, List, map, Vec}
 use Rattle.std.specs.declared.alloc.Global.{Global}
 use Rattle.dep_index.specs.Catalogue.{Description}
 use Rattle.dep_index.specs.declared.details.Details.{Details}
+use Rattle.dep_index.specs.declared.details.Open.{Open}
 
 -- the texts that a list owns
 abbrev pub owned : List (Vec ℕ Global) → List (List ℕ)
@@ -26,3 +27,7 @@ description_of entry = description_in entry.0.items entry.1
 
 abbrev pub descriptions_in : List (Vec ℕ Global × Details) → List Description
 descriptions_in entries = map description_of entries
+
+-- the module that is open, as a description
+abbrev pub open_in : Open → Description
+open_in open_module = description_in open_module.name.items open_module.details

@@ -4,6 +4,10 @@ use Rattle.dep_index.specs.Catalogue.{Refusal, bad, duplicate, twice_exported, t
 use Rattle.dep_index.specs.Dependencies.{DepRefusal, no_colon, empty_name, second_line}
 use Rattle.dep_index.specs.declared.faults.CatError.{CatError}
 use Rattle.dep_index.specs.declared.faults.CatError.TheVariants as cat
+use Rattle.dep_index.specs.declared.faults.Refused.{Refused}
+use Rattle.dep_index.specs.declared.faults.Refused.TheVariants as line
+use Rattle.dep_index.specs.declared.faults.DepRefused.{DepRefused}
+use Rattle.dep_index.specs.declared.faults.DepRefused.TheVariants as dep_line
 use Rattle.dep_index.specs.declared.faults.DepError.{DepError}
 use Rattle.dep_index.specs.declared.faults.DepError.TheVariants as dep
 
@@ -21,3 +25,30 @@ IsFirstDepFault (dep.NoColon n) read = read ≡ Err (no_colon, n)
 IsFirstDepFault (dep.EmptyName n) read = read ≡ Err (empty_name, n)
 IsFirstDepFault (dep.SecondLine n) read = read ≡ Err (second_line, n)
 IsFirstDepFault dep.Memory read = Unit {0}
+
+-- the line is refused for this; want of memory says nothing of the line
+abbrev pub IsRefused : {A : Type 0} → Refused → Result A Refusal → Type 0
+IsRefused line.Bad read = read ≡ Err bad
+IsRefused line.Duplicate read = read ≡ Err duplicate
+IsRefused line.TwiceExported read = read ≡ Err twice_exported
+IsRefused line.TooMany read = read ≡ Err too_many
+IsRefused line.Memory read = Unit {0}
+
+abbrev pub fault_at : Refused → ℕ → CatError
+fault_at line.Bad n = cat.Bad n
+fault_at line.Duplicate n = cat.Duplicate n
+fault_at line.TwiceExported n = cat.TwiceExported n
+fault_at line.TooMany n = cat.TooMany n
+fault_at line.Memory n = cat.Memory
+
+abbrev pub IsDepRefused : {A : Type 0} → DepRefused → Result A DepRefusal → Type 0
+IsDepRefused dep_line.NoColon read = read ≡ Err no_colon
+IsDepRefused dep_line.EmptyName read = read ≡ Err empty_name
+IsDepRefused dep_line.SecondLine read = read ≡ Err second_line
+IsDepRefused dep_line.Memory read = Unit {0}
+
+abbrev pub dep_fault_at : DepRefused → ℕ → DepError
+dep_fault_at dep_line.NoColon n = dep.NoColon n
+dep_fault_at dep_line.EmptyName n = dep.EmptyName n
+dep_fault_at dep_line.SecondLine n = dep.SecondLine n
+dep_fault_at dep_line.Memory n = dep.Memory

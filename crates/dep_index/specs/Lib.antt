@@ -12,3 +12,7 @@ pub mod TextLaws
 pub mod Descriptions
 pub mod Faults
 pub mod Pairs
+pub mod Exports
+pub mod Directives
+pub mod Drafts
+pub mod Marks

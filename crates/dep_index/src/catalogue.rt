@@ -1,6 +1,7 @@
 //! A catalogue by slot.
 ghost use Rattle.std.specs.Prelude.{◌≡◌, ◌<◌, ◌≤◌, length, unwrap_or, IfOk};
 ghost use Rattle.dep_index.specs.Catalogue.{description_at, slot_named, needs_of, has_unknown_symbol, modules_of};
+ghost use Rattle.dep_index.specs.Descriptions.{descriptions_in};
 
 use crate::details::Details;
 use crate::names::Name;
@@ -32,6 +33,15 @@ impl Model for Catalogue {
 }
 
 impl Catalogue {
+    /// The modules, with what is known of them by slot.
+    pub(crate) fn new(modules: IndexMap<Vec<u8>, Details>, slots: Slots) -> Catalogue
+        requires slots { slots ≡ modules_of (descriptions_in modules.entries) }
+        requires few { length modules.entries ≤ 1024 }
+        ensures { result ≡ descriptions_in modules.entries }
+    {
+        Catalogue { modules, slots }
+    }
+
     /// How many modules there are, at most 1,024.
     pub fn len(&self) -> usize
         ensures result_is { result ≡ length self.now }

@@ -1,7 +1,21 @@
 //! What the lines behind a `module` line say of it.
+ghost use Rattle.std.specs.Prelude.{◌≡◌, false, [], ◌∷◌, ◌++◌, Some, Ok, OnOk, MatchResult};
+ghost use Rattle.std.specs.List.{list_any};
+ghost use Rattle.std.specs.Str.{bytes_eq};
+ghost use Rattle.dep_index.specs.Text.{texts_of};
+ghost use Rattle.dep_index.specs.Catalogue.{described, sized, change};
+ghost use Rattle.dep_index.specs.Catalogue as spec;
+ghost use Rattle.dep_index.specs.Descriptions.{owned, open_in};
+ghost use Rattle.dep_index.specs.Directives.{directive_in};
+ghost use Rattle.dep_index.specs.Exports.{export_links, change_links};
+ghost use Rattle.dep_index.specs.Faults.{IsRefused};
 
+use crate::directives::{Directive, is_same};
+use crate::exporters::Exporters;
+use crate::faults::Refused;
 use crate::names::Name;
-use crate::params::Param;
+use crate::params::{Param, ParamKind};
+use std::alloc::{AllocError, Global};
 
 /// What a catalogue says of a module beside its name.
 #[derive(Drop)]
@@ -12,4 +26,126 @@ pub(crate) struct Details {
     pub(crate) params: Vec<Param>,
     pub(crate) softneeds: Vec<Name>,
     pub(crate) permanent: bool,
+}
+
+/// The module that the lines now speak of.
+#[derive(Drop)]
+pub(crate) struct Open {
+    pub(crate) name: Vec<u8>,
+    pub(crate) details: Details,
+}
+
+/// Adds copies of the texts.
+fn push_texts(texts: &mut Vec<Vec<u8>>, alloc: Global, more: &[&[u8]]) -> Result<(), AllocError>
+    ensures { OnOk result (owned texts.new.items ≡ owned texts.old.items ++ texts_of more.now) }
+{
+    for text in more {
+        texts.push(Vec::from_slice(alloc, text)?)?;
+    }
+    Ok(())
+}
+
+/// Whether a parameter of the name stands already.
+fn has_param(params: &[Param], name: &[u8]) -> bool
+    ensures { result ≡ list_any (λ p. bytes_eq name.now p.name) params.now }
+{
+    params
+        .iter()
+        .any(|param| is_same(name, param.name.as_bytes()))
+}
+
+impl Open {
+    pub(crate) fn new(alloc: Global, name: Vec<u8>) -> Open
+        ensures { open_in result ≡ described name.items }
+    {
+        Open {
+            name,
+            details: Details {
+                size: None,
+                exports: Vec::new(alloc),
+                needed_symbols: Vec::new(alloc),
+                params: Vec::new(alloc),
+                softneeds: Vec::new(alloc),
+                permanent: false,
+            },
+        }
+    }
+
+    fn set_size(&mut self, n: u32) -> Result<(), Refused>
+        ensures { MatchResult result (λ _. sized (open_in self.old) (open_in self.old).size n ≡ Ok (open_in self.new)) (λ e. IsRefused e (sized (open_in self.old) (open_in self.old).size n)) }
+    {
+        if self.details.size.is_some() {
+            return Err(Refused::Bad);
+        }
+        self.details.size = Some(n);
+        Ok(())
+    }
+
+    fn need(&mut self, alloc: Global, symbols: &[&[u8]]) -> Result<(), AllocError>
+        ensures { OnOk result (open_in self.new ≡ record (open_in self.old) { needed_symbols = (open_in self.old).needed_symbols ++ texts_of symbols.now }) }
+    {
+        push_texts(&mut self.details.needed_symbols, alloc, symbols)
+    }
+
+    fn soften(&mut self, mut names: Vec<Name>) -> Result<(), AllocError>
+        ensures { OnOk result (open_in self.new ≡ record (open_in self.old) { softneeds = (open_in self.old).softneeds ++ names.items }) }
+    {
+        self.details.softneeds.append(&mut names)
+    }
+
+    fn define(&mut self, name: Name, kind: ParamKind) -> Result<(), Refused>
+        ensures { MatchResult result (λ _. change false [] (open_in self.old) (spec.param name kind) ≡ Ok (open_in self.new)) (λ e. IsRefused e (change false [] (open_in self.old) (spec.param name kind))) }
+    {
+        if has_param(&self.details.params, name.as_bytes()) {
+            return Err(Refused::Bad);
+        }
+        self.details.params.push(Param { name, kind })?;
+        Ok(())
+    }
+
+    fn export<'a>(
+        &mut self,
+        alloc: Global,
+        exporters: &mut Exporters<'a>,
+        slot: u16,
+        symbols: &[&'a [u8]],
+    ) -> Result<(), Refused>
+        ensures { MatchResult result (λ _. export_links exporters.old slot (open_in self.old) (texts_of symbols.now) ≡ Ok (open_in self.new, exporters.new)) (λ e. IsRefused e (export_links exporters.old slot (open_in self.old) (texts_of symbols.now))) }
+    {
+        for symbol in symbols {
+            if !exporters.add(symbol, slot)? {
+                return Err(Refused::TwiceExported);
+            }
+            self.details.exports.push(Vec::from_slice(alloc, symbol)?)?;
+        }
+        Ok(())
+    }
+
+    /// Takes what a line says of this module in the slot.
+    pub(crate) fn change<'a>(
+        &mut self,
+        alloc: Global,
+        is_version_2: bool,
+        exporters: &mut Exporters<'a>,
+        slot: u16,
+        directive: Directive<'_, 'a>,
+    ) -> Result<(), Refused>
+        ensures { MatchResult result (λ _. change_links is_version_2 exporters.old slot (open_in self.old) (directive_in directive.entry) ≡ Ok (open_in self.new, exporters.new)) (λ e. IsRefused e (change_links is_version_2 exporters.old slot (open_in self.old) (directive_in directive.entry))) }
+    {
+        match directive {
+            Directive::Version | Directive::Module(_) => return Err(Refused::Bad),
+            Directive::Size(n) => self.set_size(n)?,
+            Directive::Exports(symbols) => self.export(alloc, exporters, slot, symbols)?,
+            Directive::Needs(symbols) => self.need(alloc, symbols)?,
+            Directive::Softneeds(names) => {
+                if !is_version_2 {
+                    return Err(Refused::Bad);
+                }
+                self.soften(names)?
+            }
+            Directive::Param(name, kind) => self.define(name, kind)?,
+            Directive::Permanent => self.details.permanent = true,
+        }
+        Ok(())
+    }
 }

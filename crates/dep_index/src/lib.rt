@@ -3,12 +3,19 @@
 
 mod calls;
 mod catalogue;
+mod catalogue_text;
+mod dep_text;
 mod dependencies;
 mod details;
+mod directives;
+mod draft;
+mod exporters;
 mod faults;
 pub mod laws;
 mod names;
+mod needs;
 mod params;
+mod paths;
 pub mod reads;
 mod refusals;
 mod slots;
@@ -18,6 +25,8 @@ pub mod words;
 
 pub use calls::{Call, Reply};
 pub use catalogue::Catalogue;
+pub use catalogue_text::read_catalogue;
+pub use dep_text::read_dep;
 pub use dependencies::DepIndex;
 pub use faults::{CatError, DepError};
 pub use names::Name;
@@ -29,3 +38,6 @@ pub use refusals::{
 pub use slots::Slots;
 pub use states::ModuleState;
 pub use words::{Outcome, WordStep};
+
+#[cfg(test)]
+mod tests;

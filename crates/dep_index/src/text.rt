@@ -1,5 +1,5 @@
 //! What all readers of texts share: lines, words, names and numbers.
-ghost use Rattle.std.specs.Prelude.{◌≡◌, ◌++◌, ◌∷◌, [], true, filter, IfOk, OnOk};
+ghost use Rattle.std.specs.Prelude.{◌≡◌, ◌++◌, ◌∷◌, [], true, filter, IfOk, IfSome, OnOk, length, ◌≤◌};
 ghost use Rattle.std.specs.List.{list_all};
 ghost use Rattle.std.specs.Str.Lines.{lines};
 ghost use Rattle.dep_index.specs.Text.{words, texts_of, is_filled, is_comment, is_name, is_name_byte, is_digit, is_number, digits_from, number_within};
@@ -35,7 +35,8 @@ pub fn words<'a>(alloc: Global, line: &'a [u8]) -> Result<Vec<&'a [u8]>, AllocEr
 
 /// The lines of a whole text, in order, without their ends: `\n` or `\r\n`, or nothing at the end of the text.
 pub fn whole_lines<'a>(text: &'a [u8]) -> Lines<'a>
-    ensures { result ≡ lines text.now }
+    ensures value { result ≡ lines text.now }
+    ensures few { length result ≤ length text.now }
 {
     text.lines()
 }
@@ -87,7 +88,8 @@ fn value(word: &[u8]) -> u64
 
 /// The number that the word is, where it is 1 to 10 decimal digits and at most `limit`; leading zeros are good.
 pub fn number_within(limit: u64, word: &[u8]) -> Option<u64>
-    ensures { result ≡ number_within limit word.now }
+    ensures value { result ≡ number_within limit word.now }
+    ensures within { IfSome result (λ n. n ≤ limit) }
 {
     if !is_number(word) {
         return None;

@@ -1,0 +1,13 @@
+use Rattle.std.proofs.Common.{◌≡◌, ◌≤◌, ℕ, take, length}
+use Rattle.std.specs.Prelude.{slice_index}
+use Rattle.dep_index.specs.Catalogue.{modules_of}
+use Rattle.dep_index.specs.Descriptions.{descriptions_in}
+use Rattle.dep_index.proofs.needs.slots_of.Given as goal
+
+-- the slots before this one are done, and no mark is of a later one
+abbrev pub invariant-loop-m : goal.invariant-loop-m
+invariant-loop-m l = record {
+  slots : l.slots ≡ take l.m (modules_of (descriptions_in l.modules.entries));
+  len : length l.marks ≡ length l.modules.entries;
+  marks : (k : ℕ) → slice_index l.marks k ≤ l.m;
+}

@@ -1,0 +1,194 @@
+//! What a line of a catalogue says, by its form alone.
+ghost use Rattle.std.specs.Prelude.{◌≡◌, IfOk, codes, map};
+ghost use Rattle.std.specs.List.{list_all};
+ghost use Rattle.std.specs.Option.{option_map};
+ghost use Rattle.std.specs.Str.{bytes_eq};
+ghost use Rattle.dep_index.specs.Text.{texts_of, is_name, normal_form};
+ghost use Rattle.dep_index.specs.Catalogue.{directive_of, begin_of, size_of, some_symbols, some_names, param_of, kind_of, alone, version_of};
+ghost use Rattle.dep_index.specs.Catalogue as spec;
+ghost use Rattle.dep_index.specs.Directives.{directive_in};
+
+use crate::names::Name;
+use crate::params::ParamKind;
+use crate::text::{is_name, number_within};
+use std::alloc::{AllocError, Global};
+
+/// What the words of a line say.
+#[derive(Drop)]
+pub(crate) enum Directive<'w, 'a> {
+    Version,
+    Module(Name),
+    Size(u32),
+    Exports(&'w [&'a [u8]]),
+    Needs(&'w [&'a [u8]]),
+    Softneeds(Vec<Name>),
+    Param(Name, ParamKind),
+    Permanent,
+}
+
+/// Whether the two texts are the same.
+pub(crate) fn is_same(word: &[u8], text: &[u8]) -> bool
+    ensures { result ≡ bytes_eq word.now text.now }
+{
+    word == text
+}
+
+fn module<'w, 'a>(
+    alloc: Global,
+    rest: &'w [&'a [u8]],
+) -> Result<Option<Directive<'w, 'a>>, AllocError>
+    ensures { IfOk result (λ found. option_map directive_in found ≡ begin_of (texts_of rest.now)) }
+{
+    let [name] = rest else {
+        return Ok(None);
+    };
+    if !is_name(name) {
+        return Ok(None);
+    }
+    Ok(Some(Directive::Module(Name::new(alloc, name)?)))
+}
+
+fn size<'w, 'a>(rest: &'w [&'a [u8]]) -> Option<Directive<'w, 'a>>
+    ensures { option_map directive_in result ≡ size_of (texts_of rest.now) }
+{
+    let [word] = rest else {
+        return None;
+    };
+    match number_within(4294967295, word) {
+        Some(n) => Some(Directive::Size(n as u32)),
+        None => None,
+    }
+}
+
+fn exports<'w, 'a>(rest: &'w [&'a [u8]]) -> Option<Directive<'w, 'a>>
+    ensures { option_map directive_in result ≡ some_symbols spec.exports (texts_of rest.now) }
+{
+    if rest.is_empty() {
+        return None;
+    }
+    Some(Directive::Exports(rest))
+}
+
+fn needs<'w, 'a>(rest: &'w [&'a [u8]]) -> Option<Directive<'w, 'a>>
+    ensures { option_map directive_in result ≡ some_symbols spec.needs (texts_of rest.now) }
+{
+    if rest.is_empty() {
+        return None;
+    }
+    Some(Directive::Needs(rest))
+}
+
+fn are_names(words: &[&[u8]]) -> bool
+    ensures { result ≡ list_all (λ word. is_name word.now) words.now }
+{
+    words.iter().all(|word| is_name(word))
+}
+
+/// The normal forms of the words.
+pub(crate) fn names(alloc: Global, words: &[&[u8]]) -> Result<Vec<Name>, AllocError>
+    ensures { IfOk result (λ names. names.items ≡ map normal_form (texts_of words.now)) }
+{
+    let mut names = Vec::new(alloc);
+    for word in words {
+        names.push(Name::new(alloc, word)?)?;
+    }
+    Ok(names)
+}
+
+fn softneeds<'w, 'a>(
+    alloc: Global,
+    rest: &'w [&'a [u8]],
+) -> Result<Option<Directive<'w, 'a>>, AllocError>
+    ensures { IfOk result (λ found. option_map directive_in found ≡ some_names (texts_of rest.now)) }
+{
+    if rest.is_empty() {
+        return Ok(None);
+    }
+    if !are_names(rest) {
+        return Ok(None);
+    }
+    Ok(Some(Directive::Softneeds(names(alloc, rest)?)))
+}
+
+fn kind(word: &[u8]) -> Option<ParamKind>
+    ensures { result ≡ kind_of word.now }
+{
+    if is_same(word, b"int") {
+        Some(ParamKind::Int)
+    } else if is_same(word, b"bool") {
+        Some(ParamKind::Bool)
+    } else if is_same(word, b"charp") {
+        Some(ParamKind::Charp)
+    } else {
+        None
+    }
+}
+
+fn param<'w, 'a>(
+    alloc: Global,
+    rest: &'w [&'a [u8]],
+) -> Result<Option<Directive<'w, 'a>>, AllocError>
+    ensures { IfOk result (λ found. option_map directive_in found ≡ param_of (texts_of rest.now)) }
+{
+    let [name, word] = rest else {
+        return Ok(None);
+    };
+    if !is_name(name) {
+        return Ok(None);
+    }
+    let Some(kind) = kind(word) else {
+        return Ok(None);
+    };
+    Ok(Some(Directive::Param(Name::new(alloc, name)?, kind)))
+}
+
+fn permanent<'w, 'a>(rest: &'w [&'a [u8]]) -> Option<Directive<'w, 'a>>
+    ensures { option_map directive_in result ≡ alone spec.permanent (texts_of rest.now) }
+{
+    if rest.is_empty() {
+        Some(Directive::Permanent)
+    } else {
+        None
+    }
+}
+
+fn version<'w, 'a>(rest: &'w [&'a [u8]]) -> Option<Directive<'w, 'a>>
+    ensures { option_map directive_in result ≡ version_of (texts_of rest.now) }
+{
+    let [word] = rest else {
+        return None;
+    };
+    if !is_same(word, b"2") {
+        return None;
+    }
+    Some(Directive::Version)
+}
+
+/// What the first word and those behind it say, or `None` where they have no form of a catalogue line.
+pub(crate) fn read_directive<'w, 'a>(
+    alloc: Global,
+    word: &[u8],
+    rest: &'w [&'a [u8]],
+) -> Result<Option<Directive<'w, 'a>>, AllocError>
+    ensures { IfOk result (λ found. option_map directive_in found ≡ directive_of word.now (texts_of rest.now)) }
+{
+    if is_same(word, b"module") {
+        module(alloc, rest)
+    } else if is_same(word, b"size") {
+        Ok(size(rest))
+    } else if is_same(word, b"exports") {
+        Ok(exports(rest))
+    } else if is_same(word, b"needs") {
+        Ok(needs(rest))
+    } else if is_same(word, b"param") {
+        param(alloc, rest)
+    } else if is_same(word, b"permanent") {
+        Ok(permanent(rest))
+    } else if is_same(word, b"version") {
+        Ok(version(rest))
+    } else if is_same(word, b"softneeds") {
+        softneeds(alloc, rest)
+    } else {
+        Ok(None)
+    }
+}

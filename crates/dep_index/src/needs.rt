@@ -1,0 +1,88 @@
+//! Which slots a slot needs.
+ghost use Rattle.std.specs.Prelude.{◌≡◌, ◌+◌, ◌<◌, ◌≤◌, ℕ, List, [], is_none, length, slice_index, Some, IfOk, IfSome, OnOk};
+ghost use Rattle.std.specs.List.{list_any};
+ghost use Rattle.dep_index.specs.Catalogue.{modules_of, with_need};
+ghost use Rattle.dep_index.specs.Descriptions.{owned, descriptions_in};
+ghost use Rattle.dep_index.specs.Exports.{slot_at, links_of, needs_by};
+ghost use Rattle.dep_index.specs.Marks.{IsMarked};
+
+use crate::details::Details;
+use crate::exporters::Exporters;
+use crate::slots::Slots;
+use indexmap::IndexMap;
+use std::alloc::{AllocError, Global};
+
+/// Adds the slot k to the needs of m, where it is not m and not there. Of the marks, those of the slots that are
+/// there are the turn.
+fn add_need(
+    needs: &mut Vec<u16>,
+    marks: &mut [u16],
+    m: u16,
+    turn: u16,
+    k: u16,
+) -> Result<(), AllocError>
+    requires slot { k < length marks.old }
+    requires marked { IsMarked turn marks.old needs.old.items }
+    ensures needs { OnOk result (needs.new.items ≡ with_need m needs.old.items (Some k)) }
+    ensures marked { OnOk result (IsMarked turn marks.new needs.new.items) }
+{
+    if k != m && marks[k as usize] != turn {
+        needs.push(k)?;
+        marks[k as usize] = turn;
+    }
+    Ok(())
+}
+
+/// The slots of the exporters of the symbols, each once and without m.
+fn needs_of(
+    alloc: Global,
+    exporters: &Exporters<'_>,
+    marks: &mut [u16],
+    m: u16,
+    symbols: &[Vec<u8>],
+) -> Result<Vec<u16>, AllocError>
+    requires small { m < 1024 }
+    requires slots { (s : List ℕ) → IfSome (slot_at exporters.now s) (λ k. k < length marks.old) }
+    requires marks { (k : ℕ) → slice_index marks.old k ≤ m }
+    ensures needs { IfOk result (λ needs. needs.items ≡ needs_by exporters.now m [] (owned symbols.now)) }
+    ensures marks { OnOk result ((k : ℕ) → slice_index marks.new k ≤ m + 1) }
+{
+    let mut needs = Vec::new(alloc);
+    for symbol in symbols {
+        if let Some(k) = exporters.slot(symbol) {
+            add_need(&mut needs, marks, m, m + 1, k)?;
+        }
+    }
+    Ok(needs)
+}
+
+/// Whether no module exports one of the symbols.
+fn has_unknown(exporters: &Exporters<'_>, symbols: &[Vec<u8>]) -> bool
+    ensures { result ≡ list_any (λ s. is_none (slot_at exporters.now s.items)) symbols.now }
+{
+    symbols
+        .iter()
+        .any(|symbol| exporters.slot(symbol).is_none())
+}
+
+/// Needs and marks of all modules, by slot.
+pub(crate) fn slots_of(
+    alloc: Global,
+    modules: &IndexMap<Vec<u8>, Details>,
+    exporters: &Exporters<'_>,
+) -> Result<Slots, AllocError>
+    requires links { exporters.now ≡ links_of (descriptions_in modules.now.entries) }
+    requires few { length modules.now.entries ≤ 1024 }
+    ensures { IfOk result (λ slots. slots ≡ modules_of (descriptions_in modules.now.entries)) }
+{
+    let mut marks = vec![in alloc; 0u16; modules.len()]?;
+    let marks = marks.as_mut_slice();
+    let mut slots = Slots::new(alloc);
+    for m in 0..modules.len() {
+        let (_, details) = modules.get_index(m).unwrap();
+        let symbols = &details.needed_symbols;
+        let needs = needs_of(alloc, exporters, marks, m as u16, symbols)?;
+        slots.push(needs, has_unknown(exporters, symbols), details.permanent)?;
+    }
+    Ok(slots)
+}

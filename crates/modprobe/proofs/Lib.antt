@@ -1,0 +1,7 @@
+pub mod LineLemmas
+pub mod LeftLemmas
+pub mod SetupLemmas
+pub mod SlotLemmas
+pub mod RunLemmas
+pub mod NameLemmas
+pub mod ServeLemmas

@@ -1,0 +1,17 @@
+-- A session that stopped, from the setup of the input and the run.
+use Rattle.std.proofs.Common.{◌≡◌, ℕ, List, Option, Some, None}
+use Rattle.dep_index.specs.Table.{Table}
+use Rattle.modprobe.specs.declared.fault.RunFault.{RunFault}
+use Rattle.modprobe.specs.Lines.{AtHand, IfTold}
+use Rattle.modprobe.specs.Session.{Setup}
+use Rattle.modprobe.specs.SetupInput.{GivesSetup}
+use Rattle.modprobe.specs.Run.{StandsAfter}
+use Rattle.modprobe.specs.Serve.{opening_of, StopsInSession}
+
+pub stops_in_session : (workers : ℕ) (fault : RunFault) (old middle : Option (List ℕ)) (s : Setup) (start : Table) (left ungiven : Option (List ℕ)) (line : List ℕ) (held written : Option (List ℕ)) (table : Table)
+    → GivesSetup old middle s → start ≡ opening_of s workers → StandsAfter fault s start middle (record { left = left; ungiven = ungiven; line = line }) held written table
+    → IfTold old (λ input. StopsInSession workers fault input ungiven held written)
+stops_in_session workers fault None middle s start left ungiven line held written table gives opens stands = tt
+stops_in_session workers fault (Some old) None s start left ungiven line held written table gives opens stands = absurd gives
+stops_in_session workers fault (Some old) (Some middle) s start left ungiven line held written table gives opens stands =
+    (s, middle, gives, (left, line, table, rw opens at stands))

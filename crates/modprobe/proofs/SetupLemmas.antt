@@ -1,0 +1,139 @@
+-- The sections of an input, one line on.
+use Rattle.std.proofs.Common.{arith, ◌≡◌, ℕ, ◌≤◌, Bool, true, false, List, [], ◌∷◌, length, map, refl, sym, ap, subst, ◌∙◌, Option, Some, None, Ok, Err}
+use Rattle.std.specs.Prelude.{◌≢◌, slice_index_or, ⊤}
+use Rattle.std.specs.Io.KnownBytes.{IsAtEnd, Keeps}
+use Rattle.dep_index.specs.Text.{Line, cut_lines}
+use Rattle.modprobe.specs.Lines.{IfTold, GivesCut, IsPartOfLine, BeginsWithLongLine}
+use Rattle.modprobe.specs.declared.section.Section.{Section}
+use Rattle.modprobe.specs.declared.section.Section.TheVariants.{Catalogue, Dep, Alias, Conf, Session}
+use Rattle.modprobe.specs.Sections.{Parts, no_parts, section_of, SectionStep, Stopped, early, too_long, stop, begin, go, text_step, section_step, step_of, after_step, is_long, sections, GoesOn}
+use Rattle.modprobe.specs.ForProofs.{is_session, GivesSections, StopsAs, setup_code_of}
+use Rattle.modprobe.specs.declared.lines.LineFault.{LineFault}
+use Rattle.modprobe.specs.declared.lines.LineFault.TheVariants.{Read, Memory, Turns, LongLine}
+use Rattle.dep_index.specs.Catalogue.{Description, catalogue_of}
+use Rattle.modprobe.specs.Session.{Setup}
+use Rattle.modprobe.specs.SetupInput.{of_sections, with_session, with_catalogue, GivesSetup, SetupStops}
+use Rattle.dep_index.proofs.LineLemmas.{lines_have_texts}
+use Rattle.std.proofs.lemmas.Bool.{false≢true, true≢false, cond-true, cond-false, lt-ltb, le-ltb}
+
+sections-line : (current : Option Section) (parts : Parts) (line : Line) (more : List Line) (step : SectionStep) → step_of current parts line ≡ step
+    → sections current parts (line ∷ more) ≡ after_step step parts more (λ c p. sections c p more)
+unfolding sections
+sections-line current parts line more turn is = ap (λ t. after_step t parts more (λ c p. sections c p more)) is
+
+sections-end : (current : Option Section) (parts : Parts) → sections current parts [] ≡ Ok (parts, [])
+unfolding sections
+sections-end current parts = refl
+
+pub goes_on : (old middle new : Option (List ℕ)) (current : Option Section) (parts : Parts) (line : Line) (current' : Option Section) (parts' : Parts)
+    → GoesOn old middle current parts → GivesCut middle new line → step_of current parts line ≡ go current' parts' → GoesOn old new current' parts'
+goes_on None middle new current parts line current' parts' before gives is = tt
+goes_on (Some old) None new current parts line current' parts' before gives is = absurd before
+goes_on (Some old) (Some middle) None current parts line current' parts' before gives is = absurd gives
+goes_on (Some old) (Some middle) (Some new) current parts line current' parts' before gives is =
+    before ∙ ap (sections current parts) gives ∙ sections-line current parts line (cut_lines new) (go current' parts') is
+
+pub begins : (old middle new : Option (List ℕ)) (current : Option Section) (parts : Parts) (line : Line)
+    → GoesOn old middle current parts → GivesCut middle new line → step_of current parts line ≡ begin → GivesSections old new parts
+begins None middle new current parts line before gives is = tt
+begins (Some old) None new current parts line before gives is = absurd before
+begins (Some old) (Some middle) None current parts line before gives is = absurd gives
+begins (Some old) (Some middle) (Some new) current parts line before gives is =
+    before ∙ ap (sections current parts) gives ∙ sections-line current parts line (cut_lines new) begin is
+
+-- The sections stop at the line.
+stops : (old middle new : Option (List ℕ)) (current : Option Section) (parts : Parts) (line : Line) (why : Stopped)
+    → GoesOn old middle current parts → GivesCut middle new line → step_of current parts line ≡ stop why → IfTold old (λ text. sections None no_parts (cut_lines text) ≡ Err why)
+stops None middle new current parts line why before gives is = tt
+stops (Some old) None new current parts line why before gives is = absurd before
+stops (Some old) (Some middle) None current parts line why before gives is = absurd gives
+stops (Some old) (Some middle) (Some new) current parts line why before gives is =
+    before ∙ ap (sections current parts) gives ∙ sections-line current parts line (cut_lines new) (stop why) is
+
+pub early_stops : (old middle new : Option (List ℕ)) (current : Option Section) (parts : Parts) (line : Line)
+    → GoesOn old middle current parts → GivesCut middle new line → step_of current parts line ≡ stop early → IfTold old (λ text. sections None no_parts (cut_lines text) ≡ Err early)
+early_stops old middle new current parts line before gives is = stops old middle new current parts line early before gives is
+
+-- A text that begins with a line of this text has a first line with its end.
+first_cut : (cut : List Line) (line : List ℕ) (more : List (List ℕ)) → map (λ (l : Line). l.text) cut ≡ line ∷ more → (first : Line) × (later : List Line) × (cut ≡ first ∷ later) × (first.text ≡ line)
+first_cut [] line more is = absurd (omega (arith, ap length is))
+first_cut (first ∷ later) line more is = (first, later, refl, ap (λ l. slice_index_or l 0 []) is)
+
+pub long_stops : (old middle : Option (List ℕ)) (current : Option Section) (parts : Parts)
+    → GoesOn old middle current parts → IfTold middle BeginsWithLongLine → IfTold old (λ text. sections None no_parts (cut_lines text) ≡ Err too_long)
+long_stops None middle current parts before long = tt
+long_stops (Some old) None current parts before long = absurd before
+long_stops (Some old) (Some middle) current parts before long =
+    let cut = first_cut (cut_lines middle) long.0 long.1 (lines_have_texts middle ∙ long.2) in
+    let is_too_long : is_long cut.0.text ≡ true = lt-ltb 65535 (length cut.0.text) (rw cut.3 long.3) in
+    let is : step_of current parts cut.0 ≡ stop too_long = cond-true _ _ _ is_too_long in
+    before ∙ ap (sections current parts) cut.2 ∙ sections-line current parts cut.0 cut.1 (stop too_long) is
+
+pub at_end : (old middle new : Option (List ℕ)) (current : Option Section) (parts : Parts) → GoesOn old middle current parts → IsAtEnd middle → IsAtEnd new → Keeps middle new → GivesSections old new parts
+at_end None middle new current parts before end end' kept = tt
+at_end (Some old) None new current parts before end end' kept = absurd before
+at_end (Some old) (Some middle) None current parts before end end' kept = absurd kept
+at_end (Some old) (Some middle) (Some new) current parts before end end' kept =
+    before ∙ ap (λ t. sections current parts (cut_lines t)) end ∙ sections-end current parts ∙ ap (λ t. Ok (parts, cut_lines t)) (sym end')
+
+section_step-begin : (section : Section) (current : Option Section) (parts : Parts) (line : Line) → is_session section ≡ true → section_step (Some section) current parts line ≡ begin
+section_step-begin Catalogue current parts line is = absurd (false≢true is)
+section_step-begin Dep current parts line is = absurd (false≢true is)
+section_step-begin Alias current parts line is = absurd (false≢true is)
+section_step-begin Conf current parts line is = absurd (false≢true is)
+section_step-begin Session current parts line is = refl
+
+section_step-go : (section : Section) (current : Option Section) (parts : Parts) (line : Line) → is_session section ≡ false → section_step (Some section) current parts line ≡ go (Some section) parts
+section_step-go Catalogue current parts line is = refl
+section_step-go Dep current parts line is = refl
+section_step-go Alias current parts line is = refl
+section_step-go Conf current parts line is = refl
+section_step-go Session current parts line is = absurd (true≢false is)
+
+step_of-short : (current : Option Section) (parts : Parts) (line : Line) → length line.text ≤ 65535 → step_of current parts line ≡ section_step (section_of line.text) current parts line
+step_of-short current parts line short = cond-false _ _ _ (le-ltb 65535 (length line.text) short)
+
+pub step_of-begin : (section : Section) (current : Option Section) (parts : Parts) (line : Line) → length line.text ≤ 65535 → section_of line.text ≡ Some section → is_session section ≡ true → step_of current parts line ≡ begin
+step_of-begin section current parts line short found is =
+    step_of-short current parts line short ∙ ap (λ s. section_step s current parts line) found ∙ section_step-begin section current parts line is
+
+pub step_of-go : (section : Section) (current : Option Section) (parts : Parts) (line : Line) → length line.text ≤ 65535 → section_of line.text ≡ Some section → is_session section ≡ false → step_of current parts line ≡ go (Some section) parts
+step_of-go section current parts line short found is =
+    step_of-short current parts line short ∙ ap (λ s. section_step s current parts line) found ∙ section_step-go section current parts line is
+
+pub step_of-text : (current : Option Section) (parts : Parts) (line : Line) → length line.text ≤ 65535 → section_of line.text ≡ None → step_of current parts line ≡ text_step current parts line
+step_of-text current parts line short found = step_of-short current parts line short ∙ ap (λ s. section_step s current parts line) found
+
+stops_somehow : (old : Option (List ℕ)) → IfTold old (λ text. ⊤)
+stops_somehow None = tt
+stops_somehow (Some text) = tt
+
+-- A fault of the lines says why the sections stop, where it is a long line.
+pub stops_as : (old middle : Option (List ℕ)) (current : Option Section) (parts : Parts) (fault : LineFault)
+    → GoesOn old middle current parts → (fault ≡ LongLine → IfTold middle BeginsWithLongLine) → IfTold old (λ text. StopsAs (setup_code_of fault) text)
+stops_as old middle current parts Read before long = stops_somehow old
+stops_as old middle current parts Memory before long = stops_somehow old
+stops_as old middle current parts Turns before long = stops_somehow old
+stops_as old middle current parts LongLine before long = long_stops old middle current parts before (long refl)
+
+-- The setup of an input, from its sections and its catalogue.
+pub gives_setup : (old new : Option (List ℕ)) (parts : Parts) (modules : List Description) → GivesSections old new parts → catalogue_of parts.catalogue_text ≡ Ok modules
+    → GivesSetup old new (record { catalogue = modules; dep_text = parts.dep_text; alias_text = parts.alias_text; conf_text = parts.conf_text })
+gives_setup None new parts modules gives is = tt
+gives_setup (Some old) None parts modules gives is = absurd gives
+gives_setup (Some old) (Some new) parts modules gives is =
+    let s : Setup = record { catalogue = modules; dep_text = parts.dep_text; alias_text = parts.alias_text; conf_text = parts.conf_text } in
+    ap of_sections gives ∙ ap (λ r. with_session (cut_lines new) (with_catalogue parts r)) is ∙ ap (λ ls. Ok (s, ls)) (lines_have_texts new)
+
+abbrev is_long_line : LineFault → Bool
+is_long_line LongLine = true
+is_long_line _ = false
+
+-- Where the lines stop at the source, the sections go on in the line in hand.
+pub setup_stops : (old middle left ungiven : Option (List ℕ)) (current : Option Section) (parts : Parts) (fault : LineFault) (line : List ℕ)
+    → GoesOn old middle current parts → (fault ≢ LongLine → IsPartOfLine middle left line) → (fault ≡ Read → left ≡ ungiven) → (fault ≡ Turns → left ≡ ungiven)
+    → SetupStops (setup_code_of fault) old ungiven line
+setup_stops old middle left ungiven current parts Read line before part read turns = (middle, (current, parts, before), subst (λ l. IsPartOfLine middle l line) (read refl) (part (λ e. false≢true (ap is_long_line e))))
+setup_stops old middle left ungiven current parts Memory line before part read turns = tt
+setup_stops old middle left ungiven current parts Turns line before part read turns = (middle, (current, parts, before), subst (λ l. IsPartOfLine middle l line) (turns refl) (part (λ e. false≢true (ap is_long_line e))))
+setup_stops old middle left ungiven current parts LongLine line before part read turns = tt

@@ -1,0 +1,14 @@
+-- A slot that a name has is a slot of the table's catalogue.
+use Rattle.std.proofs.Common.{arith, ◌≡◌, ℕ, suc, ◌<◌, List, [], ◌∷◌, length, refl, sym, ap, subst, Option, Some}
+use Rattle.std.proofs.lemmas.List.Quantifiers.{position-Some}
+use Rattle.std.specs.Str.{bytes_eq}
+use Rattle.dep_index.specs.Catalogue.{Description, described, slot_named, modules_from, modules_of}
+
+length-modules_from : (all rest : List Description) (m : ℕ) → length (modules_from all m rest) ≡ length rest
+length-modules_from all [] m = refl
+length-modules_from all (d ∷ rest) m = ap suc (length-modules_from all rest (suc m))
+
+pub slot_below : (modules : List Description) (name : List ℕ) (m : ℕ) → slot_named modules name ≡ Some m → m < length (modules_of modules)
+slot_below modules name m found =
+    let below : m < length modules = (position-Some (λ (d : Description). bytes_eq name d.name) modules m (described []) found).0 in
+    omega (arith, below, length-modules_from modules modules 0)

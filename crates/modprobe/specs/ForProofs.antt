@@ -1,0 +1,113 @@
+-- What the contracts of private functions say, for the proofs of the public ones.
+use Rattle.std.specs.Prelude.{◌≡◌, ℕ, ◌≤◌, Bool, true, false, List, ◌++◌, ◌∷◌, [], All, length, codes, Option, Some, None, ⊤, Result, Ok, Err}
+use Rattle.dep_index.specs.Text.{cut_lines}
+use Rattle.dep_index.specs.Catalogue.{Description}
+use Rattle.dep_index.specs.declared.faults.CatError.{CatError}
+use Rattle.dep_index.specs.declared.faults.CatError.TheVariants as cat
+use Rattle.modprobe.specs.declared.command.Command.{Command}
+use Rattle.modprobe.specs.declared.command.Command.TheVariants as command_is
+use Rattle.modprobe.specs.declared.answer.Answer.{Answer}
+use Rattle.modprobe.specs.declared.answer.Answer.TheVariants as answer_is
+use Rattle.modprobe.specs.declared.lines.LineFault.{LineFault}
+use Rattle.modprobe.specs.declared.lines.LineFault.TheVariants as line_faults
+use Rattle.modprobe.specs.declared.fault.SetupCode.{SetupCode}
+use Rattle.modprobe.specs.declared.fault.SetupCode.TheVariants.{C1, C2, C3, C4, B1, Read, Memory, Turns, LongLine}
+use Rattle.modprobe.specs.declared.fault.SetupFault.{SetupFault}
+use Rattle.modprobe.specs.declared.section.Section.{Section}
+use Rattle.modprobe.specs.declared.section.Section.TheVariants.{Catalogue, Dep, Alias, Conf, Session}
+use Rattle.modprobe.specs.declared.section.Texts.{Texts}
+use Rattle.modprobe.specs.Commands as meaning
+use Rattle.modprobe.specs.Session.{error_line}
+use Rattle.modprobe.specs.Sections.{Parts, no_parts, early, too_long, sections}
+
+-- what the code's command stands for
+abbrev pub command_from : Command → meaning.Command
+command_from command_is.Nothing = meaning.nothing
+command_from (command_is.Malformed first) = meaning.malformed first.now
+command_from (command_is.OnModule name action) = meaning.on_module name action
+
+-- the code of a fault of the lines
+abbrev pub setup_code_of : LineFault → SetupCode
+setup_code_of line_faults.Read = Read
+setup_code_of line_faults.Memory = Memory
+setup_code_of line_faults.Turns = Turns
+setup_code_of line_faults.LongLine = LongLine
+
+-- no name is longer than names may be
+abbrev pub HasShortNames : List Description → Type 0
+HasShortNames modules = All (λ (d : Description). length d.name ≤ 55) modules
+
+-- what an answer writes
+abbrev pub text_of : Answer → List ℕ
+text_of answer_is.Done = codes "ok" ++ 10 ∷ []
+text_of answer_is.Yes = codes "yes" ++ 10 ∷ []
+text_of answer_is.No = codes "no" ++ 10 ∷ []
+text_of (answer_is.Refused code name) = error_line code name.now
+
+abbrev pub name_len : Answer → ℕ
+name_len answer_is.Done = 0
+name_len answer_is.Yes = 0
+name_len answer_is.No = 0
+name_len (answer_is.Refused code name) = length name.now
+
+abbrev pub is_session : Section → Bool
+is_session Session = true
+is_session Catalogue = false
+is_session Dep = false
+is_session Alias = false
+is_session Conf = false
+
+-- the texts that the code holds
+abbrev pub parts_of : Texts → Parts
+parts_of texts =
+    record {
+      catalogue_text = texts.catalogue.items;
+      dep_text = texts.dep.items;
+      alias_text = texts.alias.items;
+      conf_text = texts.conf.items;
+    }
+
+-- the sections of the old text are these, and its session is the new text
+abbrev pub GivesSections : Option (List ℕ) → Option (List ℕ) → Parts → Type 0
+GivesSections None new parts = ⊤
+GivesSections (Some old) None parts = ⊥
+GivesSections (Some old) (Some new) parts = sections None no_parts (cut_lines old) ≡ Ok (parts, cut_lines new)
+
+-- why the sections of a text stop, as a code says it
+abbrev pub StopsAs : SetupCode → List ℕ → Type 0
+StopsAs B1 text = sections None no_parts (cut_lines text) ≡ Err early
+StopsAs LongLine text = sections None no_parts (cut_lines text) ≡ Err too_long
+StopsAs _ text = ⊤
+
+-- the code is one of the catalogue
+abbrev pub is_catalogue_code : SetupCode → Bool
+is_catalogue_code C1 = true
+is_catalogue_code C2 = true
+is_catalogue_code C3 = true
+is_catalogue_code C4 = true
+is_catalogue_code _ = false
+
+-- a fault of the sections has the line 1 where it is an early line, and else none
+abbrev pub line_of : SetupCode → Option ℕ
+line_of B1 = Some 1
+line_of _ = None
+
+abbrev pub HasLine : SetupFault → Type 0
+HasLine fault = (fault.line ≡ line_of fault.code) × (is_catalogue_code fault.code ≡ false)
+
+abbrev pub is_read_code : SetupCode → Bool
+is_read_code Read = true
+is_read_code _ = false
+
+-- the answer is that the source failed
+abbrev pub is_setup_read : {X : Type 0} → Result X SetupFault → Bool
+is_setup_read (Ok x) = false
+is_setup_read (Err fault) = is_read_code fault.code
+
+-- the fault that a refused catalogue is
+abbrev pub catalogue_fault : CatError → SetupFault
+catalogue_fault (cat.Bad n) = record { code = C1; line = Some n }
+catalogue_fault (cat.Duplicate n) = record { code = C2; line = Some n }
+catalogue_fault (cat.TwiceExported n) = record { code = C3; line = Some n }
+catalogue_fault (cat.TooMany n) = record { code = C4; line = Some n }
+catalogue_fault cat.Memory = record { code = Memory; line = None }

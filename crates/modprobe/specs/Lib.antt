@@ -1,0 +1,9 @@
+pub mod Device
+pub mod Lines
+pub mod Commands
+pub mod Session
+pub mod Sections
+pub mod SetupInput
+pub mod Run
+pub mod ForProofs
+pub mod Serve

@@ -1,0 +1,94 @@
+-- What a run leaves, also where it stops.
+use Rattle.std.specs.Prelude.{◌≡◌, ℕ, ◌<◌, ◌≤◌, ◌⊎◌, Bool, true, false, List, [], ◌∷◌, ◌++◌, All, length, Option, Some, None, ⊤, Result, Ok, Err, take}
+use Rattle.std.specs.Str.Lines.{lines}
+use Rattle.std.specs.Io.KnownBytes.{Appends}
+use Rattle.dep_index.specs.Table.{Table}
+use Rattle.modprobe.specs.declared.lines.LineFault.{LineFault}
+use Rattle.modprobe.specs.declared.lines.LineFault.TheVariants as line_faults
+use Rattle.modprobe.specs.declared.fault.RunFault.{RunFault}
+use Rattle.modprobe.specs.declared.fault.RunFault.TheVariants.{Read, Write, Memory, Turns, LongLine}
+use Rattle.modprobe.specs.Lines.{AtHand, IfTold, GivesLine, IsPartOfLine, BeginsWithLongLine}
+use Rattle.modprobe.specs.Session.{Setup, line_answer, answer}
+
+-- the lines of the old text are these and those of the new text
+abbrev pub GivesLines : Option (List ℕ) → Option (List ℕ) → List (List ℕ) → Type 0
+GivesLines None new done = ⊤
+GivesLines (Some old) None done = ⊥
+GivesLines (Some old) (Some new) done = lines old ≡ done ++ lines new
+
+-- each line is at most 65,535 bytes long
+abbrev pub AllShort : List (List ℕ) → Type 0
+AllShort lines = All (λ line. length line ≤ 65535) lines
+
+-- These lines of the text were answered, over the table at the start: the text behind them is left, what was written
+-- grew by their answer and by nothing else, and the table is the answer's.
+pub record Answered (s : Setup) (start : Table) (text left : Option (List ℕ)) (held written : Option (List ℕ)) (table : Table) (done : List (List ℕ)) : Type 0 where
+  pub gives : GivesLines text left done
+  pub short : AllShort done
+  pub wrote : Appends held written (answer s start done).0
+  pub after : table ≡ (answer s start done).1
+
+-- The source failed, or was read too often, in a line: all lines before it were answered, and all that the source gave
+-- of it is in hand, with no end of a line.
+abbrev pub StoppedReading : Setup → Table → Option (List ℕ) → AtHand → Option (List ℕ) → Option (List ℕ) → Table → Type 0
+StoppedReading s start text hand held written table =
+    (done : List (List ℕ)) × (rest : Option (List ℕ)) × Answered s start text rest held written table done
+    × IsPartOfLine rest hand.ungiven hand.line
+
+-- A line was too long: all lines before it were answered.
+abbrev pub StoppedAtLongLine : Setup → Table → Option (List ℕ) → Option (List ℕ) → Option (List ℕ) → Table → Type 0
+StoppedAtLongLine s start text held written table =
+    (done : List (List ℕ)) × (rest : Option (List ℕ)) × Answered s start text rest held written table done
+    × IfTold rest BeginsWithLongLine
+
+-- Memory ran out in a line, or behind it: all lines before it were answered, and it changed nothing.
+abbrev pub StoppedForMemory : Setup → Table → Option (List ℕ) → AtHand → Option (List ℕ) → Option (List ℕ) → Table → Type 0
+StoppedForMemory s start text hand held written table =
+    (done : List (List ℕ)) × (rest : Option (List ℕ)) × Answered s start text rest held written table done
+    × (IsPartOfLine rest hand.left hand.line ⊎ GivesLine rest hand.left hand.line)
+
+-- A front part of bytes was written, and not all of them.
+abbrev pub WritesPart : Option (List ℕ) → Option (List ℕ) → List ℕ → Type 0
+WritesPart old new bytes = (count : ℕ) × (count < length bytes) × Appends old new (take count bytes)
+
+-- A reply was not written whole: all lines before its line were answered, a front part of the reply was written, and
+-- the table is the one after its line.
+abbrev pub StoppedWriting : Setup → Table → Option (List ℕ) → AtHand → Option (List ℕ) → Option (List ℕ) → Table → Type 0
+StoppedWriting s start text hand held written table =
+    (done : List (List ℕ)) × (count : ℕ) × GivesLines text hand.left (done ++ hand.line ∷ []) × AllShort (done ++ hand.line ∷ [])
+    × (count < length (line_answer s (answer s start done).1 hand.line).0)
+    × Appends held written ((answer s start done).0 ++ take count (line_answer s (answer s start done).1 hand.line).0)
+    × (table ≡ (answer s start (done ++ hand.line ∷ [])).1)
+
+-- what stands after each fault
+abbrev pub StandsAfter : RunFault → Setup → Table → Option (List ℕ) → AtHand → Option (List ℕ) → Option (List ℕ) → Table → Type 0
+StandsAfter Read s start text hand held written table = StoppedReading s start text hand held written table
+StandsAfter Turns s start text hand held written table = StoppedReading s start text hand held written table
+StandsAfter LongLine s start text hand held written table = StoppedAtLongLine s start text held written table
+StandsAfter Memory s start text hand held written table = StoppedForMemory s start text hand held written table
+StandsAfter Write s start text hand held written table = StoppedWriting s start text hand held written table
+
+-- the answer is that the source failed
+abbrev pub is_read : {X : Type 0} → Result X RunFault → Bool
+is_read (Err Read) = true
+is_read (Err Write) = false
+is_read (Err Memory) = false
+is_read (Err Turns) = false
+is_read (Err LongLine) = false
+is_read (Ok x) = false
+
+-- the answer is that the sink failed
+abbrev pub is_write : {X : Type 0} → Result X RunFault → Bool
+is_write (Err Write) = true
+is_write (Err Read) = false
+is_write (Err Memory) = false
+is_write (Err Turns) = false
+is_write (Err LongLine) = false
+is_write (Ok x) = false
+
+-- the fault of a run that a fault of its lines is
+abbrev pub run_fault_of : LineFault → RunFault
+run_fault_of line_faults.Read = Read
+run_fault_of line_faults.Memory = Memory
+run_fault_of line_faults.Turns = Turns
+run_fault_of line_faults.LongLine = LongLine

@@ -1,0 +1,60 @@
+-- What a whole session answers.
+use Rattle.std.specs.Prelude.{◌≡◌, ℕ, Bool, true, false, List, Option, Some, Result, Ok, Err}
+use Rattle.std.specs.Str.Lines.{lines}
+use Rattle.std.specs.Io.KnownBytes.{Appends, Keeps}
+use Rattle.dep_index.specs.Table.{Table}
+use Rattle.dep_index.specs.Catalogue.{modules_of}
+use Rattle.dep_index.specs.Calls.{opening}
+use Rattle.modprobe.specs.declared.fault.ServeFault.{ServeFault}
+use Rattle.modprobe.specs.declared.fault.ServeFault.TheVariants as serve_fault
+use Rattle.modprobe.specs.declared.fault.RunFault.{RunFault}
+use Rattle.modprobe.specs.Lines.{AtHand, IfTold}
+use Rattle.modprobe.specs.Session.{Setup, answer}
+use Rattle.modprobe.specs.SetupInput.{setup_of, Refuses, SetupStops}
+use Rattle.modprobe.specs.Run.{AllShort, StandsAfter, is_read, is_write}
+use Rattle.modprobe.specs.ForProofs.{is_read_code}
+
+-- the opening table of a setup: every module is absent, and nothing is held
+abbrev pub opening_of : Setup → ℕ → Table
+opening_of s workers = opening (modules_of s.catalogue) workers
+
+-- The input has a setup, all lines of its session are short, and what was written grew by the answer to them.
+abbrev pub AnswersInput : ℕ → List ℕ → Option (List ℕ) → Option (List ℕ) → Type 0
+AnswersInput workers input held written =
+    (s : Setup) × (session : List (List ℕ)) × (setup_of input ≡ Ok (s, session)) × AllShort session
+    × Appends held written (answer s (opening_of s workers) session).0
+
+-- The input has a setup, and its session stopped as a run does.
+abbrev pub StopsInSession : ℕ → RunFault → List ℕ → Option (List ℕ) → Option (List ℕ) → Option (List ℕ) → Type 0
+StopsInSession workers fault input ungiven held written =
+    (s : Setup) × (session : List ℕ) × (setup_of input ≡ Ok (s, lines session))
+    × ((left : Option (List ℕ)) × (line : List ℕ) × (table : Table)
+    × StandsAfter fault s (opening_of s workers) (Some session) (record { left = left; ungiven = ungiven; line = line }) held written table)
+
+-- what stands after each fault: where the session has not begun, nothing was written
+abbrev pub ServeStands : ℕ → ServeFault → Option (List ℕ) → Option (List ℕ) → Option (List ℕ) → Option (List ℕ) → Type 0
+ServeStands workers (serve_fault.Setup fault) told ungiven held written =
+    Keeps held written × IfTold told (λ input. Refuses fault (setup_of input))
+    × ((line : List ℕ) × SetupStops fault.code told ungiven line)
+ServeStands workers (serve_fault.Run fault) told ungiven held written =
+    IfTold told (λ input. StopsInSession workers fault input ungiven held written)
+ServeStands workers serve_fault.Memory told ungiven held written = Keeps held written
+
+abbrev pub is_read_end : ServeFault → Bool
+is_read_end (serve_fault.Setup fault) = is_read_code fault.code
+is_read_end (serve_fault.Run fault) = is_read {X = Unit {0}} (Err fault)
+is_read_end serve_fault.Memory = false
+
+abbrev pub is_write_end : ServeFault → Bool
+is_write_end (serve_fault.Setup fault) = false
+is_write_end (serve_fault.Run fault) = is_write {X = Unit {0}} (Err fault)
+is_write_end serve_fault.Memory = false
+
+-- the answer is that the source failed, or the sink
+abbrev pub failed_reading : {X : Type 0} → Result X ServeFault → Bool
+failed_reading (Ok x) = false
+failed_reading (Err fault) = is_read_end fault
+
+abbrev pub failed_writing : {X : Type 0} → Result X ServeFault → Bool
+failed_writing (Ok x) = false
+failed_writing (Err fault) = is_write_end fault

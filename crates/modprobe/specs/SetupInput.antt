@@ -1,0 +1,70 @@
+-- What an input is: its sections, the setup that they say, and the lines of its session.
+use Rattle.std.specs.Prelude.{◌≡◌, ℕ, List, map, Option, Some, None, ⊤, Result, Ok, Err}
+use Rattle.std.specs.Str.Lines.{lines}
+use Rattle.dep_index.specs.Text.{Line, cut_lines}
+use Rattle.dep_index.specs.Catalogue.{Description, Refusal, bad, duplicate, twice_exported, too_many, catalogue_of}
+use Rattle.modprobe.specs.declared.fault.SetupCode.{SetupCode}
+use Rattle.modprobe.specs.declared.fault.SetupCode.TheVariants.{C1, C2, C3, C4, B1, Read, Memory, Turns, LongLine}
+use Rattle.modprobe.specs.declared.fault.SetupFault.{SetupFault}
+use Rattle.modprobe.specs.Lines.{IsPartOfLine}
+use Rattle.modprobe.specs.Session.{Setup}
+use Rattle.modprobe.specs.declared.section.Section.{Section}
+use Rattle.modprobe.specs.Sections.{Parts, no_parts, Stopped, early, too_long, sections, GoesOn}
+
+-- why an input has no setup: its sections stop, or the catalogue has a fault at a line of its text
+pub data SetupRefusal : Type 0 where
+  stopped : Stopped → SetupRefusal
+  in_catalogue : Refusal → ℕ → SetupRefusal
+
+abbrev pub with_catalogue : Parts → Result (List Description) (Refusal × ℕ) → Result Setup SetupRefusal
+with_catalogue p (Err e) = Err (in_catalogue e.0 e.1)
+with_catalogue p (Ok modules) =
+    Ok (record { catalogue = modules; dep_text = p.dep_text; alias_text = p.alias_text; conf_text = p.conf_text })
+
+-- the setup that the texts say
+abbrev pub setup_for : Parts → Result Setup SetupRefusal
+setup_for p = with_catalogue p (catalogue_of p.catalogue_text)
+
+abbrev pub with_session : List Line → Result Setup SetupRefusal → Result (Setup × List (List ℕ)) SetupRefusal
+with_session session (Err e) = Err e
+with_session session (Ok s) = Ok (s, map (λ (line : Line). line.text) session)
+
+abbrev pub of_sections : Result (Parts × List Line) Stopped → Result (Setup × List (List ℕ)) SetupRefusal
+of_sections (Err why) = Err (stopped why)
+of_sections (Ok x) = with_session x.1 (setup_for x.0)
+
+-- the setup of an input and the lines of its session, or why it has none
+abbrev pub setup_of : List ℕ → Result (Setup × List (List ℕ)) SetupRefusal
+setup_of input = of_sections (sections None no_parts (cut_lines input))
+
+-- the setup of the old text, whose session is the new text
+abbrev pub GivesSetup : Option (List ℕ) → Option (List ℕ) → Setup → Type 0
+GivesSetup None new s = ⊤
+GivesSetup (Some old) None s = ⊥
+GivesSetup (Some old) (Some new) s = setup_of old ≡ Ok (s, lines new)
+
+-- a code that stands for a refusal of the input, and the line that is told; the other codes say nothing of the input
+abbrev pub IsRefusal : SetupCode → Option ℕ → Result (Setup × List (List ℕ)) SetupRefusal → Type 0
+IsRefusal C1 line s = (n : ℕ) × (line ≡ Some n) × (s ≡ Err (in_catalogue bad n))
+IsRefusal C2 line s = (n : ℕ) × (line ≡ Some n) × (s ≡ Err (in_catalogue duplicate n))
+IsRefusal C3 line s = (n : ℕ) × (line ≡ Some n) × (s ≡ Err (in_catalogue twice_exported n))
+IsRefusal C4 line s = (n : ℕ) × (line ≡ Some n) × (s ≡ Err (in_catalogue too_many n))
+IsRefusal B1 line s = (line ≡ Some 1) × (s ≡ Err (stopped early))
+IsRefusal LongLine line s = (line ≡ None) × (s ≡ Err (stopped too_long))
+IsRefusal Read line s = line ≡ None
+IsRefusal Memory line s = line ≡ None
+IsRefusal Turns line s = line ≡ None
+
+abbrev pub Refuses : SetupFault → Result (Setup × List (List ℕ)) SetupRefusal → Type 0
+Refuses fault s = IsRefusal fault.code fault.line s
+
+-- the sections of the text go on in the rest: no line before it stopped them, or began the session
+abbrev pub GoesOnIn : Option (List ℕ) → Option (List ℕ) → Type 0
+GoesOnIn text rest = (current : Option Section) × (parts : Parts) × GoesOn text rest current parts
+
+-- The source failed, or was read too often, in a line of the sections: no line before it stopped them, and all that the
+-- source gave of it is in hand, with no end of a line.
+abbrev pub SetupStops : SetupCode → Option (List ℕ) → Option (List ℕ) → List ℕ → Type 0
+SetupStops Read text ungiven line = (rest : Option (List ℕ)) × GoesOnIn text rest × IsPartOfLine rest ungiven line
+SetupStops Turns text ungiven line = (rest : Option (List ℕ)) × GoesOnIn text rest × IsPartOfLine rest ungiven line
+SetupStops _ text ungiven line = ⊤

@@ -1,0 +1,24 @@
+//! A session over a table of modules: sections and command lines in, replies out.
+#![tactic(auto)]
+
+mod answer;
+mod command;
+mod device;
+mod fault;
+mod lines;
+mod refusal;
+mod reply;
+mod section;
+mod service;
+mod session;
+mod setup;
+
+pub use device::{Failed, FromRead, FromWrite, Sink, Source};
+pub use fault::{RunFault, ServeFault, SetupCode, SetupFault};
+pub use lines::{Ending, LineFault, Lines};
+pub use service::{TURNS, serve};
+pub use session::run;
+pub use setup::{Setup, read_setup};
+
+#[cfg(test)]
+mod tests;

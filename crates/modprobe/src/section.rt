@@ -1,0 +1,122 @@
+//! The sections of an input before its session.
+ghost use Rattle.std.specs.Prelude.{◌≡◌, ◌++◌, false, OnOk, IfOk, IfErr, None};
+ghost use Rattle.modprobe.specs.Lines.{bytes_left, IfTold};
+ghost use Rattle.modprobe.specs.Sections.{section_of, no_parts, add_bytes, sections};
+ghost use Rattle.modprobe.specs.SetupInput.{SetupStops};
+ghost use Rattle.modprobe.specs.ForProofs.{is_session, parts_of, GivesSections, StopsAs, HasLine, is_setup_read};
+
+use crate::device::Source;
+use crate::fault::{SetupCode, SetupFault};
+use crate::lines::Lines;
+use std::alloc::{AllocError, Global};
+
+/// A section of the input.
+#[derive(Clone, Copy, Drop)]
+pub(crate) enum Section {
+    Catalogue,
+    Dep,
+    Alias,
+    Conf,
+    Session,
+}
+
+fn section_of(line: &[u8]) -> Option<Section>
+    ensures { result ≡ section_of line.now }
+{
+    if line == b"%catalogue".as_slice() {
+        Some(Section::Catalogue)
+    } else if line == b"%dep".as_slice() {
+        Some(Section::Dep)
+    } else if line == b"%alias".as_slice() {
+        Some(Section::Alias)
+    } else if line == b"%conf".as_slice() {
+        Some(Section::Conf)
+    } else if line == b"%session".as_slice() {
+        Some(Section::Session)
+    } else {
+        None
+    }
+}
+
+fn is_session(section: Section) -> bool
+    ensures { result ≡ is_session section }
+{
+    matches!(section, Section::Session)
+}
+
+/// The texts of the sections, each joined of all sections of its kind.
+#[derive(Drop)]
+pub(crate) struct Texts {
+    pub(crate) catalogue: Vec<u8>,
+    pub(crate) dep: Vec<u8>,
+    pub(crate) alias: Vec<u8>,
+    pub(crate) conf: Vec<u8>,
+}
+
+impl Texts {
+    fn new(alloc: Global) -> Texts
+        ensures { parts_of result ≡ no_parts }
+    {
+        Texts {
+            catalogue: Vec::new(alloc),
+            dep: Vec::new(alloc),
+            alias: Vec::new(alloc),
+            conf: Vec::new(alloc),
+        }
+    }
+
+    fn push(&mut self, section: Section, bytes: &[u8]) -> Result<(), AllocError>
+        ensures { OnOk result (parts_of self.new ≡ add_bytes section bytes.now (parts_of self.old)) }
+    {
+        match section {
+            Section::Catalogue => self.catalogue.extend_from_slice(bytes),
+            Section::Dep => self.dep.extend_from_slice(bytes),
+            Section::Alias => self.alias.extend_from_slice(bytes),
+            Section::Conf => self.conf.extend_from_slice(bytes),
+            Section::Session => Ok(()),
+        }
+    }
+
+    /// Adds a line, with its end as it stands.
+    fn push_line(&mut self, section: Section, line: &[u8], ending: &[u8]) -> Result<(), AllocError>
+        ensures { OnOk result (parts_of self.new ≡ add_bytes section (line.now ++ ending.now) (parts_of self.old)) }
+    {
+        self.push(section, line)?;
+        self.push(section, ending)
+    }
+}
+
+/// Reads the sections, up to the first `%session` line or the end.
+pub(crate) fn read_texts<R: Source>(
+    alloc: Global,
+    lines: &mut Lines<'_, R>,
+) -> Result<Texts, SetupFault>
+    requires { R.has_failed lines.old.reader.now ≡ false }
+    ensures same_reader { lines.new.reader.ghost_name ≡ lines.old.reader.ghost_name }
+    ensures sections { IfOk result (λ texts. GivesSections (bytes_left R.remaining lines.old) (bytes_left R.remaining lines.new) (parts_of texts)) }
+    ensures refused { IfErr result (λ fault. IfTold (bytes_left R.remaining lines.old) (λ text. StopsAs fault.code text)) }
+    ensures stops { IfErr result (λ fault. SetupStops fault.code (bytes_left R.remaining lines.old) (R.remaining lines.new.reader.now) lines.new.line.items) }
+    ensures line { IfErr result (λ fault. HasLine fault) }
+    ensures read { R.has_failed lines.new.reader.now ≡ is_setup_read result }
+    ensures turns { IfErr result (λ fault. fault.code ≡ SetupCode.Turns → lines.new.turns ≡ 0) }
+{
+    let mut texts = Texts::new(alloc);
+    let mut current = None;
+    while lines.next_line()? {
+        if let Some(section) = section_of(lines.line()) {
+            if is_session(section) {
+                return Ok(texts);
+            }
+            current = Some(section);
+        } else {
+            let Some(section) = current else {
+                return Err(SetupFault {
+                    code: SetupCode::B1,
+                    line: Some(1),
+                });
+            };
+            texts.push_line(section, lines.line(), lines.ending())?;
+        }
+    }
+    Ok(texts)
+}

@@ -1,0 +1,64 @@
+//! A whole session: the sections of the input, and the session over an opening table.
+ghost use Rattle.std.specs.Prelude.{◌≡◌, ◌≤◌, false, OnOk, IfErr};
+ghost use Rattle.modprobe.specs.Lines.{bytes_left, IfTold};
+ghost use Rattle.modprobe.specs.Serve.{AnswersInput, ServeStands, failed_reading, failed_writing};
+
+use crate::device::{Sink, Source};
+use crate::fault::ServeFault;
+use crate::lines::{Buffers, Lines};
+use crate::session::run;
+use crate::setup::read_setup;
+use seq_table::Table;
+use std::alloc::Global;
+
+/// How often a session may read.
+pub const TURNS: u64 = 16_777_216;
+
+/// Reads the sections, and answers the session over a table in which every module is absent.
+fn serve_lines<R: Source, W: Sink>(
+    alloc: Global,
+    workers: usize,
+    lines: &mut Lines<'_, R>,
+    writer: &mut W,
+) -> Result<(), ServeFault>
+    requires workers { workers ≤ 64 }
+    requires reader_works { R.has_failed lines.old.reader.now ≡ false }
+    requires writer_works { W.has_failed writer.old ≡ false }
+    ensures answered { OnOk result (IfTold (bytes_left R.remaining lines.old) (λ input. AnswersInput workers input (W.contents writer.old) (W.contents writer.new))) }
+    ensures stands { IfErr result (λ fault. ServeStands workers fault (bytes_left R.remaining lines.old) (R.remaining lines.new.reader.now) (W.contents writer.old) (W.contents writer.new)) }
+    ensures read { R.has_failed lines.new.reader.now ≡ failed_reading result }
+    ensures write { W.has_failed writer.new ≡ failed_writing result }
+    ensures same_reader { lines.new.reader.ghost_name ≡ lines.old.reader.ghost_name }
+{
+    let setup = read_setup(alloc, lines)?;
+    let mut table = Table::new(alloc, setup.catalogue(), workers)?;
+    run(alloc, &setup, lines, writer, &mut table)?;
+    Ok(())
+}
+
+/// Answers a whole input: reads its sections, makes a table of so many workers in which every module is absent, and
+/// answers the lines of its session. `Setup`: the input has no setup, or could not be read up to its session; nothing
+/// is written then. `Run`: the session stopped, as `run` says. `Memory`: there is none for the lines or the table, and
+/// nothing is written. It reads 16,777,216 times at most.
+pub fn serve<R: Source, W: Sink>(
+    alloc: Global,
+    workers: usize,
+    reader: &mut R,
+    writer: &mut W,
+) -> Result<(), ServeFault>
+    requires workers { workers ≤ 64 }
+    requires reader_works { R.has_failed reader.old ≡ false }
+    requires writer_works { W.has_failed writer.old ≡ false }
+    ensures answered { OnOk result (IfTold (R.remaining reader.old) (λ input. AnswersInput workers input (W.contents writer.old) (W.contents writer.new))) }
+    ensures stands { IfErr result (λ fault. ServeStands workers fault (R.remaining reader.old) (R.remaining reader.new) (W.contents writer.old) (W.contents writer.new)) }
+    ensures read { R.has_failed reader.new ≡ failed_reading result }
+    ensures write { W.has_failed writer.new ≡ failed_writing result }
+{
+    let buffers = Buffers::new(alloc)?;
+    let mut lines = Lines::over(buffers, reader, TURNS);
+    let result = serve_lines(alloc, workers, &mut lines, writer);
+    let reader = lines.into_reader();
+    // No effect at run time. The proof reads what the reader is left as from this use.
+    let _ = &*reader;
+    result
+}
