@@ -23,7 +23,7 @@ use Rattle.dep_index.specs.Exports.{Link, links_of, change_links}
 use Rattle.dep_index.specs.Faults.{IsRefused}
 use Rattle.dep_index.proofs.ExportLemmas.{linked, change_linked, links_of-last}
 
-list_any-map : {X Y : Type 0} (p : Y → Bool) (f : X → Y) (xs : List X) → list_any p (map f xs) ≡ list_any (λ x. p (f x)) xs
+pub list_any-map : {X Y : Type 0} (p : Y → Bool) (f : X → Y) (xs : List X) → list_any p (map f xs) ≡ list_any (λ x. p (f x)) xs
 list_any-map p f [] = refl
 list_any-map p f (x ∷ xs) = ap (λ t. p (f x) || t) (list_any-map p f xs)
 

@@ -10,6 +10,7 @@ pub mod WordLemmas
 pub mod LineLemmas
 pub mod BstrLemmas
 pub mod NumberLemmas
+pub mod NameLemmas
 pub mod SlotLemmas
 pub mod PairLemmas
 pub mod LinkLemmas
@@ -17,3 +18,4 @@ pub mod DirectiveLemmas
 pub mod ExportLemmas
 pub mod DraftLemmas
 pub mod NeedLemmas
+pub mod PathLemmas

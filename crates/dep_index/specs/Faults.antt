@@ -6,6 +6,8 @@ use Rattle.dep_index.specs.declared.faults.CatError.{CatError}
 use Rattle.dep_index.specs.declared.faults.CatError.TheVariants as cat
 use Rattle.dep_index.specs.declared.faults.Refused.{Refused}
 use Rattle.dep_index.specs.declared.faults.Refused.TheVariants as line
+use Rattle.dep_index.specs.declared.faults.DepRefused.{DepRefused}
+use Rattle.dep_index.specs.declared.faults.DepRefused.TheVariants as dep_line
 use Rattle.dep_index.specs.declared.faults.DepError.{DepError}
 use Rattle.dep_index.specs.declared.faults.DepError.TheVariants as dep
 
@@ -38,3 +40,15 @@ fault_at line.Duplicate n = cat.Duplicate n
 fault_at line.TwiceExported n = cat.TwiceExported n
 fault_at line.TooMany n = cat.TooMany n
 fault_at line.Memory n = cat.Memory
+
+abbrev pub IsDepRefused : {A : Type 0} → DepRefused → Result A DepRefusal → Type 0
+IsDepRefused dep_line.NoColon read = read ≡ Err no_colon
+IsDepRefused dep_line.EmptyName read = read ≡ Err empty_name
+IsDepRefused dep_line.SecondLine read = read ≡ Err second_line
+IsDepRefused dep_line.Memory read = Unit {0}
+
+abbrev pub dep_fault_at : DepRefused → ℕ → DepError
+dep_fault_at dep_line.NoColon n = dep.NoColon n
+dep_fault_at dep_line.EmptyName n = dep.EmptyName n
+dep_fault_at dep_line.SecondLine n = dep.SecondLine n
+dep_fault_at dep_line.Memory n = dep.Memory

@@ -2,6 +2,7 @@
 ghost use Rattle.std.specs.Prelude.{◌≡◌};
 ghost use Rattle.std.specs.Option.{option_map};
 ghost use Rattle.dep_index.specs.Dependencies.{deps};
+ghost use Rattle.dep_index.specs.Pairs.{pairs_in};
 
 use crate::names::Name;
 use indexmap::IndexMap;
@@ -26,6 +27,13 @@ impl Model for DepIndex {
 }
 
 impl DepIndex {
+    /// The lines that were read.
+    pub(crate) fn new(lines: IndexMap<Vec<u8>, Vec<Name>>) -> DepIndex
+        ensures { result ≡ pairs_in lines.entries }
+    {
+        DepIndex { lines }
+    }
+
     /// The names that the name depends on, in the order of its line, repeats kept, or `None` where it has no line.
     /// The name is compared as it stands: names are kept in normal form.
     pub fn deps(&self, name: &[u8]) -> Option<&[Name]>

@@ -1,6 +1,6 @@
 //! Why a text is refused. What each fault says of a text stands in specs/Faults.antt.
 ghost use Rattle.std.specs.Prelude.{◌≡◌};
-ghost use Rattle.dep_index.specs.Faults.{fault_at};
+ghost use Rattle.dep_index.specs.Faults.{fault_at, dep_fault_at};
 
 use std::alloc::{AllocError, AllocFailed};
 
@@ -85,5 +85,48 @@ impl From<AllocError> for CatError {
 
     fn from(_error: AllocError) -> CatError {
         CatError::Memory
+    }
+}
+
+/// Why a line of a modules.dep text is refused.
+#[derive(Clone, Copy, Debug, PartialEq, Eq, Drop)]
+pub(crate) enum DepRefused {
+    NoColon,
+    EmptyName,
+    SecondLine,
+    Memory,
+}
+
+impl DepRefused {
+    /// The fault of a text in which the line of this number is refused.
+    pub(crate) fn at(self, line: usize) -> DepError
+        ensures { result ≡ dep_fault_at self line }
+    {
+        match self {
+            DepRefused::NoColon => DepError::NoColon { line },
+            DepRefused::EmptyName => DepError::EmptyName { line },
+            DepRefused::SecondLine => DepError::SecondLine { line },
+            DepRefused::Memory => DepError::Memory,
+        }
+    }
+}
+
+impl From<AllocError> for DepRefused {
+    ghost use Rattle.dep_index.specs.declared.faults.DepRefused.TheVariants.{Memory};
+
+    ghost from_gives = { λ _ e. e ≡ Memory };
+
+    fn from(_error: AllocError) -> DepRefused {
+        DepRefused::Memory
+    }
+}
+
+impl<T: Drop> From<AllocFailed<T>> for DepRefused {
+    ghost use Rattle.dep_index.specs.declared.faults.DepRefused.TheVariants.{Memory};
+
+    ghost from_gives = { λ _ e. e ≡ Memory };
+
+    fn from(_error: AllocFailed<T>) -> DepRefused {
+        DepRefused::Memory
     }
 }

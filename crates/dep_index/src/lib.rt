@@ -4,6 +4,7 @@
 mod calls;
 mod catalogue;
 mod catalogue_text;
+mod dep_text;
 mod dependencies;
 mod details;
 mod directives;
@@ -14,6 +15,7 @@ pub mod laws;
 mod names;
 mod needs;
 mod params;
+mod paths;
 pub mod reads;
 mod refusals;
 mod slots;
@@ -24,6 +26,7 @@ pub mod words;
 pub use calls::{Call, Reply};
 pub use catalogue::Catalogue;
 pub use catalogue_text::read_catalogue;
+pub use dep_text::read_dep;
 pub use dependencies::DepIndex;
 pub use faults::{CatError, DepError};
 pub use names::Name;
@@ -35,3 +38,6 @@ pub use refusals::{
 pub use slots::Slots;
 pub use states::ModuleState;
 pub use words::{Outcome, WordStep};
+
+#[cfg(test)]
+mod tests;

@@ -1,5 +1,6 @@
 -- What a configuration says: the lines of modprobe.d(5), joined, and what they say of a name.
-use Rattle.std.specs.Prelude.{ℕ, suc, ◌-◌, Bool, false, true, if◌then◌else◌, ◌&&◌, ◌||◌, ◌==◌, nat_le, List, [], ◌∷◌, ◌++◌, map, length, take, codes, slice_index, Option, Some, None}
+use Rattle.std.specs.Prelude.{◌≡◌, ℕ, ◌+◌, ◌-◌, Bool, false, true, if◌then◌else◌, ◌&&◌, ◌||◌, ◌==◌, nat_le, List, [], ◌∷◌, ◌++◌, map, length, take, codes, slice_index, Option, Some, None}
+use Rattle.std.specs.List.{list_any}
 use Rattle.std.specs.Str.{bytes_eq}
 use Rattle.std.specs.Str.Lines.{lines}
 use Rattle.dep_index.specs.Text.{normal_form}
@@ -20,22 +21,26 @@ abbrev pub joined_lines : ℕ → List (List ℕ) → List (ℕ × List ℕ)
 joined_lines number [] = []
 joined_lines number (line ∷ later) =
     if ends_with_backslash line
-    then onto_next number (take (length line - 1) line) (joined_lines (suc number) later)
-    else (number, line) ∷ joined_lines (suc number) later
+    then onto_next number (take (length line - 1) line) (joined_lines (number + 1) later)
+    else (number, line) ∷ joined_lines (number + 1) later
 
 -- the modules that a softdep line has loaded before and after its own, in the order of the line
 pub record SoftItems : Type 0 where
   pub pre : List (List ℕ)
   pub post : List (List ℕ)
 
--- what one joined line says; names are in normal form, the words of options as they stand
+-- what a line says of its module; the words of options as they stand
+pub data Line : Type 0 where
+  blacklist : Line
+  install : Line
+  remove : Line
+  options : List (List ℕ) → Line
+  softdep : SoftItems → Line
+
+-- what one joined line says: an alias, or something of a module by its name, in normal form
 pub data Entry : Type 0 where
   alias : Alias → Entry
-  blacklist : List ℕ → Entry
-  install : List ℕ → Entry
-  remove : List ℕ → Entry
-  options : List ℕ → List (List ℕ) → Entry
-  softdep : List ℕ → SoftItems → Entry
+  named : List ℕ → Line → Entry
 
 -- the words behind one mark, up to the other, as names
 abbrev pub softdep_items : List ℕ → List ℕ → Bool → List (List ℕ) → List (List ℕ)
@@ -56,17 +61,24 @@ abbrev pub alias_entry : Option Alias → Option Entry
 alias_entry None = None
 alias_entry (Some found) = Some (alias found)
 
--- the entry that the words of a line are, by its first word; of install and remove the command is not kept
+-- what a line of more than two words says by its first word; of install and remove the command is not kept
+abbrev pub line_from : List ℕ → List (List ℕ) → Option Line
+line_from w ws =
+    if bytes_eq w (codes "blacklist") then Some blacklist
+    else (if bytes_eq w (codes "install") then Some install
+    else (if bytes_eq w (codes "remove") then Some remove
+    else (if bytes_eq w (codes "options") then Some (options ws)
+    else (if bytes_eq w (codes "softdep") then Some (softdep (soft_items ws)) else None))))
+
+abbrev pub named_entry : List ℕ → Option Line → Option Entry
+named_entry name None = None
+named_entry name (Some line) = Some (named (normal_form name) line)
+
+-- the entry that the words of a line are
 abbrev pub entry_of : List (List ℕ) → Option Entry
-entry_of (w ∷ name ∷ []) = if bytes_eq w (codes "blacklist") then Some (blacklist (normal_form name)) else None
+entry_of (w ∷ name ∷ []) = if bytes_eq w (codes "blacklist") then Some (named (normal_form name) blacklist) else None
 entry_of (w ∷ name ∷ x ∷ xs) =
-    if bytes_eq w (codes "alias") then alias_entry (alias_of (w ∷ name ∷ x ∷ xs))
-    else (if bytes_eq w (codes "blacklist") then Some (blacklist (normal_form name))
-    else (if bytes_eq w (codes "install") then Some (install (normal_form name))
-    else (if bytes_eq w (codes "remove") then Some (remove (normal_form name))
-    else (if bytes_eq w (codes "options") then Some (options (normal_form name) (x ∷ xs))
-    else (if bytes_eq w (codes "softdep") then Some (softdep (normal_form name) (soft_items (x ∷ xs)))
-    else None)))))
+    if bytes_eq w (codes "alias") then alias_entry (alias_of (w ∷ name ∷ x ∷ xs)) else named_entry name (line_from w (x ∷ xs))
 entry_of _ = None
 
 -- the entries of a configuration text in file order, and the numbers of its lines without effect
@@ -77,62 +89,127 @@ entries_of_text text = entries_of entry_of (joined_lines 1 (lines text))
 abbrev pub aliases_in : List Entry → List Alias
 aliases_in [] = []
 aliases_in (alias found ∷ later) = found ∷ aliases_in later
-aliases_in (_ ∷ later) = aliases_in later
+aliases_in (named own line ∷ later) = aliases_in later
 
--- the words of all options lines of a name, in file order
-abbrev pub options_in : List Entry → List ℕ → List (List ℕ)
-options_in [] name = []
-options_in (options own ws ∷ later) name = if bytes_eq name own then ws ++ options_in later name else options_in later name
-options_in (_ ∷ later) name = options_in later name
+-- the lines of a name, in file order
+abbrev pub lines_of : List Entry → List ℕ → List Line
+lines_of [] name = []
+lines_of (alias found ∷ later) name = lines_of later name
+lines_of (named own line ∷ later) name = if bytes_eq name own then line ∷ lines_of later name else lines_of later name
 
--- the items of the first softdep line of a name
-abbrev pub softdep_in : List Entry → List ℕ → Option SoftItems
-softdep_in [] name = None
-softdep_in (softdep own items ∷ later) name = if bytes_eq name own then Some items else softdep_in later name
-softdep_in (_ ∷ later) name = softdep_in later name
+-- the words of all options lines, in file order
+abbrev pub option_words : List Line → List (List ℕ)
+option_words [] = []
+option_words (options ws ∷ later) = ws ++ option_words later
+option_words (_ ∷ later) = option_words later
 
--- whether there is an install line of a name
-abbrev pub is_install_in : List Entry → List ℕ → Bool
-is_install_in [] name = false
-is_install_in (install own ∷ later) name = bytes_eq name own || is_install_in later name
-is_install_in (_ ∷ later) name = is_install_in later name
+-- the items of the first softdep line
+abbrev pub first_softdep : List Line → Option SoftItems
+first_softdep [] = None
+first_softdep (softdep items ∷ later) = Some items
+first_softdep (_ ∷ later) = first_softdep later
 
--- whether there is a remove line of a name
-abbrev pub is_remove_in : List Entry → List ℕ → Bool
-is_remove_in [] name = false
-is_remove_in (remove own ∷ later) name = bytes_eq name own || is_remove_in later name
-is_remove_in (_ ∷ later) name = is_remove_in later name
+abbrev pub is_install : Line → Bool
+is_install install = true
+is_install _ = false
 
--- whether there is a blacklist line of a name
-abbrev pub is_blacklisted_in : List Entry → List ℕ → Bool
-is_blacklisted_in [] name = false
-is_blacklisted_in (blacklist own ∷ later) name = bytes_eq name own || is_blacklisted_in later name
-is_blacklisted_in (_ ∷ later) name = is_blacklisted_in later name
+abbrev pub is_remove : Line → Bool
+is_remove remove = true
+is_remove _ = false
 
--- what a configuration says: its aliases in file order, what it says of each name (in normal form), and the
--- numbers of its lines without effect
+abbrev pub is_blacklist : Line → Bool
+is_blacklist blacklist = true
+is_blacklist _ = false
+
+-- what all lines of one name say: the words of its options lines in file order, the items of its first softdep
+-- line, and whether there is an install, a remove, a blacklist line
+pub record ModuleSettings : Type 0 where
+  pub options : List (List ℕ)
+  pub softdep : Option SoftItems
+  pub has_install : Bool
+  pub has_remove : Bool
+  pub is_blacklisted : Bool
+
+-- what given lines say
+abbrev pub settings_by : List Line → ModuleSettings
+settings_by ls =
+    record {
+      options = option_words ls;
+      softdep = first_softdep ls;
+      has_install = list_any is_install ls;
+      has_remove = list_any is_remove ls;
+      is_blacklisted = list_any is_blacklist ls;
+    }
+
+-- a softdep line counts where there was none
+abbrev pub or_first : Option SoftItems → SoftItems → Option SoftItems
+or_first None items = Some items
+or_first (Some first) items = Some first
+
+-- one line more
+abbrev pub with_line : ModuleSettings → Line → ModuleSettings
+with_line settings blacklist = record settings { is_blacklisted = true }
+with_line settings install = record settings { has_install = true }
+with_line settings remove = record settings { has_remove = true }
+with_line settings (options ws) = record settings { options = settings.options ++ ws }
+with_line settings (softdep items) = record settings { softdep = or_first settings.softdep items }
+
+-- modules by their names, each with what its lines say, and a line more
+abbrev pub with_named : List (List ℕ × ModuleSettings) → List ℕ → Line → List (List ℕ × ModuleSettings)
+with_named [] name line = (name, with_line (settings_by []) line) ∷ []
+with_named (known ∷ later) name line =
+    if bytes_eq name known.0 then (known.0, with_line known.1 line) ∷ later else known ∷ with_named later name line
+
+abbrev pub modules_from : List (List ℕ × ModuleSettings) → List Entry → List (List ℕ × ModuleSettings)
+modules_from found [] = found
+modules_from found (alias own ∷ later) = modules_from found later
+modules_from found (named name line ∷ later) = modules_from (with_named found name line) later
+
+-- what a configuration says: its aliases in file order, the modules that its lines name, in the order of their
+-- first lines, each with what its lines say, and the numbers of its lines without effect
 pub record Configuration : Type 0 where
   pub aliases : List Alias
-  pub options : List ℕ → List (List ℕ)
-  pub softdep : List ℕ → Option SoftItems
-  pub has_install : List ℕ → Bool
-  pub has_remove : List ℕ → Bool
-  pub is_blacklisted : List ℕ → Bool
+  pub modules : List (List ℕ × ModuleSettings)
   pub skipped : List ℕ
 
--- what entries say: each look-up searches their list
 abbrev pub configuration_for : Entries Entry → Configuration
 configuration_for read =
     record {
       aliases = aliases_in read.entries;
-      options = options_in read.entries;
-      softdep = softdep_in read.entries;
-      has_install = is_install_in read.entries;
-      has_remove = is_remove_in read.entries;
-      is_blacklisted = is_blacklisted_in read.entries;
+      modules = modules_from [] read.entries;
       skipped = read.skipped;
     }
 
 -- the meaning of a configuration text
 abbrev pub configuration_of : List ℕ → Configuration
 configuration_of text = configuration_for (entries_of_text text)
+
+-- what the lines of a name say; a name that no line has is one without lines
+abbrev pub settings_in : List (List ℕ × ModuleSettings) → List ℕ → ModuleSettings
+settings_in [] name = settings_by []
+settings_in (known ∷ later) name = if bytes_eq name known.0 then known.1 else settings_in later name
+
+abbrev pub settings_of : Configuration → List ℕ → ModuleSettings
+settings_of configuration name = settings_in configuration.modules name
+
+-- the look-ups of a name in normal form
+abbrev pub options_of : Configuration → List ℕ → List (List ℕ)
+options_of configuration name = (settings_of configuration name).options
+
+abbrev pub softdep_of : Configuration → List ℕ → Option SoftItems
+softdep_of configuration name = (settings_of configuration name).softdep
+
+abbrev pub has_install_line : Configuration → List ℕ → Bool
+has_install_line configuration name = (settings_of configuration name).has_install
+
+abbrev pub has_remove_line : Configuration → List ℕ → Bool
+has_remove_line configuration name = (settings_of configuration name).has_remove
+
+abbrev pub is_blacklisted : Configuration → List ℕ → Bool
+is_blacklisted configuration name = (settings_of configuration name).is_blacklisted
+
+-- What a configuration says of a name is what the lines of that name say, in file order.
+abbrev pub SettingsAreOfLines : Type 0
+SettingsAreOfLines =
+    (read : Entries Entry) (name : List ℕ)
+    → settings_of (configuration_for read) name ≡ settings_by (lines_of read.entries name)

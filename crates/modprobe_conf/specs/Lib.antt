@@ -1,1 +1,2 @@
 pub mod Configuration
+pub mod ForProofs

@@ -1,6 +1,19 @@
 //! The configuration of modprobe(8): the lines of modprobe.d(5).
 #![tactic(auto)]
 
+mod conf;
+mod entry;
+mod joined_lines;
+mod laws;
+mod name_index;
+mod settings;
 mod softdep;
+mod word;
 
+pub use conf::{Conf, read_conf};
+pub use laws::settings_are_of_lines;
 pub use softdep::Softdep;
+pub use word::Word;
+
+#[cfg(test)]
+mod tests;

@@ -2,8 +2,8 @@ ghost use Rattle.std.specs.Prelude.{◌≡◌};
 ghost use Rattle.dep_index.specs.Refusals.{begin_drain_refusal, begin_remove_refusal};
 
 use dep_index::{
-    BeginDrainError, BeginLoadError, BeginRemoveError, Call, EndLoadError, EndRemoveError,
-    ModuleState, Slots, reads,
+    BeginDrainError, BeginLoadError, BeginRemoveError, Call, Catalogue, EndLoadError,
+    EndRemoveError, ModuleState, Slots, reads,
 };
 use root_row::{BookCall, BookSeat, Row};
 use std::alloc::{AllocError, Global};
@@ -34,6 +34,7 @@ impl Book {
     ghost use Rattle.std.specs.Prelude.{◌≡◌, ◌<◌, length, slice_index, IfOk};
     ghost use Rattle.root_row.specs.Made.{new_book};
     ghost use Rattle.dep_index.specs.Calls.{book_refusal, unload_refusal};
+    ghost use Rattle.dep_index.specs.Catalogue.{modules_of};
     ghost use Rattle.dep_index.specs.Refusals.{reply_of, refusal_of, begin_load_refusal, end_load_refusal, begin_drain_refusal, begin_remove_refusal, end_remove_refusal};
     ghost use Rattle.root_row.specs.World.{slots};
     ghost use Rattle.root_row.specs.Seats.{IsOf, KnowsTable};
@@ -41,14 +42,16 @@ impl Book {
     ghost use Rattle.root_row.specs.BookSteps.{BookAnswered};
 
     /// The book of a new row, over the row's catalogue. It reserves the order: no later call takes memory.
-    pub fn new(alloc: Global, seat: BookSeat, catalogue: Slots) -> Result<Book, AllocError>
+    ///
+    /// Where memory is wanting the seat is given up.
+    pub fn new(alloc: Global, seat: BookSeat, catalogue: &Catalogue) -> Result<Book, AllocError>
         requires unused { seat ≡ new_book seat.row seat.view.world }
-        requires catalogue { catalogue ≡ seat.view.world.catalogue }
+        requires same { modules_of catalogue.now ≡ seat.view.world.catalogue }
         ensures { IfOk result (λ b. b ≡ seat) }
     {
-        let slots = catalogue.len();
-        let states = vec![in alloc; ModuleState::Absent; slots]?;
-        let order = Vec::with_capacity(alloc, slots)?;
+        let catalogue = catalogue.slots(alloc)?;
+        let states = vec![in alloc; ModuleState::Absent; catalogue.len()]?;
+        let order = Vec::with_capacity(alloc, catalogue.len())?;
         Ok(Book {
             seat,
             states,

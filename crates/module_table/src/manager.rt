@@ -7,8 +7,8 @@ use crate::book::Book;
 use crate::own_book::OwnBook;
 use crate::own_leaf::OwnLeaf;
 use dep_index::{
-    BeginDrainError, BeginLoadError, BeginRemoveError, EndLoadError, EndRemoveError, GetError,
-    ModuleState, PutError, Slots,
+    BeginDrainError, BeginLoadError, BeginRemoveError, Catalogue, EndLoadError, EndRemoveError,
+    GetError, ModuleState, PutError,
 };
 use root_row::{LeafSeat, ReadSeat, Row};
 use std::alloc::{AllocError, Global};
@@ -42,6 +42,7 @@ impl Model for Manager {
 
 impl Manager {
     ghost use Rattle.std.specs.Prelude.{◌≡◌, ◌<◌, ◌≤◌, ◌↔◌, All, IfOk, IsNone, if◌then◌else◌};
+    ghost use Rattle.dep_index.specs.Catalogue.{modules_of};
     ghost use Rattle.dep_index.specs.Words.{closed};
     ghost use Rattle.root_row.specs.World.{slots};
     ghost use Rattle.root_row.specs.Made.{new_reader, AreNew};
@@ -52,16 +53,16 @@ impl Manager {
     /// A manager over a catalogue, with a reader for each worker. Every module is Absent, and nothing is held.
     pub fn new(
         alloc: Global,
-        catalogue: Slots,
+        catalogue: &Catalogue,
         workers: usize,
     ) -> Result<(Manager, Vec<Reader>), AllocError>
         requires few_workers { workers < closed }
-        ensures world { IfOk result (λ r. r.0.world ≡ record { catalogue = catalogue; workers = workers }) }
+        ensures world { IfOk result (λ r. r.0.world ≡ record { catalogue = modules_of catalogue.now; workers = workers }) }
         ensures readers { IfOk result (λ r. AreNew (new_reader r.0.id r.0.world) workers r.1.items) }
         ensures own { IfOk result (λ r. All (IsOf r.0) r.1.items) }
     {
         let (row, leaf_seats, book_seat, read_seats) = Row::new(
-            alloc, &catalogue, workers, workers,
+            alloc, catalogue, workers, workers,
         )?;
         let book = Book::new(alloc, book_seat, catalogue)?;
         let row = Arc::new(alloc, row)?;

@@ -1,10 +1,9 @@
-ghost use Rattle.std.specs.Prelude.{◌≡◌, ◌<◌, IfOk, length};
+ghost use Rattle.std.specs.Prelude.{◌<◌};
 ghost use Rattle.root_row.specs.World.{slots};
 ghost use Rattle.root_row.specs.Seats.{IsOf};
 
 use crate::{Manager, OwnBook, OwnLeaf};
-use dep_index::{BeginRemoveError, GetError, ModuleState, PutError, Slots};
-use std::alloc::{AllocError, Global};
+use dep_index::{BeginRemoveError, GetError, ModuleState, PutError, read_catalogue};
 use std::process::Abort;
 use std::sync::{Mutex, Wait};
 use std::test::Fail;
@@ -14,14 +13,16 @@ use use_indicator::Reader;
 
 const TURNS: usize = 12_500;
 
-fn two_modules(alloc: Global) -> Result<Slots, AllocError>
-    ensures { IfOk result (λ catalogue. length catalogue ≡ 2) }
-{
-    let mut catalogue = Slots::new(alloc);
-    catalogue.push(Vec::new(alloc), false, false)?;
-    catalogue.push(Vec::from_slice(alloc, &[0])?, false, false)?;
-    Ok(catalogue)
-}
+/// A sound card and its PCM layer, which needs it.
+const CARD: &[u8] = b"module snd
+size 114688
+exports snd_card_new
+module snd-pcm
+size 143360
+exports snd_pcm_new
+needs snd_card_new
+param debug bool
+";
 
 fn load<R: Abort + Wait>(rt: &R, manager: &Manager) {
     assert_eq!(rt; manager.begin_load(rt, 0), Some(Ok(())));
@@ -66,10 +67,11 @@ fn end<R: Abort + Wait>(rt: &R, manager: &Manager) {
 
 #[test]
 fn a_module_is_used_and_removed(rt: HostRuntime) -> Result<(), Fail> {
-    let (manager, mut readers) = Manager::new(rt.alloc(), two_modules(rt.alloc())?, 2)?;
+    let (manager, mut readers) = Manager::new(rt.alloc(), &read_catalogue(rt.alloc(), CARD)?, 2)?;
     load(&rt, &manager);
     get_by_both(&rt, &manager);
     let mut reader = readers.pop().ok_or("no reader")?;
+    assert_eq!(rt; manager.slots(), 2);
     assert!(rt; manager.query(&mut reader, 0));
     put_and_remove(&rt, &manager);
     assert!(rt; !manager.query(&mut reader, 0));
@@ -141,7 +143,7 @@ fn remove_on_guards<R: Abort + Wait>(rt: &R, manager: &Manager) {
 
 #[test]
 fn guards_answer_as_the_manager_does(rt: HostRuntime) -> Result<(), Fail> {
-    let (manager, _readers) = Manager::new(rt.alloc(), two_modules(rt.alloc())?, 2)?;
+    let (manager, _readers) = Manager::new(rt.alloc(), &read_catalogue(rt.alloc(), CARD)?, 2)?;
     load_on_a_guard(&rt, &manager);
     use_on_guards(&rt, &manager);
     remove_on_guards(&rt, &manager);
@@ -218,8 +220,9 @@ fn change_and_ask<R: Threads + Wait + Sync>(rt: &R, manager: &Manager, reader: &
 
 #[test]
 fn threads_use_one_manager(rt: HostRuntime) -> Result<(), Fail> {
-    let (manager, mut readers) = Manager::new(rt.alloc(), two_modules(rt.alloc())?, 2)?;
+    let (manager, mut readers) = Manager::new(rt.alloc(), &read_catalogue(rt.alloc(), CARD)?, 2)?;
     let mut reader = readers.pop().ok_or("no reader")?;
+    assert_eq!(rt; manager.slots(), 2);
     change_and_ask(&rt, &manager, &mut reader);
     assert_eq!(rt; manager.held(&rt, 0, 0), Some(0));
     assert_eq!(rt; manager.held(&rt, 1, 1), Some(0));
@@ -241,7 +244,7 @@ fn on_scoped_threads<R: Threads + Wait + Sync>(rt: &R, manager: &Manager) {
 
 #[test]
 fn workers_on_scoped_threads(rt: HostRuntime) -> Result<(), Fail> {
-    let (manager, _readers) = Manager::new(rt.alloc(), two_modules(rt.alloc())?, 2)?;
+    let (manager, _readers) = Manager::new(rt.alloc(), &read_catalogue(rt.alloc(), CARD)?, 2)?;
     load(&rt, &manager);
     on_scoped_threads(&rt, &manager);
     assert_eq!(rt; manager.begin_remove(&rt, 0), Some(Ok(())));

@@ -2,7 +2,7 @@
 ghost use Rattle.std.specs.Prelude.{◌≡◌, ◌<◌, List, [], ◌++◌, length, All, IfOk};
 ghost use Rattle.dep_index.specs.Catalogue.{modules_of};
 ghost use Rattle.dep_index.specs.Words.{closed};
-ghost use Rattle.root_row.specs.Views.{Part, worker_of};
+ghost use Rattle.root_row.specs.Views.{Part, worker_of, reader_of};
 ghost use Rattle.root_row.specs.Seating.{first_member, other_members};
 ghost use Rattle.root_row.specs.Setting.{world_of, leaf_parts, reader_parts, new_view};
 ghost use Rattle.root_row.specs.Made.{AreNew, new_leaf, new_reader, new_book};
@@ -35,6 +35,7 @@ impl Row {
         ensures unused { IfOk result (λ r. All (λ s. s ≡ new_leaf r.0.id r.0.world (worker_of s.view)) r.1.items) }
         ensures book { IfOk result (λ r. r.2 ≡ new_book r.0.id r.0.world) }
         ensures readers { IfOk result (λ r. AreNew (new_reader r.0.id r.0.world) readers r.3.items) }
+        ensures new_readers { IfOk result (λ r. All (λ s. s ≡ new_reader r.0.id r.0.world (reader_of s.view)) r.3.items) }
     {
         let slots = catalogue.slots(alloc)?;
         Row::over(alloc, &slots, workers, readers)
@@ -53,6 +54,7 @@ impl Row {
         ensures unused { IfOk result (λ r. All (λ s. s ≡ new_leaf r.0.id r.0.world (worker_of s.view)) r.1.items) }
         ensures book { IfOk result (λ r. r.2 ≡ new_book r.0.id r.0.world) }
         ensures readers { IfOk result (λ r. AreNew (new_reader r.0.id r.0.world) readers r.3.items) }
+        ensures new_readers { IfOk result (λ r. All (λ s. s ≡ new_reader r.0.id r.0.world (reader_of s.view)) r.3.items) }
     {
         let slots = catalogue.len();
         let words = Vec::from_elem(alloc, CLOSED, slots + 1)?;

@@ -21,6 +21,7 @@ use Rattle.step_core.proofs.WholeSteps.{steps_are_right, starts_sound}
 use Rattle.step_core.specs.Machine.{start, step, step_refusal, State, Leaf, holder}
 use Rattle.step_core.specs.Shown.{shown, pending, writing, book_after}
 use Rattle.step_core.specs.Sound.{IsPlacedAt, IsSound}
+use Rattle.step_core.specs.Kept.{CanWrite}
 use Rattle.step_core.specs.StepLaw.{StepLaw}
 use Rattle.step_core.proofs.Shown.{rows_after-at}
 use Rattle.step_core.proofs.Lines.{shown_shaped}
@@ -42,7 +43,7 @@ pub exchange_below : (catalogue : List Module) (workers : ℕ) (s : State) (t : 
 exchange_below catalogue workers s t a x sound here is = (place_at catalogue workers s t a (Exchange x) sound here is).2
 
 -- a get that is about to write does not hold the slot too often
-pub write_room : (catalogue : List Module) (workers : ℕ) (s : State) (t : ℕ) (a : Activity) (w m : ℕ) → IsSound catalogue workers s → get_or s.threads t None ≡ Some a → a.line ≡ Write
+write_room : (catalogue : List Module) (workers : ℕ) (s : State) (t : ℕ) (a : Activity) (w m : ℕ) → IsSound catalogue workers s → get_or s.threads t None ≡ Some a → a.line ≡ Write
     → a.call ≡ Get w m → count_of s.written w m < 65535
 write_room catalogue workers s t a w m sound here is call =
     let place : IsPlacedAt s.locks s.written t a.call Write = place_at catalogue workers s t a Write sound here is in
@@ -112,7 +113,7 @@ word_small catalogue workers s m sound h =
     omega (arith, sound.word m h, word_in_small (state_of (shown s).book m) (holders (shown s).rows m) few)
 
 -- the order has room for a module whose load is about to be written
-pub order_room : (catalogue : List Module) (workers : ℕ) (s : State) (t : ℕ) (a : Activity) (m : ℕ) → IsSound catalogue workers s → get_or s.threads t None ≡ Some a → a.line ≡ Write
+order_room : (catalogue : List Module) (workers : ℕ) (s : State) (t : ℕ) (a : Activity) (m : ℕ) → IsSound catalogue workers s → get_or s.threads t None ≡ Some a → a.line ≡ Write
     → a.call ≡ BeginLoad m → length s.written.book.order < length s.written.book.states
 order_room catalogue workers s t a m sound here is call =
     let place : IsPlacedAt s.locks s.written t a.call Write = place_at catalogue workers s t a Write sound here is in
@@ -124,10 +125,16 @@ order_room catalogue workers s t a m sound here is call =
     order_fits (book_effect s.written.book (BeginLoad m)) (subst OrderIsExact book sound.lawful.order) in
     omega (arith, fits, length-append s.written.book.order (m ∷ []), length-set s.written.book.states m Loading)
 
--- the book has a state for each slot
-pub write_range : (catalogue : List Module) (workers : ℕ) (s : State) (t : ℕ) (a : Activity) → IsSound catalogue workers s → get_or s.threads t None ≡ Some a
-    → IsInRange (length s.written.book.states) workers a.call
-write_range catalogue workers s t a sound here = rw sound.shape.states ((sound.placed t a here).range)
+-- a thread at the line that writes can write
+pub can_write : (catalogue : List Module) (workers : ℕ) (s : State) (t : ℕ) (a : Activity) → IsSound catalogue workers s → get_or s.threads t None ≡ Some a → a.line ≡ Write
+    → CanWrite s.written a.call
+can_write catalogue workers s t a sound here is =
+    record {
+      range = rw (sound.shape.states, sound.shape.rows) ((sound.placed t a here).range);
+      slots = λ w h. sound.shape.row w (omega (arith, sound.shape.rows)) ∙ sym sound.shape.states;
+      count = λ w m call. write_room catalogue workers s t a w m sound here is call;
+      order = λ m call. order_room catalogue workers s t a m sound here is call;
+    }
 
 -- the machine begins sound, and shows the opening table
 pub sound_at_start : (catalogue : List Module) (workers threads calls : ℕ) (s : State) → workers < 4294967296 → s ≡ start catalogue workers threads calls

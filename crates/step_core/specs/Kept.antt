@@ -1,8 +1,12 @@
--- For proofs alone: what the machine's parts keep.
-use Rattle.std.specs.Prelude.{ℕ, ◌≤◌, List, length, map}
+-- For proofs alone: what the machine's parts keep, and what they need.
+use Rattle.std.specs.Prelude.{ℕ, ◌≡◌, ◌<◌, ◌≤◌, List, [], length, map, slice_index_or}
 use Rattle.std.specs.Global.{Vec}
 use Rattle.std.specs.Vec.{vec_capacity}
 use Rattle.dep_index.specs.declared.states.ModuleState.{ModuleState}
+use Rattle.dep_index.specs.declared.calls.Call.{Call}
+use Rattle.dep_index.specs.declared.calls.Call.TheVariants.{Get, BeginLoad}
+use Rattle.dep_index.specs.Table.{Table, count_of}
+use Rattle.dep_index.specs.Calls.{IsInRange}
 
 -- each worker's counts by slot
 abbrev pub rows_of : List (Vec ℕ) → List (List ℕ)
@@ -12,3 +16,11 @@ rows_of rows = map (λ row. row.items) rows
 pub record HasRoom (states : Vec ModuleState) (order : Vec ℕ) : Type 0 where
   pub few : length states.items ≤ 1024
   pub room : length states.items ≤ vec_capacity order
+
+-- what a write needs: slot and worker are there, a count stays short, and the order has room
+pub record CanWrite (written : Table) (call : Call) : Type 0 where
+  pub range : IsInRange (length written.book.states) (length written.rows) call
+  pub slots : (w : ℕ) → w < length written.rows
+      → length (slice_index_or written.rows w []) ≡ length written.book.states
+  pub count : (w m : ℕ) → call ≡ Get w m → count_of written w m < 65535
+  pub order : (m : ℕ) → call ≡ BeginLoad m → length written.book.order < length written.book.states

@@ -47,8 +47,8 @@ with_holder locks (Leaf w) t = record { leaves = slice_set locks.leaves w t; tab
 with_holder locks TableLock t = record { leaves = locks.leaves; table = t }
 with_holder locks NoLock t = locks
 
--- the book and the counts as they are written, the word of each slot, the locks, what each thread does,
--- how many calls were invoked, and how many may be
+-- the book and the counts as they are written, the word of each slot, the locks, what each thread
+-- does, how many calls were invoked, and how many may be
 pub record State : Type 0 where
   pub written : Table
   pub words : List ℕ
@@ -81,8 +81,10 @@ line_after reply = Return reply
 
 -- a step on the word: the call takes effect, or goes on to the exchange
 abbrev pub stepped : State → ℕ → Activity → ℕ → Outcome → Event × State
-stepped state t a word (Effect reply) = (Point a.number reply, at_line (with_word state (slot_of a.call) word) t a (line_after reply))
-stepped state t a word (GoesOn expected) = (Moved, at_line (with_word state (slot_of a.call) word) t a (Exchange expected))
+stepped state t a word (Effect reply) =
+    (Point a.number reply, at_line (with_word state (slot_of a.call) word) t a (line_after reply))
+stepped state t a word (GoesOn expected) =
+    (Moved, at_line (with_word state (slot_of a.call) word) t a (Exchange expected))
 
 abbrev pub looked : State → ℕ → Activity → WordStep → Event × State
 looked state t a step = stepped state t a step.word step.outcome

@@ -33,7 +33,8 @@ row_after (Some call) row = row_effect row call
 abbrev pub rows_after : List (Option Activity) → List (Option ℕ) → List (List ℕ) → List (List ℕ)
 rows_after threads locks [] = []
 rows_after threads [] (row ∷ rows) = row ∷ rows
-rows_after threads (lock ∷ locks) (row ∷ rows) = row_after (pending threads lock) row ∷ rows_after threads locks rows
+rows_after threads (lock ∷ locks) (row ∷ rows) =
+    row_after (pending threads lock) row ∷ rows_after threads locks rows
 
 -- the table that a state shows: what is written, with every pending write done
 abbrev pub shown : State → Table
@@ -53,8 +54,8 @@ written_row state w = slice_index_or state.written.rows w []
 abbrev pub writes_next : State → ℕ → Option Call
 writes_next state t = writing (activity state t)
 
--- the shown table is the written one with every pending write done: a write is pending while a thread stands at the line
--- that makes it
+-- the shown table is the written one with every pending write done: a write is pending while a thread
+-- stands at the line that makes it
 pub record ShowsPendingWrites (state : State) : Type 0 where
   -- a get or a put that is about to be written shows in its worker's row
   pub row : (t w : ℕ) (call : Call) → writes_next state t ≡ Some call → worker_of call ≡ Some w

@@ -1,4 +1,5 @@
--- What each step means for the table that the machine shows: linearizability by points (Herlihy and Wing 1990).
+-- What each step means for the table that the machine shows: each call takes effect at one point
+-- (linearizability: Herlihy and Wing 1990).
 use Rattle.std.specs.Prelude.{◌≡◌, ℕ, ◌<◌, List, length, slice_index, None, IsSomeAnd}
 use Rattle.dep_index.specs.declared.calls.Reply.{Reply}
 use Rattle.dep_index.specs.Table.{Module}
@@ -24,8 +25,8 @@ StepLaw catalogue old (Go t) (Point n r) new = IsSomeAnd (activity old t) (Takes
 StepLaw catalogue old (Invoke t call) (Point n r) new = ⊥
 StepLaw catalogue old step _ new = shown new ≡ shown old
 
--- each word belongs to its slot of the shown table: Open n where it is Live, Drain n where it is Draining, else Closed,
--- n the workers that hold it
+-- each word belongs to its slot of the shown table: Open n where it is Live, Drain n where it is Draining,
+-- else Closed, n the workers that hold it
 abbrev pub WordsAreRight : List Module → State → Type 0
 WordsAreRight catalogue state =
     (m : ℕ) → m < length catalogue → slice_index state.words m ≡ word_of (shown state) m

@@ -2,9 +2,9 @@
 
 ghost use Rattle.step_core.specs.StepLaw.{RunsObeyStepLaw, PendingWritesAreShown};
 
-/// In every run each word belongs to its slot of the shown table, and each step that is not refused obeys the step
-/// law: a point answers what the one-thread table answers there, and makes the shown table the next one; every
-/// other step leaves the shown table.
+/// In every run each word belongs to its slot of the shown table, and each step that is not refused
+/// obeys the step law: a point answers what the one-thread table answers there, and makes the shown table
+/// its next; every other step leaves the shown table.
 pub fn runs_obey_step_law()
     ensures { RunsObeyStepLaw }
 {}

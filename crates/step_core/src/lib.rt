@@ -1,4 +1,4 @@
-//! The machine of steps: loads, drains, removals, gets, puts and queries of many threads, one atomic step at a time.
+//! The machine of steps: the calls of many threads on a module table, one atomic step at a time.
 #![tactic(auto)]
 
 mod books;

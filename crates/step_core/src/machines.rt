@@ -9,7 +9,7 @@ use dep_index::{Catalogue, Slots};
 use std::alloc::{AllocError, Global};
 use std::marker::Model;
 
-/// The machine of steps over a catalogue. Contracts see it as the catalogue's modules by slot and its state.
+/// The machine of steps over a catalogue. Contracts see it as the catalogue's modules by slot and a state.
 #[derive(Drop)]
 pub struct Machine {
     slots: Slots,
@@ -34,8 +34,9 @@ impl Machine {
     ghost use Rattle.step_core.specs.Shown.{shown};
     ghost use Rattle.step_core.specs.StepLaw.{StepLaw, WordsAreRight};
 
-    /// The machine over a catalogue in its opening state: every module absent, every word closed, no reference,
-    /// no lock held, no thread in a call. So many calls may be invoked. Its room is made here; no step takes memory.
+    /// The machine over a catalogue in its opening state: every module absent, every word closed, no
+    /// reference, no lock held, no thread in a call. So many `calls` may be invoked. Its room is made here:
+    /// no step takes memory.
     pub fn new(
         alloc: Global,
         catalogue: &Catalogue,
@@ -70,16 +71,16 @@ impl Machine {
         Ok(Machine { slots, parts })
     }
 
-    /// Makes one step, or says why it is refused: thread, worker or slot out of range, or no more calls, in this
-    /// order. A refused step changes nothing. An `Invoke` of a thread in a call gives `Nothing`, before the number
-    /// of calls is tested.
+    /// Makes one step, or says why it is refused: thread, worker or slot out of range, or no more calls,
+    /// tested in this order. A refused step changes nothing. An `Invoke` of a thread in a call gives
+    /// `Nothing`, before the number of calls is tested.
     pub fn step(&mut self, step: Step) -> Result<Event, StepError>
         ensures refused { let refusal = step_refusal self.old.catalogue self.old.state step in
             MatchResult result (λ event. refusal ≡ None) (λ error. refusal ≡ Some error) }
         ensures event { IfOk result (λ event. event ≡ (step_of self.old.catalogue self.old.state step).0) }
         ensures state { let after = (step_of self.old.catalogue self.old.state step).1 in
             MatchResult result (λ event. self.new.state ≡ after) (λ error. self.new.state ≡ self.old.state) }
-        // a point answers what the one-thread table answers, and makes the shown table its next; no other step changes it
+        // a point answers what the one-thread table answers, and makes the shown table its next
         ensures shows { IfOk result (λ event. StepLaw self.old.catalogue self.old.state step event self.new.state) }
         ensures words { WordsAreRight self.new.catalogue self.new.state }
         ensures over { self.new.catalogue ≡ self.old.catalogue }

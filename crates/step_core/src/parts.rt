@@ -1,8 +1,8 @@
 //! The state of a machine, and what one line of a call does to it.
-ghost use Rattle.std.specs.Prelude.{true, IfNone, ℕ, ◌==◌, is_some, [], ◌≡◌, ◌<◌, ◌≤◌, ◌+◌, ◌^◌, List, length, slice_index, slice_index_or, Option, Some, None, IfOk};
-ghost use Rattle.dep_index.specs.declared.calls.Call.TheVariants.{Get, Put, BeginLoad};
-ghost use Rattle.dep_index.specs.Table.{Module, count_of};
-ghost use Rattle.dep_index.specs.Calls.{worker_of, slot_of, effect, IsInRange};
+ghost use Rattle.std.specs.Prelude.{ℕ, ◌≡◌, ◌<◌, ◌^◌, [], length, slice_index, IfNone, IfOk};
+ghost use Rattle.dep_index.specs.declared.calls.Call.TheVariants.{Put};
+ghost use Rattle.dep_index.specs.Table.{count_of};
+ghost use Rattle.dep_index.specs.Calls.{worker_of, slot_of, IsInRange};
 ghost use Rattle.dep_index.specs.Words.{word_step};
 ghost use Rattle.step_core.specs.Machine.{line_after, first_line};
 
@@ -31,11 +31,19 @@ impl Model for Parts {
 
     ghost Value = { State };
 
-    ghost view = { λ p. record { written = record { book = p.book; rows = p.counts }; words = p.words.items; locks = p.locks; threads = p.threads.items; invoked = p.invoked; calls = p.calls } };
+    ghost view = { λ p. record {
+      written = record { book = p.book; rows = p.counts };
+      words = p.words.items;
+      locks = p.locks;
+      threads = p.threads.items;
+      invoked = p.invoked;
+      calls = p.calls;
+    } };
 }
 
 impl Parts {
-    ghost use Rattle.step_core.specs.Machine.{activity, holder, with_holder, lock_of, at_line, with_activity, with_word, locked, looked, exchanged, step, step_refusal, worker_exists, invoke, start};
+    ghost use Rattle.step_core.specs.Machine.{start, activity, at_line, with_word, step_refusal, invoke, step, line, looked, worker_exists};
+    ghost use Rattle.step_core.specs.Kept.{CanWrite};
     ghost use Rattle.step_core.specs.Sound.{IsSound};
 
     /// The opening state.
@@ -165,8 +173,8 @@ impl Parts {
     fn lock(&mut self, t: usize, activity: Activity) -> Event
         requires thread { t < length self.old.threads }
         requires range { IsInRange (length self.old.words) (length self.old.locks.leaves) activity.call }
-        ensures event { result ≡ (locked self.old t activity (is_some (holder self.old.locks (lock_of activity.call)))).0 }
-        ensures state { self.new ≡ (locked self.old t activity (is_some (holder self.old.locks (lock_of activity.call)))).1 }
+        ensures event { result ≡ (line [] self.old t activity Line.Lock).0 }
+        ensures state { self.new ≡ (line [] self.old t activity Line.Lock).1 }
     {
         if self.locks.holder(activity.call).is_some() {
             return Event::Nothing;
@@ -220,8 +228,8 @@ impl Parts {
         requires thread { t < length self.old.threads }
         requires slot { slot_of activity.call < length self.old.words }
         requires below { expected < 2 ^ 32 }
-        ensures event { result ≡ (exchanged self.old t activity expected (slice_index self.old.words (slot_of activity.call) == expected)).0 }
-        ensures state { self.new ≡ (exchanged self.old t activity expected (slice_index self.old.words (slot_of activity.call) == expected)).1 }
+        ensures event { result ≡ (line [] self.old t activity (Line.Exchange expected)).0 }
+        ensures state { self.new ≡ (line [] self.old t activity (Line.Exchange expected)).1 }
     {
         let slot = activity.call.slot();
         if self.word(slot) != expected {
@@ -236,12 +244,9 @@ impl Parts {
     // Writes the count of a get or a put, or the book of every other call.
     fn write(&mut self, t: usize, activity: Activity) -> Event
         requires thread { t < length self.old.threads }
-        requires range { IsInRange (length self.old.written.book.states) (length self.old.written.rows) activity.call }
-        requires slots { (w : ℕ) → w < length self.old.written.rows → length (slice_index_or self.old.written.rows w []) ≡ length self.old.written.book.states }
-        requires count { (w m : ℕ) → activity.call ≡ Get w m → count_of self.old.written w m < 65535 }
-        requires order { (m : ℕ) → activity.call ≡ BeginLoad m → length self.old.written.book.order < length self.old.written.book.states }
-        ensures event { result ≡ Event.Moved }
-        ensures state { self.new ≡ at_line (record self.old { written = effect self.old.written activity.call }) t activity (Line.Return Reply.Done) }
+        requires write { CanWrite self.old.written activity.call }
+        ensures event { result ≡ (line [] self.old t activity Line.Write).0 }
+        ensures state { self.new ≡ (line [] self.old t activity Line.Write).1 }
     {
         self.counts.write(activity.call);
         self.book.write(activity.call);
@@ -253,8 +258,8 @@ impl Parts {
     fn finish(&mut self, t: usize, activity: Activity, reply: Reply) -> Event
         requires thread { t < length self.old.threads }
         requires range { IsInRange (length self.old.words) (length self.old.locks.leaves) activity.call }
-        ensures event { result ≡ Event.Returned activity.number reply }
-        ensures state { self.new ≡ with_activity (record self.old { locks = with_holder self.old.locks (lock_of activity.call) None }) t None }
+        ensures event { result ≡ (line [] self.old t activity (Line.Return reply)).0 }
+        ensures state { self.new ≡ (line [] self.old t activity (Line.Return reply)).1 }
     {
         self.locks.set_holder(activity.call, None);
         self.threads[t] = None;

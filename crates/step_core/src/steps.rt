@@ -2,7 +2,7 @@
 
 use dep_index::{Call, Reply};
 
-/// One step of a thread.
+/// One step of a thread, by its number.
 #[derive(Clone, Copy, Debug, PartialEq, Eq, Drop)]
 pub enum Step {
     /// The thread begins a call.
@@ -11,22 +11,29 @@ pub enum Step {
     Go(usize),
 }
 
-/// What a step comes to. Calls are numbered in the order in which they were invoked.
+/// What a step comes to. Calls are numbered from 0, in the order in which they were invoked.
 #[derive(Clone, Copy, Debug, PartialEq, Eq, Drop)]
 pub enum Event {
+    /// No change: the lock is held by another thread, the thread is in no call, or it is in one already.
     Nothing,
+    /// The call begins.
     Invoked(usize),
+    /// A line was made at which no call takes effect.
     Moved,
     /// The call takes effect, with this reply.
     Point(usize, Reply),
+    /// The call returns the reply of its point.
     Returned(usize, Reply),
 }
 
 /// Why a step is refused.
 #[derive(Clone, Copy, Debug, PartialEq, Eq, Drop)]
 pub enum StepError {
+    /// The thread is out of range.
     Thread,
+    /// The worker of a get or a put is out of range.
     Worker,
+    /// The slot is out of range.
     Slot,
     /// As many calls as there may be were invoked already.
     Calls,
@@ -35,19 +42,19 @@ pub enum StepError {
 /// The next line of a call.
 #[derive(Clone, Copy, Debug, PartialEq, Eq, Drop)]
 pub enum Line {
-    /// Take the lock.
+    /// Take the lock of the call.
     Lock,
-    /// The step on the slot's word.
+    /// Make the step on the slot's word.
     Word,
-    /// Exchange the word, if it is still this, by the next.
+    /// Exchange the word, if it is still this one, by the next.
     Exchange(u64),
     /// Write the count or the book.
     Write,
-    /// Let go, and return.
+    /// Let go of the lock, and return.
     Return(Reply),
 }
 
-/// A thread's call, and where it stands.
+/// A thread's call, and the line that it makes next.
 #[derive(Clone, Copy, Debug, PartialEq, Eq, Drop)]
 pub struct Activity {
     pub number: usize,

@@ -1,5 +1,5 @@
 use Rattle.std.proofs.Common.{sym}
-use Rattle.step_core.proofs.Premises.{in_range_of_locks, exchange_below, write_room, write_range, order_room, word_small, departs_from}
+use Rattle.step_core.proofs.Premises.{in_range_of_locks, exchange_below, can_write, word_small, departs_from}
 use Rattle.step_core.proofs.parts.Parts.go.Goals as goal
 
 pub lock-requires-clause-range : goal.lock-requires-clause-range
@@ -17,14 +17,8 @@ word_step-found-requires-clause-held c = λ w m call one. departs_from c.args.sl
 pub exchange-requires-clause-below : goal.exchange-requires-clause-below
 exchange-requires-clause-below c = exchange_below c.args.slots.now _ c.args.self.now c.args.t c.in-Some.activity _ c.requires.sound (sym c.in-Some.ensures) c.in-Exchange.is
 
-pub write-requires-clause-range : goal.write-requires-clause-range
-write-requires-clause-range c = write_range c.args.slots.now _ c.args.self.now c.args.t c.in-Some.activity c.requires.sound (sym c.in-Some.ensures)
-
-pub write-requires-clause-count : goal.write-requires-clause-count
-write-requires-clause-count c = λ w m call. write_room c.args.slots.now _ c.args.self.now c.args.t c.in-Some.activity w m c.requires.sound (sym c.in-Some.ensures) c.in-Write.is call
-
-pub write-requires-clause-order : goal.write-requires-clause-order
-write-requires-clause-order c = λ m call. order_room c.args.slots.now _ c.args.self.now c.args.t c.in-Some.activity m c.requires.sound (sym c.in-Some.ensures) c.in-Write.is call
+pub write-requires-clause-write : goal.write-requires-clause-write
+write-requires-clause-write c = can_write c.args.slots.now _ c.args.self.now c.args.t c.in-Some.activity c.requires.sound (sym c.in-Some.ensures) c.in-Write.is
 
 pub finish-requires-clause-range : goal.finish-requires-clause-range
 finish-requires-clause-range c = in_range_of_locks c.args.slots.now _ c.args.self.now c.args.t c.in-Some.activity c.requires.sound (sym c.in-Some.ensures)

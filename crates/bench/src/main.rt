@@ -1,0 +1,67 @@
+//! Measures the crates, one benchmark a call: `bench NAME`. With no argument it lists the benchmarks.
+#![tactic(auto)]
+
+mod figure;
+mod machine;
+mod words;
+
+use anyhow::Result;
+use std::env;
+use std::process::ExitCode;
+use std::rt::Runtime;
+
+/// What can be measured.
+#[derive(Clone, Copy, Debug, PartialEq, Eq)]
+enum Benchmark {
+    Machine,
+    Words,
+}
+
+const ALL: [Benchmark; 2] = [Benchmark::Machine, Benchmark::Words];
+
+impl Benchmark {
+    fn name(self) -> &'static str {
+        match self {
+            Benchmark::Machine => "machine",
+            Benchmark::Words => "words",
+        }
+    }
+
+    fn measure<R: Runtime + AllocGlobal>(self, rt: &R) -> Result<()> {
+        match self {
+            Benchmark::Machine => machine::measure(rt),
+            Benchmark::Words => words::measure(rt),
+        }
+    }
+}
+
+fn list<R: Runtime + AllocGlobal>(rt: &R) -> Result<()> {
+    for benchmark in ALL {
+        let name = benchmark.name();
+        println!(rt; "{name}")?;
+    }
+    Ok(())
+}
+
+fn run<R: Runtime + AllocGlobal>(rt: &R, name: &str) -> Result<ExitCode> {
+    for benchmark in ALL {
+        if benchmark.name() == name {
+            benchmark.measure(rt)?;
+            return Ok(ExitCode::SUCCESS);
+        }
+    }
+    eprintln!(rt; "bench: no benchmark {name}")?;
+    Ok(ExitCode::from(2))
+}
+
+fn main(rt: HostRuntime) -> Result<ExitCode> {
+    let mut args = env::args(&rt)?;
+    let _program = args.next();
+    match args.next() {
+        None => {
+            list(&rt)?;
+            Ok(ExitCode::SUCCESS)
+        }
+        Some(name) => run(&rt, name.as_str()),
+    }
+}

@@ -1,0 +1,10 @@
+pub mod Lists
+pub mod Bounds
+pub mod Walking
+pub mod Orders
+pub mod Clean
+pub mod Visiting
+pub mod VisitLaws
+pub mod Reached
+pub mod Steps
+pub mod Words

@@ -1,0 +1,507 @@
+-- A visit with a stack of its own gives what the recursion gives.
+use Rattle.std.proofs.Common.{◌≡◌, ℕ, zero, suc, ◌+◌, ◌-◌, ◌*◌, ◌<◌, ◌≤◌, Bool, true, false, cond, not, nat_eq, List, [], ◌∷◌, ◌++◌, length, reverse, drop, take, set, length-set, Result, Ok, Err, refl, sym, ◌∙◌, ap, subst, arith, inl, inr}
+use Rattle.std.specs.List.{list_all, list_any, IsDistinct, sum_by}
+use Rattle.std.proofs.lemmas.Bool.Decides.{eqb_tells}
+use Rattle.std.proofs.lemmas.List.{reverse-append}
+use Rattle.std.proofs.lemmas.List.Sums.{sum_by-set, sum_by-cons, get_or-le-sum_by}
+use Rattle.std.proofs.Math.Nat.{mul-le-mul_right, add-mul}
+use Rattle.std.proofs.lemmas.Map.Keys.{IsDistinct-cons, IsDistinct-head, IsDistinct-tail}
+use Rattle.load_plan.specs.declared.graph.Target.{Target}
+use Rattle.load_plan.specs.declared.graph.Target.TheVariants.{Slot, Missing}
+use Rattle.load_plan.specs.declared.graph.Node.{Node}
+use Rattle.load_plan.specs.declared.refusal.PlanRefusal.{PlanRefusal}
+use Rattle.load_plan.specs.declared.walk.Mark.{Mark}
+use Rattle.load_plan.specs.declared.walk.Mark.TheVariants.{New, Open, Done}
+use Rattle.load_plan.specs.declared.visit.Phase.{Phase}
+use Rattle.load_plan.specs.declared.visit.Phase.TheVariants.{Pre, Hard, Post}
+use Rattle.load_plan.specs.declared.visit.Stage.{Stage}
+use Rattle.load_plan.specs.declared.visit.Move.{Move}
+use Rattle.load_plan.specs.declared.visit.Move.TheVariants.{Pass, Append, Enter}
+use Rattle.load_plan.specs.Graph.{node_at, no_node, is_bounded}
+use Rattle.load_plan.specs.Walk.{has, hard_walk}
+use Rattle.load_plan.specs.Plan.{is_free, is_clean, is_done, each_soft, each_hard, visit}
+use Rattle.load_plan.specs.Laws.{is_in, IsOrder, start, more}
+use Rattle.load_plan.specs.ForProofs.{mark_at, AreMarks, IsKept}
+use Rattle.load_plan.specs.VisitSteps.{targets_of, left_of, next_stage, first_stage, Leads, is_taken, IsUnmet, IsUnmetFirst, IsMove, IsTaken}
+use Rattle.load_plan.proofs.Lists.{and_true, and_makes, either_way, or_false, or_comes, not_true, none_passes, has-same, has-other, has-last_same, has-last_other, apart_from, below_cons, nothing_apart, room_for, has-from_apart, passes_at, not_false, all-append, take-first, take-all}
+use Rattle.load_plan.proofs.Orders.{IsWithin, AreEntered, Stands, stands, no_member, grows_last, all_in-grows}
+use Rattle.load_plan.proofs.Clean.{Whole, whole_walk}
+use Rattle.load_plan.proofs.Walking.{mark_new, marks-open, marks-done, fresh_of}
+
+-- What a module's visit stands on: its hard dependencies, theirs and so on are an order without it, and
+-- neither it nor they are in progress or stopped by an install line.
+pub record IsFree (w : List Node) (progress : List ℕ) (m : ℕ) : Type 0 where
+  pub below : List ℕ
+  pub order : IsOrder w below
+  pub new : has below m ≡ false
+  pub hard : list_all (is_in below) (node_at w m).hard ≡ true
+  pub apart : (q : ℕ) → has progress q ≡ true → has below q ≡ false
+  pub off : has progress m ≡ false
+  pub entered : AreEntered w below
+  pub own : (node_at w m).installs ≡ false
+
+-- a module in progress, or the one that begins, is not in the order
+apart_cons : (below : List ℕ) (m : ℕ) (progress : List ℕ) (q : ℕ) → has below m ≡ false → ((x : ℕ) → has progress x ≡ true → has below x ≡ false) → has (m ∷ progress) q ≡ true → has below q ≡ false
+apart_cons below m progress q new apart h = elim (eqb_tells q m) [
+  | inl t ↦ subst (λ x. has below x ≡ false) (sym t.1) new
+  | inr t ↦ apart q (sym (has-other progress m q t.0) ∙ h)
+]
+
+-- each hard dependency of a free module is free while the module is in progress
+pub free_hard : (w : List Node) (progress : List ℕ) (m d : ℕ) (f : IsFree w progress m) → has f.below d ≡ true → IsFree w (m ∷ progress) d
+free_hard w progress m d f h =
+    let s : Stands w f.below d = stands w f.below d f.order h in
+    record {
+      below = s.below;
+      order = s.order;
+      new = s.new;
+      hard = s.hard;
+      apart = λ q g. no_member s.below f.below q s.within (apart_cons f.below m progress q f.new f.apart g);
+      off = elim (either_way (has (m ∷ progress) d)) [ inl t ↦ (let u : has f.below d ≡ false = apart_cons f.below m progress d f.new f.apart t in absurd (cc)) | inr t ↦ t ];
+      entered = λ q g. f.entered q (s.within q g);
+      own = f.entered d h;
+    }
+
+pub free_walk : (w : List Node) (progress : List ℕ) (m : ℕ) (r : Result (List ℕ) PlanRefusal) → is_bounded w ≡ true → m < length w → hard_walk w true (Slot m) ≡ r → is_free progress r ≡ true → IsFree w progress m
+free_walk w progress m (Err e) bounded below h k = absurd (cc)
+free_walk w progress m (Ok reached) bounded below h k =
+    let x : Whole w m reached = whole_walk w m reached bounded below h in
+    let s : Stands w reached m = stands w reached m x.order x.here in
+    let none : (q : ℕ) → has reached q ≡ true → has progress q ≡ false = λ q g. none_passes (has progress) reached q (not_true (list_any (has progress) reached) k) g in
+    record {
+      below = s.below;
+      order = s.order;
+      new = s.new;
+      hard = s.hard;
+      apart = λ q g. elim (either_way (has s.below q)) [ inl t ↦ (let u : has progress q ≡ false = none q (s.within q t) in absurd (cc)) | inr t ↦ t ];
+      off = none m x.here;
+      entered = λ q g. x.entered q (s.within q g);
+      own = x.entered m x.here;
+    }
+
+-- a clean item is free
+pub free_clean : (w : List Node) (progress done : List ℕ) (m : ℕ) → is_bounded w ≡ true → m < length w → is_clean w progress done (Slot m) ≡ true → IsFree w progress m
+free_clean w progress done m bounded below h =
+    free_walk w progress m (hard_walk w true (Slot m)) bounded below refl (and_true (not (has done m)) (is_free progress (hard_walk w true (Slot m))) h).1
+
+abbrev pub slots_of : List Stage → List ℕ
+slots_of [] = []
+slots_of (s ∷ ss) = s.slot ∷ slots_of ss
+
+-- the modules in progress when the stage is on top
+abbrev pub with_phase : Phase → ℕ → List ℕ → List ℕ
+with_phase Pre m progress = m ∷ progress
+with_phase Hard m progress = m ∷ progress
+with_phase Post m progress = progress
+
+abbrev pub progress_of : List Stage → List ℕ
+progress_of [] = []
+progress_of (s ∷ ss) = with_phase s.phase s.slot (progress_of ss)
+
+-- a step for each target of a phase
+abbrev pub each_of : List Node → ℕ → Phase → ℕ → List ℕ → List ℕ → List Target → List ℕ
+each_of w n Pre m below done ts = each_soft w (m ∷ below) (visit w n (m ∷ below)) done ts
+each_of w n Hard m below done ts = each_hard (visit w n (m ∷ below)) done ts
+each_of w n Post m below done ts = each_soft w below (visit w n below) done ts
+
+-- what comes behind the hard dependencies, and what comes behind a phase
+abbrev pub behind_hard : List Node → ℕ → ℕ → List ℕ → List ℕ → List ℕ
+behind_hard w n m below done = each_of w n Post m below (done ++ m ∷ []) (node_at w m).post
+
+abbrev pub behind_of : List Node → ℕ → Phase → ℕ → List ℕ → List ℕ → List ℕ
+behind_of w n Post m below done = done
+behind_of w n Hard m below done = behind_hard w n m below done
+behind_of w n Pre m below done = behind_hard w n m below (each_of w n Hard m below done (node_at w m).hard)
+
+-- what the visit of a stage makes of the list from here
+abbrev pub finish : List Node → ℕ → Stage → List ℕ → List ℕ → List ℕ
+finish w n s below done = behind_of w n s.phase s.slot below (each_of w n s.phase s.slot below done (left_of w s))
+
+-- what the visit gives that goes on from a stack
+abbrev pub resume : List Node → List Stage → List ℕ → List ℕ
+resume w [] done = done
+resume w (s ∷ ss) done = resume w ss (finish w (length w - suc (length ss)) s (progress_of ss) done)
+
+visit-begins : (w : List Node) (n : ℕ) (progress done : List ℕ) (m : ℕ) → visit w (suc n) progress done (Slot m) ≡ finish w n (first_stage Pre m) progress done
+visit-begins w n progress done m = refl
+
+cond-not : {A : Type 0} (b : Bool) (x y : A) → cond b x y ≡ cond (not b) y x
+cond-not true x y = refl
+cond-not false x y = refl
+
+-- the first target of a phase is visited where it is taken, and passed where not
+each-first : (w : List Node) (n : ℕ) (phase : Phase) (m : ℕ) (below done : List ℕ) (t : Target) (ts : List Target) → each_of w n phase m below done (t ∷ ts) ≡ each_of w n phase m below (cond (is_taken w (with_phase phase m below) done phase t) (visit w n (with_phase phase m below) done t) done) ts
+each-first w n Pre m below done t ts = refl
+each-first w n Hard m below done t ts = ap (λ d. each_hard (visit w n (m ∷ below)) d ts) (cond-not (is_done done t) done (visit w n (m ∷ below) done t))
+each-first w n Post m below done t ts = refl
+
+finish-first : (w : List Node) (n : ℕ) (s : Stage) (below done : List ℕ) (t : Target) → Leads w s t → finish w n s below done ≡ finish w n (next_stage s) below (cond (is_taken w (with_phase s.phase s.slot below) done s.phase t) (visit w n (with_phase s.phase s.slot below) done t) done)
+finish-first w n s below done t leads =
+    ap (λ ts. behind_of w n s.phase s.slot below (each_of w n s.phase s.slot below done ts)) leads
+    ∙ ap (behind_of w n s.phase s.slot below) (each-first w n s.phase s.slot below done t (left_of w (next_stage s)))
+
+each-none : (w : List Node) (n : ℕ) (phase : Phase) (m : ℕ) (below done : List ℕ) → each_of w n phase m below done [] ≡ done
+each-none w n Pre m below done = refl
+each-none w n Hard m below done = refl
+each-none w n Post m below done = refl
+
+finish-over : (w : List Node) (n : ℕ) (s : Stage) (below done : List ℕ) → left_of w s ≡ [] → finish w n s below done ≡ behind_of w n s.phase s.slot below done
+finish-over w n s below done over =
+    ap (λ ts. behind_of w n s.phase s.slot below (each_of w n s.phase s.slot below done ts)) over ∙ ap (behind_of w n s.phase s.slot below) (each-none w n s.phase s.slot below done)
+
+resume-pass : (w : List Node) (s : Stage) (ss : List Stage) (done : List ℕ) (t : Target) → Leads w s t → is_taken w (progress_of (s ∷ ss)) done s.phase t ≡ false → resume w (s ∷ ss) done ≡ resume w (next_stage s ∷ ss) done
+resume-pass w s ss done t leads passed =
+    ap (resume w ss) (finish-first w (length w - suc (length ss)) s (progress_of ss) done t leads
+    ∙ ap (λ b. finish w (length w - suc (length ss)) (next_stage s) (progress_of ss) (cond b (visit w (length w - suc (length ss)) (progress_of (s ∷ ss)) done t) done)) passed)
+
+resume-enter : (w : List Node) (s : Stage) (ss : List Stage) (done : List ℕ) (m : ℕ) → Leads w s (Slot m) → is_taken w (progress_of (s ∷ ss)) done s.phase (Slot m) ≡ true → suc (suc (length ss)) ≤ length w → resume w (s ∷ ss) done ≡ resume w (first_stage Pre m ∷ next_stage s ∷ ss) done
+resume-enter w s ss done m leads taken room =
+    let fuel : length w - suc (length ss) ≡ suc (length w - suc (suc (length ss))) = omega arith in
+    ap (resume w ss) (finish-first w (length w - suc (length ss)) s (progress_of ss) done (Slot m) leads
+    ∙ ap (λ b. finish w (length w - suc (length ss)) (next_stage s) (progress_of ss) (cond b (visit w (length w - suc (length ss)) (progress_of (s ∷ ss)) done (Slot m)) done)) taken
+    ∙ ap (λ n. finish w (length w - suc (length ss)) (next_stage s) (progress_of ss) (visit w n (progress_of (s ∷ ss)) done (Slot m))) fuel)
+
+resume-turn : (w : List Node) (s : Stage) (ss : List Stage) (done : List ℕ) → s.phase ≡ Pre → left_of w s ≡ [] → resume w (s ∷ ss) done ≡ resume w (first_stage Hard s.slot ∷ ss) done
+resume-turn w s ss done phase over =
+    let n : ℕ = length w - suc (length ss) in
+    ap (resume w ss) (finish-over w n s (progress_of ss) done over ∙ ap (λ p. behind_of w n p s.slot (progress_of ss) done) phase)
+
+resume-append : (w : List Node) (s : Stage) (ss : List Stage) (done : List ℕ) → s.phase ≡ Hard → left_of w s ≡ [] → resume w (s ∷ ss) done ≡ resume w (first_stage Post s.slot ∷ ss) (done ++ s.slot ∷ [])
+resume-append w s ss done phase over =
+    let n : ℕ = length w - suc (length ss) in
+    ap (resume w ss) (finish-over w n s (progress_of ss) done over ∙ ap (λ p. behind_of w n p s.slot (progress_of ss) done) phase)
+
+resume-leave : (w : List Node) (s : Stage) (ss : List Stage) (done : List ℕ) → s.phase ≡ Post → left_of w s ≡ [] → resume w (s ∷ ss) done ≡ resume w ss done
+resume-leave w s ss done phase over =
+    let n : ℕ = length w - suc (length ss) in
+    ap (resume w ss) (finish-over w n s (progress_of ss) done over ∙ ap (λ p. behind_of w n p s.slot (progress_of ss) done) phase)
+
+-- What holds of a stage, by its phase; `above` has the module whose visit began last, where there is one.
+abbrev pub StageHolds : List Node → List ℕ → List ℕ → List ℕ → Phase → ℕ → ℕ → Type 0
+StageHolds w done above below Pre m k = IsFree w below m
+StageHolds w done above below Hard m k = IsFree w below m × (list_all (is_in (above ++ done)) (take k (node_at w m).hard) ≡ true)
+StageHolds w done above below Post m k = has done m ≡ true
+
+abbrev pub AllHold : List Node → List ℕ → List ℕ → List Stage → Type 0
+AllHold w done above [] = Unit {0}
+AllHold w done above (s ∷ ss) = StageHolds w done above (progress_of ss) s.phase s.slot s.visited × AllHold w done (s.slot ∷ []) ss
+
+within-cons : (few many : List ℕ) (m : ℕ) → IsWithin few many → IsWithin (m ∷ few) (m ∷ many)
+within-cons few many m h q g = elim (eqb_tells q m) [ inl t ↦ has-same many m q t.1 | inr t ↦ has-other many m q t.0 ∙ h q (sym (has-other few m q t.0) ∙ g) ]
+
+within-append : (above few many : List ℕ) → IsWithin few many → IsWithin (above ++ few) (above ++ many)
+within-append [] few many h = h
+within-append (m ∷ above) few many h = within-cons (above ++ few) (above ++ many) m (within-append above few many h)
+
+stage-grows : (w : List Node) (done after above below : List ℕ) (phase : Phase) (m k : ℕ) → IsWithin done after → StageHolds w done above below phase m k → StageHolds w after above below phase m k
+stage-grows w done after above below Pre m k g h = h
+stage-grows w done after above below Hard m k g h = (h.0, all_in-grows (above ++ done) (above ++ after) (take k (node_at w m).hard) (within-append above done after g) h.1)
+stage-grows w done after above below Post m k g h = g m h
+
+all-grows : (w : List Node) (done after above : List ℕ) (ss : List Stage) → IsWithin done after → AllHold w done above ss → AllHold w after above ss
+all-grows w done after above [] g h = tt
+all-grows w done after above (s ∷ ss) g h = (stage-grows w done after above (progress_of ss) s.phase s.slot s.visited g h.0, all-grows w done after (s.slot ∷ []) ss g h.1)
+
+-- the module above is in the list by now
+stage-drops : (w : List Node) (done below : List ℕ) (c : ℕ) (phase : Phase) (m k : ℕ) → has done c ≡ true → StageHolds w done (c ∷ []) below phase m k → StageHolds w done [] below phase m k
+stage-drops w done below c Pre m k here h = h
+stage-drops w done below c Hard m k here h =
+    (h.0, all_in-grows (c ∷ done) done (take k (node_at w m).hard) (λ q g. elim (eqb_tells q c) [ inl t ↦ subst (λ x. has done x ≡ true) (sym t.1) here | inr t ↦ sym (has-other done c q t.0) ∙ g ]) h.1)
+stage-drops w done below c Post m k here h = h
+
+all-drops : (w : List Node) (done : List ℕ) (c : ℕ) (ss : List Stage) → has done c ≡ true → AllHold w done (c ∷ []) ss → AllHold w done [] ss
+all-drops w done c [] here h = tt
+all-drops w done c (s ∷ ss) here h = (stage-drops w done (progress_of ss) c s.phase s.slot s.visited here h.0, h.1)
+
+-- a hard dependency of a stage is a module that its visit stands on
+hard_below : (w : List Node) (s : Stage) (below : List ℕ) (t : Target) (f : IsFree w below s.slot) → s.phase ≡ Hard → Leads w s t → is_in f.below t ≡ true
+hard_below w s below t f phase leads =
+    passes_at (is_in f.below) (node_at w s.slot).hard s.visited t (left_of w (next_stage s)) f.hard (sym (ap (λ p. drop s.visited (targets_of (node_at w s.slot) p)) phase) ∙ leads)
+
+-- the first hard dependency that is left is not in progress
+pub unmet_first : (w : List Node) (done above : List ℕ) (s : Stage) (ss : List Stage) → AllHold w done above (s ∷ ss) → IsUnmetFirst w (progress_of (s ∷ ss)) s
+unmet_first w done above s ss h t leads = unmet s.phase refl h.0 t leads
+  where
+    unmet : (p : Phase) → s.phase ≡ p → StageHolds w done above (progress_of ss) p s.slot s.visited → (t : Target) → Leads w s t → IsUnmet (with_phase p s.slot (progress_of ss)) p t
+    unmet Pre e holds t leads = tt
+    unmet Post e holds t leads = tt
+    unmet Hard e holds (Missing name) leads = tt
+    unmet Hard e holds (Slot d) leads = (free_hard w (progress_of ss) s.slot d holds.0 (hard_below w s (progress_of ss) (Slot d) holds.0 e leads)).off
+
+-- What the loop of a visit keeps.
+pub record Visits (w : List Node) (begun : ℕ) (marks : List Mark) (order : List ℕ) (ss : List Stage) : Type 0 where
+  pub same : resume w ss order ≡ visit w (length w) [] [] (Slot begun)
+  pub long : length marks ≡ length w
+  pub below : (q : ℕ) → has (slots_of ss) q ≡ true → q < length w
+  pub apart : IsDistinct nat_eq (slots_of ss)
+  pub kept : IsKept w (progress_of ss) order
+  pub marked : AreMarks (length w) marks (progress_of ss) order
+  pub holds : AllHold w order [] ss
+
+pub Visits-slot : {w : List Node} {begun : ℕ} {marks : List Mark} {order : List ℕ} {s : Stage} {ss : List Stage} → Visits w begun marks order (s ∷ ss) → s.slot < length w
+Visits-slot {w} {begun} {marks} {order} {s} {ss} v = v.below s.slot (has-same (slots_of ss) s.slot s.slot refl)
+
+-- the modules of the stages are in progress or in the list
+progress_or_done : (w : List Node) (done above : List ℕ) (ss : List Stage) (q : ℕ) → AllHold w done above ss → has (progress_of ss) q ≡ false → has done q ≡ false → has (slots_of ss) q ≡ false
+progress_or_done w done above [] q h off new = refl
+progress_or_done w done above (s ∷ ss) q h off new =
+    let here : (nat_eq q s.slot ≡ false) × (has (progress_of ss) q ≡ false) = split s.phase h.0 off in
+    has-other (slots_of ss) s.slot q here.0 ∙ progress_or_done w done (s.slot ∷ []) ss q h.1 here.1 new
+  where
+    split : (p : Phase) → StageHolds w done above (progress_of ss) p s.slot s.visited → has (with_phase p s.slot (progress_of ss)) q ≡ false → (nat_eq q s.slot ≡ false) × (has (progress_of ss) q ≡ false)
+    split Pre holds off = or_false (nat_eq q s.slot) (has (progress_of ss) q) off
+    split Hard holds off = or_false (nat_eq q s.slot) (has (progress_of ss) q) off
+    split Post holds off = (elim (eqb_tells q s.slot) [ inl t ↦ (let here : has done q ≡ true = subst (λ x. has done x ≡ true) (sym t.1) holds in absurd (cc)) | inr t ↦ t.0 ], off)
+
+-- who is in progress is on the stack
+on_stack : (ss : List Stage) (q : ℕ) → has (slots_of ss) q ≡ false → has (progress_of ss) q ≡ false
+on_stack [] q h = refl
+on_stack (s ∷ ss) q h =
+    let p : (nat_eq q s.slot ≡ false) × (has (slots_of ss) q ≡ false) = or_false (nat_eq q s.slot) (has (slots_of ss) q) h in
+    of_phase s.phase p.0 (on_stack ss q p.1)
+  where
+    of_phase : (ph : Phase) → nat_eq q s.slot ≡ false → has (progress_of ss) q ≡ false → has (with_phase ph s.slot (progress_of ss)) q ≡ false
+    of_phase Pre a b = has-other (progress_of ss) s.slot q a ∙ b
+    of_phase Hard a b = has-other (progress_of ss) s.slot q a ∙ b
+    of_phase Post a b = b
+
+slots-length : (ss : List Stage) → length (slots_of ss) ≡ length ss
+slots-length [] = refl
+slots-length (s ∷ ss) = ap suc (slots-length ss)
+
+-- one stage in place of the top one, of the same module and with the same modules in progress
+stage_moves : {w : List Node} {begun : ℕ} {marks : List Mark} {order : List ℕ} {s : Stage} {ss : List Stage} → Visits w begun marks order (s ∷ ss) → (p : Phase) (k : ℕ) → with_phase p s.slot (progress_of ss) ≡ progress_of (s ∷ ss) → StageHolds w order [] (progress_of ss) p s.slot k → resume w (record { slot = s.slot; phase = p; visited = k } ∷ ss) order ≡ resume w (s ∷ ss) order → Visits w begun marks order (record { slot = s.slot; phase = p; visited = k } ∷ ss)
+stage_moves {w} {begun} {marks} {order} {s} {ss} v p k opened holds same = record {
+  same = same ∙ v.same;
+  long = v.long;
+  below = v.below;
+  apart = v.apart;
+  kept = subst (λ l. IsKept w l order) (sym opened) v.kept;
+  marked = subst (λ l. AreMarks (length w) marks l order) (sym opened) v.marked;
+  holds = (holds, v.holds.1);
+}
+
+-- the first target that is left is passed
+holds-pass : (w : List Node) (done below : List ℕ) (s : Stage) (t : Target) (p : Phase) → s.phase ≡ p → Leads w s t → is_taken w (with_phase p s.slot below) done p t ≡ false → StageHolds w done [] below p s.slot s.visited → StageHolds w done [] below p s.slot (s.visited + 1)
+holds-pass w done below s t Pre e leads passed holds = holds
+holds-pass w done below s t Post e leads passed holds = holds
+holds-pass w done below s (Missing name) Hard e leads passed holds = let no : is_in holds.0.below (Missing name) ≡ true = hard_below w s below (Missing name) holds.0 e leads in absurd (cc)
+holds-pass w done below s (Slot d) Hard e leads passed holds =
+    let here : has done d ≡ true = not_false (has done d) passed in
+    let hard_leads : drop s.visited (node_at w s.slot).hard ≡ Slot d ∷ left_of w (next_stage s) = sym (ap (λ ph. drop s.visited (targets_of (node_at w s.slot) ph)) e) ∙ leads in
+    (holds.0, ap (list_all (is_in done)) (take-first (node_at w s.slot).hard s.visited (Slot d) (left_of w (next_stage s)) hard_leads) ∙ all-append (is_in done) (take s.visited (node_at w s.slot).hard) (Slot d ∷ []) holds.1 (and_makes (has done d) true here refl))
+
+pub Visits-pass : {w : List Node} {begun : ℕ} {marks : List Mark} {order : List ℕ} {s : Stage} {ss : List Stage} → Visits w begun marks order (s ∷ ss) → (t : Target) → Leads w s t → is_taken w (progress_of (s ∷ ss)) order s.phase t ≡ false → Visits w begun marks order (next_stage s ∷ ss)
+Visits-pass {w} {begun} {marks} {order} {s} {ss} v t leads passed =
+    stage_moves v s.phase (s.visited + 1) refl (holds-pass w order (progress_of ss) s t s.phase refl leads passed v.holds.0) (sym (resume-pass w s ss order t leads passed))
+
+pub Visits-turn : {w : List Node} {begun : ℕ} {marks : List Mark} {order : List ℕ} {s : Stage} {ss : List Stage} → Visits w begun marks order (s ∷ ss) → s.phase ≡ Pre → left_of w s ≡ [] → Visits w begun marks order (first_stage Hard s.slot ∷ ss)
+Visits-turn {w} {begun} {marks} {order} {s} {ss} v phase over =
+    let free : IsFree w (progress_of ss) s.slot = subst (λ p. StageHolds w order [] (progress_of ss) p s.slot s.visited) phase v.holds.0 in
+    stage_moves v Hard 0 (sym (ap (λ p. with_phase p s.slot (progress_of ss)) phase)) (free, refl) (sym (resume-turn w s ss order phase over))
+
+-- a stage with nothing left goes, and its module is in the list
+pub Visits-leave : {w : List Node} {begun : ℕ} {marks : List Mark} {order : List ℕ} {s : Stage} {ss : List Stage} → Visits w begun marks order (s ∷ ss) → s.phase ≡ Post → left_of w s ≡ [] → Visits w begun marks order ss
+Visits-leave {w} {begun} {marks} {order} {s} {ss} v phase over =
+    let here : has order s.slot ≡ true = subst (λ p. StageHolds w order [] (progress_of ss) p s.slot s.visited) phase v.holds.0 in
+    let opened : progress_of (s ∷ ss) ≡ progress_of ss = ap (λ p. with_phase p s.slot (progress_of ss)) phase in
+    record {
+      same = sym (resume-leave w s ss order phase over) ∙ v.same;
+      long = v.long;
+      below = λ q h. v.below q (or_comes (nat_eq q s.slot) (has (slots_of ss) q) h);
+      apart = IsDistinct-tail nat_eq s.slot (slots_of ss) v.apart;
+      kept = subst (λ l. IsKept w l order) opened v.kept;
+      marked = subst (λ l. AreMarks (length w) marks l order) opened v.marked;
+      holds = all-drops w order s.slot ss here v.holds.1;
+    }
+
+-- the module is appended
+pub Visits-append : {w : List Node} {begun : ℕ} {marks : List Mark} {order : List ℕ} {s : Stage} {ss : List Stage} → Visits w begun marks order (s ∷ ss) → s.phase ≡ Hard → left_of w s ≡ [] → Visits w begun (set marks s.slot Done) (order ++ s.slot ∷ []) (first_stage Post s.slot ∷ ss)
+Visits-append {w} {begun} {marks} {order} {s} {ss} v phase over =
+    let m : ℕ = s.slot in
+    let holds : IsFree w (progress_of ss) m × (list_all (is_in order) (take s.visited (node_at w m).hard) ≡ true) = subst (λ p. StageHolds w order [] (progress_of ss) p m s.visited) phase v.holds.0 in
+    let opened : progress_of (s ∷ ss) ≡ m ∷ progress_of ss = ap (λ p. with_phase p m (progress_of ss)) phase in
+    let kept : IsKept w (m ∷ progress_of ss) order = subst (λ l. IsKept w l order) opened v.kept in
+    let marked : AreMarks (length w) marks (m ∷ progress_of ss) order = subst (λ l. AreMarks (length w) marks l order) opened v.marked in
+    let hard_over : drop s.visited (node_at w m).hard ≡ [] = sym (ap (λ p. drop s.visited (targets_of (node_at w m) p)) phase) ∙ over in
+    let all : list_all (is_in order) (node_at w m).hard ≡ true = sym (ap (list_all (is_in order)) (take-all (node_at w m).hard s.visited hard_over)) ∙ holds.1 in
+    let new : has order m ≡ false = kept.off m (has-same (progress_of ss) m m refl) in
+    let alone : has (progress_of ss) m ≡ false = on_stack ss m (has-from_apart (slots_of ss) m (IsDistinct-head nat_eq m (slots_of ss) v.apart)) in
+    let within : m < length w = Visits-slot v in
+    record {
+      same = sym (resume-append w s ss order phase over) ∙ v.same;
+      long = length-set marks m Done ∙ v.long;
+      below = v.below;
+      apart = v.apart;
+      kept = record {
+        bounded = kept.bounded;
+        order = more order m kept.order new all;
+        off = λ q g. elim (eqb_tells q m) [
+          | inl t ↦ (let on : has (progress_of ss) m ≡ true = subst (λ y. has (progress_of ss) y ≡ true) t.1 g in absurd (cc))
+          | inr t ↦ has-last_other order m q t.0 ∙ kept.off q (has-other (progress_of ss) m q t.0 ∙ g)
+        ];
+        entered = λ q g. elim (eqb_tells q m) [
+          | inl t ↦ subst (λ y. (y < length w) × ((node_at w y).installs ≡ false)) (sym t.1) (within, holds.0.own)
+          | inr t ↦ kept.entered q (sym (has-last_other order m q t.0) ∙ g)
+        ];
+      };
+      marked = marks-done (length w) marks (progress_of ss) order m v.long within marked;
+      holds = (has-last_same order m m refl, all-grows w order (order ++ m ∷ []) (m ∷ []) ss (λ q g. grows_last order m q g) v.holds.1);
+    }
+
+-- a taken target is free
+taken_free : (w : List Node) (done below : List ℕ) (s : Stage) (m : ℕ) (p : Phase) → s.phase ≡ p → is_bounded w ≡ true → m < length w → Leads w s (Slot m) → is_taken w (with_phase p s.slot below) done p (Slot m) ≡ true → StageHolds w done [] below p s.slot s.visited → IsFree w (with_phase p s.slot below) m
+taken_free w done below s m Pre e bounded within leads taken holds = free_clean w (s.slot ∷ below) done m bounded within taken
+taken_free w done below s m Post e bounded within leads taken holds = free_clean w below done m bounded within taken
+taken_free w done below s m Hard e bounded within leads taken holds = free_hard w below s.slot m holds.0 (hard_below w s below (Slot m) holds.0 e leads)
+
+holds-enter : (w : List Node) (done below : List ℕ) (s : Stage) (m : ℕ) (p : Phase) → s.phase ≡ p → Leads w s (Slot m) → StageHolds w done [] below p s.slot s.visited → StageHolds w done (m ∷ []) below p s.slot (s.visited + 1)
+holds-enter w done below s m Pre e leads holds = holds
+holds-enter w done below s m Post e leads holds = holds
+holds-enter w done below s m Hard e leads holds =
+    let ts : List Target = (node_at w s.slot).hard in
+    let hard_leads : drop s.visited ts ≡ Slot m ∷ left_of w (next_stage s) = sym (ap (λ ph. drop s.visited (targets_of (node_at w s.slot) ph)) e) ∙ leads in
+    let before : list_all (is_in (m ∷ done)) (take s.visited ts) ≡ true = all_in-grows done (m ∷ done) (take s.visited ts) (λ q g. or_comes (nat_eq q m) (has done q) g) holds.1 in
+    (holds.0, ap (list_all (is_in (m ∷ done))) (take-first ts s.visited (Slot m) (left_of w (next_stage s)) hard_leads) ∙ all-append (is_in (m ∷ done)) (take s.visited ts) (Slot m ∷ []) before (and_makes (has (m ∷ done) m) true (has-same done m m refl) refl))
+
+-- a module is entered
+pub Visits-enter : {w : List Node} {begun : ℕ} {marks : List Mark} {order : List ℕ} {s : Stage} {ss : List Stage} → Visits w begun marks order (s ∷ ss) → (m : ℕ) → Leads w s (Slot m) → m < length w → mark_at marks m ≡ New → is_taken w (progress_of (s ∷ ss)) order s.phase (Slot m) ≡ true → Visits w begun (set marks m Open) order (first_stage Pre m ∷ next_stage s ∷ ss)
+Visits-enter {w} {begun} {marks} {order} {s} {ss} v m leads within mark taken =
+    let facts : (has order m ≡ false) × (has (progress_of (s ∷ ss)) m ≡ false) = mark_new (has order m) (has (progress_of (s ∷ ss)) m) (sym (v.marked m within) ∙ mark) in
+    let off : has (slots_of (s ∷ ss)) m ≡ false = progress_or_done w order [] (s ∷ ss) m v.holds facts.1 facts.0 in
+    let room : suc (length (slots_of (s ∷ ss))) ≤ length w = room_for (length w) (slots_of (s ∷ ss)) m v.apart v.below off within in
+    let lengths : length (slots_of (s ∷ ss)) ≡ suc (length ss) = slots-length (s ∷ ss) in
+    let deep : suc (suc (length ss)) ≤ length w = omega (arith, room, lengths) in
+    let free : IsFree w (progress_of (s ∷ ss)) m = taken_free w order (progress_of ss) s m s.phase refl v.kept.bounded within leads taken v.holds.0 in
+    record {
+      same = sym (resume-enter w s ss order m leads taken deep) ∙ v.same;
+      long = length-set marks m Open ∙ v.long;
+      below = below_cons (length w) (slots_of (s ∷ ss)) m v.below within;
+      apart = IsDistinct-cons nat_eq m (slots_of (s ∷ ss)) (apart_from (slots_of (s ∷ ss)) m off) v.apart;
+      kept = record {
+        bounded = v.kept.bounded;
+        order = v.kept.order;
+        off = λ q g. elim (eqb_tells q m) [ inl t ↦ subst (λ y. has order y ≡ false) (sym t.1) facts.0 | inr t ↦ v.kept.off q (sym (has-other (progress_of (s ∷ ss)) m q t.0) ∙ g) ];
+        entered = v.kept.entered;
+      };
+      marked = marks-open (length w) marks (progress_of (s ∷ ss)) order m v.long within facts.0 v.marked;
+      holds = (free, (holds-enter w order (progress_of ss) s m s.phase refl leads v.holds.0, v.holds.1));
+    }
+
+-- the visit begins
+pub Visits-begin : (w : List Node) (begun : ℕ) (marks : List Mark) (order : List ℕ) (ss : List Stage) (reached : List ℕ) → is_bounded w ≡ true → hard_walk w true (Slot begun) ≡ Ok reached → begun < length w → length marks ≡ length w → AreMarks (length w) marks [] [] → order ≡ [] → ss ≡ first_stage Pre begun ∷ [] → Visits w begun (set marks begun Open) order ss
+Visits-begin w begun marks order ss reached bounded walked within long new none one =
+    let fuel : length w ≡ suc (length w - suc zero) = omega arith in
+    let free : IsFree w [] begun = free_walk w [] begun (Ok reached) bounded within walked (none_free reached) in
+    let v : Visits w begun (set marks begun Open) [] (first_stage Pre begun ∷ []) = record {
+      same = sym (ap (λ n. visit w n [] [] (Slot begun)) fuel);
+      long = length-set marks begun Open ∙ long;
+      below = below_cons (length w) [] begun (λ q h. absurd (cc)) within;
+      apart = IsDistinct-cons nat_eq begun [] tt nothing_apart;
+      kept = record { bounded = bounded; order = start; off = λ q g. refl; entered = λ q g. absurd (cc) };
+      marked = marks-open (length w) marks [] [] begun long within refl new;
+      holds = (free, tt);
+    } in
+    rw (none, one) v
+  where
+    none_in : (ms : List ℕ) → list_any (has []) ms ≡ false
+    none_in [] = refl
+    none_in (x ∷ xs) = none_in xs
+
+    none_free : (ms : List ℕ) → is_free [] (Ok ms) ≡ true
+    none_free ms = ap not (none_in ms)
+
+pub Visits-over : {w : List Node} {begun : ℕ} {marks : List Mark} {order : List ℕ} → Visits w begun marks order [] → order ≡ visit w (length w) [] [] (Slot begun)
+Visits-over v = v.same
+
+-- what the code knows of what is taken
+abbrev pub TakenAt : List Node → List Mark → Stage → Move → Type 0
+TakenAt w marks s move = (progress done : List ℕ) → AreMarks (length w) marks progress done → IsKept w progress done → IsUnmetFirst w progress s → IsTaken w progress done s move
+
+taken_here : {w : List Node} {begun : ℕ} {marks : List Mark} {order : List ℕ} {s : Stage} {ss : List Stage} → Visits w begun marks order (s ∷ ss) → (move : Move) → TakenAt w marks s move → IsTaken w (progress_of (s ∷ ss)) order s move
+taken_here {w} {begun} {marks} {order} {s} {ss} v move taken = taken (progress_of (s ∷ ss)) order v.marked v.kept (unmet_first w order [] s ss v.holds)
+
+pub Visits-by_pass : {w : List Node} {begun : ℕ} {marks : List Mark} {order : List ℕ} {s next : Stage} {ss : List Stage} → Visits w begun marks order (s ∷ ss) → IsMove w marks s (Pass next) → TakenAt w marks s (Pass next) → Visits w begun marks order (next ∷ ss)
+Visits-by_pass {w} {begun} {marks} {order} {s} {next} {ss} v move taken =
+    subst (λ x. Visits w begun marks order (x ∷ ss)) (sym move.2) (Visits-pass v move.0 move.1 (taken_here v (Pass next) taken move.0 move.1))
+
+pub Visits-by_append : {w : List Node} {begun : ℕ} {marks : List Mark} {order : List ℕ} {s next : Stage} {ss : List Stage} → Visits w begun marks order (s ∷ ss) → IsMove w marks s (Append next) → Visits w begun (set marks s.slot Done) (order ++ s.slot ∷ []) (next ∷ ss)
+Visits-by_append {w} {begun} {marks} {order} {s} {next} {ss} v move =
+    subst (λ x. Visits w begun (set marks s.slot Done) (order ++ s.slot ∷ []) (x ∷ ss)) (sym move.2) (Visits-append v move.0 move.1)
+
+pub Visits-by_enter : {w : List Node} {begun : ℕ} {marks : List Mark} {order : List ℕ} {s next : Stage} {ss : List Stage} (m : ℕ) → Visits w begun marks order (s ∷ ss) → IsMove w marks s (Enter m next) → TakenAt w marks s (Enter m next) → Visits w begun (set marks m Open) order (first_stage Pre m ∷ next ∷ ss)
+Visits-by_enter {w} {begun} {marks} {order} {s} {next} {ss} m v move taken =
+    subst (λ x. Visits w begun (set marks m Open) order (first_stage Pre m ∷ x ∷ ss)) (sym move.3) (Visits-enter v m move.0 move.1 move.2 (taken_here v (Enter m next) taken))
+
+-- The measure of a visit: a bound on the targets that are left to visit.
+abbrev pub targets : Node → ℕ
+targets x = length x.pre + length x.hard + length x.post
+
+abbrev pub links : List Node → ℕ
+links w = sum_by targets w
+
+abbrev pub behind_work : List Node → ℕ → Phase → ℕ
+behind_work w m Pre = length (node_at w m).hard + length (node_at w m).post + 3
+behind_work w m Hard = length (node_at w m).post + 2
+behind_work w m Post = 1
+
+abbrev pub stage_work : List Node → Stage → ℕ
+stage_work w s = length (left_of w s) + behind_work w s.slot s.phase
+
+abbrev pub work : List Node → List Stage → ℕ
+work w ss = sum_by (stage_work w) ss
+
+abbrev pub effort : List Node → List Mark → List Stage → ℕ
+effort w marks ss = sum_by fresh_of marks * (links w + 3) + work w ss
+
+work-cons : (w : List Node) (s : Stage) (ss : List Stage) → work w (s ∷ ss) ≡ stage_work w s + work w ss
+work-cons w s ss = sum_by-cons (stage_work w) s ss
+
+pub effort-pass : (w : List Node) (marks : List Mark) (s : Stage) (ss : List Stage) (t : Target) → Leads w s t → effort w marks (next_stage s ∷ ss) < effort w marks (s ∷ ss)
+effort-pass w marks s ss t leads =
+    let shorter : length (left_of w s) ≡ suc (length (left_of w (next_stage s))) = ap length leads in
+    omega (arith, shorter, work-cons w s ss, work-cons w (next_stage s) ss)
+
+pub effort-turn : (w : List Node) (marks : List Mark) (s : Stage) (ss : List Stage) → s.phase ≡ Pre → effort w marks (first_stage Hard s.slot ∷ ss) < effort w marks (s ∷ ss)
+effort-turn w marks s ss phase =
+    let own : behind_work w s.slot s.phase ≡ length (node_at w s.slot).hard + length (node_at w s.slot).post + 3 = ap (behind_work w s.slot) phase in
+    omega (arith, own, work-cons w s ss, work-cons w (first_stage Hard s.slot) ss)
+
+pub effort-leave : (w : List Node) (marks : List Mark) (s : Stage) (ss : List Stage) → s.phase ≡ Post → effort w marks ss < effort w marks (s ∷ ss)
+effort-leave w marks s ss phase =
+    let own : behind_work w s.slot s.phase ≡ 1 = ap (behind_work w s.slot) phase in
+    omega (arith, own, work-cons w s ss)
+
+pub effort-append : (w : List Node) (marks : List Mark) (s : Stage) (ss : List Stage) → s.phase ≡ Hard → s.slot < length marks → effort w (set marks s.slot Done) (first_stage Post s.slot ∷ ss) < effort w marks (s ∷ ss)
+effort-append w marks s ss phase inside =
+    let sums : sum_by fresh_of (set marks s.slot Done) + fresh_of (mark_at marks s.slot) ≡ sum_by fresh_of marks + 0 = sum_by-set fresh_of marks s.slot Done Done inside in
+    let fewer : sum_by fresh_of (set marks s.slot Done) ≤ sum_by fresh_of marks = omega arith in
+    let times : sum_by fresh_of (set marks s.slot Done) * (links w + 3) ≤ sum_by fresh_of marks * (links w + 3) = mul-le-mul_right (links w + 3) fewer in
+    let own : behind_work w s.slot s.phase ≡ length (node_at w s.slot).post + 2 = ap (behind_work w s.slot) phase in
+    omega (arith, times, own, work-cons w s ss, work-cons w (first_stage Post s.slot) ss)
+
+pub effort-enter : (w : List Node) (marks : List Mark) (s : Stage) (ss : List Stage) (m : ℕ) → Leads w s (Slot m) → mark_at marks m ≡ New → m < length w → m < length marks → effort w (set marks m Open) (first_stage Pre m ∷ next_stage s ∷ ss) < effort w marks (s ∷ ss)
+effort-enter w marks s ss m leads mark within inside =
+    let sums : sum_by fresh_of (set marks m Open) + fresh_of (mark_at marks m) ≡ sum_by fresh_of marks + 0 = sum_by-set fresh_of marks m Open Done inside in
+    let one : fresh_of (mark_at marks m) ≡ 1 = ap fresh_of mark in
+    let fewer : sum_by fresh_of marks ≡ sum_by fresh_of (set marks m Open) + 1 = omega arith in
+    let times : sum_by fresh_of marks * (links w + 3) ≡ sum_by fresh_of (set marks m Open) * (links w + 3) + 1 * (links w + 3) = ap (λ x. x * (links w + 3)) fewer ∙ add-mul (sum_by fresh_of (set marks m Open)) 1 (links w + 3) in
+    let shorter : length (left_of w s) ≡ suc (length (left_of w (next_stage s))) = ap length leads in
+    let most : targets (node_at w m) ≤ links w = get_or-le-sum_by targets w m no_node within in
+    omega (arith, times, shorter, most, work-cons w s ss, work-cons w (first_stage Pre m) (next_stage s ∷ ss), work-cons w (next_stage s) ss)
+
+-- a stack in a vector has its top last
+abbrev pub stack_of : List Stage → List Stage
+stack_of stages = reverse stages
+
+reverse-last : (ss : List Stage) (s : Stage) → reverse (ss ++ s ∷ []) ≡ s ∷ reverse ss
+reverse-last ss s = reverse-append ss (s ∷ [])
+
+pub stack-pop : (new : List Stage) {old : List Stage} {s : Stage} → old ≡ new ++ s ∷ [] → stack_of old ≡ s ∷ stack_of new
+stack-pop new {old} {s} e = ap reverse e ∙ reverse-last new s
+
+pub stack-push : (old : List Stage) {new : List Stage} {s : Stage} → new ≡ old ++ s ∷ [] → stack_of new ≡ s ∷ stack_of old
+stack-push old {new} {s} e = ap reverse e ∙ reverse-last old s
+
+pub stack-push_two : (old : List Stage) {mid new : List Stage} {s r : Stage} → mid ≡ old ++ r ∷ [] → new ≡ mid ++ s ∷ [] → stack_of new ≡ s ∷ r ∷ stack_of old
+stack-push_two old {mid} {new} {s} {r} e e2 = stack-push mid e2 ∙ ap (λ l. s ∷ l) (stack-push old e)

@@ -1,0 +1,8 @@
+use Rattle.load_plan.proofs.Visiting.{Visits, effort, stack_of}
+use Rattle.load_plan.proofs.visit.visit.Given as goal
+
+abbrev pub invariant-visit : goal.invariant-visit
+invariant-visit l = Visits l.graph l.start l.marks.items l.order.items (stack_of l.stages.items)
+
+abbrev pub decreases-visit : goal.decreases-visit
+decreases-visit l = effort l.graph l.marks.items (stack_of l.stages.items)

@@ -1,0 +1,61 @@
+-- Serves proofs alone: marks by slot, and one step of a walk with a stack of its own.
+use Rattle.std.specs.Prelude.{◌≡◌, ℕ, ◌+◌, ◌<◌, Bool, true, false, ◌&&◌, List, [], ◌∷◌, length, drop, map, not, slice_index_or}
+use Rattle.load_plan.specs.declared.graph.Target.{Target}
+use Rattle.load_plan.specs.declared.graph.Target.TheVariants.{Slot, Missing}
+use Rattle.load_plan.specs.declared.graph.Node.{Node}
+use Rattle.load_plan.specs.declared.plan.PlanStep.{PlanStep}
+use Rattle.load_plan.specs.declared.walk.Mark.{Mark}
+use Rattle.load_plan.specs.declared.walk.Mark.TheVariants.{New, Open, Done}
+use Rattle.load_plan.specs.declared.walk.Frame.{Frame}
+use Rattle.load_plan.specs.declared.walk.Step.{Step}
+use Rattle.load_plan.specs.declared.walk.Step.TheVariants.{Finish, Pass, Enter, Again, Blocked, Nowhere}
+use Rattle.load_plan.specs.Graph.{node_at, is_bounded}
+use Rattle.load_plan.specs.Laws.{IsOrder}
+use Rattle.load_plan.specs.Walk.{has}
+
+-- the mark of a module, by whether it is done and whether it is on the way
+abbrev pub mark_of : Bool → Bool → Mark
+mark_of true way = Done
+mark_of false true = Open
+mark_of false false = New
+
+abbrev pub mark_at : List Mark → ℕ → Mark
+mark_at marks m = slice_index_or marks m Done
+
+-- the marks of all modules are those of a way and of a list
+abbrev pub AreMarks : ℕ → List Mark → List ℕ → List ℕ → Type 0
+AreMarks n marks way done = (m : ℕ) → m < n → mark_at marks m ≡ mark_of (has done m) (has way m)
+
+-- what is left to walk of a module's hard dependencies
+abbrev pub left_of : List Node → Frame → List Target
+left_of graph frame = drop frame.walked (node_at graph frame.slot).hard
+
+abbrev pub next_frame : Frame → Frame
+next_frame frame = record { slot = frame.slot; walked = frame.walked + 1 }
+
+-- the target is the first that is left
+abbrev pub Leads : List Node → Frame → Target → Type 0
+Leads graph frame target = left_of graph frame ≡ target ∷ left_of graph (next_frame frame)
+
+abbrev pub IsStep : List Node → Bool → List Mark → Frame → Step → Type 0
+IsStep graph tests marks frame Finish = left_of graph frame ≡ []
+IsStep graph tests marks frame (Pass next) = (m : ℕ) × Leads graph frame (Slot m) × (mark_at marks m ≡ Done) × (m < length graph) × (next ≡ next_frame frame)
+IsStep graph tests marks frame (Enter m next) = Leads graph frame (Slot m) × (mark_at marks m ≡ New) × ((tests && (node_at graph m).installs) ≡ false) × (m < length graph) × (next ≡ next_frame frame)
+IsStep graph tests marks frame (Again m) = Leads graph frame (Slot m) × (mark_at marks m ≡ Open) × (m < length graph)
+IsStep graph tests marks frame (Blocked m) = Leads graph frame (Slot m) × (mark_at marks m ≡ New) × ((tests && (node_at graph m).installs) ≡ true) × (m < length graph)
+IsStep graph tests marks frame (Nowhere name) = Leads graph frame (Missing name.now)
+
+-- what a visit has made so far: an order without a module in progress, of modules that a walk may enter
+pub record IsKept (graph : List Node) (progress done : List ℕ) : Type 0 where
+  pub bounded : is_bounded graph ≡ true
+  pub order : IsOrder graph done
+  pub off : (q : ℕ) → has progress q ≡ true → has done q ≡ false
+  pub entered : (q : ℕ) → has done q ≡ true → (q < length graph) × ((node_at graph q).installs ≡ false)
+
+abbrev pub is_done_mark : Mark → Bool
+is_done_mark Done = true
+is_done_mark _ = false
+
+-- the steps of a list, soft where the mark is not Done
+abbrev pub steps_of : List Mark → List ℕ → List PlanStep
+steps_of marks ms = map (λ m. record { slot = m; soft = not (is_done_mark (slice_index_or marks m New)) }) ms

@@ -1,0 +1,14 @@
+-- What a call answered, against what a definition gives.
+use Rattle.std.specs.Prelude.{◌≡◌, Result, Ok, Err}
+use Rattle.load_plan.specs.declared.refusal.PlanRefusal.{PlanRefusal}
+use Rattle.load_plan.specs.declared.refusal.WalkError.{WalkError}
+use Rattle.load_plan.specs.declared.refusal.WalkError.TheVariants.{Refused, Memory}
+
+abbrev pub StopsAs : {A : Type 0} → WalkError → Result A PlanRefusal → Type 0
+StopsAs Memory given = Unit {0}
+StopsAs (Refused refusal) given = given ≡ Err refusal
+
+-- the answer is what the definition gives, unless memory ran out
+abbrev pub Gives : {X A : Type 0} → (X → A) → Result X WalkError → Result A PlanRefusal → Type 0
+Gives view (Ok x) given = given ≡ Ok (view x)
+Gives view (Err e) given = StopsAs e given

@@ -1,0 +1,212 @@
+//! The visit: a module, what it stands on and the soft items that are clean, by marks and a stack of its own.
+ghost use Rattle.std.specs.Prelude.{◌≡◌, ◌<◌, ℕ, List, [], length, nat_lt, true, MatchOption, IfSome, IfOk};
+ghost use Rattle.std.specs.List.{list_all};
+ghost use Rattle.load_plan.specs.declared.walk.Mark.TheVariants.{New};
+ghost use Rattle.load_plan.specs.declared.graph.Target.TheVariants.{Slot};
+ghost use Rattle.load_plan.specs.ForProofs.{AreMarks, mark_at, IsKept};
+ghost use Rattle.load_plan.specs.declared.walk.Mark.{Mark};
+ghost use Rattle.load_plan.specs.declared.graph.Node.{Node};
+ghost use Rattle.load_plan.specs.VisitSteps.{IsMove, IsTaken, IsUnmet, IsUnmetFirst, is_taken, left_of, Leads, next_stage, targets_of};
+ghost use Rattle.load_plan.specs.Graph.{is_within, node_at};
+ghost use Rattle.load_plan.specs.Plan.{is_clean, visit};
+ghost use Rattle.load_plan.specs.Walk.{hard_walk};
+
+use crate::graph::{DependencyGraph, Target, Targets};
+use crate::refusal::WalkError;
+use crate::walk::{Mark, new_marks, walk};
+use std::alloc::{AllocError, Global};
+
+/// Which targets of a module a visit goes through.
+#[derive(Clone, Copy)]
+enum Phase {
+    Pre,
+    Hard,
+    Post,
+}
+
+/// A module whose visit has begun, and how many targets of the phase were visited.
+#[derive(Clone, Copy)]
+struct Stage {
+    slot: usize,
+    phase: Phase,
+    visited: usize,
+}
+
+/// What a visit does next.
+#[derive(Clone, Copy)]
+enum Move {
+    Turn(Stage),
+    Append(Stage),
+    Leave,
+    Pass(Stage),
+    Enter(usize, Stage),
+}
+
+/// Whether a soft item is clean: it is new, and its hard walk has no fault and meets no module in progress.
+fn is_clean(
+    alloc: Global,
+    graph: &DependencyGraph,
+    marks: &[Mark],
+    slot: usize,
+) -> Result<bool, AllocError>
+    requires slot { slot < length graph.now }
+    requires marks { length marks.now ≡ length graph.now }
+    ensures clean { (progress done : List ℕ) → AreMarks (length graph.now) marks.now progress done → IsKept graph.now progress done → IfOk result (λ clean. clean ≡ is_clean graph.now progress done (Slot slot)) }
+    ensures new { IfOk result (λ clean. clean ≡ true → mark_at marks.now slot ≡ New) }
+{
+    match marks[slot] {
+        Mark::Open | Mark::Done => Ok(false),
+        Mark::New => {
+            let marks = Vec::from_slice(alloc, marks)?;
+            match walk(alloc, graph, true, marks, slot) {
+                Ok(_) => Ok(true),
+                Err(WalkError::Refused(_)) => Ok(false),
+                Err(WalkError::Memory) => Err(AllocError),
+            }
+        }
+    }
+}
+
+/// Whether a visit enters a module: a hard dependency that is new, or a soft item that is clean.
+fn enters(
+    alloc: Global,
+    graph: &DependencyGraph,
+    marks: &[Mark],
+    phase: Phase,
+    slot: usize,
+) -> Result<bool, AllocError>
+    requires slot { slot < length graph.now }
+    requires marks { length marks.now ≡ length graph.now }
+    ensures taken { (progress done : List ℕ) → AreMarks (length graph.now) marks.now progress done → IsKept graph.now progress done → IsUnmet progress phase (Slot slot) → IfOk result (λ taken. taken ≡ is_taken graph.now progress done phase (Slot slot)) }
+    ensures new { IfOk result (λ taken. taken ≡ true → mark_at marks.now slot ≡ New) }
+{
+    match phase {
+        Phase::Pre | Phase::Post => is_clean(alloc, graph, marks, slot),
+        Phase::Hard => match marks[slot] {
+            Mark::New => Ok(true),
+            Mark::Open | Mark::Done => Ok(false),
+        },
+    }
+}
+
+/// The targets of the stage's phase.
+fn targets_of(graph: &DependencyGraph, stage: Stage) -> &Targets
+    requires { stage.slot < length graph.now }
+    ensures targets { result.now ≡ targets_of (node_at graph.entry.now stage.slot) stage.phase }
+    ensures within { list_all (is_within (length graph.entry.now)) result.now ≡ true }
+{
+    match stage.phase {
+        Phase::Pre => graph.pre(stage.slot),
+        Phase::Hard => graph.hard(stage.slot),
+        Phase::Post => graph.post(stage.slot),
+    }
+}
+
+/// The first target that is left, and the stage behind it.
+fn first_left(graph: &DependencyGraph, stage: Stage) -> Option<(&Target, Stage)>
+    requires { stage.slot < length graph.now }
+    ensures first { MatchOption result (left_of graph.entry.now stage ≡ []) (λ x. Leads graph.entry.now stage x.0.now) }
+    ensures within { IfSome result (λ x. is_within (length graph.entry.now) x.0.now ≡ true) }
+    ensures next { IfSome result (λ x. x.1 ≡ next_stage stage) }
+{
+    match targets_of(graph, stage).get(stage.visited) {
+        Some(target) => Some((
+            target,
+            Stage {
+                slot: stage.slot,
+                phase: stage.phase,
+                visited: stage.visited + 1,
+            },
+        )),
+        None => None,
+    }
+}
+
+/// What comes behind the last target of a phase.
+fn behind(stage: Stage) -> Move
+    ensures moves { (graph : List Node) (marks : List Mark) → left_of graph stage ≡ [] → IsMove graph marks stage result }
+    ensures taken { (graph : List Node) (progress done : List ℕ) → IsTaken graph progress done stage result }
+{
+    let slot = stage.slot;
+    match stage.phase {
+        Phase::Pre => Move::Turn(Stage {
+            slot,
+            phase: Phase::Hard,
+            visited: 0,
+        }),
+        Phase::Hard => Move::Append(Stage {
+            slot,
+            phase: Phase::Post,
+            visited: 0,
+        }),
+        Phase::Post => Move::Leave,
+    }
+}
+
+fn next_move(
+    alloc: Global,
+    graph: &DependencyGraph,
+    marks: &[Mark],
+    stage: Stage,
+) -> Result<Move, AllocError>
+    requires slot { stage.slot < length graph.now }
+    requires marks { length marks.now ≡ length graph.now }
+    ensures moves { IfOk result (IsMove graph.now marks.now stage) }
+    ensures taken { (progress done : List ℕ) → AreMarks (length graph.now) marks.now progress done → IsKept graph.now progress done → IsUnmetFirst graph.now progress stage → IfOk result (IsTaken graph.now progress done stage) }
+{
+    match first_left(graph, stage) {
+        None => Ok(behind(stage)),
+        Some((Target::Missing(_), next)) => Ok(Move::Pass(next)),
+        Some((Target::Slot(slot), next)) => {
+            if enters(alloc, graph, marks, stage.phase, *slot)? {
+                Ok(Move::Enter(*slot, next))
+            } else {
+                Ok(Move::Pass(next))
+            }
+        }
+    }
+}
+
+/// The visit of a module whose hard walk has no fault: all that is loaded for it, in order.
+pub fn visit(alloc: Global, graph: &DependencyGraph, start: usize) -> Result<Vec<usize>, AllocError>
+    requires start { start < length graph.now }
+    requires walked { (reached : List ℕ) × (hard_walk graph.now true (Slot start) ≡ Ok reached) }
+    ensures order { IfOk result (λ order. order.items ≡ visit graph.now (length graph.now) [] [] (Slot start)) }
+    ensures within { IfOk result (λ order. list_all (λ m. nat_lt m (length graph.now)) order.items ≡ true) }
+{
+    let mut marks = new_marks(alloc, graph.len())?;
+    marks[start] = Mark::Open;
+    let mut order = Vec::new(alloc);
+    let mut stages = Vec::new(alloc);
+    stages.push(Stage {
+        slot: start,
+        phase: Phase::Pre,
+        visited: 0,
+    })?;
+    'visit: while let Some(stage) = stages.pop() {
+        match next_move(alloc, graph, &marks, stage)? {
+            Move::Turn(next) => {
+                stages.push(next)?;
+            }
+            Move::Pass(next) => {
+                stages.push(next)?;
+            }
+            Move::Append(next) => {
+                marks[stage.slot] = Mark::Done;
+                order.push(stage.slot)?;
+                stages.push(next)?;
+            }
+            Move::Leave => {}
+            Move::Enter(slot, next) => {
+                marks[slot] = Mark::Open;
+                stages.push(next)?;
+                stages.push(Stage {
+                    slot,
+                    phase: Phase::Pre,
+                    visited: 0,
+                })?;
+            }
+        }
+    }
+    Ok(order)
+}

@@ -1,0 +1,163 @@
+//! The hard walk: a module and all that it stands on, depth first, by marks and a stack of its own.
+ghost use Rattle.std.specs.Prelude.{◌≡◌, ◌<◌, ◌&&◌, ℕ, List, [], ◌++◌, length, replicate, true, MatchOption, IfSome, IfOk};
+ghost use Rattle.load_plan.specs.declared.walk.Mark.TheVariants.{New};
+ghost use Rattle.load_plan.specs.declared.walk.Walked.{Walked};
+ghost use Rattle.load_plan.specs.declared.graph.Target.TheVariants.{Slot};
+ghost use Rattle.load_plan.specs.ForProofs.{AreMarks, IsStep, left_of, mark_at, next_frame, Leads};
+ghost use Rattle.load_plan.specs.Graph.{is_within, node_at};
+ghost use Rattle.load_plan.specs.Results.{Gives};
+ghost use Rattle.load_plan.specs.Walk.{hard_walk, walk};
+
+use crate::graph::{DependencyGraph, Target};
+use crate::refusal::{PlanRefusal, WalkError};
+use dep_index::Name;
+use std::alloc::{AllocError, Global};
+
+/// Where a walk or a visit is with a module.
+#[derive(Clone, Copy, Debug, PartialEq, Eq)]
+pub enum Mark {
+    New,
+    Open,
+    Done,
+}
+
+/// A module on the way, and how many of its hard dependencies were walked.
+#[derive(Clone, Copy)]
+struct Frame {
+    slot: usize,
+    walked: usize,
+}
+
+/// What the first dependency that is left asks of a walk.
+#[derive(Clone, Copy)]
+enum Step<'a> {
+    Finish,
+    Pass(Frame),
+    Enter(usize, Frame),
+    Again(usize),
+    Blocked(usize),
+    Nowhere(&'a Name),
+}
+
+/// What a walk finished, in order, and the marks behind it.
+#[derive(Drop)]
+pub struct Walked {
+    pub order: Vec<usize>,
+    pub marks: Vec<Mark>,
+}
+
+/// Whether the walk stops at a module for its install line.
+fn is_blocked(graph: &DependencyGraph, tests: bool, slot: usize) -> bool
+    requires { slot < length graph.now }
+    ensures { result ≡ (tests && (node_at graph.now slot).installs) }
+{
+    tests && graph.installs(slot)
+}
+
+/// The first hard dependency that is left, and the frame behind it.
+fn first_left(graph: &DependencyGraph, frame: Frame) -> Option<(&Target, Frame)>
+    requires { frame.slot < length graph.now }
+    ensures first { MatchOption result (left_of graph.entry.now frame ≡ []) (λ x. Leads graph.entry.now frame x.0.now) }
+    ensures within { IfSome result (λ x. is_within (length graph.entry.now) x.0.now ≡ true) }
+    ensures next { IfSome result (λ x. x.1 ≡ next_frame frame) }
+{
+    match graph.hard(frame.slot).get(frame.walked) {
+        Some(target) => Some((
+            target,
+            Frame {
+                slot: frame.slot,
+                walked: frame.walked + 1,
+            },
+        )),
+        None => None,
+    }
+}
+
+fn next_step<'a>(graph: &'a DependencyGraph, tests: bool, marks: &[Mark], frame: Frame) -> Step<'a>
+    requires slot { frame.slot < length graph.now }
+    requires marks { length marks.now ≡ length graph.now }
+    ensures { IsStep graph.entry.now tests marks.now frame result }
+{
+    match first_left(graph, frame) {
+        None => Step::Finish,
+        Some((Target::Missing(name), _)) => Step::Nowhere(name),
+        Some((Target::Slot(slot), next)) => match marks[*slot] {
+            Mark::Done => Step::Pass(next),
+            Mark::Open => Step::Again(*slot),
+            Mark::New if is_blocked(graph, tests, *slot) => Step::Blocked(*slot),
+            Mark::New => Step::Enter(*slot, next),
+        },
+    }
+}
+
+/// A mark for each module, all New.
+pub fn new_marks(alloc: Global, count: usize) -> Result<Vec<Mark>, AllocError>
+    ensures { IfOk result (λ marks. marks.items ≡ replicate count New) }
+{
+    vec![in alloc; Mark::New; count]
+}
+
+/// The walk from a new module, on from marks: the modules that it finishes, in order.
+/// Marks that are Open are on the way, marks that are Done are finished.
+pub fn walk(
+    alloc: Global,
+    graph: &DependencyGraph,
+    tests: bool,
+    mut marks: Vec<Mark>,
+    start: usize,
+) -> Result<Walked, WalkError>
+    requires start { start < length graph.now }
+    requires marks { length marks.items ≡ length graph.now }
+    requires new { mark_at marks.items start ≡ New }
+    ensures order { (way done : List ℕ) → AreMarks (length graph.now) marks.items way done → Gives (λ (w : Walked). done ++ w.order.items) result (walk graph.now tests (length graph.now) way done (Slot start)) }
+    ensures long { IfOk result (λ w. length w.marks.items ≡ length graph.now) }
+    ensures marks { (way done : List ℕ) → AreMarks (length graph.now) marks.items way done → IfOk result (λ w. AreMarks (length graph.now) w.marks.items way (done ++ w.order.items)) }
+{
+    if is_blocked(graph, tests, start) {
+        return Err(WalkError::Refused(PlanRefusal::Install(start)));
+    }
+    marks[start] = Mark::Open;
+    let mut order = Vec::new(alloc);
+    let mut frames = Vec::new(alloc);
+    frames.push(Frame {
+        slot: start,
+        walked: 0,
+    })?;
+    'walk: while let Some(frame) = frames.pop() {
+        match next_step(graph, tests, &marks, frame) {
+            Step::Finish => {
+                marks[frame.slot] = Mark::Done;
+                order.push(frame.slot)?;
+            }
+            Step::Pass(next) => frames.push(next)?,
+            Step::Enter(slot, next) => {
+                marks[slot] = Mark::Open;
+                frames.push(next)?;
+                frames.push(Frame { slot, walked: 0 })?;
+            }
+            Step::Again(slot) => return Err(WalkError::Refused(PlanRefusal::Cycle(slot))),
+            Step::Blocked(slot) => return Err(WalkError::Refused(PlanRefusal::Install(slot))),
+            Step::Nowhere(name) => {
+                let name = Name::new(alloc, name.as_bytes())?;
+                return Err(WalkError::Refused(PlanRefusal::Unknown(name)));
+            }
+        }
+    }
+    Ok(Walked { order, marks })
+}
+
+/// The hard walk from a module: what it reaches, each dependency before its user.
+pub fn hard_walk(
+    alloc: Global,
+    graph: &DependencyGraph,
+    tests: bool,
+    start: usize,
+) -> Result<Walked, WalkError>
+    requires { start < length graph.now }
+    ensures order { Gives (λ (w : Walked). w.order.items) result (hard_walk graph.now tests (Slot start)) }
+    ensures long { IfOk result (λ w. length w.marks.items ≡ length graph.now) }
+    ensures marks { IfOk result (λ w. AreMarks (length graph.now) w.marks.items [] w.order.items) }
+{
+    let marks = new_marks(alloc, graph.len())?;
+    walk(alloc, graph, tests, marks, start)
+}

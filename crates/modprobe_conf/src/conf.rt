@@ -1,0 +1,170 @@
+ghost use Rattle.std.specs.Prelude.{◌≡◌, ◌<◌, ◌∷◌, [], length, IfOk, OnOk, Some, slice_get, option_map, option_copied};
+ghost use Rattle.dep_index.specs.Text.{texts_of};
+ghost use Rattle.alias_match.specs.Aliases.{line_before, words_before};
+ghost use Rattle.alias_match.specs.ForProofs.{nothing_read};
+ghost use Rattle.modprobe_conf.specs.Configuration.{configuration_of, entry_of, options_of, softdep_of, has_install_line, has_remove_line, is_blacklisted};
+ghost use Rattle.modprobe_conf.specs.ForProofs.{no_configuration, with_entry, with_lines, entry_seen};
+
+use crate::entry::Entry;
+use crate::joined_lines::JoinedLines;
+use crate::name_index::NameIndex;
+use crate::softdep::Softdep;
+use crate::word::Word;
+use alias_match::{Alias, Pattern};
+use dep_index::Name;
+use dep_index::text::{is_comment, words};
+use std::alloc::{AllocError, Global};
+use std::marker::Model;
+
+/// What a configuration says: its aliases in file order, what its lines say of each name, and the numbers of the
+/// lines that are skipped. Names are compared as they stand, so give them in normal form.
+#[derive(Drop)]
+pub struct Conf {
+    aliases: Vec<Alias>,
+    index: NameIndex,
+    skipped: Vec<usize>,
+}
+
+impl Model for Conf {
+    ghost use Rattle.modprobe_conf.specs.Configuration.{Configuration};
+
+    ghost Value = { Configuration };
+
+    ghost view = { λ c. record { aliases = c.aliases.items; modules = c.index; skipped = c.skipped.items } };
+}
+
+impl Conf {
+    fn new(alloc: Global) -> Conf
+        ensures { result ≡ no_configuration }
+    {
+        Conf {
+            aliases: Vec::new(alloc),
+            index: NameIndex::new(alloc),
+            skipped: Vec::new(alloc),
+        }
+    }
+
+    fn add_entry(&mut self, alloc: Global, entry: Entry) -> Result<(), AllocError>
+        ensures { OnOk result (self.new ≡ with_entry self.old (entry_seen entry)) }
+    {
+        match entry {
+            Entry::Aliased(alias) => self.aliases.push(alias)?,
+            Entry::Named(name, line) => self.index.add(alloc, &name, line)?,
+        }
+        Ok(())
+    }
+
+    fn add_words(&mut self, alloc: Global, number: usize, words: &[&[u8]]) -> Result<(), AllocError>
+        ensures { OnOk result (self.new ≡ with_lines self.old (words_before entry_of number (texts_of words.now) nothing_read)) }
+    {
+        if words.is_empty() {
+            return Ok(());
+        }
+        match Entry::read(alloc, words)? {
+            Some(entry) => self.add_entry(alloc, entry)?,
+            None => self.skipped.push(number)?,
+        }
+        Ok(())
+    }
+
+    fn add_line(&mut self, alloc: Global, number: usize, line: &[u8]) -> Result<(), AllocError>
+        ensures { OnOk result (self.new ≡ with_lines self.old (line_before entry_of (number, line.now) nothing_read)) }
+    {
+        if is_comment(line) {
+            return Ok(());
+        }
+        let words = words(alloc, line)?;
+        self.add_words(alloc, number, &words)
+    }
+
+    /// How many alias lines there are.
+    pub fn alias_len(&self) -> usize
+        ensures { result ≡ length self.now.aliases }
+    {
+        self.aliases.len()
+    }
+
+    /// The pattern of an alias, by its place in file order, from 0.
+    pub fn alias_pattern(&self, i: usize) -> &Pattern
+        requires { i < length self.now.aliases }
+        ensures { option_map (λ alias. alias.pattern) (slice_get self.now.aliases i) ≡ Some result.now }
+    {
+        &self.aliases[i].pattern
+    }
+
+    /// The target of an alias, in normal form, by its place in file order, from 0.
+    pub fn alias_target(&self, i: usize) -> &Name
+        requires { i < length self.now.aliases }
+        ensures { option_map (λ alias. alias.target) (slice_get self.now.aliases i) ≡ Some result.now }
+    {
+        &self.aliases[i].target
+    }
+
+    /// The words of all options lines of the name, in file order.
+    pub fn options(&self, name: &[u8]) -> &[Word]
+        ensures { result.now ≡ options_of self.now name.now }
+    {
+        match self.index.at(name) {
+            Some(settings) => settings.options(),
+            None => &[],
+        }
+    }
+
+    /// The items of the first softdep line of the name.
+    pub fn softdep(&self, name: &[u8]) -> Option<&Softdep>
+        ensures { option_copied result ≡ softdep_of self.now name.now }
+    {
+        self.index.at(name)?.softdep()
+    }
+
+    /// Whether the name has an install line.
+    pub fn install_line(&self, name: &[u8]) -> bool
+        ensures { result ≡ has_install_line self.now name.now }
+    {
+        match self.index.at(name) {
+            Some(settings) => settings.has_install(),
+            None => false,
+        }
+    }
+
+    /// Whether the name has a remove line.
+    pub fn remove_line(&self, name: &[u8]) -> bool
+        ensures { result ≡ has_remove_line self.now name.now }
+    {
+        match self.index.at(name) {
+            Some(settings) => settings.has_remove(),
+            None => false,
+        }
+    }
+
+    /// Whether the name has a blacklist line.
+    pub fn blacklisted(&self, name: &[u8]) -> bool
+        ensures { result ≡ is_blacklisted self.now name.now }
+    {
+        match self.index.at(name) {
+            Some(settings) => settings.is_blacklisted(),
+            None => false,
+        }
+    }
+
+    /// The numbers, from 1, of the lines that have a word, are no comment, and have no effect. A joined line has
+    /// the number of its first line.
+    pub fn skipped(&self) -> &[usize]
+        ensures { result.now ≡ self.now.skipped }
+    {
+        &self.skipped
+    }
+}
+
+/// What a whole configuration text says. Only want of memory refuses.
+pub fn read_conf(alloc: Global, text: &[u8]) -> Result<Conf, AllocError>
+    ensures { IfOk result (λ conf. conf ≡ configuration_of text.now) }
+{
+    let mut conf = Conf::new(alloc);
+    let mut lines = JoinedLines::new(text);
+    let mut line = Vec::new(alloc);
+    'lines: while let Some(number) = lines.next_line(&mut line)? {
+        conf.add_line(alloc, number, &line)?;
+    }
+    Ok(conf)
+}

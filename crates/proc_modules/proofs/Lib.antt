@@ -1,0 +1,2 @@
+pub mod ReadingLemmas
+pub mod ReadBack

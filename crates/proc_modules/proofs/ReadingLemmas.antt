@@ -1,0 +1,93 @@
+-- Reading the users of a line, part by part.
+use Rattle.std.proofs.Common.{◌≡◌, ◌==◌, ◌≢◌, Bool, true, false, not, ◌&&◌, ◌||◌, List, [], ◌∷◌, ◌++◌, length, refl, sym, ◌∙◌, ap, arith, ℕ, Option, Some, None, append_assoc}
+use Rattle.std.proofs.Common.{◌<◌, ◌+◌, drop, get_or, drop-cons, add-one, eqb}
+use Rattle.std.proofs.lemmas.List.{length-map}
+use Rattle.std.specs.List.{list_any}
+use Rattle.std.specs.Borrow.{Bor}
+use Rattle.dep_index.specs.Text.{is_name, normal_form, normal_byte, texts_of}
+use Rattle.std.proofs.Common.{position, Result, Ok, Err}
+use Rattle.std.specs.List.{slice_split}
+use Rattle.proc_modules.specs.declared.line.LineError.{LineError}
+use Rattle.proc_modules.specs.declared.line.LineError.TheVariants.{BadName}
+use Rattle.proc_modules.specs.Reading.{is_mark, is_end, is_line_name, with_user, users_at, users_in, numbers_in, first_line, with_used, line_in, line_of}
+
+-- users that were read before the others
+abbrev pub with_users : List (List ℕ) → Option (List (List ℕ) × Bool) → Option (List (List ℕ) × Bool)
+with_users users None = None
+with_users users (Some found) = Some (users ++ found.0, found.1)
+
+pub with_users-nil : (found : Option (List (List ℕ) × Bool)) → with_users [] found ≡ found
+with_users-nil None = refl
+with_users-nil (Some found) = refl
+
+pub with_users-push : (users : List (List ℕ)) (user : List ℕ) (found : Option (List (List ℕ) × Bool))
+    → with_users (users ++ user ∷ []) found ≡ with_users users (with_user user found)
+with_users-push users user None = refl
+with_users-push users user (Some found) = ap (λ (us : List (List ℕ)). Some (us, found.1)) (append_assoc users (user ∷ []) found.0)
+
+-- a name that is not the last part
+pub users_in-name : (user : List ℕ) (later : List (List ℕ)) → (length later == 0) ≡ false → (is_mark user && is_end later) ≡ false → is_line_name user ≡ true
+    → users_in (user ∷ later) ≡ with_user user (users_in later)
+users_in-name user [] more unmarked name = cc
+users_in-name user (next ∷ later) more unmarked name = rw (unmarked, name) refl
+
+-- a part that is neither last nor a name
+pub users_in-bad : (user : List ℕ) (later : List (List ℕ)) → (is_mark user && is_end later) ≡ false → (length later == 0) ≡ false → is_line_name user ≡ false
+    → users_in (user ∷ later) ≡ None
+users_in-bad user [] unmarked more bad = cc
+users_in-bad user (next ∷ later) unmarked more bad = rw (unmarked, bad) refl
+
+undashed : (word : List ℕ) → list_any (λ byte. byte == 45) word ≡ false → normal_form word ≡ word
+undashed [] none = refl
+undashed (byte ∷ word) none = at (eqb byte 45) refl none (undashed word) where
+  at : (b : Bool) → eqb byte 45 ≡ b → (b || list_any (λ x. x == 45) word) ≡ false
+      → (list_any (λ x. x == 45) word ≡ false → normal_form word ≡ word) → normal_form (byte ∷ word) ≡ byte ∷ word
+  at true is free rest = cc
+  at false is free rest = rw is (ap (λ (later : List ℕ). byte ∷ later) (rest free))
+
+-- the name of a line is in normal form
+pub kept_name : (word : List ℕ) → is_line_name word ≡ true → normal_form word ≡ word
+kept_name word name = undashed word (at (is_name word) (list_any (λ byte. byte == 45) word) name) where
+  at : (a b : Bool) → (a && not b) ≡ true → b ≡ false
+  at true true e = cc
+  at true false e = refl
+  at false b e = cc
+
+texts_of-drop : (parts : List (Bor (List ℕ))) (i : ℕ) (d : Bor (List ℕ)) → i < length parts
+    → texts_of (drop i parts) ≡ (get_or parts i d).now ∷ texts_of (drop (i + 1) parts)
+texts_of-drop parts i d below = rw (add-one, drop-cons parts i d) refl
+
+-- one name more was read
+pub users_in-step : (parts later : List (Bor (List ℕ))) (users after : List (List ℕ)) (i : ℕ) (name : List ℕ) (d : Bor (List ℕ)) → i < length parts
+    → later ≡ drop (i + 1) parts → users_in (texts_of parts) ≡ with_users users (users_in (texts_of (drop i parts)))
+    → (length later == 0) ≡ false → (is_mark (get_or parts i d).now && is_end (texts_of later)) ≡ false
+    → is_line_name (get_or parts i d).now ≡ true → name ≡ normal_form (get_or parts i d).now → after ≡ users ++ name ∷ []
+    → users_in (texts_of parts) ≡ with_users after (users_in (texts_of (drop (i + 1) parts)))
+users_in-step parts later users after i name d below rest so_far more unmarked named made pushed =
+    let user : List ℕ = (get_or parts i d).now in
+    let same : name ≡ user = made ∙ kept_name user named in
+    let first : texts_of (drop i parts) ≡ user ∷ texts_of later = texts_of-drop parts i d below ∙ ap (λ (ps : List (Bor (List ℕ))). user ∷ texts_of ps) (sym rest) in
+    let more' : (length (texts_of later) == 0) ≡ false = rw length-map more in
+    so_far
+    ∙ ap (λ (ps : List (List ℕ)). with_users users (users_in ps)) first
+    ∙ ap (with_users users) (users_in-name user (texts_of later) more' unmarked named)
+    ∙ sym (with_users-push users user (users_in (texts_of later)))
+    ∙ ap (λ (u : List ℕ). with_users (users ++ u ∷ []) (users_in (texts_of later))) (sym same)
+    ∙ ap (λ (us : List (List ℕ)). with_users us (users_in (texts_of later))) (sym pushed)
+    ∙ ap (λ (ps : List (Bor (List ℕ))). with_users after (users_in (texts_of ps))) rest
+
+-- where the numbers of a line are read, its name is good
+pub good_name : (name size count : List ℕ) (numbers : ℕ × ℕ) → numbers_in name size count ≡ Ok numbers → is_line_name name ≡ true
+good_name name size count numbers e = at (is_line_name name) refl where
+  at : (b : Bool) → is_line_name name ≡ b → is_line_name name ≡ true
+  at true is = is
+  at false is = let refused : numbers_in name size count ≡ Err BadName = rw is refl in cc
+
+-- a line of refused fields is refused
+pub refused_line : (text part : List ℕ) (used : ℕ) (fields : List (List ℕ)) (refusal : LineError)
+    → (part, used) ≡ first_line text (position (λ byte. byte == 10) text) → fields ≡ slice_split (λ byte. byte == 32) part
+    → line_in fields ≡ Err refusal → line_of text ≡ Err refusal
+refused_line text part used fields refusal first cut refused =
+    ap (λ (x : List ℕ × ℕ). with_used x.1 (line_in (slice_split (λ byte. byte == 32) x.0))) (sym first)
+    ∙ ap (λ (fs : List (List ℕ)). with_used used (line_in fs)) (sym cut)
+    ∙ ap (with_used used) refused

@@ -1,0 +1,4 @@
+pub mod LineText
+pub mod Reading
+pub mod Fields
+pub mod Laws

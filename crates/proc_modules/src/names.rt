@@ -1,0 +1,44 @@
+//! Names in a row.
+ghost use Rattle.std.specs.Prelude.{◌≡◌, [], ◌∷◌, ◌++◌, OnOk};
+
+use dep_index::Name;
+use std::alloc::{AllocError, Global};
+use std::marker::Model;
+
+/// Names in a row. Contracts see them as a list of texts.
+#[derive(Drop)]
+pub struct Names {
+    names: Vec<Name>,
+}
+
+impl Model for Names {
+    ghost use Rattle.std.specs.Prelude.{ℕ, List};
+
+    ghost Value = { List (List ℕ) };
+
+    ghost view = { λ n. n.names.items };
+}
+
+impl Names {
+    pub fn new(alloc: Global) -> Names
+        ensures { result ≡ [] }
+    {
+        Names {
+            names: Vec::new(alloc),
+        }
+    }
+
+    /// Adds a name after the others.
+    pub fn push(&mut self, name: Name) -> Result<(), AllocError>
+        ensures { OnOk result (self.new ≡ self.old ++ name ∷ []) }
+    {
+        self.names.push(name)?;
+        Ok(())
+    }
+
+    pub fn as_slice(&self) -> &[Name]
+        ensures { result.now ≡ self.now }
+    {
+        &self.names
+    }
+}

@@ -1,0 +1,269 @@
+//! Reading lines of /proc/modules.
+ghost use Rattle.std.specs.Prelude.{◌≡◌, ◌≢◌, ◌<◌, ◌==◌, ◌&&◌, length, position, MatchOption, MatchResult, IfOk, IfErr, Ok, Err, Some, None};
+ghost use Rattle.std.specs.List.{list_all, list_any, slice_split};
+ghost use Rattle.std.specs.Str.{bytes_eq};
+ghost use Rattle.dep_index.specs.Text.{texts_of};
+ghost use Rattle.proc_modules.specs.Reading.{is_line_name, line_number, is_mark, is_end, users_in, users_of, state_of, numbers_in, state_in, is_address, is_hex_digit, is_taint, first_line, line_in, line_of};
+ghost use Rattle.proc_modules.specs.Fields.{texts_in};
+
+use crate::line::{Line, LineError, LineState};
+use crate::names::Names;
+use dep_index::Name;
+use dep_index::text::{is_name, number_within};
+use std::alloc::{AllocError, Global};
+
+fn has_dash(word: &[u8]) -> bool
+    ensures { result ≡ list_any (λ byte. byte == 45) word.now }
+{
+    word.iter().any(|byte| *byte == b'-')
+}
+
+fn is_line_name(word: &[u8]) -> bool
+    ensures { result ≡ is_line_name word.now }
+{
+    is_name(word) && !has_dash(word)
+}
+
+fn line_number(word: &[u8]) -> Option<u32>
+    ensures { result ≡ line_number word.now }
+{
+    if word.len() > 1 && word[0] == b'0' {
+        return None;
+    }
+    match number_within(4294967295, word) {
+        Some(n) => Some(n as u32),
+        None => None,
+    }
+}
+
+fn is_same(word: &[u8], text: &[u8]) -> bool
+    ensures { result ≡ bytes_eq word.now text.now }
+{
+    word == text
+}
+
+fn shown_state(word: &[u8]) -> Option<LineState>
+    ensures { result ≡ state_of word.now }
+{
+    if is_same(word, b"Live") {
+        Some(LineState::Live)
+    } else if is_same(word, b"Loading") {
+        Some(LineState::Loading)
+    } else if is_same(word, b"Unloading") {
+        Some(LineState::Unloading)
+    } else {
+        None
+    }
+}
+
+fn is_hex_digit(byte: u8) -> bool
+    ensures { result ≡ is_hex_digit byte }
+{
+    byte.is_ascii_digit() || (97 <= byte && byte <= 102) || (65 <= byte && byte <= 70)
+}
+
+fn has_hex_digits(digits: &[u8]) -> bool
+    ensures { result ≡ list_all is_hex_digit digits.now }
+{
+    digits.iter().all(|digit| is_hex_digit(*digit))
+}
+
+fn is_address(word: &[u8]) -> bool
+    ensures { result ≡ is_address word.now }
+{
+    match word {
+        [zero, x, digits @ ..] => {
+            *zero == b'0'
+                && *x == b'x'
+                && 1 <= digits.len()
+                && digits.len() <= 16
+                && has_hex_digits(digits)
+        }
+        _ => false,
+    }
+}
+
+fn is_taint(fields: &[&[u8]]) -> bool
+    ensures { result ≡ is_taint (texts_of fields.now) }
+{
+    match fields {
+        [] => true,
+        [taint] => !taint.is_empty(),
+        _ => false,
+    }
+}
+
+/// The parts of a text, which the byte divides.
+fn parts<'a>(alloc: Global, text: &'a [u8], divider: u8) -> Result<Vec<&'a [u8]>, AllocError>
+    ensures { IfOk result (λ found. texts_of found.items ≡ slice_split (λ byte. byte == divider) text.now) }
+{
+    text.split(|byte| *byte == divider).collect(alloc)
+}
+
+fn is_mark(word: &[u8]) -> bool
+    ensures { result ≡ is_mark word.now }
+{
+    is_same(word, b"[permanent]")
+}
+
+fn is_end(parts: &[&[u8]]) -> bool
+    ensures { result ≡ is_end (texts_of parts.now) }
+{
+    match parts {
+        [last] => last.is_empty(),
+        _ => false,
+    }
+}
+
+fn is_last_mark(part: &[u8], later: &[&[u8]]) -> bool
+    ensures { result ≡ (is_mark part.now && is_end (texts_of later.now)) }
+{
+    is_mark(part) && is_end(later)
+}
+
+/// The users and the mark that the parts of their field are.
+fn users_in(alloc: Global, parts: &[&[u8]]) -> Result<(Names, bool), LineError>
+    ensures { MatchResult result (λ found. users_in (texts_of parts.now) ≡ Some (found.0, found.1)) (λ e. e ≢ LineError.Memory → (e ≡ LineError.BadUsers) × (users_in (texts_of parts.now) ≡ None)) }
+{
+    let mut users = Names::new(alloc);
+    for (i, user) in parts.iter().enumerate() {
+        let later = &parts[i + 1..];
+        if later.is_empty() {
+            return if user.is_empty() {
+                Ok((users, false))
+            } else {
+                Err(LineError::BadUsers)
+            };
+        }
+        if is_last_mark(user, later) {
+            return Ok((users, true));
+        }
+        if !is_line_name(user) {
+            return Err(LineError::BadUsers);
+        }
+        let name = Name::new(alloc, user)?;
+        users.push(name)?;
+    }
+    Err(LineError::BadUsers)
+}
+
+fn users(alloc: Global, field: &[u8]) -> Result<(Names, bool), LineError>
+    ensures { MatchResult result (λ found. users_of field.now ≡ Some (found.0, found.1)) (λ e. e ≢ LineError.Memory → (e ≡ LineError.BadUsers) × (users_of field.now ≡ None)) }
+{
+    if is_same(field, b"-") {
+        return Ok((Names::new(alloc), false));
+    }
+    if field.is_empty() {
+        return Err(LineError::BadUsers);
+    }
+    let parts = parts(alloc, field, b',')?;
+    users_in(alloc, &parts)
+}
+
+fn numbers(name: &[u8], size: &[u8], count: &[u8]) -> Result<(u32, u32), LineError>
+    ensures good { IfOk result (λ found. numbers_in name.now size.now count.now ≡ Ok (found.0, found.1)) }
+    ensures refused { IfErr result (λ e. numbers_in name.now size.now count.now ≡ Err e) }
+{
+    if !is_line_name(name) {
+        return Err(LineError::BadName);
+    }
+    let size = line_number(size).ok_or(LineError::BadNumber)?;
+    let count = line_number(count).ok_or(LineError::BadNumber)?;
+    Ok((size, count))
+}
+
+fn state(word: &[u8], address: &[u8], more: &[&[u8]]) -> Result<LineState, LineError>
+    ensures { result ≡ state_in word.now address.now (texts_of more.now) }
+{
+    let state = shown_state(word).ok_or(LineError::BadState)?;
+    if !is_address(address) || !is_taint(more) {
+        return Err(LineError::BadAddress);
+    }
+    Ok(state)
+}
+
+/// The fields of a line, in order.
+#[derive(Drop)]
+struct Fields<'f, 'a> {
+    name: &'a [u8],
+    size: &'a [u8],
+    count: &'a [u8],
+    users: &'a [u8],
+    state: &'a [u8],
+    address: &'a [u8],
+    more: &'f [&'a [u8]],
+}
+
+fn six_fields<'f, 'a>(fields: &'f [&'a [u8]]) -> Option<Fields<'f, 'a>>
+    ensures { MatchOption result (length fields.now < 6) (λ f. texts_of fields.now ≡ texts_in f) }
+{
+    match fields {
+        [name, size, count, users, state, address, more @ ..] => Some(Fields {
+            name,
+            size,
+            count,
+            users,
+            state,
+            address,
+            more,
+        }),
+        _ => None,
+    }
+}
+
+/// The line that fields are.
+#[tactic(auto, using(crate::proofs::ReadingLemmas::kept_name, crate::proofs::ReadingLemmas::good_name))]
+fn good_line(alloc: Global, fields: Fields<'_, '_>) -> Result<Line, LineError>
+    ensures { MatchResult result (λ l. line_in (texts_in fields.entry) ≡ Ok l) (λ e. e ≢ LineError.Memory → line_in (texts_in fields.entry) ≡ Err e) }
+{
+    let (size, count) = numbers(fields.name, fields.size, fields.count)?;
+    let (users, permanent) = users(alloc, fields.users)?;
+    let state = state(fields.state, fields.address, fields.more)?;
+    let name = Name::new(alloc, fields.name)?;
+    Ok(Line {
+        name,
+        size,
+        count,
+        users,
+        permanent,
+        state,
+    })
+}
+
+fn line_end(text: &[u8]) -> Option<usize>
+    ensures { result ≡ position (λ byte. byte == 10) text.now }
+{
+    text.iter().position(|byte| *byte == b'\n')
+}
+
+/// The bytes before the first line feed, and how many bytes there are with it.
+fn first_line(text: &[u8]) -> (&[u8], usize)
+    ensures { (result.0.now, result.1) ≡ first_line text.now (position (λ byte. byte == 10) text.now) }
+{
+    match line_end(text) {
+        Some(end) => (&text[..end], end + 1),
+        None => (text, text.len()),
+    }
+}
+
+/// Reads a line without its end.
+fn read_fields(alloc: Global, line: &[u8]) -> Result<Line, LineError>
+    ensures { MatchResult result (λ l. line_in (slice_split (λ byte. byte == 32) line.now) ≡ Ok l) (λ e. e ≢ LineError.Memory → line_in (slice_split (λ byte. byte == 32) line.now) ≡ Err e) }
+{
+    let fields = parts(alloc, line, b' ')?;
+    let Some(fields) = six_fields(&fields) else {
+        return Err(LineError::MissingField);
+    };
+    good_line(alloc, fields)
+}
+
+/// Reads the line of /proc/modules (proc(5)) with which the text begins, and says how many bytes it takes. The line
+/// goes up to the first line feed, which it takes too, or to the end of the text, and is cut at each space. The
+/// refusal is the first fault from the left; a line of fewer than six fields is refused first.
+pub fn read_line(alloc: Global, text: &[u8]) -> Result<(Line, usize), LineError>
+    ensures { MatchResult result (λ x. line_of text.now ≡ Ok (x.0, x.1)) (λ e. e ≢ LineError.Memory → line_of text.now ≡ Err e) }
+{
+    let (first, used) = first_line(text);
+    let line = read_fields(alloc, first)?;
+    Ok((line, used))
+}

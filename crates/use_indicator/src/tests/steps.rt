@@ -1,0 +1,136 @@
+//! Steps on the first slot of a row, each with what the next one asks for.
+ghost use Rattle.std.specs.Prelude.{◌≡◌, ◌<◌, ◌∷◌, [], length, All, IfSome, None, if◌then◌else◌};
+ghost use Rattle.std.specs.Bool.{OnFalse};
+ghost use Rattle.dep_index.specs.Table.{module_at, no_module};
+ghost use Rattle.dep_index.specs.Calls.{book_refusal};
+ghost use Rattle.dep_index.specs.Words.{closed};
+ghost use Rattle.root_row.specs.World.{slots};
+ghost use Rattle.root_row.specs.Views.{worker_of, reader_of, counts_of, count_of, book_of, state_in};
+ghost use Rattle.root_row.specs.Seats.{IsOf};
+ghost use Rattle.root_row.specs.Made.{new_leaf, new_reader, new_book};
+ghost use Rattle.root_row.specs.BookSteps.{MayLeave};
+
+use dep_index::{Call, ModuleState};
+use root_row::{BookCall, BookSeat, LeafCall, LeafSeat, ReadSeat, Row};
+
+/// A leaf's seat of a new row.
+pub(super) fn take_leaf(row: &Row, leaves: &mut Vec<LeafSeat>) -> Option<LeafSeat>
+    requires { All (λ s. s ≡ new_leaf row.now.id row.now.world (worker_of s.view)) leaves.old.items }
+    ensures others { All (λ s. s ≡ new_leaf row.now.id row.now.world (worker_of s.view)) leaves.new.items }
+    ensures leaf { IfSome result (λ s. s ≡ new_leaf row.now.id row.now.world (worker_of s.view)) }
+{
+    leaves.pop()
+}
+
+/// A reader's seat of a new row.
+pub(super) fn take_reader(row: &Row, readers: &mut Vec<ReadSeat>) -> Option<ReadSeat>
+    requires { All (λ s. s ≡ new_reader row.now.id row.now.world (reader_of s.view)) readers.old.items }
+    ensures { IfSome result (λ s. s ≡ new_reader row.now.id row.now.world (reader_of s.view)) }
+{
+    readers.pop()
+}
+
+/// Begins the first load of a new row, and answers the word that the look found.
+pub(super) fn begin_load(row: &Row, book: &mut BookSeat) -> u64
+    requires inside { 0 < slots row.now.world }
+    requires free { module_at row.now.world.catalogue 0 ≡ no_module }
+    requires new { book.old ≡ new_book row.now.id row.now.world }
+    ensures own { IsOf row.now book.new }
+    ensures loading { state_in book.new.view 0 ≡ ModuleState.Loading }
+    ensures wide { 0 < length (book_of book.new.view).states }
+    ensures alone { (book_of book.new.view).order ≡ 0 ∷ [] }
+{
+    row.look_book(book, 0, BookCall::BeginLoad)
+}
+
+/// Ends the load well, and answers the word that the look found.
+pub(super) fn end_load(row: &Row, book: &mut BookSeat) -> u64
+    requires own { IsOf row.now book.old }
+    requires inside { 0 < slots row.now.world }
+    requires free { module_at row.now.world.catalogue 0 ≡ no_module }
+    requires loading { state_in book.old.view 0 ≡ ModuleState.Loading }
+    requires wide { 0 < length (book_of book.old.view).states }
+    requires alone { (book_of book.old.view).order ≡ 0 ∷ [] }
+    ensures own { IsOf row.now book.new }
+    ensures live { state_in book.new.view 0 ≡ ModuleState.Live }
+    ensures alone { (book_of book.new.view).order ≡ 0 ∷ [] }
+{
+    let found = row.look_book(book, 0, BookCall::EndLoad(true));
+    row.open(book, 0);
+    found
+}
+
+/// Tries a removal that the book does not refuse: the word that the look found, and whether the exchange was made.
+pub(super) fn remove(row: &Row, book: &mut BookSeat) -> (u64, bool)
+    requires own { IsOf row.now book.old }
+    requires inside { 0 < slots row.now.world }
+    requires may { MayLeave book.old.view 0 }
+    ensures own { IsOf row.now book.new }
+    ensures still { OnFalse result.1 (MayLeave book.new.view 0) }
+{
+    let found = row.look_book(book, 0, BookCall::BeginRemove);
+    (found, row.try_close(book, 0))
+}
+
+/// Begins a drain that the book does not refuse, and answers the word that the look found.
+pub(super) fn drain(row: &Row, book: &mut BookSeat) -> u64
+    requires own { IsOf row.now book.old }
+    requires inside { 0 < slots row.now.world }
+    requires may { MayLeave book.old.view 0 }
+    requires wide { 0 < length (book_of book.old.view).states }
+    ensures own { IsOf row.now book.new }
+    ensures draining { state_in book.new.view 0 ≡ ModuleState.Draining }
+{
+    let found = row.look_book(book, 0, BookCall::BeginDrain);
+    row.drain(book, 0);
+    found
+}
+
+/// Tries to end a drain: the word that the look found, and whether the exchange was made.
+pub(super) fn finish(row: &Row, book: &mut BookSeat) -> (u64, bool)
+    requires own { IsOf row.now book.old }
+    requires inside { 0 < slots row.now.world }
+    requires draining { state_in book.old.view 0 ≡ ModuleState.Draining }
+    ensures own { IsOf row.now book.new }
+    ensures still { OnFalse result.1 (state_in book.new.view 0 ≡ ModuleState.Draining) }
+{
+    let found = row.look_book(book, 0, BookCall::EndRemove);
+    (found, row.try_close(book, 0))
+}
+
+/// A get's look by a leaf that does not hold the slot.
+pub(super) fn look_get(row: &Row, leaf: &mut LeafSeat) -> u64
+    requires own { IsOf row.now leaf.old }
+    requires inside { 0 < slots row.now.world }
+    requires none_held { count_of leaf.old.view 0 ≡ 0 }
+    ensures own { IsOf row.now leaf.new }
+    ensures counts { counts_of leaf.new.view ≡ counts_of leaf.old.view }
+{
+    row.look(leaf, 0, LeafCall::Get)
+}
+
+/// A get's exchange.
+pub(super) fn arrive(row: &Row, leaf: &mut LeafSeat, expected: u64) -> bool
+    requires own { IsOf row.now leaf.old }
+    requires inside { 0 < slots row.now.world }
+    requires none_held { count_of leaf.old.view 0 ≡ 0 }
+    requires wide { 0 < length (counts_of leaf.old.view) }
+    requires open { expected < closed }
+    ensures own { IsOf row.now leaf.new }
+    ensures held { count_of leaf.new.view 0 ≡ (if result then 1 else 0) }
+    ensures wide { 0 < length (counts_of leaf.new.view) }
+{
+    row.try_arrive(leaf, 0, expected)
+}
+
+/// A put's look and its subtraction, where the leaf gives its last reference back. Answers the word that was found.
+pub(super) fn put_last(row: &Row, leaf: &mut LeafSeat) -> u64
+    requires own { IsOf row.now leaf.old }
+    requires inside { 0 < slots row.now.world }
+    requires last_held { count_of leaf.old.view 0 ≡ 1 }
+    ensures own { IsOf row.now leaf.new }
+{
+    let found = row.look(leaf, 0, LeafCall::Put);
+    row.depart(leaf, 0);
+    found
+}
