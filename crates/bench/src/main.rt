@@ -1,8 +1,10 @@
 //! Measures the crates, one benchmark a call: `bench NAME`. With no argument it lists the benchmarks.
 #![tactic(auto)]
 
+mod configuration;
 mod figure;
 mod machine;
+mod patterns;
 mod words;
 
 use anyhow::Result;
@@ -13,23 +15,34 @@ use std::rt::Runtime;
 /// What can be measured.
 #[derive(Clone, Copy, Debug, PartialEq, Eq)]
 enum Benchmark {
+    Configuration,
     Machine,
+    Patterns,
     Words,
 }
 
-const ALL: [Benchmark; 2] = [Benchmark::Machine, Benchmark::Words];
+const ALL: [Benchmark; 4] = [
+    Benchmark::Configuration,
+    Benchmark::Machine,
+    Benchmark::Patterns,
+    Benchmark::Words,
+];
 
 impl Benchmark {
     fn name(self) -> &'static str {
         match self {
+            Benchmark::Configuration => "configuration",
             Benchmark::Machine => "machine",
+            Benchmark::Patterns => "patterns",
             Benchmark::Words => "words",
         }
     }
 
     fn measure<R: Runtime + AllocGlobal>(self, rt: &R) -> Result<()> {
         match self {
+            Benchmark::Configuration => configuration::measure(rt),
             Benchmark::Machine => machine::measure(rt),
+            Benchmark::Patterns => patterns::measure(rt),
             Benchmark::Words => words::measure(rt),
         }
     }
