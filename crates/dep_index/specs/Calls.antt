@@ -103,11 +103,11 @@ effect table call = record { book = book_effect table.book call; rows = rows_eff
 abbrev pub reply : List Module → Table → Call → Reply
 reply catalogue table call = unwrap_or (refusal catalogue table call) (answer table call)
 
--- the table after a call; a refusal changes no_module
+-- the table after a call; a refusal changes nothing
 abbrev pub next : List Module → Table → Call → Table
 next catalogue table call = if is_some (refusal catalogue table call) then table else effect table call
 
--- the opening table: all is Absent, and no_module is held
+-- the opening table: all is Absent, and nothing is held
 abbrev pub opening : List Module → ℕ → Table
 opening catalogue workers =
     record {

@@ -1,4 +1,4 @@
--- A catalogue's slots as the list of their modules_in.
+-- A catalogue's slots as the list of their modules.
 use Rattle.std.specs.Prelude.{List, map}
 use Rattle.dep_index.specs.declared.slots.Slot.{Slot}
 use Rattle.dep_index.specs.Table.{Module}

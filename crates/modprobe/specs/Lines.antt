@@ -59,6 +59,13 @@ GivesCut None new line = ⊤
 GivesCut (Some old) None line = ⊥
 GivesCut (Some old) (Some new) line = cut_lines old ≡ line ∷ cut_lines new
 
+-- What is at hand where reading stops: the bytes that are left of the input, those of them that the source has not
+-- given yet, and what was read of a line.
+pub record AtHand : Type 0 where
+  pub left : Option (List ℕ)
+  pub ungiven : Option (List ℕ)
+  pub line : List ℕ
+
 -- The old text is the line, its line feed and the new text.
 abbrev pub EndsLine : Option (List ℕ) → Option (List ℕ) → List ℕ → Type 0
 EndsLine old new line = Consumes old new (line ++ 10 ∷ [])

@@ -7,7 +7,7 @@ use Rattle.modprobe.specs.declared.lines.LineFault.{LineFault}
 use Rattle.modprobe.specs.declared.lines.LineFault.TheVariants as line_faults
 use Rattle.modprobe.specs.declared.fault.RunFault.{RunFault}
 use Rattle.modprobe.specs.declared.fault.RunFault.TheVariants.{Read, Write, Memory, Turns, LongLine}
-use Rattle.modprobe.specs.Lines.{IfTold, GivesLine, IsPartOfLine, BeginsWithLongLine}
+use Rattle.modprobe.specs.Lines.{AtHand, IfTold, GivesLine, IsPartOfLine, BeginsWithLongLine}
 use Rattle.modprobe.specs.Session.{Setup, line_answer, answer}
 
 -- the lines of the old text are these and those of the new text
@@ -27,13 +27,6 @@ pub record Answered (s : Setup) (start : Table) (text left : Option (List ℕ)) 
   pub short : AllShort done
   pub wrote : Appends held written (answer s start done).0
   pub after : table ≡ (answer s start done).1
-
--- What was at hand where a run stopped: the bytes that are left of the input, those that the source has not given yet,
--- and what was read of a line.
-pub record AtHand : Type 0 where
-  pub left : Option (List ℕ)
-  pub ungiven : Option (List ℕ)
-  pub line : List ℕ
 
 -- The source failed, or was read too often, in a line: all lines before it were answered, and all that the source gave
 -- of it is in hand, with no end of a line.

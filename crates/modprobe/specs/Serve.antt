@@ -8,10 +8,10 @@ use Rattle.dep_index.specs.Calls.{opening}
 use Rattle.modprobe.specs.declared.fault.ServeFault.{ServeFault}
 use Rattle.modprobe.specs.declared.fault.ServeFault.TheVariants as serve_fault
 use Rattle.modprobe.specs.declared.fault.RunFault.{RunFault}
-use Rattle.modprobe.specs.Lines.{IfTold}
+use Rattle.modprobe.specs.Lines.{AtHand, IfTold}
 use Rattle.modprobe.specs.Session.{Setup, answer}
-use Rattle.modprobe.specs.SetupInput.{setup_of, Refuses}
-use Rattle.modprobe.specs.Run.{AllShort, AtHand, StandsAfter, is_read, is_write}
+use Rattle.modprobe.specs.SetupInput.{setup_of, Refuses, SetupStops}
+use Rattle.modprobe.specs.Run.{AllShort, StandsAfter, is_read, is_write}
 use Rattle.modprobe.specs.ForProofs.{is_read_code}
 
 -- the opening table of a setup: every module is absent, and nothing is held
@@ -35,6 +35,7 @@ StopsInSession workers fault input ungiven held written =
 abbrev pub ServeStands : ℕ → ServeFault → Option (List ℕ) → Option (List ℕ) → Option (List ℕ) → Option (List ℕ) → Type 0
 ServeStands workers (serve_fault.Setup fault) told ungiven held written =
     Keeps held written × IfTold told (λ input. Refuses fault (setup_of input))
+    × ((line : List ℕ) × SetupStops fault.code told ungiven line)
 ServeStands workers (serve_fault.Run fault) told ungiven held written =
     IfTold told (λ input. StopsInSession workers fault input ungiven held written)
 ServeStands workers serve_fault.Memory told ungiven held written = Keeps held written

@@ -45,14 +45,14 @@ impl From<AllocError> for LineFault {
 
 /// The memory that `Lines` begins with.
 #[derive(Drop)]
-pub struct Buffers {
+pub(crate) struct Buffers {
     piece: Vec<u8>,
     line: Vec<u8>,
     ghost whole_piece: { vec_len piece ≡ 4096 },
 }
 
 impl Buffers {
-    pub fn new(alloc: Global) -> Result<Buffers, AllocError> {
+    pub(crate) fn new(alloc: Global) -> Result<Buffers, AllocError> {
         let piece = vec![in alloc; 0; PIECE]?;
         Ok(Buffers {
             piece,
@@ -95,7 +95,7 @@ impl<'a, R: Source> Lines<'a, R> {
     }
 
     /// The same, with memory that was made before.
-    pub fn over(buffers: Buffers, reader: &'a mut R, turns: u64) -> Lines<'a, R>
+    pub(crate) fn over(buffers: Buffers, reader: &'a mut R, turns: u64) -> Lines<'a, R>
         requires { R.has_failed reader.old ≡ false }
         ensures same_reader { result.reader.ghost_name ≡ reader.entry.ghost_name }
         ensures works { R.has_failed result.reader.now ≡ false }
@@ -116,7 +116,7 @@ impl<'a, R: Source> Lines<'a, R> {
     }
 
     /// Gives the source back.
-    pub fn into_reader(self) -> &'a mut R
+    pub(crate) fn into_reader(self) -> &'a mut R
         ensures same_reader { result.ghost_name ≡ self.entry.reader.ghost_name }
         ensures value { result.now ≡ self.entry.reader.now }
     {

@@ -2,7 +2,7 @@
 ghost use Rattle.std.specs.Prelude.{◌≡◌, ◌≤◌, false, length, IfOk, IfErr};
 ghost use Rattle.modprobe.specs.Lines.{bytes_left, IfTold};
 ghost use Rattle.modprobe.specs.Session.{name_at};
-ghost use Rattle.modprobe.specs.SetupInput.{setup_of, GivesSetup, Refuses};
+ghost use Rattle.modprobe.specs.SetupInput.{setup_of, GivesSetup, Refuses, SetupStops};
 ghost use Rattle.modprobe.specs.ForProofs.{HasLine, is_setup_read};
 
 use crate::device::Source;
@@ -59,6 +59,7 @@ pub fn read_setup<R: Source>(alloc: Global, lines: &mut Lines<'_, R>) -> Result<
     requires { R.has_failed lines.old.reader.now ≡ false }
     ensures setup { IfOk result (λ s. GivesSetup (bytes_left R.remaining lines.old) (bytes_left R.remaining lines.new) s) }
     ensures refused { IfErr result (λ fault. IfTold (bytes_left R.remaining lines.old) (λ input. Refuses fault (setup_of input))) }
+    ensures stops { IfErr result (λ fault. SetupStops fault.code (bytes_left R.remaining lines.old) (R.remaining lines.new.reader.now) lines.new.line.items) }
     ensures read { R.has_failed lines.new.reader.now ≡ is_setup_read result }
     ensures turns { IfErr result (λ fault. fault.code ≡ SetupCode.Turns → lines.new.turns ≡ 0) }
     ensures same_reader { lines.new.reader.ghost_name ≡ lines.old.reader.ghost_name }

@@ -1,6 +1,7 @@
 use Rattle.std.proofs.Common.{◌≡◌, false}
 use Rattle.modprobe.specs.Lines.{bytes_left, steps_left}
-use Rattle.modprobe.specs.ForProofs.{GoesOn, parts_of}
+use Rattle.modprobe.specs.ForProofs.{parts_of}
+use Rattle.modprobe.specs.Sections.{GoesOn}
 use Rattle.modprobe.proofs.section.read_texts.Given as goal
 
 -- what is left goes on as the input does

@@ -1,9 +1,9 @@
 use Rattle.std.proofs.Common.{◌≡◌, ◌∷◌, [], ◌++◌, ap, sym, ◌∙◌, refl, take, ◌<◌, length}
 use Rattle.std.specs.Io.KnownBytes.{Appends}
 use Rattle.std.proofs.lemmas.Result.{err_from_is_err_and}
-use Rattle.modprobe.specs.Lines.{bytes_left}
+use Rattle.modprobe.specs.Lines.{AtHand, bytes_left}
 use Rattle.modprobe.specs.Session.{line_answer, answer}
-use Rattle.modprobe.specs.Run.{StoppedWriting, AtHand}
+use Rattle.modprobe.specs.Run.{StoppedWriting}
 use Rattle.modprobe.proofs.RunLemmas.{answered_more, appends_trans, gives_more, short-more, table-more}
 use Rattle.modprobe.proofs.session.run.Goals as goal
 
