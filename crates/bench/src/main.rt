@@ -2,8 +2,10 @@
 #![tactic(auto)]
 
 mod catalogue;
+mod configuration;
 mod figure;
 mod machine;
+mod patterns;
 mod words;
 
 use anyhow::Result;
@@ -15,17 +17,27 @@ use std::rt::Runtime;
 #[derive(Clone, Copy, Debug, PartialEq, Eq)]
 enum Benchmark {
     Catalogue,
+    Configuration,
     Machine,
+    Patterns,
     Words,
 }
 
-const ALL: [Benchmark; 3] = [Benchmark::Catalogue, Benchmark::Machine, Benchmark::Words];
+const ALL: [Benchmark; 5] = [
+    Benchmark::Catalogue,
+    Benchmark::Configuration,
+    Benchmark::Machine,
+    Benchmark::Patterns,
+    Benchmark::Words,
+];
 
 impl Benchmark {
     fn name(self) -> &'static str {
         match self {
             Benchmark::Catalogue => "catalogue",
+            Benchmark::Configuration => "configuration",
             Benchmark::Machine => "machine",
+            Benchmark::Patterns => "patterns",
             Benchmark::Words => "words",
         }
     }
@@ -33,7 +45,9 @@ impl Benchmark {
     fn measure<R: Runtime + AllocGlobal>(self, rt: &R) -> Result<()> {
         match self {
             Benchmark::Catalogue => catalogue::measure(rt),
+            Benchmark::Configuration => configuration::measure(rt),
             Benchmark::Machine => machine::measure(rt),
+            Benchmark::Patterns => patterns::measure(rt),
             Benchmark::Words => words::measure(rt),
         }
     }

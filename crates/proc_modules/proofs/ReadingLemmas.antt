@@ -1,15 +1,15 @@
 -- Reading the users of a line, part by part.
-use Rattle.std.proofs.Common.{◌≡◌, ◌==◌, ◌≢◌, Bool, true, false, not, ◌&&◌, ◌||◌, List, [], ◌∷◌, ◌++◌, length, refl, sym, ◌∙◌, ap, arith, ℕ, Option, Some, None, append_assoc}
+use Rattle.std.proofs.Common.{◌≡◌, ◌==◌, Bool, true, false, not, ◌&&◌, ◌||◌, List, [], ◌∷◌, ◌++◌, length, refl, sym, ◌∙◌, ap, ℕ, Option, Some, None, append_assoc}
 use Rattle.std.proofs.Common.{◌<◌, ◌+◌, drop, get_or, drop-cons, add-one, eqb}
 use Rattle.std.proofs.lemmas.List.{length-map}
 use Rattle.std.specs.List.{list_any}
 use Rattle.std.specs.Borrow.{Bor}
-use Rattle.dep_index.specs.Text.{is_name, normal_form, normal_byte, texts_of}
-use Rattle.std.proofs.Common.{position, Result, Ok, Err}
+use Rattle.dep_index.specs.Text.{is_name, normal_form, texts_of}
+use Rattle.std.proofs.Common.{position, Ok, Err}
 use Rattle.std.specs.List.{slice_split}
 use Rattle.proc_modules.specs.declared.line.LineError.{LineError}
 use Rattle.proc_modules.specs.declared.line.LineError.TheVariants.{BadName}
-use Rattle.proc_modules.specs.Reading.{is_mark, is_end, is_line_name, with_user, users_at, users_in, numbers_in, first_line, with_used, line_in, line_of}
+use Rattle.proc_modules.specs.Reading.{is_mark, is_end, is_line_name, with_user, users_in, numbers_in, first_line, with_used, line_in, line_of}
 
 -- users that were read before the others
 abbrev pub with_users : List (List ℕ) → Option (List (List ℕ) × Bool) → Option (List (List ℕ) × Bool)
