@@ -200,14 +200,15 @@ fn next_item(alloc: Global, first: u8, rest: &[u8]) -> Result<(Item, &[u8]), Pat
         return next_plain_item(first, rest);
     }
     let (set, rest) = read_set(alloc, rest)?;
-    Ok((Item::OneOf(set), rest))
+    let boxed = Box::new(alloc, set)?;
+    Ok((Item::OneOf(boxed), rest))
 }
 
 /// The items of a text that is a pattern.
 pub(crate) fn read_items(alloc: Global, text: &[u8]) -> Result<Vec<Item>, PatternError>
     ensures { Gives (λ items. pieces items.items) result (Reads text.now) }
 {
-    let mut items = Vec::new(alloc);
+    let mut items = Vec::with_capacity(alloc, text.len())?;
     let mut rest = text;
     'items: while let Some((first, after)) = rest.split_first() {
         let (item, after) = next_item(alloc, *first, after)?;
