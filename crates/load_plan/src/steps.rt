@@ -1,10 +1,10 @@
 //! The plan of a module: what is loaded for it, in order, and what is removed with it.
-ghost use Rattle.std.specs.Prelude.{◌≡◌, ◌<◌, length, not, slice_index_or, IfOk};
+ghost use Rattle.std.specs.Prelude.{◌≡◌, ◌<◌, length, not, slice_index_or, true, IfErr, IfOk};
 ghost use Rattle.load_plan.specs.declared.graph.Target.TheVariants.{Slot};
 ghost use Rattle.load_plan.specs.declared.walk.Mark.TheVariants.{New};
-ghost use Rattle.load_plan.specs.ForProofs.{is_done_mark, steps_of};
+ghost use Rattle.load_plan.specs.ForProofs.{are_within, is_done_mark, steps_of};
 ghost use Rattle.load_plan.specs.Plan.{plan, removal_plan};
-ghost use Rattle.load_plan.specs.Results.{Gives};
+ghost use Rattle.load_plan.specs.Results.{Gives, IsRefusalWithin};
 
 use crate::graph::DependencyGraph;
 use crate::refusal::WalkError;
@@ -47,7 +47,9 @@ pub fn plan_in(
     start: usize,
 ) -> Result<Vec<PlanStep>, WalkError>
     requires { start < length graph.now }
-    ensures { Gives (λ steps. steps.items) result (plan graph.now (Slot start)) }
+    ensures steps { Gives (λ steps. steps.items) result (plan graph.now (Slot start)) }
+    ensures within { IfOk result (λ steps. are_within (length graph.now) steps.items ≡ true) }
+    ensures refusal { IfErr result (IsRefusalWithin (length graph.now)) }
 {
     let walked = hard_walk(alloc, graph, true, start)?;
     let order = visit(alloc, graph, start)?;
@@ -61,7 +63,8 @@ pub fn removal_plan_in(
     start: usize,
 ) -> Result<Vec<usize>, WalkError>
     requires { start < length graph.now }
-    ensures { Gives (λ order. order.items) result (removal_plan graph.now (Slot start)) }
+    ensures order { Gives (λ order. order.items) result (removal_plan graph.now (Slot start)) }
+    ensures refusal { IfErr result (IsRefusalWithin (length graph.now)) }
 {
     let walked = hard_walk(alloc, graph, false, start)?;
     let mut order = walked.order;
