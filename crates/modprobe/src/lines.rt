@@ -81,7 +81,7 @@ impl<'a, R: Source> Lines<'a, R> {
     ghost use Rattle.std.specs.Str.Lines.{strip_carriage_return};
     ghost use Rattle.std.specs.Io.KnownBytes.{IsAtEnd};
     ghost use Rattle.dep_index.specs.Text.{ended};
-    ghost use Rattle.modprobe.specs.Lines.{bytes_left, text_left, unused, ending_bytes, IsDrained, EndsLine, GivesCut, HasNoFeed, IfTold, BeginsWithLongLine, GivesLine, IsPartOfLine, is_read_fault, steps_left};
+    ghost use Rattle.modprobe.specs.Lines.{bytes_left, text_left, unused, ending_bytes, IsDrained, IsPaid, EndsLine, GivesCut, HasNoFeed, IfTold, BeginsWithLongLine, GivesLine, IsPartOfLine, is_read_fault, steps_left};
 
     /// The lines of what `reader` has left, over at most `turns` reads.
     pub fn new(alloc: Global, reader: &'a mut R, turns: u64) -> Result<Lines<'a, R>, AllocError>
@@ -100,6 +100,7 @@ impl<'a, R: Source> Lines<'a, R> {
         ensures same_reader { result.reader.ghost_name ≡ reader.entry.ghost_name }
         ensures works { R.has_failed result.reader.now ≡ false }
         ensures bytes { bytes_left R.remaining result ≡ R.remaining reader.old }
+        ensures value { result.reader.now ≡ reader.old }
         ensures turns { result.turns ≡ turns }
     {
         let Buffers { piece, line } = buffers;
@@ -163,6 +164,8 @@ impl<'a, R: Source> Lines<'a, R> {
         ensures turns { result ≡ Err LineFault.Turns → self.new.turns ≡ 0 }
         ensures drained_read { result ≡ Err LineFault.Read → IsDrained self.new }
         ensures drained_turns { result ≡ Err LineFault.Turns → IsDrained self.new }
+        ensures paid { OnOk result (IsPaid R.remaining self.old self.new) }
+        ensures unpaid { result ≡ Err LineFault.Turns → IsPaid R.remaining self.old self.new }
         ensures memory { result ≢ Err LineFault.Memory }
         ensures short { result ≢ Err LineFault.LongLine }
         ensures more { result ≡ Ok true → (self.new.start < self.new.end) × (self.new.at_end ≡ false) }
@@ -226,6 +229,8 @@ impl<'a, R: Source> Lines<'a, R> {
         ensures turns { result ≡ Err LineFault.Turns → self.new.turns ≡ 0 }
         ensures drained_read { result ≡ Err LineFault.Read → IsDrained self.new }
         ensures drained_turns { result ≡ Err LineFault.Turns → IsDrained self.new }
+        ensures paid { OnOk result (IsPaid R.remaining self.old self.new) }
+        ensures unpaid { result ≡ Err LineFault.Turns → IsPaid R.remaining self.old self.new }
         ensures long { result ≡ Err LineFault.LongLine → IfTold (text_left R.remaining self.old) BeginsWithLongLine }
         ensures falls { OnOk result (steps_left self.new < steps_left self.old) }
         ensures spent { OnOk result (steps_left self.new + vec_len self.new.line ≤ steps_left self.old + vec_len self.old.line) }
@@ -256,6 +261,7 @@ impl<'a, R: Source> Lines<'a, R> {
         ensures same_reader { self.new.reader ≡ self.old.reader }
         ensures left { bytes_left R.remaining self.new ≡ bytes_left R.remaining self.old }
         ensures turns { self.new.turns ≡ self.old.turns }
+        ensures at_end { self.new.at_end ≡ self.old.at_end }
         ensures steps { steps_left self.new ≡ steps_left self.old }
     {
         if self.line.last() == Some(&b'\r') {
@@ -283,6 +289,8 @@ impl<'a, R: Source> Lines<'a, R> {
         // When each fault comes. The line in hand has no end then, as far as it was read.
         ensures failed { R.has_failed self.new.reader.now ≡ is_read_fault result }
         ensures turns { result ≡ Err LineFault.Turns → self.new.turns ≡ 0 }
+        ensures paid { OnOk result (IsPaid R.remaining self.old self.new) }
+        ensures gave { result ≡ Err LineFault.Turns → (self.new.at_end ≡ false) × IsPaid R.remaining self.old self.new }
         ensures drained_read { result ≡ Err LineFault.Read → bytes_left R.remaining self.new ≡ R.remaining self.new.reader.now }
         ensures drained_turns { result ≡ Err LineFault.Turns → bytes_left R.remaining self.new ≡ R.remaining self.new.reader.now }
         ensures long { result ≡ Err LineFault.LongLine → IfTold (bytes_left R.remaining self.old) BeginsWithLongLine }
