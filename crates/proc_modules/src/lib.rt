@@ -9,6 +9,7 @@ mod modinfo;
 mod names;
 mod newest;
 mod read;
+mod words;
 mod write;
 
 pub use line::{Line, LineError, LineState};
