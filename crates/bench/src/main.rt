@@ -1,9 +1,12 @@
 //! Measures the crates, one benchmark a call: `bench NAME`. With no argument it lists the benchmarks.
 #![tactic(auto)]
 
+mod catalogue;
+mod configuration;
 mod figure;
 mod machine;
-mod words;
+mod patterns;
+mod points;
 
 use anyhow::Result;
 use std::env;
@@ -13,24 +16,39 @@ use std::rt::Runtime;
 /// What can be measured.
 #[derive(Clone, Copy, Debug, PartialEq, Eq)]
 enum Benchmark {
+    Catalogue,
+    Configuration,
     Machine,
-    Words,
+    Patterns,
+    Points,
 }
 
-const ALL: [Benchmark; 2] = [Benchmark::Machine, Benchmark::Words];
+const ALL: [Benchmark; 5] = [
+    Benchmark::Catalogue,
+    Benchmark::Configuration,
+    Benchmark::Machine,
+    Benchmark::Patterns,
+    Benchmark::Points,
+];
 
 impl Benchmark {
     fn name(self) -> &'static str {
         match self {
+            Benchmark::Catalogue => "catalogue",
+            Benchmark::Configuration => "configuration",
             Benchmark::Machine => "machine",
-            Benchmark::Words => "words",
+            Benchmark::Patterns => "patterns",
+            Benchmark::Points => "points",
         }
     }
 
     fn measure<R: Runtime + AllocGlobal>(self, rt: &R) -> Result<()> {
         match self {
+            Benchmark::Catalogue => catalogue::measure(rt),
+            Benchmark::Configuration => configuration::measure(rt),
             Benchmark::Machine => machine::measure(rt),
-            Benchmark::Words => words::measure(rt),
+            Benchmark::Patterns => patterns::measure(rt),
+            Benchmark::Points => points::measure(rt),
         }
     }
 }

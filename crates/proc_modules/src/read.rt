@@ -212,7 +212,6 @@ fn six_fields<'f, 'a>(fields: &'f [&'a [u8]]) -> Option<Fields<'f, 'a>>
 }
 
 /// The line that fields are.
-#[tactic(auto, using(crate::proofs::ReadingLemmas::kept_name, crate::proofs::ReadingLemmas::good_name))]
 fn good_line(alloc: Global, fields: Fields<'_, '_>) -> Result<Line, LineError>
     ensures { MatchResult result (λ l. line_in (texts_in fields.entry) ≡ Ok l) (λ e. e ≢ LineError.Memory → line_in (texts_in fields.entry) ≡ Err e) }
 {
