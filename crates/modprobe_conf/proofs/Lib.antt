@@ -1,3 +1,4 @@
 pub mod IndexLemmas
 pub mod JoinLemmas
 pub mod SettingsLemmas
+pub mod Rows

@@ -14,3 +14,6 @@ pub use conf::{Conf, read_conf};
 pub use laws::settings_are_of_lines;
 pub use softdep::Softdep;
 pub use word::Word;
+
+#[cfg(test)]
+mod tests;

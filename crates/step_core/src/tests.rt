@@ -1,7 +1,7 @@
 //! Schedules, with the steps at which their calls begin, take effect and return.
 
 use crate::{Call, Event, Machine, Reply, Step, StepError};
-use dep_index::Slots;
+use dep_index::read_catalogue;
 use std::alloc::{AllocError, Global};
 use std::process::Abort;
 use std::test::Fail;
@@ -29,12 +29,20 @@ const LOADED: [Play; 4] = [
     Go(0, 4),
 ];
 
-/// A catalogue of snd, and of snd_pcm, which needs it.
-fn sound_slots(alloc: Global) -> Result<Slots, AllocError> {
-    let mut slots = Slots::new(alloc);
-    slots.push(Vec::new(alloc), false, false)?;
-    slots.push(vec![in alloc; SND as u16; 1]?, false, false)?;
-    Ok(slots)
+const TEXT: &[u8] = b"module snd
+size 114688
+exports snd_card_new
+module snd-pcm
+size 143360
+exports snd_pcm_new
+needs snd_card_new
+param debug bool
+";
+
+/// The machine with 2 workers over snd, and snd_pcm, which needs it.
+fn machine(alloc: Global, threads: usize, calls: usize) -> Result<Machine, Fail> {
+    let catalogue = read_catalogue(alloc, TEXT)?;
+    Ok(Machine::new(alloc, &catalogue, 2, threads, calls)?)
 }
 
 fn add_steps(steps: &mut Vec<Step>, plays: &[Play]) -> Result<(), AllocError> {
@@ -56,7 +64,7 @@ fn marks(alloc: Global, threads: usize, plays: &[Play]) -> Result<Vec<(usize, Ev
     let mut steps = Vec::new(alloc);
     add_steps(&mut steps, &LOADED)?;
     add_steps(&mut steps, plays)?;
-    let mut machine = Machine::over(alloc, sound_slots(alloc)?, 2, threads, steps.len())?;
+    let mut machine = machine(alloc, threads, steps.len())?;
     let mut marks = Vec::new(alloc);
     for (index, step) in steps.iter().enumerate() {
         let event = machine.step(*step)?;
@@ -82,7 +90,7 @@ fn expect(
 #[test]
 fn refuses_what_is_out_of_range(rt: HostRuntime) -> Result<(), Fail> {
     let alloc = rt.alloc();
-    let mut machine = Machine::over(alloc, sound_slots(alloc)?, 2, 1, 1)?;
+    let mut machine = machine(alloc, 1, 1)?;
     let table = [
         (Step::Go(1), Err(StepError::Thread)),
         (Step::Invoke(1, Call::Get(2, 2)), Err(StepError::Thread)),
