@@ -2,7 +2,7 @@
 ghost use Rattle.std.specs.Prelude.{◌≡◌, ◌<◌, ◌^◌, ◌↔◌, ℕ, All, IsTrue, IfErr, IfOk, OnOk, length, map, slice_index};
 ghost use Rattle.std.specs.List.Sorted.{IsStrictlyIncreasing};
 ghost use Rattle.dep_index.specs.Catalogue.{modules_of};
-ghost use Rattle.dep_index.specs.Calls.{replies};
+ghost use Rattle.dep_index.specs.Calls.{reply, next, replies};
 ghost use Rattle.dep_index.specs.Laws.{AllInRange};
 ghost use Rattle.step_core.specs.Run.{call_numbered};
 ghost use Rattle.linear_points.specs.Run.{IsRun, run_events, run_calls};
@@ -122,12 +122,24 @@ impl Course {
         ensures { IsTrue result ↔ (replies table.catalogue table.table (calls_at (map (λ i. i.call) self.now.intervals.items) points.now) ≡ map (λ p. p.reply) points.now) }
     {
         for point in points {
-            let call = self.intervals[point.call].call;
-            if !replays::same(replays::perform(&mut table, call), point.reply) {
+            if !self.answers_as(&mut table, point) {
                 return false;
             }
         }
         true
+    }
+
+    /// Makes the point's call on the table: whether it answers what the point says.
+    fn answers_as(&self, table: &mut Table, point: &Point) -> bool
+        requires call { point.now.call < length self.now.intervals.items }
+        requires range { AllInRange table.old.catalogue (length table.old.table.rows) (map (λ i. i.call) self.now.intervals.items) }
+        ensures answer { IsTrue result ↔ (reply table.old.catalogue table.old.table (call_numbered (map (λ i. i.call) self.now.intervals.items) point.now.call) ≡ point.now.reply) }
+        ensures becomes { table.new.table ≡ next table.old.catalogue table.old.table (call_numbered (map (λ i. i.call) self.now.intervals.items) point.now.call) }
+        ensures over { table.new.catalogue ≡ table.old.catalogue }
+    {
+        let interval = &self.intervals[point.call];
+        let answered = replays::perform(table, interval.call);
+        answered == point.reply
     }
 }
 

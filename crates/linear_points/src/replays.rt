@@ -1,5 +1,5 @@
 //! One call on the one-thread table.
-ghost use Rattle.std.specs.Prelude.{◌≡◌, ◌↔◌, IsTrue, length, if◌then◌else◌};
+ghost use Rattle.std.specs.Prelude.{◌≡◌, length, if◌then◌else◌};
 ghost use Rattle.dep_index.specs.Calls.{reply, next, IsInRange};
 ghost use Rattle.dep_index.specs.Refusals.{reply_of, get_refusal, put_refusal, begin_load_refusal, end_load_refusal, begin_drain_refusal, begin_remove_refusal, end_remove_refusal};
 
@@ -26,13 +26,6 @@ pub fn perform(table: &mut Table, call: Call) -> Reply
         Call::BeginRemove(m) => reply_to_begin_remove(table.begin_remove(m)),
         Call::EndRemove(m) => reply_to_end_remove(table.end_remove(m)),
     }
-}
-
-/// Whether the replies are the same.
-pub fn same(answered: Reply, told: Reply) -> bool
-    ensures { IsTrue result ↔ (answered ≡ told) }
-{
-    answered == told
 }
 
 fn reply_to_query(in_use: bool) -> Reply
