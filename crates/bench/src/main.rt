@@ -1,11 +1,12 @@
 //! Measures the crates, one benchmark a call: `bench NAME`. With no argument it lists the benchmarks.
 #![tactic(auto)]
 
+mod catalogue;
 mod configuration;
 mod figure;
 mod machine;
 mod patterns;
-mod words;
+mod points;
 
 use anyhow::Result;
 use std::env;
@@ -15,35 +16,39 @@ use std::rt::Runtime;
 /// What can be measured.
 #[derive(Clone, Copy, Debug, PartialEq, Eq)]
 enum Benchmark {
+    Catalogue,
     Configuration,
     Machine,
     Patterns,
-    Words,
+    Points,
 }
 
-const ALL: [Benchmark; 4] = [
+const ALL: [Benchmark; 5] = [
+    Benchmark::Catalogue,
     Benchmark::Configuration,
     Benchmark::Machine,
     Benchmark::Patterns,
-    Benchmark::Words,
+    Benchmark::Points,
 ];
 
 impl Benchmark {
     fn name(self) -> &'static str {
         match self {
+            Benchmark::Catalogue => "catalogue",
             Benchmark::Configuration => "configuration",
             Benchmark::Machine => "machine",
             Benchmark::Patterns => "patterns",
-            Benchmark::Words => "words",
+            Benchmark::Points => "points",
         }
     }
 
     fn measure<R: Runtime + AllocGlobal>(self, rt: &R) -> Result<()> {
         match self {
+            Benchmark::Catalogue => catalogue::measure(rt),
             Benchmark::Configuration => configuration::measure(rt),
             Benchmark::Machine => machine::measure(rt),
             Benchmark::Patterns => patterns::measure(rt),
-            Benchmark::Words => words::measure(rt),
+            Benchmark::Points => points::measure(rt),
         }
     }
 }

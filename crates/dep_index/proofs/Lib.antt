@@ -10,6 +10,7 @@ pub mod WordLemmas
 pub mod LineLemmas
 pub mod BstrLemmas
 pub mod NumberLemmas
+pub mod NameLemmas
 pub mod SlotLemmas
 pub mod PairLemmas
 pub mod LinkLemmas

@@ -31,7 +31,7 @@ count_by-removed_other m k ne (x ∷ xs) = at (eqb x m) refl (count_by-removed_o
       ∙ ap (λ n. cond (eqb x k) 1 0 + n) rest
       ∙ sym (count_by-cons (λ s. eqb s k) x xs)
 
--- a number that stands in the list fails a test that no_module in the list passes
+-- a number that stands in the list fails a test that nothing in the list passes
 pub list_any-none_of : (p : ℕ → Bool) (u : ℕ) (xs : List ℕ) → list_any p xs ≡ false → count_by (λ s. eqb s u) xs ≡ 1 → p u ≡ false
 list_any-none_of p u [] none once = absurd (omega (arith, once))
 list_any-none_of p u (x ∷ xs) none once = at (eqb x u) refl (list_any-none_of p u xs parts.1) where

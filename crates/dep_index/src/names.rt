@@ -1,3 +1,4 @@
+//! Names of modules and parameters.
 ghost use Rattle.std.specs.Prelude.{◌≡◌, IfOk};
 ghost use Rattle.dep_index.specs.Text.{normal_form};
 
@@ -12,35 +13,51 @@ pub struct Name {
 }
 
 impl Model for Name {
-    ghost use Rattle.std.specs.Prelude.{ℕ, List};
+    ghost use Rattle.std.specs.Prelude.{ℕ, List, ◌≡◌};
+    ghost use Rattle.dep_index.specs.Text.{normal_form};
 
     ghost Value = { List ℕ };
 
     ghost view = { λ n. n.bytes.items };
+
+    ghost invariant = { λ n. normal_form n.bytes.items ≡ n.bytes.items };
+}
+
+fn normal(alloc: Global, word: &[u8]) -> Result<Vec<u8>, AllocError>
+    ensures { IfOk result (λ bytes. bytes.items ≡ normal_form word.now) }
+{
+    word.iter()
+        .map(|byte| if *byte == b'-' { b'_' } else { *byte })
+        .collect(alloc)
 }
 
 impl Name {
-    /// The normal form of a word.
+    /// The normal form of a word. It fails for want of memory alone.
     pub fn new(alloc: Global, word: &[u8]) -> Result<Name, AllocError>
         ensures { IfOk result (λ name. name ≡ normal_form word.now) }
     {
-        let bytes = word
-            .iter()
-            .map(|byte| if *byte == b'-' { b'_' } else { *byte })
-            .collect(alloc)?;
+        let bytes = normal(alloc, word)?;
         Ok(Name { bytes })
     }
 
+    /// The bytes of the name, which are in normal form.
     pub fn as_bytes(&self) -> &[u8]
         ensures { result.now ≡ self.now }
     {
         &self.bytes
     }
 
-    /// The bytes of the name.
+    /// The bytes of the name, which are in normal form.
     pub fn into_bytes(self) -> Vec<u8>
         ensures { result.items ≡ self }
     {
         self.bytes
+    }
+
+    /// Every name is in normal form. It does nothing, and is there for its contract.
+    pub fn is_normal(&self)
+        ensures { normal_form self.now ≡ self.now }
+    {
+        let _ = &self.bytes;
     }
 }

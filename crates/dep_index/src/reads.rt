@@ -7,43 +7,49 @@ ghost use Rattle.dep_index.specs.Table.{is_absent, is_loading, is_live, is_drain
 use crate::slots::Slots;
 use crate::states::ModuleState;
 
+/// The state of the slot, Absent past the end.
 pub fn state_at(states: &[ModuleState], m: usize) -> ModuleState
     ensures { result ≡ slice_index_or states.now m ModuleState.Absent }
 {
     states.get(m).copied().unwrap_or(ModuleState::Absent)
 }
 
+/// Whether the module takes references and may be needed.
 pub fn is_live(state: ModuleState) -> bool
     ensures { result ≡ is_live state }
 {
     matches!(state, ModuleState::Live)
 }
 
+/// Whether the module is not in the table.
 pub fn is_absent(state: ModuleState) -> bool
     ensures { result ≡ is_absent state }
 {
     matches!(state, ModuleState::Absent)
 }
 
+/// Whether the module gives no further reference.
 pub fn is_draining(state: ModuleState) -> bool
     ensures { result ≡ is_draining state }
 {
     matches!(state, ModuleState::Draining)
 }
 
+/// Whether the module's removal has begun.
 pub fn is_unloading(state: ModuleState) -> bool
     ensures { result ≡ is_unloading state }
 {
     matches!(state, ModuleState::Unloading)
 }
 
+/// Whether the module's load has begun.
 pub fn is_loading(state: ModuleState) -> bool
     ensures { result ≡ is_loading state }
 {
     matches!(state, ModuleState::Loading)
 }
 
-/// The first need that is not live.
+/// The first need that is not Live, by the states of all slots.
 pub fn first_missing(states: &[ModuleState], needs: &[u16]) -> Option<u16>
     ensures { result ≡ find (λ n. not (is_live (slice_index_or states.now n ModuleState.Absent))) needs.now }
 {
@@ -53,20 +59,22 @@ pub fn first_missing(states: &[ModuleState], needs: &[u16]) -> Option<u16>
         .find(|need| !is_live(state_at(states, *need as usize)))
 }
 
-pub fn needs_slot(shape: &Slots, m: usize, u: u16) -> bool
-    ensures { result ≡ needs_slot shape.now m u }
+/// Whether the slot u needs the slot m; no slot past the end needs one.
+pub fn needs_slot(slots: &Slots, m: usize, u: u16) -> bool
+    ensures { result ≡ needs_slot slots.now m u }
 {
     let u = u as usize;
-    u < shape.len() && shape.needs(u).iter().any(|need| *need as usize == m)
+    u < slots.len() && slots.needs(u).iter().any(|need| *need as usize == m)
 }
 
-pub fn has_users(shape: &Slots, order: &[u16], m: usize) -> bool
-    ensures { result ≡ list_any (needs_slot shape.now m) order.now }
+/// Whether a module of the order needs the slot m.
+pub fn has_users(slots: &Slots, order: &[u16], m: usize) -> bool
+    ensures { result ≡ list_any (needs_slot slots.now m) order.now }
 {
-    order.iter().any(|user| needs_slot(shape, m, *user))
+    order.iter().any(|user| needs_slot(slots, m, *user))
 }
 
-/// A slot leaves the order.
+/// The slot leaves the order; the room stays.
 pub fn forget(order: &mut Vec<u16>, m: usize)
     ensures after { order.new.items ≡ filter (λ s. not (s == m)) order.old.items }
     ensures capacity { vec_capacity order.new ≡ vec_capacity order.old }

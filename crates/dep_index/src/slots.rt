@@ -1,4 +1,4 @@
-//! What a table needs of a catalogue: needs and marks by slot.
+//! What a table asks of a catalogue: needs and marks by slot.
 ghost use Rattle.std.specs.Prelude.{◌≡◌, ◌<◌, ◌≤◌, [], ◌∷◌, ◌++◌, length, IfOk};
 ghost use Rattle.dep_index.specs.Table.{module_at};
 
@@ -13,7 +13,7 @@ struct Slot {
     permanent: bool,
 }
 
-/// The modules of a catalogue by slot. Contracts see it as the list of its modules_in.
+/// The modules of a catalogue by slot. Contracts see it as the list of its modules.
 #[derive(Drop)]
 pub struct Slots {
     slots: Vec<Slot>,
@@ -33,7 +33,7 @@ impl Model for Slots {
 }
 
 impl Slots {
-    /// A shape with no module.
+    /// No module.
     pub fn new(alloc: Global) -> Slots
         ensures { result ≡ [] }
     {
@@ -42,7 +42,7 @@ impl Slots {
         }
     }
 
-    /// Adds a module after the others.
+    /// Adds a module behind the others, of which there are at most 1,023. For want of memory it is not added.
     pub fn push(
         &mut self,
         needs: Vec<u16>,
@@ -60,6 +60,7 @@ impl Slots {
         Ok(())
     }
 
+    /// How many modules there are, at most 1,024.
     pub fn len(&self) -> usize
         ensures result_is { result ≡ length self.now }
         ensures bound { length self.now ≤ 1024 }
@@ -67,6 +68,7 @@ impl Slots {
         self.slots.len()
     }
 
+    /// The slots that the module needs, in the order of its symbols.
     pub fn needs(&self, m: usize) -> &[u16]
         requires { m < length self.now }
         ensures { result.now ≡ (module_at self.now m).needs }
@@ -74,6 +76,7 @@ impl Slots {
         &self.slots[m].needs
     }
 
+    /// Whether the module needs a symbol that no module exports.
     pub fn unknown_symbol(&self, m: usize) -> bool
         requires { m < length self.now }
         ensures { result ≡ (module_at self.now m).unknown_symbol }
@@ -81,6 +84,7 @@ impl Slots {
         self.slots[m].unknown_symbol
     }
 
+    /// Whether the module stays once it is loaded.
     pub fn permanent(&self, m: usize) -> bool
         requires { m < length self.now }
         ensures { result ≡ (module_at self.now m).permanent }
@@ -88,7 +92,7 @@ impl Slots {
         self.slots[m].permanent
     }
 
-    /// The same slots, for another owner.
+    /// The same slots, for another owner. It fails for want of memory alone.
     pub fn copy(&self, alloc: Global) -> Result<Slots, AllocError>
         ensures { IfOk result (λ copied. copied ≡ self.now) }
     {

@@ -1,4 +1,5 @@
-//! What one step on a root word does.
+//! What one step on a root word does. A Live module's word is the number of workers that hold it, a Draining one's
+//! `DRAINED` and that number, every other `CLOSED`.
 ghost use Rattle.std.specs.Prelude.{◌≡◌, ◌<◌, ◌+◌, ◌≤◌, ◌^◌};
 ghost use Rattle.dep_index.specs.Words.{get_look, put_step, query_look, close_step, takes_effect};
 
@@ -7,7 +8,7 @@ use crate::calls::Reply;
 /// What a step on a word comes to.
 #[derive(Clone, Copy, Debug, PartialEq, Eq, Drop)]
 pub enum Outcome {
-    /// The call takes effect.
+    /// The call takes effect, with this reply.
     Effect(Reply),
     /// The call goes on to exchange this word.
     GoesOn(u64),
@@ -16,7 +17,9 @@ pub enum Outcome {
 /// The word after a step, and what the step comes to.
 #[derive(Clone, Copy, Debug, PartialEq, Eq, Drop)]
 pub struct WordStep {
+    /// The word after the step.
     pub word: u64,
+    /// What the step comes to.
     pub outcome: Outcome,
 }
 
@@ -26,7 +29,8 @@ pub const CLOSED: u64 = 1 << 32;
 /// What is added to the word of a module that drains.
 pub const DRAINED: u64 = 1 << 33;
 
-/// The load of a get, by a leaf that holds the slot so often.
+/// A get's load of the word, by a leaf that holds the slot `count` times: it goes on to an exchange where the leaf
+/// holds no reference yet.
 pub fn get_look(count: u16, word: u64) -> WordStep
     ensures { result ≡ get_look count word }
 {
@@ -42,7 +46,7 @@ pub fn get_look(count: u16, word: u64) -> WordStep
     WordStep { word, outcome }
 }
 
-/// The step of a put.
+/// The step of a put, by a leaf that holds the slot `count` times: the last reference departs from the word.
 pub fn put_step(count: u16, word: u64) -> WordStep
     requires { count ≡ 1 → 0 < word }
     ensures { result ≡ put_step count word }
@@ -63,7 +67,7 @@ pub fn put_step(count: u16, word: u64) -> WordStep
     }
 }
 
-/// The load of a query.
+/// A query's load of the word.
 pub fn query_look(word: u64) -> WordStep
     ensures { result ≡ query_look word }
 {
@@ -79,7 +83,7 @@ pub fn query_look(word: u64) -> WordStep
     }
 }
 
-/// The call takes effect.
+/// The call takes effect, and leaves this word.
 pub fn takes_effect(word: u64, reply: Reply) -> WordStep
     ensures { result ≡ takes_effect word reply }
 {
@@ -89,7 +93,7 @@ pub fn takes_effect(word: u64, reply: Reply) -> WordStep
     }
 }
 
-/// GoesOn the expected word by the closed one; where it misses, there are references.
+/// Exchanges the expected word for the closed one; where another word is found, there are references.
 pub fn close_step(expected: u64, word: u64) -> WordStep
     ensures { result ≡ close_step expected word }
 {

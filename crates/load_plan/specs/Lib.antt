@@ -2,6 +2,11 @@ pub mod Graph
 pub mod Walk
 pub mod Plan
 pub mod Laws
+pub mod Parameters
 pub mod Results
 pub mod ForProofs
 pub mod VisitSteps
+pub mod Sources
+pub mod Items
+pub mod LookUp
+pub mod PlanLaws

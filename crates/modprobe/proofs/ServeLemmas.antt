@@ -2,10 +2,10 @@
 use Rattle.std.proofs.Common.{◌≡◌, ℕ, List, Option, Some, None}
 use Rattle.dep_index.specs.Table.{Table}
 use Rattle.modprobe.specs.declared.fault.RunFault.{RunFault}
-use Rattle.modprobe.specs.Lines.{IfTold}
+use Rattle.modprobe.specs.Lines.{AtHand, IfTold}
 use Rattle.modprobe.specs.Session.{Setup}
 use Rattle.modprobe.specs.SetupInput.{GivesSetup}
-use Rattle.modprobe.specs.Run.{AtHand, StandsAfter}
+use Rattle.modprobe.specs.Run.{StandsAfter}
 use Rattle.modprobe.specs.Serve.{opening_of, StopsInSession}
 
 pub stops_in_session : (workers : ℕ) (fault : RunFault) (old middle : Option (List ℕ)) (s : Setup) (start : Table) (left ungiven : Option (List ℕ)) (line : List ℕ) (held written : Option (List ℕ)) (table : Table)

@@ -1,18 +1,18 @@
 -- The sections of an input, one line on.
-use Rattle.std.proofs.Common.{arith, ◌≡◌, ℕ, ◌≤◌, true, false, List, [], ◌∷◌, length, map, refl, sym, ap, ◌∙◌, Option, Some, None, Ok, Err}
-use Rattle.std.specs.Prelude.{slice_index_or, ⊤}
+use Rattle.std.proofs.Common.{arith, ◌≡◌, ℕ, ◌≤◌, Bool, true, false, List, [], ◌∷◌, length, map, refl, sym, ap, subst, ◌∙◌, Option, Some, None, Ok, Err}
+use Rattle.std.specs.Prelude.{◌≢◌, slice_index_or, ⊤}
 use Rattle.std.specs.Io.KnownBytes.{IsAtEnd, Keeps}
 use Rattle.dep_index.specs.Text.{Line, cut_lines}
-use Rattle.modprobe.specs.Lines.{IfTold, GivesCut, BeginsWithLongLine}
+use Rattle.modprobe.specs.Lines.{IfTold, GivesCut, IsPartOfLine, BeginsWithLongLine}
 use Rattle.modprobe.specs.declared.section.Section.{Section}
 use Rattle.modprobe.specs.declared.section.Section.TheVariants.{Catalogue, Dep, Alias, Conf, Session}
-use Rattle.modprobe.specs.Sections.{Parts, no_parts, section_of, SectionStep, Stopped, early, too_long, stop, begin, go, text_step, section_step, step_of, after_step, is_long, sections}
-use Rattle.modprobe.specs.ForProofs.{is_session, GoesOn, GivesSections, StopsAs, setup_code_of}
+use Rattle.modprobe.specs.Sections.{Parts, no_parts, section_of, SectionStep, Stopped, early, too_long, stop, begin, go, text_step, section_step, step_of, after_step, is_long, sections, GoesOn}
+use Rattle.modprobe.specs.ForProofs.{is_session, GivesSections, StopsAs, setup_code_of}
 use Rattle.modprobe.specs.declared.lines.LineFault.{LineFault}
 use Rattle.modprobe.specs.declared.lines.LineFault.TheVariants.{Read, Memory, Turns, LongLine}
 use Rattle.dep_index.specs.Catalogue.{Description, catalogue_of}
 use Rattle.modprobe.specs.Session.{Setup}
-use Rattle.modprobe.specs.SetupInput.{of_sections, with_session, with_catalogue, GivesSetup}
+use Rattle.modprobe.specs.SetupInput.{of_sections, with_session, with_catalogue, GivesSetup, SetupStops}
 use Rattle.dep_index.proofs.LineLemmas.{lines_have_texts}
 use Rattle.std.proofs.lemmas.Bool.{false≢true, true≢false, cond-true, cond-false, lt-ltb, le-ltb}
 
@@ -124,3 +124,16 @@ gives_setup (Some old) None parts modules gives is = absurd gives
 gives_setup (Some old) (Some new) parts modules gives is =
     let s : Setup = record { catalogue = modules; dep_text = parts.dep_text; alias_text = parts.alias_text; conf_text = parts.conf_text } in
     ap of_sections gives ∙ ap (λ r. with_session (cut_lines new) (with_catalogue parts r)) is ∙ ap (λ ls. Ok (s, ls)) (lines_have_texts new)
+
+abbrev is_long_line : LineFault → Bool
+is_long_line LongLine = true
+is_long_line _ = false
+
+-- Where the lines stop at the source, the sections go on in the line in hand.
+pub setup_stops : (old middle left ungiven : Option (List ℕ)) (current : Option Section) (parts : Parts) (fault : LineFault) (line : List ℕ)
+    → GoesOn old middle current parts → (fault ≢ LongLine → IsPartOfLine middle left line) → (fault ≡ Read → left ≡ ungiven) → (fault ≡ Turns → left ≡ ungiven)
+    → SetupStops (setup_code_of fault) old ungiven line
+setup_stops old middle left ungiven current parts Read line before part read turns = (middle, (current, parts, before), subst (λ l. IsPartOfLine middle l line) (read refl) (part (λ e. false≢true (ap is_long_line e))))
+setup_stops old middle left ungiven current parts Memory line before part read turns = tt
+setup_stops old middle left ungiven current parts Turns line before part read turns = (middle, (current, parts, before), subst (λ l. IsPartOfLine middle l line) (turns refl) (part (λ e. false≢true (ap is_long_line e))))
+setup_stops old middle left ungiven current parts LongLine line before part read turns = tt

@@ -67,12 +67,6 @@ parts_of texts =
       conf_text = texts.conf.items;
     }
 
--- the sections of the old text are those that the new text gives from here
-abbrev pub GoesOn : Option (List ℕ) → Option (List ℕ) → Option Section → Parts → Type 0
-GoesOn None new current parts = ⊤
-GoesOn (Some old) None current parts = ⊥
-GoesOn (Some old) (Some new) current parts = sections None no_parts (cut_lines old) ≡ sections current parts (cut_lines new)
-
 -- the sections of the old text are these, and its session is the new text
 abbrev pub GivesSections : Option (List ℕ) → Option (List ℕ) → Parts → Type 0
 GivesSections None new parts = ⊤
@@ -104,6 +98,10 @@ HasLine fault = (fault.line ≡ line_of fault.code) × (is_catalogue_code fault.
 abbrev pub is_read_code : SetupCode → Bool
 is_read_code Read = true
 is_read_code _ = false
+
+abbrev pub is_turns_code : SetupCode → Bool
+is_turns_code Turns = true
+is_turns_code _ = false
 
 -- the answer is that the source failed
 abbrev pub is_setup_read : {X : Type 0} → Result X SetupFault → Bool

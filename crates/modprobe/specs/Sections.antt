@@ -1,7 +1,7 @@
 -- The sections of an input.
-use Rattle.std.specs.Prelude.{◌≡◌, ℕ, nat_lt, Bool, if◌then◌else◌, List, [], ◌∷◌, ◌++◌, length, codes, Option, Some, None, Result, Ok, Err}
+use Rattle.std.specs.Prelude.{◌≡◌, ℕ, nat_lt, Bool, if◌then◌else◌, List, [], ◌∷◌, ◌++◌, length, codes, Option, Some, None, ⊤, Result, Ok, Err}
 use Rattle.std.specs.Str.{bytes_eq}
-use Rattle.dep_index.specs.Text.{Line}
+use Rattle.dep_index.specs.Text.{Line, cut_lines}
 use Rattle.modprobe.specs.declared.section.Section.{Section}
 use Rattle.modprobe.specs.declared.section.Section.TheVariants.{Catalogue, Dep, Alias, Conf, Session}
 
@@ -69,3 +69,9 @@ after_step (go current parts) old more later = later current parts
 unfoldable pub sections : Option Section → Parts → List Line → Result (Parts × List Line) Stopped
 sections current parts [] = Ok (parts, [])
 sections current parts (line ∷ more) = after_step (step_of current parts line) parts more (λ c p. sections c p more)
+
+-- the sections of the old text are those that the new text gives from here
+abbrev pub GoesOn : Option (List ℕ) → Option (List ℕ) → Option Section → Parts → Type 0
+GoesOn None new current parts = ⊤
+GoesOn (Some old) None current parts = ⊥
+GoesOn (Some old) (Some new) current parts = sections None no_parts (cut_lines old) ≡ sections current parts (cut_lines new)

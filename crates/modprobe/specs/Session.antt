@@ -73,7 +73,7 @@ code_of reply_is.NeededBy = Ewouldblock
 code_of reply_is.InUse = Ewouldblock
 code_of _ = Ebusy
 
--- the same for a removal or a drain, which is busy with a module that is not live
+-- the same for a removal or a drain: a module that is not live is EBUSY
 abbrev pub unload_code : Reply → Code
 unload_code reply_is.NotLive = Ebusy
 unload_code r = code_of r

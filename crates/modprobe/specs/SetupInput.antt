@@ -6,8 +6,10 @@ use Rattle.dep_index.specs.Catalogue.{Description, Refusal, bad, duplicate, twic
 use Rattle.modprobe.specs.declared.fault.SetupCode.{SetupCode}
 use Rattle.modprobe.specs.declared.fault.SetupCode.TheVariants.{C1, C2, C3, C4, B1, Read, Memory, Turns, LongLine}
 use Rattle.modprobe.specs.declared.fault.SetupFault.{SetupFault}
+use Rattle.modprobe.specs.Lines.{IsPartOfLine}
 use Rattle.modprobe.specs.Session.{Setup}
-use Rattle.modprobe.specs.Sections.{Parts, no_parts, Stopped, early, too_long, sections}
+use Rattle.modprobe.specs.declared.section.Section.{Section}
+use Rattle.modprobe.specs.Sections.{Parts, no_parts, Stopped, early, too_long, sections, GoesOn}
 
 -- why an input has no setup: its sections stop, or the catalogue has a fault at a line of its text
 pub data SetupRefusal : Type 0 where
@@ -55,3 +57,14 @@ IsRefusal Turns line s = line ≡ None
 
 abbrev pub Refuses : SetupFault → Result (Setup × List (List ℕ)) SetupRefusal → Type 0
 Refuses fault s = IsRefusal fault.code fault.line s
+
+-- the sections of the text go on in the rest: no line before it stopped them, or began the session
+abbrev pub GoesOnIn : Option (List ℕ) → Option (List ℕ) → Type 0
+GoesOnIn text rest = (current : Option Section) × (parts : Parts) × GoesOn text rest current parts
+
+-- The source failed, or was read too often, in a line of the sections: no line before it stopped them, and all that the
+-- source gave of it is in hand, with no end of a line.
+abbrev pub SetupStops : SetupCode → Option (List ℕ) → Option (List ℕ) → List ℕ → Type 0
+SetupStops Read text ungiven line = (rest : Option (List ℕ)) × GoesOnIn text rest × IsPartOfLine rest ungiven line
+SetupStops Turns text ungiven line = (rest : Option (List ℕ)) × GoesOnIn text rest × IsPartOfLine rest ungiven line
+SetupStops _ text ungiven line = ⊤
