@@ -48,7 +48,7 @@ pub(crate) enum Item {
     Byte(u8),
     AnyByte,
     Run,
-    OneOf(Set),
+    OneOf(Box<Set>),
 }
 
 impl Item {

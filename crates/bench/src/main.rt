@@ -6,7 +6,7 @@ mod configuration;
 mod figure;
 mod machine;
 mod patterns;
-mod words;
+mod points;
 
 use anyhow::Result;
 use std::env;
@@ -20,7 +20,7 @@ enum Benchmark {
     Configuration,
     Machine,
     Patterns,
-    Words,
+    Points,
 }
 
 const ALL: [Benchmark; 5] = [
@@ -28,7 +28,7 @@ const ALL: [Benchmark; 5] = [
     Benchmark::Configuration,
     Benchmark::Machine,
     Benchmark::Patterns,
-    Benchmark::Words,
+    Benchmark::Points,
 ];
 
 impl Benchmark {
@@ -38,7 +38,7 @@ impl Benchmark {
             Benchmark::Configuration => "configuration",
             Benchmark::Machine => "machine",
             Benchmark::Patterns => "patterns",
-            Benchmark::Words => "words",
+            Benchmark::Points => "points",
         }
     }
 
@@ -48,7 +48,7 @@ impl Benchmark {
             Benchmark::Configuration => configuration::measure(rt),
             Benchmark::Machine => machine::measure(rt),
             Benchmark::Patterns => patterns::measure(rt),
-            Benchmark::Words => words::measure(rt),
+            Benchmark::Points => points::measure(rt),
         }
     }
 }
