@@ -4,6 +4,7 @@
 mod catalogue;
 mod configuration;
 mod figure;
+mod listing;
 mod machine;
 mod patterns;
 mod points;
@@ -18,14 +19,16 @@ use std::rt::Runtime;
 enum Benchmark {
     Catalogue,
     Configuration,
+    Listing,
     Machine,
     Patterns,
     Points,
 }
 
-const ALL: [Benchmark; 5] = [
+const ALL: [Benchmark; 6] = [
     Benchmark::Catalogue,
     Benchmark::Configuration,
+    Benchmark::Listing,
     Benchmark::Machine,
     Benchmark::Patterns,
     Benchmark::Points,
@@ -36,6 +39,7 @@ impl Benchmark {
         match self {
             Benchmark::Catalogue => "catalogue",
             Benchmark::Configuration => "configuration",
+            Benchmark::Listing => "listing",
             Benchmark::Machine => "machine",
             Benchmark::Patterns => "patterns",
             Benchmark::Points => "points",
@@ -46,6 +50,7 @@ impl Benchmark {
         match self {
             Benchmark::Catalogue => catalogue::measure(rt),
             Benchmark::Configuration => configuration::measure(rt),
+            Benchmark::Listing => listing::measure(rt),
             Benchmark::Machine => machine::measure(rt),
             Benchmark::Patterns => patterns::measure(rt),
             Benchmark::Points => points::measure(rt),
