@@ -3,6 +3,7 @@
 
 mod configuration;
 mod figure;
+mod leaves;
 mod machine;
 mod patterns;
 mod words;
@@ -11,18 +12,22 @@ use anyhow::Result;
 use std::env;
 use std::process::ExitCode;
 use std::rt::Runtime;
+use std::sync::Wait;
+use std::thread::Threads;
 
 /// What can be measured.
 #[derive(Clone, Copy, Debug, PartialEq, Eq)]
 enum Benchmark {
     Configuration,
+    Leaves,
     Machine,
     Patterns,
     Words,
 }
 
-const ALL: [Benchmark; 4] = [
+const ALL: [Benchmark; 5] = [
     Benchmark::Configuration,
+    Benchmark::Leaves,
     Benchmark::Machine,
     Benchmark::Patterns,
     Benchmark::Words,
@@ -32,15 +37,17 @@ impl Benchmark {
     fn name(self) -> &'static str {
         match self {
             Benchmark::Configuration => "configuration",
+            Benchmark::Leaves => "leaves",
             Benchmark::Machine => "machine",
             Benchmark::Patterns => "patterns",
             Benchmark::Words => "words",
         }
     }
 
-    fn measure<R: Runtime + AllocGlobal>(self, rt: &R) -> Result<()> {
+    fn measure<R: Runtime + AllocGlobal + Threads + Wait + Sync>(self, rt: &R) -> Result<()> {
         match self {
             Benchmark::Configuration => configuration::measure(rt),
+            Benchmark::Leaves => leaves::measure(rt),
             Benchmark::Machine => machine::measure(rt),
             Benchmark::Patterns => patterns::measure(rt),
             Benchmark::Words => words::measure(rt),
@@ -56,7 +63,7 @@ fn list<R: Runtime + AllocGlobal>(rt: &R) -> Result<()> {
     Ok(())
 }
 
-fn run<R: Runtime + AllocGlobal>(rt: &R, name: &str) -> Result<ExitCode> {
+fn run<R: Runtime + AllocGlobal + Threads + Wait + Sync>(rt: &R, name: &str) -> Result<ExitCode> {
     for benchmark in ALL {
         if benchmark.name() == name {
             benchmark.measure(rt)?;
