@@ -1,12 +1,13 @@
 //! Measures the crates, one benchmark a call: `bench NAME`. With no argument it lists the benchmarks.
 #![tactic(auto)]
 
+mod catalogue;
 mod configuration;
 mod figure;
 mod leaves;
 mod machine;
 mod patterns;
-mod words;
+mod points;
 
 use anyhow::Result;
 use std::env;
@@ -18,39 +19,43 @@ use std::thread::Threads;
 /// What can be measured.
 #[derive(Clone, Copy, Debug, PartialEq, Eq)]
 enum Benchmark {
+    Catalogue,
     Configuration,
     Leaves,
     Machine,
     Patterns,
-    Words,
+    Points,
 }
 
-const ALL: [Benchmark; 5] = [
+const ALL: [Benchmark; 6] = [
+    Benchmark::Catalogue,
     Benchmark::Configuration,
     Benchmark::Leaves,
     Benchmark::Machine,
     Benchmark::Patterns,
-    Benchmark::Words,
+    Benchmark::Points,
 ];
 
 impl Benchmark {
     fn name(self) -> &'static str {
         match self {
+            Benchmark::Catalogue => "catalogue",
             Benchmark::Configuration => "configuration",
             Benchmark::Leaves => "leaves",
             Benchmark::Machine => "machine",
             Benchmark::Patterns => "patterns",
-            Benchmark::Words => "words",
+            Benchmark::Points => "points",
         }
     }
 
     fn measure<R: Runtime + AllocGlobal + Threads + Wait + Sync>(self, rt: &R) -> Result<()> {
         match self {
+            Benchmark::Catalogue => catalogue::measure(rt),
             Benchmark::Configuration => configuration::measure(rt),
             Benchmark::Leaves => leaves::measure(rt),
             Benchmark::Machine => machine::measure(rt),
             Benchmark::Patterns => patterns::measure(rt),
-            Benchmark::Words => words::measure(rt),
+            Benchmark::Points => points::measure(rt),
         }
     }
 }

@@ -18,7 +18,7 @@ use Rattle.linear_points.specs.declared.intervals.Interval.{Interval}
 use Rattle.linear_points.specs.declared.intervals.End.{End}
 use Rattle.linear_points.specs.Linearization.{first_index, first_step, last_step, returned_reply, reply_in, is_invoked, is_returned}
 use Rattle.linear_points.specs.Interval.{AreIntervals}
-use Rattle.linear_points.specs.Noted.{calls_made, AreNumberedFrom, NumbersCall, invoked_after, closed, noted, no_interval, ReturnsBelow}
+use Rattle.linear_points.specs.Noted.{calls_made, AreNumberedFrom, NumbersCall, invoked_after, with_end, noted, no_interval, ReturnsBelow}
 
 -- the intervals of the calls that the first i steps make, and what comes behind them
 pub record HasIntervals (steps : List Step) (es : List Event) (i : ℕ) (found : List Interval) : Type 0 where
@@ -149,53 +149,53 @@ invoked_intervals es found k i call has number at_end = record {
   no_end None true = refl
   no_end None false = refl
 
--- what an end that is closed shows
-closed-index : (o : Option End) (z : End) → option_map (λ (e : End). e.index) (cond (is_some o) o (Some z)) ≡ otherwise (option_map (λ (e : End). e.index) o) (Some z.index)
-closed-index None z = refl
-closed-index (Some e) z = refl
+-- what an interval that is ended shows
+with_end-index : (o : Option End) (z : End) → option_map (λ (e : End). e.index) (cond (is_some o) o (Some z)) ≡ otherwise (option_map (λ (e : End). e.index) o) (Some z.index)
+with_end-index None z = refl
+with_end-index (Some e) z = refl
 
-closed-reply : (o : Option End) (z : End) → option_map (λ (e : End). e.reply) (cond (is_some o) o (Some z)) ≡ otherwise (option_map (λ (e : End). e.reply) o) (Some z.reply)
-closed-reply None z = refl
-closed-reply (Some e) z = refl
+with_end-reply : (o : Option End) (z : End) → option_map (λ (e : End). e.reply) (cond (is_some o) o (Some z)) ≡ otherwise (option_map (λ (e : End). e.reply) o) (Some z.reply)
+with_end-reply None z = refl
+with_end-reply (Some e) z = refl
 
 returned_intervals : (es : List Event) (found : List Interval) (k i : ℕ) (r : Reply) (d : Interval) → AreIntervals es found → k < length found → i ≡ length es
-    → AreIntervals (es ++ Returned k r ∷ []) (set found k (closed (get_or found k d) i r))
+    → AreIntervals (es ++ Returned k r ∷ []) (set found k (with_end (get_or found k d) i r))
 returned_intervals es found k i r d has below at_end = record {
   first = λ n. first_index-append (is_invoked n) 0 es (Returned k r) ∙ otherwise-none (first_step es n) ∙ has.first n
-      ∙ first_kept n (eqb k n) refl ∙ sym (ap (option_map (λ (y : Interval). y.first)) (slice_get-set found k (closed (get_or found k d) i r) n below));
+      ∙ first_kept n (eqb k n) refl ∙ sym (ap (option_map (λ (y : Interval). y.first)) (slice_get-set found k (with_end (get_or found k d) i r) n below));
   last = λ n. first_index-append (is_returned n) 0 es (Returned k r) ∙ ap (λ (m : ℕ). otherwise (last_step es n) (cond (eqb k n) (Some m) None)) (omega (arith, at_end))
       ∙ ap (λ (o : Option ℕ). otherwise o (cond (eqb k n) (Some i) None)) (has.last n)
-      ∙ last_set n (eqb k n) refl ∙ sym (ap (λ (o : Option Interval). option_map (λ (e : End). e.index) (option_and_then (λ (y : Interval). y.end) o)) (slice_get-set found k (closed (get_or found k d) i r) n below));
+      ∙ last_set n (eqb k n) refl ∙ sym (ap (λ (o : Option Interval). option_map (λ (e : End). e.index) (option_and_then (λ (y : Interval). y.end) o)) (slice_get-set found k (with_end (get_or found k d) i r) n below));
   reply = λ n. returned_reply-append es (Returned k r) n
       ∙ ap (λ (o : Option Reply). otherwise o (cond (eqb k n) (Some r) None)) (has.reply n)
-      ∙ reply_set n (eqb k n) refl ∙ sym (ap (λ (o : Option Interval). option_map (λ (e : End). e.reply) (option_and_then (λ (y : Interval). y.end) o)) (slice_get-set found k (closed (get_or found k d) i r) n below));
+      ∙ reply_set n (eqb k n) refl ∙ sym (ap (λ (o : Option Interval). option_map (λ (e : End). e.reply) (option_and_then (λ (y : Interval). y.end) o)) (slice_get-set found k (with_end (get_or found k d) i r) n below));
 } where
   here : (n : ℕ) → eqb k n ≡ true → slice_get found n ≡ Some (get_or found k d)
   here n e = ap (slice_get found) (sym (eqb-true k n e)) ∙ slice_get-get_or found k d below
 
-  first_kept : (n : ℕ) (b : Bool) → eqb k n ≡ b → option_map (λ (y : Interval). y.first) (slice_get found n) ≡ option_map (λ (y : Interval). y.first) (cond b (Some (closed (get_or found k d) i r)) (slice_get found n))
+  first_kept : (n : ℕ) (b : Bool) → eqb k n ≡ b → option_map (λ (y : Interval). y.first) (slice_get found n) ≡ option_map (λ (y : Interval). y.first) (cond b (Some (with_end (get_or found k d) i r)) (slice_get found n))
   first_kept n true e = ap (option_map (λ (y : Interval). y.first)) (here n e)
   first_kept n false e = refl
 
   last_set : (n : ℕ) (b : Bool) → eqb k n ≡ b
       → otherwise (option_map (λ (e : End). e.index) (option_and_then (λ (y : Interval). y.end) (slice_get found n))) (cond b (Some i) None)
-      ≡ option_map (λ (e : End). e.index) (option_and_then (λ (y : Interval). y.end) (cond b (Some (closed (get_or found k d) i r)) (slice_get found n)))
+      ≡ option_map (λ (e : End). e.index) (option_and_then (λ (y : Interval). y.end) (cond b (Some (with_end (get_or found k d) i r)) (slice_get found n)))
   last_set n true e = ap (λ (o : Option Interval). otherwise (option_map (λ (e : End). e.index) (option_and_then (λ (y : Interval). y.end) o)) (Some i)) (here n e)
-      ∙ sym (closed-index (get_or found k d).end (record { index = i; reply = r }))
+      ∙ sym (with_end-index (get_or found k d).end (record { index = i; reply = r }))
   last_set n false e = otherwise-none (option_map (λ (e : End). e.index) (option_and_then (λ (y : Interval). y.end) (slice_get found n)))
 
   reply_set : (n : ℕ) (b : Bool) → eqb k n ≡ b
       → otherwise (option_map (λ (e : End). e.reply) (option_and_then (λ (y : Interval). y.end) (slice_get found n))) (cond b (Some r) None)
-      ≡ option_map (λ (e : End). e.reply) (option_and_then (λ (y : Interval). y.end) (cond b (Some (closed (get_or found k d) i r)) (slice_get found n)))
+      ≡ option_map (λ (e : End). e.reply) (option_and_then (λ (y : Interval). y.end) (cond b (Some (with_end (get_or found k d) i r)) (slice_get found n)))
   reply_set n true e = ap (λ (o : Option Interval). otherwise (option_map (λ (e : End). e.reply) (option_and_then (λ (y : Interval). y.end) o)) (Some r)) (here n e)
-      ∙ sym (closed-reply (get_or found k d).end (record { index = i; reply = r }))
+      ∙ sym (with_end-reply (get_or found k d).end (record { index = i; reply = r }))
   reply_set n false e = otherwise-none (option_map (λ (e : End). e.reply) (option_and_then (λ (y : Interval). y.end) (slice_get found n)))
 
-calls-closed : (found : List Interval) (k i : ℕ) (r : Reply) → k < length found
-    → map (λ (x : Interval). x.call) (set found k (closed (get_or found k no_interval) i r)) ≡ map (λ (x : Interval). x.call) found
-calls-closed [] k i r h = absurd (omega arith)
-calls-closed (x ∷ found) zero i r h = refl
-calls-closed (x ∷ found) (suc k) i r h = ap (λ (cs : List Call). x.call ∷ cs) (calls-closed found k i r (omega arith))
+calls-with_end : (found : List Interval) (k i : ℕ) (r : Reply) → k < length found
+    → map (λ (x : Interval). x.call) (set found k (with_end (get_or found k no_interval) i r)) ≡ map (λ (x : Interval). x.call) found
+calls-with_end [] k i r h = absurd (omega arith)
+calls-with_end (x ∷ found) zero i r h = refl
+calls-with_end (x ∷ found) (suc k) i r h = ap (λ (cs : List Call). x.call ∷ cs) (calls-with_end found k i r (omega arith))
 
 -- where each call has its interval so far, so it has with one event more
 noted_intervals : (es : List Event) (found : List Interval) (i : ℕ) (s : Step) (e : Event) → AreIntervals es found → i ≡ length es → NumbersCall (length found) s e
@@ -213,18 +213,18 @@ noted_calls found i (Go t) Nothing numbers = sym (append-nil (map (λ (x : Inter
 noted_calls found i (Go t) Moved numbers = sym (append-nil (map (λ (x : Interval). x.call) found))
 noted_calls found i (Go t) (Takes k r) numbers = sym (append-nil (map (λ (x : Interval). x.call) found))
 noted_calls found i (Go t) (Invoked k) numbers = absurd numbers.1
-noted_calls found i (Go t) (Returned k r) numbers = calls-closed found k i r numbers ∙ sym (append-nil (map (λ (x : Interval). x.call) found))
+noted_calls found i (Go t) (Returned k r) numbers = calls-with_end found k i r numbers ∙ sym (append-nil (map (λ (x : Interval). x.call) found))
 noted_calls found i (Invoke t call) Nothing numbers = sym (append-nil (map (λ (x : Interval). x.call) found))
 noted_calls found i (Invoke t call) Moved numbers = sym (append-nil (map (λ (x : Interval). x.call) found))
 noted_calls found i (Invoke t call) (Takes k r) numbers = sym (append-nil (map (λ (x : Interval). x.call) found))
 noted_calls found i (Invoke t call) (Invoked k) numbers = map-append (λ (x : Interval). x.call) found (record { call = call; first = i; end = None } ∷ [])
-noted_calls found i (Invoke t call) (Returned k r) numbers = calls-closed found k i r numbers ∙ sym (append-nil (map (λ (x : Interval). x.call) found))
+noted_calls found i (Invoke t call) (Returned k r) numbers = calls-with_end found k i r numbers ∙ sym (append-nil (map (λ (x : Interval). x.call) found))
 
 noted_length : (found : List Interval) (i : ℕ) (s : Step) (e : Event) → NumbersCall (length found) s e → length (noted found i s e) ≡ invoked_after (length found) e
 noted_length found i s Nothing numbers = refl
 noted_length found i s Moved numbers = refl
 noted_length found i s (Takes k r) numbers = refl
-noted_length found i s (Returned k r) numbers = length-set found k (closed (get_or found k no_interval) i r)
+noted_length found i s (Returned k r) numbers = length-set found k (with_end (get_or found k no_interval) i r)
 noted_length found i (Invoke t call) (Invoked k) numbers = length-append found (record { call = call; first = i; end = None } ∷ [])
 noted_length found i (Go t) (Invoked k) numbers = absurd numbers.1
 

@@ -37,8 +37,8 @@ AreNumberedFrom n (s ∷ steps) (e ∷ es) = NumbersCall n s e × AreNumberedFro
 AreNumberedFrom n steps es = ⊥
 
 -- the call returns at this step, if it did not before
-abbrev pub closed : Interval → ℕ → Reply → Interval
-closed interval index reply =
+abbrev pub with_end : Interval → ℕ → Reply → Interval
+with_end interval index reply =
     record interval { end = if is_some interval.end then interval.end else Some (record { index = index; reply = reply }) }
 
 abbrev pub no_interval : Interval
@@ -48,10 +48,10 @@ abbrev pub noted_call : List Interval → ℕ → Step → List Interval
 noted_call intervals index (Invoke t call) = intervals ++ record { call = call; first = index; end = None } ∷ []
 noted_call intervals index (Go t) = intervals
 
--- the intervals with one event more: a call that is invoked gets one, and a call that returns closes its own
+-- the intervals with one event more: a call that is invoked gets one, and a call that returns ends its own
 abbrev pub noted : List Interval → ℕ → Step → Event → List Interval
 noted intervals index s (Invoked k) = noted_call intervals index s
-noted intervals index s (Returned k r) = slice_set intervals k (closed (slice_index_or intervals k no_interval) index r)
+noted intervals index s (Returned k r) = slice_set intervals k (with_end (slice_index_or intervals k no_interval) index r)
 noted intervals index s e = intervals
 
 abbrev pub ReturnsBelow : ℕ → Event → Type 0

@@ -12,7 +12,9 @@ use seq_table::Table;
 use std::alloc::Global;
 use step_core::Step;
 
-/// Whether the points, which may come from anywhere, are a linearization of the run of these steps.
+/// Whether the points, which may come from anywhere, are a linearization of the run of these steps: their indices rise,
+/// each lies within its call, each returned call has one and each open call at most one, and the calls in their order
+/// answer what the one-thread table answers, and what they returned. Errors are those of `points`.
 pub fn check_points(
     alloc: Global,
     catalogue: &Catalogue,

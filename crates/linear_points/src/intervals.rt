@@ -1,7 +1,7 @@
 //! The intervals of a run's calls.
 ghost use Rattle.std.specs.Prelude.{◌≡◌, ◌≤◌, ◌↔◌, IsTrue, IfSome, length, map, IfOk, OnOk, MatchOption};
 ghost use Rattle.linear_points.specs.Interval.{AreIntervals};
-ghost use Rattle.linear_points.specs.Noted.{AreNumberedFrom, calls_made, closed, noted, ReturnsBelow};
+ghost use Rattle.linear_points.specs.Noted.{AreNumberedFrom, calls_made, noted, with_end, ReturnsBelow};
 
 use dep_index::{Call, Reply};
 use std::alloc::{AllocError, Global};
@@ -24,7 +24,7 @@ pub struct Interval {
 
 impl Interval {
     /// Whether the index lies in the interval; an open call goes on.
-    pub fn contains(&self, index: usize) -> bool
+    pub(crate) fn contains(&self, index: usize) -> bool
         ensures { IsTrue result ↔ ((self.now.first ≤ index) × IfSome self.now.end (λ end. index ≤ end.index)) }
     {
         match self.end {
@@ -34,7 +34,7 @@ impl Interval {
     }
 
     /// Whether a call that has this reply at its point may be the one that returned.
-    pub fn returns(&self, reply: Reply) -> bool
+    pub(crate) fn returns(&self, reply: Reply) -> bool
         ensures { IsTrue result ↔ IfSome self.now.end (λ end. reply ≡ end.reply) }
     {
         match self.end {
@@ -44,7 +44,7 @@ impl Interval {
     }
 
     /// Whether the call may have so many points: one where it returned, at most one where it is open.
-    pub fn may_have(&self, points: usize) -> bool
+    pub(crate) fn may_have(&self, points: usize) -> bool
         ensures { IsTrue result ↔ MatchOption self.now.end (points ≤ 1) (λ end. points ≡ 1) }
     {
         match self.end {
@@ -53,9 +53,9 @@ impl Interval {
         }
     }
 
-    /// Notes that the call returns.
-    fn close(&mut self, index: usize, reply: Reply)
-        ensures { self.new ≡ closed self.old index reply }
+    /// Notes that the call returns; only the first time counts.
+    fn note_end(&mut self, index: usize, reply: Reply)
+        ensures { self.new ≡ with_end self.old index reply }
     {
         if self.end.is_none() {
             self.end = Some(End { index, reply });
@@ -81,7 +81,7 @@ pub fn intervals(
     Ok(found)
 }
 
-/// A call that is invoked gets its interval, and a call that returns closes its own.
+/// A call that is invoked gets its interval, and a call that returns ends its own.
 fn note(found: &mut Vec<Interval>, index: usize, step: Step, event: Event) -> Result<(), AllocError>
     requires { ReturnsBelow (length found.old.items) event }
     ensures { OnOk result (found.new.items ≡ noted found.old.items index step event) }
@@ -89,15 +89,14 @@ fn note(found: &mut Vec<Interval>, index: usize, step: Step, event: Event) -> Re
     match event {
         Event::Invoked(_) => {
             if let Step::Invoke(_, call) = step {
-                let end = None;
                 found.push(Interval {
                     call,
                     first: index,
-                    end,
+                    end: None,
                 })?;
             }
         }
-        Event::Returned(number, reply) => found[number].close(index, reply),
+        Event::Returned(number, reply) => found[number].note_end(index, reply),
         _ => {}
     }
     Ok(())

@@ -11,12 +11,16 @@ use crate::taken::{Point, PointsError};
 use dep_index::Catalogue;
 use dep_index::laws::legal_is_safe;
 use std::alloc::{AllocError, Global};
-use step_core::{Event, Machine, Step};
+use step_core::{Event, Step};
 
 /// For every list of the workers' atomic steps, each returned get, put, query, load and removal takes effect at one
 /// step between its first and its last and answers as the one-thread table does there; so a removal succeeds only
 /// where no reference is held and no loaded module needs it, and no get succeeds afterwards until the module is live
 /// again.
+///
+/// The points are those of the run of these steps on a machine in its opening state, in rising order of index; an open
+/// call that has taken effect has its point too. `Step` names the first step that the machine refuses, `Memory` that
+/// there was none for the list. (Herlihy and Wing, Linearizability: a correctness condition for concurrent objects, 1990.)
 pub fn points(
     alloc: Global,
     catalogue: &Catalogue,

@@ -6,5 +6,9 @@ pub mod Clean
 pub mod Visiting
 pub mod VisitLaws
 pub mod Reached
-pub mod Steps
+pub mod StepLemmas
 pub mod Words
+pub mod SourceLemmas
+pub mod LookUpLemmas
+pub mod Lawful
+pub mod Rows

@@ -6,7 +6,6 @@ use Rattle.std.proofs.lemmas.List.Sums.{sum_by-set, sum_by-cons, get_or-le-sum_b
 use Rattle.std.proofs.Math.Nat.{mul-le-mul_right, add-mul}
 use Rattle.std.proofs.lemmas.Map.Keys.{IsDistinct-cons, IsDistinct-tail}
 use Rattle.std.specs.List.{IsDistinct, list_all, sum_by}
-use Rattle.dep_index.specs.Text.{normal_form}
 use Rattle.load_plan.specs.declared.graph.Target.{Target}
 use Rattle.load_plan.specs.declared.graph.Target.TheVariants.{Slot, Missing}
 use Rattle.load_plan.specs.declared.graph.Node.{Node}
@@ -49,7 +48,7 @@ walk-cycle : (w : List Node) (tests : Bool) (n : ℕ) (way done : List ℕ) (m :
 walk-cycle w tests zero way done m h k = rw h
 walk-cycle w tests (suc n) way done m h k = rw (h, k)
 
-walk-unknown : (w : List Node) (tests : Bool) (n : ℕ) (way done : List ℕ) (name : List ℕ) → walk w tests n way done (Missing name) ≡ Err (Unknown (normal_form name))
+walk-unknown : (w : List Node) (tests : Bool) (n : ℕ) (way done : List ℕ) (name : List ℕ) → walk w tests n way done (Missing name) ≡ Err (Unknown name)
 walk-unknown w tests zero way done name = refl
 walk-unknown w tests (suc n) way done name = refl
 
@@ -144,7 +143,7 @@ Walks-again {w} {tests} {start} {way} {done} {marks} {now} {f} {fs} k m leads ma
     let facts : (has now m ≡ false) × (has (way_of way (f ∷ fs)) m ≡ true) = mark_open (has now m) (has (way_of way (f ∷ fs)) m) (sym (k.marked m within) ∙ mark) in
     sym k.same ∙ resume-first w tests way f fs now (Slot m) leads ∙ ap (λ r. r >>= λ d. resume w tests way (next_frame f ∷ fs) d) (walk-cycle w tests (length w - suc (length fs)) (f.slot ∷ way_of way fs) now m facts.0 facts.1)
 
-pub Walks-nowhere : {w : List Node} {tests : Bool} {start : ℕ} {way done : List ℕ} {marks : List Mark} {now : List ℕ} {f : Frame} {fs : List Frame} → Walks w tests start way done marks now (f ∷ fs) → (name : List ℕ) → Leads w f (Missing name) → walk w tests (length w) way done (Slot start) ≡ Err (Unknown (normal_form name))
+pub Walks-nowhere : {w : List Node} {tests : Bool} {start : ℕ} {way done : List ℕ} {marks : List Mark} {now : List ℕ} {f : Frame} {fs : List Frame} → Walks w tests start way done marks now (f ∷ fs) → (name : List ℕ) → Leads w f (Missing name) → walk w tests (length w) way done (Slot start) ≡ Err (Unknown name)
 Walks-nowhere {w} {tests} {start} {way} {done} {marks} {now} {f} {fs} k name leads =
     sym k.same ∙ resume-first w tests way f fs now (Missing name) leads ∙ ap (λ r. r >>= λ d. resume w tests way (next_frame f ∷ fs) d) (walk-unknown w tests (length w - suc (length fs)) (f.slot ∷ way_of way fs) now name)
 

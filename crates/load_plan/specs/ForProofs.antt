@@ -1,9 +1,10 @@
 -- Serves proofs alone: marks by slot, and one step of a walk with a stack of its own.
-use Rattle.std.specs.Prelude.{◌≡◌, ℕ, ◌+◌, ◌<◌, Bool, true, false, ◌&&◌, List, [], ◌∷◌, length, drop, map, not, slice_index_or}
+use Rattle.std.specs.Prelude.{◌≡◌, ℕ, ◌+◌, ◌<◌, Bool, true, false, ◌&&◌, List, [], ◌∷◌, length, drop, map, nat_lt, not, slice_index_or}
+use Rattle.std.specs.List.{list_all}
 use Rattle.load_plan.specs.declared.graph.Target.{Target}
 use Rattle.load_plan.specs.declared.graph.Target.TheVariants.{Slot, Missing}
 use Rattle.load_plan.specs.declared.graph.Node.{Node}
-use Rattle.load_plan.specs.declared.plan.PlanStep.{PlanStep}
+use Rattle.load_plan.specs.declared.steps.PlanStep.{PlanStep}
 use Rattle.load_plan.specs.declared.walk.Mark.{Mark}
 use Rattle.load_plan.specs.declared.walk.Mark.TheVariants.{New, Open, Done}
 use Rattle.load_plan.specs.declared.walk.Frame.{Frame}
@@ -59,3 +60,7 @@ is_done_mark _ = false
 -- the steps of a list, soft where the mark is not Done
 abbrev pub steps_of : List Mark → List ℕ → List PlanStep
 steps_of marks ms = map (λ m. record { slot = m; soft = not (is_done_mark (slice_index_or marks m New)) }) ms
+
+-- the modules of the steps are of the graph
+abbrev pub are_within : ℕ → List PlanStep → Bool
+are_within n steps = list_all (λ (s : PlanStep). nat_lt s.slot n) steps

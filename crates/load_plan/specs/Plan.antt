@@ -5,7 +5,7 @@ use Rattle.std.specs.List.{list_any}
 use Rattle.load_plan.specs.declared.graph.Target.{Target}
 use Rattle.load_plan.specs.declared.graph.Target.TheVariants.{Slot, Missing}
 use Rattle.load_plan.specs.declared.graph.Node.{Node}
-use Rattle.load_plan.specs.declared.plan.PlanStep.{PlanStep}
+use Rattle.load_plan.specs.declared.steps.PlanStep.{PlanStep}
 use Rattle.load_plan.specs.declared.refusal.PlanRefusal.{PlanRefusal}
 use Rattle.load_plan.specs.Graph.{node_at}
 use Rattle.load_plan.specs.Walk.{◌>>=◌, has, hard_walk}

@@ -1,7 +1,6 @@
 -- The hard walk: a module and all that it stands on, depth first, each dependency before its user.
 use Rattle.std.specs.Prelude.{ℕ, zero, suc, Bool, if◌then◌else◌, ◌&&◌, List, [], ◌∷◌, ◌++◌, length, Result, Ok, Err, nat_eq}
 use Rattle.std.specs.List.{list_any}
-use Rattle.dep_index.specs.Text.{normal_form}
 use Rattle.load_plan.specs.declared.graph.Target.{Target}
 use Rattle.load_plan.specs.declared.graph.Target.TheVariants.{Slot, Missing}
 use Rattle.load_plan.specs.declared.graph.Node.{Node}
@@ -27,9 +26,9 @@ walk_each go done (t ∷ ts) = go done t >>= λ d. walk_each go d ts
 -- before. The way leads from the first module to here. The fuel is the number of modules that may still come
 -- onto the way; no walk needs more than there are modules. The install lines are tested or not.
 abbrev pub walk : List Node → Bool → ℕ → List ℕ → List ℕ → Target → Result (List ℕ) PlanRefusal
-walk graph tests zero way done (Missing name) = Err (Unknown (normal_form name))
+walk graph tests zero way done (Missing name) = Err (Unknown name)
 walk graph tests zero way done (Slot m) = if has done m then Ok done else Err (Cycle m)
-walk graph tests (suc n) way done (Missing name) = Err (Unknown (normal_form name))
+walk graph tests (suc n) way done (Missing name) = Err (Unknown name)
 walk graph tests (suc n) way done (Slot m) =
     if has done m then Ok done
     else (if has way m then Err (Cycle m)

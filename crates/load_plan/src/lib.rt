@@ -1,16 +1,25 @@
-//! Look-up of modules, and the order in which they are loaded or removed.
+//! Look-up of modules, the order in which they are loaded or removed, and their parameters.
 #![tactic(auto)]
 
 mod graph;
+mod items;
 pub mod laws;
+mod look_up;
+mod names;
 mod parameters;
-mod plan;
 mod refusal;
+mod sources;
+mod steps;
 mod values;
 mod visit;
 mod walk;
 
 pub use graph::{DependencyGraph, Node, Target, Targets};
+pub use items::{Item, Options, PlanError, plan, removal_plan};
+pub use look_up::{FindError, find};
 pub use parameters::params_valid;
-pub use plan::{PlanStep, plan_in, removal_plan_in};
 pub use refusal::{PlanRefusal, WalkError};
+pub use steps::{PlanStep, plan_in, removal_plan_in};
+
+#[cfg(test)]
+mod tests;

@@ -13,8 +13,6 @@ pub enum PlanRefusal {
     Install(usize),
     /// The catalogue has no module of that name.
     Unknown(Name),
-    /// The module has a remove line and no softdep line (modprobe.d(5)).
-    Remove(Name),
 }
 
 /// Why a walk ends early: a refusal, or want of memory.

@@ -1,14 +1,15 @@
 //! The hard walk: a module and all that it stands on, depth first, by marks and a stack of its own.
-ghost use Rattle.std.specs.Prelude.{◌≡◌, ◌<◌, ◌&&◌, ℕ, List, [], ◌++◌, length, replicate, true, MatchOption, IfSome, IfOk};
+ghost use Rattle.std.specs.Prelude.{◌≡◌, ◌<◌, ◌&&◌, ℕ, List, [], ◌++◌, length, replicate, true, MatchOption, IfSome, IfOk, IfErr};
 ghost use Rattle.load_plan.specs.declared.walk.Mark.TheVariants.{New};
 ghost use Rattle.load_plan.specs.declared.walk.Walked.{Walked};
 ghost use Rattle.load_plan.specs.declared.graph.Target.TheVariants.{Slot};
 ghost use Rattle.load_plan.specs.ForProofs.{AreMarks, IsStep, left_of, mark_at, next_frame, Leads};
 ghost use Rattle.load_plan.specs.Graph.{is_within, node_at};
-ghost use Rattle.load_plan.specs.Results.{Gives};
+ghost use Rattle.load_plan.specs.Results.{Gives, IsRefusalWithin};
 ghost use Rattle.load_plan.specs.Walk.{hard_walk, walk};
 
 use crate::graph::{DependencyGraph, Target};
+use crate::names::copy_name;
 use crate::refusal::{PlanRefusal, WalkError};
 use dep_index::Name;
 use std::alloc::{AllocError, Global};
@@ -110,6 +111,7 @@ pub fn walk(
     requires marks { length marks.items ≡ length graph.now }
     requires new { mark_at marks.items start ≡ New }
     ensures order { (way done : List ℕ) → AreMarks (length graph.now) marks.items way done → Gives (λ (w : Walked). done ++ w.order.items) result (walk graph.now tests (length graph.now) way done (Slot start)) }
+    ensures refusal { IfErr result (IsRefusalWithin (length graph.now)) }
     ensures long { IfOk result (λ w. length w.marks.items ≡ length graph.now) }
     ensures marks { (way done : List ℕ) → AreMarks (length graph.now) marks.items way done → IfOk result (λ w. AreMarks (length graph.now) w.marks.items way (done ++ w.order.items)) }
 {
@@ -138,7 +140,7 @@ pub fn walk(
             Step::Again(slot) => return Err(WalkError::Refused(PlanRefusal::Cycle(slot))),
             Step::Blocked(slot) => return Err(WalkError::Refused(PlanRefusal::Install(slot))),
             Step::Nowhere(name) => {
-                let name = Name::new(alloc, name.as_bytes())?;
+                let name = copy_name(alloc, name)?;
                 return Err(WalkError::Refused(PlanRefusal::Unknown(name)));
             }
         }
@@ -155,6 +157,7 @@ pub fn hard_walk(
 ) -> Result<Walked, WalkError>
     requires { start < length graph.now }
     ensures order { Gives (λ (w : Walked). w.order.items) result (hard_walk graph.now tests (Slot start)) }
+    ensures refusal { IfErr result (IsRefusalWithin (length graph.now)) }
     ensures long { IfOk result (λ w. length w.marks.items ≡ length graph.now) }
     ensures marks { IfOk result (λ w. AreMarks (length graph.now) w.marks.items [] w.order.items) }
 {

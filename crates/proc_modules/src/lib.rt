@@ -9,6 +9,7 @@ mod modinfo;
 mod names;
 mod newest;
 mod read;
+mod words;
 mod write;
 
 pub use line::{Line, LineError, LineState};
@@ -17,3 +18,6 @@ pub use modinfo::modinfo_text;
 pub use names::Names;
 pub use read::read_line;
 pub use write::write_line;
+
+#[cfg(test)]
+mod tests;

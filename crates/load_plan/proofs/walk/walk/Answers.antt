@@ -1,5 +1,4 @@
 use Rattle.std.proofs.Common.{◌≡◌, ◌<◌, ◌∙◌, [], ◌∷◌, length, sym, ap, arith, Err}
-use Rattle.dep_index.specs.Text.{normal_form}
 use Rattle.load_plan.specs.declared.refusal.PlanRefusal.TheVariants.{Unknown}
 use Rattle.load_plan.proofs.Lists.{none_of_length}
 use Rattle.load_plan.proofs.Walking.{KeepsWalk-begin, KeepsWalk-finish, KeepsWalk-pass, KeepsWalk-enter, IsInGraph-slot, Walks-again, Walks-blocked, Walks-nowhere, first_frame, stack_of, stack-pop, stack-push, stack-push_two}
@@ -44,7 +43,7 @@ returns-in-Blocked-clause-order c way done marked =
 pub returns-in-Nowhere-clause-order : goal.returns-in-Nowhere-clause-order
 returns-in-Nowhere-clause-order c way done marked =
     let k = rw (stack-pop c.pop.new.self.items c.in-Some.ensures.items) at c.walk.invariant in
-    Walks-nowhere (k.walks way done marked) c.in-Nowhere.name.now c.in-Nowhere.ensures ∙ ap (λ n. Err (Unknown n)) (ap normal_form (sym c.as_bytes.ensures) ∙ sym c.in_ok-name-in-Nowhere.ensures)
+    Walks-nowhere (k.walks way done marked) c.in-Nowhere.name.now c.in-Nowhere.ensures ∙ ap (λ n. Err (Unknown n)) (sym c.in_ok-name-in-Nowhere.ensures)
 
 pub returns-clause-marks : goal.returns-clause-marks
 returns-clause-marks c way done marked =

@@ -1,0 +1,134 @@
+//! Which modules are found for a name.
+ghost use Rattle.std.specs.Prelude.{◌≡◌, ◌≢◌, ◌<◌, [], length, IfOk, IfErr, OnOk};
+ghost use Rattle.std.specs.List.{list_any};
+ghost use Rattle.std.specs.Str.{bytes_eq};
+ghost use Rattle.alias_match.specs.Pattern.{is_match};
+ghost use Rattle.load_plan.specs.declared.look_up.FindError.TheVariants.{NotFound};
+ghost use Rattle.load_plan.specs.LookUp.{found, free_targets, targets_of, with_name, with_names};
+
+use crate::names::copy_name;
+use alias_match::{Aliases, Pattern};
+use dep_index::{Catalogue, Name};
+use modprobe_conf::Conf;
+use std::alloc::{AllocError, AllocFailed, Global};
+
+/// Why no module is found.
+#[derive(Clone, Copy, Debug, PartialEq, Eq, Drop)]
+pub enum FindError {
+    /// No alias matches the name, and no module has it.
+    NotFound,
+    /// Want of memory.
+    Memory,
+}
+
+impl From<AllocError> for FindError {
+    ghost use Rattle.load_plan.specs.declared.look_up.FindError.TheVariants.{Memory};
+
+    ghost from_gives = { λ _ e. e ≡ Memory };
+
+    fn from(_error: AllocError) -> FindError {
+        FindError::Memory
+    }
+}
+
+impl<T: Drop> From<AllocFailed<T>> for FindError {
+    ghost use Rattle.load_plan.specs.declared.look_up.FindError.TheVariants.{Memory};
+
+    ghost from_gives = { λ _ e. e ≡ Memory };
+
+    fn from(_error: AllocFailed<T>) -> FindError {
+        FindError::Memory
+    }
+}
+
+fn is_match(pattern: &Pattern, text: &[u8]) -> bool
+    ensures { result ≡ is_match pattern.now text.now }
+{
+    pattern.matches(text)
+}
+
+fn has_name(names: &[Name], name: &[u8]) -> bool
+    ensures { result ≡ list_any (bytes_eq name.now) names.now }
+{
+    for own in names {
+        if name == own.as_bytes() {
+            return true;
+        }
+    }
+    false
+}
+
+/// Adds a name, unless it is there already.
+fn add_name(alloc: Global, names: &mut Vec<Name>, name: &Name) -> Result<(), AllocError>
+    ensures { OnOk result (names.new.items ≡ with_name names.old.items name.now) }
+{
+    if !has_name(names, name.as_bytes()) {
+        names.push(copy_name(alloc, name)?)?;
+    }
+    Ok(())
+}
+
+/// The targets of the configuration's aliases that match, each once.
+fn configured(alloc: Global, configuration: &Conf, name: &[u8]) -> Result<Vec<Name>, AllocError>
+    ensures { IfOk result (λ names. names.items ≡ with_names [] (targets_of configuration.now.aliases name.now)) }
+{
+    let mut names = Vec::new(alloc);
+    for i in 0..configuration.alias_len() {
+        if is_match(configuration.alias_pattern(i), name) {
+            add_name(alloc, &mut names, configuration.alias_target(i))?;
+        }
+    }
+    Ok(names)
+}
+
+/// The targets of modules.alias that match and are not blacklisted, each once.
+fn free(
+    alloc: Global,
+    configuration: &Conf,
+    aliases: &Aliases,
+    name: &[u8],
+) -> Result<Vec<Name>, AllocError>
+    ensures { IfOk result (λ names. names.items ≡ with_names [] (free_targets configuration.now aliases.now.entries name.now)) }
+{
+    let mut names = Vec::new(alloc);
+    for i in 0..aliases.len() {
+        if is_match(aliases.pattern(i), name) {
+            let target = aliases.target(i);
+            if !configuration.blacklisted(target.as_bytes()) {
+                add_name(alloc, &mut names, target)?;
+            }
+        }
+    }
+    Ok(names)
+}
+
+/// The modules of a name, in normal form: the targets of the configuration's aliases that match it; if there are
+/// none, the catalogue module of that name; if there is none, the targets of modules.alias that match it and are
+/// not blacklisted. Each stands once, in the order of the lines. A target need not be in the catalogue.
+pub fn find(
+    alloc: Global,
+    name: &[u8],
+    catalogue: &Catalogue,
+    configuration: &Conf,
+    aliases: &Aliases,
+) -> Result<Vec<Name>, FindError>
+    ensures found { IfOk result (λ names. names.items ≡ found catalogue.now configuration.now aliases.now.entries name.now) }
+    ensures some { IfOk result (λ names. names.items ≢ []) }
+    ensures none { IfErr result (λ e. e ≡ NotFound → found catalogue.now configuration.now aliases.now.entries name.now ≡ []) }
+{
+    let name = Name::new(alloc, name)?;
+    let names = configured(alloc, configuration, name.as_bytes())?;
+    if !names.is_empty() {
+        return Ok(names);
+    }
+    if catalogue.slot(name.as_bytes()).is_some() {
+        let mut own = Vec::new(alloc);
+        own.push(name)?;
+        return Ok(own);
+    }
+    let names = free(alloc, configuration, aliases, name.as_bytes())?;
+    if names.is_empty() {
+        return Err(FindError::NotFound);
+    }
+    Ok(names)
+}

@@ -1,0 +1,150 @@
+//! The dependency graph of a catalogue, a modules.dep text and a configuration.
+ghost use Rattle.std.specs.Prelude.{◌≡◌, ◌<◌, length, map, IfOk, IfSome};
+ghost use Rattle.dep_index.specs.Catalogue.{description_at, slot_named};
+ghost use Rattle.load_plan.specs.declared.graph.Target.TheVariants.{Slot};
+ghost use Rattle.load_plan.specs.Sources.{graph_of, hard_of, is_kept, is_stopped, node_of, post_of, pre_of, target_of};
+ghost use Rattle.dep_index.specs.Dependencies.{deps};
+ghost use Rattle.modprobe_conf.specs.Configuration.{softdep_of};
+
+use crate::graph::{DependencyGraph, Node, Target, Targets};
+use crate::names::copy_name;
+use dep_index::{Catalogue, DepIndex, Name};
+use modprobe_conf::Conf;
+use std::alloc::{AllocError, Global};
+
+/// The slot of a name in normal form.
+pub(crate) fn slot_of(catalogue: &Catalogue, name: &Name) -> Option<usize>
+    ensures slot { result ≡ slot_named catalogue.now name.now }
+    ensures within { IfSome result (λ m. m < length catalogue.now) }
+{
+    catalogue.slot(name.as_bytes())
+}
+
+/// The module of a name.
+fn target_of(alloc: Global, catalogue: &Catalogue, name: &Name) -> Result<Target, AllocError>
+    ensures { IfOk result (λ target. target ≡ target_of catalogue.now name.now) }
+{
+    match slot_of(catalogue, name) {
+        Some(slot) => Ok(Target::Slot(slot)),
+        None => Ok(Target::Missing(copy_name(alloc, name)?)),
+    }
+}
+
+fn targets_of(alloc: Global, catalogue: &Catalogue, names: &[Name]) -> Result<Targets, AllocError>
+    ensures { IfOk result (λ targets. targets ≡ map (target_of catalogue.now) names.now) }
+{
+    let mut targets = Targets::new(alloc);
+    for name in names {
+        targets.push(target_of(alloc, catalogue, name)?)?;
+    }
+    Ok(targets)
+}
+
+fn slots_of(alloc: Global, needs: &[u16]) -> Result<Targets, AllocError>
+    ensures { IfOk result (λ targets. targets ≡ map Slot needs.now) }
+{
+    let mut targets = Targets::new(alloc);
+    for slot in needs {
+        targets.push(Target::Slot(*slot as usize))?;
+    }
+    Ok(targets)
+}
+
+/// The hard dependencies of a slot.
+fn hard_of(
+    alloc: Global,
+    catalogue: &Catalogue,
+    dependencies: &DepIndex,
+    m: usize,
+) -> Result<Targets, AllocError>
+    requires { m < length catalogue.now }
+    ensures { IfOk result (λ targets. targets ≡ hard_of catalogue.now m (deps dependencies.now (description_at catalogue.now m).name)) }
+{
+    match dependencies.deps(catalogue.name(m)) {
+        Some(names) => targets_of(alloc, catalogue, names),
+        None => slots_of(alloc, catalogue.needs(m)),
+    }
+}
+
+/// Whether a name has an install line and no softdep line (modprobe.d(5)).
+fn is_stopped(configuration: &Conf, name: &[u8]) -> bool
+    ensures { result ≡ is_stopped configuration.now name.now }
+{
+    configuration.install_line(name) && configuration.softdep(name).is_none()
+}
+
+/// Whether a name has a remove line and no softdep line (modprobe.d(5)).
+pub(crate) fn is_kept(configuration: &Conf, name: &[u8]) -> bool
+    ensures { result ≡ is_kept configuration.now name.now }
+{
+    configuration.remove_line(name) && configuration.softdep(name).is_none()
+}
+
+fn pre_of(
+    alloc: Global,
+    catalogue: &Catalogue,
+    configuration: &Conf,
+    m: usize,
+) -> Result<Targets, AllocError>
+    requires { m < length catalogue.now }
+    ensures { IfOk result (λ targets. targets ≡ map (target_of catalogue.now) (pre_of (description_at catalogue.now m) (softdep_of configuration.now (description_at catalogue.now m).name))) }
+{
+    match configuration.softdep(catalogue.name(m)) {
+        Some(softdep) => targets_of(alloc, catalogue, softdep.pre()),
+        None => targets_of(alloc, catalogue, catalogue.softneeds(m)),
+    }
+}
+
+fn post_of(
+    alloc: Global,
+    catalogue: &Catalogue,
+    configuration: &Conf,
+    m: usize,
+) -> Result<Targets, AllocError>
+    requires { m < length catalogue.now }
+    ensures { IfOk result (λ targets. targets ≡ map (target_of catalogue.now) (post_of (softdep_of configuration.now (description_at catalogue.now m).name))) }
+{
+    match configuration.softdep(catalogue.name(m)) {
+        Some(softdep) => targets_of(alloc, catalogue, softdep.post()),
+        None => Ok(Targets::new(alloc)),
+    }
+}
+
+fn node_of(
+    alloc: Global,
+    catalogue: &Catalogue,
+    dependencies: &DepIndex,
+    configuration: &Conf,
+    m: usize,
+) -> Result<Node, AllocError>
+    requires { m < length catalogue.now }
+    ensures { IfOk result (λ node. node ≡ node_of catalogue.now dependencies.now configuration.now m (description_at catalogue.now m)) }
+{
+    let hard = hard_of(alloc, catalogue, dependencies, m)?;
+    let pre = pre_of(alloc, catalogue, configuration, m)?;
+    let post = post_of(alloc, catalogue, configuration, m)?;
+    let installs = is_stopped(configuration, catalogue.name(m));
+    Ok(Node {
+        hard,
+        pre,
+        post,
+        installs,
+    })
+}
+
+/// The dependency graph of all modules of the catalogue.
+pub(crate) fn graph_of(
+    alloc: Global,
+    catalogue: &Catalogue,
+    dependencies: &DepIndex,
+    configuration: &Conf,
+) -> Result<DependencyGraph, AllocError>
+    ensures graph { IfOk result (λ graph. graph ≡ graph_of catalogue.now dependencies.now configuration.now) }
+    ensures len { IfOk result (λ graph. length graph ≡ length catalogue.now) }
+{
+    let mut nodes = Vec::with_capacity(alloc, catalogue.len())?;
+    for m in 0..catalogue.len() {
+        nodes.push(node_of(alloc, catalogue, dependencies, configuration, m)?)?;
+    }
+    Ok(DependencyGraph::new(nodes))
+}
