@@ -5,6 +5,7 @@ pub mod Whole
 pub mod Range
 pub mod Numbers
 pub mod Prefixes
+pub mod Room
 pub mod Headline
 pub mod MoreEvents
 pub mod Kept

@@ -19,7 +19,7 @@ pub struct Point {
 /// Why steps have no points.
 #[derive(Clone, Copy, Debug, PartialEq, Eq, Drop, Error)]
 pub enum PointsError {
-    /// The machine refuses the step of this index, and none before it.
+    /// The machine refuses the step of this index, and none before it. The cause is never `Calls`.
     #[error("step {index} is refused: {cause:?}")]
     Step { index: usize, cause: StepError },
     #[error("out of memory")]
