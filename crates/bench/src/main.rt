@@ -4,6 +4,7 @@
 mod catalogue;
 mod configuration;
 mod figure;
+mod leaves;
 mod listing;
 mod machine;
 mod patterns;
@@ -13,21 +14,25 @@ use anyhow::Result;
 use std::env;
 use std::process::ExitCode;
 use std::rt::Runtime;
+use std::sync::Wait;
+use std::thread::Threads;
 
 /// What can be measured.
 #[derive(Clone, Copy, Debug, PartialEq, Eq)]
 enum Benchmark {
     Catalogue,
     Configuration,
+    Leaves,
     Listing,
     Machine,
     Patterns,
     Points,
 }
 
-const ALL: [Benchmark; 6] = [
+const ALL: [Benchmark; 7] = [
     Benchmark::Catalogue,
     Benchmark::Configuration,
+    Benchmark::Leaves,
     Benchmark::Listing,
     Benchmark::Machine,
     Benchmark::Patterns,
@@ -39,6 +44,7 @@ impl Benchmark {
         match self {
             Benchmark::Catalogue => "catalogue",
             Benchmark::Configuration => "configuration",
+            Benchmark::Leaves => "leaves",
             Benchmark::Listing => "listing",
             Benchmark::Machine => "machine",
             Benchmark::Patterns => "patterns",
@@ -46,10 +52,11 @@ impl Benchmark {
         }
     }
 
-    fn measure<R: Runtime + AllocGlobal>(self, rt: &R) -> Result<()> {
+    fn measure<R: Runtime + AllocGlobal + Threads + Wait + Sync>(self, rt: &R) -> Result<()> {
         match self {
             Benchmark::Catalogue => catalogue::measure(rt),
             Benchmark::Configuration => configuration::measure(rt),
+            Benchmark::Leaves => leaves::measure(rt),
             Benchmark::Listing => listing::measure(rt),
             Benchmark::Machine => machine::measure(rt),
             Benchmark::Patterns => patterns::measure(rt),
@@ -66,7 +73,7 @@ fn list<R: Runtime + AllocGlobal>(rt: &R) -> Result<()> {
     Ok(())
 }
 
-fn run<R: Runtime + AllocGlobal>(rt: &R, name: &str) -> Result<ExitCode> {
+fn run<R: Runtime + AllocGlobal + Threads + Wait + Sync>(rt: &R, name: &str) -> Result<ExitCode> {
     for benchmark in ALL {
         if benchmark.name() == name {
             benchmark.measure(rt)?;

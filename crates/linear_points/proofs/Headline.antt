@@ -47,8 +47,8 @@ lives_at_start catalogue workers threads calls steps few accepted n =
 within_of : (es : List Event) → ((n : ℕ) → Lives n Before es) → (k : ℕ) (d : Point) → k < length (points_from 0 es) → IsWithin es (get_or (points_from 0 es) k d)
 within_of es lives k d h = record {
   begun = after_invoked 0 k es (get_or (points_from 0 es) k d) (slice_get_some (points_from 0 es) k d h) (lives _);
-  made = omega (arith, (in_span 0 k es (get_or (points_from 0 es) k d) (slice_get_some (points_from 0 es) k d h)).1);
-  unreturned = last (first_index (is_returned (get_or (points_from 0 es) k d).call) 0 es) refl;
+  in_run = omega (arith, (in_span 0 k es (get_or (points_from 0 es) k d) (slice_get_some (points_from 0 es) k d h)).1);
+  not_over = last (first_index (is_returned (get_or (points_from 0 es) k d).call) 0 es) refl;
 } where
   last : (o : Option ℕ) → first_index (is_returned (get_or (points_from 0 es) k d).call) 0 es ≡ o → IfSome o (λ l. (get_or (points_from 0 es) k d).index ≤ l)
   last None e = tt

@@ -77,15 +77,15 @@ pub contained : (es : List Event) (intervals : List Interval) (p : Point) (x : I
     → IsWithin es p → (x.first ≤ p.index) × IsBefore x.end p.index
 contained es intervals p x are e within = (
   begun_is es intervals p.call p.index x are e within.begun,
-  before x.end p.index (subst (λ (o : Option ℕ). IfSome o (λ last. p.index ≤ last)) (last_is es intervals p.call x are e) within.unreturned),
+  before x.end p.index (subst (λ (o : Option ℕ). IfSome o (λ last. p.index ≤ last)) (last_is es intervals p.call x are e) within.not_over),
 )
 
 pub within_contained : (es : List Event) (intervals : List Interval) (p : Point) (x : Interval) → AreIntervals es intervals → slice_get intervals p.call ≡ Some x
     → p.index < length es → (x.first ≤ p.index) × IsBefore x.end p.index → IsWithin es p
 within_contained es intervals p x are e made (begun, open_yet) = record {
   begun = subst (λ (o : Option ℕ). IsSomeAnd o (λ first. first ≤ p.index)) (sym (are.first p.call ∙ ap (option_map (λ (i : Interval). i.first)) e)) begun;
-  made = made;
-  unreturned = subst (λ (o : Option ℕ). IfSome o (λ last. p.index ≤ last)) (sym (last_is es intervals p.call x are e)) (before_end x.end p.index open_yet);
+  in_run = made;
+  not_over = subst (λ (o : Option ℕ). IfSome o (λ last. p.index ≤ last)) (sym (last_is es intervals p.call x are e)) (before_end x.end p.index open_yet);
 }
 
 -- the indices of the first points rise, and so they do with one point more

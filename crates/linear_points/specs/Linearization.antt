@@ -15,10 +15,12 @@ use Rattle.linear_points.specs.declared.taken.Point.{Point}
 use Rattle.step_core.specs.Run.{call_numbered}
 use Rattle.linear_points.specs.Run.{IsRun, run_events, run_calls, run_points}
 
+-- the event invokes call n
 abbrev pub is_invoked : ℕ → Event → Bool
 is_invoked n (Invoked k) = k == n
 is_invoked n e = false
 
+-- the event returns call n
 abbrev pub is_returned : ℕ → Event → Bool
 is_returned n (Returned k r) = k == n
 is_returned n e = false
@@ -36,6 +38,7 @@ first_step es n = first_index (is_invoked n) 0 es
 abbrev pub last_step : List Event → ℕ → Option ℕ
 last_step es n = first_index (is_returned n) 0 es
 
+-- the reply that the event returns for call n, or else the later one
 abbrev pub reply_in : ℕ → Event → Option Reply → Option Reply
 reply_in n (Returned k r) later = if k == n then Some r else later
 reply_in n e later = later
@@ -48,8 +51,8 @@ returned_reply (e ∷ es) n = reply_in n e (returned_reply es n)
 -- the point lies between its call's first step and its last, both included; an open call goes on to the end
 pub record IsWithin (es : List Event) (p : Point) : Type 0 where
   pub begun : IsSomeAnd (first_step es p.call) (λ first. first ≤ p.index)
-  pub made : p.index < length es
-  pub unreturned : IfSome (last_step es p.call) (λ last. p.index ≤ last)
+  pub in_run : p.index < length es
+  pub not_over : IfSome (last_step es p.call) (λ last. p.index ≤ last)
 
 -- how often the call has a point
 abbrev pub point_count : ℕ → List Point → ℕ
@@ -70,13 +73,15 @@ answers calls points = map (λ (p : Point). record { call = call_numbered calls 
 
 -- the points are a linearization of the run of these steps
 pub record IsLinearization (catalogue : List Module) (workers threads : ℕ) (steps : List Step) (points : List Point) : Type 0 where
-  -- indices rise, and each lies in its call's interval
+  -- indices rise
   pub rising : IsStrictlyIncreasing (map (λ (p : Point). p.index) points)
+  -- each point lies between its call's first step and its last
   pub within : All (IsWithin (run_events catalogue workers threads steps)) points
   -- a returned call has one point, an open call at most one
   pub once : (n : ℕ) → HasItsPoint (run_events catalogue workers threads steps) points n
-  -- the calls in the order of the points answer what the one-thread table answers, and what they returned
+  -- the calls in the order of the points are in range, and answer what the one-thread table answers
   pub legal : IsLegal catalogue workers (answers (run_calls catalogue workers threads steps) points)
+  -- a returned call's point has the reply that the call returned
   pub answers : All (IsAsReturned (run_events catalogue workers threads steps)) points
 
 -- the headline: the points of every run are a linearization of it

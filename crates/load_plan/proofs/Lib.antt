@@ -10,3 +10,5 @@ pub mod StepLemmas
 pub mod Words
 pub mod SourceLemmas
 pub mod LookUpLemmas
+pub mod Lawful
+pub mod Rows

@@ -110,3 +110,9 @@ nodes_more catalogue dependencies configuration m within =
 
 pub nodes_all : (catalogue : List Description) (dependencies : List Pair) (configuration : Configuration) (m : ℕ) → length catalogue ≤ m → nodes_from catalogue dependencies configuration 0 (take m catalogue) ≡ graph_of catalogue dependencies configuration
 nodes_all catalogue dependencies configuration m past = ap (nodes_from catalogue dependencies configuration 0) (take-all catalogue m (drop_of_length-le catalogue past))
+
+pub nodes_pushed : (catalogue : List Description) (dependencies : List Pair) (configuration : Configuration) (m : ℕ) (old new : List Node) (node : Node) → m < length catalogue → new ≡ old ++ node ∷ [] → old ≡ nodes_from catalogue dependencies configuration 0 (take m catalogue) → node ≡ node_of catalogue dependencies configuration m (description_at catalogue m) → new ≡ nodes_from catalogue dependencies configuration 0 (take (m + 1) catalogue)
+nodes_pushed catalogue dependencies configuration m old new node within pushed before is =
+    pushed ∙ ap (λ l. l ++ node ∷ []) before
+    ∙ ap (λ n. nodes_from catalogue dependencies configuration 0 (take m catalogue) ++ n ∷ []) is
+    ∙ sym (nodes_more catalogue dependencies configuration m within)

@@ -9,3 +9,4 @@ pub mod VisitSteps
 pub mod Sources
 pub mod Items
 pub mod LookUp
+pub mod PlanLaws

@@ -27,8 +27,8 @@ pub enum LineFault {
 }
 
 /// How a line ends.
-#[derive(Clone, Copy, Debug, PartialEq, Eq)]
-pub enum Ending {
+#[derive(Clone, Copy, Drop)]
+pub(crate) enum Ending {
     /// At the end of the input.
     Absent,
     Feed,
@@ -272,29 +272,41 @@ impl<'a, R: Source> Lines<'a, R> {
         }
     }
 
-    /// Reads the next line, and answers whether there is one.
+    /// Reads the next line, and answers whether there is one; `line` and `ending` then lend it. Read: the source failed.
+    /// Turns: a further read is needed, and none is left. LongLine: the line has more than 65,535 bytes without its end.
+    /// Memory: there is none for the line. After a fault the lines are not to be used again.
     pub fn next_line(&mut self) -> Result<bool, LineFault>
         requires { R.has_failed self.old.reader.now ≡ false }
         ensures same_reader { self.new.reader.ghost_name ≡ self.old.reader.ghost_name }
 
         // The line, and what is left behind it.
-        ensures line { result ≡ Ok true → GivesLine (bytes_left R.remaining self.old) (bytes_left R.remaining self.new) self.new.line.items }
-        ensures cut { result ≡ Ok true → GivesCut (bytes_left R.remaining self.old) (bytes_left R.remaining self.new) (record { text = self.new.line.items; ending = ending_bytes self.new.ending }) }
-        ensures raw { result ≡ Ok true → Consumes (bytes_left R.remaining self.old) (bytes_left R.remaining self.new) (self.new.line.items ++ ending_bytes self.new.ending) }
+        ensures line { result ≡ Ok true →
+            GivesLine (bytes_left R.remaining self.old) (bytes_left R.remaining self.new) self.new.line.items }
+        ensures cut { result ≡ Ok true → GivesCut (bytes_left R.remaining self.old) (bytes_left R.remaining self.new)
+            (record { text = self.new.line.items; ending = ending_bytes self.new.ending }) }
+        ensures raw { result ≡ Ok true → Consumes (bytes_left R.remaining self.old) (bytes_left R.remaining self.new)
+            (self.new.line.items ++ ending_bytes self.new.ending) }
         ensures short { result ≡ Ok true → length self.new.line.items ≤ 65535 }
-        ensures none { result ≡ Ok false → IsAtEnd (bytes_left R.remaining self.old) × IsAtEnd (bytes_left R.remaining self.new) }
-        ensures kept { result ≡ Ok false → Keeps (bytes_left R.remaining self.old) (bytes_left R.remaining self.new) }
+        ensures none { result ≡ Ok false →
+            IsAtEnd (bytes_left R.remaining self.old) × IsAtEnd (bytes_left R.remaining self.new) }
+        ensures kept { result ≡ Ok false →
+            Keeps (bytes_left R.remaining self.old) (bytes_left R.remaining self.new) }
         ensures falls { result ≡ Ok true → steps_left self.new < steps_left self.old }
 
         // When each fault comes. The line in hand has no end then, as far as it was read.
         ensures failed { R.has_failed self.new.reader.now ≡ is_read_fault result }
         ensures turns { result ≡ Err LineFault.Turns → self.new.turns ≡ 0 }
         ensures paid { OnOk result (IsPaid R.remaining self.old self.new) }
-        ensures gave { result ≡ Err LineFault.Turns → (self.new.at_end ≡ false) × IsPaid R.remaining self.old self.new }
-        ensures drained_read { result ≡ Err LineFault.Read → bytes_left R.remaining self.new ≡ R.remaining self.new.reader.now }
-        ensures drained_turns { result ≡ Err LineFault.Turns → bytes_left R.remaining self.new ≡ R.remaining self.new.reader.now }
-        ensures long { result ≡ Err LineFault.LongLine → IfTold (bytes_left R.remaining self.old) BeginsWithLongLine }
-        ensures in_hand { IfErr result (λ fault. fault ≢ LineFault.LongLine → IsPartOfLine (bytes_left R.remaining self.old) (bytes_left R.remaining self.new) self.new.line.items) }
+        ensures gave { result ≡ Err LineFault.Turns →
+            (self.new.at_end ≡ false) × IsPaid R.remaining self.old self.new }
+        ensures drained_read { result ≡ Err LineFault.Read →
+            bytes_left R.remaining self.new ≡ R.remaining self.new.reader.now }
+        ensures drained_turns { result ≡ Err LineFault.Turns →
+            bytes_left R.remaining self.new ≡ R.remaining self.new.reader.now }
+        ensures long { result ≡ Err LineFault.LongLine →
+            IfTold (bytes_left R.remaining self.old) BeginsWithLongLine }
+        ensures in_hand { IfErr result (λ fault. fault ≢ LineFault.LongLine → IsPartOfLine
+            (bytes_left R.remaining self.old) (bytes_left R.remaining self.new) self.new.line.items) }
     {
         self.line.clear();
         self.ending = Ending::Absent;
