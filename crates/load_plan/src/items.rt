@@ -172,9 +172,11 @@ fn items_of<'a>(
     Ok(items)
 }
 
-/// The plan of a name: the modules that are loaded for it, in order. Its hard dependencies stand before their
-/// users, none stands twice; soft items stand before or after (modprobe.d(5)). The words of the command are the
-/// last words of the name's own module.
+/// The plan of a name: the modules that are loaded for it, in order. Hard dependencies stand before their users,
+/// none stands twice; soft items stand before or after (modprobe.d(5)), and are passed over where they can't be
+/// loaded. The words of the command are the last words of the name's own module. It is refused at the first module
+/// of the hard walk that is on the way to itself (Cycle), that the catalogue does not have (Unknown), or that has
+/// an install line and no softdep line (Install), and for want of memory.
 pub fn plan<'a>(
     alloc: Global,
     name: &[u8],
@@ -197,7 +199,9 @@ pub fn plan<'a>(
     }
 }
 
-/// The removal plan of a name: its module, and then what it stands on, each user before its dependencies.
+/// The removal plan of a name: its module, and then what it stands on, each user before its dependencies. It is
+/// refused where the name has a remove line and no softdep line (Remove), else at the first module of the hard walk
+/// that is on the way to itself (Cycle) or that the catalogue does not have (Unknown), and for want of memory.
 pub fn removal_plan(
     alloc: Global,
     name: &[u8],

@@ -40,7 +40,7 @@ fn with_marks(alloc: Global, marks: &[Mark], order: &[usize]) -> Result<Vec<Plan
     Ok(steps)
 }
 
-/// The plan of a module: the modules that are loaded, in order.
+/// The plan of a module of the graph: the modules that are loaded, in order, or why there is none.
 pub fn plan_in(
     alloc: Global,
     graph: &DependencyGraph,
@@ -56,7 +56,7 @@ pub fn plan_in(
     Ok(with_marks(alloc, &walked.marks, &order)?)
 }
 
-/// The removal plan of a module: the modules that are removed, the module first.
+/// The removal plan of a module of the graph: the modules that are removed, the module first, or why there is none.
 pub fn removal_plan_in(
     alloc: Global,
     graph: &DependencyGraph,

@@ -1,5 +1,5 @@
 -- The turns that are spent, and the bytes that a source gives for them.
-use Rattle.std.proofs.Common.{arith, ◌≡◌, ℕ, suc, ◌+◌, ◌≤◌, ◌<◌, Bool, true, false, List, ◌++◌, length, take, refl, ap, ◌∙◌, Option, Some, None}
+use Rattle.std.proofs.Common.{arith, ◌≡◌, ℕ, ◌+◌, ◌≤◌, ◌<◌, true, List, length, take, refl, ap, ◌∙◌, Option, Some, None}
 use Rattle.std.proofs.lemmas.List.{length-append, length-take}
 use Rattle.std.specs.Io.KnownBytes.{Consumes}
 use Rattle.modprobe.specs.Lines.{PaysTurns, GaveAtLeast, IsPaid, StopsForTurns}

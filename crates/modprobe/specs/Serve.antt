@@ -1,5 +1,5 @@
 -- What a whole session answers.
-use Rattle.std.specs.Prelude.{◌≡◌, ℕ, Bool, true, false, List, Option, Some, Result, Ok, Err}
+use Rattle.std.specs.Prelude.{◌≡◌, ℕ, Bool, false, List, Option, Some, Result, Ok, Err}
 use Rattle.std.specs.Str.Lines.{lines}
 use Rattle.std.specs.Io.KnownBytes.{Appends, Keeps}
 use Rattle.dep_index.specs.Table.{Table}
@@ -8,7 +8,7 @@ use Rattle.dep_index.specs.Calls.{opening}
 use Rattle.modprobe.specs.declared.fault.ServeFault.{ServeFault}
 use Rattle.modprobe.specs.declared.fault.ServeFault.TheVariants as serve_fault
 use Rattle.modprobe.specs.declared.fault.RunFault.{RunFault}
-use Rattle.modprobe.specs.Lines.{AtHand, IfTold}
+use Rattle.modprobe.specs.Lines.{IfTold}
 use Rattle.modprobe.specs.Session.{Setup, answer}
 use Rattle.modprobe.specs.SetupInput.{setup_of, Refuses, SetupStops}
 use Rattle.modprobe.specs.Run.{AllShort, StandsAfter, is_read, is_write, is_turns}
