@@ -1,5 +1,5 @@
 -- The definitions, computed on rows.
-use Rattle.std.proofs.Common.{◌≡◌, ℕ, [], ◌∷◌, List, Bool, true, false, Option, Some, None, Ok, Err, codes, refl}
+use Rattle.std.proofs.Common.{◌≡◌, ℕ, [], ◌∷◌, List, Bool, true, false, Option, Some, Err, codes, refl}
 use Rattle.std.specs.Option.{option_map}
 use Rattle.std.specs.Result.{result_ok}
 use Rattle.alias_match.specs.declared.read.PatternError.TheVariants.{Unclosed, Class, Backslash}

@@ -19,7 +19,9 @@ pub struct Alias {
 
 /// The first three words.
 fn first_three<'a>(words: &[&'a [u8]]) -> Option<(&'a [u8], &'a [u8], &'a [u8])>
-    ensures { MatchOption result (alias_of (texts_of words.entry.now) ≡ None) (λ x. alias_of (texts_of words.entry.now) ≡ alias_from x.0.now x.1.now x.2.now) }
+    ensures { MatchOption result
+        (alias_of (texts_of words.entry.now) ≡ None)
+        (λ x. alias_of (texts_of words.entry.now) ≡ alias_from x.0.now x.1.now x.2.now) }
 {
     let (first, rest) = words.split_first()?;
     let (second, rest) = rest.split_first()?;

@@ -37,7 +37,8 @@ impl Aliases {
     }
 
     fn add_words(&mut self, alloc: Global, number: usize, words: &[&[u8]]) -> Result<(), AllocError>
-        ensures { OnOk result (self.new ≡ followed_by self.old (words_before alias_of number (texts_of words.now) nothing_read)) }
+        ensures { OnOk result (self.new
+            ≡ followed_by self.old (words_before alias_of number (texts_of words.now) nothing_read)) }
     {
         if words.is_empty() {
             return Ok(());
@@ -50,7 +51,8 @@ impl Aliases {
     }
 
     fn add_line(&mut self, alloc: Global, number: usize, line: &[u8]) -> Result<(), AllocError>
-        ensures { OnOk result (self.new ≡ followed_by self.old (line_before alias_of (number, line.now) nothing_read)) }
+        ensures { OnOk result (self.new
+            ≡ followed_by self.old (line_before alias_of (number, line.now) nothing_read)) }
     {
         if is_comment(line) {
             return Ok(());
@@ -69,7 +71,8 @@ impl Aliases {
     /// The pattern of an alias, by its place in the order of the lines, from 0.
     pub fn pattern(&self, i: usize) -> &Pattern
         requires { i < length self.now.entries }
-        ensures { option_map (λ alias. alias.pattern) (slice_get self.now.entries i) ≡ Some result.now }
+        ensures { option_map (λ alias. alias.pattern) (slice_get self.now.entries i)
+            ≡ Some result.now }
     {
         &self.entries[i].pattern
     }
@@ -77,7 +80,8 @@ impl Aliases {
     /// The target of an alias, in normal form, by its place in the order of the lines, from 0.
     pub fn target(&self, i: usize) -> &Name
         requires { i < length self.now.entries }
-        ensures { option_map (λ alias. alias.target) (slice_get self.now.entries i) ≡ Some result.now }
+        ensures { option_map (λ alias. alias.target) (slice_get self.now.entries i)
+            ≡ Some result.now }
     {
         &self.entries[i].target
     }

@@ -5,7 +5,8 @@ ghost use Rattle.alias_match.specs.declared.read.PatternError.{PatternError};
 
 /// A text has one reading: it is one pattern, or it has one first fault.
 pub fn one_reading()
-    ensures { (text : List ℕ) (x y : Result (List Piece) PatternError) → Reads text x → Reads text y → x ≡ y }
+    ensures { (text : List ℕ) (x y : Result (List Piece) PatternError)
+        → Reads text x → Reads text y → x ≡ y }
 {}
 
 /// The test for a match says what the relation says.

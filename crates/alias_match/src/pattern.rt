@@ -48,7 +48,7 @@ pub(crate) enum Item {
     Byte(u8),
     AnyByte,
     Run,
-    OneOf(Set),
+    OneOf(Box<Set>),
 }
 
 impl Item {
@@ -136,7 +136,7 @@ fn next_step<'a>(items: &'a [Item], text: &'a [u8]) -> Step<'a>
 }
 
 impl Pattern {
-    /// The pattern that the text is.
+    /// The pattern that the text is (glob(7)), or its first fault from the left; `Memory` where memory runs out.
     pub fn read(alloc: Global, text: &[u8]) -> Result<Pattern, PatternError>
         ensures { Gives (λ pattern. pattern) result (Reads text.now) }
     {
@@ -144,7 +144,8 @@ impl Pattern {
         Ok(Pattern { items })
     }
 
-    /// Whether the text is a joining of one text from each item, in order.
+    /// Whether the whole text, byte for byte as it stands, is a joining of one text from each item, in order.
+    /// It takes no memory.
     pub fn matches(&self, text: &[u8]) -> bool
         ensures { IsTrue result ↔ Matches self.now text.now }
     {

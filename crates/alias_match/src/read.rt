@@ -45,13 +45,15 @@ impl<T: Drop> From<AllocFailed<T>> for PatternError {
 
 /// A byte as it stands, or one that a backslash takes as itself.
 #[derive(Clone, Copy)]
-pub struct Letter {
+pub(crate) struct Letter {
     pub byte: u8,
     pub escaped: bool,
 }
 
 fn next_letter(first: u8, rest: &[u8]) -> Result<(Letter, &[u8]), PatternError>
-    ensures value { MatchResult result (λ x. letter first rest.entry.now ≡ Ok (x.0, x.1.now)) (λ e. letter first rest.entry.now ≡ Err e) }
+    ensures value { MatchResult result
+        (λ x. letter first rest.entry.now ≡ Ok (x.0, x.1.now))
+        (λ e. letter first rest.entry.now ≡ Err e) }
     ensures shorter { IfOk result (λ x. length x.1.now ≤ length rest.entry.now) }
 {
     match rest.split_first() {
@@ -84,7 +86,9 @@ fn begins_class(text: &[u8]) -> bool
 
 /// What follows the end of a set, where the text begins with it.
 fn after_end(text: &[u8]) -> Option<&[u8]>
-    ensures { MatchOption result (closes text.entry.now ≡ false) (λ rest. text.entry.now ≡ 93 ∷ rest.now) }
+    ensures { MatchOption result
+        (closes text.entry.now ≡ false)
+        (λ rest. text.entry.now ≡ 93 ∷ rest.now) }
 {
     match text.split_first() {
         Some((byte, rest)) if *byte == b']' => Some(rest),
@@ -93,7 +97,9 @@ fn after_end(text: &[u8]) -> Option<&[u8]>
 }
 
 fn next_range(first: u8, rest: &[u8]) -> Result<(ByteRange, &[u8]), PatternError>
-    ensures value { MatchResult result (λ x. range first rest.entry.now ≡ Ok (x.0, x.1.now)) (λ e. range first rest.entry.now ≡ Err e) }
+    ensures value { MatchResult result
+        (λ x. range first rest.entry.now ≡ Ok (x.0, x.1.now))
+        (λ e. range first rest.entry.now ≡ Err e) }
     ensures shorter { IfOk result (λ x. length x.1.now ≤ length rest.entry.now) }
 {
     let alone = ByteRange { first, last: first };
@@ -117,7 +123,9 @@ fn next_range(first: u8, rest: &[u8]) -> Result<(ByteRange, &[u8]), PatternError
 }
 
 fn next_member(first: u8, rest: &[u8]) -> Result<(ByteRange, &[u8]), PatternError>
-    ensures value { MatchResult result (λ x. member first rest.entry.now ≡ Ok (x.0, x.1.now)) (λ e. member first rest.entry.now ≡ Err e) }
+    ensures value { MatchResult result
+        (λ x. member first rest.entry.now ≡ Ok (x.0, x.1.now))
+        (λ e. member first rest.entry.now ≡ Err e) }
     ensures shorter { IfOk result (λ x. length x.1.now ≤ length rest.entry.now) }
 {
     let (start, rest) = next_letter(first, rest)?;
@@ -178,7 +186,9 @@ fn undashed(byte: u8) -> u8
 
 /// The item that begins with a byte that begins no set.
 fn next_plain_item(first: u8, rest: &[u8]) -> Result<(Item, &[u8]), PatternError>
-    ensures value { MatchResult result (λ x. plain_item first rest.entry.now ≡ Ok (piece x.0, x.1.now)) (λ e. plain_item first rest.entry.now ≡ Err e) }
+    ensures value { MatchResult result
+        (λ x. plain_item first rest.entry.now ≡ Ok (piece x.0, x.1.now))
+        (λ e. plain_item first rest.entry.now ≡ Err e) }
     ensures shorter { IfOk result (λ x. length x.1.now ≤ length rest.entry.now) }
 {
     if first == b'*' {
@@ -200,14 +210,15 @@ fn next_item(alloc: Global, first: u8, rest: &[u8]) -> Result<(Item, &[u8]), Pat
         return next_plain_item(first, rest);
     }
     let (set, rest) = read_set(alloc, rest)?;
-    Ok((Item::OneOf(set), rest))
+    let boxed = Box::new(alloc, set)?;
+    Ok((Item::OneOf(boxed), rest))
 }
 
 /// The items of a text that is a pattern.
 pub(crate) fn read_items(alloc: Global, text: &[u8]) -> Result<Vec<Item>, PatternError>
     ensures { Gives (λ items. pieces items.items) result (Reads text.now) }
 {
-    let mut items = Vec::new(alloc);
+    let mut items = Vec::with_capacity(alloc, text.len())?;
     let mut rest = text;
     'items: while let Some((first, after)) = rest.split_first() {
         let (item, after) = next_item(alloc, *first, after)?;

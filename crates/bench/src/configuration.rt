@@ -7,15 +7,22 @@ use std::rt::Clock;
 use std::time::Instant;
 
 const MODULES: u32 = 20_000;
+
 const LOOKUPS: u64 = 1_000_000;
 
 pub fn measure<R: Print + Clock + AllocGlobal>(rt: &R) -> Result<()> {
     let mut text = String::new(rt.alloc());
     for module in 0..MODULES {
-        writeln!(text, "alias pci:v0000{module:04X}d*sv*sd*bc*sc*i* driver-{module}")?;
+        writeln!(
+            text,
+            "alias pci:v0000{module:04X}d*sv*sd*bc*sc*i* driver-{module}"
+        )?;
         writeln!(text, "options driver-{module} debug=1 \\")?;
         writeln!(text, " level=3 name=card{module}")?;
-        writeln!(text, "softdep driver-{module} pre: first-{module} post: last-{module}")?;
+        writeln!(
+            text,
+            "softdep driver-{module} pre: first-{module} post: last-{module}"
+        )?;
         writeln!(text, "blacklist other-{module}")?;
     }
     let start = Instant::now(rt)?;

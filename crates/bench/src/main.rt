@@ -1,49 +1,66 @@
 //! Measures the crates, one benchmark a call: `bench NAME`. With no argument it lists the benchmarks.
 #![tactic(auto)]
 
+mod catalogue;
 mod configuration;
 mod figure;
+mod leaves;
+mod listing;
 mod machine;
 mod patterns;
-mod words;
+mod points;
 
 use anyhow::Result;
 use std::env;
 use std::process::ExitCode;
 use std::rt::Runtime;
+use std::sync::Wait;
+use std::thread::Threads;
 
 /// What can be measured.
 #[derive(Clone, Copy, Debug, PartialEq, Eq)]
 enum Benchmark {
+    Catalogue,
     Configuration,
+    Leaves,
+    Listing,
     Machine,
     Patterns,
-    Words,
+    Points,
 }
 
-const ALL: [Benchmark; 4] = [
+const ALL: [Benchmark; 7] = [
+    Benchmark::Catalogue,
     Benchmark::Configuration,
+    Benchmark::Leaves,
+    Benchmark::Listing,
     Benchmark::Machine,
     Benchmark::Patterns,
-    Benchmark::Words,
+    Benchmark::Points,
 ];
 
 impl Benchmark {
     fn name(self) -> &'static str {
         match self {
+            Benchmark::Catalogue => "catalogue",
             Benchmark::Configuration => "configuration",
+            Benchmark::Leaves => "leaves",
+            Benchmark::Listing => "listing",
             Benchmark::Machine => "machine",
             Benchmark::Patterns => "patterns",
-            Benchmark::Words => "words",
+            Benchmark::Points => "points",
         }
     }
 
-    fn measure<R: Runtime + AllocGlobal>(self, rt: &R) -> Result<()> {
+    fn measure<R: Runtime + AllocGlobal + Threads + Wait + Sync>(self, rt: &R) -> Result<()> {
         match self {
+            Benchmark::Catalogue => catalogue::measure(rt),
             Benchmark::Configuration => configuration::measure(rt),
+            Benchmark::Leaves => leaves::measure(rt),
+            Benchmark::Listing => listing::measure(rt),
             Benchmark::Machine => machine::measure(rt),
             Benchmark::Patterns => patterns::measure(rt),
-            Benchmark::Words => words::measure(rt),
+            Benchmark::Points => points::measure(rt),
         }
     }
 }
@@ -56,7 +73,7 @@ fn list<R: Runtime + AllocGlobal>(rt: &R) -> Result<()> {
     Ok(())
 }
 
-fn run<R: Runtime + AllocGlobal>(rt: &R, name: &str) -> Result<ExitCode> {
+fn run<R: Runtime + AllocGlobal + Threads + Wait + Sync>(rt: &R, name: &str) -> Result<ExitCode> {
     for benchmark in ALL {
         if benchmark.name() == name {
             benchmark.measure(rt)?;

@@ -6,6 +6,7 @@ use anyhow::Result;
 use std::rt::Clock;
 use std::time::Instant;
 
+#[derive(Clone, Copy)]
 struct Pair {
     name: &'static str,
     pattern: &'static [u8],
@@ -55,6 +56,7 @@ fn measure_pair<R: Print + Clock + AllocGlobal>(rt: &R, pair: &Pair) -> Result<(
 }
 
 const VENDORS: u32 = 26_000;
+
 const LOOKUPS: u64 = 100;
 
 fn hits(aliases: &Aliases, text: &[u8]) -> u64 {
@@ -71,9 +73,15 @@ fn measure_lookup<R: Print + Clock + AllocGlobal>(rt: &R) -> Result<()> {
     let mut text = String::new(rt.alloc());
     for vendor in 0..VENDORS {
         if vendor % 2 == 0 {
-            writeln!(text, "alias pci:v0000{vendor:04X}d0000{vendor:04X}sv*sd*bc*sc*i* driver-{vendor}")?;
+            writeln!(
+                text,
+                "alias pci:v0000{vendor:04X}d0000{vendor:04X}sv*sd*bc*sc*i* driver-{vendor}"
+            )?;
         } else {
-            writeln!(text, "alias usb:v{vendor:04X}p{vendor:04X}d*dc*dsc*dp*ic*isc*ip*in* driver-{vendor}")?;
+            writeln!(
+                text,
+                "alias usb:v{vendor:04X}p{vendor:04X}d*dc*dsc*dp*ic*isc*ip*in* driver-{vendor}"
+            )?;
         }
     }
     let start = Instant::now(rt)?;
@@ -83,7 +91,10 @@ fn measure_lookup<R: Print + Clock + AllocGlobal>(rt: &R) -> Result<()> {
     let mut found = 0u64;
     let start = Instant::now(rt)?;
     for _ in 0..LOOKUPS {
-        found = found.wrapping_add(hits(&aliases, b"pci:v00001388d00001388sv00001028sd000006DEbc03sc00i00"));
+        found = found.wrapping_add(hits(
+            &aliases,
+            b"pci:v00001388d00001388sv00001028sd000006DEbc03sc00i00",
+        ));
     }
     print_time(rt, "lookup_26000_patterns", found, start.elapsed(rt)?)
 }

@@ -1,4 +1,5 @@
--- What each call answers on the one-thread table, and which table it leaves.
+-- What each call answers on the one-thread table, and which table it leaves. Loads and removals refuse as
+-- init_module(2) and delete_module(2) do.
 use Rattle.std.specs.Prelude.{ℕ, ◌+◌, ◌-◌, ◌==◌, ◌<◌, nat_le, Bool, true, false, not, ◌&&◌, ◌||◌, List, [], ◌∷◌, ◌++◌, length, filter, find, replicate, slice_index, slice_index_or, slice_set, Option, Some, None, unwrap_or, is_some, if◌then◌else◌}
 use Rattle.dep_index.specs.declared.states.ModuleState.{ModuleState}
 use Rattle.dep_index.specs.declared.states.ModuleState.TheVariants.{Absent, Loading, Live, Draining, Unloading}
@@ -22,6 +23,7 @@ or_else (Some reply) later = Some reply
 abbrev pub first_missing : List Module → Book → ℕ → Option ℕ
 first_missing catalogue book m = find (λ n. not (is_live (state_of book n))) (module_at catalogue m).needs
 
+-- the refusal for a need that is not Live
 abbrev pub missing_need : Option ℕ → Option Reply
 missing_need None = None
 missing_need (Some n) = Some (NeedNotLive n)
@@ -57,6 +59,7 @@ held_refusal table (BeginRemove m) = refuse (is_held table m) InUse None
 held_refusal table (EndRemove m) = refuse (is_draining (state_of table.book m) && is_held table m) InUse None
 held_refusal table _ = None
 
+-- the first refusal of a call, by the book and then by the references
 abbrev pub refusal : List Module → Table → Call → Option Reply
 refusal catalogue table call = or_else (book_refusal catalogue table.book call) (held_refusal table call)
 
@@ -70,6 +73,7 @@ abbrev pub without : Book → ℕ → Book
 without book m =
     record { states = slice_set book.states m Absent; order = filter (λ s. not (s == m)) book.order }
 
+-- the book with a new state of one slot
 abbrev pub with_state : Book → ℕ → ModuleState → Book
 with_state book m state = record { states = slice_set book.states m state; order = book.order }
 
@@ -90,6 +94,7 @@ row_effect row (Get w m) = slice_set row m (slice_index row m + 1)
 row_effect row (Put w m) = slice_set row m (slice_index row m - 1)
 row_effect row _ = row
 
+-- the rows of all workers after a call that is not refused
 abbrev pub rows_effect : List (List ℕ) → Call → List (List ℕ)
 rows_effect rows (Get w m) = slice_set rows w (row_effect (slice_index_or rows w []) (Get w m))
 rows_effect rows (Put w m) = slice_set rows w (row_effect (slice_index_or rows w []) (Put w m))
@@ -125,6 +130,7 @@ abbrev pub replies : List Module → Table → List Call → List Reply
 replies catalogue table [] = []
 replies catalogue table (call ∷ calls) = reply catalogue table call ∷ replies catalogue (next catalogue table call) calls
 
+-- the slot that a call names
 abbrev pub slot_of : Call → ℕ
 slot_of (Get w m) = m
 slot_of (Put w m) = m
@@ -141,6 +147,7 @@ worker_of (Get w m) = Some w
 worker_of (Put w m) = Some w
 worker_of _ = None
 
+-- the worker, where the call names one, is one of so many
 abbrev pub IsWorkerInRange : ℕ → Option ℕ → Type 0
 IsWorkerInRange workers (Some w) = w < workers
 IsWorkerInRange workers None = Unit {0}
@@ -149,6 +156,7 @@ IsWorkerInRange workers None = Unit {0}
 abbrev pub IsInRange : ℕ → ℕ → Call → Type 0
 IsInRange slots workers call = (slot_of call < slots) × IsWorkerInRange workers (worker_of call)
 
+-- the call was made
 abbrev pub is_done : Reply → Bool
 is_done Done = true
 is_done _ = false

@@ -19,6 +19,7 @@ pub record Description : Type 0 where
   pub softneeds : List (List ℕ)
   pub permanent : Bool
 
+-- a module of which the name alone is known
 abbrev pub described : List ℕ → Description
 described name =
     record {
@@ -31,6 +32,7 @@ described name =
       permanent = false;
     }
 
+-- the description in a slot; past the end one that says nothing
 abbrev pub description_at : List Description → ℕ → Description
 description_at modules m = slice_index_or modules m (described [])
 
@@ -52,16 +54,19 @@ pub data Refusal : Type 0 where
   twice_exported : Refusal
   too_many : Refusal
 
+-- the kind of parameter that a word names
 abbrev pub kind_of : List ℕ → Option ParamKind
 kind_of word =
     if bytes_eq word (codes "int") then Some kind_is.Int
     else (if bytes_eq word (codes "bool") then Some kind_is.Bool
     else (if bytes_eq word (codes "charp") then Some kind_is.Charp else None))
 
+-- a size, where the word is one
 abbrev pub with_size : Option ℕ → Option Directive
 with_size None = None
 with_size (Some n) = Some (size n)
 
+-- a parameter, where its kind is one
 abbrev pub with_kind : List ℕ → Option ParamKind → Option Directive
 with_kind name None = None
 with_kind name (Some kind) = Some (param name kind)
@@ -71,30 +76,37 @@ abbrev pub begin_of : List (List ℕ) → Option Directive
 begin_of (name ∷ []) = if is_name name then Some (begin (normal_form name)) else None
 begin_of _ = None
 
+-- one number of 32 bits
 abbrev pub size_of : List (List ℕ) → Option Directive
 size_of (word ∷ []) = with_size (number_within 4294967295 word)
 size_of _ = None
 
+-- one or more symbols, which are any words
 abbrev pub some_symbols : (List (List ℕ) → Directive) → List (List ℕ) → Option Directive
 some_symbols make [] = None
 some_symbols make (w ∷ ws) = Some (make (w ∷ ws))
 
+-- one or more names
 abbrev pub some_names : List (List ℕ) → Option Directive
 some_names [] = None
 some_names (w ∷ ws) = if list_all is_name (w ∷ ws) then Some (softneeds (map normal_form (w ∷ ws))) else None
 
+-- a name and a kind
 abbrev pub param_of : List (List ℕ) → Option Directive
 param_of (name ∷ word ∷ []) = if is_name name then with_kind (normal_form name) (kind_of word) else None
 param_of _ = None
 
+-- no further word
 abbrev pub alone : Directive → List (List ℕ) → Option Directive
 alone directive [] = Some directive
 alone directive (w ∷ ws) = None
 
+-- the version 2, and no other
 abbrev pub version_of : List (List ℕ) → Option Directive
 version_of (word ∷ []) = if bytes_eq word (codes "2") then Some version else None
 version_of _ = None
 
+-- what a first word and the words behind it say; None where they have no form of a catalogue line
 abbrev pub directive_of : List ℕ → List (List ℕ) → Option Directive
 directive_of word rest =
     if bytes_eq word (codes "module") then begin_of rest
@@ -113,6 +125,7 @@ pub record Draft : Type 0 where
   pub is_version_2 : Bool
   pub modules : List Description
 
+-- before the first line
 abbrev pub no_draft : Draft
 no_draft = record { begun = false; is_version_2 = false; modules = [] }
 
@@ -120,6 +133,7 @@ no_draft = record { begun = false; is_version_2 = false; modules = [] }
 abbrev pub limit : Draft → ℕ
 limit draft = if draft.is_version_2 then 1024 else 256
 
+-- a module has the name
 abbrev pub has_name : List Description → List ℕ → Bool
 has_name modules name = list_any (λ m. bytes_eq name m.name) modules
 
@@ -127,6 +141,7 @@ has_name modules name = list_any (λ m. bytes_eq name m.name) modules
 abbrev pub slot_named : List Description → List ℕ → Option ℕ
 slot_named modules name = position (λ m. bytes_eq name m.name) modules
 
+-- the module exports the symbol
 abbrev pub exports_symbol : List ℕ → Description → Bool
 exports_symbol symbol m = list_any (bytes_eq symbol) m.exports
 
@@ -134,13 +149,16 @@ exports_symbol symbol m = list_any (bytes_eq symbol) m.exports
 abbrev pub exporter : List Description → List ℕ → Option ℕ
 exporter modules symbol = position (exports_symbol symbol) modules
 
+-- some module exports the symbol
 abbrev pub is_exported : List Description → List ℕ → Bool
 is_exported modules symbol = list_any (exports_symbol symbol) modules
 
+-- a size is given once
 abbrev pub sized : Description → Option ℕ → ℕ → Result Description Refusal
 sized last None n = Ok (record last { size = Some n })
 sized last (Some k) n = Err bad
 
+-- the earlier modules and the changed last one
 abbrev pub with_last : List Description → Result Description Refusal → Result (List Description) Refusal
 with_last earlier (Ok m) = Ok (earlier ++ (m ∷ []))
 with_last earlier (Err e) = Err e
@@ -168,11 +186,13 @@ change is_version_2 earlier last (param name kind) =
     else Ok (record last { params = last.params ++ (record { name = name; kind = kind } ∷ []) })
 change is_version_2 earlier last permanent = Ok (record last { permanent = true })
 
+-- the last of the modules changes; where there is none the line is bad
 abbrev pub change_last : Bool → List Description → List Description → Directive → Result (List Description) Refusal
 change_last is_version_2 earlier [] directive = Err bad
 change_last is_version_2 earlier (m ∷ []) directive = with_last earlier (change is_version_2 earlier m directive)
 change_last is_version_2 earlier (m ∷ n ∷ ms) directive = change_last is_version_2 (earlier ++ (m ∷ [])) (n ∷ ms) directive
 
+-- the draft with these modules
 abbrev pub with_modules : Draft → Result (List Description) Refusal → Result Draft Refusal
 with_modules draft (Ok modules) = Ok (record draft { begun = true; modules = modules })
 with_modules draft (Err e) = Err e
@@ -187,6 +207,7 @@ apply draft (begin name) =
     else Ok (record draft { begun = true; modules = draft.modules ++ (described name ∷ []) }))
 apply draft directive = with_modules draft (change_last draft.is_version_2 [] draft.modules directive)
 
+-- a line of no form is bad
 abbrev pub apply_some : Draft → Option Directive → Result Draft Refusal
 apply_some draft None = Err bad
 apply_some draft (Some directive) = apply draft directive
@@ -196,9 +217,11 @@ abbrev pub read_words : Draft → List (List ℕ) → Result Draft Refusal
 read_words draft [] = Ok draft
 read_words draft (w ∷ ws) = apply_some draft (directive_of w ws)
 
+-- one line: a comment says nothing
 abbrev pub read_line : Draft → List ℕ → Result Draft Refusal
 read_line draft line = if is_comment line then Ok draft else read_words draft (words line)
 
+-- after a line, the next ones, or the refusal with the number of the line
 abbrev pub then_lines : ℕ → Result Draft Refusal → (Draft → Result Draft (Refusal × ℕ)) → Result Draft (Refusal × ℕ)
 then_lines n (Ok draft) go = go draft
 then_lines n (Err e) go = Err (e, n)
@@ -208,6 +231,7 @@ abbrev pub read_lines : ℕ → Draft → List (List ℕ) → Result Draft (Refu
 read_lines n draft [] = Ok draft
 read_lines n draft (l ∷ ls) = then_lines n (read_line draft l) (λ d. read_lines (suc n) d ls)
 
+-- the modules of the draft behind the last line
 abbrev pub modules_read : Result Draft (Refusal × ℕ) → Result (List Description) (Refusal × ℕ)
 modules_read (Ok draft) = Ok draft.modules
 modules_read (Err e) = Err e
@@ -216,10 +240,12 @@ modules_read (Err e) = Err e
 abbrev pub catalogue_of : List ℕ → Result (List Description) (Refusal × ℕ)
 catalogue_of text = modules_read (read_lines 1 no_draft (lines text))
 
+-- the slots that are found, and an exporter behind them, where it is another slot and not there
 abbrev pub with_need : ℕ → List ℕ → Option ℕ → List ℕ
 with_need m found None = found
 with_need m found (Some k) = if k == m || list_any (nat_eq k) found then found else found ++ (k ∷ [])
 
+-- the exporters of the symbols behind the slots that are found
 abbrev pub needs_from : List Description → ℕ → List ℕ → List (List ℕ) → List ℕ
 needs_from modules m found [] = found
 needs_from modules m found (s ∷ ss) = needs_from modules m (with_need m found (exporter modules s)) ss
@@ -241,9 +267,11 @@ module_of modules m =
       permanent = (description_at modules m).permanent;
     }
 
+-- the modules from a slot on
 abbrev pub modules_from : List Description → ℕ → List Description → List Module
 modules_from modules m [] = []
 modules_from modules m (d ∷ later) = module_of modules m ∷ modules_from modules (suc m) later
 
+-- the modules of all slots, in order
 abbrev pub modules_of : List Description → List Module
 modules_of modules = modules_from modules 0 modules

@@ -9,6 +9,7 @@ use Rattle.dep_index.specs.declared.details.Open.{Open}
 abbrev pub owned : List (Vec ℕ Global) → List (List ℕ)
 owned texts = map (λ text. text.items) texts
 
+-- a name and what is kept beside it, as a description
 abbrev pub description_in : List ℕ → Details → Description
 description_in name details =
     record {
@@ -25,6 +26,7 @@ description_in name details =
 abbrev pub description_of : Vec ℕ Global × Details → Description
 description_of entry = description_in entry.0.items entry.1
 
+-- the entries of the index, as descriptions in their order
 abbrev pub descriptions_in : List (Vec ℕ Global × Details) → List Description
 descriptions_in entries = map description_of entries
 

@@ -4,6 +4,7 @@ use Rattle.dep_index.specs.Catalogue as spec
 use Rattle.dep_index.specs.declared.directives.Directive.{Directive}
 use Rattle.dep_index.specs.declared.directives.Directive.TheVariants.{Version, Module, Size, Exports, Needs, Softneeds, Param, Permanent}
 
+-- a directive of the program, as one of the definitions
 abbrev pub directive_in : Directive → spec.Directive
 directive_in Version = spec.version
 directive_in (Module name) = spec.begin name

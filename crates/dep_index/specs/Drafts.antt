@@ -7,13 +7,16 @@ use Rattle.dep_index.specs.Exports.{links_of}
 use Rattle.dep_index.specs.declared.details.Open.{Open}
 use Rattle.dep_index.specs.declared.draft.Draft.{Draft}
 
+-- the open module, where there is one
 abbrev pub last_in : Option Open → List Description
 last_in None = []
 last_in (Some o) = open_in o ∷ []
 
+-- the earlier modules and the open one
 abbrev pub modules_read : Draft → List Description
 modules_read draft = descriptions_in draft.earlier.entries ++ last_in draft.last
 
+-- the draft of the definitions
 abbrev pub draft_in : Draft → spec.Draft
 draft_in draft =
     record {

@@ -3,6 +3,7 @@ use Rattle.std.specs.Prelude.{ℕ, suc, Bool, is_some, List, [], ◌∷◌, ◌+
 use Rattle.std.specs.Str.{bytes_eq}
 use Rattle.dep_index.specs.Catalogue.{Description, Refusal, Directive, twice_exported, exports, change, with_need}
 
+-- a symbol and the slot of its module
 abbrev pub Link : Type 0
 Link = List ℕ × ℕ
 
@@ -16,6 +17,7 @@ abbrev pub links_from : ℕ → List Description → List Link
 links_from m [] = []
 links_from m (d ∷ ds) = map (λ s. (s, m)) d.exports ++ links_from (suc m) ds
 
+-- the links of all modules, in the order of the text
 abbrev pub links_of : List Description → List Link
 links_of modules = links_from 0 modules
 
@@ -27,6 +29,7 @@ export_links links m last (s ∷ ss) =
     then Err twice_exported
     else export_links (links ++ (s, m) ∷ []) m (record last { exports = last.exports ++ (s ∷ []) }) ss
 
+-- the links beside what became of the last module
 abbrev pub with_links : List Link → Result Description Refusal → Result (Description × List Link) Refusal
 with_links links (Ok last) = Ok (last, links)
 with_links links (Err e) = Err e

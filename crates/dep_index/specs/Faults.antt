@@ -34,6 +34,7 @@ IsRefused line.TwiceExported read = read ≡ Err twice_exported
 IsRefused line.TooMany read = read ≡ Err too_many
 IsRefused line.Memory read = Unit {0}
 
+-- the fault of the text at a line that is refused
 abbrev pub fault_at : Refused → ℕ → CatError
 fault_at line.Bad n = cat.Bad n
 fault_at line.Duplicate n = cat.Duplicate n
@@ -41,12 +42,14 @@ fault_at line.TwiceExported n = cat.TwiceExported n
 fault_at line.TooMany n = cat.TooMany n
 fault_at line.Memory n = cat.Memory
 
+-- the same of a line of modules.dep
 abbrev pub IsDepRefused : {A : Type 0} → DepRefused → Result A DepRefusal → Type 0
 IsDepRefused dep_line.NoColon read = read ≡ Err no_colon
 IsDepRefused dep_line.EmptyName read = read ≡ Err empty_name
 IsDepRefused dep_line.SecondLine read = read ≡ Err second_line
 IsDepRefused dep_line.Memory read = Unit {0}
 
+-- the fault of the text at a line of modules.dep that is refused
 abbrev pub dep_fault_at : DepRefused → ℕ → DepError
 dep_fault_at dep_line.NoColon n = dep.NoColon n
 dep_fault_at dep_line.EmptyName n = dep.EmptyName n

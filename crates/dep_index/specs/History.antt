@@ -1,4 +1,5 @@
--- Legal histories: lists of calls with what they answered, and why removals are safe in them.
+-- Legal histories: lists of calls with what they answered, and why removals are safe in them (a legal sequential
+-- history of Herlihy and Wing, "Linearizability", TOPLAS 1990).
 use Rattle.std.specs.Prelude.{◌≡◌, ◌≢◌, ℕ, List, [], ◌∷◌, ◌++◌, map, true}
 use Rattle.dep_index.specs.declared.calls.Call.{Call}
 use Rattle.dep_index.specs.declared.calls.Call.TheVariants.{Get, EndLoad}
@@ -13,9 +14,11 @@ pub record Answer : Type 0 where
   pub call : Call
   pub reply : Reply
 
+-- the calls of a history
 abbrev pub calls_in : List Answer → List Call
 calls_in history = map (λ (a : Answer). a.call) history
 
+-- the replies of a history
 abbrev pub replies_in : List Answer → List Reply
 replies_in history = map (λ (a : Answer). a.reply) history
 

@@ -27,6 +27,7 @@ abbrev pub NeedsAreLive : List Module → Book → Type 0
 NeedsAreLive catalogue book =
     (u n : ℕ) → is_absent (state_of book u) ≡ false → needs_slot catalogue n u ≡ true → state_of book n ≡ Live
 
+-- the laws of a table
 pub record IsLawful (catalogue : List Module) (table : Table) : Type 0 where
   pub order : OrderIsExact table.book
   pub pairs : PairsAreOpen table

@@ -7,5 +7,6 @@ use Rattle.dep_index.specs.Dependencies.{Pair}
 abbrev pub pair_of : Vec ℕ Global × Vec (List ℕ) Global → Pair
 pair_of entry = (entry.0.items, entry.1.items)
 
+-- the entries of the index, as pairs in their order
 abbrev pub pairs_in : List (Vec ℕ Global × Vec (List ℕ) Global) → List Pair
 pairs_in entries = map pair_of entries

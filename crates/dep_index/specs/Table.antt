@@ -14,6 +14,7 @@ pub record Module : Type 0 where
 abbrev pub no_module : Module
 no_module = record { needs = []; unknown_symbol = false; permanent = false }
 
+-- what the catalogue says of a slot
 abbrev pub module_at : List Module → ℕ → Module
 module_at catalogue m = slice_index_or catalogue m no_module
 
@@ -27,25 +28,31 @@ pub record Table : Type 0 where
   pub book : Book
   pub rows : List (List ℕ)
 
+-- the state of a slot; Absent past the end
 abbrev pub state_of : Book → ℕ → ModuleState
 state_of book m = slice_index_or book.states m Absent
 
+-- the module is not in the table
 abbrev pub is_absent : ModuleState → Bool
 is_absent Absent = true
 is_absent _ = false
 
+-- its load has begun
 abbrev pub is_loading : ModuleState → Bool
 is_loading Loading = true
 is_loading _ = false
 
+-- it is loaded
 abbrev pub is_live : ModuleState → Bool
 is_live Live = true
 is_live _ = false
 
+-- it gives no further reference
 abbrev pub is_draining : ModuleState → Bool
 is_draining Draining = true
 is_draining _ = false
 
+-- its removal has begun
 abbrev pub is_unloading : ModuleState → Bool
 is_unloading Unloading = true
 is_unloading _ = false
@@ -72,6 +79,7 @@ pairs rows m = sum_by (λ row. slice_index row m) rows
 abbrev pub is_held : Table → ℕ → Bool
 is_held table m = nat_lt 0 (holders table.rows m)
 
+-- slot u needs slot m
 abbrev pub needs_slot : List Module → ℕ → ℕ → Bool
 needs_slot catalogue m u = list_any (λ n. n == m) (module_at catalogue u).needs
 
@@ -79,6 +87,7 @@ needs_slot catalogue m u = list_any (λ n. n == m) (module_at catalogue u).needs
 abbrev pub users : List Module → Book → ℕ → List ℕ
 users catalogue book m = filter (needs_slot catalogue m) book.order
 
+-- some module of the table needs m
 abbrev pub has_users : List Module → Book → ℕ → Bool
 has_users catalogue book m = list_any (needs_slot catalogue m) book.order
 

@@ -17,6 +17,7 @@ ended part =
       ending = if slice_index part (length part - 1) == 13 then 13 ∷ 10 ∷ [] else 10 ∷ [];
     }
 
+-- the lines of the parts between line feeds; an empty last part is no line
 abbrev pub cut_parts : List (List ℕ) → List Line
 cut_parts [] = []
 cut_parts (part ∷ []) = if length part == 0 then [] else record { text = part; ending = [] } ∷ []
@@ -30,6 +31,7 @@ cut_lines text = cut_parts (slice_split (λ byte. byte == 10) text)
 abbrev pub is_blank : ℕ → Bool
 is_blank byte = byte == 32 || byte == 9
 
+-- a part that is not empty
 abbrev pub is_filled : List ℕ → Bool
 is_filled part = nat_lt 0 (length part)
 
@@ -45,6 +47,7 @@ texts_of found = map (λ text. text.now) found
 abbrev pub is_comment : List ℕ → Bool
 is_comment line = slice_index line 0 == 35
 
+-- `_` for `-`, and every other byte as it is
 abbrev pub normal_byte : ℕ → ℕ
 normal_byte byte = if byte == 45 then 95 else byte
 
@@ -52,12 +55,15 @@ normal_byte byte = if byte == 45 then 95 else byte
 abbrev pub normal_form : List ℕ → List ℕ
 normal_form name = map normal_byte name
 
+-- a decimal digit
 abbrev pub is_digit : ℕ → Bool
 is_digit byte = nat_le 48 byte && nat_le byte 57
 
+-- a letter of ASCII
 abbrev pub is_letter : ℕ → Bool
 is_letter byte = nat_le 97 byte && nat_le byte 122 || nat_le 65 byte && nat_le byte 90
 
+-- a letter, a digit, `_` or `-`
 abbrev pub is_name_byte : ℕ → Bool
 is_name_byte byte = is_letter byte || is_digit byte || byte == 95 || byte == 45
 
@@ -70,6 +76,7 @@ abbrev pub digits_from : ℕ → List ℕ → ℕ
 digits_from high [] = high
 digits_from high (digit ∷ digits) = digits_from (high * 10 + (digit - 48)) digits
 
+-- 1 to 10 decimal digits
 abbrev pub is_number : List ℕ → Bool
 is_number word = nat_le 1 (length word) && nat_le (length word) 10 && list_all is_digit word
 

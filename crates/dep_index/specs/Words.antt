@@ -1,4 +1,5 @@
--- The root words, and what one step on a word does.
+-- The root words, and what one step on a word does. The words are a root of SNZI, with Arrive (get), Depart (put) and
+-- Query: Ellen, Lev, Luchangco, Moir, "SNZI: Scalable NonZero Indicators", PODC 2007.
 use Rattle.std.specs.Prelude.{◌≡◌, ◌≢◌, ◌<◌, length, ℕ, ◌+◌, ◌-◌, ◌==◌, nat_lt, Bool, true, List, Option, Some, None, if◌then◌else◌}
 use Rattle.dep_index.specs.declared.states.ModuleState.{ModuleState}
 use Rattle.dep_index.specs.declared.states.ModuleState.TheVariants.{Live, Draining}
@@ -17,9 +18,11 @@ use Rattle.dep_index.specs.Laws.{IsShaped, IsLawful}
 abbrev pub closed : ℕ
 closed = 4294967296
 
+-- what a Draining module's word has beside the number of its holders
 abbrev pub drained : ℕ
 drained = 8589934592
 
+-- the word of a module in a state, held by so many workers
 abbrev pub word_in : ModuleState → ℕ → ℕ
 word_in Live n = n
 word_in Draining n = drained + n
@@ -29,12 +32,15 @@ word_in _ n = closed
 abbrev pub word_of : Table → ℕ → ℕ
 word_of table m = word_in (state_of table.book m) (holders table.rows m)
 
+-- the word of a Live module
 abbrev pub is_open : ℕ → Bool
 is_open word = nat_lt word closed
 
+-- some worker holds the module, Live or Draining
 abbrev pub shows_holders : ℕ → Bool
 shows_holders word = if is_open word then nat_lt 0 word else nat_lt drained word
 
+-- the call takes effect, with this reply
 abbrev pub takes_effect : ℕ → Reply → WordStep
 takes_effect word reply = record { word = word; outcome = Effect reply }
 
@@ -54,6 +60,7 @@ put_step count word =
     then takes_effect word NotHeld
     else takes_effect (if count == 1 then word - 1 else word) Done
 
+-- query: a load
 abbrev pub query_look : ℕ → WordStep
 query_look word = takes_effect word (if shows_holders word then Yes else No)
 
@@ -70,6 +77,7 @@ book_step book (EndRemove m) word =
     if is_draining (state_of book m) then close_step drained word else takes_effect word Done
 book_step book _ word = takes_effect word Done
 
+-- a refusal takes effect and leaves the word
 abbrev pub unless_refused : Option Reply → ℕ → WordStep → WordStep
 unless_refused None word step = step
 unless_refused (Some reply) word step = takes_effect word reply

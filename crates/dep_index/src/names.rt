@@ -44,14 +44,15 @@ impl Name {
     pub fn as_bytes(&self) -> &[u8]
         ensures { result.now ≡ self.now }
     {
-        &self.bytes
+        self.bytes.as_slice()
     }
 
     /// The bytes of the name, which are in normal form.
     pub fn into_bytes(self) -> Vec<u8>
         ensures { result.items ≡ self }
     {
-        self.bytes
+        let Name { bytes } = self;
+        bytes
     }
 
     /// Every name is in normal form. It does nothing, and is there for its contract.

@@ -188,3 +188,24 @@ fn prefixes(rt: HostRuntime) {
         assert!(rt; fault != Some(DepError::Memory));
     }
 }
+
+const SOFT: &[u8] =
+    b"version 2\nmodule a\nsoftneeds d b\nmodule c\nneeds x y z\nmodule d\nexports x y\nmodule e\nexports z\n";
+
+/// With ample memory all is read. Under an allocator that refuses, want of memory is the one fault.
+#[test]
+fn no_other_fault(rt: HostRuntime) {
+    for text in [SOUND, SOFT] {
+        match read_catalogue(rt.alloc(), text) {
+            Ok(catalogue) => match catalogue.slots(rt.alloc()) {
+                Ok(slots) => assert_eq!(rt; slots.len(), catalogue.len()),
+                Err(_) => {}
+            },
+            Err(error) => assert_eq!(rt; error, CatError::Memory),
+        }
+    }
+    match read_dep(rt.alloc(), DEPENDENCIES) {
+        Ok(index) => assert!(rt; index.deps(b"a").is_some()),
+        Err(error) => assert_eq!(rt; error, DepError::Memory),
+    }
+}

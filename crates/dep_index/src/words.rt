@@ -52,18 +52,9 @@ pub fn put_step(count: u16, word: u64) -> WordStep
     ensures { result ≡ put_step count word }
 {
     match count {
-        0 => WordStep {
-            word,
-            outcome: Outcome::Effect(Reply::NotHeld),
-        },
-        1 => WordStep {
-            word: word - 1,
-            outcome: Outcome::Effect(Reply::Done),
-        },
-        _ => WordStep {
-            word,
-            outcome: Outcome::Effect(Reply::Done),
-        },
+        0 => takes_effect(word, Reply::NotHeld),
+        1 => takes_effect(word - 1, Reply::Done),
+        _ => takes_effect(word, Reply::Done),
     }
 }
 
@@ -77,20 +68,15 @@ pub fn query_look(word: u64) -> WordStep
         word > DRAINED
     };
     let reply = if held { Reply::Yes } else { Reply::No };
-    WordStep {
-        word,
-        outcome: Outcome::Effect(reply),
-    }
+    takes_effect(word, reply)
 }
 
 /// The call takes effect, and leaves this word.
 pub fn takes_effect(word: u64, reply: Reply) -> WordStep
     ensures { result ≡ takes_effect word reply }
 {
-    WordStep {
-        word,
-        outcome: Outcome::Effect(reply),
-    }
+    let outcome = Outcome::Effect(reply);
+    WordStep { word, outcome }
 }
 
 /// Exchanges the expected word for the closed one; where another word is found, there are references.

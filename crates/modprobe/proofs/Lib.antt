@@ -5,3 +5,4 @@ pub mod SlotLemmas
 pub mod RunLemmas
 pub mod NameLemmas
 pub mod ServeLemmas
+pub mod TurnLemmas

@@ -2,7 +2,7 @@
 use Rattle.std.proofs.Common.{◌≡◌, ℕ, List, Option, Some, None}
 use Rattle.dep_index.specs.Table.{Table}
 use Rattle.modprobe.specs.declared.fault.RunFault.{RunFault}
-use Rattle.modprobe.specs.Lines.{AtHand, IfTold}
+use Rattle.modprobe.specs.Lines.{IfTold}
 use Rattle.modprobe.specs.Session.{Setup}
 use Rattle.modprobe.specs.SetupInput.{GivesSetup}
 use Rattle.modprobe.specs.Run.{StandsAfter}

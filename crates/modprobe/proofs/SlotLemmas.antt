@@ -1,5 +1,5 @@
 -- A slot that a name has is a slot of the table's catalogue.
-use Rattle.std.proofs.Common.{arith, ◌≡◌, ℕ, suc, ◌<◌, List, [], ◌∷◌, length, refl, sym, ap, subst, Option, Some}
+use Rattle.std.proofs.Common.{arith, ◌≡◌, ℕ, suc, ◌<◌, List, [], ◌∷◌, length, refl, ap, Some}
 use Rattle.std.proofs.lemmas.List.Quantifiers.{position-Some}
 use Rattle.std.specs.Str.{bytes_eq}
 use Rattle.dep_index.specs.Catalogue.{Description, described, slot_named, modules_from, modules_of}

@@ -99,6 +99,10 @@ abbrev pub is_read_code : SetupCode → Bool
 is_read_code Read = true
 is_read_code _ = false
 
+abbrev pub is_turns_code : SetupCode → Bool
+is_turns_code Turns = true
+is_turns_code _ = false
+
 -- the answer is that the source failed
 abbrev pub is_setup_read : {X : Type 0} → Result X SetupFault → Bool
 is_setup_read (Ok x) = false

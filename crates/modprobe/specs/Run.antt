@@ -35,19 +35,19 @@ StoppedReading s start text hand held written table =
     (done : List (List ℕ)) × (rest : Option (List ℕ)) × Answered s start text rest held written table done
     × IsPartOfLine rest hand.ungiven hand.line
 
--- A line was too long: all lines before it were answered.
+-- a line was too long: all lines before it were answered
 abbrev pub StoppedAtLongLine : Setup → Table → Option (List ℕ) → Option (List ℕ) → Option (List ℕ) → Table → Type 0
 StoppedAtLongLine s start text held written table =
     (done : List (List ℕ)) × (rest : Option (List ℕ)) × Answered s start text rest held written table done
     × IfTold rest BeginsWithLongLine
 
--- Memory ran out in a line, or behind it: all lines before it were answered, and it changed nothing.
+-- memory ran out in a line, or behind it: all lines before it were answered, and it changed nothing
 abbrev pub StoppedForMemory : Setup → Table → Option (List ℕ) → AtHand → Option (List ℕ) → Option (List ℕ) → Table → Type 0
 StoppedForMemory s start text hand held written table =
     (done : List (List ℕ)) × (rest : Option (List ℕ)) × Answered s start text rest held written table done
     × (IsPartOfLine rest hand.left hand.line ⊎ GivesLine rest hand.left hand.line)
 
--- A front part of bytes was written, and not all of them.
+-- a front part of bytes was written, and not all of them
 abbrev pub WritesPart : Option (List ℕ) → Option (List ℕ) → List ℕ → Type 0
 WritesPart old new bytes = (count : ℕ) × (count < length bytes) × Appends old new (take count bytes)
 
@@ -85,6 +85,10 @@ is_write (Err Memory) = false
 is_write (Err Turns) = false
 is_write (Err LongLine) = false
 is_write (Ok x) = false
+
+abbrev pub is_turns : RunFault → Bool
+is_turns Turns = true
+is_turns _ = false
 
 -- the fault of a run that a fault of its lines is
 abbrev pub run_fault_of : LineFault → RunFault

@@ -1,5 +1,5 @@
 -- What a whole session answers.
-use Rattle.std.specs.Prelude.{◌≡◌, ℕ, Bool, true, false, List, Option, Some, Result, Ok, Err}
+use Rattle.std.specs.Prelude.{◌≡◌, ℕ, Bool, false, List, Option, Some, Result, Ok, Err}
 use Rattle.std.specs.Str.Lines.{lines}
 use Rattle.std.specs.Io.KnownBytes.{Appends, Keeps}
 use Rattle.dep_index.specs.Table.{Table}
@@ -8,23 +8,23 @@ use Rattle.dep_index.specs.Calls.{opening}
 use Rattle.modprobe.specs.declared.fault.ServeFault.{ServeFault}
 use Rattle.modprobe.specs.declared.fault.ServeFault.TheVariants as serve_fault
 use Rattle.modprobe.specs.declared.fault.RunFault.{RunFault}
-use Rattle.modprobe.specs.Lines.{AtHand, IfTold}
+use Rattle.modprobe.specs.Lines.{IfTold}
 use Rattle.modprobe.specs.Session.{Setup, answer}
 use Rattle.modprobe.specs.SetupInput.{setup_of, Refuses, SetupStops}
-use Rattle.modprobe.specs.Run.{AllShort, StandsAfter, is_read, is_write}
-use Rattle.modprobe.specs.ForProofs.{is_read_code}
+use Rattle.modprobe.specs.Run.{AllShort, StandsAfter, is_read, is_write, is_turns}
+use Rattle.modprobe.specs.ForProofs.{is_read_code, is_turns_code}
 
 -- the opening table of a setup: every module is absent, and nothing is held
 abbrev pub opening_of : Setup → ℕ → Table
 opening_of s workers = opening (modules_of s.catalogue) workers
 
--- The input has a setup, all lines of its session are short, and what was written grew by the answer to them.
+-- the input has a setup, all lines of its session are short, and what was written grew by the answer to them
 abbrev pub AnswersInput : ℕ → List ℕ → Option (List ℕ) → Option (List ℕ) → Type 0
 AnswersInput workers input held written =
     (s : Setup) × (session : List (List ℕ)) × (setup_of input ≡ Ok (s, session)) × AllShort session
     × Appends held written (answer s (opening_of s workers) session).0
 
--- The input has a setup, and its session stopped as a run does.
+-- the input has a setup, and its session stopped as a run does
 abbrev pub StopsInSession : ℕ → RunFault → List ℕ → Option (List ℕ) → Option (List ℕ) → Option (List ℕ) → Type 0
 StopsInSession workers fault input ungiven held written =
     (s : Setup) × (session : List ℕ) × (setup_of input ≡ Ok (s, lines session))
@@ -58,3 +58,13 @@ failed_reading (Err fault) = is_read_end fault
 abbrev pub failed_writing : {X : Type 0} → Result X ServeFault → Bool
 failed_writing (Ok x) = false
 failed_writing (Err fault) = is_write_end fault
+
+abbrev pub is_turns_end : ServeFault → Bool
+is_turns_end (serve_fault.Setup fault) = is_turns_code fault.code
+is_turns_end (serve_fault.Run fault) = is_turns fault
+is_turns_end serve_fault.Memory = false
+
+-- the answer is that the source was read too often
+abbrev pub ran_out_of_turns : {X : Type 0} → Result X ServeFault → Bool
+ran_out_of_turns (Ok x) = false
+ran_out_of_turns (Err fault) = is_turns_end fault

@@ -1,6 +1,6 @@
 -- What a session answers: the reply to each line, and the table after it. The codes of refusals are those of
 -- init_module(2) and delete_module(2), as far as these have one.
-use Rattle.std.specs.Prelude.{ℕ, nat_lt, Bool, true, if◌then◌else◌, List, [], ◌∷◌, ◌++◌, length, codes, Option, Some, None}
+use Rattle.std.specs.Prelude.{ℕ, nat_lt, true, if◌then◌else◌, List, [], ◌∷◌, ◌++◌, length, codes, Option, Some, None}
 use Rattle.dep_index.specs.Table.{Table, state_of, is_draining, is_held}
 use Rattle.dep_index.specs.Catalogue.{Description, description_at, slot_named, modules_of}
 use Rattle.dep_index.specs.Calls.{reply, next}
@@ -73,7 +73,7 @@ code_of reply_is.NeededBy = Ewouldblock
 code_of reply_is.InUse = Ewouldblock
 code_of _ = Ebusy
 
--- the same for a removal or a drain, which is busy with a module that is not live
+-- the same for a removal or a drain: a module that is not live is EBUSY
 abbrev pub unload_code : Reply → Code
 unload_code reply_is.NotLive = Ebusy
 unload_code r = code_of r

@@ -15,7 +15,7 @@ mod setup;
 
 pub use device::{Failed, FromRead, FromWrite, Sink, Source};
 pub use fault::{RunFault, ServeFault, SetupCode, SetupFault};
-pub use lines::{Ending, LineFault, Lines};
+pub use lines::{LONGEST_LINE, LineFault, Lines};
 pub use service::{TURNS, serve};
 pub use session::run;
 pub use setup::{Setup, read_setup};

@@ -27,8 +27,8 @@ pub enum LineFault {
 }
 
 /// How a line ends.
-#[derive(Clone, Copy, Debug, PartialEq, Eq)]
-pub enum Ending {
+#[derive(Clone, Copy, Drop)]
+pub(crate) enum Ending {
     /// At the end of the input.
     Absent,
     Feed,
@@ -81,7 +81,7 @@ impl<'a, R: Source> Lines<'a, R> {
     ghost use Rattle.std.specs.Str.Lines.{strip_carriage_return};
     ghost use Rattle.std.specs.Io.KnownBytes.{IsAtEnd};
     ghost use Rattle.dep_index.specs.Text.{ended};
-    ghost use Rattle.modprobe.specs.Lines.{bytes_left, text_left, unused, ending_bytes, IsDrained, EndsLine, GivesCut, HasNoFeed, IfTold, BeginsWithLongLine, GivesLine, IsPartOfLine, is_read_fault, steps_left};
+    ghost use Rattle.modprobe.specs.Lines.{bytes_left, text_left, unused, ending_bytes, IsDrained, IsPaid, EndsLine, GivesCut, HasNoFeed, IfTold, BeginsWithLongLine, GivesLine, IsPartOfLine, is_read_fault, steps_left};
 
     /// The lines of what `reader` has left, over at most `turns` reads.
     pub fn new(alloc: Global, reader: &'a mut R, turns: u64) -> Result<Lines<'a, R>, AllocError>
@@ -100,6 +100,7 @@ impl<'a, R: Source> Lines<'a, R> {
         ensures same_reader { result.reader.ghost_name ≡ reader.entry.ghost_name }
         ensures works { R.has_failed result.reader.now ≡ false }
         ensures bytes { bytes_left R.remaining result ≡ R.remaining reader.old }
+        ensures value { result.reader.now ≡ reader.old }
         ensures turns { result.turns ≡ turns }
     {
         let Buffers { piece, line } = buffers;
@@ -163,6 +164,8 @@ impl<'a, R: Source> Lines<'a, R> {
         ensures turns { result ≡ Err LineFault.Turns → self.new.turns ≡ 0 }
         ensures drained_read { result ≡ Err LineFault.Read → IsDrained self.new }
         ensures drained_turns { result ≡ Err LineFault.Turns → IsDrained self.new }
+        ensures paid { OnOk result (IsPaid R.remaining self.old self.new) }
+        ensures unpaid { result ≡ Err LineFault.Turns → IsPaid R.remaining self.old self.new }
         ensures memory { result ≢ Err LineFault.Memory }
         ensures short { result ≢ Err LineFault.LongLine }
         ensures more { result ≡ Ok true → (self.new.start < self.new.end) × (self.new.at_end ≡ false) }
@@ -226,6 +229,8 @@ impl<'a, R: Source> Lines<'a, R> {
         ensures turns { result ≡ Err LineFault.Turns → self.new.turns ≡ 0 }
         ensures drained_read { result ≡ Err LineFault.Read → IsDrained self.new }
         ensures drained_turns { result ≡ Err LineFault.Turns → IsDrained self.new }
+        ensures paid { OnOk result (IsPaid R.remaining self.old self.new) }
+        ensures unpaid { result ≡ Err LineFault.Turns → IsPaid R.remaining self.old self.new }
         ensures long { result ≡ Err LineFault.LongLine → IfTold (text_left R.remaining self.old) BeginsWithLongLine }
         ensures falls { OnOk result (steps_left self.new < steps_left self.old) }
         ensures spent { OnOk result (steps_left self.new + vec_len self.new.line ≤ steps_left self.old + vec_len self.old.line) }
@@ -256,6 +261,7 @@ impl<'a, R: Source> Lines<'a, R> {
         ensures same_reader { self.new.reader ≡ self.old.reader }
         ensures left { bytes_left R.remaining self.new ≡ bytes_left R.remaining self.old }
         ensures turns { self.new.turns ≡ self.old.turns }
+        ensures at_end { self.new.at_end ≡ self.old.at_end }
         ensures steps { steps_left self.new ≡ steps_left self.old }
     {
         if self.line.last() == Some(&b'\r') {
@@ -266,27 +272,41 @@ impl<'a, R: Source> Lines<'a, R> {
         }
     }
 
-    /// Reads the next line, and answers whether there is one.
+    /// Reads the next line, and answers whether there is one; `line` and `ending` then lend it. Read: the source failed.
+    /// Turns: a further read is needed, and none is left. LongLine: the line has more than 65,535 bytes without its end.
+    /// Memory: there is none for the line. After a fault the lines are not to be used again.
     pub fn next_line(&mut self) -> Result<bool, LineFault>
         requires { R.has_failed self.old.reader.now ≡ false }
         ensures same_reader { self.new.reader.ghost_name ≡ self.old.reader.ghost_name }
 
         // The line, and what is left behind it.
-        ensures line { result ≡ Ok true → GivesLine (bytes_left R.remaining self.old) (bytes_left R.remaining self.new) self.new.line.items }
-        ensures cut { result ≡ Ok true → GivesCut (bytes_left R.remaining self.old) (bytes_left R.remaining self.new) (record { text = self.new.line.items; ending = ending_bytes self.new.ending }) }
-        ensures raw { result ≡ Ok true → Consumes (bytes_left R.remaining self.old) (bytes_left R.remaining self.new) (self.new.line.items ++ ending_bytes self.new.ending) }
+        ensures line { result ≡ Ok true →
+            GivesLine (bytes_left R.remaining self.old) (bytes_left R.remaining self.new) self.new.line.items }
+        ensures cut { result ≡ Ok true → GivesCut (bytes_left R.remaining self.old) (bytes_left R.remaining self.new)
+            (record { text = self.new.line.items; ending = ending_bytes self.new.ending }) }
+        ensures raw { result ≡ Ok true → Consumes (bytes_left R.remaining self.old) (bytes_left R.remaining self.new)
+            (self.new.line.items ++ ending_bytes self.new.ending) }
         ensures short { result ≡ Ok true → length self.new.line.items ≤ 65535 }
-        ensures none { result ≡ Ok false → IsAtEnd (bytes_left R.remaining self.old) × IsAtEnd (bytes_left R.remaining self.new) }
-        ensures kept { result ≡ Ok false → Keeps (bytes_left R.remaining self.old) (bytes_left R.remaining self.new) }
+        ensures none { result ≡ Ok false →
+            IsAtEnd (bytes_left R.remaining self.old) × IsAtEnd (bytes_left R.remaining self.new) }
+        ensures kept { result ≡ Ok false →
+            Keeps (bytes_left R.remaining self.old) (bytes_left R.remaining self.new) }
         ensures falls { result ≡ Ok true → steps_left self.new < steps_left self.old }
 
         // When each fault comes. The line in hand has no end then, as far as it was read.
         ensures failed { R.has_failed self.new.reader.now ≡ is_read_fault result }
         ensures turns { result ≡ Err LineFault.Turns → self.new.turns ≡ 0 }
-        ensures drained_read { result ≡ Err LineFault.Read → bytes_left R.remaining self.new ≡ R.remaining self.new.reader.now }
-        ensures drained_turns { result ≡ Err LineFault.Turns → bytes_left R.remaining self.new ≡ R.remaining self.new.reader.now }
-        ensures long { result ≡ Err LineFault.LongLine → IfTold (bytes_left R.remaining self.old) BeginsWithLongLine }
-        ensures in_hand { IfErr result (λ fault. fault ≢ LineFault.LongLine → IsPartOfLine (bytes_left R.remaining self.old) (bytes_left R.remaining self.new) self.new.line.items) }
+        ensures paid { OnOk result (IsPaid R.remaining self.old self.new) }
+        ensures gave { result ≡ Err LineFault.Turns →
+            (self.new.at_end ≡ false) × IsPaid R.remaining self.old self.new }
+        ensures drained_read { result ≡ Err LineFault.Read →
+            bytes_left R.remaining self.new ≡ R.remaining self.new.reader.now }
+        ensures drained_turns { result ≡ Err LineFault.Turns →
+            bytes_left R.remaining self.new ≡ R.remaining self.new.reader.now }
+        ensures long { result ≡ Err LineFault.LongLine →
+            IfTold (bytes_left R.remaining self.old) BeginsWithLongLine }
+        ensures in_hand { IfErr result (λ fault. fault ≢ LineFault.LongLine → IsPartOfLine
+            (bytes_left R.remaining self.old) (bytes_left R.remaining self.new) self.new.line.items) }
     {
         self.line.clear();
         self.ending = Ending::Absent;

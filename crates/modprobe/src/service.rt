@@ -1,7 +1,7 @@
 //! A whole session: the sections of the input, and the session over an opening table.
-ghost use Rattle.std.specs.Prelude.{◌≡◌, ◌≤◌, false, OnOk, IfErr};
-ghost use Rattle.modprobe.specs.Lines.{bytes_left, IfTold};
-ghost use Rattle.modprobe.specs.Serve.{AnswersInput, ServeStands, failed_reading, failed_writing};
+ghost use Rattle.std.specs.Prelude.{◌≡◌, ◌≤◌, false, true, OnOk, IfErr};
+ghost use Rattle.modprobe.specs.Lines.{bytes_left, IfTold, GaveAtLeast};
+ghost use Rattle.modprobe.specs.Serve.{AnswersInput, ServeStands, failed_reading, failed_writing, ran_out_of_turns};
 
 use crate::device::{Sink, Source};
 use crate::fault::ServeFault;
@@ -24,10 +24,14 @@ fn serve_lines<R: Source, W: Sink>(
     requires workers { workers ≤ 64 }
     requires reader_works { R.has_failed lines.old.reader.now ≡ false }
     requires writer_works { W.has_failed writer.old ≡ false }
-    ensures answered { OnOk result (IfTold (bytes_left R.remaining lines.old) (λ input. AnswersInput workers input (W.contents writer.old) (W.contents writer.new))) }
-    ensures stands { IfErr result (λ fault. ServeStands workers fault (bytes_left R.remaining lines.old) (R.remaining lines.new.reader.now) (W.contents writer.old) (W.contents writer.new)) }
+    ensures answered { OnOk result (IfTold (bytes_left R.remaining lines.old) (λ input.
+        AnswersInput workers input (W.contents writer.old) (W.contents writer.new))) }
+    ensures stands { IfErr result (λ fault. ServeStands workers fault (bytes_left R.remaining lines.old)
+        (R.remaining lines.new.reader.now) (W.contents writer.old) (W.contents writer.new)) }
     ensures read { R.has_failed lines.new.reader.now ≡ failed_reading result }
     ensures write { W.has_failed writer.new ≡ failed_writing result }
+    ensures turns { ran_out_of_turns result ≡ true →
+        GaveAtLeast lines.old.turns (R.remaining lines.old.reader.now) (R.remaining lines.new.reader.now) }
     ensures same_reader { lines.new.reader.ghost_name ≡ lines.old.reader.ghost_name }
 {
     let setup = read_setup(alloc, lines)?;
@@ -49,10 +53,20 @@ pub fn serve<R: Source, W: Sink>(
     requires workers { workers ≤ 64 }
     requires reader_works { R.has_failed reader.old ≡ false }
     requires writer_works { W.has_failed writer.old ≡ false }
-    ensures answered { OnOk result (IfTold (R.remaining reader.old) (λ input. AnswersInput workers input (W.contents writer.old) (W.contents writer.new))) }
-    ensures stands { IfErr result (λ fault. ServeStands workers fault (R.remaining reader.old) (R.remaining reader.new) (W.contents writer.old) (W.contents writer.new)) }
+
+    // At the end of the input: the answer to its session, and nothing else.
+    ensures answered { OnOk result (IfTold (R.remaining reader.old) (λ input.
+        AnswersInput workers input (W.contents writer.old) (W.contents writer.new))) }
+
+    // What stands after each fault.
+    ensures stands { IfErr result (λ fault. ServeStands workers fault (R.remaining reader.old) (R.remaining reader.new)
+        (W.contents writer.old) (W.contents writer.new)) }
+
+    // When each fault comes.
     ensures read { R.has_failed reader.new ≡ failed_reading result }
     ensures write { W.has_failed writer.new ≡ failed_writing result }
+    ensures turns { ran_out_of_turns result ≡ true →
+        GaveAtLeast 16777216 (R.remaining reader.old) (R.remaining reader.new) }
 {
     let buffers = Buffers::new(alloc)?;
     let mut lines = Lines::over(buffers, reader, TURNS);

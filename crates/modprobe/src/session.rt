@@ -3,7 +3,7 @@ ghost use Rattle.std.specs.Prelude.{◌≡◌, false, IfOk, IfErr, OnOk, OnErr, 
 ghost use Rattle.std.specs.Io.KnownBytes.{Appends, IsAtEnd};
 ghost use Rattle.std.specs.Str.Lines.{lines as lines_of};
 ghost use Rattle.dep_index.specs.Catalogue.{modules_of};
-ghost use Rattle.modprobe.specs.Lines.{bytes_left, IfTold};
+ghost use Rattle.modprobe.specs.Lines.{bytes_left, IfTold, StopsForTurns};
 ghost use Rattle.modprobe.specs.Session.{answer};
 ghost use Rattle.modprobe.specs.Run.{AllShort, WritesPart, StandsAfter, is_read, is_write};
 
@@ -65,7 +65,7 @@ pub fn run<R: Source, W: Sink, M: Modules>(
     // When each fault comes.
     ensures read { R.has_failed lines.new.reader.now ≡ is_read result }
     ensures write { W.has_failed writer.new ≡ is_write result }
-    ensures turns { result ≡ Err RunFault.Turns → lines.new.turns ≡ 0 }
+    ensures turns { result ≡ Err RunFault.Turns → StopsForTurns R.remaining lines.old lines.new }
 
     ensures same_reader { lines.new.reader.ghost_name ≡ lines.old.reader.ghost_name }
     ensures over { M.catalogue table.new ≡ M.catalogue table.old }

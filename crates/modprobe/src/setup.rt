@@ -1,6 +1,6 @@
 //! What a session knows besides its table.
-ghost use Rattle.std.specs.Prelude.{◌≡◌, ◌≤◌, false, length, IfOk, IfErr};
-ghost use Rattle.modprobe.specs.Lines.{bytes_left, IfTold};
+ghost use Rattle.std.specs.Prelude.{◌≡◌, ◌≤◌, false, length, IfOk, IfErr, OnOk};
+ghost use Rattle.modprobe.specs.Lines.{bytes_left, IfTold, IsPaid, StopsForTurns};
 ghost use Rattle.modprobe.specs.Session.{name_at};
 ghost use Rattle.modprobe.specs.SetupInput.{setup_of, GivesSetup, Refuses, SetupStops};
 ghost use Rattle.modprobe.specs.ForProofs.{HasLine, is_setup_read};
@@ -54,14 +54,22 @@ impl Setup {
     }
 }
 
-/// Reads the sections of an input, up to the first `%session` line or the end, and what they say.
+/// Reads the sections of an input, up to the first `%session` line or the end, and what they say: `lines` then gives the
+/// lines of the session. B1: a line stands before the first section line, which is told as it is read. C1 to C4: the
+/// first fault of the catalogue, at its line of the joined text. LongLine: a line of more than 65,535 bytes. Read: the
+/// source failed. Turns: it was read as often as `lines` may. Memory: there is none.
 pub fn read_setup<R: Source>(alloc: Global, lines: &mut Lines<'_, R>) -> Result<Setup, SetupFault>
     requires { R.has_failed lines.old.reader.now ≡ false }
-    ensures setup { IfOk result (λ s. GivesSetup (bytes_left R.remaining lines.old) (bytes_left R.remaining lines.new) s) }
-    ensures refused { IfErr result (λ fault. IfTold (bytes_left R.remaining lines.old) (λ input. Refuses fault (setup_of input))) }
-    ensures stops { IfErr result (λ fault. SetupStops fault.code (bytes_left R.remaining lines.old) (R.remaining lines.new.reader.now) lines.new.line.items) }
+    ensures setup { IfOk result (λ s.
+        GivesSetup (bytes_left R.remaining lines.old) (bytes_left R.remaining lines.new) s) }
+    ensures refused { IfErr result (λ fault.
+        IfTold (bytes_left R.remaining lines.old) (λ input. Refuses fault (setup_of input))) }
+    ensures stops { IfErr result (λ fault. SetupStops fault.code (bytes_left R.remaining lines.old)
+        (R.remaining lines.new.reader.now) lines.new.line.items) }
     ensures read { R.has_failed lines.new.reader.now ≡ is_setup_read result }
-    ensures turns { IfErr result (λ fault. fault.code ≡ SetupCode.Turns → lines.new.turns ≡ 0) }
+    ensures turns { IfErr result (λ fault.
+        fault.code ≡ SetupCode.Turns → StopsForTurns R.remaining lines.old lines.new) }
+    ensures paid { OnOk result (IsPaid R.remaining lines.old lines.new) }
     ensures same_reader { lines.new.reader.ghost_name ≡ lines.old.reader.ghost_name }
 {
     let texts = read_texts(alloc, lines)?;

@@ -1,6 +1,6 @@
 -- How joined lines go on.
-use Rattle.std.proofs.Common.{◌≡◌, ℕ, ◌+◌, ◌-◌, List, [], ◌∷◌, ◌++◌, Bool, true, false, cond, length, take, refl, sym, ap, ◌∙◌, append_assoc, append-nil}
-use Rattle.modprobe_conf.specs.Configuration.{ends_with_backslash, onto_next, joined_lines}
+use Rattle.std.proofs.Common.{◌≡◌, ℕ, List, [], Bool, true, false}
+use Rattle.modprobe_conf.specs.Configuration.{onto_next, joined_lines}
 
 -- what is left to join: a line that is begun goes on
 abbrev pub joined_from : Bool → ℕ → List ℕ → List (ℕ × List ℕ) → List (ℕ × List ℕ)

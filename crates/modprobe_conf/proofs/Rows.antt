@@ -1,6 +1,6 @@
 -- The definitions, computed on rows.
-use Rattle.std.proofs.Common.{◌≡◌, ℕ, [], ◌∷◌, ◌++◌, List, true, false, Some, None, codes, refl}
-use Rattle.modprobe_conf.specs.Configuration.{configuration_of, options_of, softdep_of, has_install_line, has_remove_line, is_blacklisted, joined_lines}
+use Rattle.std.proofs.Common.{◌≡◌, ℕ, [], ◌∷◌, ◌++◌, List, true, false, Some, codes, refl}
+use Rattle.modprobe_conf.specs.Configuration.{configuration_of, options_of, softdep_of, has_install_line, has_remove_line, is_blacklisted}
 
 -- `options y debug=1 \`, ` level=3`, `install x /bin/true`, `softdep z pre: y`, `blacklist w \`
 abbrev text : List ℕ

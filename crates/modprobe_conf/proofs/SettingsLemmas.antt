@@ -1,10 +1,9 @@
 -- What is said of a name is what the lines of that name say.
-use Rattle.std.proofs.Common.{◌≡◌, ℕ, List, [], ◌∷◌, ◌++◌, Bool, true, false, cond, ◌||◌, Option, Some, None, ◌⊎◌, inl, inr, refl, sym, ap, ◌∙◌, append_assoc, append-nil, true≢false}
+use Rattle.std.proofs.Common.{◌≡◌, ℕ, List, [], ◌∷◌, ◌++◌, Bool, true, false, cond, ◌||◌, Option, None, ◌⊎◌, inl, inr, refl, sym, ap, ◌∙◌, append_assoc, append-nil, true≢false}
 use Rattle.std.specs.Str.{bytes_eq}
 use Rattle.std.specs.List.{list_any}
 use Rattle.std.proofs.lemmas.Slice.Eq.{bytes_eq-Decides}
 use Rattle.std.proofs.lemmas.List.Folds.{list_any-append}
-use Rattle.alias_match.specs.Aliases.{Entries}
 use Rattle.modprobe_conf.specs.Configuration.{SoftItems, Line, blacklist, install, remove, options, softdep, Entry, alias, named, lines_of, option_words, first_softdep, is_install, is_remove, is_blacklist, ModuleSettings, settings_by, or_first, with_line, with_named, modules_from, settings_in, SettingsAreOfLines}
 
 told : (b : Bool) → (b ≡ true) ⊎ (b ≡ false)

@@ -55,7 +55,8 @@ impl Conf {
     }
 
     fn add_words(&mut self, alloc: Global, number: usize, words: &[&[u8]]) -> Result<(), AllocError>
-        ensures { OnOk result (self.new ≡ with_lines self.old (words_before entry_of number (texts_of words.now) nothing_read)) }
+        ensures { OnOk result (self.new
+            ≡ with_lines self.old (words_before entry_of number (texts_of words.now) nothing_read)) }
     {
         if words.is_empty() {
             return Ok(());
@@ -68,7 +69,8 @@ impl Conf {
     }
 
     fn add_line(&mut self, alloc: Global, number: usize, line: &[u8]) -> Result<(), AllocError>
-        ensures { OnOk result (self.new ≡ with_lines self.old (line_before entry_of (number, line.now) nothing_read)) }
+        ensures { OnOk result (self.new
+            ≡ with_lines self.old (line_before entry_of (number, line.now) nothing_read)) }
     {
         if is_comment(line) {
             return Ok(());
@@ -87,7 +89,8 @@ impl Conf {
     /// The pattern of an alias, by its place in file order, from 0.
     pub fn alias_pattern(&self, i: usize) -> &Pattern
         requires { i < length self.now.aliases }
-        ensures { option_map (λ alias. alias.pattern) (slice_get self.now.aliases i) ≡ Some result.now }
+        ensures { option_map (λ alias. alias.pattern) (slice_get self.now.aliases i)
+            ≡ Some result.now }
     {
         &self.aliases[i].pattern
     }
@@ -95,7 +98,8 @@ impl Conf {
     /// The target of an alias, in normal form, by its place in file order, from 0.
     pub fn alias_target(&self, i: usize) -> &Name
         requires { i < length self.now.aliases }
-        ensures { option_map (λ alias. alias.target) (slice_get self.now.aliases i) ≡ Some result.now }
+        ensures { option_map (λ alias. alias.target) (slice_get self.now.aliases i)
+            ≡ Some result.now }
     {
         &self.aliases[i].target
     }

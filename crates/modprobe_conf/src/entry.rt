@@ -37,7 +37,8 @@ fn own_words(alloc: Global, words: &[&[u8]]) -> Result<Vec<Word>, AllocError>
 
 /// What a line of more than two words says by its first word, but for an alias.
 fn read_line(alloc: Global, word: &[u8], rest: &[&[u8]]) -> Result<Option<Line>, AllocError>
-    ensures { IfOk result (λ line. option_map line_of line ≡ line_from word.now (texts_of rest.now)) }
+    ensures { IfOk result (λ line. option_map line_of line
+        ≡ line_from word.now (texts_of rest.now)) }
 {
     if is_word(word, b"blacklist") {
         return Ok(Some(Line::Blacklist));
@@ -58,7 +59,8 @@ fn read_line(alloc: Global, word: &[u8], rest: &[&[u8]]) -> Result<Option<Line>,
 }
 
 fn read_alias(alloc: Global, words: &[&[u8]]) -> Result<Option<Entry>, AllocError>
-    ensures { IfOk result (λ entry. option_map entry_seen entry ≡ alias_entry (alias_of (texts_of words.now))) }
+    ensures { IfOk result (λ entry. option_map entry_seen entry
+        ≡ alias_entry (alias_of (texts_of words.now))) }
 {
     match Alias::read(alloc, words)? {
         Some(alias) => Ok(Some(Entry::Aliased(alias))),
@@ -72,7 +74,8 @@ fn read_named(
     name: &[u8],
     rest: &[&[u8]],
 ) -> Result<Option<Entry>, AllocError>
-    ensures { IfOk result (λ entry. option_map entry_seen entry ≡ named_entry name.now (line_from word.now (texts_of rest.now))) }
+    ensures { IfOk result (λ entry. option_map entry_seen entry
+        ≡ named_entry name.now (line_from word.now (texts_of rest.now))) }
 {
     match read_line(alloc, word, rest)? {
         Some(line) => Ok(Some(Entry::Named(Name::new(alloc, name)?, line))),
@@ -82,7 +85,8 @@ fn read_named(
 
 /// A blacklist line alone may have two words.
 fn read_short(alloc: Global, word: &[u8], name: &[u8]) -> Result<Option<Entry>, AllocError>
-    ensures { IfOk result (λ entry. option_map entry_seen entry ≡ entry_of (word.now ∷ name.now ∷ [])) }
+    ensures { IfOk result (λ entry. option_map entry_seen entry
+        ≡ entry_of (word.now ∷ name.now ∷ [])) }
 {
     if !is_word(word, b"blacklist") {
         return Ok(None);
@@ -93,7 +97,8 @@ fn read_short(alloc: Global, word: &[u8], name: &[u8]) -> Result<Option<Entry>, 
 impl Entry {
     /// What the words of a line say, None where they have no effect.
     pub(crate) fn read(alloc: Global, words: &[&[u8]]) -> Result<Option<Entry>, AllocError>
-        ensures { IfOk result (λ entry. option_map entry_seen entry ≡ entry_of (texts_of words.now)) }
+        ensures { IfOk result (λ entry. option_map entry_seen entry
+            ≡ entry_of (texts_of words.now)) }
     {
         let Some((word, behind)) = words.split_first() else {
             return Ok(None);

@@ -27,7 +27,10 @@ impl<'a> Model for JoinedLines<'a> {
 
 /// The line without the backslash at its end, where it has one.
 fn before_backslash(line: &[u8]) -> Option<&[u8]>
-    ensures { MatchOption result (ends_with_backslash line.entry.now ≡ false) (λ front. (ends_with_backslash line.entry.now ≡ true) × (front.now ≡ take (length line.entry.now - 1) line.entry.now)) }
+    ensures { MatchOption result
+        (ends_with_backslash line.entry.now ≡ false)
+        (λ front. (ends_with_backslash line.entry.now ≡ true)
+        × (front.now ≡ take (length line.entry.now - 1) line.entry.now)) }
 {
     match line.split_last() {
         Some((last, front)) if *last == b'\\' => Some(front),
@@ -47,7 +50,9 @@ impl<'a> JoinedLines<'a> {
 
     /// Puts the next joined line into `line`, and answers its number.
     pub(crate) fn next_line(&mut self, line: &mut Vec<u8>) -> Result<Option<usize>, AllocError>
-        ensures { IfOk result (λ found. MatchOption found (self.old ≡ []) (λ number. self.old ≡ (number, line.new.items) ∷ self.new)) }
+        ensures { IfOk result (λ found. MatchOption found
+            (self.old ≡ [])
+            (λ number. self.old ≡ (number, line.new.items) ∷ self.new)) }
     {
         line.clear();
         let first = self.number;

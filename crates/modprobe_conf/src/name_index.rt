@@ -34,7 +34,9 @@ impl NameIndex {
 
     /// What is said of a name, None where no line names it.
     pub(crate) fn at(&self, name: &[u8]) -> Option<&Settings>
-        ensures { MatchOption result (settings_in self.now name.now ≡ settings_by []) (λ settings. settings_in self.now name.now ≡ settings.now) }
+        ensures { MatchOption result
+            (settings_in self.now name.now ≡ settings_by [])
+            (λ settings. settings_in self.now name.now ≡ settings.now) }
     {
         self.settings.get(name)
     }

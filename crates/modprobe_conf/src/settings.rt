@@ -49,7 +49,8 @@ impl Settings {
     }
 
     fn add_words(&mut self, mut words: Vec<Word>) -> Result<(), AllocError>
-        ensures { OnOk result (self.new ≡ record self.old { options = self.old.options ++ words.items }) }
+        ensures { OnOk result (self.new
+            ≡ record self.old { options = self.old.options ++ words.items }) }
     {
         self.options.append(&mut words)?;
         Ok(())

@@ -24,7 +24,8 @@ impl Model for Softdep {
 
 /// Whether the word is one of the two marks, and then whether names behind it count.
 fn mark_at(word: &[u8], mark: &[u8], other: &[u8]) -> Option<bool>
-    ensures { result ≡ (if bytes_eq word.now mark.now then Some true else (if bytes_eq word.now other.now then Some false else None)) }
+    ensures { result
+        ≡ (if bytes_eq word.now mark.now then Some true else (if bytes_eq word.now other.now then Some false else None)) }
 {
     if word == mark {
         return Some(true);
@@ -39,7 +40,8 @@ fn names_behind(
     other: &[u8],
     words: &[&[u8]],
 ) -> Result<Vec<Name>, AllocError>
-    ensures { IfOk result (λ names. names.items ≡ softdep_items mark.now other.now false (texts_of words.now)) }
+    ensures { IfOk result (λ names. names.items
+        ≡ softdep_items mark.now other.now false (texts_of words.now)) }
 {
     let mut names = Vec::new(alloc);
     let mut within = false;

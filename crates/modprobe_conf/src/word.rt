@@ -18,6 +18,7 @@ impl Model for Word {
 }
 
 impl Word {
+    /// A word with these bytes. Only want of memory refuses.
     pub fn new(alloc: Global, word: &[u8]) -> Result<Word, AllocError>
         ensures { IfOk result (λ own. own ≡ word.now) }
     {

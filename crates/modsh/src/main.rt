@@ -2,6 +2,8 @@
 #![tactic(auto)]
 
 mod drive;
+#[cfg(test)]
+mod tests;
 
 pub use drive::drive;
 use std::alloc::AllocError;

@@ -1,2 +1,4 @@
 pub mod ReadingLemmas
 pub mod ReadBack
+pub mod ListingLemmas
+pub mod NeedLemmas

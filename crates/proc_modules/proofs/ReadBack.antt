@@ -1,5 +1,5 @@
 -- The text of a line, read again.
-use Rattle.std.proofs.Common.{◌≡◌, ◌==◌, ◌<◌, ◌≤◌, ◌+◌, ◌-◌, ◌*◌, ◌^◌, nat_le, nat_lt, Bool, true, false, not, ◌&&◌, ◌||◌, cond, eqb, List, [], ◌∷◌, ◌++◌, length, get_or, take, flat_map, position, codes, decimal, refl, sym, ◌∙◌, ap, subst, arith, rules, ℕ, suc, Option, Some, None, Result, Ok, Err, All, append_assoc}
+use Rattle.std.proofs.Common.{◌≡◌, ◌==◌, ◌<◌, ◌≤◌, ◌+◌, nat_le, nat_lt, Bool, true, false, not, ◌&&◌, eqb, List, [], ◌∷◌, ◌++◌, length, get_or, take, flat_map, position, codes, decimal, refl, sym, ◌∙◌, ap, arith, rules, ℕ, suc, Option, Some, Result, Ok, All, append_assoc}
 use Rattle.std.specs.List.{list_all, list_any, slice_split, join_with_byte}
 use Rattle.std.specs.Str.{bytes_eq}
 use Rattle.std.proofs.Common.{zero-add, add-zero, zero, length-append}
@@ -15,13 +15,13 @@ use Rattle.proc_modules.proofs.ReadingLemmas.{users_in-name}
 use Rattle.std.proofs.lemmas.List.Splits.{slice_split_at, slice_split_none}
 use Rattle.std.proofs.lemmas.Str.Parse.{IsNumeralModel, numerals_by_fold}
 use Rattle.std.proofs.lemmas.Fmt.{digits_decimal, digits_value-decimal, decimal_nonempty, length-decimal-le, first_decimal, decimal_digit}
-use Rattle.dep_index.specs.Text.{is_name, is_name_byte, is_digit, is_number, digits_from, number_within}
+use Rattle.dep_index.specs.Text.{is_name, is_name_byte, is_digit, digits_from}
 use Rattle.proc_modules.specs.declared.line.Line.{Line}
 use Rattle.proc_modules.specs.declared.line.LineState.{LineState}
 use Rattle.proc_modules.specs.declared.line.LineState.TheVariants.{Live, Loading, Unloading}
 use Rattle.proc_modules.specs.declared.line.LineError.{LineError}
 use Rattle.proc_modules.specs.LineText.{state_text, no_address, with_comma, users_end, is_used, users_text, fields_of, line_text}
-use Rattle.proc_modules.specs.Reading.{is_line_name, line_number, with_user, is_mark, is_end, users_at, users_in, users_of, state_of, line_in, first_line, with_used, line_of}
+use Rattle.proc_modules.specs.Reading.{is_line_name, line_number, with_user, is_mark, users_in, users_of, state_of, line_in, first_line, with_used, line_of}
 use Rattle.proc_modules.specs.Laws.{IsLine, ReadsBack}
 
 -- no byte of the text is k

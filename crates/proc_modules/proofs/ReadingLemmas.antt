@@ -1,15 +1,17 @@
 -- Reading the users of a line, part by part.
-use Rattle.std.proofs.Common.{◌≡◌, ◌==◌, ◌≢◌, Bool, true, false, not, ◌&&◌, ◌||◌, List, [], ◌∷◌, ◌++◌, length, refl, sym, ◌∙◌, ap, arith, ℕ, Option, Some, None, append_assoc}
+use Rattle.std.proofs.Common.{◌≡◌, ◌==◌, Bool, true, false, not, ◌&&◌, ◌||◌, List, [], ◌∷◌, ◌++◌, length, refl, sym, ◌∙◌, ap, ℕ, Option, Some, None, append_assoc}
 use Rattle.std.proofs.Common.{◌<◌, ◌+◌, drop, get_or, drop-cons, add-one, eqb}
 use Rattle.std.proofs.lemmas.List.{length-map}
 use Rattle.std.specs.List.{list_any}
 use Rattle.std.specs.Borrow.{Bor}
-use Rattle.dep_index.specs.Text.{is_name, normal_form, normal_byte, texts_of}
-use Rattle.std.proofs.Common.{position, Result, Ok, Err}
+use Rattle.dep_index.specs.Text.{is_name, normal_form, texts_of}
+use Rattle.std.proofs.Common.{Result, position, Ok, Err}
 use Rattle.std.specs.List.{slice_split}
 use Rattle.proc_modules.specs.declared.line.LineError.{LineError}
-use Rattle.proc_modules.specs.declared.line.LineError.TheVariants.{BadName}
-use Rattle.proc_modules.specs.Reading.{is_mark, is_end, is_line_name, with_user, users_at, users_in, numbers_in, first_line, with_used, line_in, line_of}
+use Rattle.proc_modules.specs.declared.line.LineState.{LineState}
+use Rattle.proc_modules.specs.declared.line.Line.{Line}
+use Rattle.proc_modules.specs.declared.line.LineError.TheVariants.{BadName, BadUsers}
+use Rattle.proc_modules.specs.Reading.{is_mark, is_end, is_line_name, with_user, users_in, users_of, numbers_in, state_in, then_read, or_refuse, first_line, with_used, line_in, line_of}
 
 -- users that were read before the others
 abbrev pub with_users : List (List ℕ) → Option (List (List ℕ) × Bool) → Option (List (List ℕ) × Bool)
@@ -83,11 +85,16 @@ good_name name size count numbers e = at (is_line_name name) refl where
   at true is = is
   at false is = let refused : numbers_in name size count ≡ Err BadName = rw is refl in cc
 
--- a line of refused fields is refused
-pub refused_line : (text part : List ℕ) (used : ℕ) (fields : List (List ℕ)) (refusal : LineError)
-    → (part, used) ≡ first_line text (position (λ byte. byte == 10) text) → fields ≡ slice_split (λ byte. byte == 32) part
-    → line_in fields ≡ Err refusal → line_of text ≡ Err refusal
-refused_line text part used fields refusal first cut refused =
-    ap (λ (x : List ℕ × ℕ). with_used x.1 (line_in (slice_split (λ byte. byte == 32) x.0))) (sym first)
-    ∙ ap (λ (fs : List (List ℕ)). with_used used (line_in fs)) (sym cut)
-    ∙ ap (with_used used) refused
+-- a line of good fields
+pub line_read : (name size count users state address : List ℕ) (more : List (List ℕ)) (bytes references : ℕ) (found : List (List ℕ)) (permanent : Bool) (shown : LineState) (made : List ℕ)
+    → numbers_in name size count ≡ Ok (bytes, references) → users_of users ≡ Some (found, permanent) → state_in state address more ≡ Ok shown → made ≡ normal_form name
+    → line_in (name ∷ size ∷ count ∷ users ∷ state ∷ address ∷ more)
+    ≡ Ok (record { name = made; size = bytes; count = references; users = found; permanent = permanent; state = shown })
+line_read name size count users state address more bytes references found permanent shown made numbers used stated named =
+    ap (λ (x : Result (ℕ × ℕ) LineError). then_read x (λ n. or_refuse BadUsers (users_of users) (λ u. then_read (state_in state address more) (λ s. Ok (line n u s))))) numbers
+    ∙ ap (λ (x : Option (List (List ℕ) × Bool)). or_refuse BadUsers x (λ u. then_read (state_in state address more) (λ s. Ok (line (bytes, references) u s)))) used
+    ∙ ap (λ (x : Result LineState LineError). then_read x (λ s. Ok (line (bytes, references) (found, permanent) s))) stated
+    ∙ ap (λ (n : List ℕ). Ok (record { name = n; size = bytes; count = references; users = found; permanent = permanent; state = shown }))
+    (sym (named ∙ kept_name name (good_name name size count (bytes, references) numbers))) where
+      line : ℕ × ℕ → List (List ℕ) × Bool → LineState → Line
+      line n u s = record { name = name; size = n.0; count = n.1; users = u.0; permanent = u.1; state = s }

@@ -2,3 +2,6 @@ pub mod LineText
 pub mod Reading
 pub mod Fields
 pub mod Laws
+pub mod Listings
+pub mod Details
+pub mod UserRows

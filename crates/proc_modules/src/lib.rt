@@ -1,13 +1,23 @@
 //! The lines of /proc/modules in both directions, and the listings of a table of modules.
 #![tactic(auto)]
 
+mod columns;
 pub mod laws;
 mod line;
+mod listing;
+mod modinfo;
 mod names;
+mod newest;
 mod read;
+mod words;
 mod write;
 
 pub use line::{Line, LineError, LineState};
+pub use listing::{lsmod_text, proc_text};
+pub use modinfo::modinfo_text;
 pub use names::Names;
 pub use read::read_line;
 pub use write::write_line;
+
+#[cfg(test)]
+mod tests;

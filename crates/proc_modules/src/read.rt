@@ -1,97 +1,15 @@
 //! Reading lines of /proc/modules.
 ghost use Rattle.std.specs.Prelude.{◌≡◌, ◌≢◌, ◌<◌, ◌==◌, ◌&&◌, length, position, MatchOption, MatchResult, IfOk, IfErr, Ok, Err, Some, None};
-ghost use Rattle.std.specs.List.{list_all, list_any, slice_split};
-ghost use Rattle.std.specs.Str.{bytes_eq};
+ghost use Rattle.std.specs.List.{slice_split};
 ghost use Rattle.dep_index.specs.Text.{texts_of};
-ghost use Rattle.proc_modules.specs.Reading.{is_line_name, line_number, is_mark, is_end, users_in, users_of, state_of, numbers_in, state_in, is_address, is_hex_digit, is_taint, first_line, line_in, line_of};
+ghost use Rattle.proc_modules.specs.Reading.{is_mark, is_end, users_in, users_of, numbers_in, state_in, first_line, line_in, line_of};
 ghost use Rattle.proc_modules.specs.Fields.{texts_in};
 
 use crate::line::{Line, LineError, LineState};
 use crate::names::Names;
+use crate::words::{is_address, is_line_name, is_same, is_taint, line_number, shown_state};
 use dep_index::Name;
-use dep_index::text::{is_name, number_within};
 use std::alloc::{AllocError, Global};
-
-fn has_dash(word: &[u8]) -> bool
-    ensures { result ≡ list_any (λ byte. byte == 45) word.now }
-{
-    word.iter().any(|byte| *byte == b'-')
-}
-
-fn is_line_name(word: &[u8]) -> bool
-    ensures { result ≡ is_line_name word.now }
-{
-    is_name(word) && !has_dash(word)
-}
-
-fn line_number(word: &[u8]) -> Option<u32>
-    ensures { result ≡ line_number word.now }
-{
-    if word.len() > 1 && word[0] == b'0' {
-        return None;
-    }
-    match number_within(4294967295, word) {
-        Some(n) => Some(n as u32),
-        None => None,
-    }
-}
-
-fn is_same(word: &[u8], text: &[u8]) -> bool
-    ensures { result ≡ bytes_eq word.now text.now }
-{
-    word == text
-}
-
-fn shown_state(word: &[u8]) -> Option<LineState>
-    ensures { result ≡ state_of word.now }
-{
-    if is_same(word, b"Live") {
-        Some(LineState::Live)
-    } else if is_same(word, b"Loading") {
-        Some(LineState::Loading)
-    } else if is_same(word, b"Unloading") {
-        Some(LineState::Unloading)
-    } else {
-        None
-    }
-}
-
-fn is_hex_digit(byte: u8) -> bool
-    ensures { result ≡ is_hex_digit byte }
-{
-    byte.is_ascii_digit() || (97 <= byte && byte <= 102) || (65 <= byte && byte <= 70)
-}
-
-fn has_hex_digits(digits: &[u8]) -> bool
-    ensures { result ≡ list_all is_hex_digit digits.now }
-{
-    digits.iter().all(|digit| is_hex_digit(*digit))
-}
-
-fn is_address(word: &[u8]) -> bool
-    ensures { result ≡ is_address word.now }
-{
-    match word {
-        [zero, x, digits @ ..] => {
-            *zero == b'0'
-                && *x == b'x'
-                && 1 <= digits.len()
-                && digits.len() <= 16
-                && has_hex_digits(digits)
-        }
-        _ => false,
-    }
-}
-
-fn is_taint(fields: &[&[u8]]) -> bool
-    ensures { result ≡ is_taint (texts_of fields.now) }
-{
-    match fields {
-        [] => true,
-        [taint] => !taint.is_empty(),
-        _ => false,
-    }
-}
 
 /// The parts of a text, which the byte divides.
 fn parts<'a>(alloc: Global, text: &'a [u8], divider: u8) -> Result<Vec<&'a [u8]>, AllocError>
@@ -212,7 +130,6 @@ fn six_fields<'f, 'a>(fields: &'f [&'a [u8]]) -> Option<Fields<'f, 'a>>
 }
 
 /// The line that fields are.
-#[tactic(auto, using(crate::proofs::ReadingLemmas::kept_name, crate::proofs::ReadingLemmas::good_name))]
 fn good_line(alloc: Global, fields: Fields<'_, '_>) -> Result<Line, LineError>
     ensures { MatchResult result (λ l. line_in (texts_in fields.entry) ≡ Ok l) (λ e. e ≢ LineError.Memory → line_in (texts_in fields.entry) ≡ Err e) }
 {
@@ -261,7 +178,8 @@ fn read_fields(alloc: Global, line: &[u8]) -> Result<Line, LineError>
 /// goes up to the first line feed, which it takes too, or to the end of the text, and is cut at each space. The
 /// refusal is the first fault from the left; a line of fewer than six fields is refused first.
 pub fn read_line(alloc: Global, text: &[u8]) -> Result<(Line, usize), LineError>
-    ensures { MatchResult result (λ x. line_of text.now ≡ Ok (x.0, x.1)) (λ e. e ≢ LineError.Memory → line_of text.now ≡ Err e) }
+    ensures line { IfOk result (λ x. line_of text.now ≡ Ok (x.0, x.1)) }
+    ensures refusal { IfErr result (λ e. e ≢ LineError.Memory → line_of text.now ≡ Err e) }
 {
     let (first, used) = first_line(text);
     let line = read_fields(alloc, first)?;

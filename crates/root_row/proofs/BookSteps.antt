@@ -4,7 +4,7 @@ use mathlib.Core.Option.{some, none}
 use lib.ListN.{get_elem?}
 use prog.Atomic.{either}
 use Rattle.atomic_table.specs.Table.{Me, Step, Act, Valid, keeps, carried_after, step, stepped, Allows}
-use Rattle.atomic_table.proofs.Lists.{exchanged, set_here}
+use Rattle.atomic_table.proofs.Lists.{exchanged}
 use Rattle.dep_index.specs.declared.states.ModuleState.{ModuleState}
 use Rattle.dep_index.specs.declared.states.ModuleState.TheVariants as state_is
 use Rattle.dep_index.specs.declared.calls.Reply.{Reply}
@@ -13,7 +13,6 @@ use Rattle.dep_index.specs.Table.{Book, Table, state_of, is_loading, is_draining
 use Rattle.dep_index.specs.Calls.{or_else, refuse, book_refusal, reply, next, effect, book_effect, book_given, is_done, IsInRange}
 use Rattle.dep_index.specs.Words.{word_in, word_of, book_step, close_step, takes_effect, unless_refused, closed, drained, MatchOutcome, is_open}
 use Rattle.dep_index.specs.declared.words.WordStep.{WordStep}
-use Rattle.dep_index.specs.Laws.{OrderIsExact}
 use Rattle.dep_index.proofs.TableLaws.{unload_passed, live_from}
 use Rattle.root_row.specs.declared.calls.BookCall.{BookCall}
 use Rattle.root_row.specs.declared.calls.BookCall.TheVariants as book_is
@@ -28,7 +27,6 @@ use Rattle.root_row.specs.Views.{Part, member, name_of, IsOne, seen_in, part_in,
 use Rattle.root_row.specs.Rule.{Agrees, RowRule}
 use Rattle.root_row.specs.Steps.{AtSlot, SeatState, word_after}
 use Rattle.root_row.specs.BookSteps.{book_call, unrefused_look, book_look, BookAnswered, LookedBook, MayLeave, TriedClose}
-use Rattle.root_row.proofs.Replay.{at_length, lawful_after}
 use Rattle.root_row.proofs.Moves as move
 
 -- a slot that may leave is Live

@@ -23,7 +23,7 @@ use Rattle.root_row.specs.declared.view.SeatAnswer.{SeatAnswer}
 use Rattle.root_row.specs.declared.view.Member.{Member}
 use Rattle.root_row.specs.declared.view.View.{View}
 use Rattle.root_row.specs.World.{slots}
-use Rattle.root_row.specs.History.{SeatName, seat_answer, answers_in, table_after, makes, AreOfTheirSeats, same_name, own_answers}
+use Rattle.root_row.specs.History.{SeatName, seat_answer, answers_in, table_after, makes, same_name, own_answers}
 use Rattle.root_row.specs.Views.{Part, name_of, member, seen_of, IsOne}
 use Rattle.root_row.specs.Rule.{Agrees, FitsMember, Fits, IsAt, HasAll, RowRule}
 use Rattle.root_row.specs.Steps.{Answered, word_after}

@@ -16,7 +16,7 @@ use Rattle.root_row.specs.declared.view.Member.{Member}
 use Rattle.root_row.specs.declared.view.View.{View}
 use Rattle.root_row.specs.World.{slots, opened}
 use Rattle.root_row.specs.Views.{Part, name_of}
-use Rattle.root_row.specs.Rule.{Agrees, Owner, FitsMember, Fits, IsAt, IsOfTable, HasAll, RowRule}
+use Rattle.root_row.specs.Rule.{Agrees, Owner, FitsMember, Fits, HasAll, RowRule}
 use Rattle.root_row.specs.Setting.{world_of, leaf_parts, reader_parts, book_part, new_member, new_view, first_view}
 use Rattle.root_row.specs.Seats.{Seated}
 use Rattle.root_row.specs.Made.{AreNew}

@@ -1,5 +1,5 @@
 -- What a seat knows is sound, after each step.
-use Rattle.std.proofs.Common.{◌≡◌, ℕ, zero, suc, Bool, true, false, List, [], ◌∷◌, replicate, Option, Some, None, MatchOption, MatchBool, refl, sym, ap, ◌∙◌, subst, ⊎_elim}
+use Rattle.std.proofs.Common.{◌≡◌, ℕ, zero, suc, Bool, true, false, List, [], ◌∷◌, Option, Some, None, MatchOption, MatchBool, refl, sym, ap, ◌∙◌, subst}
 use mathlib.Core.Option.{some, some-injective}
 use lib.ListN.{get_elem?}
 use Rattle.dep_index.specs.declared.calls.Call.{Call}
@@ -8,24 +8,23 @@ use Rattle.dep_index.specs.declared.calls.Reply.TheVariants.{Done}
 use Rattle.dep_index.specs.declared.words.Outcome.{Outcome}
 use Rattle.dep_index.specs.declared.words.Outcome.TheVariants.{Effect, GoesOn}
 use Rattle.dep_index.specs.Laws.{OrderIsExact}
-use Rattle.dep_index.specs.History.{IsLegal, LegalIsSafe}
+use Rattle.dep_index.specs.History.{LegalIsSafe}
 use Rattle.dep_index.specs.Words.{MatchOutcome}
 use Rattle.root_row.specs.declared.calls.LeafCall.{LeafCall}
 use Rattle.root_row.specs.declared.calls.LeafCall.TheVariants as leaf_is
 use Rattle.root_row.specs.declared.calls.BookCall.{BookCall}
 use Rattle.root_row.specs.declared.view.World.{World}
 use Rattle.root_row.specs.declared.view.Part.TheVariants as part_is
-use Rattle.root_row.specs.declared.view.SeatAnswer.{SeatAnswer}
 use Rattle.root_row.specs.declared.view.Member.{Member}
 use Rattle.root_row.specs.declared.view.View.{View}
-use Rattle.root_row.specs.World.{slots, opened}
-use Rattle.root_row.specs.History.{SeatName, answers_in, table_after, AreOfTheirSeats}
-use Rattle.root_row.specs.Views.{Part, member, seen_of, part_in, part_of, IsOne, IsBook, book_of, worker_of, counts_of, count_of}
+use Rattle.root_row.specs.World.{opened}
+use Rattle.root_row.specs.History.{SeatName, answers_in, table_after}
+use Rattle.root_row.specs.Views.{Part, member, seen_of, part_in, IsOne, IsBook, book_of, worker_of, counts_of, count_of}
 use Rattle.root_row.specs.Rule.{Agrees}
 use Rattle.root_row.specs.Seats.{IsSoundMember, IsSound, KnowsTable}
 use Rattle.root_row.specs.Steps.{Answered, word_after, leaf_look, LeafAnswered, Looked, TriedArrive}
 use Rattle.root_row.specs.BookSteps.{book_look, BookAnswered, LookedBook}
-use Rattle.root_row.specs.Seating.{first_of, rest_of, first_member, other_members, IsPair, Paired, Shares}
+use Rattle.root_row.specs.Seating.{first_member, other_members, Paired}
 use Rattle.root_row.specs.Setting.{new_view}
 use Rattle.root_row.proofs.Replay.{legal_none, callers_none, lawful_after}
 use Rattle.root_row.proofs.Moves.{at_single}

@@ -1,5 +1,5 @@
 -- Histories of a row: calls with what they were answered, each with the seat that made it.
-use Rattle.std.specs.Prelude.{◌≡◌, ℕ, Bool, true, false, IsTrue, ◌==◌, List, ◌++◌, filter, map, All}
+use Rattle.std.specs.Prelude.{◌≡◌, Bool, true, false, IsTrue, ◌==◌, List, ◌++◌, filter, map, All}
 use Rattle.dep_index.specs.declared.calls.Call.{Call}
 use Rattle.dep_index.specs.declared.calls.Call.TheVariants.{Get, Put, InUse as Query}
 use Rattle.dep_index.specs.declared.calls.Reply.{Reply}

@@ -53,10 +53,11 @@ pub trait Modules {
         ensures number { result ≡ references (catalogue self.now) (table self.now) m }
         ensures bound { result ≤ 4195264 };
 
-    /// How many modules the table has, in any state but Absent.
+    /// How many modules the table has, in any state but Absent; no more than the catalogue.
     fn loaded(&self) -> usize
         ensures all { result ≡ length (table self.now).book.order }
-        ensures bound { result ≤ length (catalogue self.now) };
+        ensures bound { result ≤ length (catalogue self.now) }
+        ensures limit { result ≤ 1024 };
 
     /// A module of the table by its age, the oldest at 0.
     fn loaded_at(&self, i: usize) -> usize

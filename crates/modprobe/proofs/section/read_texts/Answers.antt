@@ -5,6 +5,7 @@ use Rattle.modprobe.specs.Lines.{bytes_left, ending_bytes}
 use Rattle.modprobe.specs.Sections.{section_of, add_bytes, step_of, text_step, go, stop, early}
 use Rattle.modprobe.specs.ForProofs.{parts_of, is_session}
 use Rattle.modprobe.proofs.SetupLemmas.{goes_on, begins, early_stops, stops_as, setup_stops, at_end, step_of-begin, step_of-go, step_of-text}
+use Rattle.modprobe.proofs.TurnLemmas.{paid_trans}
 use Rattle.modprobe.proofs.section.read_texts.Goals as goal
 
 pub returns-then-is_session-clause-sections : goal.returns-then-is_session-clause-sections
@@ -33,6 +34,7 @@ loop-texts-preserved-in-Some g c =
     record {
       works = c.in_ok-next_line.ensures.failed;
       same_reader = c.in_ok-next_line.ensures.same_reader ∙ c.loop-texts.invariant.same_reader;
+      paid = paid_trans g.R.Source.remaining c.args.lines.now c.loop-texts.lines c.next_line.new.self c.loop-texts.invariant.paid c.in_ok-next_line.ensures.paid;
       goes_on = goes_on (left c.args.lines.now) (left c.loop-texts.lines) (left s) current parts line (Some c.in-Some.section) parts c.loop-texts.invariant.goes_on
           (c.in_ok-next_line.ensures.cut (rw c.if-branch.true refl)) (step_of-go c.in-Some.section current parts line short found is);
     }
@@ -65,6 +67,7 @@ loop-texts-preserved g c =
     record {
       works = c.in_ok-next_line.ensures.failed;
       same_reader = c.in_ok-next_line.ensures.same_reader ∙ c.loop-texts.invariant.same_reader;
+      paid = paid_trans g.R.Source.remaining c.args.lines.now c.loop-texts.lines c.next_line.new.self c.loop-texts.invariant.paid c.in_ok-next_line.ensures.paid;
       goes_on = goes_on (left c.args.lines.now) (left c.loop-texts.lines) (left s) current parts line (Some section) (parts_of c.push_line.new.self) c.loop-texts.invariant.goes_on
           (c.in_ok-next_line.ensures.cut (rw c.if-branch.true refl)) is;
     }

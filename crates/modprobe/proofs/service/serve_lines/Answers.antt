@@ -1,10 +1,12 @@
-use Rattle.std.proofs.Common.{◌≡◌, ◌∙◌, ap}
+use Rattle.std.proofs.Common.{◌≡◌, ◌∙◌, ap, true, Err}
 use Rattle.std.proofs.lemmas.Result.{err_from_is_err_and}
 use Rattle.dep_index.specs.Catalogue.{modules_of}
 use Rattle.dep_index.specs.Calls.{opening}
 use Rattle.modprobe.specs.Lines.{bytes_left}
 use Rattle.modprobe.specs.Serve.{opening_of}
 use Rattle.modprobe.proofs.ServeLemmas.{stops_in_session}
+use Rattle.modprobe.specs.Run.{is_turns}
+use Rattle.modprobe.proofs.TurnLemmas.{turns_in_all, turns_fault}
 use Rattle.modprobe.proofs.service.serve_lines.Goals as goal
 
 pub returns-in_err-run-clause-stands : goal.returns-in_err-run-clause-stands
@@ -17,3 +19,11 @@ returns-in_err-run-clause-stands g c =
     rw (p.1, p.2)
     (stops_in_session c.args.workers c.in_err-run.field-0.0 (left c.args.lines.now) (left c.read_setup.new.lines) s c.in_ok-table.table.table (left after) (g.R.Source.remaining after.reader.now) after.line.items
     (g.W.Sink.contents c.args.writer.now) (g.W.Sink.contents c.run.new.writer) _ c.in_ok-setup.ensures.setup opens c.in_err-run.ensures.stands)
+
+pub returns-in_err-run-clause-turns : goal.returns-in_err-run-clause-turns
+returns-in_err-run-clause-turns g c =
+    let p = err_from_is_err_and c.from_residual-in_err-run.result c.from_residual-in_err-run.ensures.1 in
+    let fault = c.in_err-run.field-0.0 in
+    λ ran_out.
+    let is : is_turns fault ≡ true = rw (p.1, p.2) at ran_out in
+    turns_in_all g.R.Source.remaining c.args.lines.now c.read_setup.new.lines c.run.new.lines c.in_ok-setup.ensures.paid (c.in_err-run.ensures.turns (ap Err (turns_fault fault is)))

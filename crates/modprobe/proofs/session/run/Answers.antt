@@ -5,6 +5,7 @@ use Rattle.modprobe.specs.Lines.{AtHand, bytes_left}
 use Rattle.modprobe.specs.Session.{line_answer, answer}
 use Rattle.modprobe.specs.Run.{StoppedWriting}
 use Rattle.modprobe.proofs.RunLemmas.{answered_more, appends_trans, gives_more, short-more, table-more}
+use Rattle.modprobe.proofs.TurnLemmas.{paid_trans}
 use Rattle.modprobe.proofs.session.run.Goals as goal
 
 pub loop-lines-preserved : goal.loop-lines-preserved
@@ -20,6 +21,7 @@ loop-lines-preserved g c =
       writer_works = c.in_ok-write_all.ensures.failed;
       same_reader = c.in_ok-next_line.ensures.same_reader ∙ c.loop-lines.invariant.same_reader;
       over = c.in_ok-reply.ensures.over ∙ c.loop-lines.invariant.over;
+      paid = paid_trans g.R.Source.remaining c.args.lines.now c.loop-lines.lines c.next_line.new.self c.loop-lines.invariant.paid c.in_ok-next_line.ensures.paid;
       answered = (
         before.0 ++ line ∷ [],
         answered_more s start (left c.args.lines.now) (wrote c.args.writer.now)

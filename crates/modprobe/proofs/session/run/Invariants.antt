@@ -1,5 +1,5 @@
 use Rattle.std.proofs.Common.{◌≡◌, ℕ, List, false}
-use Rattle.modprobe.specs.Lines.{bytes_left, steps_left}
+use Rattle.modprobe.specs.Lines.{bytes_left, IsPaid, steps_left}
 use Rattle.modprobe.specs.Run.{Answered}
 use Rattle.modprobe.proofs.session.run.Given as goal
 
@@ -10,6 +10,7 @@ invariant-loop-lines g l = record {
   writer_works : g.W.Sink.has_failed l.writer ≡ false;
   same_reader : l.lines.reader.ghost_name ≡ l.fn.lines.reader.ghost_name;
   over : g.M.Modules.catalogue l.table ≡ g.M.Modules.catalogue l.fn.table;
+  paid : IsPaid g.R.Source.remaining l.fn.lines l.lines;
   answered : (done : List (List ℕ)) × Answered l.setup (g.M.Modules.table l.fn.table) (bytes_left g.R.Source.remaining l.fn.lines) (bytes_left g.R.Source.remaining l.lines)
       (g.W.Sink.contents l.fn.writer) (g.W.Sink.contents l.writer) (g.M.Modules.table l.table) done;
 }

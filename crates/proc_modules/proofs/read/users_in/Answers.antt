@@ -1,4 +1,4 @@
-use Rattle.std.proofs.Common.{◌≡◌, ◌∙◌, sym, arith, rules}
+use Rattle.std.proofs.Common.{◌∙◌, sym, arith}
 use Rattle.std.proofs.lemmas.Grind.{common_steps}
 use Rattle.proc_modules.proofs.ReadingLemmas.{users_in-step}
 use Rattle.proc_modules.proofs.read.users_in.Goals as goal

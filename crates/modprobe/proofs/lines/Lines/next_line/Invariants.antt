@@ -1,6 +1,6 @@
 use Rattle.std.proofs.Common.{◌≡◌, ◌+◌, ◌≤◌, false, vec_len}
 use Rattle.std.specs.Io.KnownBytes.{Keeps}
-use Rattle.modprobe.specs.Lines.{bytes_left, text_left, HasNoFeed, steps_left}
+use Rattle.modprobe.specs.Lines.{bytes_left, text_left, HasNoFeed, IsPaid, steps_left}
 use Rattle.modprobe.specs.declared.lines.Ending.TheVariants.{Absent}
 use Rattle.modprobe.proofs.lines.Lines.next_line.Given as goal
 
@@ -12,6 +12,7 @@ invariant-loop-self g l = record {
   no_feed : HasNoFeed l.self.line.items;
   ending : l.self.ending ≡ Absent;
   text : Keeps (bytes_left g.R.Source.remaining l.fn.self) (text_left g.R.Source.remaining l.self);
+  paid : IsPaid g.R.Source.remaining l.fn.self l.self;
   spent : steps_left l.self + vec_len l.self.line ≤ steps_left l.fn.self;
 }
 

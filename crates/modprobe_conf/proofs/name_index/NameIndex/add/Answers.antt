@@ -1,4 +1,4 @@
-use Rattle.std.proofs.Common.{sym, arith, rules, ◌∙◌}
+use Rattle.std.proofs.Common.{sym, rules, ◌∙◌}
 use Rattle.modprobe_conf.specs.ForProofs.{line_of}
 use Rattle.modprobe_conf.proofs.IndexLemmas.{index_added}
 use Rattle.modprobe_conf.proofs.name_index.NameIndex.add.Goals as goal

@@ -8,3 +8,9 @@ returns-clause-bound c =
     let kept = c.self.invariant in
     let book = (table_of c.self.inside.states.items c.self.inside.order.items c.self.inside.rows.items).book in
     grind (arith, order_fits book kept.lawful.order, kept.shape.states, c.len.ensures)
+
+pub returns-clause-limit : goal.returns-clause-limit
+returns-clause-limit c =
+    let kept = c.self.invariant in
+    let book = (table_of c.self.inside.states.items c.self.inside.order.items c.self.inside.rows.items).book in
+    grind (arith, order_fits book kept.lawful.order, kept.shape.states, kept.slots, c.len.ensures)

@@ -1,0 +1,86 @@
+//! The listings of tables of 256 to 1,024 loaded modules, each of which needs the four before it.
+ghost use Rattle.std.specs.Prelude.{◌≡◌, IfOk};
+ghost use Rattle.dep_index.specs.Catalogue.{modules_of};
+
+use crate::figure::print_time;
+use anyhow::{Result, bail};
+use dep_index::{Catalogue, read_catalogue};
+use proc_modules::{lsmod_text, proc_text};
+use seq_table::{Modules, Table};
+use std::alloc::{AllocError, Global};
+use std::rt::Clock;
+use std::time::Instant;
+
+const WORKERS: usize = 64;
+
+const LISTINGS: u64 = 200;
+
+pub fn measure<R: Print + Clock + AllocGlobal>(rt: &R) -> Result<()> {
+    measure_of(rt, 256, "proc_text_256", "lsmod_text_256")?;
+    measure_of(rt, 512, "proc_text_512", "lsmod_text_512")?;
+    measure_of(rt, 1024, "proc_text_1024", "lsmod_text_1024")
+}
+
+fn measure_of<R: Print + Clock + AllocGlobal>(
+    rt: &R,
+    modules: u32,
+    lines: &str,
+    columns: &str,
+) -> Result<()> {
+    let alloc = rt.alloc();
+    let text = catalogue_text(alloc, modules)?;
+    let catalogue = match read_catalogue(alloc, text.as_bytes()) {
+        Ok(catalogue) => catalogue,
+        Err(error) => bail!("{error:?}"),
+    };
+    let table = loaded(alloc, &catalogue)?;
+    let mut bytes = 0u64;
+    let start = Instant::now(rt)?;
+    for _ in 0..LISTINGS {
+        bytes = bytes.wrapping_add(proc_text(alloc, &catalogue, &table)?.len() as u64);
+    }
+    let elapsed = start.elapsed(rt)?;
+    print_time(rt, lines, LISTINGS, elapsed)?;
+    let start = Instant::now(rt)?;
+    for _ in 0..LISTINGS {
+        bytes = bytes.wrapping_add(lsmod_text(alloc, &catalogue, &table)?.len() as u64);
+    }
+    print_time(rt, columns, LISTINGS, start.elapsed(rt)?)?;
+    println!(rt; "{lines}_and_columns {bytes} bytes")?;
+    Ok(())
+}
+
+fn catalogue_text(alloc: Global, modules: u32) -> Result<String, AllocError> {
+    let mut text = String::new(alloc);
+    writeln!(text, "version 2")?;
+    for m in 0..modules {
+        writeln!(text, "module driver-{m}")?;
+        writeln!(text, "size {m}8192")?;
+        writeln!(text, "exports symbol_{m}")?;
+        for need in m.saturating_sub(4)..m {
+            writeln!(text, "needs symbol_{need}")?;
+        }
+    }
+    Ok(text)
+}
+
+/// Makes a module live.
+fn load(table: &mut Table, m: usize)
+    ensures { table.new.catalogue ≡ table.old.catalogue }
+{
+    if m < table.slots() {
+        let _ = table.begin_load(m);
+        let _ = table.end_load(m, true);
+    }
+}
+
+/// A table in which every module is live.
+fn loaded(alloc: Global, catalogue: &Catalogue) -> Result<Table, AllocError>
+    ensures { IfOk result (λ t. t.catalogue ≡ modules_of catalogue.now) }
+{
+    let mut table = Table::new(alloc, catalogue, WORKERS)?;
+    for m in 0..catalogue.len() {
+        load(&mut table, m);
+    }
+    Ok(table)
+}

@@ -1,0 +1,16 @@
+pub mod Replay
+pub mod Lives
+pub mod Courses
+pub mod Whole
+pub mod Range
+pub mod Numbers
+pub mod Prefixes
+pub mod Room
+pub mod Headline
+pub mod MoreEvents
+pub mod Kept
+pub mod Counts
+pub mod Replaying
+pub mod Judged
+pub mod Found
+pub mod Accepted

@@ -1,0 +1,5 @@
+pub mod Run
+pub mod Linearization
+pub mod Refused
+pub mod Interval
+pub mod Noted

@@ -1,0 +1,19 @@
+//! Where each call of a run takes effect, and a checker of points that others name.
+#![tactic(auto)]
+
+mod checker;
+mod course;
+mod intervals;
+pub mod laws;
+mod linear;
+mod replays;
+mod runs;
+mod taken;
+#[cfg(test)]
+mod tests;
+
+pub use checker::check_points;
+pub use course::call_intervals;
+pub use intervals::{End, Interval};
+pub use linear::points;
+pub use taken::{Point, PointsError};

@@ -1,0 +1,27 @@
+-- What modinfo(8) tells of a module of a catalogue.
+use Rattle.std.specs.Prelude.{ℕ, List, ◌++◌, flat_map, codes, decimal}
+use Rattle.std.specs.List.{join_with_byte}
+use Rattle.dep_index.specs.declared.params.ParamKind.{ParamKind}
+use Rattle.dep_index.specs.declared.params.ParamKind.TheVariants.{Int, Bool, Charp}
+use Rattle.dep_index.specs.declared.params.Param.{Param}
+use Rattle.dep_index.specs.Catalogue.{Description, description_at, needs_of}
+use Rattle.proc_modules.specs.Listings.{left_in, name_of, names_of, size_of}
+
+-- a line of modinfo: the field and its colon in 16 places, then the value
+abbrev pub field : List ℕ → List ℕ → List ℕ
+field label value = left_in 16 label ++ (value ++ codes "\n")
+
+abbrev pub kind_text : ParamKind → List ℕ
+kind_text Int = codes "int"
+kind_text Bool = codes "bool"
+kind_text Charp = codes "charp"
+
+abbrev pub param_line : Param → List ℕ
+param_line param = field (codes "parm:") (param.name ++ (codes ":" ++ kind_text param.kind))
+
+abbrev pub modinfo_text : List Description → ℕ → List ℕ
+modinfo_text catalogue m =
+    field (codes "name:") (name_of catalogue m)
+    ++ (field (codes "size:") (decimal (size_of catalogue m))
+    ++ (field (codes "depends:") (join_with_byte 44 (names_of catalogue (needs_of catalogue m)))
+    ++ flat_map param_line (description_at catalogue m).params))

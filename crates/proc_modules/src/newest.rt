@@ -1,0 +1,118 @@
+//! The modules of a table, the newest first, and who uses them.
+ghost use Rattle.std.specs.Prelude.{◌≡◌, ◌<◌, ◌≤◌, ℕ, [], ◌∷◌, ◌++◌, length, filter, replicate, slice_index_or, slice_set, vec_len, All, IfOk, OnOk};
+ghost use Rattle.dep_index.specs.Table.{needs_slot, pairs};
+ghost use Rattle.dep_index.specs.Catalogue.{modules_of};
+ghost use Rattle.seq_table.specs.Rows.{rows_of};
+ghost use Rattle.proc_modules.specs.Listings.{newest_first};
+ghost use Rattle.proc_modules.specs.UserRows.{EachOnce, WithUser, AllListed};
+
+use dep_index::Catalogue;
+use seq_table::Modules;
+use std::alloc::{AllocError, Global};
+
+/// The modules of the table, the newest first.
+fn newest_first<M: Modules>(alloc: Global, table: &M) -> Result<Vec<u16>, AllocError>
+    ensures order { IfOk result (λ found. found.items ≡ newest_first (M.table table.now)) }
+    ensures slots { IfOk result (λ found. All (λ m. m < length (M.catalogue table.now)) found.items) }
+    ensures few { IfOk result (λ found. length found.items ≤ 1024) }
+{
+    let loaded = table.loaded();
+    let mut found = Vec::new(alloc);
+    for age in 0..loaded {
+        prove!(age < loaded);
+        let m = table.loaded_at(loaded - 1 - age);
+        prove!(m < table.slots());
+        found.push(m as u16)?;
+    }
+    Ok(found)
+}
+
+/// Adds a slot to the row of another.
+fn push_user(rows: &mut Vec<Vec<u16>>, m: usize, user: u16) -> Result<(), AllocError>
+    requires { m < length rows.old.items }
+    ensures after { OnOk result (rows_of rows.new.items ≡ slice_set (rows_of rows.old.items) m (slice_index_or (rows_of rows.old.items) m [] ++ user ∷ [])) }
+    ensures len { OnOk result (vec_len rows.new ≡ vec_len rows.old) }
+{
+    let row = &mut rows[m];
+    row.push(user)?;
+    Ok(())
+}
+
+/// Adds a user to the rows of what it needs.
+fn push_to_needs(rows: &mut Vec<Vec<u16>>, needs: &[u16], user: u16) -> Result<(), AllocError>
+    requires within { All (λ n. n < length rows.old.items) needs.now }
+    requires once { EachOnce needs.now }
+    ensures after { OnOk result (WithUser (rows_of rows.old.items) (rows_of rows.new.items) needs.now user) }
+    ensures len { OnOk result (vec_len rows.new ≡ vec_len rows.old) }
+{
+    for need in needs {
+        push_user(rows, *need as usize, user)?;
+    }
+    Ok(())
+}
+
+fn empty_rows(alloc: Global, len: usize) -> Result<Vec<Vec<u16>>, AllocError>
+    ensures { IfOk result (λ rows. rows_of rows.items ≡ replicate len []) }
+{
+    let mut rows = Vec::with_capacity(alloc, len)?;
+    for _ in 0..len {
+        rows.push(Vec::new(alloc))?;
+    }
+    Ok(rows)
+}
+
+/// For each slot of the catalogue those of the modules that need it, in their order. The time is linear in the
+/// modules and their needs.
+fn users_by_slot(
+    alloc: Global,
+    catalogue: &Catalogue,
+    modules: &[u16],
+) -> Result<Vec<Vec<u16>>, AllocError>
+    requires { All (λ m. m < length catalogue.now) modules.now }
+    ensures len { IfOk result (λ rows. length rows.items ≡ length catalogue.now) }
+    ensures users { IfOk result (λ rows. (m : ℕ) → m < length catalogue.now → slice_index_or (rows_of rows.items) m [] ≡ filter (needs_slot (modules_of catalogue.now) m) modules.now) }
+{
+    let mut rows = empty_rows(alloc, catalogue.len())?;
+    for user in modules {
+        push_to_needs(&mut rows, catalogue.needs(*user as usize), *user)?;
+    }
+    Ok(rows)
+}
+
+/// The modules of the table, the newest first, and for each slot its users, the newest first.
+pub(crate) fn listed<M: Modules>(
+    alloc: Global,
+    catalogue: &Catalogue,
+    table: &M,
+) -> Result<(Vec<u16>, Vec<Vec<u16>>), AllocError>
+    requires { M.catalogue table.now ≡ modules_of catalogue.now }
+    ensures modules { IfOk result (λ x. x.0.items ≡ newest_first (M.table table.now)) }
+    ensures users { IfOk result (λ x. AllListed catalogue.now (M.table table.now) x.0.items (rows_of x.1.items)) }
+{
+    let newest = newest_first(alloc, table)?;
+    let users = users_by_slot(alloc, catalogue, &newest)?;
+    Ok((newest, users))
+}
+
+/// The row of a slot.
+pub(crate) fn row(rows: &[Vec<u16>], m: usize) -> &[u16]
+    requires { m < length (rows_of rows.now) }
+    ensures { result.now ≡ slice_index_or (rows_of rows.now) m [] }
+{
+    &rows[m]
+}
+
+/// How many references all workers hold to a module.
+pub(crate) fn pairs<M: Modules>(table: &M, m: usize) -> u32
+    requires { m < length (M.catalogue table.now) }
+    ensures sum { result ≡ pairs (M.table table.now).rows m }
+    ensures bound { result ≤ 4194240 }
+{
+    let workers = table.workers();
+    let mut total = 0;
+    for w in 0..workers {
+        prove!(w < workers);
+        total += table.held(w, m);
+    }
+    total
+}
