@@ -2,14 +2,14 @@
 ghost use Rattle.std.specs.Prelude.{◌≡◌, ◌<◌, length, map, IfOk, IfSome};
 ghost use Rattle.dep_index.specs.Catalogue.{description_at, slot_named};
 ghost use Rattle.load_plan.specs.declared.graph.Target.TheVariants.{Slot};
-ghost use Rattle.load_plan.specs.Sources.{graph_of, hard_of, is_kept, is_stopped, node_of, post_of, pre_of, target_of};
+ghost use Rattle.load_plan.specs.Sources.{graph_of, hard_of, is_kept, node_of, post_of, pre_of, target_of};
 ghost use Rattle.dep_index.specs.Dependencies.{deps};
-ghost use Rattle.modprobe_conf.specs.Configuration.{softdep_of};
+ghost use Rattle.std.specs.Option.{option_copied};
 
 use crate::graph::{DependencyGraph, Node, Target, Targets};
 use crate::names::copy_name;
 use dep_index::{Catalogue, DepIndex, Name};
-use modprobe_conf::Conf;
+use modprobe_conf::{Conf, Softdep};
 use std::alloc::{AllocError, Global};
 
 /// The slot of a name in normal form.
@@ -66,13 +66,6 @@ fn hard_of(
     }
 }
 
-/// Whether a name has an install line and no softdep line (modprobe.d(5)).
-fn is_stopped(configuration: &Conf, name: &[u8]) -> bool
-    ensures { result ≡ is_stopped configuration.now name.now }
-{
-    configuration.install_line(name) && configuration.softdep(name).is_none()
-}
-
 /// Whether a name has a remove line and no softdep line (modprobe.d(5)).
 pub(crate) fn is_kept(configuration: &Conf, name: &[u8]) -> bool
     ensures { result ≡ is_kept configuration.now name.now }
@@ -80,31 +73,31 @@ pub(crate) fn is_kept(configuration: &Conf, name: &[u8]) -> bool
     configuration.remove_line(name) && configuration.softdep(name).is_none()
 }
 
+/// The pre items of a slot, by the softdep line of its name.
 fn pre_of(
     alloc: Global,
     catalogue: &Catalogue,
-    configuration: &Conf,
+    softdep: Option<&Softdep>,
     m: usize,
 ) -> Result<Targets, AllocError>
     requires { m < length catalogue.now }
-    ensures { IfOk result (λ targets. targets ≡ map (target_of catalogue.now) (pre_of (description_at catalogue.now m) (softdep_of configuration.now (description_at catalogue.now m).name))) }
+    ensures { IfOk result (λ targets. targets ≡ map (target_of catalogue.now) (pre_of (description_at catalogue.now m) (option_copied softdep.entry))) }
 {
-    match configuration.softdep(catalogue.name(m)) {
+    match softdep {
         Some(softdep) => targets_of(alloc, catalogue, softdep.pre()),
         None => targets_of(alloc, catalogue, catalogue.softneeds(m)),
     }
 }
 
+/// The post items of a module, by the softdep line of its name.
 fn post_of(
     alloc: Global,
     catalogue: &Catalogue,
-    configuration: &Conf,
-    m: usize,
+    softdep: Option<&Softdep>,
 ) -> Result<Targets, AllocError>
-    requires { m < length catalogue.now }
-    ensures { IfOk result (λ targets. targets ≡ map (target_of catalogue.now) (post_of (softdep_of configuration.now (description_at catalogue.now m).name))) }
+    ensures { IfOk result (λ targets. targets ≡ map (target_of catalogue.now) (post_of (option_copied softdep.entry))) }
 {
-    match configuration.softdep(catalogue.name(m)) {
+    match softdep {
         Some(softdep) => targets_of(alloc, catalogue, softdep.post()),
         None => Ok(Targets::new(alloc)),
     }
@@ -121,9 +114,11 @@ fn node_of(
     ensures { IfOk result (λ node. node ≡ node_of catalogue.now dependencies.now configuration.now m (description_at catalogue.now m)) }
 {
     let hard = hard_of(alloc, catalogue, dependencies, m)?;
-    let pre = pre_of(alloc, catalogue, configuration, m)?;
-    let post = post_of(alloc, catalogue, configuration, m)?;
-    let installs = is_stopped(configuration, catalogue.name(m));
+    let name = catalogue.name(m);
+    let softdep = configuration.softdep(name);
+    let pre = pre_of(alloc, catalogue, softdep, m)?;
+    let post = post_of(alloc, catalogue, softdep)?;
+    let installs = configuration.install_line(name) && softdep.is_none();
     Ok(Node {
         hard,
         pre,
