@@ -1,12 +1,14 @@
 //! The same work in stock Rust, for `bench/run`: `baseline NAME` prints lines `NAME VALUE UNIT`.
 
 mod leaves;
+mod manager;
 mod patterns;
 
 fn main() {
     let name = std::env::args().nth(1).unwrap_or_default();
     match name.as_str() {
         "leaves" => leaves::measure(),
+        "manager" => manager::measure(),
         "patterns" => patterns::measure(),
         // a benchmark without a baseline prints nothing
         _ => {}

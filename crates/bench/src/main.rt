@@ -7,6 +7,7 @@ mod figure;
 mod leaves;
 mod listing;
 mod machine;
+mod manager;
 mod patterns;
 mod points;
 
@@ -25,16 +26,18 @@ enum Benchmark {
     Leaves,
     Listing,
     Machine,
+    Manager,
     Patterns,
     Points,
 }
 
-const ALL: [Benchmark; 7] = [
+const ALL: [Benchmark; 8] = [
     Benchmark::Catalogue,
     Benchmark::Configuration,
     Benchmark::Leaves,
     Benchmark::Listing,
     Benchmark::Machine,
+    Benchmark::Manager,
     Benchmark::Patterns,
     Benchmark::Points,
 ];
@@ -47,6 +50,7 @@ impl Benchmark {
             Benchmark::Leaves => "leaves",
             Benchmark::Listing => "listing",
             Benchmark::Machine => "machine",
+            Benchmark::Manager => "manager",
             Benchmark::Patterns => "patterns",
             Benchmark::Points => "points",
         }
@@ -59,6 +63,7 @@ impl Benchmark {
             Benchmark::Leaves => leaves::measure(rt),
             Benchmark::Listing => listing::measure(rt),
             Benchmark::Machine => machine::measure(rt),
+            Benchmark::Manager => manager::measure(rt),
             Benchmark::Patterns => patterns::measure(rt),
             Benchmark::Points => points::measure(rt),
         }
