@@ -2,6 +2,8 @@ ghost use Rattle.std.specs.Prelude.{◌<◌};
 ghost use Rattle.root_row.specs.World.{slots};
 ghost use Rattle.root_row.specs.Seats.{IsOf};
 
+mod lent;
+
 use crate::{Manager, OwnBook, OwnLeaf};
 use dep_index::{BeginRemoveError, GetError, ModuleState, PutError, read_catalogue};
 use std::process::Abort;
