@@ -20,3 +20,6 @@ pub use look_up::{FindError, find};
 pub use parameters::params_valid;
 pub use refusal::{PlanRefusal, WalkError};
 pub use steps::{PlanStep, plan_in, removal_plan_in};
+
+#[cfg(test)]
+mod tests;
