@@ -6,3 +6,4 @@ pub mod RunLemmas
 pub mod NameLemmas
 pub mod ServeLemmas
 pub mod TurnLemmas
+pub mod PlanLemmas

@@ -7,7 +7,8 @@ use Rattle.std.proofs.lemmas.List.{append_assoc, append-nil, take_rest}
 use Rattle.std.specs.Str.Lines.{lines}
 use Rattle.modprobe.specs.Lines.{IfTold, GivesLine}
 use Rattle.dep_index.specs.Table.{Table}
-use Rattle.modprobe.specs.Session.{Setup, line_answer, answer}
+use Rattle.modprobe.specs.Setup.{Setup}
+use Rattle.modprobe.specs.Session.{line_answer, answer}
 use Rattle.modprobe.specs.Run.{Answered, GivesLines, AllShort}
 use Rattle.std.proofs.Common.{false, Ok}
 use Rattle.std.specs.Prelude.{◌&&◌, nat_lt}

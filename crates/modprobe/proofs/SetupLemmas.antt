@@ -10,9 +10,12 @@ use Rattle.modprobe.specs.Sections.{Parts, no_parts, section_of, SectionStep, St
 use Rattle.modprobe.specs.ForProofs.{is_session, GivesSections, StopsAs, setup_code_of}
 use Rattle.modprobe.specs.declared.lines.LineFault.{LineFault}
 use Rattle.modprobe.specs.declared.lines.LineFault.TheVariants.{Read, Memory, Turns, LongLine}
-use Rattle.dep_index.specs.Catalogue.{Description, catalogue_of}
-use Rattle.modprobe.specs.Session.{Setup}
-use Rattle.modprobe.specs.SetupInput.{of_sections, with_session, with_catalogue, GivesSetup, SetupStops}
+use Rattle.dep_index.specs.Catalogue.{catalogue_of}
+use Rattle.dep_index.specs.Dependencies.{dependencies_of}
+use Rattle.alias_match.specs.Aliases.{aliases_of}
+use Rattle.modprobe_conf.specs.Configuration.{configuration_of}
+use Rattle.modprobe.specs.Setup.{Setup}
+use Rattle.modprobe.specs.SetupInput.{of_sections, with_session, with_catalogue, with_dependencies, setup_for, GivesSetup, SetupStops}
 use Rattle.dep_index.proofs.LineLemmas.{lines_have_texts}
 use Rattle.std.proofs.lemmas.Bool.{false≢true, true≢false, cond-true, cond-false, lt-ltb, le-ltb}
 
@@ -116,14 +119,18 @@ stops_as old middle current parts Memory before long = stops_somehow old
 stops_as old middle current parts Turns before long = stops_somehow old
 stops_as old middle current parts LongLine before long = long_stops old middle current parts before (long refl)
 
--- The setup of an input, from its sections and its catalogue.
-pub gives_setup : (old new : Option (List ℕ)) (parts : Parts) (modules : List Description) → GivesSections old new parts → catalogue_of parts.catalogue_text ≡ Ok modules
-    → GivesSetup old new (record { catalogue = modules; dep_text = parts.dep_text; alias_text = parts.alias_text; conf_text = parts.conf_text })
-gives_setup None new parts modules gives is = tt
-gives_setup (Some old) None parts modules gives is = absurd gives
-gives_setup (Some old) (Some new) parts modules gives is =
-    let s : Setup = record { catalogue = modules; dep_text = parts.dep_text; alias_text = parts.alias_text; conf_text = parts.conf_text } in
-    ap of_sections gives ∙ ap (λ r. with_session (cut_lines new) (with_catalogue parts r)) is ∙ ap (λ ls. Ok (s, ls)) (lines_have_texts new)
+-- The setup of an input, from its sections, its catalogue and its dependencies.
+pub gives_setup : (old new : Option (List ℕ)) (parts : Parts) (s : Setup) → GivesSections old new parts → catalogue_of parts.catalogue_text ≡ Ok s.catalogue → dependencies_of parts.dep_text ≡ Ok s.dependencies
+    → s.aliases ≡ aliases_of parts.alias_text → s.configuration ≡ configuration_of parts.conf_text → GivesSetup old new s
+gives_setup None new parts s gives is pairs aliases configuration = tt
+gives_setup (Some old) None parts s gives is pairs aliases configuration = absurd gives
+gives_setup (Some old) (Some new) parts s gives is pairs aliases configuration =
+    let here : setup_for parts ≡ Ok s =
+    ap (with_catalogue parts) is
+    ∙ ap (with_dependencies parts s.catalogue) pairs
+    ∙ ap (λ a. Ok (record { catalogue = s.catalogue; dependencies = s.dependencies; aliases = a; configuration = configuration_of parts.conf_text })) (sym aliases)
+    ∙ ap (λ c. Ok (record { catalogue = s.catalogue; dependencies = s.dependencies; aliases = s.aliases; configuration = c })) (sym configuration) in
+    ap of_sections gives ∙ ap (with_session (cut_lines new)) here ∙ ap (λ ls. Ok (s, ls)) (lines_have_texts new)
 
 abbrev is_long_line : LineFault → Bool
 is_long_line LongLine = true

@@ -8,7 +8,11 @@ length-modules_from : (all rest : List Description) (m : ℕ) → length (module
 length-modules_from all [] m = refl
 length-modules_from all (d ∷ rest) m = ap suc (length-modules_from all rest (suc m))
 
+pub named_below : (modules : List Description) (name : List ℕ) (m : ℕ) → slot_named modules name ≡ Some m → m < length modules
+named_below modules name m found = (position-Some (λ (d : Description). bytes_eq name d.name) modules m (described []) found).0
+
+pub known_below : (modules : List Description) (m : ℕ) → m < length modules → m < length (modules_of modules)
+known_below modules m below = omega (arith, below, length-modules_from modules modules 0)
+
 pub slot_below : (modules : List Description) (name : List ℕ) (m : ℕ) → slot_named modules name ≡ Some m → m < length (modules_of modules)
-slot_below modules name m found =
-    let below : m < length modules = (position-Some (λ (d : Description). bytes_eq name d.name) modules m (described []) found).0 in
-    omega (arith, below, length-modules_from modules modules 0)
+slot_below modules name m found = known_below modules m (named_below modules name m found)

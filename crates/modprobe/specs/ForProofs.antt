@@ -1,9 +1,15 @@
 -- What the contracts of private functions say, for the proofs of the public ones.
 use Rattle.std.specs.Prelude.{◌≡◌, ℕ, ◌≤◌, Bool, true, false, List, ◌++◌, ◌∷◌, [], All, length, codes, Option, Some, None, ⊤, Result, Ok, Err}
-use Rattle.dep_index.specs.Text.{cut_lines}
+use Rattle.dep_index.specs.Text.{cut_lines, texts_of}
 use Rattle.dep_index.specs.Catalogue.{Description}
 use Rattle.dep_index.specs.declared.faults.CatError.{CatError}
 use Rattle.dep_index.specs.declared.faults.CatError.TheVariants as cat
+use Rattle.dep_index.specs.declared.faults.DepError.{DepError}
+use Rattle.dep_index.specs.declared.faults.DepError.TheVariants as dep
+use Rattle.modprobe.specs.declared.command.Action.{Action}
+use Rattle.modprobe.specs.declared.command.Action.TheVariants as action_is
+use Rattle.modprobe.specs.declared.command.Request.{Request}
+use Rattle.modprobe.specs.declared.command.Request.TheVariants as request_is
 use Rattle.modprobe.specs.declared.command.Command.{Command}
 use Rattle.modprobe.specs.declared.command.Command.TheVariants as command_is
 use Rattle.modprobe.specs.declared.answer.Answer.{Answer}
@@ -11,20 +17,39 @@ use Rattle.modprobe.specs.declared.answer.Answer.TheVariants as answer_is
 use Rattle.modprobe.specs.declared.lines.LineFault.{LineFault}
 use Rattle.modprobe.specs.declared.lines.LineFault.TheVariants as line_faults
 use Rattle.modprobe.specs.declared.fault.SetupCode.{SetupCode}
-use Rattle.modprobe.specs.declared.fault.SetupCode.TheVariants.{C1, C2, C3, C4, B1, Read, Memory, Turns, LongLine}
+use Rattle.modprobe.specs.declared.fault.SetupCode.TheVariants.{C1, C2, C3, C4, M1, M2, M3, B1, Read, Memory, Turns, LongLine}
 use Rattle.modprobe.specs.declared.fault.SetupFault.{SetupFault}
 use Rattle.modprobe.specs.declared.section.Section.{Section}
 use Rattle.modprobe.specs.declared.section.Section.TheVariants.{Catalogue, Dep, Alias, Conf, Session}
 use Rattle.modprobe.specs.declared.section.Texts.{Texts}
 use Rattle.modprobe.specs.Commands as meaning
-use Rattle.modprobe.specs.Session.{error_line}
+use Rattle.load_plan.specs.declared.items.PlanError.{PlanError}
+use Rattle.load_plan.specs.declared.items.PlanError.TheVariants as plan_error
+use Rattle.modprobe.specs.declared.refusal.Refusal.{Refusal}
+use Rattle.modprobe.specs.Refusals.{error_line, refuse}
+use Rattle.modprobe.specs.Refusals as told
 use Rattle.modprobe.specs.Sections.{Parts, no_parts, early, too_long, sections}
 
--- what the code's command stands for
+-- what the code's actions, requests and commands stand for
+abbrev pub action_from : Action → meaning.Action
+action_from (action_is.Insmod words) = meaning.insmod (texts_of words.now)
+action_from action_is.Rmmod = meaning.rmmod
+action_from action_is.Drain = meaning.drain
+action_from action_is.Query = meaning.query
+action_from (action_is.Get worker) = meaning.get worker
+action_from (action_is.Put worker) = meaning.put worker
+
+abbrev pub request_from : Request → meaning.Request
+request_from (request_is.Act action) = meaning.act (action_from action)
+request_from request_is.Modinfo = meaning.modinfo
+request_from request_is.Plan = meaning.plan
+
 abbrev pub command_from : Command → meaning.Command
 command_from command_is.Nothing = meaning.nothing
 command_from (command_is.Malformed first) = meaning.malformed first.now
-command_from (command_is.OnModule name action) = meaning.on_module name action
+command_from (command_is.ByName name request) = meaning.by_name name (request_from request)
+command_from command_is.Lsmod = meaning.lsmod
+command_from command_is.Proc = meaning.proc
 
 -- the code of a fault of the lines
 abbrev pub setup_code_of : LineFault → SetupCode
@@ -37,18 +62,33 @@ setup_code_of line_faults.LongLine = LongLine
 abbrev pub HasShortNames : List Description → Type 0
 HasShortNames modules = All (λ (d : Description). length d.name ≤ 55) modules
 
+-- the text is the line of a refused plan
+abbrev pub TellsRefusal : PlanError → List ℕ → Type 0
+TellsRefusal plan_error.Memory text = ⊥
+TellsRefusal e text = text ≡ told.refusal_line (told.plan_refusal e)
+
+-- the refusal that an answer is
+abbrev pub refusal_in : {X : Type 0} → Result X Refusal → Option told.Refusal
+refusal_in (Ok x) = None
+refusal_in (Err r) = refuse r.code r.name.now
+
 -- what an answer writes
 abbrev pub text_of : Answer → List ℕ
 text_of answer_is.Done = codes "ok" ++ 10 ∷ []
 text_of answer_is.Yes = codes "yes" ++ 10 ∷ []
 text_of answer_is.No = codes "no" ++ 10 ∷ []
-text_of (answer_is.Refused code name) = error_line code name.now
+text_of (answer_is.Refused r) = error_line r.code r.name.now
 
 abbrev pub name_len : Answer → ℕ
 name_len answer_is.Done = 0
 name_len answer_is.Yes = 0
 name_len answer_is.No = 0
-name_len (answer_is.Refused code name) = length name.now
+name_len (answer_is.Refused r) = length r.name.now
+
+-- no refusal names a module by a longer name than modules have
+abbrev pub IsShort : {X : Type 0} → Result X Refusal → Type 0
+IsShort (Ok x) = ⊤
+IsShort (Err r) = length r.name.now ≤ 55
 
 abbrev pub is_session : Section → Bool
 is_session Session = true
@@ -79,13 +119,16 @@ StopsAs B1 text = sections None no_parts (cut_lines text) ≡ Err early
 StopsAs LongLine text = sections None no_parts (cut_lines text) ≡ Err too_long
 StopsAs _ text = ⊤
 
--- the code is one of the catalogue
-abbrev pub is_catalogue_code : SetupCode → Bool
-is_catalogue_code C1 = true
-is_catalogue_code C2 = true
-is_catalogue_code C3 = true
-is_catalogue_code C4 = true
-is_catalogue_code _ = false
+-- the code is one of the catalogue or of modules.dep
+abbrev pub is_text_code : SetupCode → Bool
+is_text_code C1 = true
+is_text_code C2 = true
+is_text_code C3 = true
+is_text_code C4 = true
+is_text_code M1 = true
+is_text_code M2 = true
+is_text_code M3 = true
+is_text_code _ = false
 
 -- a fault of the sections has the line 1 where it is an early line, and else none
 abbrev pub line_of : SetupCode → Option ℕ
@@ -93,7 +136,7 @@ line_of B1 = Some 1
 line_of _ = None
 
 abbrev pub HasLine : SetupFault → Type 0
-HasLine fault = (fault.line ≡ line_of fault.code) × (is_catalogue_code fault.code ≡ false)
+HasLine fault = (fault.line ≡ line_of fault.code) × (is_text_code fault.code ≡ false)
 
 abbrev pub is_read_code : SetupCode → Bool
 is_read_code Read = true
@@ -115,3 +158,10 @@ catalogue_fault (cat.Duplicate n) = record { code = C2; line = Some n }
 catalogue_fault (cat.TwiceExported n) = record { code = C3; line = Some n }
 catalogue_fault (cat.TooMany n) = record { code = C4; line = Some n }
 catalogue_fault cat.Memory = record { code = Memory; line = None }
+
+-- the fault that a refused text of modules.dep is
+abbrev pub dep_fault : DepError → SetupFault
+dep_fault (dep.NoColon n) = record { code = M1; line = Some n }
+dep_fault (dep.EmptyName n) = record { code = M2; line = Some n }
+dep_fault (dep.SecondLine n) = record { code = M3; line = Some n }
+dep_fault dep.Memory = record { code = Memory; line = None }

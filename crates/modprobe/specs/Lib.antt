@@ -1,6 +1,10 @@
 pub mod Device
 pub mod Lines
 pub mod Commands
+pub mod Setup
+pub mod Refusals
+pub mod Changes
+pub mod Plans
 pub mod Session
 pub mod Sections
 pub mod SetupInput

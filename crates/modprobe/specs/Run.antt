@@ -8,7 +8,8 @@ use Rattle.modprobe.specs.declared.lines.LineFault.TheVariants as line_faults
 use Rattle.modprobe.specs.declared.fault.RunFault.{RunFault}
 use Rattle.modprobe.specs.declared.fault.RunFault.TheVariants.{Read, Write, Memory, Turns, LongLine}
 use Rattle.modprobe.specs.Lines.{AtHand, IfTold, GivesLine, IsPartOfLine, BeginsWithLongLine}
-use Rattle.modprobe.specs.Session.{Setup, line_answer, answer}
+use Rattle.modprobe.specs.Setup.{Setup}
+use Rattle.modprobe.specs.Session.{line_answer, answer}
 
 -- the lines of the old text are these and those of the new text
 abbrev pub GivesLines : Option (List ℕ) → Option (List ℕ) → List (List ℕ) → Type 0

@@ -9,7 +9,8 @@ use Rattle.modprobe.specs.declared.fault.ServeFault.{ServeFault}
 use Rattle.modprobe.specs.declared.fault.ServeFault.TheVariants as serve_fault
 use Rattle.modprobe.specs.declared.fault.RunFault.{RunFault}
 use Rattle.modprobe.specs.Lines.{IfTold}
-use Rattle.modprobe.specs.Session.{Setup, answer}
+use Rattle.modprobe.specs.Setup.{Setup}
+use Rattle.modprobe.specs.Session.{answer}
 use Rattle.modprobe.specs.SetupInput.{setup_of, Refuses, SetupStops}
 use Rattle.modprobe.specs.Run.{AllShort, StandsAfter, is_read, is_write, is_turns}
 use Rattle.modprobe.specs.ForProofs.{is_read_code, is_turns_code}

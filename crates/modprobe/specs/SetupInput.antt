@@ -3,25 +3,39 @@ use Rattle.std.specs.Prelude.{◌≡◌, ℕ, List, map, Option, Some, None, ⊤
 use Rattle.std.specs.Str.Lines.{lines}
 use Rattle.dep_index.specs.Text.{Line, cut_lines}
 use Rattle.dep_index.specs.Catalogue.{Description, Refusal, bad, duplicate, twice_exported, too_many, catalogue_of}
+use Rattle.dep_index.specs.Dependencies.{Pair, DepRefusal, no_colon, empty_name, second_line, dependencies_of}
+use Rattle.alias_match.specs.Aliases.{aliases_of}
+use Rattle.modprobe_conf.specs.Configuration.{configuration_of}
 use Rattle.modprobe.specs.declared.fault.SetupCode.{SetupCode}
-use Rattle.modprobe.specs.declared.fault.SetupCode.TheVariants.{C1, C2, C3, C4, B1, Read, Memory, Turns, LongLine}
+use Rattle.modprobe.specs.declared.fault.SetupCode.TheVariants.{C1, C2, C3, C4, M1, M2, M3, B1, Read, Memory, Turns, LongLine}
 use Rattle.modprobe.specs.declared.fault.SetupFault.{SetupFault}
 use Rattle.modprobe.specs.Lines.{IsPartOfLine}
-use Rattle.modprobe.specs.Session.{Setup}
+use Rattle.modprobe.specs.Setup.{Setup}
 use Rattle.modprobe.specs.declared.section.Section.{Section}
 use Rattle.modprobe.specs.Sections.{Parts, no_parts, Stopped, early, too_long, sections, GoesOn}
 
--- why an input has no setup: its sections stop, or the catalogue has a fault at a line of its text
+-- why an input has no setup: its sections stop, or the catalogue, and then the text of modules.dep, has a fault at a line
+-- of its text
 pub data SetupRefusal : Type 0 where
   stopped : Stopped → SetupRefusal
   in_catalogue : Refusal → ℕ → SetupRefusal
+  in_dependencies : DepRefusal → ℕ → SetupRefusal
+
+abbrev pub with_dependencies : Parts → List Description → Result (List Pair) (DepRefusal × ℕ) → Result Setup SetupRefusal
+with_dependencies p modules (Err e) = Err (in_dependencies e.0 e.1)
+with_dependencies p modules (Ok pairs) =
+    Ok (record {
+      catalogue = modules;
+      dependencies = pairs;
+      aliases = aliases_of p.alias_text;
+      configuration = configuration_of p.conf_text;
+    })
 
 abbrev pub with_catalogue : Parts → Result (List Description) (Refusal × ℕ) → Result Setup SetupRefusal
 with_catalogue p (Err e) = Err (in_catalogue e.0 e.1)
-with_catalogue p (Ok modules) =
-    Ok (record { catalogue = modules; dep_text = p.dep_text; alias_text = p.alias_text; conf_text = p.conf_text })
+with_catalogue p (Ok modules) = with_dependencies p modules (dependencies_of p.dep_text)
 
--- the setup that the texts say
+-- the setup that the texts say; only those of the catalogue and of modules.dep may have a fault
 abbrev pub setup_for : Parts → Result Setup SetupRefusal
 setup_for p = with_catalogue p (catalogue_of p.catalogue_text)
 
@@ -49,6 +63,9 @@ IsRefusal C1 line s = (n : ℕ) × (line ≡ Some n) × (s ≡ Err (in_catalogue
 IsRefusal C2 line s = (n : ℕ) × (line ≡ Some n) × (s ≡ Err (in_catalogue duplicate n))
 IsRefusal C3 line s = (n : ℕ) × (line ≡ Some n) × (s ≡ Err (in_catalogue twice_exported n))
 IsRefusal C4 line s = (n : ℕ) × (line ≡ Some n) × (s ≡ Err (in_catalogue too_many n))
+IsRefusal M1 line s = (n : ℕ) × (line ≡ Some n) × (s ≡ Err (in_dependencies no_colon n))
+IsRefusal M2 line s = (n : ℕ) × (line ≡ Some n) × (s ≡ Err (in_dependencies empty_name n))
+IsRefusal M3 line s = (n : ℕ) × (line ≡ Some n) × (s ≡ Err (in_dependencies second_line n))
 IsRefusal B1 line s = (line ≡ Some 1) × (s ≡ Err (stopped early))
 IsRefusal LongLine line s = (line ≡ None) × (s ≡ Err (stopped too_long))
 IsRefusal Read line s = line ≡ None

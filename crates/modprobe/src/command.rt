@@ -1,20 +1,21 @@
 //! What a session line asks for.
-ghost use Rattle.std.specs.Prelude.{◌≡◌, IfOk};
-ghost use Rattle.dep_index.specs.Text.{normal_form, texts_of};
-ghost use Rattle.modprobe.specs.Commands.{action_of, worker_action_of, with_worker, is_option, with_name, by_first, by_words, command_of};
-ghost use Rattle.modprobe.specs.ForProofs.{command_from};
+ghost use Rattle.std.specs.Prelude.{◌≡◌, IfOk, option_map};
+ghost use Rattle.dep_index.specs.Text.{texts_of};
+ghost use Rattle.modprobe.specs.Commands.{listing_of, plain_request_of, request_of, worker_request_of, takes_worker, is_option, with_name, with_worker, by_second, by_words};
+ghost use Rattle.modprobe.specs.ForProofs.{request_from, command_from};
 
 use dep_index::Name;
-use dep_index::text::{is_comment, number_within, words};
+use dep_index::text::number_within;
 use std::alloc::{AllocError, Global};
 
 /// The largest number of 10 digits.
 const LARGEST_WORKER: u64 = 9_999_999_999;
 
-/// What is done to a module of the catalogue.
+/// What is done to one module of the catalogue.
 #[derive(Clone, Copy, Drop)]
-pub(crate) enum Action {
-    Insmod,
+pub(crate) enum Action<'a> {
+    /// The module is loaded with these words.
+    Insmod(&'a [&'a [u8]]),
     Rmmod,
     Drain,
     Query,
@@ -24,6 +25,14 @@ pub(crate) enum Action {
     Put(u64),
 }
 
+/// What is asked for by a name.
+#[derive(Clone, Copy, Drop)]
+pub(crate) enum Request<'a> {
+    Act(Action<'a>),
+    Modinfo,
+    Plan,
+}
+
 /// What a session line asks for.
 #[derive(Drop)]
 pub(crate) enum Command<'a> {
@@ -31,45 +40,69 @@ pub(crate) enum Command<'a> {
     Nothing,
     /// The line is no command; this is its first word.
     Malformed(&'a [u8]),
-    /// An action on the module of this name.
-    OnModule(Name, Action),
+    ByName(Name, Request<'a>),
+    Lsmod,
+    Proc,
 }
 
-fn action_of(first: &[u8]) -> Option<Action>
-    ensures { result ≡ action_of first.now }
+fn listing_of<'a>(first: &'a [u8]) -> Command<'a>
+    ensures { command_from result ≡ listing_of first.now }
+{
+    if first == b"lsmod".as_slice() {
+        Command::Lsmod
+    } else if first == b"proc".as_slice() {
+        Command::Proc
+    } else {
+        Command::Malformed(first)
+    }
+}
+
+fn plain_request_of<'a>(first: &[u8]) -> Option<Request<'a>>
+    ensures { option_map request_from result ≡ plain_request_of first.now }
+{
+    if first == b"rmmod".as_slice() {
+        Some(Request::Act(Action::Rmmod))
+    } else if first == b"drain".as_slice() {
+        Some(Request::Act(Action::Drain))
+    } else if first == b"query".as_slice() {
+        Some(Request::Act(Action::Query))
+    } else if first == b"modinfo".as_slice() {
+        Some(Request::Modinfo)
+    } else if first == b"plan".as_slice() {
+        Some(Request::Plan)
+    } else {
+        None
+    }
+}
+
+fn request_of<'a>(first: &[u8], words: &'a [&'a [u8]]) -> Option<Request<'a>>
+    ensures { option_map request_from result ≡ request_of first.now (texts_of words.entry.now) }
 {
     if first == b"insmod".as_slice() {
-        Some(Action::Insmod)
-    } else if first == b"rmmod".as_slice() {
-        Some(Action::Rmmod)
-    } else if first == b"drain".as_slice() {
-        Some(Action::Drain)
-    } else if first == b"query".as_slice() {
-        Some(Action::Query)
-    } else {
-        None
+        return Some(Request::Act(Action::Insmod(words)));
+    }
+    match words {
+        [] => plain_request_of(first),
+        _ => None,
     }
 }
 
-fn worker_action_of(first: &[u8], worker: u64) -> Option<Action>
-    ensures { result ≡ worker_action_of first.now worker }
+fn worker_request_of<'a>(first: &[u8], worker: u64) -> Option<Request<'a>>
+    ensures { option_map request_from result ≡ worker_request_of first.now worker }
 {
     if first == b"get".as_slice() {
-        Some(Action::Get(worker))
+        Some(Request::Act(Action::Get(worker)))
     } else if first == b"put".as_slice() {
-        Some(Action::Put(worker))
+        Some(Request::Act(Action::Put(worker)))
     } else {
         None
     }
 }
 
-fn with_worker(first: &[u8], worker: Option<u64>) -> Option<Action>
-    ensures { result ≡ with_worker first.now worker }
+fn takes_worker(first: &[u8]) -> bool
+    ensures { result ≡ takes_worker first.now }
 {
-    match worker {
-        Some(worker) => worker_action_of(first, worker),
-        None => None,
-    }
+    first == b"get".as_slice() || first == b"put".as_slice()
 }
 
 fn is_option(word: &[u8]) -> bool
@@ -82,46 +115,56 @@ fn with_name<'a>(
     alloc: Global,
     first: &'a [u8],
     name: &[u8],
-    action: Option<Action>,
+    request: Option<Request<'a>>,
 ) -> Result<Command<'a>, AllocError>
-    ensures { IfOk result (λ command. command_from command ≡ with_name first.now name.now action) }
+    ensures { IfOk result (λ command. command_from command ≡ with_name first.entry.now name.now (option_map request_from request.entry)) }
 {
-    let Some(action) = action else {
+    let Some(request) = request else {
         return Ok(Command::Malformed(first));
     };
     if is_option(name) {
         return Ok(Command::Malformed(first));
     }
-    Ok(Command::OnModule(Name::new(alloc, name)?, action))
+    Ok(Command::ByName(Name::new(alloc, name)?, request))
 }
 
-fn by_first<'a>(
+fn with_worker<'a>(
     alloc: Global,
     first: &'a [u8],
-    rest: &[&'a [u8]],
+    worker: Option<u64>,
+    rest: &[&[u8]],
 ) -> Result<Command<'a>, AllocError>
-    ensures { IfOk result (λ command. command_from command ≡ by_first first.now (texts_of rest.now)) }
+    ensures { IfOk result (λ command. command_from command ≡ with_worker first.entry.now worker (texts_of rest.now)) }
 {
-    match rest {
-        [name] => with_name(alloc, first, *name, action_of(first)),
-        [worker, name] => {
-            let worker = number_within(LARGEST_WORKER, *worker);
-            with_name(alloc, first, *name, with_worker(first, worker))
-        }
+    match (worker, rest) {
+        (Some(worker), [name]) => with_name(alloc, first, *name, worker_request_of(first, worker)),
         _ => Ok(Command::Malformed(first)),
     }
 }
 
-/// What a line asks for.
-pub(crate) fn parse<'a>(alloc: Global, line: &'a [u8]) -> Result<Command<'a>, AllocError>
-    ensures { IfOk result (λ command. command_from command ≡ command_of line.now) }
+fn by_second<'a>(
+    alloc: Global,
+    first: &'a [u8],
+    second: &'a [u8],
+    rest: &'a [&'a [u8]],
+) -> Result<Command<'a>, AllocError>
+    ensures { IfOk result (λ command. command_from command ≡ by_second first.entry.now second.entry.now (texts_of rest.entry.now)) }
 {
-    if is_comment(line) {
-        return Ok(Command::Nothing);
+    if takes_worker(first) {
+        return with_worker(alloc, first, number_within(LARGEST_WORKER, second), rest);
     }
-    let words = words(alloc, line)?;
-    match words.split_first() {
-        Some((first, rest)) => by_first(alloc, *first, rest),
-        None => Ok(Command::Nothing),
+    with_name(alloc, first, second, request_of(first, rest))
+}
+
+/// What the words of a line ask for.
+pub(crate) fn parse<'a>(alloc: Global, words: &'a [&'a [u8]]) -> Result<Command<'a>, AllocError>
+    ensures { IfOk result (λ command. command_from command ≡ by_words (texts_of words.entry.now)) }
+{
+    let Some((first, rest)) = words.split_first() else {
+        return Ok(Command::Nothing);
+    };
+    match rest.split_first() {
+        Some((second, behind)) => by_second(alloc, *first, *second, behind),
+        None => Ok(listing_of(*first)),
     }
 }

@@ -4,11 +4,11 @@ ghost use Rattle.modprobe.specs.declared.fault.SetupCode.TheVariants as setup_co
 ghost use Rattle.modprobe.specs.declared.fault.RunFault.TheVariants as run_faults;
 ghost use Rattle.modprobe.specs.declared.fault.ServeFault.TheVariants as serve_faults;
 ghost use Rattle.modprobe.specs.Run.{run_fault_of};
-ghost use Rattle.modprobe.specs.ForProofs.{setup_code_of, catalogue_fault};
+ghost use Rattle.modprobe.specs.ForProofs.{setup_code_of, catalogue_fault, dep_fault};
 
 use crate::device::Failed;
 use crate::lines::LineFault;
-use dep_index::CatError;
+use dep_index::{CatError, DepError};
 use std::alloc::AllocError;
 use std::fmt;
 use thiserror::Error;
@@ -24,6 +24,12 @@ pub enum SetupCode {
     C3,
     /// The catalogue has too many modules.
     C4,
+    /// A line of modules.dep has no colon.
+    M1,
+    /// A line of modules.dep has an empty name.
+    M2,
+    /// A name has two lines in modules.dep.
+    M3,
     /// A line stands before the first section line.
     B1,
     Read,
@@ -32,7 +38,8 @@ pub enum SetupCode {
     LongLine,
 }
 
-/// Why an input has no setup, and the line where the code has one: of the catalogue text for C1 to C4, 1 for B1.
+/// Why an input has no setup, and the line where the code has one: of the catalogue text for C1 to C4, of
+/// the text of modules.dep for M1 to M3, 1 for B1.
 #[derive(Clone, Copy, Debug, PartialEq, Eq, Drop)]
 pub struct SetupFault {
     pub code: SetupCode,
@@ -77,6 +84,9 @@ impl SetupCode {
             SetupCode::C2 => "C2",
             SetupCode::C3 => "C3",
             SetupCode::C4 => "C4",
+            SetupCode::M1 => "M1",
+            SetupCode::M2 => "M2",
+            SetupCode::M3 => "M3",
             SetupCode::B1 => "B1",
             SetupCode::Read => "read fault",
             SetupCode::Memory => "out of memory",
@@ -117,6 +127,23 @@ impl From<CatError> for SetupFault {
             CatError::TwiceExported { line } => (SetupCode::C3, line),
             CatError::TooMany { line } => (SetupCode::C4, line),
             CatError::Memory => return SetupFault::from(AllocError),
+        };
+        SetupFault {
+            code,
+            line: Some(line as u64),
+        }
+    }
+}
+
+impl From<DepError> for SetupFault {
+    ghost from_gives = { λ refusal fault. fault ≡ dep_fault refusal };
+
+    fn from(fault: DepError) -> SetupFault {
+        let (code, line) = match fault {
+            DepError::NoColon { line } => (SetupCode::M1, line),
+            DepError::EmptyName { line } => (SetupCode::M2, line),
+            DepError::SecondLine { line } => (SetupCode::M3, line),
+            DepError::Memory => return SetupFault::from(AllocError),
         };
         SetupFault {
             code,

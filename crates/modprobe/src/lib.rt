@@ -2,6 +2,7 @@
 #![tactic(auto)]
 
 mod answer;
+mod change;
 mod command;
 mod device;
 mod fault;
@@ -12,6 +13,8 @@ mod section;
 mod service;
 mod session;
 mod setup;
+mod targets;
+mod text;
 
 pub use device::{Failed, FromRead, FromWrite, Sink, Source};
 pub use fault::{RunFault, ServeFault, SetupCode, SetupFault};
@@ -20,5 +23,7 @@ pub use service::{TURNS, serve};
 pub use session::run;
 pub use setup::{Setup, read_setup};
 
+#[cfg(test)]
+mod command_tests;
 #[cfg(test)]
 mod tests;

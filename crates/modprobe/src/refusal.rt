@@ -1,12 +1,13 @@
 //! Why a command is refused.
 ghost use Rattle.std.specs.Prelude.{◌≡◌, ◌≤◌, length};
-ghost use Rattle.modprobe.specs.Session.{code_text};
+ghost use Rattle.modprobe.specs.Refusals.{code_text};
 
 /// The code of a refusal, as init_module(2) and delete_module(2) name errors where they have one.
 #[derive(Clone, Copy, Drop)]
 pub(crate) enum Code {
     Enoent,
     Eexist,
+    Einval,
     UnknownSymbol,
     NeedNotLive,
     Ewouldblock,
@@ -14,11 +15,14 @@ pub(crate) enum Code {
     NotLive,
     TooMany,
     NotHeld,
+    Cycle,
+    Install,
+    Remove,
     Worker,
     Syntax,
 }
 
-#[tactic(auto, unfolding(crate::specs::Session::code_text))]
+#[tactic(auto, unfolding(crate::specs::Refusals::code_text))]
 impl Code {
     /// The code as an error line has it.
     pub(crate) fn text(self) -> &'static [u8]
@@ -28,6 +32,7 @@ impl Code {
         match self {
             Code::Enoent => b"ENOENT",
             Code::Eexist => b"EEXIST",
+            Code::Einval => b"EINVAL",
             Code::UnknownSymbol => b"UNKNOWNSYMBOL",
             Code::NeedNotLive => b"NEEDNOTLIVE",
             Code::Ewouldblock => b"EWOULDBLOCK",
@@ -35,8 +40,18 @@ impl Code {
             Code::NotLive => b"NOTLIVE",
             Code::TooMany => b"TOOMANY",
             Code::NotHeld => b"NOTHELD",
+            Code::Cycle => b"CYCLE",
+            Code::Install => b"INSTALL",
+            Code::Remove => b"REMOVE",
             Code::Worker => b"WORKER",
             Code::Syntax => b"SYNTAX",
         }
     }
+}
+
+/// Why a command is refused: a code, and the name that its line tells.
+#[derive(Clone, Copy, Drop)]
+pub(crate) struct Refusal<'a> {
+    pub(crate) code: Code,
+    pub(crate) name: &'a [u8],
 }

@@ -1,62 +1,104 @@
 //! The reply to a line.
-ghost use Rattle.std.specs.Prelude.{◌≡◌, ◌≤◌, ◌+◌, ◌++◌, [], length, vec_len, vec_capacity, IfOk, OnOk, OnErr};
-ghost use Rattle.dep_index.specs.Catalogue.{modules_of};
-ghost use Rattle.modprobe.specs.Session.{line_answer};
-ghost use Rattle.modprobe.specs.ForProofs.{text_of, name_len};
+ghost use Rattle.std.specs.Prelude.{◌≡◌, IfOk, OnOk, OnErr};
+ghost use Rattle.dep_index.specs.Text.{texts_of};
+ghost use Rattle.dep_index.specs.Catalogue.{slot_named, modules_of};
+ghost use Rattle.modprobe.specs.Plans.{whole_plan, plan_text};
+ghost use Rattle.modprobe.specs.Session.{details, answered, performed, line_answer};
+ghost use Rattle.modprobe.specs.Commands.{by_words};
+ghost use Rattle.modprobe.specs.ForProofs.{request_from};
 
-use crate::answer::{Answer, perform};
-use crate::command::{Command, parse};
+use crate::answer::perform;
+use crate::command::{Action, Command, Request, parse};
 use crate::refusal::Code;
 use crate::setup::Setup;
+use crate::targets::whole_plan;
+use crate::text::{items_text, plan_refusal, refusal_text, render, room};
+use dep_index::Name;
+use dep_index::text::{is_comment, words};
+use proc_modules::{lsmod_text, modinfo_text, proc_text};
 use seq_table::Modules;
 use std::alloc::{AllocError, Global};
 
-/// The longest name of a catalogue.
-const LONGEST_NAME: usize = 55;
-
-/// Room for what else an error line has.
-const ERROR_ROOM: usize = 32;
-
-/// Room for a reply that names this, or a module of the catalogue.
-fn room(alloc: Global, name: &[u8]) -> Result<Vec<u8>, AllocError>
-    ensures empty { IfOk result (λ text. text.items ≡ []) }
-    ensures named { IfOk result (λ text. length name.now + 32 ≤ vec_capacity text) }
-    ensures short { IfOk result (λ text. 55 + 32 ≤ vec_capacity text) }
+/// What modinfo(8) tells of a module.
+fn details(alloc: Global, setup: &Setup, name: &Name) -> Result<Vec<u8>, AllocError>
+    ensures { IfOk result (λ text. text.items ≡ details setup.now name.now (slot_named setup.now.catalogue name.now)) }
 {
-    Vec::with_capacity(alloc, name.len().max(LONGEST_NAME) + ERROR_ROOM)
-}
-
-/// Adds bytes, for which there is room.
-fn put_bytes(text: &mut Vec<u8>, bytes: &[u8])
-    requires { vec_len text.old + length bytes.now ≤ vec_capacity text.old }
-    ensures items { text.new.items ≡ text.old.items ++ bytes.now }
-    ensures len { vec_len text.new ≡ vec_len text.old + length bytes.now }
-    ensures capacity { vec_capacity text.old ≤ vec_capacity text.new }
-{
-    match text.extend_from_slice(bytes) {
-        Ok(()) => {}
-        Err(_) => unreachable!(),
+    match setup.catalogue().slot(name.as_bytes()) {
+        Some(m) => modinfo_text(alloc, setup.catalogue(), m),
+        None => refusal_text(alloc, Code::Enoent, name.as_bytes()),
     }
 }
 
-/// Writes an answer to the room that was made for it.
-#[tactic(auto, unfolding(crate::specs::Session::error_line), using(std::proofs::lemmas::List::append_assoc))]
-fn render(text: &mut Vec<u8>, answer: Answer)
-    requires empty { text.old.items ≡ [] }
-    requires room { name_len answer + 32 ≤ vec_capacity text.old }
-    ensures { text.new.items ≡ text_of answer.entry }
+/// What modprobe(8) would load for a name.
+fn plan_text(alloc: Global, setup: &Setup, name: Name) -> Result<Vec<u8>, AllocError>
+    ensures { IfOk result (λ text. text.items ≡ plan_text setup.now (whole_plan setup.now name)) }
 {
-    match answer {
-        Answer::Done => put_bytes(text, b"ok\n"),
-        Answer::Yes => put_bytes(text, b"yes\n"),
-        Answer::No => put_bytes(text, b"no\n"),
-        Answer::Refused(code, name) => {
-            put_bytes(text, b"error ");
-            put_bytes(text, code.text());
-            put_bytes(text, b" ");
-            put_bytes(text, name);
-            put_bytes(text, b"\n");
-        }
+    match whole_plan(alloc, setup, name) {
+        Ok(items) => items_text(alloc, setup, &items),
+        Err(error) => plan_refusal(alloc, error),
+    }
+}
+
+/// Makes an action on the module of a name, with its reply. All memory is taken before the table is changed.
+fn act<M: Modules>(
+    alloc: Global,
+    setup: &Setup,
+    name: &Name,
+    action: Action<'_>,
+    table: &mut M,
+) -> Result<Vec<u8>, AllocError>
+    requires over { M.catalogue table.old ≡ modules_of setup.now.catalogue }
+    ensures reply { IfOk result (λ text. text.items ≡ (answered setup.now name.now (request_from (Request.Act action.entry)) (M.table table.old)).0) }
+    ensures after { OnOk result (M.table table.new ≡ (answered setup.now name.now (request_from (Request.Act action.entry)) (M.table table.old)).1) }
+    ensures unchanged { OnErr result (M.table table.new ≡ M.table table.old) }
+    ensures over { M.catalogue table.new ≡ M.catalogue table.old }
+{
+    let mut text = room(alloc, name.as_bytes())?;
+    let answer = perform(setup, table, name, action);
+    render(&mut text, answer);
+    Ok(text)
+}
+
+/// Makes what is asked for by a name, with its reply.
+fn reply_by_name<M: Modules>(
+    alloc: Global,
+    setup: &Setup,
+    name: Name,
+    request: Request<'_>,
+    table: &mut M,
+) -> Result<Vec<u8>, AllocError>
+    requires over { M.catalogue table.old ≡ modules_of setup.now.catalogue }
+    ensures reply { IfOk result (λ text. text.items ≡ (answered setup.now name (request_from request.entry) (M.table table.old)).0) }
+    ensures after { OnOk result (M.table table.new ≡ (answered setup.now name (request_from request.entry) (M.table table.old)).1) }
+    ensures unchanged { OnErr result (M.table table.new ≡ M.table table.old) }
+    ensures over { M.catalogue table.new ≡ M.catalogue table.old }
+{
+    match request {
+        Request::Act(action) => act(alloc, setup, &name, action, table),
+        Request::Modinfo => details(alloc, setup, &name),
+        Request::Plan => plan_text(alloc, setup, name),
+    }
+}
+
+/// Makes what the words of a line ask for, with its reply.
+fn reply_words<M: Modules>(
+    alloc: Global,
+    setup: &Setup,
+    words: &[&[u8]],
+    table: &mut M,
+) -> Result<Vec<u8>, AllocError>
+    requires over { M.catalogue table.old ≡ modules_of setup.now.catalogue }
+    ensures reply { IfOk result (λ text. text.items ≡ (performed setup.now (by_words (texts_of words.now)) (M.table table.old)).0) }
+    ensures after { OnOk result (M.table table.new ≡ (performed setup.now (by_words (texts_of words.now)) (M.table table.old)).1) }
+    ensures unchanged { OnErr result (M.table table.new ≡ M.table table.old) }
+    ensures over { M.catalogue table.new ≡ M.catalogue table.old }
+{
+    match parse(alloc, words)? {
+        Command::Nothing => Ok(Vec::new(alloc)),
+        Command::Malformed(first) => refusal_text(alloc, Code::Syntax, first),
+        Command::ByName(name, request) => reply_by_name(alloc, setup, name, request, table),
+        Command::Lsmod => lsmod_text(alloc, setup.catalogue(), table),
+        Command::Proc => proc_text(alloc, setup.catalogue(), table),
     }
 }
 
@@ -74,18 +116,9 @@ pub(crate) fn reply_line<M: Modules>(
     ensures unchanged { OnErr result (M.table table.new ≡ M.table table.old) }
     ensures over { M.catalogue table.new ≡ M.catalogue table.old }
 {
-    match parse(alloc, line)? {
-        Command::Nothing => Ok(Vec::new(alloc)),
-        Command::Malformed(first) => {
-            let mut text = room(alloc, first)?;
-            render(&mut text, Answer::Refused(Code::Syntax, first));
-            Ok(text)
-        }
-        Command::OnModule(name, action) => {
-            let mut text = room(alloc, name.as_bytes())?;
-            let answer = perform(setup, table, &name, action);
-            render(&mut text, answer);
-            Ok(text)
-        }
+    if is_comment(line) {
+        return Ok(Vec::new(alloc));
     }
+    let words = words(alloc, line)?;
+    reply_words(alloc, setup, &words, table)
 }

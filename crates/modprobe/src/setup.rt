@@ -1,34 +1,37 @@
 //! What a session knows besides its table.
 ghost use Rattle.std.specs.Prelude.{◌≡◌, ◌≤◌, false, length, IfOk, IfErr, OnOk};
 ghost use Rattle.modprobe.specs.Lines.{bytes_left, IfTold, IsPaid, StopsForTurns};
-ghost use Rattle.modprobe.specs.Session.{name_at};
+ghost use Rattle.modprobe.specs.Setup.{name_at};
 ghost use Rattle.modprobe.specs.SetupInput.{setup_of, GivesSetup, Refuses, SetupStops};
 ghost use Rattle.modprobe.specs.ForProofs.{HasLine, is_setup_read};
 
 use crate::device::Source;
 use crate::fault::{SetupCode, SetupFault};
 use crate::lines::Lines;
-use crate::section::{Texts, read_texts};
-use dep_index::{Catalogue, read_catalogue};
-use std::alloc::{AllocError, Global};
+use crate::refusal::{Code, Refusal};
+use crate::section::read_texts;
+use alias_match::{Aliases, read_aliases};
+use dep_index::{Catalogue, DepIndex, read_catalogue, read_dep};
+use modprobe_conf::{Conf, read_conf};
+use std::alloc::Global;
 use std::marker::Model;
 
-/// The setup of a session. The texts of the other sections are kept as they were read.
+/// The setup of a session: its catalogue, and what its texts of modules.dep(5), modules.alias and modprobe.d(5) say.
 #[derive(Drop)]
 pub struct Setup {
     catalogue: Catalogue,
-    dep_text: Vec<u8>,
-    alias_text: Vec<u8>,
-    conf_text: Vec<u8>,
+    dependencies: DepIndex,
+    aliases: Aliases,
+    configuration: Conf,
 }
 
 impl Model for Setup {
-    ghost use Rattle.modprobe.specs.Session as session;
+    ghost use Rattle.modprobe.specs.Setup as setup;
     ghost use Rattle.modprobe.specs.ForProofs.{HasShortNames};
 
-    ghost Value = { session.Setup };
+    ghost Value = { setup.Setup };
 
-    ghost view = { λ s. record { catalogue = s.catalogue; dep_text = s.dep_text.items; alias_text = s.alias_text.items; conf_text = s.conf_text.items } };
+    ghost view = { λ s. record { catalogue = s.catalogue; dependencies = s.dependencies; aliases = s.aliases; configuration = s.configuration } };
 
     ghost invariant = { λ s. HasShortNames s.catalogue };
 }
@@ -39,6 +42,27 @@ impl Setup {
         ensures { result.now ≡ self.now.catalogue }
     {
         &self.catalogue
+    }
+
+    /// What modules.dep says.
+    pub(crate) fn dependencies(&self) -> &DepIndex
+        ensures { result.now ≡ self.now.dependencies }
+    {
+        &self.dependencies
+    }
+
+    /// What modules.alias says.
+    pub(crate) fn aliases(&self) -> &Aliases
+        ensures { result.now ≡ self.now.aliases }
+    {
+        &self.aliases
+    }
+
+    /// What modprobe.d says.
+    pub(crate) fn configuration(&self) -> &Conf
+        ensures { result.now ≡ self.now.configuration }
+    {
+        &self.configuration
     }
 
     /// The name of the module in a slot; of a slot past the end it is empty.
@@ -52,11 +76,24 @@ impl Setup {
             b""
         }
     }
+
+    /// The refusal that names the module in a slot.
+    pub(crate) fn refusal(&self, code: Code, m: usize) -> Refusal<'_>
+        ensures code { result.code ≡ code }
+        ensures name { result.name.now ≡ name_at self.now m }
+        ensures short { length result.name.now ≤ 55 }
+    {
+        Refusal {
+            code,
+            name: self.name(m),
+        }
+    }
 }
 
 /// Reads the sections of an input, up to the first `%session` line or the end, and what they say: `lines` then gives the
 /// lines of the session. B1: a line stands before the first section line, which is told as it is read. C1 to C4: the
-/// first fault of the catalogue, at its line of the joined text. LongLine: a line of more than 65,535 bytes. Read: the
+/// first fault of the catalogue, at its line of the joined text. M1 to M3: the catalogue has none, and this is the first of
+/// modules.dep. LongLine: a line of more than 65,535 bytes. Read: the
 /// source failed. Turns: it was read as often as `lines` may. Memory: there is none.
 pub fn read_setup<R: Source>(alloc: Global, lines: &mut Lines<'_, R>) -> Result<Setup, SetupFault>
     requires { R.has_failed lines.old.reader.now ≡ false }
@@ -73,17 +110,10 @@ pub fn read_setup<R: Source>(alloc: Global, lines: &mut Lines<'_, R>) -> Result<
     ensures same_reader { lines.new.reader.ghost_name ≡ lines.old.reader.ghost_name }
 {
     let texts = read_texts(alloc, lines)?;
-    let catalogue = read_catalogue(alloc, &texts.catalogue)?;
-    let Texts {
-        catalogue: _,
-        dep,
-        alias,
-        conf,
-    } = texts;
     Ok(Setup {
-        catalogue,
-        dep_text: dep,
-        alias_text: alias,
-        conf_text: conf,
+        catalogue: read_catalogue(alloc, &texts.catalogue)?,
+        dependencies: read_dep(alloc, &texts.dep)?,
+        aliases: read_aliases(alloc, &texts.alias)?,
+        configuration: read_conf(alloc, &texts.conf)?,
     })
 }

@@ -164,7 +164,7 @@ fn sessions_and_their_answers(rt: HostRuntime) -> Result<(), Fail> {
             b"ok\nerror EBUSY p\nerror EBUSY p\nerror EEXIST p\n",
         ),
         (
-            b"%dep\nkept unread\n%catalogue\nmodule a\r\n%conf\n%catalogue\nsize 7\n%session\n\n # x\n#x\n \t\ninsmod -a\r\ninsmod\r",
+            b"%dep\nkernel/b.ko:\n%alias\nnone\n%catalogue\nmodule a\r\n%conf\n%catalogue\nsize 7\n%session\n\n # x\n#x\n \t\ninsmod -a\r\ninsmod\r",
             b"error SYNTAX #\nerror SYNTAX insmod\nerror SYNTAX insmod\r\n",
         ),
         (
@@ -184,7 +184,7 @@ fn sessions_and_their_answers(rt: HostRuntime) -> Result<(), Fail> {
 
 #[test]
 fn refused_setups(rt: HostRuntime) {
-    let cases: [(&[u8], SetupCode, Option<u64>); 5] = [
+    let cases: [(&[u8], SetupCode, Option<u64>); 9] = [
         (b"module q\n", SetupCode::B1, Some(1)),
         (b"\n%session\n", SetupCode::B1, Some(1)),
         (b"%catalogue\nfrob\n", SetupCode::C1, Some(1)),
@@ -197,6 +197,22 @@ fn refused_setups(rt: HostRuntime) {
             b"%catalogue\nmodule q\nexports s\n%dep\n%catalogue\nmodule r\nexports s\n",
             SetupCode::C3,
             Some(4),
+        ),
+        (b"%dep\nkernel/a.ko kernel/b.ko\n", SetupCode::M1, Some(1)),
+        (
+            b"%dep\n#\n\nkernel/a.ko: kernel/.ko\n%conf\n%dep\nb\n",
+            SetupCode::M2,
+            Some(3),
+        ),
+        (
+            b"%dep\na.ko:\n%catalogue\nmodule a\n%dep\nx/a.ko.xz:\n",
+            SetupCode::M3,
+            Some(2),
+        ),
+        (
+            b"%dep\nkernel/a.ko kernel/b.ko\n%catalogue\n\nfrob\n",
+            SetupCode::C1,
+            Some(2),
         ),
     ];
     for (input, code, line) in cases {

@@ -22,10 +22,10 @@ enum Status {
 fn status_of(fault: &ServeFault) -> Status {
     match fault {
         ServeFault::Setup(setup) => match setup.code {
-            SetupCode::C1 | SetupCode::C2 | SetupCode::C3 | SetupCode::C4 | SetupCode::B1 => {
-                Status::Refused
+            SetupCode::Read | SetupCode::Memory | SetupCode::Turns | SetupCode::LongLine => {
+                Status::Fault
             }
-            _ => Status::Fault,
+            _ => Status::Refused,
         },
         _ => Status::Fault,
     }

@@ -4,7 +4,7 @@ use Rattle.dep_index.specs.Catalogue.{modules_of}
 use Rattle.dep_index.specs.Calls.{opening}
 use Rattle.modprobe.specs.Lines.{bytes_left}
 use Rattle.modprobe.specs.Serve.{opening_of}
-use Rattle.modprobe.proofs.ServeLemmas.{stops_in_session}
+use Rattle.modprobe.proofs.ServeLemmas.{answers_input, stops_in_session}
 use Rattle.modprobe.specs.Run.{is_turns}
 use Rattle.modprobe.proofs.TurnLemmas.{turns_in_all, turns_fault}
 use Rattle.modprobe.proofs.service.serve_lines.Goals as goal
@@ -27,3 +27,11 @@ returns-in_err-run-clause-turns g c =
     λ ran_out.
     let is : is_turns fault ≡ true = rw (p.1, p.2) at ran_out in
     turns_in_all g.R.Source.remaining c.args.lines.now c.read_setup.new.lines c.run.new.lines c.in_ok-setup.ensures.paid (c.in_err-run.ensures.turns (ap Err (turns_fault fault is)))
+
+pub returns-clause-answered : goal.returns-clause-answered
+returns-clause-answered g c =
+    let left = bytes_left g.R.Source.remaining in
+    let s = c.in_ok-setup.setup in
+    let opens : c.in_ok-table.table.table ≡ opening_of s c.args.workers = c.in_ok-table.ensures.opens ∙ ap (λ ds. opening (modules_of ds) c.args.workers) c.catalogue.ensures in
+    answers_input c.args.workers (left c.args.lines.now) (left c.read_setup.new.lines) s c.in_ok-table.table.table (g.W.Sink.contents c.args.writer.now) (g.W.Sink.contents c.run.new.writer)
+    c.in_ok-setup.ensures.setup opens c.in_ok-run.ensures.answered c.in_ok-run.ensures.short

@@ -1,0 +1,127 @@
+//! Lines of replies, and the room for them.
+ghost use Rattle.std.specs.Prelude.{◌≡◌, ◌≤◌, ◌+◌, ◌++◌, [], length, flat_map, vec_len, vec_capacity, IfOk, OnOk};
+ghost use Rattle.dep_index.specs.Text.{texts_of};
+ghost use Rattle.modprobe.specs.Refusals.{error_line};
+ghost use Rattle.modprobe.specs.Plans.{mark_text, words_text, item_text};
+ghost use Rattle.modprobe.specs.ForProofs.{text_of, name_len, TellsRefusal};
+
+use crate::answer::Answer;
+use crate::refusal::{Code, Refusal};
+use crate::setup::Setup;
+use load_plan::{Item, PlanError};
+use std::alloc::{AllocError, Global};
+
+/// The longest name of a catalogue.
+const LONGEST_NAME: usize = 55;
+
+/// Room for what else an error line has.
+const ERROR_ROOM: usize = 32;
+
+/// Room for a reply that names this, or a module of the catalogue.
+pub(crate) fn room(alloc: Global, name: &[u8]) -> Result<Vec<u8>, AllocError>
+    ensures empty { IfOk result (λ text. text.items ≡ []) }
+    ensures named { IfOk result (λ text. length name.now + 32 ≤ vec_capacity text) }
+    ensures short { IfOk result (λ text. 55 + 32 ≤ vec_capacity text) }
+{
+    Vec::with_capacity(alloc, name.len().max(LONGEST_NAME) + ERROR_ROOM)
+}
+
+/// Adds bytes, for which there is room.
+fn put_bytes(text: &mut Vec<u8>, bytes: &[u8])
+    requires { vec_len text.old + length bytes.now ≤ vec_capacity text.old }
+    ensures items { text.new.items ≡ text.old.items ++ bytes.now }
+    ensures len { vec_len text.new ≡ vec_len text.old + length bytes.now }
+    ensures capacity { vec_capacity text.old ≤ vec_capacity text.new }
+{
+    match text.extend_from_slice(bytes) {
+        Ok(()) => {}
+        Err(_) => unreachable!(),
+    }
+}
+
+/// Writes an answer to the room that was made for it.
+#[tactic(auto, unfolding(crate::specs::Refusals::error_line), using(std::proofs::lemmas::List::append_assoc))]
+pub(crate) fn render(text: &mut Vec<u8>, answer: Answer)
+    requires empty { text.old.items ≡ [] }
+    requires room { name_len answer + 32 ≤ vec_capacity text.old }
+    ensures { text.new.items ≡ text_of answer.entry }
+{
+    match answer {
+        Answer::Done => put_bytes(text, b"ok\n"),
+        Answer::Yes => put_bytes(text, b"yes\n"),
+        Answer::No => put_bytes(text, b"no\n"),
+        Answer::Refused(refusal) => {
+            put_bytes(text, b"error ");
+            put_bytes(text, refusal.code.text());
+            put_bytes(text, b" ");
+            put_bytes(text, refusal.name);
+            put_bytes(text, b"\n");
+        }
+    }
+}
+
+/// The line of a refusal.
+pub(crate) fn refusal_text(alloc: Global, code: Code, name: &[u8]) -> Result<Vec<u8>, AllocError>
+    ensures { IfOk result (λ text. text.items ≡ error_line code name.now) }
+{
+    let mut text = room(alloc, name)?;
+    render(&mut text, Answer::Refused(Refusal { code, name }));
+    Ok(text)
+}
+
+/// The line that says why there is no plan.
+pub(crate) fn plan_refusal(alloc: Global, error: PlanError) -> Result<Vec<u8>, AllocError>
+    ensures { IfOk result (λ text. TellsRefusal error text.items) }
+{
+    match error {
+        PlanError::Cycle(name) => refusal_text(alloc, Code::Cycle, name.as_bytes()),
+        PlanError::Install(name) => refusal_text(alloc, Code::Install, name.as_bytes()),
+        PlanError::Unknown(name) => refusal_text(alloc, Code::Enoent, name.as_bytes()),
+        PlanError::Remove(name) => refusal_text(alloc, Code::Remove, name.as_bytes()),
+        PlanError::Memory => Err(AllocError),
+    }
+}
+
+fn mark_text(soft: bool) -> &'static [u8]
+    ensures { result.now ≡ mark_text soft }
+{
+    if soft { b"soft" } else { b"hard" }
+}
+
+/// Adds a space and the word, for each word.
+fn push_words(text: &mut Vec<u8>, words: &[&[u8]]) -> Result<(), AllocError>
+    ensures { OnOk result (text.new.items ≡ text.old.items ++ words_text (texts_of words.now)) }
+{
+    for word in words {
+        text.extend_from_slice(b" ")?;
+        text.extend_from_slice(word)?;
+    }
+    Ok(())
+}
+
+/// Adds the line of an item of a plan.
+fn push_item(text: &mut Vec<u8>, setup: &Setup, item: &Item<'_>) -> Result<(), AllocError>
+    ensures { OnOk result (text.new.items ≡ text.old.items ++ item_text setup.now item.now) }
+{
+    text.extend_from_slice(b"load ")?;
+    text.extend_from_slice(setup.name(item.slot))?;
+    text.extend_from_slice(b" ")?;
+    text.extend_from_slice(mark_text(item.soft))?;
+    push_words(text, item.options.words())?;
+    text.extend_from_slice(b"\n")
+}
+
+/// The lines of the items of a plan.
+pub(crate) fn items_text(
+    alloc: Global,
+    setup: &Setup,
+    items: &[Item<'_>],
+) -> Result<Vec<u8>, AllocError>
+    ensures { IfOk result (λ text. text.items ≡ flat_map (item_text setup.now) items.now) }
+{
+    let mut text = Vec::new(alloc);
+    for item in items {
+        push_item(&mut text, setup, item)?;
+    }
+    Ok(text)
+}
