@@ -3,12 +3,17 @@ pub mod Bounds
 pub mod Walking
 pub mod Orders
 pub mod Clean
+pub mod Free
+pub mod Resuming
 pub mod Visiting
+pub mod Effort
 pub mod VisitLaws
 pub mod Reached
 pub mod StepLemmas
 pub mod Words
 pub mod SourceLemmas
+pub mod Parts
+pub mod Reaching
 pub mod LookUpLemmas
 pub mod Lawful
 pub mod Rows

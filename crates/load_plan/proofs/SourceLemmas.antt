@@ -1,19 +1,17 @@
--- The graph of a catalogue has no slot outside, and is made node by node.
-use Rattle.std.proofs.Common.{◌≡◌, ℕ, zero, suc, ◌+◌, ◌<◌, ◌≤◌, arith, nat_lt, nat_eq, Bool, true, false, cond, ◌&&◌, ◌||◌, List, [], ◌∷◌, ◌++◌, map, length, take, Option, Some, None, refl, sym, ◌∙◌, ap}
+-- The graph of a catalogue has no slot outside.
+use Rattle.std.proofs.Common.{◌≡◌, ℕ, zero, suc, ◌+◌, ◌<◌, arith, nat_lt, nat_eq, Bool, true, false, cond, ◌&&◌, ◌||◌, List, [], ◌∷◌, ◌++◌, map, length, get_or, Option, Some, None, refl, sym, ◌∙◌, ap}
 use Rattle.std.specs.Prelude.{◌==◌}
 use Rattle.std.specs.List.{list_all, list_any, position}
 use Rattle.std.proofs.lemmas.List.Quantifiers.{position-Some}
-use Rattle.std.proofs.lemmas.List.{take_more, length-take-le}
-use Rattle.std.proofs.Math.ListN.{drop_of_length-le}
 use Rattle.std.specs.Str.{bytes_eq}
 use Rattle.dep_index.specs.Catalogue.{Description, description_at, described, needs_of, needs_from, with_need, exporter, exports_symbol, slot_named}
 use Rattle.dep_index.specs.Dependencies.{Pair, deps}
 use Rattle.modprobe_conf.specs.Configuration.{Configuration, softdep_of}
 use Rattle.load_plan.specs.declared.graph.Target.TheVariants.{Slot}
 use Rattle.load_plan.specs.declared.graph.Node.{Node}
-use Rattle.load_plan.specs.Graph.{is_within, names_within, is_bounded}
+use Rattle.load_plan.specs.Graph.{is_within, names_within, is_bounded, node_at}
 use Rattle.load_plan.specs.Sources.{target_at, target_of, hard_of, pre_of, post_of, node_of, nodes_from, graph_of}
-use Rattle.load_plan.proofs.Lists.{and_true, and_makes, all-append, take-all}
+use Rattle.load_plan.proofs.Lists.{and_true, and_makes, all-append}
 use Rattle.load_plan.proofs.Clean.{lt-makes}
 
 -- a place in a list is below its length
@@ -62,7 +60,7 @@ hard_within : (catalogue : List Description) (m : ℕ) (o : Option (List (List �
 hard_within catalogue m (Some names) = targets_within catalogue names
 hard_within catalogue m None = slots_within (length catalogue) (needs_of catalogue m) (needs_below catalogue m (description_at catalogue m).needed_symbols [] refl)
 
-node_within : (catalogue : List Description) (dependencies : List Pair) (configuration : Configuration) (m : ℕ) (d : Description) → names_within (length catalogue) (node_of catalogue dependencies configuration m d) ≡ true
+pub node_within : (catalogue : List Description) (dependencies : List Pair) (configuration : Configuration) (m : ℕ) (d : Description) → names_within (length catalogue) (node_of catalogue dependencies configuration m d) ≡ true
 node_within catalogue dependencies configuration m d =
     let n : ℕ = length catalogue in
     let x : Node = node_of catalogue dependencies configuration m d in
@@ -86,33 +84,24 @@ pub graph_bounded : (catalogue : List Description) (dependencies : List Pair) (c
 graph_bounded catalogue dependencies configuration =
     ap (λ n. list_all (names_within n) (graph_of catalogue dependencies configuration)) (length-graph_of catalogue dependencies configuration) ∙ nodes_within catalogue dependencies configuration 0 catalogue
 
--- a node more
-nodes_push : (catalogue : List Description) (dependencies : List Pair) (configuration : Configuration) (m : ℕ) (ds : List Description) (d : Description) → nodes_from catalogue dependencies configuration m (ds ++ d ∷ []) ≡ nodes_from catalogue dependencies configuration m ds ++ node_of catalogue dependencies configuration (length ds + m) d ∷ []
-nodes_push catalogue dependencies configuration m [] d = ap (λ k. node_of catalogue dependencies configuration k d ∷ []) (sym (zero_plus m))
+-- the node of a slot
+nodes_from-at : (catalogue : List Description) (dependencies : List Pair) (configuration : Configuration) (k : ℕ) (ds : List Description) (m : ℕ) → m < length ds → node_at (nodes_from catalogue dependencies configuration k ds) m ≡ node_of catalogue dependencies configuration (m + k) (get_or ds m (described []))
+nodes_from-at catalogue dependencies configuration k [] m within = absurd (omega arith)
+nodes_from-at catalogue dependencies configuration k (d ∷ ds) zero within = ap (λ j. node_of catalogue dependencies configuration j d) (none k)
   where
-    zero_plus : (k : ℕ) → zero + k ≡ k
-    zero_plus k = omega arith
-nodes_push catalogue dependencies configuration m (x ∷ xs) d =
-    ap (λ l. node_of catalogue dependencies configuration m x ∷ l)
-    (nodes_push catalogue dependencies configuration (suc m) xs d
-    ∙ ap (λ k. nodes_from catalogue dependencies configuration (suc m) xs ++ node_of catalogue dependencies configuration k d ∷ []) (turn (length xs) m))
+    none : (j : ℕ) → j ≡ zero + j
+    none j = omega arith
+nodes_from-at catalogue dependencies configuration k (d ∷ ds) (suc m) within =
+    nodes_from-at catalogue dependencies configuration (suc k) ds m (omega arith)
+    ∙ ap (λ j. node_of catalogue dependencies configuration j (get_or ds m (described []))) (turn m k)
   where
     turn : (a b : ℕ) → a + suc b ≡ suc a + b
     turn a b = omega arith
 
-pub nodes_more : (catalogue : List Description) (dependencies : List Pair) (configuration : Configuration) (m : ℕ) → m < length catalogue → nodes_from catalogue dependencies configuration 0 (take (m + 1) catalogue) ≡ nodes_from catalogue dependencies configuration 0 (take m catalogue) ++ node_of catalogue dependencies configuration m (description_at catalogue m) ∷ []
-nodes_more catalogue dependencies configuration m within =
-    let long : length (take m catalogue) ≡ m = length-take-le m catalogue (omega arith) in
-    let place : length (take m catalogue) + 0 ≡ m = omega arith in
-    ap (nodes_from catalogue dependencies configuration 0) (take_more catalogue m (described []) within)
-    ∙ nodes_push catalogue dependencies configuration 0 (take m catalogue) (description_at catalogue m)
-    ∙ ap (λ k. nodes_from catalogue dependencies configuration 0 (take m catalogue) ++ node_of catalogue dependencies configuration k (description_at catalogue m) ∷ []) place
-
-pub nodes_all : (catalogue : List Description) (dependencies : List Pair) (configuration : Configuration) (m : ℕ) → length catalogue ≤ m → nodes_from catalogue dependencies configuration 0 (take m catalogue) ≡ graph_of catalogue dependencies configuration
-nodes_all catalogue dependencies configuration m past = ap (nodes_from catalogue dependencies configuration 0) (take-all catalogue m (drop_of_length-le catalogue past))
-
-pub nodes_pushed : (catalogue : List Description) (dependencies : List Pair) (configuration : Configuration) (m : ℕ) (old new : List Node) (node : Node) → m < length catalogue → new ≡ old ++ node ∷ [] → old ≡ nodes_from catalogue dependencies configuration 0 (take m catalogue) → node ≡ node_of catalogue dependencies configuration m (description_at catalogue m) → new ≡ nodes_from catalogue dependencies configuration 0 (take (m + 1) catalogue)
-nodes_pushed catalogue dependencies configuration m old new node within pushed before is =
-    pushed ∙ ap (λ l. l ++ node ∷ []) before
-    ∙ ap (λ n. nodes_from catalogue dependencies configuration 0 (take m catalogue) ++ n ∷ []) is
-    ∙ sym (nodes_more catalogue dependencies configuration m within)
+pub graph_of-at : (catalogue : List Description) (dependencies : List Pair) (configuration : Configuration) (m : ℕ) → m < length catalogue → node_of catalogue dependencies configuration m (description_at catalogue m) ≡ node_at (graph_of catalogue dependencies configuration) m
+graph_of-at catalogue dependencies configuration m within =
+    ap (λ j. node_of catalogue dependencies configuration j (description_at catalogue m)) (more m)
+    ∙ sym (nodes_from-at catalogue dependencies configuration 0 catalogue m within)
+  where
+    more : (j : ℕ) → j ≡ j + 0
+    more j = omega arith

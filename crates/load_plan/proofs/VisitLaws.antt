@@ -14,7 +14,7 @@ use Rattle.load_plan.specs.Laws.{is_in, IsOrder, start, more}
 use Rattle.load_plan.proofs.Lists.{and_true, and_makes, or_true, or_comes, both_false, not_true, has-same, has-other, has-append, has-last_same, has-last_other, has-from_apart, apart_from, below_cons, nothing_apart, room_for}
 use Rattle.load_plan.proofs.Bounds.{lt-true, named_within}
 use Rattle.load_plan.proofs.Orders.{IsApart, IsWithin, grows_last, distinct_order, AreEntered}
-use Rattle.load_plan.proofs.Visiting.{IsFree, free_hard, free_clean, free_walk}
+use Rattle.load_plan.proofs.Free.{IsFree, free_hard, free_clean, free_walk}
 
 -- What holds of a list on which visits work: the fuel is at least the number of modules that are neither in
 -- progress nor in the list.

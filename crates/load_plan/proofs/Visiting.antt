@@ -1,15 +1,11 @@
 -- A visit with a stack of its own gives what the recursion gives.
-use Rattle.std.proofs.Common.{◌≡◌, ℕ, zero, suc, ◌+◌, ◌-◌, ◌*◌, ◌<◌, ◌≤◌, Bool, true, false, cond, not, nat_eq, List, [], ◌∷◌, ◌++◌, length, reverse, drop, take, set, length-set, Result, Ok, Err, refl, sym, ◌∙◌, ap, subst, arith, inl, inr}
-use Rattle.std.specs.List.{list_all, list_any, IsDistinct, sum_by}
+use Rattle.std.proofs.Common.{◌≡◌, ℕ, zero, suc, ◌+◌, ◌-◌, ◌<◌, ◌≤◌, true, false, not, nat_eq, List, [], ◌∷◌, ◌++◌, length, drop, take, set, length-set, Ok, refl, sym, ◌∙◌, ap, subst, arith, inl, inr}
+use Rattle.std.specs.List.{list_all, list_any, IsDistinct}
 use Rattle.std.proofs.lemmas.Bool.Decides.{eqb_tells}
-use Rattle.std.proofs.lemmas.List.{reverse-append}
-use Rattle.std.proofs.lemmas.List.Sums.{sum_by-set, sum_by-cons, get_or-le-sum_by}
-use Rattle.std.proofs.Math.Nat.{mul-le-mul_right, add-mul}
 use Rattle.std.proofs.lemmas.Map.Keys.{IsDistinct-cons, IsDistinct-head, IsDistinct-tail}
 use Rattle.load_plan.specs.declared.graph.Target.{Target}
 use Rattle.load_plan.specs.declared.graph.Target.TheVariants.{Slot, Missing}
 use Rattle.load_plan.specs.declared.graph.Node.{Node}
-use Rattle.load_plan.specs.declared.refusal.PlanRefusal.{PlanRefusal}
 use Rattle.load_plan.specs.declared.walk.Mark.{Mark}
 use Rattle.load_plan.specs.declared.walk.Mark.TheVariants.{New, Open, Done}
 use Rattle.load_plan.specs.declared.visit.Phase.{Phase}
@@ -17,164 +13,17 @@ use Rattle.load_plan.specs.declared.visit.Phase.TheVariants.{Pre, Hard, Post}
 use Rattle.load_plan.specs.declared.visit.Stage.{Stage}
 use Rattle.load_plan.specs.declared.visit.Move.{Move}
 use Rattle.load_plan.specs.declared.visit.Move.TheVariants.{Pass, Append, Enter}
-use Rattle.load_plan.specs.Graph.{node_at, no_node, is_bounded}
+use Rattle.load_plan.specs.Graph.{node_at, is_bounded}
 use Rattle.load_plan.specs.Walk.{has, hard_walk}
-use Rattle.load_plan.specs.Plan.{is_free, is_clean, is_done, each_soft, each_hard, visit}
-use Rattle.load_plan.specs.Laws.{is_in, IsOrder, start, more}
+use Rattle.load_plan.specs.Plan.{is_free, visit}
+use Rattle.load_plan.specs.Laws.{is_in, start, more}
 use Rattle.load_plan.specs.ForProofs.{mark_at, AreMarks, IsKept}
 use Rattle.load_plan.specs.VisitSteps.{targets_of, left_of, next_stage, first_stage, Leads, is_taken, IsUnmet, IsUnmetFirst, IsMove, IsTaken}
-use Rattle.load_plan.proofs.Lists.{and_true, and_makes, either_way, or_false, or_comes, not_true, none_passes, has-same, has-other, has-last_same, has-last_other, apart_from, below_cons, nothing_apart, room_for, has-from_apart, passes_at, not_false, all-append, take-first, take-all}
-use Rattle.load_plan.proofs.Orders.{IsWithin, AreEntered, Stands, stands, no_member, grows_last, all_in-grows}
-use Rattle.load_plan.proofs.Clean.{Whole, whole_walk}
-use Rattle.load_plan.proofs.Walking.{mark_new, marks-open, marks-done, fresh_of}
-
--- What a module's visit stands on: its hard dependencies, theirs and so on are an order without it, and
--- neither it nor they are in progress or stopped by an install line.
-pub record IsFree (w : List Node) (progress : List ℕ) (m : ℕ) : Type 0 where
-  pub below : List ℕ
-  pub order : IsOrder w below
-  pub new : has below m ≡ false
-  pub hard : list_all (is_in below) (node_at w m).hard ≡ true
-  pub apart : (q : ℕ) → has progress q ≡ true → has below q ≡ false
-  pub off : has progress m ≡ false
-  pub entered : AreEntered w below
-  pub own : (node_at w m).installs ≡ false
-
--- a module in progress, or the one that begins, is not in the order
-apart_cons : (below : List ℕ) (m : ℕ) (progress : List ℕ) (q : ℕ) → has below m ≡ false → ((x : ℕ) → has progress x ≡ true → has below x ≡ false) → has (m ∷ progress) q ≡ true → has below q ≡ false
-apart_cons below m progress q new apart h = elim (eqb_tells q m) [
-  | inl t ↦ subst (λ x. has below x ≡ false) (sym t.1) new
-  | inr t ↦ apart q (sym (has-other progress m q t.0) ∙ h)
-]
-
--- each hard dependency of a free module is free while the module is in progress
-pub free_hard : (w : List Node) (progress : List ℕ) (m d : ℕ) (f : IsFree w progress m) → has f.below d ≡ true → IsFree w (m ∷ progress) d
-free_hard w progress m d f h =
-    let s : Stands w f.below d = stands w f.below d f.order h in
-    record {
-      below = s.below;
-      order = s.order;
-      new = s.new;
-      hard = s.hard;
-      apart = λ q g. no_member s.below f.below q s.within (apart_cons f.below m progress q f.new f.apart g);
-      off = elim (either_way (has (m ∷ progress) d)) [ inl t ↦ (let u : has f.below d ≡ false = apart_cons f.below m progress d f.new f.apart t in absurd (cc)) | inr t ↦ t ];
-      entered = λ q g. f.entered q (s.within q g);
-      own = f.entered d h;
-    }
-
-pub free_walk : (w : List Node) (progress : List ℕ) (m : ℕ) (r : Result (List ℕ) PlanRefusal) → is_bounded w ≡ true → m < length w → hard_walk w true (Slot m) ≡ r → is_free progress r ≡ true → IsFree w progress m
-free_walk w progress m (Err e) bounded below h k = absurd (cc)
-free_walk w progress m (Ok reached) bounded below h k =
-    let x : Whole w m reached = whole_walk w m reached bounded below h in
-    let s : Stands w reached m = stands w reached m x.order x.here in
-    let none : (q : ℕ) → has reached q ≡ true → has progress q ≡ false = λ q g. none_passes (has progress) reached q (not_true (list_any (has progress) reached) k) g in
-    record {
-      below = s.below;
-      order = s.order;
-      new = s.new;
-      hard = s.hard;
-      apart = λ q g. elim (either_way (has s.below q)) [ inl t ↦ (let u : has progress q ≡ false = none q (s.within q t) in absurd (cc)) | inr t ↦ t ];
-      off = none m x.here;
-      entered = λ q g. x.entered q (s.within q g);
-      own = x.entered m x.here;
-    }
-
--- a clean item is free
-pub free_clean : (w : List Node) (progress done : List ℕ) (m : ℕ) → is_bounded w ≡ true → m < length w → is_clean w progress done (Slot m) ≡ true → IsFree w progress m
-free_clean w progress done m bounded below h =
-    free_walk w progress m (hard_walk w true (Slot m)) bounded below refl (and_true (not (has done m)) (is_free progress (hard_walk w true (Slot m))) h).1
-
-abbrev pub slots_of : List Stage → List ℕ
-slots_of [] = []
-slots_of (s ∷ ss) = s.slot ∷ slots_of ss
-
--- the modules in progress when the stage is on top
-abbrev pub with_phase : Phase → ℕ → List ℕ → List ℕ
-with_phase Pre m progress = m ∷ progress
-with_phase Hard m progress = m ∷ progress
-with_phase Post m progress = progress
-
-abbrev pub progress_of : List Stage → List ℕ
-progress_of [] = []
-progress_of (s ∷ ss) = with_phase s.phase s.slot (progress_of ss)
-
--- a step for each target of a phase
-abbrev pub each_of : List Node → ℕ → Phase → ℕ → List ℕ → List ℕ → List Target → List ℕ
-each_of w n Pre m below done ts = each_soft w (m ∷ below) (visit w n (m ∷ below)) done ts
-each_of w n Hard m below done ts = each_hard (visit w n (m ∷ below)) done ts
-each_of w n Post m below done ts = each_soft w below (visit w n below) done ts
-
--- what comes behind the hard dependencies, and what comes behind a phase
-abbrev pub behind_hard : List Node → ℕ → ℕ → List ℕ → List ℕ → List ℕ
-behind_hard w n m below done = each_of w n Post m below (done ++ m ∷ []) (node_at w m).post
-
-abbrev pub behind_of : List Node → ℕ → Phase → ℕ → List ℕ → List ℕ → List ℕ
-behind_of w n Post m below done = done
-behind_of w n Hard m below done = behind_hard w n m below done
-behind_of w n Pre m below done = behind_hard w n m below (each_of w n Hard m below done (node_at w m).hard)
-
--- what the visit of a stage makes of the list from here
-abbrev pub finish : List Node → ℕ → Stage → List ℕ → List ℕ → List ℕ
-finish w n s below done = behind_of w n s.phase s.slot below (each_of w n s.phase s.slot below done (left_of w s))
-
--- what the visit gives that goes on from a stack
-abbrev pub resume : List Node → List Stage → List ℕ → List ℕ
-resume w [] done = done
-resume w (s ∷ ss) done = resume w ss (finish w (length w - suc (length ss)) s (progress_of ss) done)
-
-visit-begins : (w : List Node) (n : ℕ) (progress done : List ℕ) (m : ℕ) → visit w (suc n) progress done (Slot m) ≡ finish w n (first_stage Pre m) progress done
-visit-begins w n progress done m = refl
-
-cond-not : {A : Type 0} (b : Bool) (x y : A) → cond b x y ≡ cond (not b) y x
-cond-not true x y = refl
-cond-not false x y = refl
-
--- the first target of a phase is visited where it is taken, and passed where not
-each-first : (w : List Node) (n : ℕ) (phase : Phase) (m : ℕ) (below done : List ℕ) (t : Target) (ts : List Target) → each_of w n phase m below done (t ∷ ts) ≡ each_of w n phase m below (cond (is_taken w (with_phase phase m below) done phase t) (visit w n (with_phase phase m below) done t) done) ts
-each-first w n Pre m below done t ts = refl
-each-first w n Hard m below done t ts = ap (λ d. each_hard (visit w n (m ∷ below)) d ts) (cond-not (is_done done t) done (visit w n (m ∷ below) done t))
-each-first w n Post m below done t ts = refl
-
-finish-first : (w : List Node) (n : ℕ) (s : Stage) (below done : List ℕ) (t : Target) → Leads w s t → finish w n s below done ≡ finish w n (next_stage s) below (cond (is_taken w (with_phase s.phase s.slot below) done s.phase t) (visit w n (with_phase s.phase s.slot below) done t) done)
-finish-first w n s below done t leads =
-    ap (λ ts. behind_of w n s.phase s.slot below (each_of w n s.phase s.slot below done ts)) leads
-    ∙ ap (behind_of w n s.phase s.slot below) (each-first w n s.phase s.slot below done t (left_of w (next_stage s)))
-
-each-none : (w : List Node) (n : ℕ) (phase : Phase) (m : ℕ) (below done : List ℕ) → each_of w n phase m below done [] ≡ done
-each-none w n Pre m below done = refl
-each-none w n Hard m below done = refl
-each-none w n Post m below done = refl
-
-finish-over : (w : List Node) (n : ℕ) (s : Stage) (below done : List ℕ) → left_of w s ≡ [] → finish w n s below done ≡ behind_of w n s.phase s.slot below done
-finish-over w n s below done over =
-    ap (λ ts. behind_of w n s.phase s.slot below (each_of w n s.phase s.slot below done ts)) over ∙ ap (behind_of w n s.phase s.slot below) (each-none w n s.phase s.slot below done)
-
-resume-pass : (w : List Node) (s : Stage) (ss : List Stage) (done : List ℕ) (t : Target) → Leads w s t → is_taken w (progress_of (s ∷ ss)) done s.phase t ≡ false → resume w (s ∷ ss) done ≡ resume w (next_stage s ∷ ss) done
-resume-pass w s ss done t leads passed =
-    ap (resume w ss) (finish-first w (length w - suc (length ss)) s (progress_of ss) done t leads
-    ∙ ap (λ b. finish w (length w - suc (length ss)) (next_stage s) (progress_of ss) (cond b (visit w (length w - suc (length ss)) (progress_of (s ∷ ss)) done t) done)) passed)
-
-resume-enter : (w : List Node) (s : Stage) (ss : List Stage) (done : List ℕ) (m : ℕ) → Leads w s (Slot m) → is_taken w (progress_of (s ∷ ss)) done s.phase (Slot m) ≡ true → suc (suc (length ss)) ≤ length w → resume w (s ∷ ss) done ≡ resume w (first_stage Pre m ∷ next_stage s ∷ ss) done
-resume-enter w s ss done m leads taken room =
-    let fuel : length w - suc (length ss) ≡ suc (length w - suc (suc (length ss))) = omega arith in
-    ap (resume w ss) (finish-first w (length w - suc (length ss)) s (progress_of ss) done (Slot m) leads
-    ∙ ap (λ b. finish w (length w - suc (length ss)) (next_stage s) (progress_of ss) (cond b (visit w (length w - suc (length ss)) (progress_of (s ∷ ss)) done (Slot m)) done)) taken
-    ∙ ap (λ n. finish w (length w - suc (length ss)) (next_stage s) (progress_of ss) (visit w n (progress_of (s ∷ ss)) done (Slot m))) fuel)
-
-resume-turn : (w : List Node) (s : Stage) (ss : List Stage) (done : List ℕ) → s.phase ≡ Pre → left_of w s ≡ [] → resume w (s ∷ ss) done ≡ resume w (first_stage Hard s.slot ∷ ss) done
-resume-turn w s ss done phase over =
-    let n : ℕ = length w - suc (length ss) in
-    ap (resume w ss) (finish-over w n s (progress_of ss) done over ∙ ap (λ p. behind_of w n p s.slot (progress_of ss) done) phase)
-
-resume-append : (w : List Node) (s : Stage) (ss : List Stage) (done : List ℕ) → s.phase ≡ Hard → left_of w s ≡ [] → resume w (s ∷ ss) done ≡ resume w (first_stage Post s.slot ∷ ss) (done ++ s.slot ∷ [])
-resume-append w s ss done phase over =
-    let n : ℕ = length w - suc (length ss) in
-    ap (resume w ss) (finish-over w n s (progress_of ss) done over ∙ ap (λ p. behind_of w n p s.slot (progress_of ss) done) phase)
-
-resume-leave : (w : List Node) (s : Stage) (ss : List Stage) (done : List ℕ) → s.phase ≡ Post → left_of w s ≡ [] → resume w (s ∷ ss) done ≡ resume w ss done
-resume-leave w s ss done phase over =
-    let n : ℕ = length w - suc (length ss) in
-    ap (resume w ss) (finish-over w n s (progress_of ss) done over ∙ ap (λ p. behind_of w n p s.slot (progress_of ss) done) phase)
+use Rattle.load_plan.proofs.Lists.{and_makes, or_false, or_comes, has-same, has-other, has-last_same, has-last_other, apart_from, below_cons, nothing_apart, room_for, has-from_apart, passes_at, not_false, all-append, take-first, take-all}
+use Rattle.load_plan.proofs.Orders.{IsWithin, grows_last, all_in-grows}
+use Rattle.load_plan.proofs.Walking.{mark_new, marks-open, marks-done}
+use Rattle.load_plan.proofs.Free.{IsFree, free_hard, free_walk, free_clean}
+use Rattle.load_plan.proofs.Resuming.{slots_of, with_phase, progress_of, resume, resume-pass, resume-enter, resume-turn, resume-append, resume-leave}
 
 -- What holds of a stage, by its phase; `above` has the module whose visit began last, where there is one.
 abbrev pub StageHolds : List Node → List ℕ → List ℕ → List ℕ → Phase → ℕ → ℕ → Type 0
@@ -432,76 +281,3 @@ Visits-by_append {w} {begun} {marks} {order} {s} {next} {ss} v move =
 pub Visits-by_enter : {w : List Node} {begun : ℕ} {marks : List Mark} {order : List ℕ} {s next : Stage} {ss : List Stage} (m : ℕ) → Visits w begun marks order (s ∷ ss) → IsMove w marks s (Enter m next) → TakenAt w marks s (Enter m next) → Visits w begun (set marks m Open) order (first_stage Pre m ∷ next ∷ ss)
 Visits-by_enter {w} {begun} {marks} {order} {s} {next} {ss} m v move taken =
     subst (λ x. Visits w begun (set marks m Open) order (first_stage Pre m ∷ x ∷ ss)) (sym move.3) (Visits-enter v m move.0 move.1 move.2 (taken_here v (Enter m next) taken))
-
--- The measure of a visit: a bound on the targets that are left to visit.
-abbrev pub targets : Node → ℕ
-targets x = length x.pre + length x.hard + length x.post
-
-abbrev pub links : List Node → ℕ
-links w = sum_by targets w
-
-abbrev pub behind_work : List Node → ℕ → Phase → ℕ
-behind_work w m Pre = length (node_at w m).hard + length (node_at w m).post + 3
-behind_work w m Hard = length (node_at w m).post + 2
-behind_work w m Post = 1
-
-abbrev pub stage_work : List Node → Stage → ℕ
-stage_work w s = length (left_of w s) + behind_work w s.slot s.phase
-
-abbrev pub work : List Node → List Stage → ℕ
-work w ss = sum_by (stage_work w) ss
-
-abbrev pub effort : List Node → List Mark → List Stage → ℕ
-effort w marks ss = sum_by fresh_of marks * (links w + 3) + work w ss
-
-work-cons : (w : List Node) (s : Stage) (ss : List Stage) → work w (s ∷ ss) ≡ stage_work w s + work w ss
-work-cons w s ss = sum_by-cons (stage_work w) s ss
-
-pub effort-pass : (w : List Node) (marks : List Mark) (s : Stage) (ss : List Stage) (t : Target) → Leads w s t → effort w marks (next_stage s ∷ ss) < effort w marks (s ∷ ss)
-effort-pass w marks s ss t leads =
-    let shorter : length (left_of w s) ≡ suc (length (left_of w (next_stage s))) = ap length leads in
-    omega (arith, shorter, work-cons w s ss, work-cons w (next_stage s) ss)
-
-pub effort-turn : (w : List Node) (marks : List Mark) (s : Stage) (ss : List Stage) → s.phase ≡ Pre → effort w marks (first_stage Hard s.slot ∷ ss) < effort w marks (s ∷ ss)
-effort-turn w marks s ss phase =
-    let own : behind_work w s.slot s.phase ≡ length (node_at w s.slot).hard + length (node_at w s.slot).post + 3 = ap (behind_work w s.slot) phase in
-    omega (arith, own, work-cons w s ss, work-cons w (first_stage Hard s.slot) ss)
-
-pub effort-leave : (w : List Node) (marks : List Mark) (s : Stage) (ss : List Stage) → s.phase ≡ Post → effort w marks ss < effort w marks (s ∷ ss)
-effort-leave w marks s ss phase =
-    let own : behind_work w s.slot s.phase ≡ 1 = ap (behind_work w s.slot) phase in
-    omega (arith, own, work-cons w s ss)
-
-pub effort-append : (w : List Node) (marks : List Mark) (s : Stage) (ss : List Stage) → s.phase ≡ Hard → s.slot < length marks → effort w (set marks s.slot Done) (first_stage Post s.slot ∷ ss) < effort w marks (s ∷ ss)
-effort-append w marks s ss phase inside =
-    let sums : sum_by fresh_of (set marks s.slot Done) + fresh_of (mark_at marks s.slot) ≡ sum_by fresh_of marks + 0 = sum_by-set fresh_of marks s.slot Done Done inside in
-    let fewer : sum_by fresh_of (set marks s.slot Done) ≤ sum_by fresh_of marks = omega arith in
-    let times : sum_by fresh_of (set marks s.slot Done) * (links w + 3) ≤ sum_by fresh_of marks * (links w + 3) = mul-le-mul_right (links w + 3) fewer in
-    let own : behind_work w s.slot s.phase ≡ length (node_at w s.slot).post + 2 = ap (behind_work w s.slot) phase in
-    omega (arith, times, own, work-cons w s ss, work-cons w (first_stage Post s.slot) ss)
-
-pub effort-enter : (w : List Node) (marks : List Mark) (s : Stage) (ss : List Stage) (m : ℕ) → Leads w s (Slot m) → mark_at marks m ≡ New → m < length w → m < length marks → effort w (set marks m Open) (first_stage Pre m ∷ next_stage s ∷ ss) < effort w marks (s ∷ ss)
-effort-enter w marks s ss m leads mark within inside =
-    let sums : sum_by fresh_of (set marks m Open) + fresh_of (mark_at marks m) ≡ sum_by fresh_of marks + 0 = sum_by-set fresh_of marks m Open Done inside in
-    let one : fresh_of (mark_at marks m) ≡ 1 = ap fresh_of mark in
-    let fewer : sum_by fresh_of marks ≡ sum_by fresh_of (set marks m Open) + 1 = omega arith in
-    let times : sum_by fresh_of marks * (links w + 3) ≡ sum_by fresh_of (set marks m Open) * (links w + 3) + 1 * (links w + 3) = ap (λ x. x * (links w + 3)) fewer ∙ add-mul (sum_by fresh_of (set marks m Open)) 1 (links w + 3) in
-    let shorter : length (left_of w s) ≡ suc (length (left_of w (next_stage s))) = ap length leads in
-    let most : targets (node_at w m) ≤ links w = get_or-le-sum_by targets w m no_node within in
-    omega (arith, times, shorter, most, work-cons w s ss, work-cons w (first_stage Pre m) (next_stage s ∷ ss), work-cons w (next_stage s) ss)
-
--- a stack in a vector has its top last
-abbrev pub stack_of : List Stage → List Stage
-stack_of stages = reverse stages
-
-reverse-last : (ss : List Stage) (s : Stage) → reverse (ss ++ s ∷ []) ≡ s ∷ reverse ss
-reverse-last ss s = reverse-append ss (s ∷ [])
-
-pub stack-pop : (new : List Stage) {old : List Stage} {s : Stage} → old ≡ new ++ s ∷ [] → stack_of old ≡ s ∷ stack_of new
-stack-pop new {old} {s} e = ap reverse e ∙ reverse-last new s
-
-pub stack-push : (old : List Stage) {new : List Stage} {s : Stage} → new ≡ old ++ s ∷ [] → stack_of new ≡ s ∷ stack_of old
-stack-push old {new} {s} e = ap reverse e ∙ reverse-last old s
-
-pub stack-push_two : (old : List Stage) {mid new : List Stage} {s r : Stage} → mid ≡ old ++ r ∷ [] → new ≡ mid ++ s ∷ [] → stack_of new ≡ s ∷ r ∷ stack_of old
-stack-push_two old {mid} {new} {s} {r} e e2 = stack-push mid e2 ∙ ap (λ l. s ∷ l) (stack-push old e)

@@ -6,6 +6,7 @@ pub mod Parameters
 pub mod Results
 pub mod ForProofs
 pub mod VisitSteps
+pub mod Parts
 pub mod Sources
 pub mod Items
 pub mod LookUp

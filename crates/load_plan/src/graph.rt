@@ -46,6 +46,12 @@ impl Targets {
         Ok(())
     }
 
+    pub fn as_slice(&self) -> &[Target]
+        ensures { result.now ≡ self.now }
+    {
+        &self.items
+    }
+
     /// The target at an index, where there is one.
     pub fn get(&self, index: usize) -> Option<&Target>
         ensures first { MatchOption result (drop index self.now ≡ []) (λ t. drop index self.now ≡ t.now ∷ drop (index + 1) self.now) }

@@ -6,8 +6,9 @@ ghost use Rattle.load_plan.specs.ForProofs.{are_within};
 ghost use Rattle.load_plan.specs.Items.{Answers, error_of, item_of, name_at, plan_of, removal_plan_of};
 ghost use Rattle.load_plan.specs.Results.{IsRefusalWithin};
 
+use crate::reach::graph_from;
 use crate::refusal::{PlanRefusal, WalkError};
-use crate::sources::{graph_of, is_kept, slot_of};
+use crate::sources::{is_kept, slot_of};
 use crate::steps::{PlanStep, plan_in, removal_plan_in};
 use dep_index::{Catalogue, DepIndex, Name};
 use modprobe_conf::{Conf, Word};
@@ -191,7 +192,7 @@ pub fn plan<'a>(
     let Some(target) = slot_of(catalogue, &name) else {
         return Err(PlanError::Unknown(name));
     };
-    let graph = graph_of(alloc, catalogue, dependencies, configuration)?;
+    let graph = graph_from(alloc, catalogue, dependencies, configuration, target)?;
     match plan_in(alloc, &graph, target) {
         Ok(steps) => Ok(items_of(alloc, catalogue, configuration, target, words, &steps)?),
         Err(WalkError::Refused(refusal)) => Err(error_of(alloc, catalogue, refusal)?),
@@ -218,7 +219,7 @@ pub fn removal_plan(
     let Some(target) = slot_of(catalogue, &name) else {
         return Err(PlanError::Unknown(name));
     };
-    let graph = graph_of(alloc, catalogue, dependencies, configuration)?;
+    let graph = graph_from(alloc, catalogue, dependencies, configuration, target)?;
     match removal_plan_in(alloc, &graph, target) {
         Ok(order) => Ok(order),
         Err(WalkError::Refused(refusal)) => Err(error_of(alloc, catalogue, refusal)?),

@@ -7,6 +7,7 @@ pub mod laws;
 mod look_up;
 mod names;
 mod parameters;
+mod reach;
 mod refusal;
 mod sources;
 mod steps;

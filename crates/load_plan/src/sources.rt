@@ -1,12 +1,12 @@
-//! The dependency graph of a catalogue, a modules.dep text and a configuration.
+//! What a catalogue, a modules.dep text and a configuration say of a module.
 ghost use Rattle.std.specs.Prelude.{◌≡◌, ◌<◌, length, map, IfOk, IfSome};
 ghost use Rattle.dep_index.specs.Catalogue.{description_at, slot_named};
 ghost use Rattle.load_plan.specs.declared.graph.Target.TheVariants.{Slot};
-ghost use Rattle.load_plan.specs.Sources.{graph_of, hard_of, is_kept, node_of, post_of, pre_of, target_of};
+ghost use Rattle.load_plan.specs.Sources.{hard_of, is_kept, node_of, post_of, pre_of, target_of};
 ghost use Rattle.dep_index.specs.Dependencies.{deps};
 ghost use Rattle.std.specs.Option.{option_copied};
 
-use crate::graph::{DependencyGraph, Node, Target, Targets};
+use crate::graph::{Node, Target, Targets};
 use crate::names::copy_name;
 use dep_index::{Catalogue, DepIndex, Name};
 use modprobe_conf::{Conf, Softdep};
@@ -103,7 +103,8 @@ fn post_of(
     }
 }
 
-fn node_of(
+/// What a plan asks of a slot.
+pub(crate) fn node_of(
     alloc: Global,
     catalogue: &Catalogue,
     dependencies: &DepIndex,
@@ -125,21 +126,4 @@ fn node_of(
         post,
         installs,
     })
-}
-
-/// The dependency graph of all modules of the catalogue.
-pub(crate) fn graph_of(
-    alloc: Global,
-    catalogue: &Catalogue,
-    dependencies: &DepIndex,
-    configuration: &Conf,
-) -> Result<DependencyGraph, AllocError>
-    ensures graph { IfOk result (λ graph. graph ≡ graph_of catalogue.now dependencies.now configuration.now) }
-    ensures len { IfOk result (λ graph. length graph ≡ length catalogue.now) }
-{
-    let mut nodes = Vec::with_capacity(alloc, catalogue.len())?;
-    for m in 0..catalogue.len() {
-        nodes.push(node_of(alloc, catalogue, dependencies, configuration, m)?)?;
-    }
-    Ok(DependencyGraph::new(nodes))
 }

@@ -8,7 +8,8 @@ use Rattle.load_plan.specs.VisitSteps.{first_stage}
 use Rattle.load_plan.proofs.Lists.{all_from_members}
 use Rattle.load_plan.proofs.Clean.{lt-makes}
 use Rattle.load_plan.proofs.Walking.{marks-new}
-use Rattle.load_plan.proofs.Visiting.{Visits-begin, Visits-slot, Visits-by_pass, Visits-by_append, Visits-leave, Visits-by_enter, stack_of, stack-pop, stack-push, stack-push_two}
+use Rattle.load_plan.proofs.Visiting.{Visits-begin, Visits-slot, Visits-by_pass, Visits-by_append, Visits-leave, Visits-by_enter}
+use Rattle.load_plan.proofs.Effort.{stack_of, stack-pop, stack-push, stack-push_two}
 use Rattle.load_plan.proofs.visit.visit.Goals as goal
 
 pub visit-init : goal.visit-init

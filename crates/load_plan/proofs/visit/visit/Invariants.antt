@@ -1,4 +1,5 @@
-use Rattle.load_plan.proofs.Visiting.{Visits, effort, stack_of}
+use Rattle.load_plan.proofs.Visiting.{Visits}
+use Rattle.load_plan.proofs.Effort.{effort, stack_of}
 use Rattle.load_plan.proofs.visit.visit.Given as goal
 
 abbrev pub invariant-visit : goal.invariant-visit
