@@ -1,0 +1,185 @@
+//! Lines, sections and sessions: where memory is wanting, what was written is the beginning of the answer.
+ghost use Rattle.std.specs.Prelude.{◌≡◌, false, None};
+
+use crate::outcome::{Stop, agree, needed, stop_at, tell};
+use modprobe::{
+    Failed, FromRead, LineFault, Lines, RunFault, ServeFault, SetupCode, SetupFault, Sink,
+    read_setup, run, serve,
+};
+use seq_table::{Modules, Table};
+use std::alloc::Global;
+
+impl From<LineFault> for Stop {
+    fn from(fault: LineFault) -> Stop {
+        stop_at(fault == LineFault::Memory)
+    }
+}
+
+impl From<SetupFault> for Stop {
+    fn from(fault: SetupFault) -> Stop {
+        stop_at(fault.code == SetupCode::Memory)
+    }
+}
+
+impl From<RunFault> for Stop {
+    fn from(fault: RunFault) -> Stop {
+        stop_at(fault == RunFault::Memory)
+    }
+}
+
+impl From<ServeFault> for Stop {
+    fn from(fault: ServeFault) -> Stop {
+        match fault {
+            ServeFault::Memory => Stop::NoMemory,
+            ServeFault::Setup(fault) => Stop::from(fault),
+            ServeFault::Run(fault) => Stop::from(fault),
+        }
+    }
+}
+
+/// How much an answer may have.
+const ROOM: usize = 256;
+
+/// Keeps what is written, and takes no memory for it.
+#[derive(Drop)]
+struct Paper {
+    bytes: [u8; ROOM],
+    len: usize,
+    failed: bool,
+}
+
+impl Paper {
+    fn new() -> Paper
+        ensures { result.failed ≡ false }
+    {
+        Paper {
+            bytes: [0; ROOM],
+            len: 0,
+            failed: false,
+        }
+    }
+
+    fn text(&self) -> &[u8] {
+        self.bytes.get(..self.len).unwrap_or(&[])
+    }
+}
+
+impl Sink for Paper {
+    ghost contents = { λ s. None };
+
+    ghost has_failed = { λ s. s.failed };
+
+    fn write(&mut self, bytes: &[u8]) -> Result<usize, Failed> {
+        let Some(first) = bytes.first() else {
+            return Ok(0);
+        };
+        if self.len >= ROOM {
+            self.failed = true;
+            return Err(Failed);
+        }
+        self.bytes[self.len] = *first;
+        self.len += 1;
+        Ok(1)
+    }
+
+    fn failed(&self) -> bool {
+        self.failed
+    }
+}
+
+const INPUT: &[u8] = b"%dep
+snd-pcm.ko: snd.ko
+%catalogue
+module snd
+exports snd_card_new
+module snd-pcm
+needs snd_card_new
+%conf
+options snd debug=1
+%session
+insmod snd-pcm
+insmod snd
+insmod snd_pcm
+rmmod snd
+get 0 snd_pcm
+query snd-pcm
+drain snd_pcm
+put 0 snd_pcm
+rmmod snd_pcm
+frob x
+rmmod nosuch
+";
+
+const ANSWER: &[u8] = b"error NEEDNOTLIVE snd
+ok
+ok
+error EWOULDBLOCK snd
+ok
+yes
+ok
+ok
+ok
+error SYNTAX frob
+error ENOENT nosuch
+";
+
+/// What a session came to that wrote this.
+fn judge(stopped: Option<Stop>, written: &[u8]) -> Result<(), Stop> {
+    match stopped {
+        None => agree(written == ANSWER),
+        Some(stop) if ANSWER.starts_with(written) => Err(stop),
+        Some(_) => Err(Stop::Wrong),
+    }
+}
+
+fn try_lines(alloc: Global) -> Result<(), Stop> {
+    let mut reader = FromRead::new(b"insmod snd\nquery".as_slice());
+    let mut lines = Lines::new(alloc, &mut reader, 9)?;
+    let is_first = lines.next_line()? && lines.line() == b"insmod snd".as_slice();
+    let is_last = lines.next_line()? && lines.line() == b"query".as_slice();
+    agree(is_first && is_last && !lines.next_line()?)
+}
+
+fn try_setup(alloc: Global) -> Result<(), Stop> {
+    let mut reader = FromRead::new(INPUT);
+    let Ok(mut lines) = Lines::new(alloc, &mut reader, 9) else {
+        return Err(Stop::NotMade);
+    };
+    let setup = read_setup(alloc, &mut lines)?;
+    agree(setup.catalogue().len() == 2)
+}
+
+fn try_run(alloc: Global) -> Result<(), Stop> {
+    let mut reader = FromRead::new(INPUT);
+    let Ok(mut lines) = Lines::new(alloc, &mut reader, 9) else {
+        return Err(Stop::NotMade);
+    };
+    let Ok(setup) = read_setup(alloc, &mut lines) else {
+        return Err(Stop::NotMade);
+    };
+    let Ok(mut table) = Table::new(alloc, setup.catalogue(), 1) else {
+        return Err(Stop::NotMade);
+    };
+    let mut writer = Paper::new();
+    let stopped = run(alloc, &setup, &mut lines, &mut writer, &mut table)
+        .err()
+        .map(Stop::from);
+    judge(stopped, writer.text())
+}
+
+fn try_serve(alloc: Global) -> Result<(), Stop> {
+    let mut reader = FromRead::new(INPUT);
+    let mut writer = Paper::new();
+    let stopped = serve(alloc, 1, &mut reader, &mut writer)
+        .err()
+        .map(Stop::from);
+    judge(stopped, writer.text())
+}
+
+pub fn try_calls<R: Print + AllocGlobal>(rt: &R) -> anyhow::Result<()> {
+    let alloc = rt.alloc();
+    tell(rt, "Lines", try_lines(alloc))?;
+    tell(rt, "read_setup", try_setup(alloc))?;
+    tell(rt, "run", try_run(alloc))?;
+    tell(rt, "serve", try_serve(alloc))
+}
