@@ -1,5 +1,5 @@
--- What a session line asks for, after insmod(8), rmmod(8), lsmod(8) and modinfo(8).
-use Rattle.std.specs.Prelude.{ℕ, Bool, if◌then◌else◌, ◌==◌, ◌||◌, List, [], ◌∷◌, codes, Option, Some, None, slice_index}
+-- What a session line asks for, after insmod(8), rmmod(8), lsmod(8), modinfo(8) and modprobe(8).
+use Rattle.std.specs.Prelude.{ℕ, Bool, ◌&&◌, if◌then◌else◌, ◌==◌, ◌||◌, List, [], ◌∷◌, codes, Option, Some, None, slice_index}
 use Rattle.std.specs.Str.{bytes_eq}
 use Rattle.dep_index.specs.Text.{words, is_comment, normal_form, number_within}
 
@@ -17,6 +17,8 @@ pub data Request : Type 0 where
   act : Action → Request
   modinfo : Request
   plan : Request
+  modprobe : List (List ℕ) → Request
+  modprobe_remove : Request
 
 -- a line asks for nothing, is no command, asks for something by a name, or for a listing of the table
 pub data Command : Type 0 where
@@ -49,7 +51,8 @@ if_no_words (_ ∷ _) request = None
 abbrev pub request_of : List ℕ → List (List ℕ) → Option Request
 request_of first words =
     if bytes_eq first (codes "insmod") then Some (act (insmod words))
-    else if_no_words words (plain_request_of first)
+    else (if bytes_eq first (codes "modprobe") then Some (modprobe words)
+    else if_no_words words (plain_request_of first))
 
 -- what a first word asks for that a worker and a name follow
 abbrev pub worker_request_of : List ℕ → ℕ → Option Request
@@ -73,10 +76,19 @@ abbrev pub with_worker : List ℕ → Option ℕ → List (List ℕ) → Command
 with_worker first (Some worker) (name ∷ []) = with_name first name (worker_request_of first worker)
 with_worker first _ _ = malformed first
 
+-- `modprobe -r`: one name follows
+abbrev pub with_removal : List ℕ → List (List ℕ) → Command
+with_removal first (name ∷ []) = with_name first name (Some modprobe_remove)
+with_removal first _ = malformed first
+
+abbrev pub is_removal : List ℕ → List ℕ → Bool
+is_removal first second = bytes_eq first (codes "modprobe") && bytes_eq second (codes "-r")
+
 abbrev pub by_second : List ℕ → List ℕ → List (List ℕ) → Command
 by_second first second rest =
     if takes_worker first then with_worker first (number_within 9999999999 second) rest
-    else with_name first second (request_of first rest)
+    else (if is_removal first second then with_removal first rest
+    else with_name first second (request_of first rest))
 
 abbrev pub by_first : List ℕ → List (List ℕ) → Command
 by_first first [] = listing_of first

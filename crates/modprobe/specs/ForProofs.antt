@@ -43,6 +43,8 @@ abbrev pub request_from : Request → meaning.Request
 request_from (request_is.Act action) = meaning.act (action_from action)
 request_from request_is.Modinfo = meaning.modinfo
 request_from request_is.Plan = meaning.plan
+request_from (request_is.Modprobe words) = meaning.modprobe (texts_of words.now)
+request_from request_is.ModprobeRemove = meaning.modprobe_remove
 
 abbrev pub command_from : Command → meaning.Command
 command_from command_is.Nothing = meaning.nothing

@@ -5,6 +5,7 @@ pub mod Setup
 pub mod Refusals
 pub mod Changes
 pub mod Plans
+pub mod Loads
 pub mod Session
 pub mod Sections
 pub mod SetupInput

@@ -1,6 +1,6 @@
 -- Why a command is refused, and how that is told. The codes are those of init_module(2) and delete_module(2), as far as
 -- these have one.
-use Rattle.std.specs.Prelude.{ℕ, List, [], ◌∷◌, ◌++◌, codes, Option, Some, None}
+use Rattle.std.specs.Prelude.{ℕ, List, [], ◌∷◌, ◌++◌, codes, Option, Some}
 use Rattle.dep_index.specs.declared.calls.Reply.{Reply}
 use Rattle.dep_index.specs.declared.calls.Reply.TheVariants as reply_is
 use Rattle.load_plan.specs.declared.items.PlanError.{PlanError}

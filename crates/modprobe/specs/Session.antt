@@ -7,11 +7,12 @@ use Rattle.dep_index.specs.declared.calls.Call.TheVariants as call
 use Rattle.proc_modules.specs.Listings.{lsmod_text, proc_text}
 use Rattle.proc_modules.specs.Details.{modinfo_text}
 use Rattle.modprobe.specs.declared.refusal.Code.TheVariants.{Enoent, Worker, Syntax}
-use Rattle.modprobe.specs.Commands.{Action, insmod, rmmod, drain, query, get, put, Request, act, modinfo, plan, Command, nothing, malformed, by_name, lsmod, proc, command_of}
+use Rattle.modprobe.specs.Commands.{Action, insmod, rmmod, drain, query, get, put, Request, act, modinfo, plan, modprobe, modprobe_remove, Command, nothing, malformed, by_name, lsmod, proc, command_of}
 use Rattle.modprobe.specs.Setup.{Setup, name_at}
 use Rattle.modprobe.specs.Refusals.{Refusal, code_of, unload_code, error_line, refusal_line}
 use Rattle.modprobe.specs.Changes.{Change, made, one_load, one_removal}
 use Rattle.modprobe.specs.Plans.{whole_plan, plan_text}
+use Rattle.modprobe.specs.Loads as loads
 
 -- what a change is answered
 abbrev pub told_text : Option Refusal → List ℕ
@@ -50,6 +51,8 @@ abbrev pub answered : Setup → List ℕ → Request → Table → List ℕ × T
 answered s name (act action) t = performed_by_name s name (slot_named s.catalogue name) action t
 answered s name modinfo t = (details s name (slot_named s.catalogue name), t)
 answered s name plan t = (plan_text s (whole_plan s name), t)
+answered s name (modprobe words) t = told (loads.modprobe s name words t)
+answered s name modprobe_remove t = told (loads.modprobe_remove s name t)
 
 -- what a command writes, and the table after it
 abbrev pub performed : Setup → Command → Table → List ℕ × Table

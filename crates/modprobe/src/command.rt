@@ -1,7 +1,7 @@
 //! What a session line asks for.
 ghost use Rattle.std.specs.Prelude.{◌≡◌, IfOk, option_map};
 ghost use Rattle.dep_index.specs.Text.{texts_of};
-ghost use Rattle.modprobe.specs.Commands.{listing_of, plain_request_of, request_of, worker_request_of, takes_worker, is_option, with_name, with_worker, by_second, by_words};
+ghost use Rattle.modprobe.specs.Commands.{listing_of, plain_request_of, request_of, worker_request_of, takes_worker, is_option, with_name, with_worker, with_removal, is_removal, by_second, by_words};
 ghost use Rattle.modprobe.specs.ForProofs.{request_from, command_from};
 
 use dep_index::Name;
@@ -31,6 +31,9 @@ pub(crate) enum Request<'a> {
     Act(Action<'a>),
     Modinfo,
     Plan,
+    /// The modules of the name are loaded with their dependencies, and its own with these words.
+    Modprobe(&'a [&'a [u8]]),
+    ModprobeRemove,
 }
 
 /// What a session line asks for.
@@ -80,6 +83,9 @@ fn request_of<'a>(first: &[u8], words: &'a [&'a [u8]]) -> Option<Request<'a>>
 {
     if first == b"insmod".as_slice() {
         return Some(Request::Act(Action::Insmod(words)));
+    }
+    if first == b"modprobe".as_slice() {
+        return Some(Request::Modprobe(words));
     }
     match words {
         [] => plain_request_of(first),
@@ -142,6 +148,26 @@ fn with_worker<'a>(
     }
 }
 
+/// Whether the line is a removal by modprobe.
+fn is_removal(first: &[u8], second: &[u8]) -> bool
+    ensures { result ≡ is_removal first.now second.now }
+{
+    first == b"modprobe".as_slice() && second == b"-r".as_slice()
+}
+
+fn with_removal<'a>(
+    alloc: Global,
+    first: &'a [u8],
+    rest: &[&[u8]],
+) -> Result<Command<'a>, AllocError>
+    ensures { IfOk result (λ command. command_from command ≡ with_removal first.entry.now (texts_of rest.now)) }
+{
+    match rest {
+        [name] => with_name(alloc, first, *name, Some(Request::ModprobeRemove)),
+        _ => Ok(Command::Malformed(first)),
+    }
+}
+
 fn by_second<'a>(
     alloc: Global,
     first: &'a [u8],
@@ -152,6 +178,9 @@ fn by_second<'a>(
 {
     if takes_worker(first) {
         return with_worker(alloc, first, number_within(LARGEST_WORKER, second), rest);
+    }
+    if is_removal(first, second) {
+        return with_removal(alloc, first, rest);
     }
     with_name(alloc, first, second, request_of(first, rest))
 }

@@ -23,7 +23,7 @@ fn answer(
     serve(alloc, 1, &mut reader, &mut writer)
 }
 
-const CARD_SESSIONS: [(&[u8], &[u8]); 4] = [
+const CARD_SESSIONS: [(&[u8], &[u8]); 13] = [
     (
         b"%session\ninsmod snd\ninsmod snd-pcm debug=maybe\ninsmod snd-pcm debug other=9\ninsmod snd_pcm\nget 1 snd\nput 0 snd\nfrob x\nrmmod nosuch\n",
         b"ok\nerror EINVAL snd_pcm\nok\nerror EEXIST snd_pcm\nerror WORKER snd\nerror NOTHELD snd\nerror SYNTAX frob\nerror ENOENT nosuch\n",
@@ -40,6 +40,42 @@ const CARD_SESSIONS: [(&[u8], &[u8]); 4] = [
         b"%session\ninsmod snd -x\ninsmod snd-pcm debug=1 -debug=2\nproc\n",
         b"ok\nok\nsnd_pcm 143360 0 - Live 0x0000000000000000\nsnd 114688 1 snd_pcm, Live 0x0000000000000000\n",
     ),
+    (
+        b"%session\nmodprobe snd-pcm\nlsmod\n",
+        b"ok\nModule                  Size  Used by\nsnd_pcm               143360  0\nsnd                   114688  1 snd_pcm\n",
+    ),
+    (
+        b"%session\nmodprobe snd-pcm\nproc\nrmmod snd\nmodprobe -r snd_pcm\nproc\n",
+        b"ok\nsnd_pcm 143360 0 - Live 0x0000000000000000\nsnd 114688 1 snd_pcm, Live 0x0000000000000000\nerror EWOULDBLOCK snd\nok\n",
+    ),
+    (
+        b"%session\nmodprobe snd-pcm\nrmmod snd\nmodprobe -r snd_pcm\nrmmod snd\n",
+        b"ok\nerror EWOULDBLOCK snd\nok\nerror ENOENT snd\n",
+    ),
+    (
+        b"%session\nmodprobe snd-pcm\nget 0 snd\nmodprobe -r snd-pcm\nquery snd\n",
+        b"ok\nok\nok\nyes\n",
+    ),
+    (
+        b"%conf\nremove snd /bin/true\n%session\nmodprobe snd-pcm\nmodprobe -r snd\nmodprobe -r snd-pcm\nrmmod snd\n",
+        b"ok\nerror REMOVE snd\nok\nok\n",
+    ),
+    (
+        b"%session\nmodprobe snd-pcm debug=maybe\nrmmod snd\n",
+        b"error EINVAL snd_pcm\nok\n",
+    ),
+    (
+        b"%conf\nalias both snd\nalias both nosuch\n%session\nmodprobe both\nproc\nmodprobe nosuch\nmodprobe -r nosuch\nmodprobe\nmodprobe -r\nmodprobe -x snd\nmodprobe -r snd x\nmodprobe -r -r\n",
+        b"error ENOENT nosuch\nerror ENOENT nosuch\nerror ENOENT nosuch\nerror SYNTAX modprobe\nerror SYNTAX modprobe\nerror SYNTAX modprobe\nerror SYNTAX modprobe\nerror SYNTAX modprobe\n",
+    ),
+    (
+        b"%session\nmodprobe -r snd\ninsmod snd\nmodprobe snd x=1\ndrain snd\nmodprobe snd\nmodprobe -r snd\nproc\n",
+        b"ok\nok\nok\nok\nerror EEXIST snd\nok\n",
+    ),
+    (
+        b"%conf\nsoftdep snd pre: snd-pcm\nalias pair snd\nalias pair snd-pcm\noptions snd-pcm debug=1\n%session\nplan pair\nmodprobe pair\nmodprobe -r pair\nproc\n",
+        b"load snd hard\nload snd hard\nload snd_pcm hard debug=1\nok\nerror EWOULDBLOCK snd\nsnd_pcm 143360 0 - Live 0x0000000000000000\nsnd 114688 1 snd_pcm, Live 0x0000000000000000\n",
+    ),
 ];
 
 #[test]
@@ -52,7 +88,7 @@ fn sessions_of_two_cards(rt: HostRuntime) -> Result<(), Fail> {
     Ok(())
 }
 
-const PLANS: [(&[u8], &[u8], &[u8]); 13] = [
+const PLANS: [(&[u8], &[u8], &[u8]); 15] = [
     (
         b"",
         b"%session\nlsmod\nproc\n",
@@ -117,6 +153,16 @@ const PLANS: [(&[u8], &[u8], &[u8]); 13] = [
         b"%catalogue\nmodule a\nparam x int\n",
         b"%session\ninsmod a x=one\nproc\ninsmod a x=1 y\nrmmod a\n",
         b"error EINVAL a\nok\nok\n",
+    ),
+    (
+        b"%catalogue\nmodule x\nmodule y\nparam debug bool\nparam level int\nmodule z\nmodule w\n",
+        b"%conf\noptions y debug=1 \\\n level=3\ninstall x /bin/true\nsoftdep z pre: y\ninstall z /bin/true\nblacklist w \\\n%session\nmodprobe x\nplan y\nplan z\nmodprobe z\n",
+        b"error INSTALL x\nload y hard debug=1 level=3\nload y soft debug=1 level=3\nload z hard\nok\n",
+    ),
+    (
+        b"%catalogue\nmodule a\nmodule b\nneeds zz\nmodule c\nparam n int\n",
+        b"%conf\nsoftdep a pre: b c\noptions c n=x\n%session\nmodprobe a\nproc\nmodprobe c n=1\nmodprobe b\n",
+        b"ok\na 0 0 - Live 0x0000000000000000\nerror EINVAL c\nerror UNKNOWNSYMBOL b\n",
     ),
 ];
 

@@ -3,15 +3,18 @@ ghost use Rattle.std.specs.Prelude.{◌≡◌, IfOk, OnOk, OnErr};
 ghost use Rattle.dep_index.specs.Text.{texts_of};
 ghost use Rattle.dep_index.specs.Catalogue.{slot_named, modules_of};
 ghost use Rattle.modprobe.specs.Plans.{whole_plan, plan_text};
-ghost use Rattle.modprobe.specs.Session.{details, answered, performed, line_answer};
+ghost use Rattle.modprobe.specs.Session.{told as answer_of, details, answered, performed, line_answer};
+ghost use Rattle.modprobe.specs.Loads.{modprobe, modprobe_remove};
 ghost use Rattle.modprobe.specs.Commands.{by_words};
 ghost use Rattle.modprobe.specs.ForProofs.{request_from};
 
-use crate::answer::perform;
+use crate::answer::{perform, told};
 use crate::command::{Action, Command, Request, parse};
+use crate::load::load_items;
 use crate::refusal::Code;
+use crate::removal::remove_plans;
 use crate::setup::Setup;
-use crate::targets::whole_plan;
+use crate::targets::{load_plan, removal_plans, whole_plan};
 use crate::text::{items_text, plan_refusal, refusal_text, render, room};
 use dep_index::Name;
 use dep_index::text::{is_comment, words};
@@ -59,6 +62,53 @@ fn act<M: Modules>(
     Ok(text)
 }
 
+/// Loads the modules of a name (modprobe(8)), with the reply. All is planned before the first change.
+fn modprobe<M: Modules>(
+    alloc: Global,
+    setup: &Setup,
+    name: Name,
+    words: &[&[u8]],
+    table: &mut M,
+) -> Result<Vec<u8>, AllocError>
+    requires over { M.catalogue table.old ≡ modules_of setup.now.catalogue }
+    ensures reply { IfOk result (λ text. text.items ≡ (answer_of (modprobe setup.now name (texts_of words.now) (M.table table.old))).0) }
+    ensures after { OnOk result (M.table table.new ≡ (answer_of (modprobe setup.now name (texts_of words.now) (M.table table.old))).1) }
+    ensures unchanged { OnErr result (M.table table.new ≡ M.table table.old) }
+    ensures over { M.catalogue table.new ≡ M.catalogue table.old }
+{
+    match load_plan(alloc, setup, name, words, table) {
+        Ok(items) => {
+            let mut text = room(alloc, b"")?;
+            render(&mut text, told(load_items(setup, table, &items)));
+            Ok(text)
+        }
+        Err(error) => plan_refusal(alloc, error),
+    }
+}
+
+/// Removes the modules of a name (modprobe(8)), with the reply. All is planned before the first change.
+fn modprobe_remove<M: Modules>(
+    alloc: Global,
+    setup: &Setup,
+    name: Name,
+    table: &mut M,
+) -> Result<Vec<u8>, AllocError>
+    requires over { M.catalogue table.old ≡ modules_of setup.now.catalogue }
+    ensures reply { IfOk result (λ text. text.items ≡ (answer_of (modprobe_remove setup.now name (M.table table.old))).0) }
+    ensures after { OnOk result (M.table table.new ≡ (answer_of (modprobe_remove setup.now name (M.table table.old))).1) }
+    ensures unchanged { OnErr result (M.table table.new ≡ M.table table.old) }
+    ensures over { M.catalogue table.new ≡ M.catalogue table.old }
+{
+    match removal_plans(alloc, setup, name, table) {
+        Ok(plans) => {
+            let mut text = room(alloc, b"")?;
+            render(&mut text, told(remove_plans(setup, table, &plans)));
+            Ok(text)
+        }
+        Err(error) => plan_refusal(alloc, error),
+    }
+}
+
 /// Makes what is asked for by a name, with its reply.
 fn reply_by_name<M: Modules>(
     alloc: Global,
@@ -77,6 +127,8 @@ fn reply_by_name<M: Modules>(
         Request::Act(action) => act(alloc, setup, &name, action, table),
         Request::Modinfo => details(alloc, setup, &name),
         Request::Plan => plan_text(alloc, setup, name),
+        Request::Modprobe(words) => modprobe(alloc, setup, name, words, table),
+        Request::ModprobeRemove => modprobe_remove(alloc, setup, name, table),
     }
 }
 

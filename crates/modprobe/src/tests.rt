@@ -293,21 +293,29 @@ fn the_longest_line(rt: HostRuntime) -> Result<(), Fail> {
     Ok(())
 }
 
+const CARD_RUN: &[u8] =
+    b"%catalogue\nmodule snd\nexports s\nmodule snd-pcm\nneeds s\n%session\nmodprobe snd-pcm\nproc\nrmmod snd\nmodprobe -r snd_pcm\nproc\n";
+
+const CARD_ANSWER: &[u8] =
+    b"ok\nsnd_pcm 0 0 - Live 0x0000000000000000\nsnd 0 1 snd_pcm, Live 0x0000000000000000\nerror EWOULDBLOCK snd\nok\n";
+
 /// Run with each allocation refused in turn: want of memory is answered as such, and what was written is a prefix.
 #[test]
 fn memory_that_runs_out(rt: HostRuntime) {
-    let mut reader = Scripted::new(FIRST_RUN, false);
-    let mut writer = Narrow::new(256, false);
-    match serve(rt.alloc(), 1, &mut reader, &mut writer) {
-        Ok(()) => assert_eq!(rt; writer.text(), FIRST_ANSWER),
-        Err(ServeFault::Setup(fault)) => {
-            assert!(rt; matches!(fault.code, SetupCode::Memory));
-            assert_eq!(rt; writer.len, 0);
+    for (input, wanted) in [(FIRST_RUN, FIRST_ANSWER), (CARD_RUN, CARD_ANSWER)] {
+        let mut reader = Scripted::new(input, false);
+        let mut writer = Narrow::new(256, false);
+        match serve(rt.alloc(), 1, &mut reader, &mut writer) {
+            Ok(()) => assert_eq!(rt; writer.text(), wanted),
+            Err(ServeFault::Setup(fault)) => {
+                assert!(rt; matches!(fault.code, SetupCode::Memory));
+                assert_eq!(rt; writer.len, 0);
+            }
+            Err(ServeFault::Run(fault)) => {
+                assert!(rt; matches!(fault, RunFault::Memory));
+                assert!(rt; wanted.starts_with(writer.text()));
+            }
+            Err(ServeFault::Memory) => assert_eq!(rt; writer.len, 0),
         }
-        Err(ServeFault::Run(fault)) => {
-            assert!(rt; matches!(fault, RunFault::Memory));
-            assert!(rt; FIRST_ANSWER.starts_with(writer.text()));
-        }
-        Err(ServeFault::Memory) => assert_eq!(rt; writer.len, 0),
     }
 }

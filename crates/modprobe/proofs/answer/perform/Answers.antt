@@ -1,4 +1,4 @@
-use Rattle.std.proofs.Common.{◌≡◌, ◌<◌, ◌∙◌, sym, length, Some}
+use Rattle.std.proofs.Common.{◌≡◌, ◌∙◌, sym, Some}
 use Rattle.dep_index.specs.Catalogue.{slot_named}
 use Rattle.modprobe.proofs.SlotLemmas.{named_below, slot_below}
 use Rattle.modprobe.proofs.answer.perform.Goals as goal
