@@ -109,17 +109,23 @@ impl Manager {
     }
 
     /// How often the worker holds the module.
-    pub fn held<R: Wait>(&self, rt: &R, worker: usize, slot: usize) -> Option<u32> {
+    pub fn held<R: Wait>(&self, rt: &R, worker: usize, slot: usize) -> Option<u32>
+        ensures { self.now.world.workers ≤ worker → IsNone result }
+    {
         self.leaf(worker)?.lock(rt).held(slot)
     }
 
     /// Takes one reference for the worker.
-    pub fn get<R: Wait>(&self, rt: &R, worker: usize, slot: usize) -> Option<Result<(), GetError>> {
+    pub fn get<R: Wait>(&self, rt: &R, worker: usize, slot: usize) -> Option<Result<(), GetError>>
+        ensures { self.now.world.workers ≤ worker → IsNone result }
+    {
         self.leaf(worker)?.lock(rt).get(rt, slot)
     }
 
     /// Gives one reference of the worker back.
-    pub fn put<R: Wait>(&self, rt: &R, worker: usize, slot: usize) -> Option<Result<(), PutError>> {
+    pub fn put<R: Wait>(&self, rt: &R, worker: usize, slot: usize) -> Option<Result<(), PutError>>
+        ensures { self.now.world.workers ≤ worker → IsNone result }
+    {
         self.leaf(worker)?.lock(rt).put(slot)
     }
 

@@ -1,7 +1,7 @@
 //! The table of modules, used by one thread.
 #![tactic(auto)]
 
-pub mod counts;
+mod counts;
 mod modules;
 mod tables;
 
