@@ -2,8 +2,10 @@
 #![tactic(auto)]
 
 mod drive;
+mod status;
 #[cfg(test)]
 mod tests;
+mod words;
 
 pub use drive::drive;
 use std::alloc::AllocError;

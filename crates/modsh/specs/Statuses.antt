@@ -1,0 +1,34 @@
+-- How the program ends.
+use Rattle.std.specs.Prelude.{ℕ}
+use Rattle.modprobe.specs.declared.fault.ServeFault.{ServeFault}
+use Rattle.modprobe.specs.declared.fault.ServeFault.TheVariants as serve_fault
+use Rattle.modprobe.specs.declared.fault.SetupCode.{SetupCode}
+use Rattle.modprobe.specs.declared.fault.SetupCode.TheVariants.{C1, C2, C3, C4, M1, M2, M3, B1, Read, Memory, Turns, LongLine}
+use Rattle.modsh.specs.declared.status.Status.{Status}
+use Rattle.modsh.specs.declared.status.Status.TheVariants.{Done, Refused, Fault}
+
+abbrev pub number_of : Status → ℕ
+number_of Done = 0
+number_of Refused = 2
+number_of Fault = 3
+
+-- a text that is wrong is refused; all else is a fault
+abbrev pub setup_status : SetupCode → Status
+setup_status C1 = Refused
+setup_status C2 = Refused
+setup_status C3 = Refused
+setup_status C4 = Refused
+setup_status M1 = Refused
+setup_status M2 = Refused
+setup_status M3 = Refused
+setup_status B1 = Refused
+setup_status Read = Fault
+setup_status Memory = Fault
+setup_status Turns = Fault
+setup_status LongLine = Fault
+
+-- the status after a fault of a session
+abbrev pub status_of : ServeFault → Status
+status_of (serve_fault.Setup fault) = setup_status fault.code
+status_of (serve_fault.Run fault) = Fault
+status_of serve_fault.Memory = Fault
