@@ -94,6 +94,8 @@ module snd
 exports snd_card_new
 module snd-pcm
 needs snd_card_new
+%alias
+alias snd-card-* snd
 %conf
 options snd debug=1
 %session
