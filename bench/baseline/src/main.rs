@@ -3,6 +3,7 @@
 mod leaves;
 mod manager;
 mod patterns;
+mod plans;
 
 fn main() {
     let name = std::env::args().nth(1).unwrap_or_default();
@@ -10,6 +11,7 @@ fn main() {
         "leaves" => leaves::measure(),
         "manager" => manager::measure(),
         "patterns" => patterns::measure(),
+        "plans" => plans::measure(),
         // a benchmark without a baseline prints nothing
         _ => {}
     }

@@ -9,6 +9,7 @@ mod listing;
 mod machine;
 mod manager;
 mod patterns;
+mod plans;
 mod points;
 
 use anyhow::Result;
@@ -28,10 +29,11 @@ enum Benchmark {
     Machine,
     Manager,
     Patterns,
+    Plans,
     Points,
 }
 
-const ALL: [Benchmark; 8] = [
+const ALL: [Benchmark; 9] = [
     Benchmark::Catalogue,
     Benchmark::Configuration,
     Benchmark::Leaves,
@@ -39,6 +41,7 @@ const ALL: [Benchmark; 8] = [
     Benchmark::Machine,
     Benchmark::Manager,
     Benchmark::Patterns,
+    Benchmark::Plans,
     Benchmark::Points,
 ];
 
@@ -52,6 +55,7 @@ impl Benchmark {
             Benchmark::Machine => "machine",
             Benchmark::Manager => "manager",
             Benchmark::Patterns => "patterns",
+            Benchmark::Plans => "plans",
             Benchmark::Points => "points",
         }
     }
@@ -65,6 +69,7 @@ impl Benchmark {
             Benchmark::Machine => machine::measure(rt),
             Benchmark::Manager => manager::measure(rt),
             Benchmark::Patterns => patterns::measure(rt),
+            Benchmark::Plans => plans::measure(rt),
             Benchmark::Points => points::measure(rt),
         }
     }
