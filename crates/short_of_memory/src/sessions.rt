@@ -38,7 +38,7 @@ impl From<ServeFault> for Stop {
 }
 
 /// How much an answer may have.
-const ROOM: usize = 256;
+const ROOM: usize = 1024;
 
 /// Keeps what is written, and takes no memory for it.
 #[derive(Drop)]
@@ -91,9 +91,12 @@ const INPUT: &[u8] = b"%dep
 snd-pcm.ko: snd.ko
 %catalogue
 module snd
+size 114688
 exports snd_card_new
 module snd-pcm
+size 143360
 needs snd_card_new
+param debug bool
 %alias
 alias snd-card-* snd
 %conf
@@ -110,6 +113,15 @@ put 0 snd_pcm
 rmmod snd_pcm
 frob x
 rmmod nosuch
+modprobe -r snd
+plan snd-pcm
+modprobe snd-card-7
+modprobe snd-pcm debug=maybe
+modprobe snd-pcm
+lsmod
+proc
+modinfo snd-pcm
+modprobe -r snd-pcm
 ";
 
 const ANSWER: &[u8] = b"error NEEDNOTLIVE snd
@@ -123,6 +135,22 @@ ok
 ok
 error SYNTAX frob
 error ENOENT nosuch
+ok
+load snd hard debug=1
+load snd_pcm hard
+ok
+error EINVAL snd_pcm
+ok
+Module                  Size  Used by
+snd_pcm               143360  0
+snd                   114688  1 snd_pcm
+snd_pcm 143360 0 - Live 0x0000000000000000
+snd 114688 1 snd_pcm, Live 0x0000000000000000
+name:           snd_pcm
+size:           143360
+depends:        snd
+parm:           debug:bool
+ok
 ";
 
 /// What a session came to that wrote this.
