@@ -4,11 +4,17 @@ ghost use Rattle.workload.specs.declared.drive.Stop.TheVariants as stops;
 
 use crate::fault::ScheduleFault;
 use crate::report::report;
-use clap::Command;
+use crate::script::read_script;
+use crate::threads::{Gate, WorkFault, run_threads};
 use clap::error::ErrorKind;
+use clap::{Arg, ArgAction, Command, Error as ClapError};
+use dep_index::Reply;
+use module_table::Manager;
 use std::alloc::{AllocError, Global};
 use std::io;
 use std::io::{Read, Write};
+use std::sync::Wait;
+use std::thread::Threads;
 use thiserror::Error;
 
 /// How the program ends.
@@ -32,6 +38,24 @@ enum Stop {
     Memory,
     #[error("{0}")]
     Input(ScheduleFault),
+    #[error("{0}")]
+    Work(WorkFault),
+}
+
+impl From<AllocError> for Stop {
+    ghost from_gives = { λ _ stop. stop ≡ stops.Memory };
+
+    fn from(_: AllocError) -> Stop {
+        Stop::Memory
+    }
+}
+
+impl From<WorkFault> for Stop {
+    ghost from_gives = { λ fault stop. stop ≡ stops.Work fault };
+
+    fn from(fault: WorkFault) -> Stop {
+        Stop::Work(fault)
+    }
 }
 
 impl From<ScheduleFault> for Stop {
@@ -59,40 +83,79 @@ fn read_input<I: Read>(alloc: Global, reader: &mut I) -> Result<Vec<u8>, Stop> {
     }
 }
 
-/// Writes the report of the input.
-fn write_report<I: Read, O: Write>(
-    alloc: Global,
+/// A gate that lets every line begin.
+#[derive(Drop)]
+struct Open;
+
+impl Gate for Open {
+    fn before(&self, _worker: usize, _line: usize) -> bool {
+        true
+    }
+
+    fn after(&self, _worker: usize, _line: usize, _reply: Reply) {}
+}
+
+/// What the workers of a script come to, on a manager of its own.
+fn script_text<R: AllocGlobal + Threads + Wait + Sync>(
+    rt: &R,
+    input: &[u8],
+) -> Result<Vec<u8>, Stop> {
+    let script = read_script(rt.alloc(), input)?;
+    let (manager, readers) = Manager::new(rt.alloc(), script.catalogue(), script.workers())?;
+    let text = run_threads(rt, script.catalogue(), &manager, readers, &script, &Open)?;
+    Ok(text)
+}
+
+/// Writes the report of the input, or what its script comes to on threads.
+fn write_text<R: AllocGlobal + Threads + Wait + Sync, I: Read, O: Write>(
+    rt: &R,
+    on_threads: bool,
     reader: &mut I,
     writer: &mut O,
 ) -> Result<(), Stop> {
-    let input = read_input(alloc, reader)?;
-    let text = report(alloc, &input)?;
+    let input = read_input(rt.alloc(), reader)?;
+    let text = if on_threads {
+        script_text(rt, &input)?
+    } else {
+        report(rt.alloc(), &input)?
+    };
     match writer.write_all(&text) {
         Ok(()) => Ok(()),
         Err(_) => Err(Stop::Write),
     }
 }
 
-fn drive_or_fail<R: AllocGlobal, I: Read, O: Write, E: Write>(
+/// Whether the words ask for threads.
+fn asks_for_threads(alloc: Global, words: &[String]) -> Result<bool, ClapError> {
+    let threads = Arg::new(alloc, "threads")
+        .long("threads")
+        .action(ArgAction::SetTrue)
+        .help("Runs a script on threads");
+    let command = Command::new(alloc, "workload").arg(threads)?;
+    let matches = command.try_get_matches_from(words)?;
+    Ok(matches.get_flag("threads"))
+}
+
+fn drive_or_fail<R: AllocGlobal + Threads + Wait + Sync, I: Read, O: Write, E: Write>(
     rt: &R,
     words: &[String],
     reader: &mut I,
     writer: &mut O,
     errors: &mut E,
 ) -> Result<Status, AllocError> {
-    let command = Command::new(rt.alloc(), "workload");
-    if let Err(error) = command.try_get_matches_from(words) {
-        if error.kind() == ErrorKind::OutOfMemory {
-            return Err(AllocError);
-        }
-        if error.use_stderr() {
+    let on_threads = match asks_for_threads(rt.alloc(), words) {
+        Ok(on_threads) => on_threads,
+        Err(error) if error.kind() == ErrorKind::OutOfMemory => return Err(AllocError),
+        Err(error) if error.use_stderr() => {
             let _ = write!(errors, "{error}");
             return Ok(Status::Refused);
         }
-        let _ = write!(writer, "{error}");
-        return Ok(Status::Done);
-    }
-    match write_report(rt.alloc(), reader, writer) {
+        Err(error) => {
+            let _ = write!(writer, "{error}");
+            return Ok(Status::Done);
+        }
+    };
+    match write_text(rt, on_threads, reader, writer) {
         Ok(()) => Ok(Status::Done),
         Err(stop) => {
             let _ = writeln!(errors, "workload: {stop}");
@@ -101,10 +164,10 @@ fn drive_or_fail<R: AllocGlobal, I: Read, O: Write, E: Write>(
     }
 }
 
-/// Runs the program on these words, the first of which is its own name, and answers its status: 0 where the report was
-/// written, 2 where an argument or the input is refused, 3 for a fault. What is refused, and what failed, is said on
-/// `errors`; help goes to `writer`.
-pub fn drive<R: AllocGlobal, I: Read, O: Write, E: Write>(
+/// Runs the program on these words, the first of which is its own name, and answers its status: 0 where the report, or
+/// with `--threads` what the script comes to, was written, 2 where an argument or the input is refused, 3 for a fault.
+/// What is refused, and what failed, is said on `errors`; help goes to `writer`.
+pub fn drive<R: AllocGlobal + Threads + Wait + Sync, I: Read, O: Write, E: Write>(
     rt: &R,
     words: &[String],
     reader: &mut I,

@@ -1,10 +1,15 @@
 //! Schedules and their reports, written out by hand, inputs that are refused, and streams that fail.
 
+mod scripts;
+
 use crate::drive::drive;
+use std::alloc::AllocError;
 use std::io;
 use std::io::{Read, Write};
 use std::process::Abort;
+use std::sync::Wait;
 use std::test::Fail;
+use std::thread::Threads;
 
 /// A sound card and its PCM layer, which needs it.
 const CARD: &str = "module snd
@@ -192,20 +197,37 @@ impl Write for Broken {
     }
 }
 
-/// Runs the program on an input, without words: its status, what it wrote, and what it said.
-fn check<R: AllocGlobal + Abort>(
+/// Runs the program on these words and an input: its status, what it wrote, and what it said.
+fn check_words<R: AllocGlobal + Abort + Threads + Wait + Sync>(
     rt: &R,
+    words: &[&str],
     mut input: &[u8],
     status: u8,
     output: &str,
     messages: &str,
-) {
+) -> Result<(), AllocError> {
+    let mut owned = Vec::new(rt.alloc());
+    for word in words {
+        owned.push(String::from_str(rt.alloc(), word)?)?;
+    }
     let mut written = Vec::new(rt.alloc());
     let mut errors = Vec::new(rt.alloc());
-    let answer = drive(rt, &[], &mut input, &mut written, &mut errors);
+    let answer = drive(rt, owned.as_slice(), &mut input, &mut written, &mut errors);
     assert_eq!(rt; errors.as_slice(), messages.as_bytes());
     assert_eq!(rt; written.as_slice(), output.as_bytes());
     assert_eq!(rt; answer, status);
+    Ok(())
+}
+
+/// The same, without words.
+fn check<R: AllocGlobal + Abort + Threads + Wait + Sync>(
+    rt: &R,
+    input: &[u8],
+    status: u8,
+    output: &str,
+    messages: &str,
+) -> Result<(), AllocError> {
+    check_words(rt, &[], input, status, output, messages)
 }
 
 #[test]
@@ -215,7 +237,7 @@ fn schedules_are_reported(rt: HostRuntime) -> Result<(), Fail> {
             "%catalogue\n{CARD}%schedule\nworkers 2\nthreads {threads}\n{LOAD}{steps}"
         )?;
         let output = format!(in rt.alloc(); "{LOADED}{report}")?;
-        check(&rt, input.as_bytes(), 0, output.as_str(), "");
+        check(&rt, input.as_bytes(), 0, output.as_str(), "")?;
     }
     Ok(())
 }
@@ -227,7 +249,7 @@ fn as_many_workers_as_there_may_be(rt: HostRuntime) -> Result<(), Fail> {
             "%catalogue\n{CARD}%schedule\nworkers 64\nthreads {threads}\n{LOAD}{steps}"
         )?;
         let output = format!(in rt.alloc(); "{LOADED}{report}")?;
-        check(&rt, input.as_bytes(), 0, output.as_str(), "");
+        check(&rt, input.as_bytes(), 0, output.as_str(), "")?;
     }
     Ok(())
 }
@@ -266,7 +288,7 @@ fn schedules_are_refused(rt: HostRuntime) -> Result<(), Fail> {
     for (steps, fault) in REFUSED {
         let input = format!(in rt.alloc(); "%catalogue\n{CARD}%schedule\n{steps}")?;
         let messages = format!(in rt.alloc(); "workload: {fault}\n")?;
-        check(&rt, input.as_bytes(), 2, "", messages.as_str());
+        check(&rt, input.as_bytes(), 2, "", messages.as_str())?;
     }
     Ok(())
 }
@@ -285,7 +307,7 @@ const INPUTS: [(&str, &str); 6] = [
 fn inputs_are_refused(rt: HostRuntime) -> Result<(), Fail> {
     for (input, fault) in INPUTS {
         let messages = format!(in rt.alloc(); "workload: {fault}\n")?;
-        check(&rt, input.as_bytes(), 2, "", messages.as_str());
+        check(&rt, input.as_bytes(), 2, "", messages.as_str())?;
     }
     Ok(())
 }
@@ -301,7 +323,7 @@ fn as_many_steps_as_there_may_be(rt: HostRuntime) -> Result<(), Fail> {
         0,
         "call 0 t0 query snd first 0 last 2 point 1 reply no\n",
         "",
-    );
+    )?;
     Ok(())
 }
 
@@ -316,7 +338,7 @@ fn other_spellings(rt: HostRuntime) -> Result<(), Fail> {
         0,
         "call 0 t0 begin_load snd_pcm first 0 last 4 point 2 reply ok\ncall 1 t0 end_load snd_pcm fail first 5 last - point - reply -\n",
         "",
-    );
+    )?;
     Ok(())
 }
 
@@ -343,12 +365,12 @@ const WORDS: [(&str, u8, &str, &str); 2] = [
         "x",
         2,
         "",
-        "error: unexpected argument 'x' found\n\nUsage: workload\n\nFor more information, try '--help'.\n",
+        "error: unexpected argument 'x' found\n\nUsage: workload [OPTIONS]\n\nFor more information, try '--help'.\n",
     ),
     (
         "--help",
         0,
-        "Usage: workload\n\nOptions:\n  -h, --help  Print help\n",
+        "Usage: workload [OPTIONS]\n\nOptions:\n      --threads  Runs a script on threads\n  -h, --help     Print help\n",
         "",
     ),
 ];
@@ -356,16 +378,7 @@ const WORDS: [(&str, u8, &str, &str); 2] = [
 #[test]
 fn words_are_read(rt: HostRuntime) -> Result<(), Fail> {
     for (word, status, output, messages) in WORDS {
-        let mut words = Vec::new(rt.alloc());
-        words.push(String::from_str(rt.alloc(), "workload")?)?;
-        words.push(String::from_str(rt.alloc(), word)?)?;
-        let mut input: &[u8] = b"";
-        let mut written = Vec::new(rt.alloc());
-        let mut errors = Vec::new(rt.alloc());
-        let answer = drive(&rt, words.as_slice(), &mut input, &mut written, &mut errors);
-        assert_eq!(rt; answer, status, "{word}");
-        assert_eq!(rt; written.as_slice(), output.as_bytes(), "{word}");
-        assert_eq!(rt; errors.as_slice(), messages.as_bytes(), "{word}");
+        check_words(&rt, &["workload", word], b"", status, output, messages)?;
     }
     Ok(())
 }
