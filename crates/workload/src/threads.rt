@@ -5,9 +5,9 @@ ghost use Rattle.workload.specs.declared.threads.WorkFault.TheVariants as work_f
 
 use crate::listing::listing;
 use crate::script::Script;
+use crate::texts::push_number;
 use crate::worker::{Worker, make};
 use dep_index::{Catalogue, Reply};
-use itoa::Buffer;
 use module_table::Manager;
 use std::alloc::AllocError;
 use std::sync::Wait;
@@ -173,8 +173,7 @@ pub fn run_threads<R: AllocGlobal + Threads + Wait + Sync, G: Gate + Sync>(
     let calls = course.calls()?;
     let mut text = listing(rt, catalogue, manager)?;
     text.extend_from_slice(b"calls ")?;
-    let mut buffer = Buffer::new();
-    text.extend_from_slice(buffer.format(calls).as_bytes())?;
+    push_number(&mut text, calls)?;
     text.extend_from_slice(b"\n")?;
     Ok(text)
 }
