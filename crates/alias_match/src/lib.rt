@@ -12,6 +12,3 @@ pub use aliases::{Aliases, read_aliases};
 pub use laws::{match_is_decided, one_reading, reading_is_total};
 pub use pattern::Pattern;
 pub use read::PatternError;
-
-#[cfg(test)]
-mod tests;

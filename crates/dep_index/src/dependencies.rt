@@ -39,6 +39,9 @@ impl DepIndex {
     pub fn deps(&self, name: &[u8]) -> Option<&[Name]>
         ensures { option_map (λ names. names.now) result ≡ deps self.now name.now }
     {
+        if self.lines.is_empty() {
+            return None;
+        }
         let names = self.lines.get(name)?;
         Some(names)
     }

@@ -38,6 +38,3 @@ pub use refusals::{
 pub use slots::Slots;
 pub use states::ModuleState;
 pub use words::{Outcome, WordStep};
-
-#[cfg(test)]
-mod tests;

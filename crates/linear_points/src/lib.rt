@@ -9,8 +9,6 @@ mod linear;
 mod replays;
 mod runs;
 mod taken;
-#[cfg(test)]
-mod tests;
 
 pub use checker::check_points;
 pub use course::call_intervals;

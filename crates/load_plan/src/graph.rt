@@ -38,6 +38,15 @@ impl Targets {
         }
     }
 
+    /// No targets, and room for so many.
+    pub(crate) fn with_capacity(alloc: Global, count: usize) -> Result<Targets, AllocError>
+        ensures { IfOk result (λ targets. targets ≡ []) }
+    {
+        Ok(Targets {
+            items: Vec::with_capacity(alloc, count)?,
+        })
+    }
+
     /// Adds a target behind the others.
     pub fn push(&mut self, target: Target) -> Result<(), AllocError>
         ensures { IfOk result (λ _. self.new ≡ self.old ++ target ∷ []) }

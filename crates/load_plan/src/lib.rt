@@ -20,7 +20,5 @@ pub use items::{Item, Options, PlanError, plan, removal_plan};
 pub use look_up::{FindError, find};
 pub use parameters::params_valid;
 pub use refusal::{PlanRefusal, WalkError};
+pub use sources::is_kept;
 pub use steps::{PlanStep, plan_in, removal_plan_in};
-
-#[cfg(test)]
-mod tests;

@@ -2,8 +2,9 @@
 ghost use Rattle.std.specs.Prelude.{◌≡◌, ◌<◌, length, map, IfOk, IfSome};
 ghost use Rattle.dep_index.specs.Catalogue.{description_at, slot_named};
 ghost use Rattle.load_plan.specs.declared.graph.Target.TheVariants.{Slot};
-ghost use Rattle.load_plan.specs.Sources.{hard_of, is_kept, node_of, post_of, pre_of, target_of};
+ghost use Rattle.load_plan.specs.Sources.{hard_of, is_kept, is_stopped, node_of, post_of, pre_of, target_of};
 ghost use Rattle.dep_index.specs.Dependencies.{deps};
+ghost use Rattle.modprobe_conf.specs.Configuration.{softdep_of};
 ghost use Rattle.std.specs.Option.{option_copied};
 
 use crate::graph::{Node, Target, Targets};
@@ -33,7 +34,7 @@ fn target_of(alloc: Global, catalogue: &Catalogue, name: &Name) -> Result<Target
 fn targets_of(alloc: Global, catalogue: &Catalogue, names: &[Name]) -> Result<Targets, AllocError>
     ensures { IfOk result (λ targets. targets ≡ map (target_of catalogue.now) names.now) }
 {
-    let mut targets = Targets::new(alloc);
+    let mut targets = Targets::with_capacity(alloc, names.len())?;
     for name in names {
         targets.push(target_of(alloc, catalogue, name)?)?;
     }
@@ -43,7 +44,7 @@ fn targets_of(alloc: Global, catalogue: &Catalogue, names: &[Name]) -> Result<Ta
 fn slots_of(alloc: Global, needs: &[u16]) -> Result<Targets, AllocError>
     ensures { IfOk result (λ targets. targets ≡ map Slot needs.now) }
 {
-    let mut targets = Targets::new(alloc);
+    let mut targets = Targets::with_capacity(alloc, needs.len())?;
     for slot in needs {
         targets.push(Target::Slot(*slot as usize))?;
     }
@@ -66,8 +67,9 @@ fn hard_of(
     }
 }
 
-/// Whether a name has a remove line and no softdep line (modprobe.d(5)).
-pub(crate) fn is_kept(configuration: &Conf, name: &[u8]) -> bool
+/// Whether a removal passes the module of a name in normal form over: it has a remove line and no softdep line
+/// (modprobe.d(5)).
+pub fn is_kept(configuration: &Conf, name: &[u8]) -> bool
     ensures { result ≡ is_kept configuration.now name.now }
 {
     configuration.remove_line(name) && configuration.softdep(name).is_none()
@@ -103,6 +105,20 @@ fn post_of(
     }
 }
 
+/// The softdep line of a name, and whether an install line stands in the way of its module, by one look-up.
+fn softdep_and_stop<'a>(configuration: &'a Conf, name: &[u8]) -> (Option<&'a Softdep>, bool)
+    ensures softdep { option_copied result.0 ≡ softdep_of configuration.entry.now name.now }
+    ensures stop { result.1 ≡ is_stopped configuration.entry.now name.now }
+{
+    match configuration.settings(name) {
+        Some(settings) => {
+            let softdep = settings.softdep();
+            (softdep, settings.has_install() && softdep.is_none())
+        }
+        None => (None, false),
+    }
+}
+
 /// What a plan asks of a slot.
 pub(crate) fn node_of(
     alloc: Global,
@@ -116,10 +132,9 @@ pub(crate) fn node_of(
 {
     let hard = hard_of(alloc, catalogue, dependencies, m)?;
     let name = catalogue.name(m);
-    let softdep = configuration.softdep(name);
+    let (softdep, installs) = softdep_and_stop(configuration, name);
     let pre = pre_of(alloc, catalogue, softdep, m)?;
     let post = post_of(alloc, catalogue, softdep)?;
-    let installs = configuration.install_line(name) && softdep.is_none();
     Ok(Node {
         hard,
         pre,

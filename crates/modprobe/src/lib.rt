@@ -24,8 +24,3 @@ pub use lines::{LONGEST_LINE, LineFault, Lines};
 pub use service::{TURNS, serve};
 pub use session::run;
 pub use setup::{Setup, read_setup};
-
-#[cfg(test)]
-mod command_tests;
-#[cfg(test)]
-mod tests;

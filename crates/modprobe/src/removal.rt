@@ -1,7 +1,6 @@
 //! What modprobe(8) removes: each target of a name with the rest of its plan. It takes no memory.
 ghost use Rattle.std.specs.Prelude.{◌≡◌, ◌<◌, length, All};
 ghost use Rattle.dep_index.specs.Catalogue.{modules_of};
-ghost use Rattle.load_plan.specs.Sources.{is_kept};
 ghost use Rattle.modprobe.specs.Loads.{rest_removal, rest_removals, plan_removal, removals};
 ghost use Rattle.modprobe.specs.ForProofs.{refusal_in, IsShort};
 
@@ -9,7 +8,7 @@ use crate::change::one_removal;
 use crate::refusal::Refusal;
 use crate::setup::Setup;
 use dep_index::reads::is_absent;
-use modprobe_conf::Conf;
+use load_plan::is_kept;
 use seq_table::Modules;
 use std::marker::Model;
 
@@ -39,13 +38,6 @@ impl RemovalPlan {
     {
         &self.order
     }
-}
-
-/// Whether a name has a remove line and no softdep line (modprobe.d(5)).
-fn is_kept(configuration: &Conf, name: &[u8]) -> bool
-    ensures { result ≡ is_kept configuration.now name.now }
-{
-    configuration.remove_line(name) && configuration.softdep(name).is_none()
 }
 
 /// Removes a module of the rest of a plan, where that can be done.

@@ -1,13 +1,14 @@
-ghost use Rattle.std.specs.Prelude.{◌≡◌, ◌<◌, ◌∷◌, [], length, IfOk, OnOk, Some, slice_get, option_map, option_copied};
+ghost use Rattle.std.specs.Prelude.{◌≡◌, ◌<◌, ◌∷◌, [], length, IfOk, MatchOption, OnOk, Some, slice_get, option_map, option_copied};
 ghost use Rattle.dep_index.specs.Text.{texts_of};
 ghost use Rattle.alias_match.specs.Aliases.{line_before, words_before};
 ghost use Rattle.alias_match.specs.ForProofs.{nothing_read};
-ghost use Rattle.modprobe_conf.specs.Configuration.{configuration_of, entry_of, options_of, softdep_of, has_install_line, has_remove_line, is_blacklisted};
+ghost use Rattle.modprobe_conf.specs.Configuration.{configuration_of, entry_of, options_of, settings_by, settings_of, softdep_of, has_install_line, has_remove_line, is_blacklisted};
 ghost use Rattle.modprobe_conf.specs.ForProofs.{no_configuration, with_entry, with_lines, entry_seen};
 
 use crate::entry::Entry;
 use crate::joined_lines::JoinedLines;
 use crate::name_index::NameIndex;
+use crate::settings::Settings;
 use crate::softdep::Softdep;
 use crate::word::Word;
 use alias_match::{Alias, Pattern};
@@ -104,11 +105,21 @@ impl Conf {
         &self.aliases[i].target
     }
 
+    /// All that is said of the name, None where no line names it: one look-up for what the calls below tell one by
+    /// one.
+    pub fn settings(&self, name: &[u8]) -> Option<&Settings>
+        ensures { MatchOption result
+            (settings_of self.now name.now ≡ settings_by [])
+            (λ settings. settings_of self.now name.now ≡ settings.now) }
+    {
+        self.index.at(name)
+    }
+
     /// The words of all options lines of the name, in file order.
     pub fn options(&self, name: &[u8]) -> &[Word]
         ensures { result.now ≡ options_of self.now name.now }
     {
-        match self.index.at(name) {
+        match self.settings(name) {
             Some(settings) => settings.options(),
             None => &[],
         }
@@ -118,14 +129,14 @@ impl Conf {
     pub fn softdep(&self, name: &[u8]) -> Option<&Softdep>
         ensures { option_copied result ≡ softdep_of self.now name.now }
     {
-        self.index.at(name)?.softdep()
+        self.settings(name)?.softdep()
     }
 
     /// Whether the name has an install line.
     pub fn install_line(&self, name: &[u8]) -> bool
         ensures { result ≡ has_install_line self.now name.now }
     {
-        match self.index.at(name) {
+        match self.settings(name) {
             Some(settings) => settings.has_install(),
             None => false,
         }
@@ -135,7 +146,7 @@ impl Conf {
     pub fn remove_line(&self, name: &[u8]) -> bool
         ensures { result ≡ has_remove_line self.now name.now }
     {
-        match self.index.at(name) {
+        match self.settings(name) {
             Some(settings) => settings.has_remove(),
             None => false,
         }
@@ -145,7 +156,7 @@ impl Conf {
     pub fn blacklisted(&self, name: &[u8]) -> bool
         ensures { result ≡ is_blacklisted self.now name.now }
     {
-        match self.index.at(name) {
+        match self.settings(name) {
             Some(settings) => settings.is_blacklisted(),
             None => false,
         }

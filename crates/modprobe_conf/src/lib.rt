@@ -12,8 +12,6 @@ mod word;
 
 pub use conf::{Conf, read_conf};
 pub use laws::settings_are_of_lines;
+pub use settings::Settings;
 pub use softdep::Softdep;
 pub use word::Word;
-
-#[cfg(test)]
-mod tests;

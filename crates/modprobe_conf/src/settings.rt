@@ -13,9 +13,9 @@ pub(crate) enum Line {
     Softdep(Softdep),
 }
 
-/// What all lines say of one module.
+/// What all lines of a configuration say of one module.
 #[derive(Drop)]
-pub(crate) struct Settings {
+pub struct Settings {
     options: Vec<Word>,
     softdep: Option<Softdep>,
     has_install: bool,
@@ -73,31 +73,36 @@ impl Settings {
         Ok(())
     }
 
-    pub(crate) fn options(&self) -> &[Word]
+    /// The words of all options lines, in file order.
+    pub fn options(&self) -> &[Word]
         ensures { result.now ≡ self.now.options }
     {
         &self.options
     }
 
-    pub(crate) fn softdep(&self) -> Option<&Softdep>
+    /// The items of the first softdep line.
+    pub fn softdep(&self) -> Option<&Softdep>
         ensures { option_copied result ≡ self.now.softdep }
     {
         self.softdep.as_ref()
     }
 
-    pub(crate) fn has_install(&self) -> bool
+    /// Whether there is an install line.
+    pub fn has_install(&self) -> bool
         ensures { result ≡ self.now.has_install }
     {
         self.has_install
     }
 
-    pub(crate) fn has_remove(&self) -> bool
+    /// Whether there is a remove line.
+    pub fn has_remove(&self) -> bool
         ensures { result ≡ self.now.has_remove }
     {
         self.has_remove
     }
 
-    pub(crate) fn is_blacklisted(&self) -> bool
+    /// Whether there is a blacklist line.
+    pub fn is_blacklisted(&self) -> bool
         ensures { result ≡ self.now.is_blacklisted }
     {
         self.is_blacklisted

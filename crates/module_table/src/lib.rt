@@ -10,6 +10,3 @@ pub use book::Book;
 pub use manager::Manager;
 pub use own_book::OwnBook;
 pub use own_leaf::OwnLeaf;
-
-#[cfg(test)]
-mod tests;

@@ -18,6 +18,3 @@ pub use modinfo::modinfo_text;
 pub use names::Names;
 pub use read::read_line;
 pub use write::write_line;
-
-#[cfg(test)]
-mod tests;

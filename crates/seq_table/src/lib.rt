@@ -7,6 +7,3 @@ mod tables;
 
 pub use modules::Modules;
 pub use tables::Table;
-
-#[cfg(test)]
-mod tests;

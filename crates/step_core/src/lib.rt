@@ -8,8 +8,6 @@ pub mod laws;
 mod machines;
 mod parts;
 mod steps;
-#[cfg(test)]
-mod tests;
 
 pub use dep_index::{Call, Reply};
 pub use machines::Machine;

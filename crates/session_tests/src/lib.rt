@@ -1,0 +1,7 @@
+//! Tests of sessions: devices that fail, setups, and each command.
+#![tactic(auto)]
+
+#[cfg(test)]
+mod commands;
+#[cfg(test)]
+mod sessions;

@@ -1,0 +1,13 @@
+//! Tests of the table, the machine, its checker, the leaves and the manager, on one thread and on several.
+#![tactic(auto)]
+
+#[cfg(test)]
+mod leaves;
+#[cfg(test)]
+mod machine;
+#[cfg(test)]
+mod manager;
+#[cfg(test)]
+mod points;
+#[cfg(test)]
+mod table;

@@ -1,0 +1,162 @@
+//! A lent book and two lent leaves in threads of their own.
+ghost use Rattle.std.specs.Prelude.{◌≡◌, ◌<◌, All, IfOk, IfSome};
+ghost use Rattle.root_row.specs.World.{slots};
+ghost use Rattle.root_row.specs.Seats.{IsOf};
+ghost use Rattle.root_row.specs.Views.{worker_of};
+ghost use Rattle.root_row.specs.Made.{new_leaf};
+
+use super::CARD;
+use dep_index::{ModuleState, read_catalogue};
+use module_table::Book;
+use root_row::{LeafSeat, Row};
+use std::alloc::{AllocError, Global};
+use std::process::Abort;
+use std::sync::Wait;
+use std::test::Fail;
+use std::thread::{Threads, join_mut};
+use use_indicator::{Leaf, meet};
+
+const TURNS: u32 = 10_000;
+
+/// The leaf of the last seat that is left.
+fn take_leaf(
+    alloc: Global,
+    row: &Row,
+    seats: &mut Vec<LeafSeat>,
+) -> Result<Option<Leaf>, AllocError>
+    requires { All (λ s. s ≡ new_leaf row.now.id row.now.world (worker_of s.view)) seats.old.items }
+    ensures others { All (λ s. s ≡ new_leaf row.now.id row.now.world (worker_of s.view)) seats.new.items }
+    ensures leaf { IfOk result (λ found. IfSome found (IsOf row.now)) }
+{
+    let Some(seat) = seats.pop() else {
+        return Ok(None);
+    };
+    let leaf = Leaf::new(alloc, seat, row.slots())?;
+    Ok(Some(leaf))
+}
+
+/// Whether all that was taken was given back.
+fn take_and_give<R: Wait>(rt: &R, row: &Row, leaf: &mut Leaf) -> bool
+    requires inside { 0 < slots row.now.world }
+    requires own { IsOf row.now leaf.old }
+    ensures { IsOf row.now leaf.new }
+{
+    for _ in 0..TURNS {
+        if leaf.get(rt, row, 0).is_ok() {
+            let _ = leaf.put(row, 0);
+        }
+    }
+    leaf.held(0) == 0
+}
+
+fn load_and_drain(row: &Row, book: &mut Book) -> bool
+    requires inside { 0 < slots row.now.world }
+    requires own { IsOf row.now book.old }
+    ensures { IsOf row.now book.new }
+{
+    for _ in 0..TURNS {
+        let _ = book.begin_load(row, 0);
+        let _ = book.end_load(row, 0, true);
+        let _ = book.begin_drain(row, 0);
+        let _ = book.end_remove(row, 0);
+    }
+    book.loaded() <= 1
+}
+
+fn leaves_at_once<R: Threads + Wait + Sync>(
+    rt: &R,
+    row: &Row,
+    one: &mut Leaf,
+    other: &mut Leaf,
+) -> bool
+    requires inside { 0 < slots row.now.world }
+    requires one { IsOf row.now one.old }
+    requires other { IsOf row.now other.old }
+    ensures one { IsOf row.now one.new }
+    ensures other { IsOf row.now other.new }
+{
+    let (mine, theirs) = join_mut(
+        rt,
+        &mut || take_and_give(rt, row, one),
+        &mut || take_and_give(rt, row, other),
+    );
+    mine && theirs
+}
+
+/// Both leaves and the book at once; whether each was left as it ought to be.
+fn all_at_once<R: Threads + Wait + Sync>(
+    rt: &R,
+    row: &Row,
+    book: &mut Book,
+    one: &mut Leaf,
+    other: &mut Leaf,
+) -> bool
+    requires inside { 0 < slots row.now.world }
+    requires book { IsOf row.now book.old }
+    requires one { IsOf row.now one.old }
+    requires other { IsOf row.now other.old }
+    ensures book { IsOf row.now book.new }
+    ensures one { IsOf row.now one.new }
+    ensures other { IsOf row.now other.new }
+{
+    let (given, drained) = join_mut(
+        rt,
+        &mut ||
+            requires inside { 0 < slots row.now.world }
+            requires one { IsOf row.now one.now }
+            requires other { IsOf row.now other.now }
+        { leaves_at_once(rt, row, one, other) },
+        &mut || load_and_drain(row, book),
+    );
+    given && drained
+}
+
+/// Ends the drain that is left, where there is one.
+fn end(row: &Row, book: &mut Book) -> ModuleState
+    requires inside { 0 < slots row.now.world }
+    requires own { IsOf row.now book.old }
+    ensures { IsOf row.now book.new }
+{
+    let _ = book.end_remove(row, 0);
+    book.state(0)
+}
+
+/// The leaves of the two last seats.
+fn two_leaves(alloc: Global, row: &Row, mut seats: Vec<LeafSeat>) -> Result<(Leaf, Leaf), Fail>
+    requires { All (λ s. s ≡ new_leaf row.now.id row.now.world (worker_of s.view)) seats.items }
+    ensures { IfOk result (λ leaves. IsOf row.now leaves.0 × IsOf row.now leaves.1) }
+{
+    let other = take_leaf(alloc, row, &mut seats)?.ok_or("no leaf")?;
+    let one = take_leaf(alloc, row, &mut seats)?.ok_or("no leaf")?;
+    Ok((one, other))
+}
+
+/// All work at once, and leave nothing behind.
+fn all_end_well<R: Abort + Threads + Wait + Sync>(
+    rt: &R,
+    row: &Row,
+    mut book: Book,
+    mut one: Leaf,
+    mut other: Leaf,
+)
+    requires inside { 0 < slots row.now.world }
+    requires book { IsOf row.now book }
+    requires one { IsOf row.now one }
+    requires other { IsOf row.now other }
+{
+    assert!(rt; all_at_once(rt, row, &mut book, &mut one, &mut other));
+    let (one, other) = meet(one, other, row);
+    assert_eq!(rt; (one.held(0), other.held(0)), (0, 0));
+    assert_eq!(rt; end(row, &mut book), ModuleState::Absent);
+}
+
+#[test]
+fn a_book_and_two_leaves(rt: HostRuntime) -> Result<(), Fail> {
+    let catalogue = read_catalogue(rt.alloc(), CARD)?;
+    let (row, seats, seat, _) = Row::new(rt.alloc(), &catalogue, 2, 0)?;
+    assert_eq!(rt; row.slots(), 2);
+    let book = Book::new(rt.alloc(), seat, &catalogue)?;
+    let (one, other) = two_leaves(rt.alloc(), &row, seats)?;
+    all_end_well(&rt, &row, book, one, other);
+    Ok(())
+}
