@@ -13,6 +13,7 @@ pub mod StepLemmas
 pub mod Words
 pub mod SourceLemmas
 pub mod Parts
+pub mod Cuts
 pub mod Reaching
 pub mod LookUpLemmas
 pub mod Lawful

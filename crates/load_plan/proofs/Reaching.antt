@@ -88,15 +88,6 @@ targets-missing known ts i t name within at is all =
     list_all_more (is_target_in (known_at known)) ts i t within
     ∙ and_makes (list_all (is_target_in (known_at known)) (take i ts)) (is_target_in (known_at known) (get_or ts i t)) all (ap (is_target_in (known_at known)) (sym at ∙ is))
 
--- all that a module names is known, where its targets were added one phase behind the other
-pub names-added : {known more most : List Bool} {left behind last : List ℕ} (node : Node) → list_all (is_target_in (known_at known)) node.hard ≡ true → Adds known left more behind → list_all (is_target_in (known_at more)) node.pre ≡ true → Adds more behind most last → list_all (is_target_in (known_at most)) node.post ≡ true → names_in (known_at most) node ≡ true
-names-added {known} {more} {most} {left} {behind} {last} node hard a pre b post =
-    and_makes (list_all (is_target_in (known_at most)) node.hard && list_all (is_target_in (known_at most)) node.pre) (list_all (is_target_in (known_at most)) node.post)
-    (and_makes (list_all (is_target_in (known_at most)) node.hard) (list_all (is_target_in (known_at most)) node.pre)
-    (targets_grow (known_at known) (known_at most) (λ m h. b.grows m (a.grows m h)) node.hard hard)
-    (targets_grow (known_at more) (known_at most) b.grows node.pre pre))
-    post
-
 names_grow : (p q : ℕ → Bool) → ((m : ℕ) → p m ≡ true → q m ≡ true) → (node : Node) → names_in p node ≡ true → names_in q node ≡ true
 names_grow p q grows node h =
     let two : ((list_all (is_target_in p) node.hard && list_all (is_target_in p) node.pre) ≡ true) × (list_all (is_target_in p) node.post ≡ true) = and_true (list_all (is_target_in p) node.hard && list_all (is_target_in p) node.pre) (list_all (is_target_in p) node.post) h in

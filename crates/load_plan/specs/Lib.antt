@@ -1,4 +1,5 @@
 pub mod Graph
+pub mod Cuts
 pub mod Walk
 pub mod Plan
 pub mod Laws

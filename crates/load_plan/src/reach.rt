@@ -2,31 +2,30 @@
 ghost use Rattle.std.specs.Prelude.{◌≡◌, ◌<◌, length, replicate, false, true, IfOk, OnOk};
 ghost use Rattle.std.specs.List.{list_all};
 ghost use Rattle.load_plan.specs.declared.graph.Target.TheVariants.{Slot};
-ghost use Rattle.load_plan.specs.Graph.{is_within, names_within, no_node};
+ghost use Rattle.load_plan.specs.Graph.{is_within};
+ghost use Rattle.load_plan.specs.Cuts.{no_row};
 ghost use Rattle.load_plan.specs.Plan.{plan, removal_plan};
 ghost use Rattle.load_plan.specs.Sources.{graph_of};
-ghost use Rattle.load_plan.specs.Parts.{Adds, is_target_in, names_in, known_at};
+ghost use Rattle.load_plan.specs.Parts.{Adds, is_target_in, known_at};
 
-use crate::graph::{DependencyGraph, Node, Target, Targets};
-use crate::sources::node_of;
+use crate::graph::{DependencyGraph, Row, Target};
+use crate::sources::add_node;
 use dep_index::{Catalogue, DepIndex};
 use modprobe_conf::Conf;
 use std::alloc::{AllocError, Global};
 
 /// So many modules that name nothing.
-fn no_nodes(alloc: Global, count: usize) -> Result<Vec<Node>, AllocError>
-    ensures { IfOk result (λ nodes. nodes.items ≡ replicate count no_node) }
+fn no_rows(alloc: Global, count: usize) -> Result<Vec<Row>, AllocError>
+    ensures { IfOk result (λ rows. rows.items ≡ replicate count no_row) }
 {
-    let mut nodes = Vec::with_capacity(alloc, count)?;
-    for _ in 0..count {
-        nodes.push(Node {
-            hard: Targets::new(alloc),
-            pre: Targets::new(alloc),
-            post: Targets::new(alloc),
-            installs: false,
-        })?;
-    }
-    Ok(nodes)
+    let none = Row {
+        hard_from: 0,
+        pre_from: 0,
+        post_from: 0,
+        end: 0,
+        installs: false,
+    };
+    vec![in alloc; none; count]
 }
 
 /// So many modules that are not known.
@@ -58,29 +57,18 @@ impl Reach {
         Ok(())
     }
 
-    fn add_targets(&mut self, targets: &Targets) -> Result<(), AllocError>
+    /// Reaches all that a module names.
+    fn add_targets(&mut self, targets: &[Target]) -> Result<(), AllocError>
         requires { list_all (is_within (length self.old.known.items)) targets.now ≡ true }
         ensures adds { OnOk result (Adds self.old.known.items self.old.left.items self.new.known.items self.new.left.items) }
         ensures all { OnOk result (list_all (is_target_in (known_at self.new.known.items)) targets.now ≡ true) }
     {
-        for target in targets.as_slice() {
+        for target in targets {
             match target {
                 Target::Slot(slot) => self.add(*slot)?,
                 Target::Missing(_) => {}
             }
         }
-        Ok(())
-    }
-
-    /// Reaches all that a module names.
-    fn add_node(&mut self, node: &Node) -> Result<(), AllocError>
-        requires { names_within (length self.old.known.items) node.now ≡ true }
-        ensures adds { OnOk result (Adds self.old.known.items self.old.left.items self.new.known.items self.new.left.items) }
-        ensures all { OnOk result (names_in (known_at self.new.known.items) node.now ≡ true) }
-    {
-        self.add_targets(&node.hard)?;
-        self.add_targets(&node.pre)?;
-        self.add_targets(&node.post)?;
         Ok(())
     }
 }
@@ -98,16 +86,24 @@ pub(crate) fn graph_from(
     ensures removals { IfOk result (λ graph. removal_plan graph (Slot start) ≡ removal_plan (graph_of catalogue.now dependencies.now configuration.now) (Slot start)) }
     ensures len { IfOk result (λ graph. length graph ≡ length catalogue.now) }
 {
-    let mut nodes = no_nodes(alloc, catalogue.len())?;
+    let mut rows = no_rows(alloc, catalogue.len())?;
+    let mut targets = Vec::with_capacity(alloc, catalogue.len())?;
     let mut reach = Reach {
         known: none_known(alloc, catalogue.len())?,
         left: Vec::new(alloc),
     };
     reach.add(start)?;
     'modules: while let Some(slot) = reach.left.pop() {
-        let node = node_of(alloc, catalogue, dependencies, configuration, slot)?;
-        reach.add_node(&node)?;
-        nodes[slot] = node;
+        let row = add_node(
+            alloc,
+            catalogue,
+            dependencies,
+            configuration,
+            slot,
+            &mut targets,
+        )?;
+        reach.add_targets(&targets[row.hard_from..row.end])?;
+        rows[slot] = row;
     }
-    Ok(DependencyGraph::new(nodes))
+    Ok(DependencyGraph::of_rows(rows, targets))
 }

@@ -1,13 +1,14 @@
 //! What a catalogue, a modules.dep text and a configuration say of a module.
-ghost use Rattle.std.specs.Prelude.{◌≡◌, ◌<◌, length, map, IfOk, IfSome};
+ghost use Rattle.std.specs.Prelude.{◌≡◌, ◌<◌, ◌++◌, length, map, IfOk, IfSome, OnOk};
 ghost use Rattle.dep_index.specs.Catalogue.{description_at, slot_named};
 ghost use Rattle.load_plan.specs.declared.graph.Target.TheVariants.{Slot};
+ghost use Rattle.load_plan.specs.Cuts.{Appends};
 ghost use Rattle.load_plan.specs.Sources.{hard_of, is_kept, is_stopped, node_of, post_of, pre_of, target_of};
 ghost use Rattle.dep_index.specs.Dependencies.{deps};
 ghost use Rattle.modprobe_conf.specs.Configuration.{softdep_of};
 ghost use Rattle.std.specs.Option.{option_copied};
 
-use crate::graph::{Node, Target, Targets};
+use crate::graph::{Row, Target};
 use crate::names::copy_name;
 use dep_index::{Catalogue, DepIndex, Name};
 use modprobe_conf::{Conf, Softdep};
@@ -31,39 +32,43 @@ fn target_of(alloc: Global, catalogue: &Catalogue, name: &Name) -> Result<Target
     }
 }
 
-fn targets_of(alloc: Global, catalogue: &Catalogue, names: &[Name]) -> Result<Targets, AllocError>
-    ensures { IfOk result (λ targets. targets ≡ map (target_of catalogue.now) names.now) }
+fn add_names(
+    alloc: Global,
+    catalogue: &Catalogue,
+    names: &[Name],
+    targets: &mut Vec<Target>,
+) -> Result<(), AllocError>
+    ensures { OnOk result (targets.new.items ≡ targets.old.items ++ map (target_of catalogue.now) names.now) }
 {
-    let mut targets = Targets::with_capacity(alloc, names.len())?;
     for name in names {
         targets.push(target_of(alloc, catalogue, name)?)?;
     }
-    Ok(targets)
+    Ok(())
 }
 
-fn slots_of(alloc: Global, needs: &[u16]) -> Result<Targets, AllocError>
-    ensures { IfOk result (λ targets. targets ≡ map Slot needs.now) }
+fn add_slots(needs: &[u16], targets: &mut Vec<Target>) -> Result<(), AllocError>
+    ensures { OnOk result (targets.new.items ≡ targets.old.items ++ map Slot needs.now) }
 {
-    let mut targets = Targets::with_capacity(alloc, needs.len())?;
     for slot in needs {
         targets.push(Target::Slot(*slot as usize))?;
     }
-    Ok(targets)
+    Ok(())
 }
 
-/// The hard dependencies of a slot.
-fn hard_of(
+/// Adds the hard dependencies of a slot.
+fn add_hard(
     alloc: Global,
     catalogue: &Catalogue,
     dependencies: &DepIndex,
     m: usize,
-) -> Result<Targets, AllocError>
+    targets: &mut Vec<Target>,
+) -> Result<(), AllocError>
     requires { m < length catalogue.now }
-    ensures { IfOk result (λ targets. targets ≡ hard_of catalogue.now m (deps dependencies.now (description_at catalogue.now m).name)) }
+    ensures { OnOk result (targets.new.items ≡ targets.old.items ++ hard_of catalogue.now m (deps dependencies.now (description_at catalogue.now m).name)) }
 {
     match dependencies.deps(catalogue.name(m)) {
-        Some(names) => targets_of(alloc, catalogue, names),
-        None => slots_of(alloc, catalogue.needs(m)),
+        Some(names) => add_names(alloc, catalogue, names, targets),
+        None => add_slots(catalogue.needs(m), targets),
     }
 }
 
@@ -75,33 +80,35 @@ pub fn is_kept(configuration: &Conf, name: &[u8]) -> bool
     configuration.remove_line(name) && configuration.softdep(name).is_none()
 }
 
-/// The pre items of a slot, by the softdep line of its name.
-fn pre_of(
+/// Adds the pre items of a slot, by the softdep line of its name.
+fn add_pre(
     alloc: Global,
     catalogue: &Catalogue,
     softdep: Option<&Softdep>,
     m: usize,
-) -> Result<Targets, AllocError>
+    targets: &mut Vec<Target>,
+) -> Result<(), AllocError>
     requires { m < length catalogue.now }
-    ensures { IfOk result (λ targets. targets ≡ map (target_of catalogue.now) (pre_of (description_at catalogue.now m) (option_copied softdep.entry))) }
+    ensures { OnOk result (targets.new.items ≡ targets.old.items ++ map (target_of catalogue.now) (pre_of (description_at catalogue.now m) (option_copied softdep.entry))) }
 {
     match softdep {
-        Some(softdep) => targets_of(alloc, catalogue, softdep.pre()),
-        None => targets_of(alloc, catalogue, catalogue.softneeds(m)),
+        Some(softdep) => add_names(alloc, catalogue, softdep.pre(), targets),
+        None => add_names(alloc, catalogue, catalogue.softneeds(m), targets),
     }
 }
 
-/// The post items of a module, by the softdep line of its name.
-fn post_of(
+/// Adds the post items of a module, by the softdep line of its name.
+fn add_post(
     alloc: Global,
     catalogue: &Catalogue,
     softdep: Option<&Softdep>,
-) -> Result<Targets, AllocError>
-    ensures { IfOk result (λ targets. targets ≡ map (target_of catalogue.now) (post_of (option_copied softdep.entry))) }
+    targets: &mut Vec<Target>,
+) -> Result<(), AllocError>
+    ensures { OnOk result (targets.new.items ≡ targets.old.items ++ map (target_of catalogue.now) (post_of (option_copied softdep.entry))) }
 {
     match softdep {
-        Some(softdep) => targets_of(alloc, catalogue, softdep.post()),
-        None => Ok(Targets::new(alloc)),
+        Some(softdep) => add_names(alloc, catalogue, softdep.post(), targets),
+        None => Ok(()),
     }
 }
 
@@ -119,26 +126,30 @@ fn softdep_and_stop<'a>(configuration: &'a Conf, name: &[u8]) -> (Option<&'a Sof
     }
 }
 
-/// What a plan asks of a slot.
-pub(crate) fn node_of(
+/// Adds what a plan asks of a slot behind the targets of others.
+pub(crate) fn add_node(
     alloc: Global,
     catalogue: &Catalogue,
     dependencies: &DepIndex,
     configuration: &Conf,
     m: usize,
-) -> Result<Node, AllocError>
+    targets: &mut Vec<Target>,
+) -> Result<Row, AllocError>
     requires { m < length catalogue.now }
-    ensures { IfOk result (λ node. node ≡ node_of catalogue.now dependencies.now configuration.now m (description_at catalogue.now m)) }
+    ensures { IfOk result (λ row. Appends targets.old.items targets.new.items row (node_of catalogue.now dependencies.now configuration.now m (description_at catalogue.now m))) }
 {
-    let hard = hard_of(alloc, catalogue, dependencies, m)?;
-    let name = catalogue.name(m);
-    let (softdep, installs) = softdep_and_stop(configuration, name);
-    let pre = pre_of(alloc, catalogue, softdep, m)?;
-    let post = post_of(alloc, catalogue, softdep)?;
-    Ok(Node {
-        hard,
-        pre,
-        post,
+    let (softdep, installs) = softdep_and_stop(configuration, catalogue.name(m));
+    let hard_from = targets.len();
+    add_hard(alloc, catalogue, dependencies, m, targets)?;
+    let pre_from = targets.len();
+    add_pre(alloc, catalogue, softdep, m, targets)?;
+    let post_from = targets.len();
+    add_post(alloc, catalogue, softdep, targets)?;
+    Ok(Row {
+        hard_from,
+        pre_from,
+        post_from,
+        end: targets.len(),
         installs,
     })
 }

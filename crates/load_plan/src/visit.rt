@@ -11,7 +11,7 @@ ghost use Rattle.load_plan.specs.Graph.{is_within, node_at};
 ghost use Rattle.load_plan.specs.Plan.{is_clean, visit};
 ghost use Rattle.load_plan.specs.Walk.{hard_walk};
 
-use crate::graph::{DependencyGraph, Target, Targets};
+use crate::graph::{DependencyGraph, Target, target_at};
 use crate::refusal::WalkError;
 use crate::walk::{Mark, new_marks, walk};
 use std::alloc::{AllocError, Global};
@@ -90,7 +90,7 @@ fn enters(
 }
 
 /// The targets of the stage's phase.
-fn targets_of(graph: &DependencyGraph, stage: Stage) -> &Targets
+fn targets_of(graph: &DependencyGraph, stage: Stage) -> &[Target]
     requires { stage.slot < length graph.now }
     ensures targets { result.now ≡ targets_of (node_at graph.entry.now stage.slot) stage.phase }
     ensures within { list_all (is_within (length graph.entry.now)) result.now ≡ true }
@@ -109,7 +109,7 @@ fn first_left(graph: &DependencyGraph, stage: Stage) -> Option<(&Target, Stage)>
     ensures within { IfSome result (λ x. is_within (length graph.entry.now) x.0.now ≡ true) }
     ensures next { IfSome result (λ x. x.1 ≡ next_stage stage) }
 {
-    match targets_of(graph, stage).get(stage.visited) {
+    match target_at(targets_of(graph, stage), stage.visited) {
         Some(target) => Some((
             target,
             Stage {

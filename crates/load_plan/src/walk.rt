@@ -8,7 +8,7 @@ ghost use Rattle.load_plan.specs.Graph.{is_within, node_at};
 ghost use Rattle.load_plan.specs.Results.{Gives, IsRefusalWithin};
 ghost use Rattle.load_plan.specs.Walk.{hard_walk, walk};
 
-use crate::graph::{DependencyGraph, Target};
+use crate::graph::{DependencyGraph, Target, target_at};
 use crate::names::copy_name;
 use crate::refusal::{PlanRefusal, WalkError};
 use dep_index::Name;
@@ -62,7 +62,7 @@ fn first_left(graph: &DependencyGraph, frame: Frame) -> Option<(&Target, Frame)>
     ensures within { IfSome result (λ x. is_within (length graph.entry.now) x.0.now ≡ true) }
     ensures next { IfSome result (λ x. x.1 ≡ next_frame frame) }
 {
-    match graph.hard(frame.slot).get(frame.walked) {
+    match target_at(graph.hard(frame.slot), frame.walked) {
         Some(target) => Some((
             target,
             Frame {

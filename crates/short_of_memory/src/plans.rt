@@ -204,7 +204,7 @@ fn graph(alloc: Global) -> Result<DependencyGraph, AllocError>
     let mut nodes = Vec::with_capacity(alloc, 2)?;
     nodes.push(node(alloc, Targets::new(alloc), Targets::new(alloc)))?;
     nodes.push(node(alloc, needs, soft))?;
-    Ok(DependencyGraph::new(nodes))
+    DependencyGraph::new(alloc, nodes)
 }
 
 fn try_plan_in(alloc: Global) -> Result<(), Stop> {

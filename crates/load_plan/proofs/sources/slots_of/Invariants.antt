@@ -1,6 +1,0 @@
-use Rattle.std.proofs.Common.{◌≡◌, map, take}
-use Rattle.load_plan.specs.declared.graph.Target.TheVariants.{Slot}
-use Rattle.load_plan.proofs.sources.slots_of.Given as goal
-
-abbrev pub invariant-loop-slot : goal.invariant-loop-slot
-invariant-loop-slot l = l.targets ≡ map Slot (take l.slot-index l.needs)
