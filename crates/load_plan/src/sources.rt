@@ -77,7 +77,10 @@ fn add_hard(
 pub fn is_kept(configuration: &Conf, name: &[u8]) -> bool
     ensures { result ≡ is_kept configuration.now name.now }
 {
-    configuration.remove_line(name) && configuration.softdep(name).is_none()
+    match configuration.settings(name) {
+        Some(settings) => settings.has_remove() && settings.softdep().is_none(),
+        None => false,
+    }
 }
 
 /// Adds the pre items of a slot, by the softdep line of its name.
