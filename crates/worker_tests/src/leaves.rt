@@ -5,26 +5,16 @@ ghost use Rattle.root_row.specs.World.{slots};
 ghost use Rattle.root_row.specs.Views.{worker_of, reader_of};
 ghost use Rattle.root_row.specs.Made.{new_leaf, new_reader, new_book};
 
-use dep_index::{Catalogue, read_catalogue};
+use crate::sound::sound;
+use dep_index::Catalogue;
 use root_row::{BookSeat, LeafSeat, ReadSeat, Row};
 use std::alloc::Global;
 use std::test::Fail;
 
 mod one_thread;
-mod steps;
-mod threads;
+pub(crate) mod steps;
+pub(crate) mod threads;
 mod words;
-
-/// Two modules, the second of which needs the first.
-const SOUND: &str = "module snd
-size 114688
-exports snd_card_new
-module snd-pcm
-size 143360
-exports snd_pcm_new
-needs snd_card_new
-param debug bool
-";
 
 /// Whether the first of two modules needs nothing and may be removed.
 fn first_is_free(alloc: Global, catalogue: &Catalogue) -> Result<bool, Fail>
@@ -39,7 +29,7 @@ fn first_is_free(alloc: Global, catalogue: &Catalogue) -> Result<bool, Fail>
     )
 }
 
-/// A row over them for two workers and a reader.
+/// A row over snd and snd_pcm for two workers and a reader.
 fn new_row(alloc: Global) -> Result<(Row, Vec<LeafSeat>, BookSeat, Vec<ReadSeat>), Fail>
     ensures wide { IfOk result (λ r. slots r.0.world ≡ 2) }
     ensures free { IfOk result (λ r. module_at r.0.world.catalogue 0 ≡ no_module) }
@@ -47,7 +37,7 @@ fn new_row(alloc: Global) -> Result<(Row, Vec<LeafSeat>, BookSeat, Vec<ReadSeat>
     ensures book { IfOk result (λ r. r.2 ≡ new_book r.0.id r.0.world) }
     ensures readers { IfOk result (λ r. All (λ s. s ≡ new_reader r.0.id r.0.world (reader_of s.view)) r.3.items) }
 {
-    let catalogue = read_catalogue(alloc, SOUND.as_bytes())?;
+    let catalogue = sound(alloc)?;
     if !first_is_free(alloc, &catalogue)? {
         return Err("the first module is not free".into());
     }

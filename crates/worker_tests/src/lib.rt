@@ -8,6 +8,10 @@ mod machine;
 #[cfg(test)]
 mod manager;
 #[cfg(test)]
+mod plays;
+#[cfg(test)]
 mod points;
+#[cfg(test)]
+mod sound;
 #[cfg(test)]
 mod table;

@@ -1,69 +1,25 @@
 //! Schedules, with the steps at which their calls begin, take effect and return.
 
-use dep_index::read_catalogue;
-use std::alloc::{AllocError, Global};
+use crate::plays::Play::{Go, Invoke};
+use crate::plays::{
+    ANOTHER_LIFE, DRAINED, LEAVING, MISSED, NOT_WRITTEN, Play, SERVED, STOPPED, steps_of,
+};
+use crate::sound::{SND, SND_PCM, sound};
+use Event::{Invoked, Point, Returned};
+use Reply::{Done, InUse, NeedNotLive, No, NotLive, Yes};
+use std::alloc::Global;
 use std::process::Abort;
 use std::test::Fail;
 use step_core::{Call, Event, Machine, Reply, Step, StepError};
 
-/// What a thread is told: to begin a call, or to make so many lines of it.
-#[derive(Clone, Copy)]
-enum Play {
-    Invoke(usize, Call),
-    Go(usize, usize),
-}
-
-use Event::{Invoked, Point, Returned};
-use Play::{Go, Invoke};
-use Reply::{Done, InUse, NeedNotLive, No, NotLive, Yes};
-
-const SND: usize = 0;
-
-const SND_PCM: usize = 1;
-
-/// The first steps of a schedule, 0 to 9: snd is loaded.
-const LOADED: [Play; 4] = [
-    Invoke(0, Call::BeginLoad(SND)),
-    Go(0, 4),
-    Invoke(0, Call::EndLoad(SND, true)),
-    Go(0, 4),
-];
-
-const TEXT: &[u8] = b"module snd
-size 114688
-exports snd_card_new
-module snd-pcm
-size 143360
-exports snd_pcm_new
-needs snd_card_new
-param debug bool
-";
-
 /// The machine with 2 workers over snd, and snd_pcm, which needs it.
 fn machine(alloc: Global, threads: usize, calls: usize) -> Result<Machine, Fail> {
-    let catalogue = read_catalogue(alloc, TEXT)?;
-    Ok(Machine::new(alloc, &catalogue, 2, threads, calls)?)
-}
-
-fn add_steps(steps: &mut Vec<Step>, plays: &[Play]) -> Result<(), AllocError> {
-    for play in plays {
-        match *play {
-            Invoke(t, call) => steps.push(Step::Invoke(t, call))?,
-            Go(t, lines) => {
-                for _ in 0..lines {
-                    steps.push(Step::Go(t))?;
-                }
-            }
-        }
-    }
-    Ok(())
+    Ok(Machine::new(alloc, &sound(alloc)?, 2, threads, calls)?)
 }
 
 /// The steps after snd is loaded at which a call begins, takes effect or returns, each with its index.
 fn marks(alloc: Global, threads: usize, plays: &[Play]) -> Result<Vec<(usize, Event)>, Fail> {
-    let mut steps = Vec::new(alloc);
-    add_steps(&mut steps, &LOADED)?;
-    add_steps(&mut steps, plays)?;
+    let steps = steps_of(alloc, plays)?;
     let mut machine = machine(alloc, threads, steps.len())?;
     let mut marks = Vec::new(alloc);
     for (index, step) in steps.iter().enumerate() {
@@ -113,18 +69,6 @@ fn refuses_what_is_out_of_range(rt: HostRuntime) -> Result<(), Fail> {
 // A removal is refused while a reference is held.
 #[test]
 fn gets_queries_puts_removes(rt: HostRuntime) -> Result<(), Fail> {
-    let plays = [
-        Invoke(0, Call::Get(0, SND)),
-        Go(0, 5),
-        Invoke(1, Call::InUse(SND)),
-        Go(1, 2),
-        Invoke(1, Call::BeginRemove(SND)),
-        Go(1, 3),
-        Invoke(0, Call::Put(0, SND)),
-        Go(0, 4),
-        Invoke(1, Call::BeginRemove(SND)),
-        Go(1, 4),
-    ];
     let wanted = [
         (10, Invoked(2)),
         (13, Point(2, Done)),
@@ -142,19 +86,12 @@ fn gets_queries_puts_removes(rt: HostRuntime) -> Result<(), Fail> {
         (30, Point(6, Done)),
         (32, Returned(6, Done)),
     ];
-    expect(&rt, rt.alloc(), 2, &plays, &wanted)
+    expect(&rt, rt.alloc(), 2, &SERVED, &wanted)
 }
 
 // The get has exchanged the word and not written its count.
 #[test]
 fn counts_a_get_that_is_not_written(rt: HostRuntime) -> Result<(), Fail> {
-    let plays = [
-        Invoke(0, Call::Get(0, SND)),
-        Go(0, 3),
-        Invoke(1, Call::BeginRemove(SND)),
-        Go(1, 3),
-        Go(0, 2),
-    ];
     let wanted = [
         (10, Invoked(2)),
         (13, Point(2, Done)),
@@ -163,19 +100,12 @@ fn counts_a_get_that_is_not_written(rt: HostRuntime) -> Result<(), Fail> {
         (17, Returned(3, InUse)),
         (19, Returned(2, Done)),
     ];
-    expect(&rt, rt.alloc(), 2, &plays, &wanted)
+    expect(&rt, rt.alloc(), 2, &NOT_WRITTEN, &wanted)
 }
 
 // A removal comes between the get's load and its exchange, at step 18.
 #[test]
 fn misses_the_exchange(rt: HostRuntime) -> Result<(), Fail> {
-    let plays = [
-        Invoke(0, Call::Get(0, SND)),
-        Go(0, 2),
-        Invoke(1, Call::BeginRemove(SND)),
-        Go(1, 4),
-        Go(0, 3),
-    ];
     let wanted = [
         (10, Invoked(2)),
         (13, Invoked(3)),
@@ -184,25 +114,12 @@ fn misses_the_exchange(rt: HostRuntime) -> Result<(), Fail> {
         (19, Point(2, NotLive)),
         (20, Returned(2, NotLive)),
     ];
-    expect(&rt, rt.alloc(), 2, &plays, &wanted)
+    expect(&rt, rt.alloc(), 2, &MISSED, &wanted)
 }
 
 // The module was removed and loaded again between the get's load and its exchange.
 #[test]
 fn finds_the_same_word_in_another_life(rt: HostRuntime) -> Result<(), Fail> {
-    let plays = [
-        Invoke(0, Call::Get(0, SND)),
-        Go(0, 2),
-        Invoke(1, Call::BeginRemove(SND)),
-        Go(1, 4),
-        Invoke(1, Call::EndRemove(SND)),
-        Go(1, 4),
-        Invoke(1, Call::BeginLoad(SND)),
-        Go(1, 4),
-        Invoke(1, Call::EndLoad(SND, true)),
-        Go(1, 4),
-        Go(0, 3),
-    ];
     let wanted = [
         (10, Invoked(2)),
         (13, Invoked(3)),
@@ -220,22 +137,12 @@ fn finds_the_same_word_in_another_life(rt: HostRuntime) -> Result<(), Fail> {
         (33, Point(2, Done)),
         (35, Returned(2, Done)),
     ];
-    expect(&rt, rt.alloc(), 2, &plays, &wanted)
+    expect(&rt, rt.alloc(), 2, &ANOTHER_LIFE, &wanted)
 }
 
 // Thread 0 stops with the lock of leaf 0: thread 1 waits for it, and no other thread does.
 #[test]
 fn stops_with_a_lock_held(rt: HostRuntime) -> Result<(), Fail> {
-    let plays = [
-        Invoke(0, Call::Get(0, SND)),
-        Go(0, 1),
-        Invoke(1, Call::Get(0, SND)),
-        Go(1, 3),
-        Invoke(2, Call::InUse(SND)),
-        Go(2, 2),
-        Invoke(3, Call::Get(1, SND)),
-        Go(3, 5),
-    ];
     let wanted = [
         (10, Invoked(2)),
         (12, Invoked(3)),
@@ -246,7 +153,7 @@ fn stops_with_a_lock_held(rt: HostRuntime) -> Result<(), Fail> {
         (22, Point(5, Done)),
         (24, Returned(5, Done)),
     ];
-    expect(&rt, rt.alloc(), 4, &plays, &wanted)
+    expect(&rt, rt.alloc(), 4, &STOPPED, &wanted)
 }
 
 // The second reference of a leaf is taken, and one of two is put back, with no change of the word.
@@ -292,14 +199,6 @@ fn takes_two_references(rt: HostRuntime) -> Result<(), Fail> {
 // The removal has its point and stops: a get is refused, and the second removal waits for its lock.
 #[test]
 fn removes_in_two_threads(rt: HostRuntime) -> Result<(), Fail> {
-    let plays = [
-        Invoke(0, Call::BeginRemove(SND)),
-        Go(0, 2),
-        Invoke(1, Call::Get(0, SND)),
-        Go(1, 3),
-        Invoke(1, Call::EndRemove(SND)),
-        Go(1, 5),
-    ];
     let wanted = [
         (10, Invoked(2)),
         (12, Point(2, Done)),
@@ -308,27 +207,12 @@ fn removes_in_two_threads(rt: HostRuntime) -> Result<(), Fail> {
         (16, Returned(3, NotLive)),
         (17, Invoked(4)),
     ];
-    expect(&rt, rt.alloc(), 2, &plays, &wanted)
+    expect(&rt, rt.alloc(), 2, &LEAVING, &wanted)
 }
 
 // A get whose load came before the drain is refused, and the removal waits for the reference.
 #[test]
 fn drains(rt: HostRuntime) -> Result<(), Fail> {
-    let plays = [
-        Invoke(0, Call::Get(0, SND)),
-        Go(0, 5),
-        Invoke(0, Call::Get(1, SND)),
-        Go(0, 2),
-        Invoke(1, Call::BeginDrain(SND)),
-        Go(1, 4),
-        Go(0, 3),
-        Invoke(1, Call::EndRemove(SND)),
-        Go(1, 3),
-        Invoke(0, Call::Put(0, SND)),
-        Go(0, 4),
-        Invoke(1, Call::EndRemove(SND)),
-        Go(1, 4),
-    ];
     let wanted = [
         (10, Invoked(2)),
         (13, Point(2, Done)),
@@ -349,7 +233,7 @@ fn drains(rt: HostRuntime) -> Result<(), Fail> {
         (38, Point(7, Done)),
         (40, Returned(7, Done)),
     ];
-    expect(&rt, rt.alloc(), 2, &plays, &wanted)
+    expect(&rt, rt.alloc(), 2, &DRAINED, &wanted)
 }
 
 // A leaf that holds the module gets no further reference while it drains; a query still says yes.

@@ -4,7 +4,8 @@ ghost use Rattle.root_row.specs.Seats.{IsOf};
 
 mod lent;
 
-use dep_index::{BeginRemoveError, GetError, ModuleState, PutError, read_catalogue};
+use crate::sound::sound;
+use dep_index::{BeginRemoveError, GetError, ModuleState, PutError};
 use module_table::{Manager, OwnBook, OwnLeaf};
 use std::process::Abort;
 use std::sync::{Mutex, Wait};
@@ -14,17 +15,6 @@ use std::thread::Threads;
 use use_indicator::Reader;
 
 const TURNS: usize = 12_500;
-
-/// A sound card and its PCM layer, which needs it.
-const CARD: &[u8] = b"module snd
-size 114688
-exports snd_card_new
-module snd-pcm
-size 143360
-exports snd_pcm_new
-needs snd_card_new
-param debug bool
-";
 
 fn load<R: Abort + Wait>(rt: &R, manager: &Manager) {
     assert_eq!(rt; manager.begin_load(rt, 0), Some(Ok(())));
@@ -69,7 +59,7 @@ fn end<R: Abort + Wait>(rt: &R, manager: &Manager) {
 
 #[test]
 fn a_module_is_used_and_removed(rt: HostRuntime) -> Result<(), Fail> {
-    let (manager, mut readers) = Manager::new(rt.alloc(), &read_catalogue(rt.alloc(), CARD)?, 2)?;
+    let (manager, mut readers) = Manager::new(rt.alloc(), &sound(rt.alloc())?, 2)?;
     load(&rt, &manager);
     get_by_both(&rt, &manager);
     let mut reader = readers.pop().ok_or("no reader")?;
@@ -145,7 +135,7 @@ fn remove_on_guards<R: Abort + Wait>(rt: &R, manager: &Manager) {
 
 #[test]
 fn guards_answer_as_the_manager_does(rt: HostRuntime) -> Result<(), Fail> {
-    let (manager, _readers) = Manager::new(rt.alloc(), &read_catalogue(rt.alloc(), CARD)?, 2)?;
+    let (manager, _readers) = Manager::new(rt.alloc(), &sound(rt.alloc())?, 2)?;
     load_on_a_guard(&rt, &manager);
     use_on_guards(&rt, &manager);
     remove_on_guards(&rt, &manager);
@@ -222,7 +212,7 @@ fn change_and_ask<R: Threads + Wait + Sync>(rt: &R, manager: &Manager, reader: &
 
 #[test]
 fn threads_use_one_manager(rt: HostRuntime) -> Result<(), Fail> {
-    let (manager, mut readers) = Manager::new(rt.alloc(), &read_catalogue(rt.alloc(), CARD)?, 2)?;
+    let (manager, mut readers) = Manager::new(rt.alloc(), &sound(rt.alloc())?, 2)?;
     let mut reader = readers.pop().ok_or("no reader")?;
     assert_eq!(rt; manager.slots(), 2);
     change_and_ask(&rt, &manager, &mut reader);
@@ -246,7 +236,7 @@ fn on_scoped_threads<R: Threads + Wait + Sync>(rt: &R, manager: &Manager) {
 
 #[test]
 fn workers_on_scoped_threads(rt: HostRuntime) -> Result<(), Fail> {
-    let (manager, _readers) = Manager::new(rt.alloc(), &read_catalogue(rt.alloc(), CARD)?, 2)?;
+    let (manager, _readers) = Manager::new(rt.alloc(), &sound(rt.alloc())?, 2)?;
     load(&rt, &manager);
     on_scoped_threads(&rt, &manager);
     assert_eq!(rt; manager.begin_remove(&rt, 0), Some(Ok(())));

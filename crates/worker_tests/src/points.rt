@@ -4,62 +4,19 @@ ghost use Rattle.std.specs.Prelude.{◌≤◌};
 mod judged;
 mod schedules;
 
-use dep_index::{Call, Catalogue, Reply, read_catalogue};
+use crate::plays::{Play, steps_of};
+use crate::sound::sound;
+use dep_index::Reply;
 use linear_points::{Point, check_points, points};
 use std::alloc::{AllocError, Global};
 use std::process::Abort;
 use std::test::Fail;
-use step_core::Step;
-
-/// What a thread is told: to begin a call, or to make so many lines of it.
-#[derive(Clone, Copy)]
-enum Play {
-    Invoke(usize, Call),
-    Go(usize, usize),
-}
 
 /// A call's number, the index of its point and its reply there.
 type Mark = (usize, usize, Reply);
 
-const SND: usize = 0;
-
-/// The first steps of a schedule, 0 to 9: snd is loaded by calls 0 and 1.
-const LOADED: [Play; 4] = [
-    Play::Invoke(0, Call::BeginLoad(SND)),
-    Play::Go(0, 4),
-    Play::Invoke(0, Call::EndLoad(SND, true)),
-    Play::Go(0, 4),
-];
-
+/// The points of the load of snd.
 const LOADED_MARKS: [Mark; 2] = [(0, 2, Reply::Done), (1, 7, Reply::Done)];
-
-/// The catalogue of snd, and of snd_pcm, which needs it.
-fn sound(alloc: Global) -> Result<Catalogue, Fail> {
-    let text = b"module snd\nexports snd_card_new\nmodule snd-pcm\nneeds snd_card_new\n";
-    Ok(read_catalogue(alloc, text)?)
-}
-
-fn add_steps(steps: &mut Vec<Step>, plays: &[Play]) -> Result<(), AllocError> {
-    for play in plays {
-        match *play {
-            Play::Invoke(t, call) => steps.push(Step::Invoke(t, call))?,
-            Play::Go(t, lines) => {
-                for _ in 0..lines {
-                    steps.push(Step::Go(t))?;
-                }
-            }
-        }
-    }
-    Ok(())
-}
-
-/// The steps of a schedule that begins with the load of snd.
-fn steps_of(alloc: Global, plays: &[Play]) -> Result<Vec<Step>, AllocError> {
-    let mut steps = Vec::new(alloc);
-    add_steps(&mut steps, &LOADED)?;
-    add_steps(&mut steps, plays)?;
-    Ok(steps)
-}
 
 fn add_points(found: &mut Vec<Point>, marks: &[Mark]) -> Result<(), AllocError> {
     for mark in marks {

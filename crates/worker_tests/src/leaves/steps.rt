@@ -1,5 +1,5 @@
 //! Steps on the first slot of a row, each with what the next one asks for.
-ghost use Rattle.std.specs.Prelude.{◌≡◌, ◌<◌, ◌∷◌, [], length, All, IfSome, None, if◌then◌else◌};
+ghost use Rattle.std.specs.Prelude.{◌≡◌, ◌<◌, ◌∷◌, [], length, All, IfOk, IfSome, None, if◌then◌else◌};
 ghost use Rattle.std.specs.Bool.{OnFalse};
 ghost use Rattle.dep_index.specs.Table.{module_at, no_module};
 ghost use Rattle.dep_index.specs.Calls.{book_refusal};
@@ -12,9 +12,12 @@ ghost use Rattle.root_row.specs.BookSteps.{MayLeave};
 
 use dep_index::{Call, ModuleState};
 use root_row::{BookCall, BookSeat, LeafCall, LeafSeat, ReadSeat, Row};
+use std::alloc::Global;
+use std::test::Fail;
+use use_indicator::{Leaf, Reader};
 
 /// A leaf's seat of a new row.
-pub(super) fn take_leaf(row: &Row, leaves: &mut Vec<LeafSeat>) -> Option<LeafSeat>
+pub(crate) fn take_leaf(row: &Row, leaves: &mut Vec<LeafSeat>) -> Option<LeafSeat>
     requires { All (λ s. s ≡ new_leaf row.now.id row.now.world (worker_of s.view)) leaves.old.items }
     ensures others { All (λ s. s ≡ new_leaf row.now.id row.now.world (worker_of s.view)) leaves.new.items }
     ensures leaf { IfSome result (λ s. s ≡ new_leaf row.now.id row.now.world (worker_of s.view)) }
@@ -22,16 +25,41 @@ pub(super) fn take_leaf(row: &Row, leaves: &mut Vec<LeafSeat>) -> Option<LeafSea
     leaves.pop()
 }
 
-/// A reader's seat of a new row.
-pub(super) fn take_reader(row: &Row, readers: &mut Vec<ReadSeat>) -> Option<ReadSeat>
-    requires { All (λ s. s ≡ new_reader row.now.id row.now.world (reader_of s.view)) readers.old.items }
-    ensures { IfSome result (λ s. s ≡ new_reader row.now.id row.now.world (reader_of s.view)) }
+/// The leaf of the last seat that is left.
+fn leaf_from(alloc: Global, row: &Row, seats: &mut Vec<LeafSeat>) -> Result<Leaf, Fail>
+    requires { All (λ s. s ≡ new_leaf row.now.id row.now.world (worker_of s.view)) seats.old.items }
+    ensures others { All (λ s. s ≡ new_leaf row.now.id row.now.world (worker_of s.view)) seats.new.items }
+    ensures leaf { IfOk result (IsOf row.now) }
 {
-    readers.pop()
+    let seat = take_leaf(row, seats).ok_or("no leaf")?;
+    Ok(Leaf::new(alloc, seat, row.slots())?)
+}
+
+/// The leaves of the two last seats.
+pub(crate) fn two_leaves(
+    alloc: Global,
+    row: &Row,
+    mut seats: Vec<LeafSeat>,
+) -> Result<(Leaf, Leaf), Fail>
+    requires { All (λ s. s ≡ new_leaf row.now.id row.now.world (worker_of s.view)) seats.items }
+    ensures { IfOk result (λ leaves. IsOf row.now leaves.0 × IsOf row.now leaves.1) }
+{
+    let other = leaf_from(alloc, row, &mut seats)?;
+    let one = leaf_from(alloc, row, &mut seats)?;
+    Ok((one, other))
+}
+
+/// The reader of the last seat.
+pub(super) fn one_reader(row: &Row, mut seats: Vec<ReadSeat>) -> Result<Reader, Fail>
+    requires { All (λ s. s ≡ new_reader row.now.id row.now.world (reader_of s.view)) seats.items }
+    ensures { IfOk result (IsOf row.now) }
+{
+    let seat = seats.pop().ok_or("no reader")?;
+    Ok(Reader::new(seat))
 }
 
 /// Begins the first load of a new row, and answers the word that the look found.
-pub(super) fn begin_load(row: &Row, book: &mut BookSeat) -> u64
+fn begin_load(row: &Row, book: &mut BookSeat) -> u64
     requires inside { 0 < slots row.now.world }
     requires free { module_at row.now.world.catalogue 0 ≡ no_module }
     requires new { book.old ≡ new_book row.now.id row.now.world }
@@ -44,7 +72,7 @@ pub(super) fn begin_load(row: &Row, book: &mut BookSeat) -> u64
 }
 
 /// Ends the load well, and answers the word that the look found.
-pub(super) fn end_load(row: &Row, book: &mut BookSeat) -> u64
+fn end_load(row: &Row, book: &mut BookSeat) -> u64
     requires own { IsOf row.now book.old }
     requires inside { 0 < slots row.now.world }
     requires free { module_at row.now.world.catalogue 0 ≡ no_module }
@@ -58,6 +86,20 @@ pub(super) fn end_load(row: &Row, book: &mut BookSeat) -> u64
     let found = row.look_book(book, 0, BookCall::EndLoad(true));
     row.open(book, 0);
     found
+}
+
+/// Loads a new row's first module, and answers the words that the two looks found.
+pub(super) fn load(row: &Row, book: &mut BookSeat) -> (u64, u64)
+    requires inside { 0 < slots row.now.world }
+    requires free { module_at row.now.world.catalogue 0 ≡ no_module }
+    requires new { book.old ≡ new_book row.now.id row.now.world }
+    ensures own { IsOf row.now book.new }
+    ensures live { state_in book.new.view 0 ≡ ModuleState.Live }
+    ensures alone { (book_of book.new.view).order ≡ 0 ∷ [] }
+{
+    let begun = begin_load(row, book);
+    let ended = end_load(row, book);
+    (begun, ended)
 }
 
 /// Tries a removal that the book does not refuse: the word that the look found, and whether the exchange was made.

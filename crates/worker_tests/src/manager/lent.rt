@@ -1,15 +1,14 @@
 //! A lent book and two lent leaves in threads of their own.
-ghost use Rattle.std.specs.Prelude.{◌≡◌, ◌<◌, All, IfOk, IfSome};
+ghost use Rattle.std.specs.Prelude.{◌<◌};
 ghost use Rattle.root_row.specs.World.{slots};
 ghost use Rattle.root_row.specs.Seats.{IsOf};
-ghost use Rattle.root_row.specs.Views.{worker_of};
-ghost use Rattle.root_row.specs.Made.{new_leaf};
 
-use super::CARD;
-use dep_index::{ModuleState, read_catalogue};
+use crate::leaves::steps::two_leaves;
+use crate::leaves::threads::take_and_give;
+use crate::sound::sound;
+use dep_index::ModuleState;
 use module_table::Book;
-use root_row::{LeafSeat, Row};
-use std::alloc::{AllocError, Global};
+use root_row::Row;
 use std::process::Abort;
 use std::sync::Wait;
 use std::test::Fail;
@@ -18,35 +17,14 @@ use use_indicator::{Leaf, meet};
 
 const TURNS: u32 = 10_000;
 
-/// The leaf of the last seat that is left.
-fn take_leaf(
-    alloc: Global,
-    row: &Row,
-    seats: &mut Vec<LeafSeat>,
-) -> Result<Option<Leaf>, AllocError>
-    requires { All (λ s. s ≡ new_leaf row.now.id row.now.world (worker_of s.view)) seats.old.items }
-    ensures others { All (λ s. s ≡ new_leaf row.now.id row.now.world (worker_of s.view)) seats.new.items }
-    ensures leaf { IfOk result (λ found. IfSome found (IsOf row.now)) }
-{
-    let Some(seat) = seats.pop() else {
-        return Ok(None);
-    };
-    let leaf = Leaf::new(alloc, seat, row.slots())?;
-    Ok(Some(leaf))
-}
-
 /// Whether all that was taken was given back.
-fn take_and_give<R: Wait>(rt: &R, row: &Row, leaf: &mut Leaf) -> bool
+fn gives_back<R: Wait>(rt: &R, row: &Row, leaf: &mut Leaf) -> bool
     requires inside { 0 < slots row.now.world }
     requires own { IsOf row.now leaf.old }
     ensures { IsOf row.now leaf.new }
 {
-    for _ in 0..TURNS {
-        if leaf.get(rt, row, 0).is_ok() {
-            let _ = leaf.put(row, 0);
-        }
-    }
-    leaf.held(0) == 0
+    let (taken, given) = take_and_give(rt, row, leaf, TURNS);
+    taken == given
 }
 
 fn load_and_drain(row: &Row, book: &mut Book) -> bool
@@ -77,8 +55,8 @@ fn leaves_at_once<R: Threads + Wait + Sync>(
 {
     let (mine, theirs) = join_mut(
         rt,
-        &mut || take_and_give(rt, row, one),
-        &mut || take_and_give(rt, row, other),
+        &mut || gives_back(rt, row, one),
+        &mut || gives_back(rt, row, other),
     );
     mine && theirs
 }
@@ -121,16 +99,6 @@ fn end(row: &Row, book: &mut Book) -> ModuleState
     book.state(0)
 }
 
-/// The leaves of the two last seats.
-fn two_leaves(alloc: Global, row: &Row, mut seats: Vec<LeafSeat>) -> Result<(Leaf, Leaf), Fail>
-    requires { All (λ s. s ≡ new_leaf row.now.id row.now.world (worker_of s.view)) seats.items }
-    ensures { IfOk result (λ leaves. IsOf row.now leaves.0 × IsOf row.now leaves.1) }
-{
-    let other = take_leaf(alloc, row, &mut seats)?.ok_or("no leaf")?;
-    let one = take_leaf(alloc, row, &mut seats)?.ok_or("no leaf")?;
-    Ok((one, other))
-}
-
 /// All work at once, and leave nothing behind.
 fn all_end_well<R: Abort + Threads + Wait + Sync>(
     rt: &R,
@@ -152,7 +120,7 @@ fn all_end_well<R: Abort + Threads + Wait + Sync>(
 
 #[test]
 fn a_book_and_two_leaves(rt: HostRuntime) -> Result<(), Fail> {
-    let catalogue = read_catalogue(rt.alloc(), CARD)?;
+    let catalogue = sound(rt.alloc())?;
     let (row, seats, seat, _) = Row::new(rt.alloc(), &catalogue, 2, 0)?;
     assert_eq!(rt; row.slots(), 2);
     let book = Book::new(rt.alloc(), seat, &catalogue)?;

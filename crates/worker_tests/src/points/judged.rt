@@ -1,26 +1,12 @@
 //! What the checker says of points that others hand in.
 
-use super::{Mark, Play, SND, judge};
-use Play::{Go, Invoke};
+use super::{Mark, judge};
+use crate::plays::{LEAVING, Play, SERVED};
 use Reply::{Done, InUse, No, NotLive, NotUnloading, Yes};
-use dep_index::{Call, Reply};
+use dep_index::Reply;
 use std::alloc::Global;
 use std::process::Abort;
 use std::test::Fail;
-
-// The calls of this schedule are 2 to 6; the query, call 3, goes from step 16 to step 18.
-const SERVED: [Play; 10] = [
-    Invoke(0, Call::Get(0, SND)),
-    Go(0, 5),
-    Invoke(1, Call::InUse(SND)),
-    Go(1, 2),
-    Invoke(1, Call::BeginRemove(SND)),
-    Go(1, 3),
-    Invoke(0, Call::Put(0, SND)),
-    Go(0, 4),
-    Invoke(1, Call::BeginRemove(SND)),
-    Go(1, 4),
-];
 
 fn expect(
     rt: &impl Abort,
@@ -92,14 +78,6 @@ fn judges_the_list_as_a_whole(rt: HostRuntime) -> Result<(), Fail> {
 // The point of an open call is judged by the replay alone. Calls 2 and 4 are open; the steps are 0 to 22.
 #[test]
 fn judges_open_calls_by_the_replay(rt: HostRuntime) -> Result<(), Fail> {
-    let plays = [
-        Invoke(0, Call::BeginRemove(SND)),
-        Go(0, 2),
-        Invoke(1, Call::Get(0, SND)),
-        Go(1, 3),
-        Invoke(1, Call::EndRemove(SND)),
-        Go(1, 5),
-    ];
     let rows: [(&[Mark], bool); 6] = [
         (&[(2, 12, Done), (3, 15, NotLive)], true),
         (&[(3, 15, NotLive)], false),
@@ -112,7 +90,7 @@ fn judges_open_calls_by_the_replay(rt: HostRuntime) -> Result<(), Fail> {
         (&[(2, 12, Done), (3, 15, NotLive), (4, 23, Done)], false),
     ];
     for (marks, wanted) in rows {
-        expect(&rt, rt.alloc(), &plays, marks, wanted)?;
+        expect(&rt, rt.alloc(), &LEAVING, marks, wanted)?;
     }
     Ok(())
 }

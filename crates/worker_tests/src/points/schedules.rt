@@ -1,7 +1,9 @@
 //! Where the calls of schedules take effect.
 
-use super::{Play, SND, expect, sound, steps_of};
-use Play::{Go, Invoke};
+use super::expect;
+use crate::plays::Play::{Go, Invoke};
+use crate::plays::{ANOTHER_LIFE, DRAINED, MISSED, NOT_WRITTEN, SERVED, STOPPED, steps_of};
+use crate::sound::{SND, sound};
 use Reply::{Done, InUse, No, NotLive, Yes};
 use dep_index::{Call, Reply};
 use linear_points::{End, Interval, PointsError, call_intervals, check_points, points};
@@ -11,18 +13,6 @@ use step_core::{Step, StepError};
 // A removal is refused while a reference is held.
 #[test]
 fn gets_queries_puts_removes(rt: HostRuntime) -> Result<(), Fail> {
-    let plays = [
-        Invoke(0, Call::Get(0, SND)),
-        Go(0, 5),
-        Invoke(1, Call::InUse(SND)),
-        Go(1, 2),
-        Invoke(1, Call::BeginRemove(SND)),
-        Go(1, 3),
-        Invoke(0, Call::Put(0, SND)),
-        Go(0, 4),
-        Invoke(1, Call::BeginRemove(SND)),
-        Go(1, 4),
-    ];
     let wanted = [
         (2, 13, Done),
         (3, 17, Yes),
@@ -30,26 +20,19 @@ fn gets_queries_puts_removes(rt: HostRuntime) -> Result<(), Fail> {
         (5, 25, Done),
         (6, 30, Done),
     ];
-    expect(&rt, rt.alloc(), 2, 2, &plays, &wanted)?;
-    expect(&rt, rt.alloc(), 64, 2, &plays, &wanted)
+    expect(&rt, rt.alloc(), 2, 2, &SERVED, &wanted)?;
+    expect(&rt, rt.alloc(), 64, 2, &SERVED, &wanted)
 }
 
 // The get has exchanged the word and not written its count: the removal is refused.
 #[test]
 fn counts_a_get_that_is_not_written(rt: HostRuntime) -> Result<(), Fail> {
-    let plays = [
-        Invoke(0, Call::Get(0, SND)),
-        Go(0, 3),
-        Invoke(1, Call::BeginRemove(SND)),
-        Go(1, 3),
-        Go(0, 2),
-    ];
     expect(
         &rt,
         rt.alloc(),
         2,
         2,
-        &plays,
+        &NOT_WRITTEN,
         &[(2, 13, Done), (3, 16, InUse)],
     )
 }
@@ -57,19 +40,12 @@ fn counts_a_get_that_is_not_written(rt: HostRuntime) -> Result<(), Fail> {
 // A removal comes between the get's load and its exchange.
 #[test]
 fn refuses_a_get_behind_a_removal(rt: HostRuntime) -> Result<(), Fail> {
-    let plays = [
-        Invoke(0, Call::Get(0, SND)),
-        Go(0, 2),
-        Invoke(1, Call::BeginRemove(SND)),
-        Go(1, 4),
-        Go(0, 3),
-    ];
     expect(
         &rt,
         rt.alloc(),
         2,
         2,
-        &plays,
+        &MISSED,
         &[(3, 15, Done), (2, 19, NotLive)],
     )
 }
@@ -78,19 +54,6 @@ fn refuses_a_get_behind_a_removal(rt: HostRuntime) -> Result<(), Fail> {
 // its points, to which the checker says yes.
 #[test]
 fn finds_the_same_word_in_another_life(rt: HostRuntime) -> Result<(), Fail> {
-    let plays = [
-        Invoke(0, Call::Get(0, SND)),
-        Go(0, 2),
-        Invoke(1, Call::BeginRemove(SND)),
-        Go(1, 4),
-        Invoke(1, Call::EndRemove(SND)),
-        Go(1, 4),
-        Invoke(1, Call::BeginLoad(SND)),
-        Go(1, 4),
-        Invoke(1, Call::EndLoad(SND, true)),
-        Go(1, 4),
-        Go(0, 3),
-    ];
     let wanted = [
         (3, 15, Done),
         (4, 20, Done),
@@ -99,9 +62,9 @@ fn finds_the_same_word_in_another_life(rt: HostRuntime) -> Result<(), Fail> {
         (2, 33, Done),
     ];
     let alloc = rt.alloc();
-    expect(&rt, alloc, 2, 2, &plays, &wanted)?;
+    expect(&rt, alloc, 2, 2, &ANOTHER_LIFE, &wanted)?;
     let catalogue = sound(alloc)?;
-    let steps = steps_of(alloc, &plays)?;
+    let steps = steps_of(alloc, &ANOTHER_LIFE)?;
     assert_eq!(rt; steps.len(), 36);
     for k in 0..=36 {
         let Some(first) = steps.get(..k) else {
@@ -119,19 +82,9 @@ fn finds_the_same_word_in_another_life(rt: HostRuntime) -> Result<(), Fail> {
 // Thread 0 stops with the lock of leaf 0: thread 1 waits for it, and no other thread does.
 #[test]
 fn goes_on_beside_a_thread_that_stops(rt: HostRuntime) -> Result<(), Fail> {
-    let plays = [
-        Invoke(0, Call::Get(0, SND)),
-        Go(0, 1),
-        Invoke(1, Call::Get(0, SND)),
-        Go(1, 3),
-        Invoke(2, Call::InUse(SND)),
-        Go(2, 2),
-        Invoke(3, Call::Get(1, SND)),
-        Go(3, 5),
-    ];
     let alloc = rt.alloc();
-    expect(&rt, alloc, 2, 4, &plays, &[(4, 17, No), (5, 22, Done)])?;
-    let found = call_intervals(alloc, &sound(alloc)?, 2, 4, &steps_of(alloc, &plays)?)?;
+    expect(&rt, alloc, 2, 4, &STOPPED, &[(4, 17, No), (5, 22, Done)])?;
+    let found = call_intervals(alloc, &sound(alloc)?, 2, 4, &steps_of(alloc, &STOPPED)?)?;
     let query = Interval {
         call: Call::InUse(SND),
         first: 16,
@@ -173,21 +126,6 @@ fn takes_two_references(rt: HostRuntime) -> Result<(), Fail> {
 // A get whose load came before the drain is refused, and the removal is refused while a reference is held.
 #[test]
 fn drains(rt: HostRuntime) -> Result<(), Fail> {
-    let plays = [
-        Invoke(0, Call::Get(0, SND)),
-        Go(0, 5),
-        Invoke(0, Call::Get(1, SND)),
-        Go(0, 2),
-        Invoke(1, Call::BeginDrain(SND)),
-        Go(1, 4),
-        Go(0, 3),
-        Invoke(1, Call::EndRemove(SND)),
-        Go(1, 3),
-        Invoke(0, Call::Put(0, SND)),
-        Go(0, 4),
-        Invoke(1, Call::EndRemove(SND)),
-        Go(1, 4),
-    ];
     let wanted = [
         (2, 13, Done),
         (4, 21, Done),
@@ -196,7 +134,7 @@ fn drains(rt: HostRuntime) -> Result<(), Fail> {
         (6, 33, Done),
         (7, 38, Done),
     ];
-    expect(&rt, rt.alloc(), 2, 2, &plays, &wanted)
+    expect(&rt, rt.alloc(), 2, 2, &DRAINED, &wanted)
 }
 
 #[test]
