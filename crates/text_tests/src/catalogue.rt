@@ -1,8 +1,40 @@
-use dep_index::{CatError, DepError, Name, ParamKind, read_catalogue, read_dep};
+//! Catalogues and modules.dep texts.
+
+use crate::texts::{names_text, push_line};
+use dep_index::{CatError, Catalogue, DepError, DepIndex, ParamKind, read_catalogue, read_dep};
+use std::alloc::{AllocError, Global};
+use std::process::Abort;
 use std::test::Fail;
 
 const SOUND: &[u8] =
     b"module snd\nsize 114688\nexports snd_card_new\nmodule snd-pcm\nsize 143360\nexports snd_pcm_new\nneeds snd_card_new\nparam debug bool\n";
+
+/// The module in the slot has this name and this size, and needs these.
+fn is_module(
+    rt: &impl Abort,
+    catalogue: &Catalogue,
+    m: usize,
+    name: &[u8],
+    size: u32,
+    needs: &[u16],
+) {
+    assert!(rt; m < catalogue.len());
+    assert_eq!(rt; catalogue.name(m), name);
+    assert_eq!(rt; catalogue.size(m), size);
+    assert_eq!(rt; catalogue.needs(m), needs);
+}
+
+/// The module in the slot has one parameter, a truth value, and nothing else is said of it.
+fn has_one_parameter(rt: &impl Abort, catalogue: &Catalogue, m: usize, name: &[u8]) {
+    assert!(rt; m < catalogue.len());
+    assert!(rt; !catalogue.unknown_symbol(m));
+    assert!(rt; !catalogue.permanent(m));
+    assert_eq!(rt; catalogue.softneeds(m).len(), 0);
+    let params = catalogue.params(m);
+    assert_eq!(rt; params.len(), 1);
+    assert_eq!(rt; params[0].name.as_bytes(), name);
+    assert_eq!(rt; params[0].kind, ParamKind::Bool);
+}
 
 #[test]
 fn worked_catalogue(rt: HostRuntime) -> Result<(), Fail> {
@@ -11,43 +43,64 @@ fn worked_catalogue(rt: HostRuntime) -> Result<(), Fail> {
     assert_eq!(rt; catalogue.slot(b"snd"), Some(0));
     assert_eq!(rt; catalogue.slot(b"snd_pcm"), Some(1));
     assert_eq!(rt; catalogue.slot(b"snd-pcm"), None);
-    assert_eq!(rt; catalogue.name(1), b"snd_pcm".as_slice());
-    assert_eq!(rt; catalogue.size(0), 114688);
-    assert_eq!(rt; catalogue.size(1), 143360);
-    assert_eq!(rt; catalogue.needs(0).len(), 0);
-    assert_eq!(rt; catalogue.needs(1), [0u16].as_slice());
-    assert!(rt; !catalogue.unknown_symbol(1));
-    assert!(rt; !catalogue.permanent(1));
-    assert_eq!(rt; catalogue.softneeds(1).len(), 0);
-    let params = catalogue.params(1);
-    assert_eq!(rt; params.len(), 1);
-    assert_eq!(rt; params[0].name.as_bytes(), b"debug".as_slice());
-    assert_eq!(rt; params[0].kind, ParamKind::Bool);
+    is_module(&rt, &catalogue, 0, b"snd", 114688, &[]);
+    is_module(&rt, &catalogue, 1, b"snd_pcm", 143360, &[0]);
+    has_one_parameter(&rt, &catalogue, 1, b"debug");
+    Ok(())
+}
+
+#[test]
+fn slots_of_a_catalogue(rt: HostRuntime) -> Result<(), Fail> {
+    let catalogue = read_catalogue(rt.alloc(), SOUND)?;
     let slots = catalogue.slots(rt.alloc())?;
     assert_eq!(rt; slots.len(), 2);
     assert_eq!(rt; slots.needs(1), [0u16].as_slice());
     Ok(())
 }
 
+/// Of so many modules the one in the slot needs these.
+fn has_needs<R: Abort + AllocGlobal>(
+    rt: &R,
+    text: &[u8],
+    count: usize,
+    m: usize,
+    needs: &[u16],
+) -> Result<(), Fail> {
+    let catalogue = read_catalogue(rt.alloc(), text)?;
+    assert_eq!(rt; catalogue.len(), count);
+    assert!(rt; m < catalogue.len());
+    assert_eq!(rt; catalogue.needs(m), needs);
+    Ok(())
+}
+
+const CIRCLE: &[u8] = b"module a\nexports fa\nneeds fb\nmodule b\nexports fb\nneeds fa\n";
+
+const MANY: &[u8] =
+    b"module a\nexports x y\nneeds z w x z2 z\n\tneeds y \t z2\nmodule b\nexports z z2\nmodule c\nexports w\npermanent\npermanent";
+
+const UNKNOWN: &[u8] = b"module a\nneeds zz\n";
+
 #[test]
 fn needs_of_symbols(rt: HostRuntime) -> Result<(), Fail> {
-    let two = b"module a\nexports fa\nneeds fb\nmodule b\nexports fb\nneeds fa\n";
-    let catalogue = read_catalogue(rt.alloc(), two)?;
-    assert_eq!(rt; catalogue.len(), 2);
-    assert_eq!(rt; catalogue.needs(0), [1u16].as_slice());
-    assert_eq!(rt; catalogue.needs(1), [0u16].as_slice());
+    has_needs(&rt, CIRCLE, 2, 0, &[1])?;
+    has_needs(&rt, CIRCLE, 2, 1, &[0])?;
+    has_needs(&rt, MANY, 3, 0, &[1, 2])?;
+    has_needs(&rt, UNKNOWN, 1, 0, &[])
+}
 
-    let many =
-        b"module a\nexports x y\nneeds z w x z2 z\n\tneeds y \t z2\nmodule b\nexports z z2\nmodule c\nexports w\npermanent\npermanent";
-    let catalogue = read_catalogue(rt.alloc(), many)?;
+#[test]
+fn a_permanent_module(rt: HostRuntime) -> Result<(), Fail> {
+    let catalogue = read_catalogue(rt.alloc(), MANY)?;
     assert_eq!(rt; catalogue.len(), 3);
-    assert_eq!(rt; catalogue.needs(0), [1u16, 2].as_slice());
     assert!(rt; catalogue.permanent(2));
+    Ok(())
+}
 
-    let catalogue = read_catalogue(rt.alloc(), b"module a\nneeds zz\n")?;
+#[test]
+fn an_unknown_symbol(rt: HostRuntime) -> Result<(), Fail> {
+    let catalogue = read_catalogue(rt.alloc(), UNKNOWN)?;
     assert_eq!(rt; catalogue.len(), 1);
     assert!(rt; catalogue.unknown_symbol(0));
-    assert_eq!(rt; catalogue.needs(0).len(), 0);
     Ok(())
 }
 
@@ -108,51 +161,65 @@ fn first_faults(rt: HostRuntime) {
 }
 
 /// Behind this head, so many modules, each on a line of its own.
-fn modules(rt: &HostRuntime, head: &str, count: usize) -> Result<String, Fail> {
-    let mut text = String::from_str(rt.alloc(), head)?;
+fn modules(alloc: Global, head: &[u8], count: usize) -> Result<Vec<u8>, AllocError> {
+    let mut text = Vec::from_slice(alloc, head)?;
     for m in 0..count {
-        text.push_str(&format!(in rt.alloc(); "module m{m}\n")?)?;
+        push_line(alloc, &mut text, b"module m", m)?;
     }
     Ok(text)
 }
 
+/// So many modules are all read.
+fn is_read<R: Abort + AllocGlobal>(rt: &R, head: &[u8], count: usize) -> Result<(), Fail> {
+    let text = modules(rt.alloc(), head, count)?;
+    let catalogue = read_catalogue(rt.alloc(), &text)?;
+    assert_eq!(rt; catalogue.len(), count);
+    Ok(())
+}
+
+/// Of so many modules the one in a line is one too many.
+fn is_refused<R: Abort + AllocGlobal>(
+    rt: &R,
+    head: &[u8],
+    count: usize,
+    line: usize,
+) -> Result<(), Fail> {
+    let text = modules(rt.alloc(), head, count)?;
+    let fault = read_catalogue(rt.alloc(), &text).err();
+    assert_eq!(rt; fault, Some(CatError::TooMany { line }));
+    Ok(())
+}
+
 #[test]
 fn limits(rt: HostRuntime) -> Result<(), Fail> {
-    let text = modules(&rt, "", 256)?;
-    assert_eq!(rt; read_catalogue(rt.alloc(), text.as_bytes())?.len(), 256);
-    let text = modules(&rt, "", 257)?;
-    let fault = read_catalogue(rt.alloc(), text.as_bytes()).err();
-    assert_eq!(rt; fault, Some(CatError::TooMany { line: 257 }));
-    let text = modules(&rt, "version 2\n", 1024)?;
-    assert_eq!(rt; read_catalogue(rt.alloc(), text.as_bytes())?.len(), 1024);
-    let text = modules(&rt, "version 2\n", 1025)?;
-    let fault = read_catalogue(rt.alloc(), text.as_bytes()).err();
-    assert_eq!(rt; fault, Some(CatError::TooMany { line: 1026 }));
-    Ok(())
+    is_read(&rt, b"", 256)?;
+    is_refused(&rt, b"", 257, 257)?;
+    is_read(&rt, b"version 2\n", 1024)?;
+    is_refused(&rt, b"version 2\n", 1025, 1026)
 }
 
 const DEPENDENCIES: &[u8] =
     b"kernel/a.ko: kernel/b.ko\n# none\nkernel/b.ko.xz: kernel/a.ko\n\t x-1.ko :\td/y.ko.zst d/y.ko /z\r\n";
 
-/// What the name depends on, in one text.
-fn joined(rt: &HostRuntime, names: Option<&[Name]>) -> Result<Vec<u8>, Fail> {
-    let mut text = Vec::new(rt.alloc());
-    for name in names.unwrap_or(&[]) {
-        text.extend_from_slice(name.as_bytes())?;
-        text.push(b' ')?;
-    }
-    Ok(text)
+/// A name depends on these, one a line.
+fn has_deps<R: Abort + AllocGlobal>(
+    rt: &R,
+    index: &DepIndex,
+    name: &[u8],
+    lines: &[u8],
+) -> Result<(), Fail> {
+    let names = index.deps(name).ok_or("no line")?;
+    let text = names_text(rt.alloc(), names)?;
+    assert_eq!(rt; text.as_slice(), lines);
+    Ok(())
 }
 
 #[test]
 fn dependencies(rt: HostRuntime) -> Result<(), Fail> {
     let index = read_dep(rt.alloc(), DEPENDENCIES)?;
-    assert_eq!(rt; joined(&rt, index.deps(b"a"))?.as_slice(), b"b ".as_slice());
-    assert_eq!(rt; joined(&rt, index.deps(b"b"))?.as_slice(), b"a ".as_slice());
-    assert_eq!(rt;
-        joined(&rt, index.deps(b"x_1"))?.as_slice(),
-        b"y y z ".as_slice()
-    );
+    has_deps(&rt, &index, b"a", b"b\n")?;
+    has_deps(&rt, &index, b"b", b"a\n")?;
+    has_deps(&rt, &index, b"x_1", b"y\ny\nz\n")?;
     assert!(rt; index.deps(b"x-1").is_none());
     Ok(())
 }

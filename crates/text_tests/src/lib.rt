@@ -11,3 +11,5 @@ mod listings;
 mod load_plans;
 #[cfg(test)]
 mod patterns;
+#[cfg(test)]
+mod texts;

@@ -41,61 +41,63 @@ fn told(alloc: Global, text: &[u8]) -> Result<Vec<u8>, AllocError> {
     Ok(answer)
 }
 
+/// Texts, and what they read as.
+const LINES: [(&[u8], &[u8]); 29] = [
+    (
+        b"snd 114688 1 snd_pcm, Live 0x0000000000000000",
+        b"45 snd 114688 1 snd_pcm, Live 0x0000000000000000\n",
+    ),
+    (
+        b"snd 114688 1 snd_pcm, Live 0x0000000000000000 (OE)",
+        b"50 snd 114688 1 snd_pcm, Live 0x0000000000000000\n",
+    ),
+    (
+        b"a 0 0 - Live 0x0\nb",
+        b"17 a 0 0 - Live 0x0000000000000000\n",
+    ),
+    (b"a 0 0 - Live 0x0", b"16 a 0 0 - Live 0x0000000000000000\n"),
+    (
+        b"snd_timer 49152 2 snd_seq,snd_pcm, Live 0xffffffffc0a4f000\n",
+        b"59 snd_timer 49152 2 snd_seq,snd_pcm, Live 0x0000000000000000\n",
+    ),
+    (
+        b"vfat 24576 1 - Live 0x0000000000000000 (E)\n",
+        b"43 vfat 24576 1 - Live 0x0000000000000000\n",
+    ),
+    (
+        b"p 1 2 a,[permanent], Unloading 0xAbCdEf0123456789",
+        b"49 p 1 2 a,[permanent], Unloading 0x0000000000000000\n",
+    ),
+    (
+        b"p 4294967295 0 [permanent], Loading 0x1",
+        b"39 p 4294967295 0 [permanent], Loading 0x0000000000000000\n",
+    ),
+    (b"", b"MissingField"),
+    (b"snd", b"MissingField"),
+    (b"snd 114688", b"MissingField"),
+    (b"snd 114688 1", b"MissingField"),
+    (b"snd 114688 1 snd_pcm,", b"MissingField"),
+    (b"snd 114688 1 snd_pcm, Live", b"MissingField"),
+    (b"snd-pcm 1 0 - Live 0x0", b"BadName"),
+    (b" 1 0 - Live 0x0", b"BadName"),
+    (b"snd  1 0 - Live 0x0", b"BadNumber"),
+    (b"snd 01 0 - Live 0x0", b"BadNumber"),
+    (b"snd 4294967296 0 - Live 0x0", b"BadNumber"),
+    (b"snd 1 - - Live 0x0", b"BadNumber"),
+    (b"snd 1 1 snd_pcm Live 0x0", b"BadUsers"),
+    (b"snd 1 1 , Live 0x0", b"BadUsers"),
+    (b"snd 1 1 [permanent],a, Live 0x0", b"BadUsers"),
+    (b"snd 1 0 - live 0x0", b"BadState"),
+    (b"snd 1 0 - Live 0x", b"BadAddress"),
+    (b"snd 1 0 - Live 0x00000000000000000", b"BadAddress"),
+    (b"snd 1 0 - Live 0x0 ", b"BadAddress"),
+    (b"snd 1 0 - Live 0x0 (E) b", b"BadAddress"),
+    (b"snd 1 0 - Live 0x0\r\n", b"BadAddress"),
+];
+
 #[test]
 fn reads_lines(rt: HostRuntime) -> Result<(), Fail> {
-    let rows: [(&[u8], &[u8]); 29] = [
-        (
-            b"snd 114688 1 snd_pcm, Live 0x0000000000000000",
-            b"45 snd 114688 1 snd_pcm, Live 0x0000000000000000\n",
-        ),
-        (
-            b"snd 114688 1 snd_pcm, Live 0x0000000000000000 (OE)",
-            b"50 snd 114688 1 snd_pcm, Live 0x0000000000000000\n",
-        ),
-        (
-            b"a 0 0 - Live 0x0\nb",
-            b"17 a 0 0 - Live 0x0000000000000000\n",
-        ),
-        (b"a 0 0 - Live 0x0", b"16 a 0 0 - Live 0x0000000000000000\n"),
-        (
-            b"snd_timer 49152 2 snd_seq,snd_pcm, Live 0xffffffffc0a4f000\n",
-            b"59 snd_timer 49152 2 snd_seq,snd_pcm, Live 0x0000000000000000\n",
-        ),
-        (
-            b"vfat 24576 1 - Live 0x0000000000000000 (E)\n",
-            b"43 vfat 24576 1 - Live 0x0000000000000000\n",
-        ),
-        (
-            b"p 1 2 a,[permanent], Unloading 0xAbCdEf0123456789",
-            b"49 p 1 2 a,[permanent], Unloading 0x0000000000000000\n",
-        ),
-        (
-            b"p 4294967295 0 [permanent], Loading 0x1",
-            b"39 p 4294967295 0 [permanent], Loading 0x0000000000000000\n",
-        ),
-        (b"", b"MissingField"),
-        (b"snd", b"MissingField"),
-        (b"snd 114688", b"MissingField"),
-        (b"snd 114688 1", b"MissingField"),
-        (b"snd 114688 1 snd_pcm,", b"MissingField"),
-        (b"snd 114688 1 snd_pcm, Live", b"MissingField"),
-        (b"snd-pcm 1 0 - Live 0x0", b"BadName"),
-        (b" 1 0 - Live 0x0", b"BadName"),
-        (b"snd  1 0 - Live 0x0", b"BadNumber"),
-        (b"snd 01 0 - Live 0x0", b"BadNumber"),
-        (b"snd 4294967296 0 - Live 0x0", b"BadNumber"),
-        (b"snd 1 - - Live 0x0", b"BadNumber"),
-        (b"snd 1 1 snd_pcm Live 0x0", b"BadUsers"),
-        (b"snd 1 1 , Live 0x0", b"BadUsers"),
-        (b"snd 1 1 [permanent],a, Live 0x0", b"BadUsers"),
-        (b"snd 1 0 - live 0x0", b"BadState"),
-        (b"snd 1 0 - Live 0x", b"BadAddress"),
-        (b"snd 1 0 - Live 0x00000000000000000", b"BadAddress"),
-        (b"snd 1 0 - Live 0x0 ", b"BadAddress"),
-        (b"snd 1 0 - Live 0x0 (E) b", b"BadAddress"),
-        (b"snd 1 0 - Live 0x0\r\n", b"BadAddress"),
-    ];
-    for (text, want) in rows {
+    for (text, want) in LINES {
         let answer = told(rt.alloc(), text)?;
         assert_eq!(rt; answer.as_slice(), want);
     }
@@ -174,7 +176,24 @@ const LONG: usize = 3;
 
 const USER: usize = 4;
 
-/// The listings of a catalogue's table after calls: /proc/modules, and what lsmod shows.
+/// The listings of a table: /proc/modules, and what lsmod shows.
+fn is_listed<R: Abort + AllocGlobal>(
+    rt: &R,
+    catalogue: &Catalogue,
+    table: &Table,
+    proc: &[u8],
+    lsmod: &[u8],
+) -> Result<(), Fail>
+    requires { table.now.catalogue ≡ modules_of catalogue.now }
+{
+    let text = proc_text(rt.alloc(), catalogue, table)?;
+    assert_eq!(rt; text.as_slice(), proc);
+    let text = lsmod_text(rt.alloc(), catalogue, table)?;
+    assert_eq!(rt; text.as_slice(), lsmod);
+    Ok(())
+}
+
+/// The listings of a catalogue's table after calls.
 fn lists<R: Abort + AllocGlobal>(
     rt: &R,
     catalogue: &[u8],
@@ -184,11 +203,7 @@ fn lists<R: Abort + AllocGlobal>(
 ) -> Result<(), Fail> {
     let catalogue = read_catalogue(rt.alloc(), catalogue)?;
     let table = table_after(rt.alloc(), &catalogue, calls)?;
-    let text = proc_text(rt.alloc(), &catalogue, &table)?;
-    assert_eq!(rt; text.as_slice(), proc);
-    let text = lsmod_text(rt.alloc(), &catalogue, &table)?;
-    assert_eq!(rt; text.as_slice(), lsmod);
-    Ok(())
+    is_listed(rt, &catalogue, &table, proc, lsmod)
 }
 
 #[test]

@@ -1,29 +1,20 @@
 //! Long chains of hard dependencies.
 
 use super::{Texts, read};
+use crate::texts::push_line;
 use load_plan::plan;
 use std::alloc::{AllocError, Global};
 use std::process::Abort;
 use std::test::Fail;
 
-/// Adds a module and the symbol of its number.
-fn push_module(alloc: Global, text: &mut Vec<u8>, i: usize) -> Result<(), AllocError> {
-    let lines = format!(in alloc; "module m{i}\nexports s{i}\n")?;
-    text.extend_from_slice(lines.as_bytes())
-}
-
-fn push_need(alloc: Global, text: &mut Vec<u8>, i: usize) -> Result<(), AllocError> {
-    let line = format!(in alloc; "needs s{i}\n")?;
-    text.extend_from_slice(line.as_bytes())
-}
-
 /// A chain in which each module but the last needs the symbol of the next.
 fn chain(alloc: Global, head: &[u8], count: usize) -> Result<Vec<u8>, AllocError> {
     let mut text = Vec::from_slice(alloc, head)?;
     for i in 0..count {
-        push_module(alloc, &mut text, i)?;
+        push_line(alloc, &mut text, b"module m", i)?;
+        push_line(alloc, &mut text, b"exports s", i)?;
         if i + 1 < count {
-            push_need(alloc, &mut text, i + 1)?;
+            push_line(alloc, &mut text, b"needs s", i + 1)?;
         }
     }
     Ok(text)

@@ -1,23 +1,13 @@
 //! Which modules are found for a name.
 
 use super::{Texts, has_plan};
+use crate::texts::names_text;
 use alias_match::{Aliases, read_aliases};
-use dep_index::{Name, read_catalogue};
+use dep_index::read_catalogue;
 use load_plan::{FindError, find};
 use modprobe_conf::{Conf, read_conf};
-use std::alloc::{AllocError, Global};
 use std::process::Abort;
 use std::test::Fail;
-
-/// Names, one a line.
-fn names_text(alloc: Global, names: &[Name]) -> Result<Vec<u8>, AllocError> {
-    let mut text = Vec::new(alloc);
-    for name in names {
-        text.extend_from_slice(name.as_bytes())?;
-        text.extend_from_slice(b"\n")?;
-    }
-    Ok(text)
-}
 
 /// The names that are found for a text in the catalogue of usbx, one a line.
 pub(super) fn found_text<R: Abort + AllocGlobal>(

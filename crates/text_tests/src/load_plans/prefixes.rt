@@ -1,7 +1,7 @@
 //! Each prefix of the texts of worked rows: a call answers what the part of the text says that is there.
 
 use super::look_ups::{ALIAS, DEVICE, USBX, found_text};
-use super::{CIRCLE, LEVELS, SOFTNEEDS, SOUND, Sources, Texts, plan_text, read, removal_text};
+use super::{CIRCLE, LEVELS, SOFTNEEDS, SOUND, Sources, Texts, has_removal_plan, plan_text, read};
 use alias_match::read_aliases;
 use dep_index::{CatError, Catalogue, DepError, DepIndex, read_catalogue, read_dep};
 use modprobe_conf::read_conf;
@@ -22,15 +22,16 @@ fn answer_at(answers: &[Since], length: usize) -> &'static [u8] {
     found
 }
 
-/// The plan of a name in a catalogue alone.
-fn plan_alone<R: Abort + AllocGlobal>(
+/// The plan of a name with no configuration.
+fn plan_from<R: Abort + AllocGlobal>(
     rt: &R,
     catalogue: Catalogue,
+    dependencies: DepIndex,
     name: &[u8],
 ) -> Result<Vec<u8>, Fail> {
     let sources = Sources {
         catalogue,
-        dependencies: read_dep(rt.alloc(), b"")?,
+        dependencies,
         configuration: read_conf(rt.alloc(), b"")?,
     };
     plan_text(rt, &sources, name, &[])
@@ -43,26 +44,19 @@ fn catalogue_answer<R: Abort + AllocGlobal>(
     name: &[u8],
 ) -> Result<Vec<u8>, Fail> {
     match read_catalogue(rt.alloc(), text) {
-        Ok(catalogue) => plan_alone(rt, catalogue, name),
+        Ok(catalogue) => plan_from(rt, catalogue, read_dep(rt.alloc(), b"")?, name),
         Err(CatError::Bad { .. }) => Ok(Vec::from_slice(rt.alloc(), b"bad line\n")?),
         Err(_) => Err("another fault".into()),
     }
 }
 
-/// The plan of `a` in the circle's catalogue.
-fn plan_in_circle<R: Abort + AllocGlobal>(rt: &R, dependencies: DepIndex) -> Result<Vec<u8>, Fail> {
-    let sources = Sources {
-        catalogue: read_catalogue(rt.alloc(), CIRCLE.catalogue)?,
-        dependencies,
-        configuration: read_conf(rt.alloc(), b"")?,
-    };
-    plan_text(rt, &sources, b"a", &[])
-}
-
 /// The plan of `a` in the circle's catalogue and a modules.dep text, or why the text is refused.
 fn dependencies_answer<R: Abort + AllocGlobal>(rt: &R, text: &[u8]) -> Result<Vec<u8>, Fail> {
     match read_dep(rt.alloc(), text) {
-        Ok(dependencies) => plan_in_circle(rt, dependencies),
+        Ok(dependencies) => {
+            let catalogue = read_catalogue(rt.alloc(), CIRCLE.catalogue)?;
+            plan_from(rt, catalogue, dependencies, b"a")
+        }
         Err(DepError::NoColon { .. }) => Ok(Vec::from_slice(rt.alloc(), b"no colon\n")?),
         Err(DepError::EmptyName { .. }) => Ok(Vec::from_slice(rt.alloc(), b"empty name\n")?),
         Err(_) => Err("another fault".into()),
@@ -326,22 +320,12 @@ fn of_a_remove_line(rt: HostRuntime) -> Result<(), Fail> {
     let whole = b"remove snd /bin/true\n";
     let answers: [Since; 2] = [(0, b"snd\n"), (12, b"remove snd\n")];
     for length in 0..=whole.len() {
-        let configuration = &whole[..length];
-        let sources = read(
-            &rt,
-            Texts {
-                configuration,
-                ..SOUND
-            },
-        )?;
-        let text = removal_text(&rt, &sources, b"snd")?;
-        assert_eq!(rt; text.as_slice(), answer_at(&answers, length), "at {length}");
-        let text = removal_text(&rt, &sources, b"snd-pcm")?;
-        assert_eq!(rt;
-            text.as_slice(),
-            b"snd_pcm\nsnd\n".as_slice(),
-            "at {length}"
-        );
+        let texts = Texts {
+            configuration: &whole[..length],
+            ..SOUND
+        };
+        has_removal_plan(&rt, texts, b"snd", answer_at(&answers, length))?;
+        has_removal_plan(&rt, texts, b"snd-pcm", b"snd_pcm\nsnd\n")?;
     }
     Ok(())
 }
