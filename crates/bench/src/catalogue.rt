@@ -27,20 +27,29 @@ pub fn measure<R: Print + Clock + AllocGlobal>(rt: &R) -> Result<()> {
     print_rate(rt, "read_catalogue", bytes / 1_000_000, elapsed, "MB")
 }
 
-/// Each module exports ten symbols, and needs one of each of ten others.
+/// Adds the lines of a module: it exports ten symbols, and needs one of each of ten others.
+fn push_module(text: &mut String, m: usize) -> Result<(), AllocError> {
+    write!(text, "module module_{m}\nexports")?;
+    for k in 0..SYMBOLS {
+        push_symbol(text, m, k)?;
+    }
+    text.push_str("\nneeds")?;
+    for k in 0..SYMBOLS {
+        push_symbol(text, (m % MODULES + 97 * k + 1) % MODULES, k)?;
+    }
+    text.push_str("\n")
+}
+
+fn push_symbol(text: &mut String, m: usize, k: usize) -> Result<(), AllocError> {
+    write!(text, " symbol_{m}")?;
+    write!(text, "_{k}")?;
+    Ok(())
+}
+
 fn text(alloc: Global) -> Result<String, AllocError> {
     let mut text = String::from_str(alloc, "version 2\n")?;
     for m in 0..MODULES {
-        text.push_str(&format!(in alloc; "module module_{m}\nexports")?)?;
-        for k in 0..SYMBOLS {
-            text.push_str(&format!(in alloc; " symbol_{m}_{k}")?)?;
-        }
-        text.push_str("\nneeds")?;
-        for k in 0..SYMBOLS {
-            let other = (m + 97 * k + 1) % MODULES;
-            text.push_str(&format!(in alloc; " symbol_{other}_{k}")?)?;
-        }
-        text.push_str("\n")?;
+        push_module(&mut text, m)?;
     }
     Ok(text)
 }

@@ -127,5 +127,6 @@ fn leaf_of(alloc: Global, row: &Row, seat: LeafSeat) -> Result<Leaf, AllocError>
     requires { seat ≡ new_leaf row.now.id row.now.world (worker_of seat.view) }
     ensures { IfOk result (IsOf row.now) }
 {
-    Leaf::new(alloc, seat, row.slots())
+    let leaf = Leaf::new(alloc, seat, row.slots())?;
+    Ok(leaf)
 }

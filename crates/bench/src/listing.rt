@@ -21,45 +21,95 @@ pub fn measure<R: Print + Clock + AllocGlobal>(rt: &R) -> Result<()> {
     measure_of(rt, 1024, "proc_text_1024", "lsmod_text_1024")
 }
 
+/// How many bytes all texts of /proc/modules have.
+fn proc_bytes(alloc: Global, catalogue: &Catalogue, table: &Table) -> Result<u64, AllocError>
+    requires { table.now.catalogue ≡ modules_of catalogue.now }
+{
+    let mut bytes = 0u64;
+    for _ in 0..LISTINGS {
+        bytes = bytes.wrapping_add(proc_text(alloc, catalogue, table)?.len() as u64);
+    }
+    Ok(bytes)
+}
+
+/// How many bytes all listings in columns have.
+fn lsmod_bytes(alloc: Global, catalogue: &Catalogue, table: &Table) -> Result<u64, AllocError>
+    requires { table.now.catalogue ≡ modules_of catalogue.now }
+{
+    let mut bytes = 0u64;
+    for _ in 0..LISTINGS {
+        bytes = bytes.wrapping_add(lsmod_text(alloc, catalogue, table)?.len() as u64);
+    }
+    Ok(bytes)
+}
+
+fn measure_proc<R: Print + Clock + AllocGlobal>(
+    rt: &R,
+    name: &str,
+    catalogue: &Catalogue,
+    table: &Table,
+) -> Result<u64>
+    requires { table.now.catalogue ≡ modules_of catalogue.now }
+{
+    let start = Instant::now(rt)?;
+    let bytes = proc_bytes(rt.alloc(), catalogue, table)?;
+    print_time(rt, name, LISTINGS, start.elapsed(rt)?)?;
+    Ok(bytes)
+}
+
+fn measure_lsmod<R: Print + Clock + AllocGlobal>(
+    rt: &R,
+    name: &str,
+    catalogue: &Catalogue,
+    table: &Table,
+) -> Result<u64>
+    requires { table.now.catalogue ≡ modules_of catalogue.now }
+{
+    let start = Instant::now(rt)?;
+    let bytes = lsmod_bytes(rt.alloc(), catalogue, table)?;
+    print_time(rt, name, LISTINGS, start.elapsed(rt)?)?;
+    Ok(bytes)
+}
+
 fn measure_of<R: Print + Clock + AllocGlobal>(
     rt: &R,
     modules: u32,
     lines: &str,
     columns: &str,
 ) -> Result<()> {
-    let alloc = rt.alloc();
-    let text = catalogue_text(alloc, modules)?;
-    let catalogue = match read_catalogue(alloc, text.as_bytes()) {
-        Ok(catalogue) => catalogue,
-        Err(error) => bail!("{error:?}"),
-    };
-    let table = loaded(alloc, &catalogue)?;
-    let mut bytes = 0u64;
-    let start = Instant::now(rt)?;
-    for _ in 0..LISTINGS {
-        bytes = bytes.wrapping_add(proc_text(alloc, &catalogue, &table)?.len() as u64);
-    }
-    let elapsed = start.elapsed(rt)?;
-    print_time(rt, lines, LISTINGS, elapsed)?;
-    let start = Instant::now(rt)?;
-    for _ in 0..LISTINGS {
-        bytes = bytes.wrapping_add(lsmod_text(alloc, &catalogue, &table)?.len() as u64);
-    }
-    print_time(rt, columns, LISTINGS, start.elapsed(rt)?)?;
+    let catalogue = catalogue_of(rt.alloc(), modules)?;
+    let table = loaded(rt.alloc(), &catalogue)?;
+    let in_lines = measure_proc(rt, lines, &catalogue, &table)?;
+    let in_columns = measure_lsmod(rt, columns, &catalogue, &table)?;
+    let bytes = in_lines.wrapping_add(in_columns);
     println!(rt; "{lines}_and_columns {bytes} bytes")?;
+    Ok(())
+}
+
+fn catalogue_of(alloc: Global, modules: u32) -> Result<Catalogue> {
+    let text = catalogue_text(alloc, modules)?;
+    match read_catalogue(alloc, text.as_bytes()) {
+        Ok(catalogue) => Ok(catalogue),
+        Err(error) => bail!("{error:?}"),
+    }
+}
+
+/// Adds the lines of a module, which needs the four before it.
+fn push_module(text: &mut String, m: u32) -> Result<(), AllocError> {
+    writeln!(text, "module driver-{m}")?;
+    writeln!(text, "size {m}8192")?;
+    writeln!(text, "exports symbol_{m}")?;
+    for need in m.saturating_sub(4)..m {
+        writeln!(text, "needs symbol_{need}")?;
+    }
     Ok(())
 }
 
 fn catalogue_text(alloc: Global, modules: u32) -> Result<String, AllocError> {
     let mut text = String::new(alloc);
-    writeln!(text, "version 2")?;
+    text.push_str("version 2\n")?;
     for m in 0..modules {
-        writeln!(text, "module driver-{m}")?;
-        writeln!(text, "size {m}8192")?;
-        writeln!(text, "exports symbol_{m}")?;
-        for need in m.saturating_sub(4)..m {
-            writeln!(text, "needs symbol_{need}")?;
-        }
+        push_module(&mut text, m)?;
     }
     Ok(text)
 }

@@ -1,6 +1,7 @@
 //! Measures the crates, one benchmark a call: `bench NAME`. With no argument it lists the benchmarks.
 #![tactic(auto)]
 
+mod aliases;
 mod catalogue;
 mod configuration;
 mod figure;

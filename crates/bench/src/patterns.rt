@@ -1,5 +1,6 @@
 //! Shell patterns of hardware aliases: one pair at a time, and a look-up over many.
 
+use crate::aliases::{DEVICE, aliases_text};
 use crate::figure::{print_rate, print_time};
 use alias_match::{Aliases, Pattern, read_aliases};
 use anyhow::Result;
@@ -55,8 +56,6 @@ fn measure_pair<R: Print + Clock + AllocGlobal>(rt: &R, pair: &Pair) -> Result<(
     print_time(rt, pair.name, answers, start.elapsed(rt)?)
 }
 
-const VENDORS: u32 = 26_000;
-
 const LOOKUPS: u64 = 100;
 
 fn hits(aliases: &Aliases, text: &[u8]) -> u64 {
@@ -70,20 +69,7 @@ fn hits(aliases: &Aliases, text: &[u8]) -> u64 {
 }
 
 fn measure_lookup<R: Print + Clock + AllocGlobal>(rt: &R) -> Result<()> {
-    let mut text = String::new(rt.alloc());
-    for vendor in 0..VENDORS {
-        if vendor % 2 == 0 {
-            writeln!(
-                text,
-                "alias pci:v0000{vendor:04X}d0000{vendor:04X}sv*sd*bc*sc*i* driver-{vendor}"
-            )?;
-        } else {
-            writeln!(
-                text,
-                "alias usb:v{vendor:04X}p{vendor:04X}d*dc*dsc*dp*ic*isc*ip*in* driver-{vendor}"
-            )?;
-        }
-    }
+    let text = aliases_text(rt.alloc())?;
     let start = Instant::now(rt)?;
     let aliases = read_aliases(rt.alloc(), text.as_bytes())?;
     let elapsed = start.elapsed(rt)?;
@@ -91,10 +77,7 @@ fn measure_lookup<R: Print + Clock + AllocGlobal>(rt: &R) -> Result<()> {
     let mut found = 0u64;
     let start = Instant::now(rt)?;
     for _ in 0..LOOKUPS {
-        found = found.wrapping_add(hits(
-            &aliases,
-            b"pci:v00001388d00001388sv00001028sd000006DEbc03sc00i00",
-        ));
+        found = found.wrapping_add(hits(&aliases, DEVICE));
     }
     print_time(rt, "lookup_26000_patterns", found, start.elapsed(rt)?)
 }

@@ -1,5 +1,6 @@
 //! Plans in a catalogue of 1,024 modules with three hard dependencies each, and a look-up over 26,000 aliases.
 
+use crate::aliases::{DEVICE, aliases_text};
 use crate::figure::print_time;
 use alias_match::{Aliases, read_aliases};
 use anyhow::{Result, bail};
@@ -16,8 +17,6 @@ const MODULES: usize = 1024;
 const STEPS: [usize; 3] = [1, 7, 40];
 
 const PLANS: u64 = 500;
-
-const VENDORS: u32 = 26_000;
 
 const LOOKUPS: u64 = 50;
 
@@ -160,34 +159,39 @@ fn removal_len(alloc: Global, sources: &Sources, name: &[u8]) -> Result<u64> {
     }
 }
 
-fn measure_plan<R: Print + Clock + AllocGlobal>(
-    rt: &R,
-    name: &str,
-    sources: &Sources,
-    module: &[u8],
-) -> Result<()> {
-    let mut items = 0u64;
-    let start = Instant::now(rt)?;
-    for _ in 0..PLANS {
-        items = items.wrapping_add(plan_len(rt.alloc(), sources, module)?);
-    }
-    let elapsed = start.elapsed(rt)?;
-    let each = items / PLANS;
-    println!(rt; "{name}_items {each} items")?;
-    print_time(rt, name, PLANS, elapsed)
+/// What is asked for a module.
+#[derive(Clone, Copy)]
+enum Asked {
+    Plan,
+    RemovalPlan,
 }
 
-fn measure_removal<R: Print + Clock + AllocGlobal>(
+/// How many modules the plan that is asked for has.
+fn len_of(alloc: Global, asked: Asked, sources: &Sources, module: &[u8]) -> Result<u64> {
+    match asked {
+        Asked::Plan => plan_len(alloc, sources, module),
+        Asked::RemovalPlan => removal_len(alloc, sources, module),
+    }
+}
+
+/// How many modules all plans have.
+fn len_of_all(alloc: Global, asked: Asked, sources: &Sources, module: &[u8]) -> Result<u64> {
+    let mut items = 0u64;
+    for _ in 0..PLANS {
+        items = items.wrapping_add(len_of(alloc, asked, sources, module)?);
+    }
+    Ok(items)
+}
+
+fn measure_plans<R: Print + Clock + AllocGlobal>(
     rt: &R,
     name: &str,
+    asked: Asked,
     sources: &Sources,
     module: &[u8],
 ) -> Result<()> {
-    let mut items = 0u64;
     let start = Instant::now(rt)?;
-    for _ in 0..PLANS {
-        items = items.wrapping_add(removal_len(rt.alloc(), sources, module)?);
-    }
+    let items = len_of_all(rt.alloc(), asked, sources, module)?;
     let elapsed = start.elapsed(rt)?;
     let each = items / PLANS;
     println!(rt; "{name}_items {each} items")?;
@@ -196,36 +200,40 @@ fn measure_removal<R: Print + Clock + AllocGlobal>(
 
 fn measure_by_symbols<R: Print + Clock + AllocGlobal>(rt: &R) -> Result<()> {
     let sources = by_symbols(rt.alloc())?;
-    measure_plan(rt, "plan_by_symbols", &sources, b"module_0")?;
-    measure_plan(rt, "short_plan_by_symbols", &sources, b"module_1000")
+    measure_plans(rt, "plan_by_symbols", Asked::Plan, &sources, b"module_0")?;
+    measure_plans(
+        rt,
+        "short_plan_by_symbols",
+        Asked::Plan,
+        &sources,
+        b"module_1000",
+    )
 }
 
 fn measure_by_paths<R: Print + Clock + AllocGlobal>(rt: &R) -> Result<()> {
     let sources = by_paths(rt.alloc())?;
-    measure_plan(rt, "plan_by_modules_dep", &sources, b"module_0")?;
-    measure_plan(rt, "short_plan_by_modules_dep", &sources, b"module_1000")?;
-    measure_removal(rt, "removal_plan_by_modules_dep", &sources, b"module_0")
+    measure_plans(
+        rt,
+        "plan_by_modules_dep",
+        Asked::Plan,
+        &sources,
+        b"module_0",
+    )?;
+    measure_plans(
+        rt,
+        "short_plan_by_modules_dep",
+        Asked::Plan,
+        &sources,
+        b"module_1000",
+    )?;
+    measure_plans(
+        rt,
+        "removal_plan_by_modules_dep",
+        Asked::RemovalPlan,
+        &sources,
+        b"module_0",
+    )
 }
-
-fn aliases_text(alloc: Global) -> Result<String> {
-    let mut text = String::new(alloc);
-    for vendor in 0..VENDORS {
-        if vendor % 2 == 0 {
-            writeln!(
-                text,
-                "alias pci:v0000{vendor:04X}d0000{vendor:04X}sv*sd*bc*sc*i* driver-{vendor}"
-            )?;
-        } else {
-            writeln!(
-                text,
-                "alias usb:v{vendor:04X}p{vendor:04X}d*dc*dsc*dp*ic*isc*ip*in* driver-{vendor}"
-            )?;
-        }
-    }
-    Ok(text)
-}
-
-const DEVICE: &[u8] = b"pci:v00001388d00001388sv00001028sd000006DEbc03sc00i00";
 
 fn finds(alloc: Global, sources: &Sources, aliases: &Aliases) -> u64 {
     let mut found = 0u64;

@@ -70,21 +70,24 @@ fn modules(alloc: Global) -> Result<Catalogue> {
     }
 }
 
+/// Adds the steps that load a module.
+fn push_load(steps: &mut Vec<Step>, m: usize) -> Result<(), AllocError> {
+    for call in [Call::BeginLoad(m), Call::EndLoad(m, true)] {
+        steps.push(Step::Invoke(0, call))?;
+        for _ in 0..4 {
+            steps.push(Step::Go(0))?;
+        }
+    }
+    Ok(())
+}
+
 /// All modules are loaded; then each thread in turn makes the next line of its calls.
 fn schedule(alloc: Global, len: usize) -> Result<Vec<Step>, AllocError> {
     let mut steps = Vec::with_capacity(alloc, len)?;
     for m in 0..MODULES {
-        for call in [Call::BeginLoad(m), Call::EndLoad(m, true)] {
-            steps.push(Step::Invoke(0, call))?;
-            for _ in 0..4 {
-                steps.push(Step::Go(0))?;
-            }
-        }
+        push_load(&mut steps, m)?;
     }
-    for i in 0..len {
-        if steps.len() >= len {
-            break;
-        }
+    for i in 0..len.saturating_sub(steps.len()) {
         steps.push(step(i % THREADS, i / THREADS))?;
     }
     Ok(steps)
