@@ -3,7 +3,7 @@
 mod scripts;
 
 use crate::drive::drive;
-use std::alloc::AllocError;
+use std::alloc::{AllocError, Global};
 use std::io;
 use std::io::{Read, Write};
 use std::process::Abort;
@@ -35,7 +35,7 @@ call 1 t0 end_load snd ok first 5 last 9 point 7 reply ok
 ";
 
 /// How many threads a schedule has, its steps behind the load, and its report behind that of the load.
-const SCHEDULES: [(usize, &str, &str); 8] = [
+const SCHEDULES: [(u32, &str, &str); 8] = [
     // A get beside a query and two removals.
     (
         2,
@@ -230,14 +230,48 @@ fn check<R: AllocGlobal + Abort + Threads + Wait + Sync>(
     check_words(rt, &[], input, status, output, messages)
 }
 
+/// One text behind another.
+fn joined(alloc: Global, first: &str, second: &str) -> Result<String, AllocError> {
+    let mut text = String::from_str(alloc, first)?;
+    text.push_str(second)?;
+    Ok(text)
+}
+
+/// The settings of a schedule.
+fn settings(alloc: Global, workers: u32, threads: u32) -> Result<String, AllocError> {
+    let mut text = String::new(alloc);
+    writeln!(text, "workers {workers}")?;
+    writeln!(text, "threads {threads}")?;
+    Ok(text)
+}
+
+/// The input of a schedule over the sound card.
+fn schedule(alloc: Global, settings: &str, steps: &str) -> Result<String, AllocError> {
+    let mut input = joined(alloc, "%catalogue\n", CARD)?;
+    input.push_str("%schedule\n")?;
+    input.push_str(settings)?;
+    input.push_str(steps)?;
+    Ok(input)
+}
+
+/// A schedule that begins with the load of the sound card has this report behind that of the load.
+fn is_reported<R: AllocGlobal + Abort + Threads + Wait + Sync>(
+    rt: &R,
+    settings: &str,
+    steps: &str,
+    report: &str,
+) -> Result<(), AllocError> {
+    let steps = joined(rt.alloc(), LOAD, steps)?;
+    let input = schedule(rt.alloc(), settings, steps.as_str())?;
+    let output = joined(rt.alloc(), LOADED, report)?;
+    check(rt, input.as_bytes(), 0, output.as_str(), "")
+}
+
 #[test]
 fn schedules_are_reported(rt: HostRuntime) -> Result<(), Fail> {
     for (threads, steps, report) in SCHEDULES {
-        let input = format!(in rt.alloc();
-            "%catalogue\n{CARD}%schedule\nworkers 2\nthreads {threads}\n{LOAD}{steps}"
-        )?;
-        let output = format!(in rt.alloc(); "{LOADED}{report}")?;
-        check(&rt, input.as_bytes(), 0, output.as_str(), "")?;
+        let settings = settings(rt.alloc(), 2, threads)?;
+        is_reported(&rt, settings.as_str(), steps, report)?;
     }
     Ok(())
 }
@@ -245,13 +279,20 @@ fn schedules_are_reported(rt: HostRuntime) -> Result<(), Fail> {
 #[test]
 fn as_many_workers_as_there_may_be(rt: HostRuntime) -> Result<(), Fail> {
     for (threads, steps, report) in SCHEDULES {
-        let input = format!(in rt.alloc();
-            "%catalogue\n{CARD}%schedule\nworkers 64\nthreads {threads}\n{LOAD}{steps}"
-        )?;
-        let output = format!(in rt.alloc(); "{LOADED}{report}")?;
-        check(&rt, input.as_bytes(), 0, output.as_str(), "")?;
+        let settings = settings(rt.alloc(), 64, threads)?;
+        is_reported(&rt, settings.as_str(), steps, report)?;
     }
     Ok(())
+}
+
+/// An input is refused with this fault.
+fn is_refused<R: AllocGlobal + Abort + Threads + Wait + Sync>(
+    rt: &R,
+    input: &str,
+    fault: &str,
+) -> Result<(), AllocError> {
+    let messages = format!(in rt.alloc(); "workload: {fault}\n")?;
+    check(rt, input.as_bytes(), 2, "", messages.as_str())
 }
 
 /// Settings and steps, and what is said of them. The line of `%schedule` is the tenth.
@@ -286,9 +327,8 @@ const REFUSED: [(&str, &str); 16] = [
 #[test]
 fn schedules_are_refused(rt: HostRuntime) -> Result<(), Fail> {
     for (steps, fault) in REFUSED {
-        let input = format!(in rt.alloc(); "%catalogue\n{CARD}%schedule\n{steps}")?;
-        let messages = format!(in rt.alloc(); "workload: {fault}\n")?;
-        check(&rt, input.as_bytes(), 2, "", messages.as_str())?;
+        let input = schedule(rt.alloc(), "", steps)?;
+        is_refused(&rt, input.as_str(), fault)?;
     }
     Ok(())
 }
@@ -306,16 +346,18 @@ const INPUTS: [(&str, &str); 6] = [
 #[test]
 fn inputs_are_refused(rt: HostRuntime) -> Result<(), Fail> {
     for (input, fault) in INPUTS {
-        let messages = format!(in rt.alloc(); "workload: {fault}\n")?;
-        check(&rt, input.as_bytes(), 2, "", messages.as_str())?;
+        is_refused(&rt, input, fault)?;
     }
     Ok(())
 }
 
 #[test]
 fn as_many_steps_as_there_may_be(rt: HostRuntime) -> Result<(), Fail> {
-    let input = format!(in rt.alloc();
-        "%catalogue\n{CARD}%schedule\nworkers 2\nthreads 1\nt0 query snd\nt0 go 999999\n"
+    let settings = settings(rt.alloc(), 2, 1)?;
+    let input = schedule(
+        rt.alloc(),
+        settings.as_str(),
+        "t0 query snd\nt0 go 999999\n",
     )?;
     check(
         &rt,
