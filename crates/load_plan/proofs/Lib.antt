@@ -14,7 +14,6 @@ pub mod Words
 pub mod SourceLemmas
 pub mod Parts
 pub mod Cuts
-pub mod OptionWords
 pub mod Reaching
 pub mod LookUpLemmas
 pub mod Lawful

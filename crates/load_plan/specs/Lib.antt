@@ -10,6 +10,5 @@ pub mod VisitSteps
 pub mod Parts
 pub mod Sources
 pub mod Items
-pub mod OptionWords
 pub mod LookUp
 pub mod PlanLaws
