@@ -86,6 +86,3 @@ stack-pop new {old} {s} e = ap reverse e ∙ reverse-last new s
 
 pub stack-push : (old : List Stage) {new : List Stage} {s : Stage} → new ≡ old ++ s ∷ [] → stack_of new ≡ s ∷ stack_of old
 stack-push old {new} {s} e = ap reverse e ∙ reverse-last old s
-
-pub stack-push_two : (old : List Stage) {mid new : List Stage} {s r : Stage} → mid ≡ old ++ r ∷ [] → new ≡ mid ++ s ∷ [] → stack_of new ≡ s ∷ r ∷ stack_of old
-stack-push_two old {mid} {new} {s} {r} e e2 = stack-push mid e2 ∙ ap (λ l. s ∷ l) (stack-push old e)

@@ -177,36 +177,34 @@ pub fn visit(alloc: Global, graph: &DependencyGraph, start: usize) -> Result<Vec
     let mut marks = new_marks(alloc, graph.len())?;
     marks[start] = Mark::Open;
     let mut order = Vec::new(alloc);
-    let mut stages = Vec::new(alloc);
-    stages.push(Stage {
+    let mut waiting = Vec::new(alloc);
+    let mut stage = Stage {
         slot: start,
         phase: Phase::Pre,
         visited: 0,
-    })?;
-    'visit: while let Some(stage) = stages.pop() {
+    };
+    'visit: loop {
         match next_move(alloc, graph, &marks, stage)? {
-            Move::Turn(next) => {
-                stages.push(next)?;
-            }
-            Move::Pass(next) => {
-                stages.push(next)?;
-            }
+            Move::Turn(next) => stage = next,
+            Move::Pass(next) => stage = next,
             Move::Append(next) => {
                 marks[stage.slot] = Mark::Done;
                 order.push(stage.slot)?;
-                stages.push(next)?;
+                stage = next;
             }
-            Move::Leave => {}
+            Move::Leave => match waiting.pop() {
+                Some(next) => stage = next,
+                None => return Ok(order),
+            },
             Move::Enter(slot, next) => {
                 marks[slot] = Mark::Open;
-                stages.push(next)?;
-                stages.push(Stage {
+                waiting.push(next)?;
+                stage = Stage {
                     slot,
                     phase: Phase::Pre,
                     visited: 0,
-                })?;
+                };
             }
         }
     }
-    Ok(order)
 }
