@@ -273,9 +273,6 @@ stack-pop new {old} {f} e = ap reverse e ∙ reverse-last new f
 pub stack-push : (old : List Frame) {new : List Frame} {f : Frame} → new ≡ old ++ f ∷ [] → stack_of new ≡ f ∷ stack_of old
 stack-push old {new} {f} e = ap reverse e ∙ reverse-last old f
 
-pub stack-push_two : (old : List Frame) {mid new : List Frame} {f g : Frame} → mid ≡ old ++ g ∷ [] → new ≡ mid ++ f ∷ [] → stack_of new ≡ f ∷ g ∷ stack_of old
-stack-push_two old {mid} {new} {f} {g} e e2 = stack-push mid e2 ∙ ap (λ l. f ∷ l) (stack-push old e)
-
 -- a finished module takes its frame away
 pub effort-finish : (w : List Node) (marks : List Mark) (f : Frame) (fs : List Frame) → f.slot < length marks → effort w (set marks f.slot Done) fs < effort w marks (f ∷ fs)
 effort-finish w marks f fs inside =

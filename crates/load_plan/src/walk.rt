@@ -120,22 +120,26 @@ pub fn walk(
     }
     marks[start] = Mark::Open;
     let mut order = Vec::new(alloc);
-    let mut frames = Vec::new(alloc);
-    frames.push(Frame {
+    let mut waiting = Vec::new(alloc);
+    let mut frame = Frame {
         slot: start,
         walked: 0,
-    })?;
-    'walk: while let Some(frame) = frames.pop() {
+    };
+    'walk: loop {
         match next_step(graph, tests, &marks, frame) {
             Step::Finish => {
                 marks[frame.slot] = Mark::Done;
                 order.push(frame.slot)?;
+                match waiting.pop() {
+                    Some(next) => frame = next,
+                    None => return Ok(Walked { order, marks }),
+                }
             }
-            Step::Pass(next) => frames.push(next)?,
+            Step::Pass(next) => frame = next,
             Step::Enter(slot, next) => {
                 marks[slot] = Mark::Open;
-                frames.push(next)?;
-                frames.push(Frame { slot, walked: 0 })?;
+                waiting.push(next)?;
+                frame = Frame { slot, walked: 0 };
             }
             Step::Again(slot) => return Err(WalkError::Refused(PlanRefusal::Cycle(slot))),
             Step::Blocked(slot) => return Err(WalkError::Refused(PlanRefusal::Install(slot))),
@@ -145,7 +149,6 @@ pub fn walk(
             }
         }
     }
-    Ok(Walked { order, marks })
 }
 
 /// The hard walk from a module: what it reaches, each dependency before its user.
