@@ -1,5 +1,6 @@
 //! Look-ups of names, plans and removal plans, and their refusals.
-ghost use Rattle.std.specs.Prelude.{◌≡◌, [], ◌∷◌, IfOk, length};
+ghost use Rattle.std.specs.Prelude.{◌≡◌, [], ◌∷◌, IfOk, length, true};
+ghost use Rattle.load_plan.specs.Graph.{is_bounded};
 
 use crate::outcome::{Stop, agree, are_names, needed, stop_at, tell};
 use crate::texts::CONFIGURATION;
@@ -196,15 +197,34 @@ fn node(alloc: Global, hard: Targets, pre: Targets) -> Node
 }
 
 /// Module 1 needs module 0, and has a soft item that is not there.
-fn graph(alloc: Global) -> Result<DependencyGraph, AllocError>
-    ensures { IfOk result (λ graph. length graph ≡ 2) }
+fn nodes(alloc: Global) -> Result<Vec<Node>, AllocError>
+    ensures bounded { IfOk result (λ nodes. is_bounded nodes.items ≡ true) }
+    ensures two { IfOk result (λ nodes. length nodes.items ≡ 2) }
 {
     let needs = one_target(alloc, Target::Slot(0))?;
     let soft = one_target(alloc, Target::Missing(Name::new(alloc, b"no-such")?))?;
     let mut nodes = Vec::with_capacity(alloc, 2)?;
     nodes.push(node(alloc, Targets::new(alloc), Targets::new(alloc)))?;
     nodes.push(node(alloc, needs, soft))?;
-    DependencyGraph::new(alloc, nodes)
+    Ok(nodes)
+}
+
+fn graph(alloc: Global) -> Result<DependencyGraph, AllocError>
+    ensures { IfOk result (λ graph. length graph ≡ 2) }
+{
+    DependencyGraph::new(alloc, nodes(alloc)?)
+}
+
+fn try_graph(alloc: Global) -> Result<(), Stop> {
+    let Ok(nodes) = nodes(alloc) else {
+        return Err(Stop::NotMade);
+    };
+    let graph = DependencyGraph::new(alloc, nodes)?;
+    agree(
+        matches!(graph.hard(1), [Target::Slot(0)])
+            && matches!(graph.pre(1), [Target::Missing(_)])
+            && graph.post(1).is_empty(),
+    )
 }
 
 fn try_plan_in(alloc: Global) -> Result<(), Stop> {
@@ -234,6 +254,7 @@ pub fn try_calls<R: Print + AllocGlobal>(rt: &R) -> anyhow::Result<()> {
     tell(rt, "removal_plan", try_removal_plan(alloc))?;
     tell(rt, "removal_plan at a remove line", try_remove_line(alloc))?;
     tell(rt, "Targets::push", try_targets(alloc))?;
+    tell(rt, "DependencyGraph::new", try_graph(alloc))?;
     tell(rt, "plan_in", try_plan_in(alloc))?;
     tell(rt, "removal_plan_in", try_removal_plan_in(alloc))
 }
