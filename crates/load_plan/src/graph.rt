@@ -141,6 +141,8 @@ impl Model for DependencyGraph {
 }
 
 impl DependencyGraph {
+    /// The graph of these nodes, none of which names a slot outside. It is refused for want of memory alone; the
+    /// nodes are given up then.
     pub fn new(alloc: Global, nodes: Vec<Node>) -> Result<DependencyGraph, AllocError>
         requires { is_bounded nodes.items ≡ true }
         ensures { IfOk result (λ graph. graph ≡ nodes.items) }

@@ -17,7 +17,7 @@ use std::test::Fail;
 use use_indicator::{Leaf, Reader};
 
 /// A leaf's seat of a new row.
-pub(crate) fn take_leaf(row: &Row, leaves: &mut Vec<LeafSeat>) -> Option<LeafSeat>
+pub(super) fn take_leaf(row: &Row, leaves: &mut Vec<LeafSeat>) -> Option<LeafSeat>
     requires { All (λ s. s ≡ new_leaf row.now.id row.now.world (worker_of s.view)) leaves.old.items }
     ensures others { All (λ s. s ≡ new_leaf row.now.id row.now.world (worker_of s.view)) leaves.new.items }
     ensures leaf { IfSome result (λ s. s ≡ new_leaf row.now.id row.now.world (worker_of s.view)) }
