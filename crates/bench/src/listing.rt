@@ -21,52 +21,43 @@ pub fn measure<R: Print + Clock + AllocGlobal>(rt: &R) -> Result<()> {
     measure_of(rt, 1024, "proc_text_1024", "lsmod_text_1024")
 }
 
-/// How many bytes all texts of /proc/modules have.
-fn proc_bytes(alloc: Global, catalogue: &Catalogue, table: &Table) -> Result<u64, AllocError>
-    requires { table.now.catalogue ≡ modules_of catalogue.now }
-{
-    let mut bytes = 0u64;
-    for _ in 0..LISTINGS {
-        bytes = bytes.wrapping_add(proc_text(alloc, catalogue, table)?.len() as u64);
-    }
-    Ok(bytes)
+/// What is listed: /proc/modules, or the columns of lsmod.
+#[derive(Clone, Copy)]
+enum Listing {
+    Proc,
+    Lsmod,
 }
 
-/// How many bytes all listings in columns have.
-fn lsmod_bytes(alloc: Global, catalogue: &Catalogue, table: &Table) -> Result<u64, AllocError>
+fn listing_len(
+    alloc: Global,
+    listing: Listing,
+    catalogue: &Catalogue,
+    table: &Table,
+) -> Result<usize, AllocError>
     requires { table.now.catalogue ≡ modules_of catalogue.now }
 {
-    let mut bytes = 0u64;
-    for _ in 0..LISTINGS {
-        bytes = bytes.wrapping_add(lsmod_text(alloc, catalogue, table)?.len() as u64);
-    }
-    Ok(bytes)
+    let text = match listing {
+        Listing::Proc => proc_text(alloc, catalogue, table)?,
+        Listing::Lsmod => lsmod_text(alloc, catalogue, table)?,
+    };
+    Ok(text.len())
 }
 
-fn measure_proc<R: Print + Clock + AllocGlobal>(
+/// Prints how long a listing takes, and answers how many bytes all have.
+fn measure_listing<R: Print + Clock + AllocGlobal>(
     rt: &R,
     name: &str,
+    listing: Listing,
     catalogue: &Catalogue,
     table: &Table,
 ) -> Result<u64>
     requires { table.now.catalogue ≡ modules_of catalogue.now }
 {
+    let mut bytes = 0u64;
     let start = Instant::now(rt)?;
-    let bytes = proc_bytes(rt.alloc(), catalogue, table)?;
-    print_time(rt, name, LISTINGS, start.elapsed(rt)?)?;
-    Ok(bytes)
-}
-
-fn measure_lsmod<R: Print + Clock + AllocGlobal>(
-    rt: &R,
-    name: &str,
-    catalogue: &Catalogue,
-    table: &Table,
-) -> Result<u64>
-    requires { table.now.catalogue ≡ modules_of catalogue.now }
-{
-    let start = Instant::now(rt)?;
-    let bytes = lsmod_bytes(rt.alloc(), catalogue, table)?;
+    for _ in 0..LISTINGS {
+        bytes = bytes.wrapping_add(listing_len(rt.alloc(), listing, catalogue, table)? as u64);
+    }
     print_time(rt, name, LISTINGS, start.elapsed(rt)?)?;
     Ok(bytes)
 }
@@ -79,8 +70,8 @@ fn measure_of<R: Print + Clock + AllocGlobal>(
 ) -> Result<()> {
     let catalogue = catalogue_of(rt.alloc(), modules)?;
     let table = loaded(rt.alloc(), &catalogue)?;
-    let in_lines = measure_proc(rt, lines, &catalogue, &table)?;
-    let in_columns = measure_lsmod(rt, columns, &catalogue, &table)?;
+    let in_lines = measure_listing(rt, lines, Listing::Proc, &catalogue, &table)?;
+    let in_columns = measure_listing(rt, columns, Listing::Lsmod, &catalogue, &table)?;
     let bytes = in_lines.wrapping_add(in_columns);
     println!(rt; "{lines}_and_columns {bytes} bytes")?;
     Ok(())
