@@ -11,6 +11,9 @@ const MODULES: u32 = 20_000;
 
 const LOOKUPS: u64 = 1_000_000;
 
+/// The names that are looked up in turn, each with three words of options.
+const NAMES: [&[u8]; 4] = [b"driver_7", b"driver_777", b"driver_7777", b"driver_17777"];
+
 /// Adds a module's alias and its options, which go over two lines.
 fn push_options(text: &mut String, module: u32) -> Result<(), AllocError> {
     write!(text, "alias pci:v0000{module:04X}d*sv*sd*bc*sc*i* ")?;
@@ -52,8 +55,9 @@ pub fn measure<R: Print + Clock + AllocGlobal>(rt: &R) -> Result<()> {
     let conf = measure_read(rt)?;
     let mut words = 0u64;
     let start = Instant::now(rt)?;
-    for _ in 0..LOOKUPS {
-        words = words.wrapping_add(conf.options(b"driver_7777").len() as u64);
+    for turn in 0..LOOKUPS {
+        let name = NAMES[turn as usize % NAMES.len()];
+        words = words.wrapping_add(conf.options(name).len() as u64);
     }
     print_time(rt, "options_of_a_name", words / 3, start.elapsed(rt)?)
 }

@@ -4,13 +4,14 @@ ghost use Rattle.std.specs.Prelude.{◌≡◌, ◌<◌, All, IfOk};
 ghost use Rattle.root_row.specs.World.{slots};
 ghost use Rattle.root_row.specs.Seats.{IsOf};
 ghost use Rattle.root_row.specs.Views.{worker_of};
-ghost use Rattle.root_row.specs.Made.{new_leaf};
+ghost use Rattle.root_row.specs.Made.{new_book, new_leaf};
+ghost use Rattle.dep_index.specs.Catalogue.{modules_of};
 
 use crate::figure::print_rate;
 use anyhow::{Result, bail};
-use dep_index::read_catalogue;
+use dep_index::{Catalogue, read_catalogue};
 use module_table::Book;
-use root_row::{LeafSeat, Row};
+use root_row::{BookSeat, LeafSeat, Row};
 use std::alloc::{AllocError, Global};
 use std::rt::Clock;
 use std::sync::Wait;
@@ -89,25 +90,38 @@ fn hold<R: Wait>(rt: &R, row: &Row, leaf: &mut Leaf)
     let _ = leaf.get(rt, row, 0);
 }
 
+fn one_module(alloc: Global) -> Result<Catalogue> {
+    match read_catalogue(alloc, b"module snd\n") {
+        Ok(catalogue) => Ok(catalogue),
+        Err(error) => bail!("{error:?}"),
+    }
+}
+
+/// Loads the module of slot 0.
+fn load(alloc: Global, row: &Row, seat: BookSeat, catalogue: &Catalogue) -> Result<()>
+    requires inside { 0 < slots row.now.world }
+    requires new { seat ≡ new_book row.now.id row.now.world }
+    requires same { modules_of catalogue.now ≡ row.now.world.catalogue }
+{
+    let mut book = Book::new(alloc, seat, catalogue)?;
+    if book.begin_load(row, 0).is_err() || book.end_load(row, 0, true).is_err() {
+        bail!("the module is not loaded");
+    }
+    Ok(())
+}
+
 /// A row over one module, which is live, and its leaves.
 fn live_row(alloc: Global, workers: usize) -> Result<(Row, Vec<Leaf>)>
     requires { workers < 64 }
     ensures inside { IfOk result (λ r. 0 < slots r.0.world) }
     ensures own { IfOk result (λ r. All (IsOf r.0) r.1.items) }
 {
-    let catalogue = match read_catalogue(alloc, b"module snd\n") {
-        Ok(catalogue) => catalogue,
-        Err(error) => bail!("{error:?}"),
-    };
+    let catalogue = one_module(alloc)?;
     let (row, seats, seat, _) = Row::new(alloc, &catalogue, workers, 0)?;
     if row.slots() == 0 {
         bail!("no slot");
     }
-    let mut book = Book::new(alloc, seat, &catalogue)?;
-    let begun = book.begin_load(&row, 0).is_ok();
-    if !begun || book.end_load(&row, 0, true).is_err() {
-        bail!("the module is not loaded");
-    }
+    load(alloc, &row, seat, &catalogue)?;
     let leaves = leaves_of(alloc, &row, seats)?;
     Ok((row, leaves))
 }

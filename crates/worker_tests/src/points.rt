@@ -50,6 +50,26 @@ fn judge(
     Ok(check_points(alloc, &catalogue, workers, threads, &steps, &told)?)
 }
 
+/// The points that the schedule has.
+fn found_in(
+    alloc: Global,
+    workers: usize,
+    threads: usize,
+    plays: &[Play],
+) -> Result<Vec<Point>, Fail>
+    requires { workers ≤ 64 }
+{
+    let catalogue = sound(alloc)?;
+    let steps = steps_of(alloc, plays)?;
+    Ok(points(alloc, &catalogue, workers, threads, &steps)?)
+}
+
+fn has_points(rt: &impl Abort, alloc: Global, found: &[Point], marks: &[Mark]) -> Result<(), Fail> {
+    let wanted = points_of(alloc, marks)?;
+    assert_eq!(rt; found, wanted.as_slice());
+    Ok(())
+}
+
 /// The schedule has these points, and the checker says yes to them.
 fn expect(
     rt: &impl Abort,
@@ -61,11 +81,8 @@ fn expect(
 ) -> Result<(), Fail>
     requires { workers ≤ 64 }
 {
-    let catalogue = sound(alloc)?;
-    let steps = steps_of(alloc, plays)?;
-    let found = points(alloc, &catalogue, workers, threads, &steps)?;
-    let wanted = points_of(alloc, marks)?;
-    assert_eq!(rt; found.as_slice(), wanted.as_slice());
+    let found = found_in(alloc, workers, threads, plays)?;
+    has_points(rt, alloc, &found, marks)?;
     assert!(rt; judge(alloc, workers, threads, plays, marks)?);
     Ok(())
 }

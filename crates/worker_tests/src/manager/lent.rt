@@ -1,14 +1,17 @@
 //! A lent book and two lent leaves in threads of their own.
-ghost use Rattle.std.specs.Prelude.{◌<◌};
+ghost use Rattle.std.specs.Prelude.{◌≡◌, ◌<◌, All};
+ghost use Rattle.dep_index.specs.Catalogue.{modules_of};
+ghost use Rattle.root_row.specs.Made.{new_book, new_leaf};
+ghost use Rattle.root_row.specs.Views.{worker_of};
 ghost use Rattle.root_row.specs.World.{slots};
 ghost use Rattle.root_row.specs.Seats.{IsOf};
 
 use crate::leaves::steps::two_leaves;
 use crate::leaves::threads::take_and_give;
 use crate::sound::sound;
-use dep_index::ModuleState;
+use dep_index::{Catalogue, ModuleState};
 use module_table::Book;
-use root_row::Row;
+use root_row::{BookSeat, LeafSeat, Row};
 use std::process::Abort;
 use std::sync::Wait;
 use std::test::Fail;
@@ -118,13 +121,28 @@ fn all_end_well<R: Abort + Threads + Wait + Sync>(
     assert_eq!(rt; end(row, &mut book), ModuleState::Absent);
 }
 
+fn on_seats<R: Abort + AllocGlobal + Threads + Wait + Sync>(
+    rt: &R,
+    catalogue: &Catalogue,
+    row: &Row,
+    seat: BookSeat,
+    seats: Vec<LeafSeat>,
+) -> Result<(), Fail>
+    requires inside { 0 < slots row.now.world }
+    requires same { modules_of catalogue.now ≡ row.now.world.catalogue }
+    requires new { seat ≡ new_book row.now.id row.now.world }
+    requires leaves { All (λ s. s ≡ new_leaf row.now.id row.now.world (worker_of s.view)) seats.items }
+{
+    let book = Book::new(rt.alloc(), seat, catalogue)?;
+    let (one, other) = two_leaves(rt.alloc(), row, seats)?;
+    all_end_well(rt, row, book, one, other);
+    Ok(())
+}
+
 #[test]
 fn a_book_and_two_leaves(rt: HostRuntime) -> Result<(), Fail> {
     let catalogue = sound(rt.alloc())?;
     let (row, seats, seat, _) = Row::new(rt.alloc(), &catalogue, 2, 0)?;
     assert_eq!(rt; row.slots(), 2);
-    let book = Book::new(rt.alloc(), seat, &catalogue)?;
-    let (one, other) = two_leaves(rt.alloc(), &row, seats)?;
-    all_end_well(&rt, &row, book, one, other);
-    Ok(())
+    on_seats(&rt, &catalogue, &row, seat, seats)
 }
