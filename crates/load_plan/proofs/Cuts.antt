@@ -2,7 +2,7 @@
 use Rattle.std.proofs.Common.{◌≡◌, ℕ, zero, suc, ◌+◌, ◌-◌, ◌<◌, ◌≤◌, Bool, true, ◌&&◌, List, [], ◌∷◌, ◌++◌, length, take, drop, get_or, set, replicate, length-append, length-drop, inl, inr, refl, sym, ◌∙◌, ap, subst, arith}
 use Rattle.std.specs.List.{list_all, slice_range}
 use Rattle.std.proofs.lemmas.Bool.Decides.{eqb_tells}
-use Rattle.std.proofs.lemmas.List.{get_or-map, get_or-set_same, get_or-set_other, map-set, length-map, take-append-le, drop-append-le, map-append, length-take-le}
+use Rattle.std.proofs.lemmas.List.{get_or_default, get_or-map, get_or-set_same, get_or-set_other, map-set, length-map, take-append-le, drop-append-le, map-append, length-take-le}
 use Rattle.std.proofs.lemmas.List.Folds.{list_all-append, drop_split}
 use Rattle.std.proofs.Math.Seq.{take-append-add}
 use Rattle.load_plan.specs.declared.graph.Target.{Target}
@@ -57,6 +57,14 @@ pub row_is : (ts : List Target) (rows : List Row) (w : List Node) (m : ℕ) (row
 row_is ts rows w m row view within is =
     let long : length rows ≡ length w = sym (length-map rows (node_in ts)) ∙ ap length view in
     node_in-at ts rows m row (omega (arith, within, long)) is ∙ ap (λ ns. node_at ns m) view
+
+-- the soft items of a module stand one behind the other
+pub soft_is : (ts : List Target) (rows : List Row) (w : List Node) (m : ℕ) (row : Row) → nodes_in ts rows ≡ w → AllFit (length ts) rows → m < length w → row ≡ get_or rows m row → slice_range ts row.pre_from row.end ≡ (node_at w m).pre ++ (node_at w m).post
+soft_is ts rows w m row view fit within is =
+    let long : length rows ≡ length w = sym (length-map rows (node_in ts)) ∙ ap length view in
+    let f : Fits (length ts) row = subst (Fits (length ts)) (get_or_default rows m no_row row (omega (arith, within, long)) ∙ sym is) (fit m) in
+    range-joined ts row.pre_from row.post_from row.end f.pre f.post f.within
+    ∙ ap (λ (n : Node). n.pre ++ n.post) (row_is ts rows w m row view within is)
 
 -- what holds of all that a row cuts out holds of each part
 parts_pass : (p : Target → Bool) (ts : List Target) (row : Row) → Fits (length ts) row → list_all p (slice_range ts row.hard_from row.end) ≡ (list_all p (node_in ts row).hard && list_all p (node_in ts row).pre && list_all p (node_in ts row).post)

@@ -9,11 +9,13 @@ pub mod Visiting
 pub mod Effort
 pub mod VisitLaws
 pub mod Reached
+pub mod HardVisits
 pub mod StepLemmas
 pub mod Words
 pub mod SourceLemmas
 pub mod Parts
 pub mod Cuts
+pub mod OptionWords
 pub mod Reaching
 pub mod LookUpLemmas
 pub mod Lawful

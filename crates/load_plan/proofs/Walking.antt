@@ -40,15 +40,15 @@ resume w tests way (f ∷ fs) done =
     walk_each (walk w tests (length w - suc (length fs)) (f.slot ∷ way_of way fs)) done (left_of w f) >>= λ d. resume w tests way fs (d ++ f.slot ∷ [])
 
 -- a target that is finished is passed, and one on the way is a cycle, whatever the fuel
-walk-passed : (w : List Node) (tests : Bool) (n : ℕ) (way done : List ℕ) (m : ℕ) → has done m ≡ true → walk w tests n way done (Slot m) ≡ Ok done
+pub walk-passed : (w : List Node) (tests : Bool) (n : ℕ) (way done : List ℕ) (m : ℕ) → has done m ≡ true → walk w tests n way done (Slot m) ≡ Ok done
 walk-passed w tests zero way done m h = rw h
 walk-passed w tests (suc n) way done m h = rw h
 
-walk-cycle : (w : List Node) (tests : Bool) (n : ℕ) (way done : List ℕ) (m : ℕ) → has done m ≡ false → has way m ≡ true → walk w tests n way done (Slot m) ≡ Err (Cycle m)
+pub walk-cycle : (w : List Node) (tests : Bool) (n : ℕ) (way done : List ℕ) (m : ℕ) → has done m ≡ false → has way m ≡ true → walk w tests n way done (Slot m) ≡ Err (Cycle m)
 walk-cycle w tests zero way done m h k = rw h
 walk-cycle w tests (suc n) way done m h k = rw (h, k)
 
-walk-unknown : (w : List Node) (tests : Bool) (n : ℕ) (way done : List ℕ) (name : List ℕ) → walk w tests n way done (Missing name) ≡ Err (Unknown name)
+pub walk-unknown : (w : List Node) (tests : Bool) (n : ℕ) (way done : List ℕ) (name : List ℕ) → walk w tests n way done (Missing name) ≡ Err (Unknown name)
 walk-unknown w tests zero way done name = refl
 walk-unknown w tests (suc n) way done name = refl
 

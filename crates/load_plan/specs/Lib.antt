@@ -6,9 +6,11 @@ pub mod Laws
 pub mod Parameters
 pub mod Results
 pub mod ForProofs
+pub mod SoftModules
 pub mod VisitSteps
 pub mod Parts
 pub mod Sources
 pub mod Items
+pub mod OptionWords
 pub mod LookUp
 pub mod PlanLaws

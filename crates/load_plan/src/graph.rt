@@ -197,6 +197,15 @@ impl DependencyGraph {
         &self.targets[row.post_from..row.end]
     }
 
+    /// The pre items of a module, and its post items behind them.
+    pub(crate) fn soft(&self, m: usize) -> &[Target]
+        requires { m < length self.now }
+        ensures { result.now ≡ (node_at self.now m).pre ++ (node_at self.now m).post }
+    {
+        let row = self.rows[m];
+        &self.targets[row.pre_from..row.end]
+    }
+
     pub fn installs(&self, m: usize) -> bool
         requires { m < length self.now }
         ensures { result ≡ (node_at self.now m).installs }

@@ -1,12 +1,14 @@
 //! What a command loads for a name, and what it removes.
 ghost use Rattle.std.specs.Prelude.{◌≡◌, ◌<◌, [], ◌++◌, ℕ, length, map, true, IfOk, OnOk};
 ghost use Rattle.dep_index.specs.Text.{normal_form, texts_of};
+ghost use Rattle.modprobe_conf.specs.Configuration.{options_of};
 ghost use Rattle.load_plan.specs.declared.refusal.WalkError.TheVariants.{Refused};
 ghost use Rattle.load_plan.specs.ForProofs.{are_within};
 ghost use Rattle.load_plan.specs.Items.{Answers, error_of, item_of, name_at, plan_of, removal_plan_of};
+ghost use Rattle.load_plan.specs.OptionWords.{AreOptions};
 ghost use Rattle.load_plan.specs.Results.{IsRefusalWithin};
 
-use crate::reach::graph_from;
+use crate::reach::part_from;
 use crate::refusal::{PlanRefusal, WalkError};
 use crate::sources::{is_kept, slot_of};
 use crate::steps::{PlanStep, plan_in, removal_plan_in};
@@ -132,19 +134,38 @@ fn error_of(
     }
 }
 
+/// The words of the options lines of a slot: where they were read, as read.
+fn options_at<'a>(
+    catalogue: &Catalogue,
+    configuration: &'a Conf,
+    read: &[Option<&'a [Word]>],
+    slot: usize,
+) -> &'a [Word]
+    requires slot { slot < length catalogue.now }
+    requires read { AreOptions catalogue.now configuration.now read.now }
+    ensures { result.now ≡ options_of configuration.entry.now (name_at catalogue.now slot) }
+{
+    match read.get(slot) {
+        Some(Some(words)) => words,
+        _ => configuration.options(catalogue.name(slot)),
+    }
+}
+
 fn item_of<'a>(
     alloc: Global,
     catalogue: &Catalogue,
     configuration: &'a Conf,
+    read: &[Option<&'a [Word]>],
     target: usize,
     words: &[&'a [u8]],
     step: PlanStep,
 ) -> Result<Item<'a>, AllocError>
-    requires { step.slot < length catalogue.now }
+    requires slot { step.slot < length catalogue.now }
+    requires read { AreOptions catalogue.now configuration.now read.now }
     ensures { IfOk result (λ item. item ≡ item_of catalogue.now configuration.now target (texts_of words.now) step) }
 {
     let mut options = Options::new(alloc);
-    options.add_options(configuration.options(catalogue.name(step.slot)))?;
+    options.add_options(options_at(catalogue, configuration, read, step.slot))?;
     if step.slot == target {
         options.add_words(words)?;
     }
@@ -159,16 +180,18 @@ fn items_of<'a>(
     alloc: Global,
     catalogue: &Catalogue,
     configuration: &'a Conf,
+    read: &[Option<&'a [Word]>],
     target: usize,
     words: &[&'a [u8]],
     steps: &[PlanStep],
 ) -> Result<Vec<Item<'a>>, AllocError>
-    requires { are_within (length catalogue.now) steps.now ≡ true }
+    requires within { are_within (length catalogue.now) steps.now ≡ true }
+    requires read { AreOptions catalogue.now configuration.now read.now }
     ensures { IfOk result (λ items. items.items ≡ map (item_of catalogue.now configuration.now target (texts_of words.now)) steps.now) }
 {
     let mut items = Vec::with_capacity(alloc, steps.len())?;
     for step in steps {
-        items.push(item_of(alloc, catalogue, configuration, target, words, *step)?)?;
+        items.push(item_of(alloc, catalogue, configuration, read, target, words, *step)?)?;
     }
     Ok(items)
 }
@@ -192,9 +215,17 @@ pub fn plan<'a>(
     let Some(target) = slot_of(catalogue, &name) else {
         return Err(PlanError::Unknown(name));
     };
-    let graph = graph_from(alloc, catalogue, dependencies, configuration, target)?;
-    match plan_in(alloc, &graph, target) {
-        Ok(steps) => Ok(items_of(alloc, catalogue, configuration, target, words, &steps)?),
+    let part = part_from(alloc, catalogue, dependencies, configuration, target)?;
+    match plan_in(alloc, &part.graph, target) {
+        Ok(steps) => Ok(items_of(
+            alloc,
+            catalogue,
+            configuration,
+            &part.options,
+            target,
+            words,
+            &steps,
+        )?),
         Err(WalkError::Refused(refusal)) => Err(error_of(alloc, catalogue, refusal)?),
         Err(WalkError::Memory) => Err(PlanError::Memory),
     }
@@ -219,8 +250,8 @@ pub fn removal_plan(
     let Some(target) = slot_of(catalogue, &name) else {
         return Err(PlanError::Unknown(name));
     };
-    let graph = graph_from(alloc, catalogue, dependencies, configuration, target)?;
-    match removal_plan_in(alloc, &graph, target) {
+    let part = part_from(alloc, catalogue, dependencies, configuration, target)?;
+    match removal_plan_in(alloc, &part.graph, target) {
         Ok(order) => Ok(order),
         Err(WalkError::Refused(refusal)) => Err(error_of(alloc, catalogue, refusal)?),
         Err(WalkError::Memory) => Err(PlanError::Memory),

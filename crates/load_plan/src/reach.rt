@@ -1,9 +1,10 @@
 //! The part of the dependency graph that a plan reads: what a module reaches over hard dependencies and soft items.
-ghost use Rattle.std.specs.Prelude.{◌≡◌, ◌<◌, length, replicate, false, true, IfOk, OnOk};
+ghost use Rattle.std.specs.Prelude.{◌≡◌, ◌<◌, length, replicate, false, true, IfOk, None, OnOk};
 ghost use Rattle.std.specs.List.{list_all};
 ghost use Rattle.load_plan.specs.declared.graph.Target.TheVariants.{Slot};
 ghost use Rattle.load_plan.specs.Graph.{is_within};
 ghost use Rattle.load_plan.specs.Cuts.{no_row};
+ghost use Rattle.load_plan.specs.OptionWords.{AreOptions};
 ghost use Rattle.load_plan.specs.Plan.{plan, removal_plan};
 ghost use Rattle.load_plan.specs.Sources.{graph_of};
 ghost use Rattle.load_plan.specs.Parts.{Adds, is_target_in, known_at};
@@ -11,7 +12,7 @@ ghost use Rattle.load_plan.specs.Parts.{Adds, is_target_in, known_at};
 use crate::graph::{DependencyGraph, Row, Target};
 use crate::sources::add_node;
 use dep_index::{Catalogue, DepIndex};
-use modprobe_conf::Conf;
+use modprobe_conf::{Conf, Word};
 use std::alloc::{AllocError, Global};
 
 /// So many modules that name nothing.
@@ -73,28 +74,45 @@ impl Reach {
     }
 }
 
-/// The dependency graph as far as a module reaches; the modules that it does not reach name nothing there.
-pub(crate) fn graph_from(
+/// So many modules whose settings were not read.
+fn no_options<'a>(alloc: Global, count: usize) -> Result<Vec<Option<&'a [Word]>>, AllocError>
+    ensures options { IfOk result (λ options. options.items ≡ replicate count None) }
+    ensures long { IfOk result (λ options. length options.items ≡ count) }
+{
+    vec![in alloc; None; count]
+}
+
+/// The dependency graph as far as a module reaches, and by slot the words of the options lines of what was read.
+#[derive(Drop)]
+pub(crate) struct Part<'a> {
+    pub(crate) graph: DependencyGraph,
+    pub(crate) options: Vec<Option<&'a [Word]>>,
+}
+
+/// What a module reaches; the modules that it does not reach name nothing in the graph.
+pub(crate) fn part_from<'a>(
     alloc: Global,
     catalogue: &Catalogue,
     dependencies: &DepIndex,
-    configuration: &Conf,
+    configuration: &'a Conf,
     start: usize,
-) -> Result<DependencyGraph, AllocError>
+) -> Result<Part<'a>, AllocError>
     requires { start < length catalogue.now }
-    ensures plans { IfOk result (λ graph. plan graph (Slot start) ≡ plan (graph_of catalogue.now dependencies.now configuration.now) (Slot start)) }
-    ensures removals { IfOk result (λ graph. removal_plan graph (Slot start) ≡ removal_plan (graph_of catalogue.now dependencies.now configuration.now) (Slot start)) }
-    ensures len { IfOk result (λ graph. length graph ≡ length catalogue.now) }
+    ensures plans { IfOk result (λ part. plan part.graph (Slot start) ≡ plan (graph_of catalogue.now dependencies.now configuration.entry.now) (Slot start)) }
+    ensures removals { IfOk result (λ part. removal_plan part.graph (Slot start) ≡ removal_plan (graph_of catalogue.now dependencies.now configuration.entry.now) (Slot start)) }
+    ensures len { IfOk result (λ part. length part.graph ≡ length catalogue.now) }
+    ensures options { IfOk result (λ part. AreOptions catalogue.now configuration.entry.now part.options.items) }
 {
     let mut rows = no_rows(alloc, catalogue.len())?;
     let mut targets = Vec::with_capacity(alloc, catalogue.len())?;
+    let mut options = no_options(alloc, catalogue.len())?;
     let mut reach = Reach {
         known: none_known(alloc, catalogue.len())?,
         left: Vec::new(alloc),
     };
     reach.add(start)?;
     'modules: while let Some(slot) = reach.left.pop() {
-        let row = add_node(
+        let (row, words) = add_node(
             alloc,
             catalogue,
             dependencies,
@@ -104,6 +122,8 @@ pub(crate) fn graph_from(
         )?;
         reach.add_targets(&targets[row.hard_from..row.end])?;
         rows[slot] = row;
+        options[slot] = Some(words);
     }
-    Ok(DependencyGraph::of_rows(rows, targets))
+    let graph = DependencyGraph::of_rows(rows, targets);
+    Ok(Part { graph, options })
 }

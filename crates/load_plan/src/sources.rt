@@ -5,13 +5,13 @@ ghost use Rattle.load_plan.specs.declared.graph.Target.TheVariants.{Slot};
 ghost use Rattle.load_plan.specs.Cuts.{Appends};
 ghost use Rattle.load_plan.specs.Sources.{hard_of, is_kept, is_stopped, node_of, post_of, pre_of, target_of};
 ghost use Rattle.dep_index.specs.Dependencies.{deps};
-ghost use Rattle.modprobe_conf.specs.Configuration.{softdep_of};
+ghost use Rattle.modprobe_conf.specs.Configuration.{options_of, softdep_of};
 ghost use Rattle.std.specs.Option.{option_copied};
 
 use crate::graph::{Row, Target};
 use crate::names::copy_name;
 use dep_index::{Catalogue, DepIndex, Name};
-use modprobe_conf::{Conf, Softdep};
+use modprobe_conf::{Conf, Softdep, Word};
 use std::alloc::{AllocError, Global};
 
 /// The slot of a name in normal form.
@@ -115,44 +115,64 @@ fn add_post(
     }
 }
 
-/// The softdep line of a name, and whether an install line stands in the way of its module, by one look-up.
-fn softdep_and_stop<'a>(configuration: &'a Conf, name: &[u8]) -> (Option<&'a Softdep>, bool)
-    ensures softdep { option_copied result.0 ≡ softdep_of configuration.entry.now name.now }
-    ensures stop { result.1 ≡ is_stopped configuration.entry.now name.now }
+/// What a plan reads of the settings of a name: its softdep line, whether an install line stands in the way of its
+/// module, and the words of its options lines.
+#[derive(Clone, Copy)]
+struct Said<'a> {
+    softdep: Option<&'a Softdep>,
+    stops: bool,
+    options: &'a [Word],
+}
+
+/// What is said of a name, by one look-up.
+fn said_of<'a>(configuration: &'a Conf, name: &[u8]) -> Said<'a>
+    ensures softdep { option_copied result.softdep ≡ softdep_of configuration.entry.now name.now }
+    ensures stops { result.stops ≡ is_stopped configuration.entry.now name.now }
+    ensures options { result.options.now ≡ options_of configuration.entry.now name.now }
 {
     match configuration.settings(name) {
         Some(settings) => {
             let softdep = settings.softdep();
-            (softdep, settings.has_install() && softdep.is_none())
+            Said {
+                softdep,
+                stops: settings.has_install() && softdep.is_none(),
+                options: settings.options(),
+            }
         }
-        None => (None, false),
+        None => Said {
+            softdep: None,
+            stops: false,
+            options: &[],
+        },
     }
 }
 
-/// Adds what a plan asks of a slot behind the targets of others.
-pub(crate) fn add_node(
+/// Adds what a plan asks of a slot behind the targets of others, and tells the words of its options lines.
+pub(crate) fn add_node<'a>(
     alloc: Global,
     catalogue: &Catalogue,
     dependencies: &DepIndex,
-    configuration: &Conf,
+    configuration: &'a Conf,
     m: usize,
     targets: &mut Vec<Target>,
-) -> Result<Row, AllocError>
+) -> Result<(Row, &'a [Word]), AllocError>
     requires { m < length catalogue.now }
-    ensures { IfOk result (λ row. Appends targets.old.items targets.new.items row (node_of catalogue.now dependencies.now configuration.now m (description_at catalogue.now m))) }
+    ensures row { IfOk result (λ read. Appends targets.old.items targets.new.items read.0 (node_of catalogue.now dependencies.now configuration.entry.now m (description_at catalogue.now m))) }
+    ensures options { IfOk result (λ read. read.1.now ≡ options_of configuration.entry.now (description_at catalogue.now m).name) }
 {
-    let (softdep, installs) = softdep_and_stop(configuration, catalogue.name(m));
+    let said = said_of(configuration, catalogue.name(m));
     let hard_from = targets.len();
     add_hard(alloc, catalogue, dependencies, m, targets)?;
     let pre_from = targets.len();
-    add_pre(alloc, catalogue, softdep, m, targets)?;
+    add_pre(alloc, catalogue, said.softdep, m, targets)?;
     let post_from = targets.len();
-    add_post(alloc, catalogue, softdep, targets)?;
-    Ok(Row {
+    add_post(alloc, catalogue, said.softdep, targets)?;
+    let row = Row {
         hard_from,
         pre_from,
         post_from,
         end: targets.len(),
-        installs,
-    })
+        installs: said.stops,
+    };
+    Ok((row, said.options))
 }

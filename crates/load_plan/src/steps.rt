@@ -3,13 +3,16 @@ ghost use Rattle.std.specs.Prelude.{◌≡◌, ◌<◌, length, not, slice_index
 ghost use Rattle.load_plan.specs.declared.graph.Target.TheVariants.{Slot};
 ghost use Rattle.load_plan.specs.declared.walk.Mark.TheVariants.{New};
 ghost use Rattle.load_plan.specs.ForProofs.{are_within, is_done_mark, steps_of};
+ghost use Rattle.load_plan.specs.Graph.{is_bounded};
+ghost use Rattle.load_plan.specs.SoftModules.{is_missing, HasNoSoftModules};
+ghost use Rattle.std.specs.List.{list_all};
 ghost use Rattle.load_plan.specs.Plan.{plan, removal_plan};
 ghost use Rattle.load_plan.specs.Results.{Gives, IsRefusalWithin};
 
-use crate::graph::DependencyGraph;
+use crate::graph::{DependencyGraph, Target};
 use crate::refusal::WalkError;
 use crate::visit::visit;
-use crate::walk::{Mark, hard_walk};
+use crate::walk::{Mark, Walked, hard_walk};
 use std::alloc::{AllocError, Global};
 
 /// A module that a plan loads, and whether only soft items ask for it.
@@ -40,6 +43,28 @@ fn with_marks(alloc: Global, marks: &[Mark], order: &[usize]) -> Result<Vec<Plan
     Ok(steps)
 }
 
+/// Whether none of the targets is a module of the graph.
+fn are_missing(targets: &[Target]) -> bool
+    ensures { result ≡ list_all is_missing targets.now }
+{
+    targets
+        .iter()
+        .all(|target| matches!(target, Target::Missing(_)))
+}
+
+/// Whether no soft item is a module of the graph: a visit then finds what the hard walk found.
+fn has_no_soft_module(graph: &DependencyGraph) -> bool
+    ensures none { result ≡ true → HasNoSoftModules graph.now }
+    ensures bounded { is_bounded graph.now ≡ true }
+{
+    for m in 0..graph.len() {
+        if !are_missing(graph.soft(m)) {
+            return false;
+        }
+    }
+    true
+}
+
 /// The plan of a module of the graph: the modules that are loaded, in order, or why there is none.
 pub fn plan_in(
     alloc: Global,
@@ -51,9 +76,13 @@ pub fn plan_in(
     ensures within { IfOk result (λ steps. are_within (length graph.now) steps.items ≡ true) }
     ensures refusal { IfErr result (IsRefusalWithin (length graph.now)) }
 {
-    let walked = hard_walk(alloc, graph, true, start)?;
-    let order = visit(alloc, graph, start)?;
-    Ok(with_marks(alloc, &walked.marks, &order)?)
+    let Walked { order, marks } = hard_walk(alloc, graph, true, start)?;
+    let order = if has_no_soft_module(graph) {
+        order
+    } else {
+        visit(alloc, graph, start)?
+    };
+    Ok(with_marks(alloc, &marks, &order)?)
 }
 
 /// The removal plan of a module of the graph: the modules that are removed, the module first, or why there is none.
