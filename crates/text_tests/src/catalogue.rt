@@ -1,6 +1,6 @@
 //! Catalogues and modules.dep texts.
 
-use crate::texts::{names_text, push_line};
+use crate::texts::{CIRCLE, names_text, push_line};
 use dep_index::{CatError, Catalogue, DepError, DepIndex, ParamKind, read_catalogue, read_dep};
 use std::alloc::{AllocError, Global};
 use std::process::Abort;
@@ -73,8 +73,6 @@ fn has_needs<R: Abort + AllocGlobal>(
     Ok(())
 }
 
-const CIRCLE: &[u8] = b"module a\nexports fa\nneeds fb\nmodule b\nexports fb\nneeds fa\n";
-
 const MANY: &[u8] =
     b"module a\nexports x y\nneeds z w x z2 z\n\tneeds y \t z2\nmodule b\nexports z z2\nmodule c\nexports w\npermanent\npermanent";
 
@@ -109,10 +107,8 @@ fn soft_needs(rt: HostRuntime) -> Result<(), Fail> {
     let text = b"# soft\n\nversion 2\nmodule a\nsoftneeds d b\nmodule c\nsoftneeds a\nmodule d\n";
     let catalogue = read_catalogue(rt.alloc(), text)?;
     assert_eq!(rt; catalogue.len(), 3);
-    let names = catalogue.softneeds(0);
-    assert_eq!(rt; names.len(), 2);
-    assert_eq!(rt; names[0].as_bytes(), b"d".as_slice());
-    assert_eq!(rt; names[1].as_bytes(), b"b".as_slice());
+    let names = names_text(rt.alloc(), catalogue.softneeds(0))?;
+    assert_eq!(rt; names.as_slice(), b"d\nb\n".as_slice());
     Ok(())
 }
 

@@ -1,102 +1,164 @@
+use crate::texts::push_word;
 use dep_index::Name;
-use modprobe_conf::{Conf, Word, read_conf};
+use modprobe_conf::{Conf, Softdep, Word, read_conf};
+use std::alloc::{AllocError, Global};
 use std::process::Abort;
 use std::test::Fail;
 
-fn conf(rt: &HostRuntime, text: &[u8]) -> Result<Conf, Fail> {
+fn conf<R: AllocGlobal>(rt: &R, text: &[u8]) -> Result<Conf, Fail> {
     Ok(read_conf(rt.alloc(), text)?)
 }
 
-fn is_names(rt: &impl Abort, names: &[Name], wanted: &[&[u8]]) {
-    assert_eq!(rt; names.len(), wanted.len());
-    for (name, own) in names.iter().zip(wanted) {
-        assert_eq!(rt; name.as_bytes(), *own);
+fn push_options(text: &mut Vec<u8>, options: &[Word]) -> Result<(), AllocError> {
+    if options.is_empty() {
+        return Ok(());
     }
+    text.extend_from_slice(b"options")?;
+    for word in options {
+        push_word(text, word.as_bytes())?;
+    }
+    text.extend_from_slice(b"\n")
 }
 
-fn is_words(rt: &impl Abort, words: &[Word], wanted: &[&[u8]]) {
-    assert_eq!(rt; words.len(), wanted.len());
-    for (word, own) in words.iter().zip(wanted) {
-        assert_eq!(rt; word.as_bytes(), *own);
+fn push_items(text: &mut Vec<u8>, start: &[u8], items: &[Name]) -> Result<(), AllocError> {
+    text.extend_from_slice(start)?;
+    for item in items {
+        push_word(text, item.as_bytes())?;
     }
-}
-
-#[test]
-fn items_before_and_after(rt: HostRuntime) -> Result<(), Fail> {
-    let conf = conf(&rt, b"softdep c pre: a b post: d e\noptions c debug=1\n")?;
-    let softdep = conf.softdep(b"c").ok_or("no softdep line")?;
-    is_names(&rt, softdep.pre(), &[b"a", b"b"]);
-    is_names(&rt, softdep.post(), &[b"d", b"e"]);
-    is_words(&rt, conf.options(b"c"), &[b"debug=1"]);
-    assert!(rt; conf.softdep(b"a").is_none());
-    assert_eq!(rt; conf.skipped().len(), 0);
     Ok(())
 }
+
+fn push_softdep(text: &mut Vec<u8>, softdep: &Softdep) -> Result<(), AllocError> {
+    push_items(text, b"softdep pre:", softdep.pre())?;
+    push_items(text, b" post:", softdep.post())?;
+    text.extend_from_slice(b"\n")
+}
+
+fn push_marks(text: &mut Vec<u8>, conf: &Conf, name: &[u8]) -> Result<(), AllocError> {
+    if conf.install_line(name) {
+        text.extend_from_slice(b"install\n")?;
+    }
+    if conf.remove_line(name) {
+        text.extend_from_slice(b"remove\n")?;
+    }
+    if conf.blacklisted(name) {
+        text.extend_from_slice(b"blacklist\n")?;
+    }
+    Ok(())
+}
+
+/// All that the configuration says of a name, as its lines would say it without the name.
+fn said_of(alloc: Global, conf: &Conf, name: &[u8]) -> Result<Vec<u8>, AllocError> {
+    let mut text = Vec::new(alloc);
+    push_options(&mut text, conf.options(name))?;
+    if let Some(softdep) = conf.softdep(name) {
+        push_softdep(&mut text, softdep)?;
+    }
+    push_marks(&mut text, conf, name)?;
+    Ok(text)
+}
+
+const ITEMS: &[u8] = b"softdep c pre: a b post: d e\noptions c debug=1\n";
 
 const JOINED: &[u8] =
     b"options y debug=1 \\\n level=3\ninstall x /bin/true\nsoftdep z pre: y\ninstall z /bin/true\nblacklist w \\";
 
-#[test]
-fn lines_are_joined(rt: HostRuntime) -> Result<(), Fail> {
-    let conf = conf(&rt, JOINED)?;
-    is_words(&rt, conf.options(b"y"), &[b"debug=1", b"level=3"]);
-    assert!(rt; conf.install_line(b"x"));
-    assert!(rt; conf.install_line(b"z"));
-    assert!(rt; !conf.install_line(b"y"));
-    assert!(rt; !conf.remove_line(b"x"));
-    let softdep = conf.softdep(b"z").ok_or("no softdep line")?;
-    is_names(&rt, softdep.pre(), &[b"y"]);
-    is_names(&rt, softdep.post(), &[]);
-    assert!(rt; conf.blacklisted(b"w"));
-    assert!(rt; !conf.blacklisted(b"x"));
-    assert_eq!(rt; conf.skipped().len(), 0);
+const BACKSLASHES: &[u8] =
+    b"# note \\\nblacklist a\nblacklist b\\\\\n\nfrob \\\nx\nblacklist c\\\n-d\n\\";
+
+const WITHOUT_EFFECT: &[u8] =
+    b"alias a-* snd-pcm more\nalias [ x\nalias y\nblacklist\ninstall x\nremove x /bin/true\noptions x\nsoftdep x\n\n #\nfrob x y\n";
+
+const SEVERAL: &[u8] =
+    b"softdep a-b x post: c-c\nsoftdep a_b pre: d\noptions a_b p=1 q\noptions z r\noptions a-b s-t=2\nsoftdep e f g\nblacklist a_b more\n";
+
+const OTHER_BYTES: &[u8] =
+    b"options a p=\x0b\xff\0 q\x0c\r\nblacklist\x0bb\n\rblacklist c\nblacklist d\r\nblacklist e\rf\nblacklist \x80\nblacklist g\r";
+
+const CARRIAGE_RETURNS: &[u8] = b"options a p \\\r\nq\\\r\r\noptions b r \\ s\n";
+
+/// A text, a name, and what the text says of it.
+const SAID: [(&[u8], &[u8], &[u8]); 24] = [
+    (
+        ITEMS,
+        b"c",
+        b"options debug=1\nsoftdep pre: a b post: d e\n",
+    ),
+    (ITEMS, b"a", b""),
+    (JOINED, b"y", b"options debug=1 level=3\n"),
+    (JOINED, b"x", b"install\n"),
+    (JOINED, b"z", b"softdep pre: y post:\ninstall\n"),
+    (JOINED, b"w", b"blacklist\n"),
+    (BACKSLASHES, b"a", b""),
+    (BACKSLASHES, b"b\\", b"blacklist\n"),
+    (BACKSLASHES, b"c_d", b"blacklist\n"),
+    (WITHOUT_EFFECT, b"x", b"remove\n"),
+    (
+        SEVERAL,
+        b"a_b",
+        b"options p=1 q s-t=2\nsoftdep pre: post: c_c\nblacklist\n",
+    ),
+    (SEVERAL, b"z", b"options r\n"),
+    (SEVERAL, b"e", b"softdep pre: post:\n"),
+    (SEVERAL, b"a-b", b""),
+    (OTHER_BYTES, b"a", b"options p=\x0b\xff\0 q\x0c\n"),
+    (OTHER_BYTES, b"b", b""),
+    (OTHER_BYTES, b"c", b""),
+    (OTHER_BYTES, b"d", b"blacklist\n"),
+    (OTHER_BYTES, b"e\rf", b"blacklist\n"),
+    (OTHER_BYTES, b"\x80", b"blacklist\n"),
+    (OTHER_BYTES, b"g\r", b"blacklist\n"),
+    (OTHER_BYTES, b"g", b""),
+    (CARRIAGE_RETURNS, b"a", b"options p q\\\r\n"),
+    (CARRIAGE_RETURNS, b"b", b"options r \\ s\n"),
+];
+
+fn says<R: Abort + AllocGlobal>(
+    rt: &R,
+    text: &[u8],
+    name: &[u8],
+    wanted: &[u8],
+) -> Result<(), Fail> {
+    let conf = conf(rt, text)?;
+    let said = said_of(rt.alloc(), &conf, name)?;
+    assert_eq!(rt; said.as_slice(), wanted);
     Ok(())
 }
 
 #[test]
-fn backslashes(rt: HostRuntime) -> Result<(), Fail> {
-    let conf = conf(
-        &rt,
-        b"# note \\\nblacklist a\nblacklist b\\\\\n\nfrob \\\nx\nblacklist c\\\n-d\n\\",
-    )?;
-    assert!(rt; !conf.blacklisted(b"a"));
-    assert!(rt; conf.blacklisted(b"b\\"));
-    assert!(rt; conf.blacklisted(b"c_d"));
-    assert_eq!(rt; conf.skipped(), [5].as_slice());
+fn says_of_names(rt: HostRuntime) -> Result<(), Fail> {
+    for (text, name, wanted) in &SAID {
+        says(&rt, text, name, wanted)?;
+    }
     Ok(())
 }
+
+/// A text, and the numbers of its lines without effect.
+const SKIPPED: [(&[u8], &[usize]); 7] = [
+    (ITEMS, &[]),
+    (JOINED, &[]),
+    (BACKSLASHES, &[5]),
+    (WITHOUT_EFFECT, &[2, 3, 4, 5, 7, 8, 10, 11]),
+    (SEVERAL, &[]),
+    (OTHER_BYTES, &[2, 3]),
+    (CARRIAGE_RETURNS, &[]),
+];
 
 #[test]
 fn lines_without_effect(rt: HostRuntime) -> Result<(), Fail> {
-    let text =
-        b"alias a-* snd-pcm more\nalias [ x\nalias y\nblacklist\ninstall x\nremove x /bin/true\noptions x\nsoftdep x\n\n #\nfrob x y\n";
-    let conf = conf(&rt, text)?;
-    assert_eq!(rt; conf.alias_len(), 1);
-    assert!(rt; conf.alias_pattern(0).matches(b"a_b"));
-    assert_eq!(rt; conf.alias_target(0).as_bytes(), b"snd_pcm".as_slice());
-    assert!(rt; conf.remove_line(b"x"));
-    assert!(rt; !conf.install_line(b"x"));
-    assert!(rt; conf.softdep(b"x").is_none());
-    assert_eq!(rt; conf.options(b"x").len(), 0);
-    assert_eq!(rt; conf.skipped(), [2, 3, 4, 5, 7, 8, 10, 11].as_slice());
+    for (text, wanted) in &SKIPPED {
+        let conf = conf(&rt, text)?;
+        assert_eq!(rt; conf.skipped(), *wanted);
+    }
     Ok(())
 }
 
 #[test]
-fn several_lines_of_a_name(rt: HostRuntime) -> Result<(), Fail> {
-    let text =
-        b"softdep a-b x post: c-c\nsoftdep a_b pre: d\noptions a_b p=1 q\noptions z r\noptions a-b s-t=2\nsoftdep e f g\nblacklist a_b more\n";
-    let conf = conf(&rt, text)?;
-    let softdep = conf.softdep(b"a_b").ok_or("no softdep line")?;
-    is_names(&rt, softdep.pre(), &[]);
-    is_names(&rt, softdep.post(), &[b"c_c"]);
-    is_words(&rt, conf.options(b"a_b"), &[b"p=1", b"q", b"s-t=2"]);
-    let without_marks = conf.softdep(b"e").ok_or("no softdep line")?;
-    is_names(&rt, without_marks.pre(), &[]);
-    is_names(&rt, without_marks.post(), &[]);
-    assert!(rt; conf.blacklisted(b"a_b"));
-    assert_eq!(rt; conf.options(b"a-b").len(), 0);
-    assert_eq!(rt; conf.skipped().len(), 0);
+fn aliases(rt: HostRuntime) -> Result<(), Fail> {
+    let conf = conf(&rt, WITHOUT_EFFECT)?;
+    assert_eq!(rt; conf.alias_len(), 1);
+    assert!(rt; conf.alias_pattern(0).matches(b"a_b"));
+    assert_eq!(rt; conf.alias_target(0).as_bytes(), b"snd_pcm".as_slice());
     Ok(())
 }
 
@@ -108,32 +170,6 @@ fn each_prefix(rt: HostRuntime) -> Result<(), Fail> {
         assert_eq!(rt; conf.blacklisted(b"w"), 96 < end, "at {end}");
         assert!(rt; conf.skipped().len() < 2, "at {end}");
     }
-    Ok(())
-}
-
-#[test]
-fn other_bytes_are_of_words(rt: HostRuntime) -> Result<(), Fail> {
-    let text =
-        b"options a p=\x0b\xff\0 q\x0c\r\nblacklist\x0bb\n\rblacklist c\nblacklist d\r\nblacklist e\rf\nblacklist \x80\nblacklist g\r";
-    let conf = conf(&rt, text)?;
-    is_words(&rt, conf.options(b"a"), &[b"p=\x0b\xff\0", b"q\x0c"]);
-    assert!(rt; !conf.blacklisted(b"b"));
-    assert!(rt; !conf.blacklisted(b"c"));
-    assert!(rt; conf.blacklisted(b"d"));
-    assert!(rt; conf.blacklisted(b"e\rf"));
-    assert!(rt; conf.blacklisted(b"\x80"));
-    assert!(rt; conf.blacklisted(b"g\r"));
-    assert!(rt; !conf.blacklisted(b"g"));
-    assert_eq!(rt; conf.skipped(), [2, 3].as_slice());
-    Ok(())
-}
-
-#[test]
-fn a_line_end_behind_a_backslash(rt: HostRuntime) -> Result<(), Fail> {
-    let conf = conf(&rt, b"options a p \\\r\nq\\\r\r\noptions b r \\ s\n")?;
-    is_words(&rt, conf.options(b"a"), &[b"p", b"q\\\r"]);
-    is_words(&rt, conf.options(b"b"), &[b"r", b"\\", b"s"]);
-    assert_eq!(rt; conf.skipped().len(), 0);
     Ok(())
 }
 

@@ -8,6 +8,7 @@ mod prefixes;
 mod removals;
 mod soft_items;
 
+use crate::texts::{self, push_word};
 use dep_index::{Catalogue, DepIndex, Name, read_catalogue, read_dep};
 use load_plan::{Item, PlanError, plan, removal_plan};
 use modprobe_conf::{Conf, read_conf};
@@ -59,8 +60,7 @@ fn error_text(alloc: Global, error: PlanError) -> Result<Vec<u8>, Fail> {
 
 fn add_words(text: &mut Vec<u8>, words: &[&[u8]]) -> Result<(), Fail> {
     for word in words {
-        text.extend_from_slice(b" ")?;
-        text.extend_from_slice(word)?;
+        push_word(text, word)?;
     }
     Ok(())
 }
@@ -190,7 +190,7 @@ const LEVELS: Texts = Texts {
 
 /// Two modules that need each other, by symbols and by modules.dep.
 const CIRCLE: Texts = Texts {
-    catalogue: b"module a\nexports fa\nneeds fb\nmodule b\nexports fb\nneeds fa\n",
+    catalogue: texts::CIRCLE,
     dependencies: b"kernel/a.ko: kernel/b.ko\nkernel/b.ko.xz: kernel/a.ko\n",
     configuration: b"",
 };

@@ -1,7 +1,11 @@
-//! Texts with numbers, and names as text.
+//! Texts that several tests read, and how tests write what they found.
 
 use dep_index::Name;
 use std::alloc::{AllocError, Global};
+
+/// Two modules that need each other.
+pub(crate) const CIRCLE: &[u8] =
+    b"module a\nexports fa\nneeds fb\nmodule b\nexports fb\nneeds fa\n";
 
 /// Adds a line that ends with a number.
 pub(crate) fn push_line(
@@ -13,6 +17,12 @@ pub(crate) fn push_line(
     let end = format!(in alloc; "{number}\n")?;
     text.extend_from_slice(start)?;
     text.extend_from_slice(end.as_bytes())
+}
+
+/// Adds a word behind a space.
+pub(crate) fn push_word(text: &mut Vec<u8>, word: &[u8]) -> Result<(), AllocError> {
+    text.push(b' ')?;
+    text.extend_from_slice(word)
 }
 
 /// Names, one a line.
