@@ -2,7 +2,7 @@
 
 use crate::figure::print_rate;
 use anyhow::{Result, bail};
-use dep_index::read_catalogue;
+use dep_index::{Catalogue, read_catalogue};
 use std::alloc::{AllocError, Global};
 use std::rt::Clock;
 use std::time::Instant;
@@ -12,6 +12,14 @@ const MODULES: usize = 1024;
 const SYMBOLS: usize = 10;
 
 const READS: usize = 150;
+
+/// The catalogue of a text. A fault of the text ends the benchmark.
+pub(crate) fn catalogue_of(alloc: Global, text: &[u8]) -> Result<Catalogue> {
+    match read_catalogue(alloc, text) {
+        Ok(catalogue) => Ok(catalogue),
+        Err(error) => bail!("{error:?}"),
+    }
+}
 
 pub fn measure<R: Print + Clock + AllocGlobal>(rt: &R) -> Result<()> {
     let alloc = rt.alloc();
@@ -56,10 +64,7 @@ fn text(alloc: Global) -> Result<String, AllocError> {
 
 /// Reads the text. How many needs its modules have.
 fn read(alloc: Global, text: &[u8]) -> Result<usize> {
-    let catalogue = match read_catalogue(alloc, text) {
-        Ok(catalogue) => catalogue,
-        Err(error) => bail!("{error:?}"),
-    };
+    let catalogue = catalogue_of(alloc, text)?;
     let mut needs: usize = 0;
     for m in 0..catalogue.len() {
         needs = needs.wrapping_add(catalogue.needs(m).len());

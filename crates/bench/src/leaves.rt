@@ -7,9 +7,10 @@ ghost use Rattle.root_row.specs.Views.{worker_of};
 ghost use Rattle.root_row.specs.Made.{new_book, new_leaf};
 ghost use Rattle.dep_index.specs.Catalogue.{modules_of};
 
+use crate::catalogue::catalogue_of;
 use crate::figure::print_rate;
 use anyhow::{Result, bail};
-use dep_index::{Catalogue, read_catalogue};
+use dep_index::Catalogue;
 use module_table::Book;
 use root_row::{BookSeat, LeafSeat, Row};
 use std::alloc::{AllocError, Global};
@@ -90,13 +91,6 @@ fn hold<R: Wait>(rt: &R, row: &Row, leaf: &mut Leaf)
     let _ = leaf.get(rt, row, 0);
 }
 
-fn one_module(alloc: Global) -> Result<Catalogue> {
-    match read_catalogue(alloc, b"module snd\n") {
-        Ok(catalogue) => Ok(catalogue),
-        Err(error) => bail!("{error:?}"),
-    }
-}
-
 /// Loads the module of slot 0.
 fn load(alloc: Global, row: &Row, seat: BookSeat, catalogue: &Catalogue) -> Result<()>
     requires inside { 0 < slots row.now.world }
@@ -116,7 +110,7 @@ fn live_row(alloc: Global, workers: usize) -> Result<(Row, Vec<Leaf>)>
     ensures inside { IfOk result (λ r. 0 < slots r.0.world) }
     ensures own { IfOk result (λ r. All (IsOf r.0) r.1.items) }
 {
-    let catalogue = one_module(alloc)?;
+    let catalogue = catalogue_of(alloc, b"module snd\n")?;
     let (row, seats, seat, _) = Row::new(alloc, &catalogue, workers, 0)?;
     if row.slots() == 0 {
         bail!("no slot");

@@ -2,9 +2,10 @@
 ghost use Rattle.std.specs.Prelude.{◌≡◌, IfOk};
 ghost use Rattle.dep_index.specs.Catalogue.{modules_of};
 
+use crate::catalogue::catalogue_of;
 use crate::figure::print_time;
-use anyhow::{Result, bail};
-use dep_index::{Catalogue, read_catalogue};
+use anyhow::Result;
+use dep_index::Catalogue;
 use proc_modules::{lsmod_text, proc_text};
 use seq_table::{Modules, Table};
 use std::alloc::{AllocError, Global};
@@ -68,21 +69,14 @@ fn measure_of<R: Print + Clock + AllocGlobal>(
     lines: &str,
     columns: &str,
 ) -> Result<()> {
-    let catalogue = catalogue_of(rt.alloc(), modules)?;
+    let text = catalogue_text(rt.alloc(), modules)?;
+    let catalogue = catalogue_of(rt.alloc(), text.as_bytes())?;
     let table = loaded(rt.alloc(), &catalogue)?;
     let in_lines = measure_listing(rt, lines, Listing::Proc, &catalogue, &table)?;
     let in_columns = measure_listing(rt, columns, Listing::Lsmod, &catalogue, &table)?;
     let bytes = in_lines.wrapping_add(in_columns);
     println!(rt; "{lines}_and_columns {bytes} bytes")?;
     Ok(())
-}
-
-fn catalogue_of(alloc: Global, modules: u32) -> Result<Catalogue> {
-    let text = catalogue_text(alloc, modules)?;
-    match read_catalogue(alloc, text.as_bytes()) {
-        Ok(catalogue) => Ok(catalogue),
-        Err(error) => bail!("{error:?}"),
-    }
 }
 
 /// Adds the lines of a module, which needs the four before it.

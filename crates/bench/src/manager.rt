@@ -2,9 +2,9 @@
 //! worker holds throughout.
 ghost use Rattle.std.specs.Prelude.{◌<◌};
 
+use crate::catalogue::catalogue_of;
 use crate::figure::print_rate;
 use anyhow::{Result, bail};
-use dep_index::read_catalogue;
 use module_table::Manager;
 use std::alloc::Global;
 use std::rt::Clock;
@@ -33,10 +33,7 @@ pub fn measure<R: Print + Clock + AllocGlobal + Threads + Wait + Sync>(rt: &R) -
 fn live_manager<R: Wait>(rt: &R, alloc: Global, workers: usize) -> Result<Manager>
     requires { workers < 64 }
 {
-    let catalogue = match read_catalogue(alloc, b"module snd\n") {
-        Ok(catalogue) => catalogue,
-        Err(error) => bail!("{error:?}"),
-    };
+    let catalogue = catalogue_of(alloc, b"module snd\n")?;
     let (manager, _readers) = Manager::new(alloc, &catalogue, workers)?;
     let begun = manager.begin_load(rt, 0) == Some(Ok(()));
     if !begun || manager.end_load(rt, 0, true) != Some(Ok(())) {

@@ -1,10 +1,11 @@
 //! Plans in a catalogue of 1,024 modules with three hard dependencies each, and a look-up over 26,000 aliases.
 
 use crate::aliases::{DEVICE, aliases_text};
+use crate::catalogue::catalogue_of;
 use crate::figure::print_time;
 use alias_match::{Aliases, read_aliases};
 use anyhow::{Result, bail};
-use dep_index::{Catalogue, DepIndex, read_catalogue, read_dep};
+use dep_index::{Catalogue, DepIndex, read_dep};
 use load_plan::{find, plan, removal_plan};
 use modprobe_conf::{Conf, read_conf};
 use std::alloc::{AllocError, Global};
@@ -83,13 +84,6 @@ fn configuration_text(alloc: Global) -> Result<String, AllocError> {
     Ok(text)
 }
 
-fn catalogue_of(alloc: Global, text: &String) -> Result<Catalogue> {
-    match read_catalogue(alloc, text.as_bytes()) {
-        Ok(catalogue) => Ok(catalogue),
-        Err(error) => bail!("{error:?}"),
-    }
-}
-
 fn dependencies_of(alloc: Global, text: &String) -> Result<DepIndex> {
     match read_dep(alloc, text.as_bytes()) {
         Ok(dependencies) => Ok(dependencies),
@@ -105,7 +99,7 @@ fn configuration_of(alloc: Global) -> Result<Conf> {
 /// The hard dependencies stand in the catalogue.
 fn by_symbols(alloc: Global) -> Result<Sources> {
     let text = catalogue_text(alloc, true)?;
-    let catalogue = catalogue_of(alloc, &text)?;
+    let catalogue = catalogue_of(alloc, text.as_bytes())?;
     let dependencies = dependencies_of(alloc, &String::new(alloc))?;
     let configuration = configuration_of(alloc)?;
     Ok(Sources {
@@ -118,7 +112,7 @@ fn by_symbols(alloc: Global) -> Result<Sources> {
 /// The hard dependencies stand in a modules.dep text.
 fn by_paths(alloc: Global) -> Result<Sources> {
     let text = catalogue_text(alloc, false)?;
-    let catalogue = catalogue_of(alloc, &text)?;
+    let catalogue = catalogue_of(alloc, text.as_bytes())?;
     let text = dependencies_text(alloc)?;
     let dependencies = dependencies_of(alloc, &text)?;
     let configuration = configuration_of(alloc)?;

@@ -1,8 +1,9 @@
 //! Schedules of 8 threads that get, query and put over 64 modules: their points, and the judging of these.
 
+use crate::catalogue::catalogue_of;
 use crate::figure::print_rate;
-use anyhow::{Result, bail, ensure};
-use dep_index::{Catalogue, read_catalogue};
+use anyhow::{Result, ensure};
+use dep_index::Catalogue;
 use linear_points::{Point, check_points, points};
 use std::alloc::{AllocError, Global};
 use std::rt::Clock;
@@ -64,10 +65,7 @@ fn modules(alloc: Global) -> Result<Catalogue> {
         let line = format!(in alloc; "module m{m}\n")?;
         text.push_str(line.as_str())?;
     }
-    match read_catalogue(alloc, text.as_bytes()) {
-        Ok(catalogue) => Ok(catalogue),
-        Err(fault) => bail!("{fault:?}"),
-    }
+    catalogue_of(alloc, text.as_bytes())
 }
 
 /// Adds the steps that load a module.
