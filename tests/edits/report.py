@@ -3,6 +3,7 @@
 import re
 
 FUNCTION_LINE = re.compile(r"fn (\S+): (.*)")
+PROVED = re.compile(r"(?:proved|assumed)(?:[,;:].*)?")
 ERROR_LINE = re.compile(r"(?:\./)?(\S+?):\d+:\d+: error(?:\[[\w-]+\])?: (?:(`[^`]*`): )?(.*)")
 CALLS = re.compile(r"(?:; )?it calls ((?:`[^`]+`(?: and )?)+), which (?:is|are) not proved")
 STANDS_ON = re.compile(r"it stands on (.*?), which antt refuses")
@@ -28,7 +29,7 @@ class Report:
 
     def refused(self):
         """The functions that are not proved."""
-        return {name for name, verdict in self.verdicts.items() if verdict != "proved"}
+        return {name for name, verdict in self.verdicts.items() if not PROVED.fullmatch(verdict)}
 
     def files_not_read(self, changed):
         """The files whose text cannot be read. There the prover tried no contract."""
