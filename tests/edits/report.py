@@ -1,4 +1,4 @@
-"""What a check prints of each function, and what it says of an edit."""
+"""What a check prints of each function, and what that says of an edit."""
 
 import re
 
@@ -8,12 +8,14 @@ ERROR_LINE = re.compile(r"(?:\./)?(\S+?):\d+:\d+: error(?:\[[\w-]+\])?: (?:(`[^`
 CALLS = re.compile(r"(?:; )?it calls ((?:`[^`]+`(?: and )?)+), which (?:is|are) not proved")
 STANDS_ON = re.compile(r"it stands on (.*?), which antt refuses")
 TAKEN_AWAY = re.compile(r"has no field|is not in scope|has no `|was not admitted")
-NOT_READ = re.compile(r"is not in scope|has no field|is no name|operand is missing|expected the end|cannot continue")
-ONLY_NAMES = "only because a proof file names what the edit took away, which says little of the contract: "
+NOT_READ = re.compile(
+    r"is not in scope|has no field|is no name|operand is missing|expected the end|cannot continue",
+)
+ONLY_NAMES = "only because a proof file names what the edit took away: "
 
 
 class Report:
-    """The lines of a check, sorted: what it says of each function, errors by file, and what was not kept from before."""
+    """The lines of a check: what it says of each function, its errors, and the functions that it checked again."""
 
     def __init__(self, said):
         self.said = said

@@ -20,7 +20,7 @@ class Room:
         self.running = set()
 
     def prove(self, crate, waits):
-        """Proves the crate once the libraries below it are proved, over what its own out/ keeps where that still fits."""
+        """Proves the crate after the libraries below it, over what its own out/ keeps where that still fits."""
         for proof in waits:
             proof.result()
         copy = self.repository(crate, "proved")
@@ -80,7 +80,7 @@ def copy_parts(crate, copy):
 
 
 def copy_out(crate, copy, by, kinds=("rlib", "incremental")):
-    """Copies what a proof left. A link will do for a copy, since rt and the prover put a new file in an old one's place."""
+    """Copies what a proof left. A link will do, since rt and the prover never write into a file that is there."""
     for kind in kinds:
         if (crate / "out" / kind).is_dir():
             shutil.copytree(crate / "out" / kind, copy / "out" / kind, copy_function=by)
