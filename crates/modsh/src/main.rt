@@ -1,13 +1,7 @@
 //! The session program: standard input in, replies out.
 #![tactic(auto)]
 
-mod drive;
-mod status;
-#[cfg(test)]
-mod tests;
-mod words;
-
-pub use drive::drive;
+use modsh_drive::drive;
 use std::alloc::AllocError;
 use std::process::ExitCode;
 use std::{env, io};

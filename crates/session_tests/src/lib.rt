@@ -1,7 +1,9 @@
-//! Tests of sessions: devices that fail, setups, and each command.
+//! Tests of sessions: devices that fail, setups, each command, and the program.
 #![tactic(auto)]
 
 #[cfg(test)]
 mod commands;
+#[cfg(test)]
+mod program;
 #[cfg(test)]
 mod sessions;

@@ -1,6 +1,6 @@
 //! How the program ends.
 ghost use Rattle.std.specs.Prelude.{◌≡◌};
-ghost use Rattle.modsh.specs.Statuses.{number_of, status_of};
+ghost use Rattle.modsh_drive.specs.Statuses.{number_of, status_of};
 
 use modprobe::{ServeFault, SetupCode, SetupFault};
 

@@ -4,8 +4,8 @@ use Rattle.modprobe.specs.declared.fault.ServeFault.{ServeFault}
 use Rattle.modprobe.specs.declared.fault.ServeFault.TheVariants as serve_fault
 use Rattle.modprobe.specs.declared.fault.SetupCode.{SetupCode}
 use Rattle.modprobe.specs.declared.fault.SetupCode.TheVariants.{C1, C2, C3, C4, M1, M2, M3, B1, Read, Memory, Turns, LongLine}
-use Rattle.modsh.specs.declared.status.Status.{Status}
-use Rattle.modsh.specs.declared.status.Status.TheVariants.{Done, Refused, Fault}
+use Rattle.modsh_drive.specs.declared.status.Status.{Status}
+use Rattle.modsh_drive.specs.declared.status.Status.TheVariants.{Done, Refused, Fault}
 
 abbrev pub number_of : Status → ℕ
 number_of Done = 0

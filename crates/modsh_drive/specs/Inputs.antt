@@ -1,8 +1,8 @@
 -- What stands before standard input.
 use Rattle.std.specs.Prelude.{ℕ, List, ◌++◌, if◌then◌else◌, codes, Option, Some, None}
 use Rattle.std.specs.Str.{bytes_eq}
-use Rattle.modsh.specs.declared.words.Section.{Section}
-use Rattle.modsh.specs.declared.words.Section.TheVariants.{Catalogue, Dependencies, Aliases, Configuration}
+use Rattle.modsh_drive.specs.declared.words.Section.{Section}
+use Rattle.modsh_drive.specs.declared.words.Section.TheVariants.{Catalogue, Dependencies, Aliases, Configuration}
 
 -- the section that a word names before its `=`
 abbrev pub section_named : List ℕ → Option Section

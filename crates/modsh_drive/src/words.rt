@@ -1,6 +1,6 @@
 //! The words of the program: sections of its input that are read from files.
 ghost use Rattle.std.specs.Prelude.{◌≡◌, ◌++◌, OnOk};
-ghost use Rattle.modsh.specs.Inputs.{section_named, section_line, section_text};
+ghost use Rattle.modsh_drive.specs.Inputs.{section_named, section_line, section_text};
 
 use std::alloc::AllocError;
 

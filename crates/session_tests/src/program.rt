@@ -1,6 +1,6 @@
 //! The program as a table of words, input, status, output and messages, and streams that fail.
 
-use crate::drive::drive;
+use modsh_drive::drive;
 use std::alloc::{AllocError, Global};
 use std::io::{Read, Write};
 use std::test::Fail;
