@@ -1,29 +1,10 @@
 //! The program of schedules and scripts: standard input in, the report out, or what the workers came to.
 #![tactic(auto)]
 
-mod drive;
-mod fault;
-mod lines;
-mod listing;
-mod order;
-mod report;
-mod schedule;
-mod script;
-mod statement;
-#[cfg(test)]
-mod tests;
-mod texts;
-mod threads;
-mod worker;
-
-pub use drive::drive;
-pub use fault::{LineCode, LineFault, ScheduleFault};
-pub use report::report;
-pub use script::{Script, read_script};
 use std::alloc::AllocError;
 use std::process::ExitCode;
 use std::{env, io};
-pub use threads::{Gate, WorkFault, run_threads};
+use workload_drive::drive;
 
 fn main(rt: HostRuntime) -> ExitCode {
     let args = match env::args(&rt) {

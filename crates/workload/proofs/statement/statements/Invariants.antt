@@ -1,8 +1,0 @@
-use Rattle.std.proofs.Common.{◌≡◌, ◌++◌, drop}
-use Rattle.workload.specs.Statements.{statements}
-use Rattle.workload.specs.ForProofs.{lines_in, statements_in}
-use Rattle.workload.proofs.statement.statements.Given as goal
-
--- the statements so far go on with those of the lines that are left
-abbrev pub invariant-loop-line : goal.invariant-loop-line
-invariant-loop-line l = statements_in l.said.items ++ statements (lines_in (drop l.line-index l.lines)) ≡ statements (lines_in l.lines)

@@ -1,0 +1,68 @@
+//! The lines of an input, with their numbers.
+ghost use Rattle.std.specs.Prelude.{◌≡◌, IfOk};
+ghost use Rattle.dep_index.specs.Text.{ended, cut_lines};
+ghost use Rattle.workload_drive.specs.Statements.{with_number, numbered, is_ignored};
+ghost use Rattle.workload_drive.specs.ForProofs.{line_in, lines_in};
+
+use dep_index::text::{is_comment, words};
+use memchr::memchr;
+use std::alloc::{AllocError, Global};
+
+/// A line: its number, from 1, its text, and the bytes that end it.
+#[derive(Clone, Copy, Drop)]
+pub(crate) struct Line<'a> {
+    pub(crate) number: usize,
+    pub(crate) text: &'a [u8],
+    pub(crate) ending: &'a [u8],
+}
+
+/// The line of a part before a line feed.
+fn ended<'a>(number: usize, part: &'a [u8]) -> Line<'a>
+    ensures { line_in result ≡ with_number number (ended part.now) }
+{
+    match part {
+        [text @ .., b'\r'] => Line {
+            number,
+            text,
+            ending: b"\r\n",
+        },
+        _ => Line {
+            number,
+            text: part,
+            ending: b"\n",
+        },
+    }
+}
+
+/// The lines of an input, numbered from 1.
+pub(crate) fn cut_lines<'a>(alloc: Global, input: &'a [u8]) -> Result<Vec<Line<'a>>, AllocError>
+    ensures { IfOk result (λ lines. lines_in lines.items ≡ numbered 1 (cut_lines input.now)) }
+{
+    let mut lines = Vec::new(alloc);
+    let mut rest = input;
+    while let Some(end) = memchr(b'\n', rest) {
+        let (part, more) = rest.split_at(end);
+        lines.push(ended(lines.len() + 1, part))?;
+        rest = &more[1..];
+    }
+    if !rest.is_empty() {
+        let number = lines.len() + 1;
+        lines.push(Line {
+            number,
+            text: rest,
+            ending: b"",
+        })?;
+    }
+    Ok(lines)
+}
+
+/// Whether a line says nothing: it has no word, or its first byte is `#`.
+pub(crate) fn is_ignored(alloc: Global, text: &[u8]) -> Result<bool, AllocError>
+    ensures { IfOk result (λ b. b ≡ is_ignored text.now) }
+{
+    if is_comment(text) {
+        return Ok(true);
+    }
+    let words = words(alloc, text)?;
+    Ok(words.is_empty())
+}
