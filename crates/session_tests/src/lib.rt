@@ -1,8 +1,8 @@
-//! Tests of sessions: devices that fail, setups, each command, and the program.
+//! Tests of sessions and of their program over devices that fail, never end, or take a byte at a time.
 #![tactic(auto)]
 
 #[cfg(test)]
-mod commands;
+mod devices;
 #[cfg(test)]
 mod program;
 #[cfg(test)]

@@ -1,0 +1,161 @@
+//! Devices that fail, take one byte at a time, or never end.
+ghost use Rattle.std.specs.Prelude.{◌≡◌, false, Some, None, Option};
+
+use modprobe::{Failed, Sink, Source};
+use std::io;
+use std::io::{Read, Write};
+
+/// Fails at each call, as a reader or writer of std.
+#[derive(Drop)]
+pub(crate) struct Broken;
+
+impl Read for Broken {
+    fn read(&mut self, _buffer: &mut [u8]) -> io::Result<usize> {
+        Err(io::Error::from(io::ErrorKind::Other))
+    }
+}
+
+impl Write for Broken {
+    fn write(&mut self, _bytes: &[u8]) -> io::Result<usize> {
+        Err(io::Error::from(io::ErrorKind::Other))
+    }
+
+    fn flush(&mut self) -> io::Result<()> {
+        Ok(())
+    }
+}
+
+/// Gives its bytes, and then fails or is at its end.
+#[derive(Drop)]
+pub(crate) struct Scripted<'a> {
+    bytes: &'a [u8],
+    fails: bool,
+    failed: bool,
+}
+
+impl<'a> Scripted<'a> {
+    pub(crate) fn new(bytes: &'a [u8], fails: bool) -> Scripted<'a>
+        ensures { result.failed ≡ false }
+    {
+        Scripted {
+            bytes,
+            fails,
+            failed: false,
+        }
+    }
+}
+
+impl Source for Scripted<'_> {
+    ghost remaining = { λ s. Some s.bytes.now };
+
+    ghost has_failed = { λ s. s.failed };
+
+    fn read(&mut self, buffer: &mut [u8]) -> Result<usize, Failed> {
+        if self.bytes.is_empty() && self.fails {
+            self.failed = true;
+            return Err(Failed);
+        }
+        match self.bytes.read(buffer) {
+            Ok(count) => Ok(count),
+            Err(_) => {
+                self.failed = true;
+                Err(Failed)
+            }
+        }
+    }
+
+    fn failed(&self) -> bool {
+        self.failed
+    }
+}
+
+/// Gives a section line first and then a line feed a call, for ever. It tells nothing, and counts its calls.
+#[derive(Drop)]
+pub(crate) struct Dripping {
+    calls: u32,
+}
+
+impl Dripping {
+    pub(crate) fn new() -> Dripping {
+        Dripping { calls: 0 }
+    }
+
+    pub(crate) fn calls(&self) -> u32 {
+        self.calls
+    }
+}
+
+impl Source for Dripping {
+    ghost remaining = { λ s. None };
+
+    ghost has_failed = { λ s. false };
+
+    fn read(&mut self, buffer: &mut [u8]) -> Result<usize, Failed> {
+        self.calls = self.calls.saturating_add(1);
+        let text: &[u8] = if self.calls == 1 {
+            b"%catalogue\n"
+        } else {
+            b"\n"
+        };
+        if buffer.len() < text.len() {
+            return Ok(0);
+        }
+        buffer[..text.len()].copy_from_slice(text);
+        Ok(text.len())
+    }
+
+    fn failed(&self) -> bool {
+        false
+    }
+}
+
+/// Takes one byte a call, as long as it has room, and then fails, or takes none. It tells nothing.
+#[derive(Drop)]
+pub(crate) struct Narrow {
+    taken: [u8; 256],
+    len: usize,
+    room: usize,
+    fails: bool,
+    failed: bool,
+}
+
+impl Narrow {
+    pub(crate) fn new(room: usize, fails: bool) -> Narrow
+        ensures { result.failed ≡ false }
+    {
+        Narrow {
+            taken: [0; 256],
+            len: 0,
+            room,
+            fails,
+            failed: false,
+        }
+    }
+
+    pub(crate) fn text(&self) -> &[u8] {
+        self.taken.get(..self.len).unwrap_or(&[])
+    }
+}
+
+impl Sink for Narrow {
+    ghost contents = { λ s. None };
+
+    ghost has_failed = { λ s. s.failed };
+
+    fn write(&mut self, bytes: &[u8]) -> Result<usize, Failed> {
+        let Some(first) = bytes.first() else {
+            return Ok(0);
+        };
+        if self.len >= self.room || self.len >= self.taken.len() {
+            self.failed = true;
+            return if self.fails { Err(Failed) } else { Ok(0) };
+        }
+        self.taken[self.len] = *first;
+        self.len += 1;
+        Ok(1)
+    }
+
+    fn failed(&self) -> bool {
+        self.failed
+    }
+}
