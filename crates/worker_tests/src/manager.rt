@@ -1,13 +1,16 @@
+//! The manager's calls, on one thread and on several, and the same calls on its guards.
 ghost use Rattle.std.specs.Prelude.{◌<◌};
 ghost use Rattle.root_row.specs.World.{slots};
 ghost use Rattle.root_row.specs.Seats.{IsOf};
 
 mod lent;
 
+use crate::replies::{
+    of_begin_drain, of_begin_load, of_begin_remove, of_end_load, of_end_remove, of_get, of_put,
+};
 use crate::sound::sound;
-use dep_index::{BeginRemoveError, GetError, ModuleState, PutError};
+use dep_index::{Call, ModuleState, Reply};
 use module_table::{Manager, OwnBook, OwnLeaf};
-use std::process::Abort;
 use std::sync::{Mutex, Wait};
 use std::test::Fail;
 use std::thread;
@@ -16,137 +19,202 @@ use use_indicator::Reader;
 
 const TURNS: usize = 12_500;
 
-fn load<R: Abort + Wait>(rt: &R, manager: &Manager) {
-    assert_eq!(rt; manager.begin_load(rt, 0), Some(Ok(())));
-    assert_eq!(rt; manager.end_load(rt, 0, true), Some(Ok(())));
-    assert_eq!(rt; manager.state(rt, 0), Some(ModuleState::Live));
-    assert_eq!(rt; manager.loaded(rt), 1);
-    assert_eq!(rt; manager.loaded_at(rt, 0), Some(0));
-    assert_eq!(rt; manager.loaded_at(rt, 1), None);
+/// A call, and what it answers: None where the worker or the slot is out of range.
+type Row = (Call, Option<Reply>);
+
+/// The first module is loaded.
+const LOAD: [Row; 2] = [
+    (Call::BeginLoad(0), Some(Reply::Done)),
+    (Call::EndLoad(0, true), Some(Reply::Done)),
+];
+
+/// Both workers take a reference.
+const GET: [Row; 2] = [
+    (Call::Get(0, 0), Some(Reply::Done)),
+    (Call::Get(1, 0), Some(Reply::Done)),
+];
+
+/// Both references are put, and the removal begins.
+const PUT: [Row; 6] = [
+    (Call::BeginRemove(0), Some(Reply::InUse)),
+    (Call::Put(0, 0), Some(Reply::Done)),
+    (Call::BeginRemove(0), Some(Reply::InUse)),
+    (Call::Put(1, 0), Some(Reply::Done)),
+    (Call::BeginRemove(0), Some(Reply::Done)),
+    (Call::Get(0, 0), Some(Reply::NotLive)),
+];
+
+/// The removal ends, and nothing is left.
+const END: [Row; 4] = [
+    (Call::EndRemove(0), Some(Reply::Done)),
+    (Call::BeginRemove(0), Some(Reply::NoEntry)),
+    (Call::Get(2, 0), None),
+    (Call::Get(0, 2), None),
+];
+
+/// What the manager answers to a call; a query takes a reader, and is none here.
+fn reply_to<R: Wait>(rt: &R, manager: &Manager, call: Call) -> Option<Reply> {
+    let reply = match call {
+        Call::Get(worker, slot) => of_get(manager.get(rt, worker, slot)?),
+        Call::Put(worker, slot) => of_put(manager.put(rt, worker, slot)?),
+        Call::InUse(_) => return None,
+        Call::BeginLoad(slot) => of_begin_load(manager.begin_load(rt, slot)?),
+        Call::EndLoad(slot, ok) => of_end_load(manager.end_load(rt, slot, ok)?),
+        Call::BeginDrain(slot) => of_begin_drain(manager.begin_drain(rt, slot)?),
+        Call::BeginRemove(slot) => of_begin_remove(manager.begin_remove(rt, slot)?),
+        Call::EndRemove(slot) => of_end_remove(manager.end_remove(rt, slot)?),
+    };
+    Some(reply)
 }
 
-fn get_by_both<R: Abort + Wait>(rt: &R, manager: &Manager) {
-    assert_eq!(rt; manager.get(rt, 0, 0), Some(Ok(())));
-    assert_eq!(rt; manager.get(rt, 1, 0), Some(Ok(())));
-    assert_eq!(rt; manager.held(rt, 0, 0), Some(1));
-    assert_eq!(rt; manager.held(rt, 1, 0), Some(1));
+/// Makes the calls in order, and says whether each answers as it ought to.
+fn answers<R: Wait>(rt: &R, manager: &Manager, rows: &[Row]) -> bool {
+    for (call, want) in rows {
+        if reply_to(rt, manager, *call) != *want {
+            return false;
+        }
+    }
+    true
 }
 
-fn put_and_remove<R: Abort + Wait>(rt: &R, manager: &Manager) {
-    assert_eq!(rt;
-        manager.begin_remove(rt, 0),
-        Some(Err(BeginRemoveError::InUse))
-    );
-    assert_eq!(rt; manager.put(rt, 0, 0), Some(Ok(())));
-    assert_eq!(rt;
-        manager.begin_remove(rt, 0),
-        Some(Err(BeginRemoveError::InUse))
-    );
-    assert_eq!(rt; manager.put(rt, 1, 0), Some(Ok(())));
-    assert_eq!(rt; manager.begin_remove(rt, 0), Some(Ok(())));
-    assert_eq!(rt; manager.get(rt, 0, 0), Some(Err(GetError::NotLive)));
+/// The first module is live, and alone in the table.
+fn is_alone<R: Wait>(rt: &R, manager: &Manager) -> bool {
+    manager.state(rt, 0) == Some(ModuleState::Live)
+        && manager.loaded(rt) == 1
+        && manager.loaded_at(rt, 0) == Some(0)
+        && manager.loaded_at(rt, 1).is_none()
 }
 
-fn end<R: Abort + Wait>(rt: &R, manager: &Manager) {
-    assert_eq!(rt; manager.end_remove(rt, 0), Some(Ok(())));
-    assert_eq!(rt;
-        manager.begin_remove(rt, 0),
-        Some(Err(BeginRemoveError::NoEntry))
-    );
-    assert_eq!(rt; manager.get(rt, 2, 0), None);
-    assert_eq!(rt; manager.get(rt, 0, 2), None);
+fn loads<R: Wait>(rt: &R, manager: &Manager) -> bool {
+    answers(rt, manager, &LOAD) && is_alone(rt, manager)
+}
+
+/// Each worker holds one reference once both have got one.
+fn both_get<R: Wait>(rt: &R, manager: &Manager) -> bool {
+    answers(rt, manager, &GET)
+        && manager.held(rt, 0, 0) == Some(1)
+        && manager.held(rt, 1, 0) == Some(1)
+}
+
+/// A module is used and removed, and a query says whether it is in use.
+fn is_used_and_removed<R: Wait>(rt: &R, manager: &Manager, reader: &mut Reader) -> bool
+    requires { IsOf manager.now reader.old }
+{
+    manager.slots() == 2
+        && loads(rt, manager)
+        && both_get(rt, manager)
+        && manager.query(reader, 0)
+        && answers(rt, manager, &PUT)
+        && !manager.query(reader, 0)
+        && answers(rt, manager, &END)
 }
 
 #[test]
 fn a_module_is_used_and_removed(rt: HostRuntime) -> Result<(), Fail> {
     let (manager, mut readers) = Manager::new(rt.alloc(), &sound(rt.alloc())?, 2)?;
-    load(&rt, &manager);
-    get_by_both(&rt, &manager);
     let mut reader = readers.pop().ok_or("no reader")?;
-    assert_eq!(rt; manager.slots(), 2);
-    assert!(rt; manager.query(&mut reader, 0));
-    put_and_remove(&rt, &manager);
-    assert!(rt; !manager.query(&mut reader, 0));
-    end(&rt, &manager);
+    assert!(rt; is_used_and_removed(&rt, &manager, &mut reader));
     Ok(())
 }
 
-// The same calls, every second one on a guard.
-
-fn load_on_a_guard<R: Abort + Wait>(rt: &R, manager: &Manager) {
-    assert_eq!(rt; manager.begin_load(rt, 0), Some(Ok(())));
-    let ended = manager.book().lock(rt).end_load(0, true);
-    assert_eq!(rt; ended, Some(Ok(())));
+/// What a call is made on.
+#[derive(Clone, Copy)]
+enum On {
+    Manager,
+    Guard,
 }
 
-fn lock_and_get<R: Abort + Wait>(
-    rt: &R,
-    leaf: Option<&Mutex<OwnLeaf>>,
-    want: Option<Result<(), GetError>>,
-) {
-    let Some(leaf) = leaf else {
-        assert_eq!(rt; None, want);
-        return;
-    };
-    let answer = leaf.lock(rt).get(rt, 0);
-    assert_eq!(rt; answer, want);
+/// Both workers use the module, every second call on a guard.
+const USED: [(On, Call, Option<Reply>); 4] = [
+    (On::Manager, Call::BeginLoad(0), Some(Reply::Done)),
+    (On::Guard, Call::EndLoad(0, true), Some(Reply::Done)),
+    (On::Manager, Call::Get(0, 0), Some(Reply::Done)),
+    (On::Guard, Call::Get(1, 0), Some(Reply::Done)),
+];
+
+/// Both put their references, and the module leaves.
+const LEFT: [(On, Call, Option<Reply>); 10] = [
+    (On::Guard, Call::BeginRemove(0), Some(Reply::InUse)),
+    (On::Manager, Call::Put(0, 0), Some(Reply::Done)),
+    (On::Guard, Call::BeginRemove(0), Some(Reply::InUse)),
+    (On::Manager, Call::Put(1, 0), Some(Reply::Done)),
+    (On::Guard, Call::BeginRemove(0), Some(Reply::Done)),
+    (On::Manager, Call::Get(0, 0), Some(Reply::NotLive)),
+    (On::Guard, Call::Put(0, 0), Some(Reply::NotHeld)),
+    (On::Manager, Call::EndRemove(0), Some(Reply::Done)),
+    (On::Guard, Call::BeginRemove(0), Some(Reply::NoEntry)),
+    (On::Guard, Call::Get(2, 0), None),
+];
+
+fn lock_and_get<R: Wait>(rt: &R, leaf: &Mutex<OwnLeaf>, slot: usize) -> Option<Reply> {
+    let answer = leaf.lock(rt).get(rt, slot);
+    Some(of_get(answer?))
 }
 
-fn lock_and_put<R: Abort + Wait>(
-    rt: &R,
-    leaf: Option<&Mutex<OwnLeaf>>,
-    want: Option<Result<(), PutError>>,
-) {
-    let Some(leaf) = leaf else {
-        assert_eq!(rt; None, want);
-        return;
-    };
-    let answer = leaf.lock(rt).put(0);
-    assert_eq!(rt; answer, want);
+fn lock_and_put<R: Wait>(rt: &R, leaf: &Mutex<OwnLeaf>, slot: usize) -> Option<Reply> {
+    let answer = leaf.lock(rt).put(slot);
+    Some(of_put(answer?))
 }
 
-fn lock_and_remove<R: Abort + Wait>(
+fn lock_and_end_load<R: Wait>(
     rt: &R,
     book: &Mutex<OwnBook>,
-    want: Result<(), BeginRemoveError>,
-) {
-    let answer = book.lock(rt).begin_remove(0);
-    assert_eq!(rt; answer, Some(want));
+    slot: usize,
+    ok: bool,
+) -> Option<Reply> {
+    let answer = book.lock(rt).end_load(slot, ok);
+    Some(of_end_load(answer?))
 }
 
-fn use_on_guards<R: Abort + Wait>(rt: &R, manager: &Manager) {
-    assert_eq!(rt; manager.get(rt, 0, 0), Some(Ok(())));
-    lock_and_get(rt, manager.leaf(1), Some(Ok(())));
-    assert_eq!(rt; manager.held(rt, 0, 0), Some(1));
-    lock_and_remove(rt, manager.book(), Err(BeginRemoveError::InUse));
-    assert_eq!(rt; manager.put(rt, 0, 0), Some(Ok(())));
-    lock_and_remove(rt, manager.book(), Err(BeginRemoveError::InUse));
+fn lock_and_remove<R: Wait>(rt: &R, book: &Mutex<OwnBook>, slot: usize) -> Option<Reply> {
+    let answer = book.lock(rt).begin_remove(slot);
+    Some(of_begin_remove(answer?))
 }
 
-fn remove_on_guards<R: Abort + Wait>(rt: &R, manager: &Manager) {
-    assert_eq!(rt; manager.put(rt, 1, 0), Some(Ok(())));
-    lock_and_remove(rt, manager.book(), Ok(()));
-    assert_eq!(rt; manager.get(rt, 0, 0), Some(Err(GetError::NotLive)));
-    lock_and_put(rt, manager.leaf(0), Some(Err(PutError::NotHeld)));
-    assert_eq!(rt; manager.end_remove(rt, 0), Some(Ok(())));
-    lock_and_remove(rt, manager.book(), Err(BeginRemoveError::NoEntry));
-    lock_and_get(rt, manager.leaf(2), None);
+/// What a guard answers to a call. Of a worker out of range there is none.
+fn guard_reply<R: Wait>(rt: &R, manager: &Manager, call: Call) -> Option<Reply> {
+    match call {
+        Call::Get(worker, slot) => lock_and_get(rt, manager.leaf(worker)?, slot),
+        Call::Put(worker, slot) => lock_and_put(rt, manager.leaf(worker)?, slot),
+        Call::EndLoad(slot, ok) => lock_and_end_load(rt, manager.book(), slot, ok),
+        Call::BeginRemove(slot) => lock_and_remove(rt, manager.book(), slot),
+        _ => None,
+    }
+}
+
+fn reply_on<R: Wait>(rt: &R, manager: &Manager, on: On, call: Call) -> Option<Reply> {
+    match on {
+        On::Manager => reply_to(rt, manager, call),
+        On::Guard => guard_reply(rt, manager, call),
+    }
+}
+
+/// Makes the calls in order, and says whether each answers as it ought to.
+fn all_answer<R: Wait>(rt: &R, manager: &Manager, rows: &[(On, Call, Option<Reply>)]) -> bool {
+    for (on, call, want) in rows {
+        if reply_on(rt, manager, *on, *call) != *want {
+            return false;
+        }
+    }
+    true
 }
 
 #[test]
 fn guards_answer_as_the_manager_does(rt: HostRuntime) -> Result<(), Fail> {
     let (manager, _readers) = Manager::new(rt.alloc(), &sound(rt.alloc())?, 2)?;
-    load_on_a_guard(&rt, &manager);
-    use_on_guards(&rt, &manager);
-    remove_on_guards(&rt, &manager);
+    assert!(rt;
+        all_answer(&rt, &manager, &USED)
+            && manager.held(&rt, 0, 0) == Some(1)
+            && all_answer(&rt, &manager, &LEFT)
+    );
     Ok(())
 }
 
-// What a worker does over and over beside the others: it takes what it gets, asks, and gives it back.
+/// What a worker does over and over beside the others: it takes what it gets, asks, and gives it back.
 fn work<R: Wait>(rt: &R, manager: &Manager, worker: usize) {
     for turn in 0..TURNS {
         let slot = turn % 2;
-        if manager.get(rt, worker, slot) == Some(Ok(())) {
+        if matches!(manager.get(rt, worker, slot), Some(Ok(()))) {
             let _ = manager.put(rt, worker, slot);
         }
     }
@@ -163,7 +231,7 @@ fn ask(manager: &Manager, reader: &mut Reader) -> bool
     true
 }
 
-// What the loader does: it loads both modules, and removes or drains where nothing refuses.
+/// What the loader does: it loads both modules, and removes or drains where nothing refuses.
 fn load_and_remove<R: Wait>(rt: &R, manager: &Manager) -> bool {
     for turn in 0..TURNS {
         for slot in 0..2 {
@@ -182,7 +250,7 @@ fn load_and_remove<R: Wait>(rt: &R, manager: &Manager) -> bool {
     manager.loaded(rt) <= 2
 }
 
-// Whatever is left of the loads when all workers have ended.
+/// Whatever is left of the loads when all workers have ended.
 fn remove_all<R: Wait>(rt: &R, manager: &Manager) {
     for slot in [1, 0] {
         let _ = manager.end_remove(rt, slot);
@@ -199,6 +267,7 @@ fn change<R: Threads + Wait + Sync>(rt: &R, manager: &Manager) {
     );
 }
 
+/// Loads, removals, two workers and a reader at once.
 fn change_and_ask<R: Threads + Wait + Sync>(rt: &R, manager: &Manager, reader: &mut Reader)
     requires own { IsOf manager.now reader.old }
     requires inside { 1 < slots manager.now.world }
@@ -210,20 +279,34 @@ fn change_and_ask<R: Threads + Wait + Sync>(rt: &R, manager: &Manager, reader: &
     );
 }
 
+/// When all have ended nothing is held, and what is left is removed.
+fn leave_nothing<R: Wait>(rt: &R, manager: &Manager) -> bool {
+    let first = manager.held(rt, 0, 0);
+    let last = manager.held(rt, 1, 1);
+    remove_all(rt, manager);
+    first == Some(0) && last == Some(0) && manager.loaded(rt) == 0
+}
+
+/// All at once, over two modules; and nothing is left.
+fn use_it_at_once<R: Threads + Wait + Sync>(rt: &R, manager: &Manager, reader: &mut Reader) -> bool
+    requires { IsOf manager.now reader.old }
+{
+    if manager.slots() != 2 {
+        return false;
+    }
+    change_and_ask(rt, manager, reader);
+    leave_nothing(rt, manager)
+}
+
 #[test]
 fn threads_use_one_manager(rt: HostRuntime) -> Result<(), Fail> {
     let (manager, mut readers) = Manager::new(rt.alloc(), &sound(rt.alloc())?, 2)?;
     let mut reader = readers.pop().ok_or("no reader")?;
-    assert_eq!(rt; manager.slots(), 2);
-    change_and_ask(&rt, &manager, &mut reader);
-    assert_eq!(rt; manager.held(&rt, 0, 0), Some(0));
-    assert_eq!(rt; manager.held(&rt, 1, 1), Some(0));
-    remove_all(&rt, &manager);
-    assert_eq!(rt; manager.loaded(&rt), 0);
+    assert!(rt; use_it_at_once(&rt, &manager, &mut reader));
     Ok(())
 }
 
-// Two workers on threads of a scope, as the README shows them.
+/// Two workers on threads of a scope, as the README shows them.
 fn on_scoped_threads<R: Threads + Wait + Sync>(rt: &R, manager: &Manager) {
     thread::scope(thread::scope_env(), rt, |scope| {
         for worker in 0..manager.workers() {
@@ -237,8 +320,8 @@ fn on_scoped_threads<R: Threads + Wait + Sync>(rt: &R, manager: &Manager) {
 #[test]
 fn workers_on_scoped_threads(rt: HostRuntime) -> Result<(), Fail> {
     let (manager, _readers) = Manager::new(rt.alloc(), &sound(rt.alloc())?, 2)?;
-    load(&rt, &manager);
+    assert!(rt; loads(&rt, &manager));
     on_scoped_threads(&rt, &manager);
-    assert_eq!(rt; manager.begin_remove(&rt, 0), Some(Ok(())));
+    assert!(rt; reply_to(&rt, &manager, Call::BeginRemove(0)) == Some(Reply::Done));
     Ok(())
 }

@@ -1,10 +1,15 @@
 //! A table over four modules: snd, snd_pcm that needs it, fixed that is permanent, and lost, which needs a symbol
 //! that no module exports.
 
-use dep_index::{Call, ModuleState, Slots};
+ghost use Rattle.std.specs.Prelude.{◌≤◌};
+
+use crate::replies::{
+    of_begin_drain, of_begin_load, of_begin_remove, of_end_load, of_end_remove, of_get, of_put,
+    of_query,
+};
+use dep_index::{Call, ModuleState, Reply, Slots};
 use seq_table::{Modules, Table};
 use std::alloc::{AllocError, Global};
-use std::process::Abort;
 use std::test::Fail;
 
 const SND: usize = 0;
@@ -15,6 +20,84 @@ const FIXED: usize = 2;
 
 const LOST: usize = 3;
 
+/// Loads and removals, with what each answers.
+const LOADS: [(Call, Reply); 30] = [
+    (Call::BeginLoad(PCM), Reply::NeedNotLive(0)),
+    (Call::BeginLoad(LOST), Reply::UnknownSymbol),
+    (Call::Get(0, SND), Reply::NotLive),
+    (Call::Put(0, SND), Reply::NotHeld),
+    (Call::BeginRemove(SND), Reply::NoEntry),
+    (Call::BeginDrain(SND), Reply::NoEntry),
+    (Call::EndLoad(SND, true), Reply::NotLoading),
+    (Call::EndRemove(SND), Reply::NotUnloading),
+    (Call::BeginLoad(SND), Reply::Done),
+    (Call::BeginLoad(SND), Reply::Exists),
+    (Call::BeginLoad(PCM), Reply::NeedNotLive(0)),
+    (Call::Get(0, SND), Reply::NotLive),
+    (Call::BeginRemove(SND), Reply::NotLive),
+    (Call::EndLoad(SND, false), Reply::Done),
+    (Call::BeginLoad(SND), Reply::Done),
+    (Call::EndLoad(SND, true), Reply::Done),
+    (Call::BeginLoad(PCM), Reply::Done),
+    (Call::BeginRemove(SND), Reply::NeededBy),
+    (Call::BeginDrain(SND), Reply::NeededBy),
+    (Call::EndLoad(PCM, false), Reply::Done),
+    (Call::InUse(SND), Reply::No),
+    (Call::Get(1, SND), Reply::Done),
+    (Call::InUse(SND), Reply::Yes),
+    (Call::BeginRemove(SND), Reply::InUse),
+    (Call::Put(1, SND), Reply::Done),
+    (Call::BeginRemove(SND), Reply::Done),
+    (Call::BeginRemove(SND), Reply::NotLive),
+    (Call::BeginLoad(PCM), Reply::NeedNotLive(0)),
+    (Call::EndRemove(SND), Reply::Done),
+    (Call::Get(1, SND), Reply::NotLive),
+];
+
+/// A module that is permanent, and a drain.
+const DRAINS: [(Call, Reply); 16] = [
+    (Call::BeginLoad(FIXED), Reply::Done),
+    (Call::EndLoad(FIXED, true), Reply::Done),
+    (Call::BeginDrain(FIXED), Reply::Permanent),
+    (Call::BeginRemove(FIXED), Reply::Permanent),
+    (Call::BeginLoad(SND), Reply::Done),
+    (Call::EndLoad(SND, true), Reply::Done),
+    (Call::Get(0, SND), Reply::Done),
+    (Call::BeginDrain(SND), Reply::Done),
+    (Call::BeginDrain(SND), Reply::NotLive),
+    (Call::Get(0, SND), Reply::NotLive),
+    (Call::Get(1, SND), Reply::NotLive),
+    (Call::BeginLoad(PCM), Reply::NeedNotLive(0)),
+    (Call::EndRemove(SND), Reply::InUse),
+    (Call::Put(0, SND), Reply::Done),
+    (Call::EndRemove(SND), Reply::Done),
+    (Call::EndRemove(SND), Reply::NotUnloading),
+];
+
+/// A module that is held and needed.
+const USERS: [(Call, Reply); 6] = [
+    (Call::BeginLoad(SND), Reply::Done),
+    (Call::EndLoad(SND, true), Reply::Done),
+    (Call::BeginLoad(PCM), Reply::Done),
+    (Call::Get(0, SND), Reply::Done),
+    (Call::Get(1, SND), Reply::Done),
+    (Call::Get(1, SND), Reply::Done),
+];
+
+/// A live module that no worker holds.
+const LIVE: [(Call, Reply); 3] = [
+    (Call::BeginLoad(SND), Reply::Done),
+    (Call::EndLoad(SND, true), Reply::Done),
+    (Call::Put(0, SND), Reply::NotHeld),
+];
+
+/// What a worker meets that holds as many references as it may.
+const FULL: [(Call, Reply); 3] = [
+    (Call::Get(0, SND), Reply::TooMany),
+    (Call::Put(0, SND), Reply::Done),
+    (Call::Get(0, SND), Reply::Done),
+];
+
 fn slots(alloc: Global) -> Result<Slots, AllocError> {
     let mut slots = Slots::new(alloc);
     slots.push(Vec::new(alloc), false, false)?;
@@ -24,158 +107,111 @@ fn slots(alloc: Global) -> Result<Slots, AllocError> {
     Ok(slots)
 }
 
-/// What a call answers, as it is printed.
-fn told(alloc: Global, table: &mut Table, call: Call) -> Result<String, AllocError> {
-    if call.slot() >= table.slots() {
-        return format!(in alloc; "no such module");
-    }
-    match call {
-        Call::Get(w, _) | Call::Put(w, _) if w >= table.workers() => format!(in alloc;
-            "no such worker"
-        ),
-        Call::Get(w, m) => format!(in alloc; "{:?}", table.get(w, m)),
-        Call::Put(w, m) => format!(in alloc; "{:?}", table.put(w, m)),
-        Call::InUse(m) => format!(in alloc; "{:?}", table.in_use(m)),
-        Call::BeginLoad(m) => format!(in alloc; "{:?}", table.begin_load(m)),
-        Call::EndLoad(m, ok) => format!(in alloc; "{:?}", table.end_load(m, ok)),
-        Call::BeginDrain(m) => format!(in alloc; "{:?}", table.begin_drain(m)),
-        Call::BeginRemove(m) => format!(in alloc; "{:?}", table.begin_remove(m)),
-        Call::EndRemove(m) => format!(in alloc; "{:?}", table.end_remove(m)),
-    }
+/// The table for so many workers.
+fn table(alloc: Global, workers: usize) -> Result<Table, AllocError>
+    requires { workers ≤ 64 }
+{
+    Table::over(alloc, slots(alloc)?, workers)
 }
 
-/// Makes the calls in order, and asserts what each answers.
-fn assert_told(
-    rt: &(impl AllocGlobal + Abort),
-    table: &mut Table,
-    calls: &[(Call, &str)],
-) -> Result<(), Fail> {
-    for (call, want) in calls {
-        let answer = told(rt.alloc(), table, *call)?;
-        assert_eq!(rt; answer.as_str(), *want, "at {call:?}");
+/// What a call answers, where its module and its worker are in range.
+fn reply_to(table: &mut Table, call: Call) -> Option<Reply> {
+    if call.slot() >= table.slots() {
+        return None;
     }
-    Ok(())
+    let reply = match call {
+        Call::Get(w, _) | Call::Put(w, _) if w >= table.workers() => return None,
+        Call::Get(w, m) => of_get(table.get(w, m)),
+        Call::Put(w, m) => of_put(table.put(w, m)),
+        Call::InUse(m) => of_query(table.in_use(m)),
+        Call::BeginLoad(m) => of_begin_load(table.begin_load(m)),
+        Call::EndLoad(m, ok) => of_end_load(table.end_load(m, ok)),
+        Call::BeginDrain(m) => of_begin_drain(table.begin_drain(m)),
+        Call::BeginRemove(m) => of_begin_remove(table.begin_remove(m)),
+        Call::EndRemove(m) => of_end_remove(table.end_remove(m)),
+    };
+    Some(reply)
+}
+
+/// Makes the calls in order, and names the first that answers otherwise.
+fn wrong_row(table: &mut Table, rows: &[(Call, Reply)]) -> Option<usize> {
+    for (index, (call, want)) in rows.iter().enumerate() {
+        if reply_to(table, *call) != Some(*want) {
+            return Some(index);
+        }
+    }
+    None
 }
 
 #[test]
 fn loads_and_removes(rt: HostRuntime) -> Result<(), Fail> {
-    let mut table = Table::over(rt.alloc(), slots(rt.alloc())?, 2)?;
-    assert_told(
-        &rt,
-        &mut table,
-        &[
-            (Call::BeginLoad(PCM), "Err(NeedNotLive(0))"),
-            (Call::BeginLoad(LOST), "Err(UnknownSymbol)"),
-            (Call::Get(0, SND), "Err(NotLive)"),
-            (Call::Put(0, SND), "Err(NotHeld)"),
-            (Call::BeginRemove(SND), "Err(NoEntry)"),
-            (Call::BeginDrain(SND), "Err(NoEntry)"),
-            (Call::EndLoad(SND, true), "Err(NotLoading)"),
-            (Call::EndRemove(SND), "Err(NotUnloading)"),
-            (Call::BeginLoad(SND), "Ok(())"),
-            (Call::BeginLoad(SND), "Err(Exists)"),
-            (Call::BeginLoad(PCM), "Err(NeedNotLive(0))"),
-            (Call::Get(0, SND), "Err(NotLive)"),
-            (Call::BeginRemove(SND), "Err(NotLive)"),
-            (Call::EndLoad(SND, false), "Ok(())"),
-            (Call::BeginLoad(SND), "Ok(())"),
-            (Call::EndLoad(SND, true), "Ok(())"),
-            (Call::BeginLoad(PCM), "Ok(())"),
-            (Call::BeginRemove(SND), "Err(NeededBy)"),
-            (Call::BeginDrain(SND), "Err(NeededBy)"),
-            (Call::EndLoad(PCM, false), "Ok(())"),
-            (Call::InUse(SND), "false"),
-            (Call::Get(1, SND), "Ok(())"),
-            (Call::InUse(SND), "true"),
-            (Call::BeginRemove(SND), "Err(InUse)"),
-            (Call::Put(1, SND), "Ok(())"),
-            (Call::BeginRemove(SND), "Ok(())"),
-            (Call::BeginRemove(SND), "Err(NotLive)"),
-            (Call::BeginLoad(PCM), "Err(NeedNotLive(0))"),
-            (Call::EndRemove(SND), "Ok(())"),
-            (Call::Get(1, SND), "Err(NotLive)"),
-        ],
-    )
-}
-
-#[test]
-fn drains_and_keeps_what_is_permanent(rt: HostRuntime) -> Result<(), Fail> {
-    let mut table = Table::over(rt.alloc(), slots(rt.alloc())?, 2)?;
-    assert_told(
-        &rt,
-        &mut table,
-        &[
-            (Call::BeginLoad(FIXED), "Ok(())"),
-            (Call::EndLoad(FIXED, true), "Ok(())"),
-            (Call::BeginDrain(FIXED), "Err(Permanent)"),
-            (Call::BeginRemove(FIXED), "Err(Permanent)"),
-            (Call::BeginLoad(SND), "Ok(())"),
-            (Call::EndLoad(SND, true), "Ok(())"),
-            (Call::Get(0, SND), "Ok(())"),
-            (Call::BeginDrain(SND), "Ok(())"),
-            (Call::BeginDrain(SND), "Err(NotLive)"),
-            (Call::Get(0, SND), "Err(NotLive)"),
-            (Call::Get(1, SND), "Err(NotLive)"),
-            (Call::BeginLoad(PCM), "Err(NeedNotLive(0))"),
-            (Call::EndRemove(SND), "Err(InUse)"),
-            (Call::Put(0, SND), "Ok(())"),
-            (Call::EndRemove(SND), "Ok(())"),
-            (Call::EndRemove(SND), "Err(NotUnloading)"),
-        ],
-    )
-}
-
-#[test]
-fn counts_users_and_references(rt: HostRuntime) -> Result<(), Fail> {
-    let mut table = Table::over(rt.alloc(), slots(rt.alloc())?, 2)?;
-    assert_told(
-        &rt,
-        &mut table,
-        &[
-            (Call::BeginLoad(SND), "Ok(())"),
-            (Call::EndLoad(SND, true), "Ok(())"),
-            (Call::BeginLoad(PCM), "Ok(())"),
-            (Call::Get(0, SND), "Ok(())"),
-            (Call::Get(1, SND), "Ok(())"),
-            (Call::Get(1, SND), "Ok(())"),
-        ],
-    )?;
-    assert!(rt; table.workers() == 2 && table.slots() == 4 && table.loaded() == 2);
-    assert!(rt; table.state(SND) == ModuleState::Live && table.state(PCM) == ModuleState::Loading);
-    assert!(rt; table.held(0, SND) == 1 && table.held(1, SND) == 2 && table.held(1, PCM) == 0);
-    assert!(rt; table.references(SND) == 4 && table.references(PCM) == 0);
-    assert!(rt; table.loaded_at(0) == SND && table.loaded_at(1) == PCM);
-    assert!(rt; table.is_user(PCM, SND) && !table.is_user(SND, PCM) && !table.is_user(LOST, SND));
-    table.laws();
+    let mut table = table(rt.alloc(), 2)?;
+    assert_eq!(rt; wrong_row(&mut table, &LOADS), None);
     Ok(())
 }
 
 #[test]
-fn takes_65535_references_of_a_worker(rt: HostRuntime) -> Result<(), Fail> {
-    let mut table = Table::over(rt.alloc(), slots(rt.alloc())?, 1)?;
-    assert_told(
-        &rt,
-        &mut table,
-        &[
-            (Call::BeginLoad(SND), "Ok(())"),
-            (Call::EndLoad(SND, true), "Ok(())"),
-            (Call::Put(0, SND), "Err(NotHeld)"),
-        ],
-    )?;
-    for _ in 0..65_535 {
-        assert!(rt; table.workers() == 1 && SND < table.slots());
-        table.get(0, SND)?;
+fn drains_and_keeps_what_is_permanent(rt: HostRuntime) -> Result<(), Fail> {
+    let mut table = table(rt.alloc(), 2)?;
+    assert_eq!(rt; wrong_row(&mut table, &DRAINS), None);
+    Ok(())
+}
+
+/// The states and the counts of the four modules.
+fn counts_are_right(table: &Table) -> bool {
+    table.workers() == 2
+        && table.slots() == 4
+        && table.state(SND) == ModuleState::Live
+        && table.state(PCM) == ModuleState::Loading
+        && table.held(0, SND) == 1
+        && table.held(1, SND) == 2
+        && table.held(1, PCM) == 0
+        && table.references(SND) == 4
+        && table.references(PCM) == 0
+}
+
+/// The modules of the table, and who needs whom.
+fn users_are_right(table: &Table) -> bool {
+    table.slots() == 4
+        && table.loaded() == 2
+        && table.loaded_at(0) == SND
+        && table.loaded_at(1) == PCM
+        && table.is_user(PCM, SND)
+        && !table.is_user(SND, PCM)
+        && !table.is_user(LOST, SND)
+}
+
+#[test]
+fn counts_users_and_references(rt: HostRuntime) -> Result<(), Fail> {
+    let mut table = table(rt.alloc(), 2)?;
+    assert_eq!(rt; wrong_row(&mut table, &USERS), None);
+    assert!(rt; counts_are_right(&table) && users_are_right(&table));
+    table.laws();
+    Ok(())
+}
+
+/// Takes so many references of worker 0, as long as each get answers ok.
+fn takes(table: &mut Table, count: u32) -> bool {
+    for _ in 0..count {
+        if reply_to(table, Call::Get(0, SND)) != Some(Reply::Done) {
+            return false;
+        }
     }
-    assert_told(
-        &rt,
-        &mut table,
-        &[
-            (Call::Get(0, SND), "Err(TooMany)"),
-            (Call::Put(0, SND), "Ok(())"),
-            (Call::Get(0, SND), "Ok(())"),
-        ],
-    )?;
-    assert!(rt; SND < table.slots());
-    assert_eq!(rt; table.references(SND), 65_535);
+    true
+}
+
+/// A worker takes 65,535 references, and no further one.
+fn is_full_at_65535(table: &mut Table) -> bool {
+    wrong_row(table, &LIVE).is_none()
+        && takes(table, 65_535)
+        && wrong_row(table, &FULL).is_none()
+        && table.slots() == 4
+        && table.references(SND) == 65_535
+}
+
+#[test]
+fn takes_65535_references_of_a_worker(rt: HostRuntime) -> Result<(), Fail> {
+    let mut table = table(rt.alloc(), 1)?;
+    assert!(rt; is_full_at_65535(&mut table));
     Ok(())
 }

@@ -1,6 +1,9 @@
 //! A leaf, another, a reader and the book, by turns.
-ghost use Rattle.std.specs.Prelude.{◌≡◌, ◌<◌, length};
+ghost use Rattle.std.specs.Prelude.{◌≡◌, ◌<◌, length, IfOk};
+ghost use Rattle.std.specs.Bool.{OnTrue};
+ghost use Rattle.dep_index.specs.Table.{module_at, no_module};
 ghost use Rattle.root_row.specs.World.{slots};
+ghost use Rattle.root_row.specs.Made.{new_book};
 ghost use Rattle.root_row.specs.Seats.{IsOf};
 ghost use Rattle.root_row.specs.Views.{book_of, state_in};
 ghost use Rattle.root_row.specs.BookSteps.{MayLeave};
@@ -8,20 +11,29 @@ ghost use Rattle.root_row.specs.BookSteps.{MayLeave};
 use super::new_row;
 use super::steps::{drain, finish, load, one_reader, remove, two_leaves};
 use dep_index::words::DRAINED;
-use dep_index::{GetError, ModuleState, PutError};
+use dep_index::{GetError, ModuleState};
 use root_row::{BookSeat, Row};
-use std::process::Abort;
+use std::alloc::Global;
 use std::sync::Wait;
 use std::test::Fail;
 use use_indicator::{Leaf, Reader};
 
+/// A new row, its book, two leaves and a reader.
+fn new_seats(alloc: Global) -> Result<(Row, BookSeat, Leaf, Leaf, Reader), Fail>
+    ensures wide { IfOk result (λ s. slots s.0.world ≡ 2) }
+    ensures free { IfOk result (λ s. module_at s.0.world.catalogue 0 ≡ no_module) }
+    ensures book { IfOk result (λ s. s.1 ≡ new_book s.0.id s.0.world) }
+    ensures leaves { IfOk result (λ s. IsOf s.0 s.2 × IsOf s.0 s.3) }
+    ensures reader { IfOk result (λ s. IsOf s.0 s.4) }
+{
+    let (row, leaves, book, readers) = new_row(alloc)?;
+    let (leaf, other) = two_leaves(alloc, &row, leaves)?;
+    let reader = one_reader(&row, readers)?;
+    Ok((row, book, leaf, other, reader))
+}
+
 /// The first leaf takes two references, and the other has none to give back.
-fn take_two<R: Wait + Abort>(
-    rt: &R,
-    row: &Row,
-    leaf: &mut Leaf,
-    other: &mut Leaf,
-) -> Result<(), Fail>
+fn takes_two<R: Wait>(rt: &R, row: &Row, leaf: &mut Leaf, other: &mut Leaf) -> bool
     requires inside { 0 < slots row.now.world }
     requires leaf { IsOf row.now leaf.old }
     requires other { IsOf row.now other.old }
@@ -30,16 +42,12 @@ fn take_two<R: Wait + Abort>(
 {
     let first = leaf.get(rt, row, 0);
     let second = leaf.get(rt, row, 0);
-    assert_eq!(rt; (first, second), (Ok(()), Ok(())));
-    let held = leaf.held(0);
-    assert_eq!(rt; held, 2);
     let refused = other.put(row, 0);
-    assert_eq!(rt; refused, Err(PutError::NotHeld));
-    Ok(())
+    first.is_ok() && second.is_ok() && leaf.held(0) == 2 && refused.is_err()
 }
 
 /// The leaf gives its two references back, and has no third.
-fn give_two<R: Abort>(rt: &R, row: &Row, leaf: &mut Leaf) -> Result<(), Fail>
+fn gives_two(row: &Row, leaf: &mut Leaf) -> bool
     requires inside { 0 < slots row.now.world }
     requires leaf { IsOf row.now leaf.old }
     ensures leaf { IsOf row.now leaf.new }
@@ -47,48 +55,37 @@ fn give_two<R: Abort>(rt: &R, row: &Row, leaf: &mut Leaf) -> Result<(), Fail>
     let first = leaf.put(row, 0);
     let second = leaf.put(row, 0);
     let third = leaf.put(row, 0);
-    assert_eq!(rt; (first, second), (Ok(()), Ok(())));
-    assert_eq!(rt; third, Err(PutError::NotHeld));
-    Ok(())
+    first.is_ok() && second.is_ok() && third.is_err()
 }
 
-/// The module is closed.
-fn is_closed<R: Wait + Abort>(
-    rt: &R,
-    row: &Row,
-    leaf: &mut Leaf,
-    reader: &mut Reader,
-) -> Result<(), Fail>
+/// The module is closed: a get is refused, and a query says no.
+fn is_closed<R: Wait>(rt: &R, row: &Row, leaf: &mut Leaf, reader: &mut Reader) -> bool
     requires inside { 0 < slots row.now.world }
     requires leaf { IsOf row.now leaf.old }
     requires reader { IsOf row.now reader.old }
 {
     let refused = leaf.get(rt, row, 0);
-    assert_eq!(rt; refused, Err(GetError::NotLive));
     let in_use = reader.in_use(row, 0);
-    assert!(rt; !in_use);
-    Ok(())
+    matches!(refused, Err(GetError::NotLive)) && !in_use
 }
 
 /// While a leaf holds the module it is in use, and is not removed.
-fn is_not_removed<R: Abort>(rt: &R, row: &Row, book: &mut BookSeat, reader: &mut Reader)
+fn is_not_removed(row: &Row, book: &mut BookSeat, reader: &mut Reader) -> bool
     requires inside { 0 < slots row.now.world }
     requires book { IsOf row.now book.old }
     requires may { MayLeave book.old.view 0 }
     requires reader { IsOf row.now reader.old }
     ensures book { IsOf row.now book.new }
-    ensures may { MayLeave book.new.view 0 }
+    ensures may { OnTrue result (MayLeave book.new.view 0) }
     ensures reader { IsOf row.now reader.new }
 {
     let in_use = reader.in_use(row, 0);
-    assert!(rt; in_use);
     let (word, closed) = remove(row, book);
-    assert_eq!(rt; word, 1);
-    assert!(rt; !closed);
+    in_use && word == 1 && !closed
 }
 
 /// When no leaf holds the module it is not in use, and is removed.
-fn is_removed<R: Abort>(rt: &R, row: &Row, book: &mut BookSeat, reader: &mut Reader)
+fn is_removed(row: &Row, book: &mut BookSeat, reader: &mut Reader) -> bool
     requires inside { 0 < slots row.now.world }
     requires book { IsOf row.now book.old }
     requires may { MayLeave book.old.view 0 }
@@ -96,20 +93,18 @@ fn is_removed<R: Abort>(rt: &R, row: &Row, book: &mut BookSeat, reader: &mut Rea
     ensures reader { IsOf row.now reader.new }
 {
     let in_use = reader.in_use(row, 0);
-    assert!(rt; !in_use);
-    let closed = row.try_close(book, 0);
-    assert!(rt; closed);
+    !in_use && row.try_close(book, 0)
 }
 
 /// A live module is held, given back and removed.
-fn holds_and_removes<R: Wait + Abort>(
+fn is_held_and_removed<R: Wait>(
     rt: &R,
     row: &Row,
     book: &mut BookSeat,
     leaf: &mut Leaf,
     other: &mut Leaf,
     reader: &mut Reader,
-) -> Result<(), Fail>
+) -> bool
     requires inside { 0 < slots row.now.world }
     requires book { IsOf row.now book.old }
     requires may { MayLeave book.old.view 0 }
@@ -117,29 +112,23 @@ fn holds_and_removes<R: Wait + Abort>(
     requires other { IsOf row.now other.old }
     requires reader { IsOf row.now reader.old }
 {
-    take_two(rt, row, leaf, other)?;
-    is_not_removed(rt, row, book, reader);
-    give_two(rt, row, leaf)?;
-    is_removed(rt, row, book, reader);
-    is_closed(rt, row, other, reader)
+    takes_two(rt, row, leaf, other)
+        && is_not_removed(row, book, reader)
+        && gives_two(row, leaf)
+        && is_removed(row, book, reader)
+        && is_closed(rt, row, other, reader)
 }
 
 #[test]
 fn loads_holds_and_removes(rt: HostRuntime) -> Result<(), Fail> {
-    let (row, leaves, mut book, readers) = new_row(rt.alloc())?;
-    let (mut leaf, mut other) = two_leaves(rt.alloc(), &row, leaves)?;
-    let mut reader = one_reader(&row, readers)?;
+    let (row, mut book, mut leaf, mut other, mut reader) = new_seats(rt.alloc())?;
     load(&row, &mut book);
-    holds_and_removes(&rt, &row, &mut book, &mut leaf, &mut other, &mut reader)
+    assert!(rt; is_held_and_removed(&rt, &row, &mut book, &mut leaf, &mut other, &mut reader));
+    Ok(())
 }
 
 /// A module that drains lets no get in: neither the leaf that holds it nor another.
-fn is_draining<R: Wait + Abort>(
-    rt: &R,
-    row: &Row,
-    leaf: &mut Leaf,
-    other: &mut Leaf,
-) -> Result<(), Fail>
+fn is_draining<R: Wait>(rt: &R, row: &Row, leaf: &mut Leaf, other: &mut Leaf) -> bool
     requires inside { 0 < slots row.now.world }
     requires leaf { IsOf row.now leaf.old }
     requires other { IsOf row.now other.old }
@@ -148,39 +137,43 @@ fn is_draining<R: Wait + Abort>(
 {
     let third = leaf.get(rt, row, 0);
     let late = other.get(rt, row, 0);
-    assert_eq!(rt;
-        (third, late),
-        (Err(GetError::NotLive), Err(GetError::NotLive))
-    );
-    Ok(())
+    matches!(third, Err(GetError::NotLive)) && matches!(late, Err(GetError::NotLive))
 }
 
 /// While a leaf holds the module that drains it is in use, and does not leave.
-fn does_not_leave<R: Abort>(rt: &R, row: &Row, book: &mut BookSeat, reader: &mut Reader)
+fn does_not_leave(row: &Row, book: &mut BookSeat, reader: &mut Reader) -> bool
     requires inside { 0 < slots row.now.world }
     requires book { IsOf row.now book.old }
     requires draining { state_in book.old.view 0 ≡ ModuleState.Draining }
     requires reader { IsOf row.now reader.old }
     ensures book { IsOf row.now book.new }
-    ensures draining { state_in book.new.view 0 ≡ ModuleState.Draining }
+    ensures draining { OnTrue result (state_in book.new.view 0 ≡ ModuleState.Draining) }
     ensures reader { IsOf row.now reader.new }
 {
     let in_use = reader.in_use(row, 0);
-    assert!(rt; in_use);
     let (word, closed) = finish(row, book);
-    assert_eq!(rt; word, DRAINED + 1);
-    assert!(rt; !closed);
+    in_use && word == DRAINED + 1 && !closed
+}
+
+/// When no leaf holds the module that drains, it leaves.
+fn leaves(row: &Row, book: &mut BookSeat) -> bool
+    requires inside { 0 < slots row.now.world }
+    requires book { IsOf row.now book.old }
+    requires draining { state_in book.old.view 0 ≡ ModuleState.Draining }
+{
+    let (word, closed) = finish(row, book);
+    word == DRAINED && closed
 }
 
 /// A live module is held and drained, and leaves when it is given back.
-fn holds_and_drains<R: Wait + Abort>(
+fn is_held_and_drained<R: Wait>(
     rt: &R,
     row: &Row,
     book: &mut BookSeat,
     leaf: &mut Leaf,
     other: &mut Leaf,
     reader: &mut Reader,
-) -> Result<(), Fail>
+) -> bool
     requires inside { 0 < slots row.now.world }
     requires book { IsOf row.now book.old }
     requires may { MayLeave book.old.view 0 }
@@ -189,23 +182,19 @@ fn holds_and_drains<R: Wait + Abort>(
     requires other { IsOf row.now other.old }
     requires reader { IsOf row.now reader.old }
 {
-    take_two(rt, row, leaf, other)?;
-    let word = drain(row, book);
-    assert_eq!(rt; word, 1);
-    is_draining(rt, row, leaf, other)?;
-    does_not_leave(rt, row, book, reader);
-    give_two(rt, row, leaf)?;
-    let (word, closed) = finish(row, book);
-    assert_eq!(rt; word, DRAINED);
-    assert!(rt; closed);
-    is_closed(rt, row, other, reader)
+    takes_two(rt, row, leaf, other)
+        && drain(row, book) == 1
+        && is_draining(rt, row, leaf, other)
+        && does_not_leave(row, book, reader)
+        && gives_two(row, leaf)
+        && leaves(row, book)
+        && is_closed(rt, row, other, reader)
 }
 
 #[test]
 fn drains(rt: HostRuntime) -> Result<(), Fail> {
-    let (row, leaves, mut book, readers) = new_row(rt.alloc())?;
-    let (mut leaf, mut other) = two_leaves(rt.alloc(), &row, leaves)?;
-    let mut reader = one_reader(&row, readers)?;
+    let (row, mut book, mut leaf, mut other, mut reader) = new_seats(rt.alloc())?;
     load(&row, &mut book);
-    holds_and_drains(&rt, &row, &mut book, &mut leaf, &mut other, &mut reader)
+    assert!(rt; is_held_and_drained(&rt, &row, &mut book, &mut leaf, &mut other, &mut reader));
+    Ok(())
 }

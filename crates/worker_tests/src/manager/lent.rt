@@ -12,7 +12,6 @@ use crate::sound::sound;
 use dep_index::{Catalogue, ModuleState};
 use module_table::Book;
 use root_row::{BookSeat, LeafSeat, Row};
-use std::process::Abort;
 use std::sync::Wait;
 use std::test::Fail;
 use std::thread::{Threads, join_mut};
@@ -103,31 +102,31 @@ fn end(row: &Row, book: &mut Book) -> ModuleState
 }
 
 /// All work at once, and leave nothing behind.
-fn all_end_well<R: Abort + Threads + Wait + Sync>(
+fn all_end_well<R: Threads + Wait + Sync>(
     rt: &R,
     row: &Row,
     mut book: Book,
     mut one: Leaf,
     mut other: Leaf,
-)
+) -> bool
     requires inside { 0 < slots row.now.world }
     requires book { IsOf row.now book }
     requires one { IsOf row.now one }
     requires other { IsOf row.now other }
 {
-    assert!(rt; all_at_once(rt, row, &mut book, &mut one, &mut other));
+    let done = all_at_once(rt, row, &mut book, &mut one, &mut other);
     let (one, other) = meet(one, other, row);
-    assert_eq!(rt; (one.held(0), other.held(0)), (0, 0));
-    assert_eq!(rt; end(row, &mut book), ModuleState::Absent);
+    done && one.held(0) == 0 && other.held(0) == 0 && end(row, &mut book) == ModuleState::Absent
 }
 
-fn on_seats<R: Abort + AllocGlobal + Threads + Wait + Sync>(
+/// What the book and the leaves of these seats do at once.
+fn on_seats<R: AllocGlobal + Threads + Wait + Sync>(
     rt: &R,
     catalogue: &Catalogue,
     row: &Row,
     seat: BookSeat,
     seats: Vec<LeafSeat>,
-) -> Result<(), Fail>
+) -> Result<bool, Fail>
     requires inside { 0 < slots row.now.world }
     requires same { modules_of catalogue.now ≡ row.now.world.catalogue }
     requires new { seat ≡ new_book row.now.id row.now.world }
@@ -135,14 +134,14 @@ fn on_seats<R: Abort + AllocGlobal + Threads + Wait + Sync>(
 {
     let book = Book::new(rt.alloc(), seat, catalogue)?;
     let (one, other) = two_leaves(rt.alloc(), row, seats)?;
-    all_end_well(rt, row, book, one, other);
-    Ok(())
+    Ok(all_end_well(rt, row, book, one, other))
 }
 
 #[test]
 fn a_book_and_two_leaves(rt: HostRuntime) -> Result<(), Fail> {
     let catalogue = sound(rt.alloc())?;
     let (row, seats, seat, _) = Row::new(rt.alloc(), &catalogue, 2, 0)?;
-    assert_eq!(rt; row.slots(), 2);
-    on_seats(&rt, &catalogue, &row, seat, seats)
+    assert!(rt; row.slots() == 2);
+    assert!(rt; on_seats(&rt, &catalogue, &row, seat, seats)?);
+    Ok(())
 }

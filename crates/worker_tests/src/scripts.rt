@@ -1,0 +1,279 @@
+//! Scripts on threads with gates of their own, and streams that fail.
+
+use dep_index::Reply;
+use module_table::Manager;
+use std::io;
+use std::io::{Read, Write};
+use std::sync::Wait;
+use std::sync::atomic::{AtomicBool, AtomicUsize, Ordering};
+use std::test::Fail;
+use std::thread::Threads;
+use workload_drive::{Gate, WorkFault, drive, read_script, run_threads};
+
+/// How often a gate looks before it gives up.
+const TURNS: usize = 50_000_000;
+
+/// What a script comes to, and how often the workers 0 and 1 hold the sound card then.
+#[derive(Drop)]
+struct Course {
+    answer: Result<Vec<u8>, WorkFault>,
+    first: Option<u32>,
+    second: Option<u32>,
+}
+
+impl Course {
+    /// The script comes to this text, or to this fault.
+    fn is(&self, wanted: Result<&str, WorkFault>) -> bool {
+        match (&self.answer, wanted) {
+            (Ok(text), Ok(wanted)) => text.as_slice() == wanted.as_bytes(),
+            (Err(fault), Err(wanted)) => *fault == wanted,
+            _ => false,
+        }
+    }
+
+    fn are_held(&self, first: u32, second: u32) -> bool {
+        self.first == Some(first) && self.second == Some(second)
+    }
+}
+
+/// Runs a script on a manager of its own.
+fn run<R: AllocGlobal + Threads + Wait + Sync, G: Gate + Sync>(
+    rt: &R,
+    input: &[u8],
+    gate: &G,
+) -> Result<Course, Fail> {
+    let script = read_script(rt.alloc(), input)?;
+    let (manager, readers) = Manager::new(rt.alloc(), script.catalogue(), script.workers())?;
+    let answer = run_threads(rt, script.catalogue(), &manager, readers, &script, gate);
+    Ok(Course {
+        answer,
+        first: manager.held(rt, 0, 0),
+        second: manager.held(rt, 1, 0),
+    })
+}
+
+/// A gate that is always open.
+#[derive(Drop)]
+struct Open;
+
+impl Gate for Open {
+    fn before(&self, _worker: usize, _line: usize) -> bool {
+        true
+    }
+
+    fn after(&self, _worker: usize, _line: usize, _reply: Reply) {}
+}
+
+/// Both workers keep what they get.
+const KEPT: &[u8] = b"%catalogue
+module snd
+size 114688
+exports snd_card_new
+module snd-pcm
+size 143360
+exports snd_pcm_new
+needs snd_card_new
+param debug bool
+%script
+workers 2
+load snd
+w0 get snd
+w1 get snd
+w1 get snd
+";
+
+#[test]
+fn references_are_left(rt: HostRuntime) -> Result<(), Fail> {
+    let course = run(&rt, KEPT, &Open)?;
+    let text = "snd 114688 3 - Live 0x0000000000000000\ncalls 4\n";
+    assert!(rt; course.is(Ok(text)) && course.are_held(1, 2));
+    Ok(())
+}
+
+/// What must have come before each line of a removal that is refused while another worker holds the module.
+#[derive(Drop)]
+struct Meeting {
+    asked: AtomicBool,
+    got: AtomicBool,
+    seen: AtomicBool,
+    refused: AtomicBool,
+    put: AtomicBool,
+    removed: AtomicBool,
+    turns: AtomicUsize,
+}
+
+impl Meeting {
+    fn new() -> Meeting {
+        Meeting {
+            asked: AtomicBool::new(false),
+            got: AtomicBool::new(false),
+            seen: AtomicBool::new(false),
+            refused: AtomicBool::new(false),
+            put: AtomicBool::new(false),
+            removed: AtomicBool::new(false),
+            turns: AtomicUsize::new(0),
+        }
+    }
+
+    /// Looks until it is so, or until the gate has looked too often.
+    fn wait_for(&self, flag: &AtomicBool) -> bool {
+        for _ in 0..TURNS {
+            if flag.load(Ordering::SeqCst) {
+                return true;
+            }
+            if self.turns.fetch_add(1, Ordering::SeqCst) >= TURNS {
+                return false;
+            }
+        }
+        false
+    }
+}
+
+impl Gate for Meeting {
+    fn before(&self, worker: usize, line: usize) -> bool {
+        match (worker, line) {
+            (0, 0) => self.wait_for(&self.asked),
+            (1, 0) => {
+                self.asked.store(true, Ordering::SeqCst);
+                self.wait_for(&self.got)
+            }
+            (0, 1) => self.wait_for(&self.seen) && self.wait_for(&self.refused),
+            (1, 2) => self.wait_for(&self.put),
+            _ => true,
+        }
+    }
+
+    fn after(&self, worker: usize, line: usize, reply: Reply) {
+        match (worker, line, reply) {
+            (0, 0, Reply::Done) => self.got.store(true, Ordering::SeqCst),
+            (1, 0, Reply::Yes) => self.seen.store(true, Ordering::SeqCst),
+            (1, 1, Reply::InUse) => self.refused.store(true, Ordering::SeqCst),
+            (0, 1, Reply::Done) => self.put.store(true, Ordering::SeqCst),
+            (1, 2, Reply::Done) => self.removed.store(true, Ordering::SeqCst),
+            _ => {}
+        }
+    }
+}
+
+/// A removal beside a worker that holds the module.
+const MET: &[u8] = b"%catalogue
+module snd
+size 114688
+exports snd_card_new
+module snd-pcm
+size 143360
+exports snd_pcm_new
+needs snd_card_new
+param debug bool
+%script
+workers 2
+load snd
+w0 get snd
+w0 put snd
+w1 query snd
+w1 remove snd
+w1 remove snd
+";
+
+#[test]
+fn workers_run_at_once(rt: HostRuntime) -> Result<(), Fail> {
+    let meeting = Meeting::new();
+    let course = run(&rt, MET, &meeting)?;
+    assert!(rt; course.is(Ok("calls 6\n")) && meeting.removed.load(Ordering::SeqCst));
+    Ok(())
+}
+
+/// Lets worker 0 make one line alone, and notes that worker 1 has asked.
+#[derive(Drop)]
+struct Shut {
+    asked: AtomicBool,
+}
+
+impl Gate for Shut {
+    fn before(&self, worker: usize, line: usize) -> bool {
+        if worker == 1 && line == 2 {
+            self.asked.store(true, Ordering::SeqCst);
+        }
+        worker != 0 || line == 0
+    }
+
+    fn after(&self, _worker: usize, _line: usize, _reply: Reply) {}
+}
+
+/// Two workers, the first of which is shut out.
+const SHUT_OUT: &[u8] = b"%catalogue
+module snd
+size 114688
+exports snd_card_new
+module snd-pcm
+size 143360
+exports snd_pcm_new
+needs snd_card_new
+param debug bool
+%script
+workers 2
+load snd
+w0 get snd
+w0 put snd
+w1 get snd
+w1 put snd
+w1 query snd
+";
+
+#[test]
+fn a_gate_is_shut(rt: HostRuntime) -> Result<(), Fail> {
+    let shut = Shut {
+        asked: AtomicBool::new(false),
+    };
+    let course = run(&rt, SHUT_OUT, &shut)?;
+    let asked = shut.asked.load(Ordering::SeqCst);
+    assert!(rt; asked && course.is(Err(WorkFault::Gate)) && course.are_held(1, 0));
+    Ok(())
+}
+
+/// Fails at each call.
+#[derive(Drop)]
+struct Broken;
+
+impl Read for Broken {
+    fn read(&mut self, _buffer: &mut [u8]) -> io::Result<usize> {
+        Err(io::Error::from(io::ErrorKind::Other))
+    }
+}
+
+impl Write for Broken {
+    fn write(&mut self, _bytes: &[u8]) -> io::Result<usize> {
+        Err(io::Error::from(io::ErrorKind::Other))
+    }
+
+    fn flush(&mut self) -> io::Result<()> {
+        Ok(())
+    }
+}
+
+/// Whether the program on these streams ends with status 3, and says this.
+fn fails<R: AllocGlobal + Threads + Wait + Sync, I: Read, O: Write>(
+    rt: &R,
+    reader: &mut I,
+    writer: &mut O,
+    wanted: &str,
+) -> bool {
+    let mut errors = Vec::new(rt.alloc());
+    let status = drive(rt, &[], reader, writer, &mut errors);
+    status == 3 && errors.as_slice() == wanted.as_bytes()
+}
+
+#[test]
+fn a_read_fails(rt: HostRuntime) -> Result<(), Fail> {
+    let mut written = Vec::new(rt.alloc());
+    let failed = fails(&rt, &mut Broken, &mut written, "workload: read fault\n");
+    assert!(rt; failed && written.is_empty());
+    Ok(())
+}
+
+#[test]
+fn a_write_fails(rt: HostRuntime) -> Result<(), Fail> {
+    let mut input: &[u8] = b"%catalogue\nmodule a\n%schedule\nworkers 1\nthreads 1\nt0 query a\n";
+    assert!(rt; fails(&rt, &mut input, &mut Broken, "workload: write fault\n"));
+    Ok(())
+}
