@@ -1,163 +1,231 @@
-//! Catalogues and modules.dep texts.
+//! Catalogues and modules.dep texts: what is read of them, their first faults, their limits.
 
-use crate::texts::{CIRCLE, names_text, push_line};
-use dep_index::{CatError, Catalogue, DepError, DepIndex, ParamKind, read_catalogue, read_dep};
+use crate::texts::{CIRCLE, holds, holds_at, is_answer, names_text, push_line, push_names};
+use dep_index::{
+    CatError, Catalogue, DepError, DepIndex, Param, ParamKind, Slots, read_catalogue, read_dep,
+};
 use std::alloc::{AllocError, Global};
-use std::process::Abort;
 use std::test::Fail;
+
+fn kind_text(kind: ParamKind) -> &'static [u8] {
+    match kind {
+        ParamKind::Int => b" int",
+        ParamKind::Bool => b" bool",
+        ParamKind::Charp => b" charp",
+    }
+}
+
+fn push_params(text: &mut Vec<u8>, params: &[Param]) -> Result<(), AllocError> {
+    for param in params {
+        text.extend_from_slice(b", param ")?;
+        text.extend_from_slice(param.name.as_bytes())?;
+        text.extend_from_slice(kind_text(param.kind))?;
+    }
+    text.extend_from_slice(b"\n")
+}
+
+fn push_marks(text: &mut Vec<u8>, catalogue: &Catalogue, m: usize) -> Result<(), AllocError> {
+    if m < catalogue.len() && catalogue.unknown_symbol(m) {
+        text.extend_from_slice(b", unknown symbol")?;
+    }
+    if m < catalogue.len() && catalogue.permanent(m) {
+        text.extend_from_slice(b", permanent")?;
+    }
+    Ok(())
+}
+
+/// What is said of the module in a slot: its size, the slots of its needs, its softneeds, its parameters.
+fn push_module(
+    alloc: Global,
+    text: &mut Vec<u8>,
+    catalogue: &Catalogue,
+    m: usize,
+) -> Result<(), AllocError> {
+    if m >= catalogue.len() {
+        return Ok(());
+    }
+    let (size, needs) = (catalogue.size(m), catalogue.needs(m));
+    let numbers = format!(in alloc; ": size {size}, needs {needs:?}")?;
+    text.extend_from_slice(catalogue.name(m))?;
+    text.extend_from_slice(numbers.as_bytes())?;
+    push_names(text, b", softneeds", catalogue.softneeds(m))?;
+    push_marks(text, catalogue, m)?;
+    push_params(text, catalogue.params(m))
+}
+
+/// All modules of a catalogue, one a line.
+fn modules_text(alloc: Global, catalogue: &Catalogue) -> Result<Vec<u8>, AllocError> {
+    let mut text = Vec::new(alloc);
+    for m in 0..catalogue.len() {
+        push_module(alloc, &mut text, catalogue, m)?;
+    }
+    Ok(text)
+}
 
 const SOUND: &[u8] =
     b"module snd\nsize 114688\nexports snd_card_new\nmodule snd-pcm\nsize 143360\nexports snd_pcm_new\nneeds snd_card_new\nparam debug bool\n";
 
-/// The module in the slot has this name and this size, and needs these.
-fn is_module(
-    rt: &impl Abort,
-    catalogue: &Catalogue,
-    m: usize,
-    name: &[u8],
-    size: u32,
-    needs: &[u16],
-) {
-    assert!(rt; m < catalogue.len());
-    assert_eq!(rt; catalogue.name(m), name);
-    assert_eq!(rt; catalogue.size(m), size);
-    assert_eq!(rt; catalogue.needs(m), needs);
-}
-
-/// The module in the slot has one parameter, a truth value, and nothing else is said of it.
-fn has_one_parameter(rt: &impl Abort, catalogue: &Catalogue, m: usize, name: &[u8]) {
-    assert!(rt; m < catalogue.len());
-    assert!(rt; !catalogue.unknown_symbol(m));
-    assert!(rt; !catalogue.permanent(m));
-    assert_eq!(rt; catalogue.softneeds(m).len(), 0);
-    let params = catalogue.params(m);
-    assert_eq!(rt; params.len(), 1);
-    assert_eq!(rt; params[0].name.as_bytes(), name);
-    assert_eq!(rt; params[0].kind, ParamKind::Bool);
-}
+/// What a row shows, a text, and what is read of it.
+const MODULES: [(&str, &[u8], &[u8]); 5] = [
+    (
+        "a module with a parameter needs another, whose names have `_` for each `-`",
+        SOUND,
+        b"snd: size 114688, needs [], softneeds\nsnd_pcm: size 143360, needs [0], softneeds, param debug bool\n",
+    ),
+    (
+        "two modules need each other",
+        CIRCLE,
+        b"a: size 0, needs [1], softneeds\nb: size 0, needs [0], softneeds\n",
+    ),
+    (
+        "each needed module stands once, in the order of the symbols, without the module itself; a module is permanent",
+        b"module a\nexports x y\nneeds z w x z2 z\n\tneeds y \t z2\nmodule b\nexports z z2\nmodule c\nexports w\npermanent\npermanent",
+        b"a: size 0, needs [1, 2], softneeds\nb: size 0, needs [], softneeds\nc: size 0, needs [], softneeds, permanent\n",
+    ),
+    (
+        "nobody exports a symbol",
+        b"module a\nneeds zz\n",
+        b"a: size 0, needs [], softneeds, unknown symbol\n",
+    ),
+    (
+        "softneeds keep their order, also of names that no module has; comments and empty lines stand before the version",
+        b"# soft\n\nversion 2\nmodule a\nsoftneeds d b\nmodule c\nsoftneeds a\nmodule d\n",
+        b"a: size 0, needs [], softneeds d b\nc: size 0, needs [], softneeds a\nd: size 0, needs [], softneeds\n",
+    ),
+];
 
 #[test]
-fn worked_catalogue(rt: HostRuntime) -> Result<(), Fail> {
-    let catalogue = read_catalogue(rt.alloc(), SOUND)?;
-    assert_eq!(rt; catalogue.len(), 2);
-    assert_eq!(rt; catalogue.slot(b"snd"), Some(0));
-    assert_eq!(rt; catalogue.slot(b"snd_pcm"), Some(1));
-    assert_eq!(rt; catalogue.slot(b"snd-pcm"), None);
-    is_module(&rt, &catalogue, 0, b"snd", 114688, &[]);
-    is_module(&rt, &catalogue, 1, b"snd_pcm", 143360, &[0]);
-    has_one_parameter(&rt, &catalogue, 1, b"debug");
+fn modules(rt: HostRuntime) -> Result<(), Fail> {
+    for (shows, text, wanted) in &MODULES {
+        let catalogue = read_catalogue(rt.alloc(), text)?;
+        let answer = modules_text(rt.alloc(), &catalogue)?;
+        is_answer(&rt, shows, &answer, wanted);
+    }
     Ok(())
+}
+
+/// A name, and the slot of the module that has it in normal form.
+const SLOTS: [(&str, Option<usize>); 3] = [
+    ("snd", Some(0)),
+    ("snd_pcm", Some(1)),
+    ("snd-pcm", None),
+];
+
+#[test]
+fn slots_of_names(rt: HostRuntime) -> Result<(), Fail> {
+    let catalogue = read_catalogue(rt.alloc(), SOUND)?;
+    for (name, slot) in &SLOTS {
+        holds(&rt, name, catalogue.slot(name.as_bytes()) == *slot);
+    }
+    Ok(())
+}
+
+fn is_second_over_first(slots: &Slots) -> bool {
+    slots.len() == 2 && slots.needs(1) == [0u16].as_slice()
 }
 
 #[test]
 fn slots_of_a_catalogue(rt: HostRuntime) -> Result<(), Fail> {
     let catalogue = read_catalogue(rt.alloc(), SOUND)?;
     let slots = catalogue.slots(rt.alloc())?;
-    assert_eq!(rt; slots.len(), 2);
-    assert_eq!(rt; slots.needs(1), [0u16].as_slice());
+    assert!(rt; is_second_over_first(&slots));
     Ok(())
 }
 
-/// Of so many modules the one in the slot needs these.
-fn has_needs<R: Abort + AllocGlobal>(
-    rt: &R,
-    text: &[u8],
-    count: usize,
-    m: usize,
-    needs: &[u16],
-) -> Result<(), Fail> {
-    let catalogue = read_catalogue(rt.alloc(), text)?;
-    assert_eq!(rt; catalogue.len(), count);
-    assert!(rt; m < catalogue.len());
-    assert_eq!(rt; catalogue.needs(m), needs);
-    Ok(())
-}
-
-const MANY: &[u8] =
-    b"module a\nexports x y\nneeds z w x z2 z\n\tneeds y \t z2\nmodule b\nexports z z2\nmodule c\nexports w\npermanent\npermanent";
-
-const UNKNOWN: &[u8] = b"module a\nneeds zz\n";
-
-#[test]
-fn needs_of_symbols(rt: HostRuntime) -> Result<(), Fail> {
-    has_needs(&rt, CIRCLE, 2, 0, &[1])?;
-    has_needs(&rt, CIRCLE, 2, 1, &[0])?;
-    has_needs(&rt, MANY, 3, 0, &[1, 2])?;
-    has_needs(&rt, UNKNOWN, 1, 0, &[])
-}
-
-#[test]
-fn a_permanent_module(rt: HostRuntime) -> Result<(), Fail> {
-    let catalogue = read_catalogue(rt.alloc(), MANY)?;
-    assert_eq!(rt; catalogue.len(), 3);
-    assert!(rt; catalogue.permanent(2));
-    Ok(())
-}
-
-#[test]
-fn an_unknown_symbol(rt: HostRuntime) -> Result<(), Fail> {
-    let catalogue = read_catalogue(rt.alloc(), UNKNOWN)?;
-    assert_eq!(rt; catalogue.len(), 1);
-    assert!(rt; catalogue.unknown_symbol(0));
-    Ok(())
-}
-
-#[test]
-fn soft_needs(rt: HostRuntime) -> Result<(), Fail> {
-    let text = b"# soft\n\nversion 2\nmodule a\nsoftneeds d b\nmodule c\nsoftneeds a\nmodule d\n";
-    let catalogue = read_catalogue(rt.alloc(), text)?;
-    assert_eq!(rt; catalogue.len(), 3);
-    let names = names_text(rt.alloc(), catalogue.softneeds(0))?;
-    assert_eq!(rt; names.as_slice(), b"d\nb\n".as_slice());
-    Ok(())
-}
-
-const FAULTS: [(&[u8], CatError); 16] = [
+/// What a row shows, a text that is refused, and its first fault.
+const FAULTS: [(&str, &[u8], CatError); 16] = [
     (
+        "two names are one in normal form",
         b"module q\nmodule a-b\nmodule a_b\n",
         CatError::Duplicate { line: 3 },
     ),
     (
+        "a module exports a symbol on two lines",
         b"module q\nexports x\n# x\nexports y x\n",
         CatError::TwiceExported { line: 4 },
     ),
     (
+        "a line exports a symbol twice",
         b"module q\nexports x x\n",
         CatError::TwiceExported { line: 2 },
     ),
     (
+        "two modules export a symbol",
         b"module p\nexports x\nmodule q\nexports x\n",
         CatError::TwiceExported { line: 4 },
     ),
     (
+        "softneeds want version 2",
         b"module a\nsoftneeds d b\nmodule c\nsoftneeds a\nmodule d\n",
         CatError::Bad { line: 2 },
     ),
-    (b"version 2\nversion 2\n", CatError::Bad { line: 2 }),
-    (b"module a\nversion 2\n", CatError::Bad { line: 2 }),
-    (b"version 02\n", CatError::Bad { line: 1 }),
-    (b"size 1\n", CatError::Bad { line: 1 }),
-    (b"module a\nsize 1\nsize 1\n", CatError::Bad { line: 3 }),
-    (b"module a\nsize 4294967296\n", CatError::Bad { line: 2 }),
-    (b"module a\nsize 00000000007\n", CatError::Bad { line: 2 }),
     (
+        "a second version",
+        b"version 2\nversion 2\n",
+        CatError::Bad { line: 2 },
+    ),
+    (
+        "a version behind a module",
+        b"module a\nversion 2\n",
+        CatError::Bad { line: 2 },
+    ),
+    (
+        "a version with a leading zero",
+        b"version 02\n",
+        CatError::Bad { line: 1 },
+    ),
+    (
+        "a size before any module",
+        b"size 1\n",
+        CatError::Bad { line: 1 },
+    ),
+    (
+        "a second size",
+        b"module a\nsize 1\nsize 1\n",
+        CatError::Bad { line: 3 },
+    ),
+    (
+        "a size past 32 bits",
+        b"module a\nsize 4294967296\n",
+        CatError::Bad { line: 2 },
+    ),
+    (
+        "a size with leading zeros",
+        b"module a\nsize 00000000007\n",
+        CatError::Bad { line: 2 },
+    ),
+    (
+        "two parameters are one in normal form",
         b"module a\nparam x-y int\nparam x_y bool\n",
         CatError::Bad { line: 3 },
     ),
-    (b"module a\nparam x long\n", CatError::Bad { line: 2 }),
-    (b"module a\npermanent yes\n", CatError::Bad { line: 2 }),
-    (b"module a b\nmodule a\n", CatError::Bad { line: 1 }),
+    (
+        "a kind that no parameter has",
+        b"module a\nparam x long\n",
+        CatError::Bad { line: 2 },
+    ),
+    (
+        "a word behind `permanent`",
+        b"module a\npermanent yes\n",
+        CatError::Bad { line: 2 },
+    ),
+    (
+        "two names of a module",
+        b"module a b\nmodule a\n",
+        CatError::Bad { line: 1 },
+    ),
 ];
 
 #[test]
 fn first_faults(rt: HostRuntime) {
-    for (text, fault) in FAULTS {
-        assert_eq!(rt; read_catalogue(rt.alloc(), text).err(), Some(fault));
+    for (shows, text, fault) in &FAULTS {
+        let found = read_catalogue(rt.alloc(), text).err();
+        holds(&rt, shows, found == Some(*fault));
     }
 }
 
 /// Behind this head, so many modules, each on a line of its own.
-fn modules(alloc: Global, head: &[u8], count: usize) -> Result<Vec<u8>, AllocError> {
+fn modules_behind(alloc: Global, head: &[u8], count: usize) -> Result<Vec<u8>, AllocError> {
     let mut text = Vec::from_slice(alloc, head)?;
     for m in 0..count {
         push_line(alloc, &mut text, b"module m", m)?;
@@ -165,110 +233,149 @@ fn modules(alloc: Global, head: &[u8], count: usize) -> Result<Vec<u8>, AllocErr
     Ok(text)
 }
 
-/// So many modules are all read.
-fn is_read<R: Abort + AllocGlobal>(rt: &R, head: &[u8], count: usize) -> Result<(), Fail> {
-    let text = modules(rt.alloc(), head, count)?;
-    let catalogue = read_catalogue(rt.alloc(), &text)?;
-    assert_eq!(rt; catalogue.len(), count);
-    Ok(())
+/// How many modules are read behind a head, of so many.
+fn count_behind(alloc: Global, head: &[u8], count: usize) -> Result<usize, CatError> {
+    let Ok(text) = modules_behind(alloc, head, count) else {
+        return Err(CatError::Memory);
+    };
+    Ok(read_catalogue(alloc, &text)?.len())
 }
 
-/// Of so many modules the one in a line is one too many.
-fn is_refused<R: Abort + AllocGlobal>(
-    rt: &R,
-    head: &[u8],
-    count: usize,
-    line: usize,
-) -> Result<(), Fail> {
-    let text = modules(rt.alloc(), head, count)?;
-    let fault = read_catalogue(rt.alloc(), &text).err();
-    assert_eq!(rt; fault, Some(CatError::TooMany { line }));
-    Ok(())
-}
+/// The head of a text, how many modules stand behind it, and how many are read, or the line of the one too many.
+const LIMITS: [(&str, usize, Result<usize, CatError>); 4] = [
+    ("", 256, Ok(256)),
+    ("", 257, Err(CatError::TooMany { line: 257 })),
+    ("version 2\n", 1024, Ok(1024)),
+    ("version 2\n", 1025, Err(CatError::TooMany { line: 1026 })),
+];
 
 #[test]
-fn limits(rt: HostRuntime) -> Result<(), Fail> {
-    is_read(&rt, b"", 256)?;
-    is_refused(&rt, b"", 257, 257)?;
-    is_read(&rt, b"version 2\n", 1024)?;
-    is_refused(&rt, b"version 2\n", 1025, 1026)
+fn limits(rt: HostRuntime) {
+    for (head, count, wanted) in &LIMITS {
+        let read = count_behind(rt.alloc(), head.as_bytes(), *count);
+        holds_at(&rt, *count, read == *wanted);
+    }
 }
 
 const DEPENDENCIES: &[u8] =
     b"kernel/a.ko: kernel/b.ko\n# none\nkernel/b.ko.xz: kernel/a.ko\n\t x-1.ko :\td/y.ko.zst d/y.ko /z\r\n";
 
-/// A name depends on these, one a line.
-fn has_deps<R: Abort + AllocGlobal>(
-    rt: &R,
-    index: &DepIndex,
-    name: &[u8],
-    lines: &[u8],
-) -> Result<(), Fail> {
-    let names = index.deps(name).ok_or("no line")?;
-    let text = names_text(rt.alloc(), names)?;
-    assert_eq!(rt; text.as_slice(), lines);
-    Ok(())
+/// A name, and the names that it depends on, one a line.
+const DEPS: [(&str, &[u8]); 4] = [
+    ("a", b"b\n"),
+    ("b", b"a\n"),
+    ("x_1", b"y\ny\nz\n"),
+    ("x-1", b"no line\n"),
+];
+
+fn deps_text(alloc: Global, index: &DepIndex, name: &[u8]) -> Result<Vec<u8>, AllocError> {
+    match index.deps(name) {
+        Some(names) => names_text(alloc, names),
+        None => Vec::from_slice(alloc, b"no line\n"),
+    }
 }
 
 #[test]
 fn dependencies(rt: HostRuntime) -> Result<(), Fail> {
     let index = read_dep(rt.alloc(), DEPENDENCIES)?;
-    has_deps(&rt, &index, b"a", b"b\n")?;
-    has_deps(&rt, &index, b"b", b"a\n")?;
-    has_deps(&rt, &index, b"x_1", b"y\ny\nz\n")?;
-    assert!(rt; index.deps(b"x-1").is_none());
+    for (name, wanted) in &DEPS {
+        let answer = deps_text(rt.alloc(), &index, name.as_bytes())?;
+        is_answer(&rt, name, &answer, wanted);
+    }
     Ok(())
 }
 
-const DEP_FAULTS: [(&[u8], DepError); 6] = [
-    (b"kernel/a.ko kernel/b.ko\n", DepError::NoColon { line: 1 }),
-    (b"a.ko:\n:\n", DepError::EmptyName { line: 2 }),
-    (b"kernel/.ko: a.ko\n", DepError::EmptyName { line: 1 }),
-    (b"a.ko: b.ko kernel/\n", DepError::EmptyName { line: 1 }),
+/// What a row shows, a modules.dep text that is refused, and its first fault.
+const DEP_FAULTS: [(&str, &[u8], DepError); 6] = [
     (
+        "no colon",
+        b"kernel/a.ko kernel/b.ko\n",
+        DepError::NoColon { line: 1 },
+    ),
+    (
+        "nothing before the colon",
+        b"a.ko:\n:\n",
+        DepError::EmptyName { line: 2 },
+    ),
+    (
+        "nothing before the ending",
+        b"kernel/.ko: a.ko\n",
+        DepError::EmptyName { line: 1 },
+    ),
+    (
+        "nothing behind the last slash",
+        b"a.ko: b.ko kernel/\n",
+        DepError::EmptyName { line: 1 },
+    ),
+    (
+        "a second line of a name in normal form",
         b"a-b.ko:\n\nx/a_b.ko.gz: c.ko\n",
         DepError::SecondLine { line: 3 },
     ),
-    (b"a.ko:\na.ko: .ko\n", DepError::EmptyName { line: 2 }),
+    (
+        "an empty name comes before a second line",
+        b"a.ko:\na.ko: .ko\n",
+        DepError::EmptyName { line: 2 },
+    ),
 ];
 
 #[test]
 fn first_dep_faults(rt: HostRuntime) {
-    for (text, fault) in DEP_FAULTS {
-        assert_eq!(rt; read_dep(rt.alloc(), text).err(), Some(fault));
+    for (shows, text, fault) in &DEP_FAULTS {
+        let found = read_dep(rt.alloc(), text).err();
+        holds(&rt, shows, found == Some(*fault));
     }
 }
 
-/// A text that is cut anywhere has a meaning or a first fault, and never wants memory.
+/// A catalogue that is cut anywhere has a meaning or a first fault, and never wants memory.
 #[test]
-fn prefixes(rt: HostRuntime) {
+fn prefixes_of_a_catalogue(rt: HostRuntime) {
     for end in 0..=SOUND.len() {
         let fault = read_catalogue(rt.alloc(), &SOUND[..end]).err();
-        assert!(rt; fault != Some(CatError::Memory));
+        holds_at(&rt, end, fault != Some(CatError::Memory));
     }
+}
+
+/// A modules.dep text that is cut anywhere has a meaning or a first fault, and never wants memory.
+#[test]
+fn prefixes_of_dependencies(rt: HostRuntime) {
     for end in 0..=DEPENDENCIES.len() {
         let fault = read_dep(rt.alloc(), &DEPENDENCIES[..end]).err();
-        assert!(rt; fault != Some(DepError::Memory));
+        holds_at(&rt, end, fault != Some(DepError::Memory));
     }
 }
 
 const SOFT: &[u8] =
     b"version 2\nmodule a\nsoftneeds d b\nmodule c\nneeds x y z\nmodule d\nexports x y\nmodule e\nexports z\n";
 
+/// The text is read and its slots are as many as its modules, or memory is wanting.
+fn is_read_or_memory(alloc: Global, text: &[u8]) -> bool {
+    match read_catalogue(alloc, text) {
+        Ok(catalogue) => match catalogue.slots(alloc) {
+            Ok(slots) => slots.len() == catalogue.len(),
+            Err(_) => true,
+        },
+        Err(error) => error == CatError::Memory,
+    }
+}
+
+fn has_line_or_memory(alloc: Global, text: &[u8], name: &[u8]) -> bool {
+    match read_dep(alloc, text) {
+        Ok(index) => index.deps(name).is_some(),
+        Err(error) => error == DepError::Memory,
+    }
+}
+
 /// With ample memory all is read. Under an allocator that refuses, want of memory is the one fault.
 #[test]
 fn no_other_fault(rt: HostRuntime) {
     for text in [SOUND, SOFT] {
-        match read_catalogue(rt.alloc(), text) {
-            Ok(catalogue) => match catalogue.slots(rt.alloc()) {
-                Ok(slots) => assert_eq!(rt; slots.len(), catalogue.len()),
-                Err(_) => {}
-            },
-            Err(error) => assert_eq!(rt; error, CatError::Memory),
-        }
+        assert!(rt; is_read_or_memory(rt.alloc(), text));
     }
-    match read_dep(rt.alloc(), DEPENDENCIES) {
-        Ok(index) => assert!(rt; index.deps(b"a").is_some()),
-        Err(error) => assert_eq!(rt; error, DepError::Memory),
-    }
+}
+
+/// As `no_other_fault`, of a modules.dep text.
+#[test]
+fn no_other_dep_fault(rt: HostRuntime) {
+    assert!(rt; has_line_or_memory(rt.alloc(), DEPENDENCIES, b"a"));
 }

@@ -1,13 +1,9 @@
-use crate::texts::push_word;
-use dep_index::Name;
+//! Configurations: what their lines say of a name, lines that are joined, lines without effect.
+
+use crate::texts::{holds, holds_at, is_answer, push_names, push_word};
 use modprobe_conf::{Conf, Softdep, Word, read_conf};
 use std::alloc::{AllocError, Global};
-use std::process::Abort;
 use std::test::Fail;
-
-fn conf<R: AllocGlobal>(rt: &R, text: &[u8]) -> Result<Conf, Fail> {
-    Ok(read_conf(rt.alloc(), text)?)
-}
 
 fn push_options(text: &mut Vec<u8>, options: &[Word]) -> Result<(), AllocError> {
     if options.is_empty() {
@@ -20,17 +16,9 @@ fn push_options(text: &mut Vec<u8>, options: &[Word]) -> Result<(), AllocError> 
     text.extend_from_slice(b"\n")
 }
 
-fn push_items(text: &mut Vec<u8>, start: &[u8], items: &[Name]) -> Result<(), AllocError> {
-    text.extend_from_slice(start)?;
-    for item in items {
-        push_word(text, item.as_bytes())?;
-    }
-    Ok(())
-}
-
 fn push_softdep(text: &mut Vec<u8>, softdep: &Softdep) -> Result<(), AllocError> {
-    push_items(text, b"softdep pre:", softdep.pre())?;
-    push_items(text, b" post:", softdep.post())?;
+    push_names(text, b"softdep pre:", softdep.pre())?;
+    push_names(text, b" post:", softdep.post())?;
     text.extend_from_slice(b"\n")
 }
 
@@ -77,98 +65,206 @@ const OTHER_BYTES: &[u8] =
 
 const CARRIAGE_RETURNS: &[u8] = b"options a p \\\r\nq\\\r\r\noptions b r \\ s\n";
 
-/// A text, a name, and what the text says of it.
-const SAID: [(&[u8], &[u8], &[u8]); 24] = [
+/// What a row shows, a text, a name, and what the text says of it.
+const SAID: [(&str, &[u8], &[u8], &[u8]); 24] = [
     (
+        "a softdep line and an options line of one name",
         ITEMS,
         b"c",
         b"options debug=1\nsoftdep pre: a b post: d e\n",
     ),
-    (ITEMS, b"a", b""),
-    (JOINED, b"y", b"options debug=1 level=3\n"),
-    (JOINED, b"x", b"install\n"),
-    (JOINED, b"z", b"softdep pre: y post:\ninstall\n"),
-    (JOINED, b"w", b"blacklist\n"),
-    (BACKSLASHES, b"a", b""),
-    (BACKSLASHES, b"b\\", b"blacklist\n"),
-    (BACKSLASHES, b"c_d", b"blacklist\n"),
-    (WITHOUT_EFFECT, b"x", b"remove\n"),
     (
+        "an item of a softdep line has no line of its own",
+        ITEMS,
+        b"a",
+        b"",
+    ),
+    (
+        "a joined options line",
+        JOINED,
+        b"y",
+        b"options debug=1 level=3\n",
+    ),
+    (
+        "an install line behind a joined line",
+        JOINED,
+        b"x",
+        b"install\n",
+    ),
+    (
+        "a softdep line does not take the install line away",
+        JOINED,
+        b"z",
+        b"softdep pre: y post:\ninstall\n",
+    ),
+    (
+        "a joined line at the end of the text",
+        JOINED,
+        b"w",
+        b"blacklist\n",
+    ),
+    ("a comment swallows the next line", BACKSLASHES, b"a", b""),
+    (
+        "of two backslashes at a line's end one is taken away",
+        BACKSLASHES,
+        b"b\\",
+        b"blacklist\n",
+    ),
+    (
+        "nothing is put between joined lines",
+        BACKSLASHES,
+        b"c_d",
+        b"blacklist\n",
+    ),
+    (
+        "an install line needs a command, a remove line has one",
+        WITHOUT_EFFECT,
+        b"x",
+        b"remove\n",
+    ),
+    (
+        "several lines of a name: all options, the first softdep line, further words of a blacklist line",
         SEVERAL,
         b"a_b",
         b"options p=1 q s-t=2\nsoftdep pre: post: c_c\nblacklist\n",
     ),
-    (SEVERAL, b"z", b"options r\n"),
-    (SEVERAL, b"e", b"softdep pre: post:\n"),
-    (SEVERAL, b"a-b", b""),
-    (OTHER_BYTES, b"a", b"options p=\x0b\xff\0 q\x0c\n"),
-    (OTHER_BYTES, b"b", b""),
-    (OTHER_BYTES, b"c", b""),
-    (OTHER_BYTES, b"d", b"blacklist\n"),
-    (OTHER_BYTES, b"e\rf", b"blacklist\n"),
-    (OTHER_BYTES, b"\x80", b"blacklist\n"),
-    (OTHER_BYTES, b"g\r", b"blacklist\n"),
-    (OTHER_BYTES, b"g", b""),
-    (CARRIAGE_RETURNS, b"a", b"options p q\\\r\n"),
-    (CARRIAGE_RETURNS, b"b", b"options r \\ s\n"),
+    (
+        "an options line between those of another name",
+        SEVERAL,
+        b"z",
+        b"options r\n",
+    ),
+    (
+        "a softdep line without marks",
+        SEVERAL,
+        b"e",
+        b"softdep pre: post:\n",
+    ),
+    ("a name is compared as it stands", SEVERAL, b"a-b", b""),
+    (
+        "bytes that are no blanks stay in a word",
+        OTHER_BYTES,
+        b"a",
+        b"options p=\x0b\xff\0 q\x0c\n",
+    ),
+    ("a vertical tab is no blank", OTHER_BYTES, b"b", b""),
+    ("a carriage return begins no line", OTHER_BYTES, b"c", b""),
+    (
+        "a carriage return at the end of a line goes",
+        OTHER_BYTES,
+        b"d",
+        b"blacklist\n",
+    ),
+    (
+        "a carriage return within a word stays",
+        OTHER_BYTES,
+        b"e\rf",
+        b"blacklist\n",
+    ),
+    (
+        "a name of a byte above 127",
+        OTHER_BYTES,
+        b"\x80",
+        b"blacklist\n",
+    ),
+    (
+        "a carriage return at the end of the text stays",
+        OTHER_BYTES,
+        b"g\r",
+        b"blacklist\n",
+    ),
+    (
+        "the name without that carriage return has no line",
+        OTHER_BYTES,
+        b"g",
+        b"",
+    ),
+    (
+        "of two carriage returns behind a backslash one stays with it",
+        CARRIAGE_RETURNS,
+        b"a",
+        b"options p q\\\r\n",
+    ),
+    (
+        "a backslash within a line is a word",
+        CARRIAGE_RETURNS,
+        b"b",
+        b"options r \\ s\n",
+    ),
 ];
 
-fn says<R: Abort + AllocGlobal>(
-    rt: &R,
-    text: &[u8],
-    name: &[u8],
-    wanted: &[u8],
-) -> Result<(), Fail> {
-    let conf = conf(rt, text)?;
-    let said = said_of(rt.alloc(), &conf, name)?;
-    assert_eq!(rt; said.as_slice(), wanted);
-    Ok(())
+fn said(alloc: Global, text: &[u8], name: &[u8]) -> Result<Vec<u8>, AllocError> {
+    let conf = read_conf(alloc, text)?;
+    Ok(said_of(alloc, &conf, name)?)
 }
 
 #[test]
 fn says_of_names(rt: HostRuntime) -> Result<(), Fail> {
-    for (text, name, wanted) in &SAID {
-        says(&rt, text, name, wanted)?;
+    for (shows, text, name, wanted) in &SAID {
+        let answer = said(rt.alloc(), text, name)?;
+        is_answer(&rt, shows, &answer, wanted);
     }
     Ok(())
 }
 
-/// A text, and the numbers of its lines without effect.
-const SKIPPED: [(&[u8], &[usize]); 7] = [
-    (ITEMS, &[]),
-    (JOINED, &[]),
-    (BACKSLASHES, &[5]),
-    (WITHOUT_EFFECT, &[2, 3, 4, 5, 7, 8, 10, 11]),
-    (SEVERAL, &[]),
-    (OTHER_BYTES, &[2, 3]),
-    (CARRIAGE_RETURNS, &[]),
+/// What a row shows, a text, and the numbers of its lines without effect.
+const SKIPPED: [(&str, &[u8], &[usize]); 7] = [
+    ("lines with items", ITEMS, &[]),
+    ("joined lines", JOINED, &[]),
+    (
+        "a joined line has the number of its first",
+        BACKSLASHES,
+        &[5],
+    ),
+    (
+        "lines of all kinds without effect",
+        WITHOUT_EFFECT,
+        &[2, 3, 4, 5, 7, 8, 10, 11],
+    ),
+    ("a second softdep line is not counted", SEVERAL, &[]),
+    (
+        "lines that begin with no word of ours",
+        OTHER_BYTES,
+        &[2, 3],
+    ),
+    ("carriage returns", CARRIAGE_RETURNS, &[]),
 ];
 
 #[test]
 fn lines_without_effect(rt: HostRuntime) -> Result<(), Fail> {
-    for (text, wanted) in &SKIPPED {
-        let conf = conf(&rt, text)?;
-        assert_eq!(rt; conf.skipped(), *wanted);
+    for (shows, text, wanted) in &SKIPPED {
+        let conf = read_conf(rt.alloc(), text)?;
+        holds(&rt, shows, conf.skipped() == *wanted);
     }
     Ok(())
 }
 
+/// There is one alias, and it leads from `a_b` to `snd_pcm`.
+fn has_one_alias(conf: &Conf) -> bool {
+    conf.alias_len() == 1
+        && conf.alias_pattern(0).matches(b"a_b")
+        && conf.alias_target(0).as_bytes() == b"snd_pcm".as_slice()
+}
+
 #[test]
 fn aliases(rt: HostRuntime) -> Result<(), Fail> {
-    let conf = conf(&rt, WITHOUT_EFFECT)?;
-    assert_eq!(rt; conf.alias_len(), 1);
-    assert!(rt; conf.alias_pattern(0).matches(b"a_b"));
-    assert_eq!(rt; conf.alias_target(0).as_bytes(), b"snd_pcm".as_slice());
+    let conf = read_conf(rt.alloc(), WITHOUT_EFFECT)?;
+    assert!(rt; has_one_alias(&conf));
     Ok(())
+}
+
+/// `x` has its install line, and `w` is blacklisted, from the length on that they stand at; at most one line has no effect.
+fn is_of_prefix(conf: &Conf, length: usize) -> bool {
+    conf.install_line(b"x") == (39 < length)
+        && conf.blacklisted(b"w") == (96 < length)
+        && conf.skipped().len() < 2
 }
 
 #[test]
 fn each_prefix(rt: HostRuntime) -> Result<(), Fail> {
     for end in 0..=JOINED.len() {
-        let conf = conf(&rt, &JOINED[..end])?;
-        assert_eq!(rt; conf.install_line(b"x"), 39 < end, "at {end}");
-        assert_eq!(rt; conf.blacklisted(b"w"), 96 < end, "at {end}");
-        assert!(rt; conf.skipped().len() < 2, "at {end}");
+        let conf = read_conf(rt.alloc(), &JOINED[..end])?;
+        holds_at(&rt, end, is_of_prefix(&conf, end));
     }
     Ok(())
 }
@@ -176,20 +272,37 @@ fn each_prefix(rt: HostRuntime) -> Result<(), Fail> {
 /// How many lines are joined into one.
 const PIECES: usize = 5000;
 
-#[test]
-fn a_line_of_many_pieces(rt: HostRuntime) -> Result<(), Fail> {
-    let mut text = Vec::from_slice(rt.alloc(), b"options a")?;
+fn many_pieces(alloc: Global) -> Result<Vec<u8>, AllocError> {
+    let mut text = Vec::from_slice(alloc, b"options a")?;
     for _ in 0..PIECES {
         text.extend_from_slice(b" \\\n\tlevel=12345")?;
     }
     text.extend_from_slice(b"\nfrob x y\nblacklist b\n")?;
-    let conf = conf(&rt, &text)?;
-    let options = conf.options(b"a");
-    assert_eq!(rt; options.len(), PIECES);
-    for word in options {
-        assert_eq!(rt; word.as_bytes(), b"level=12345".as_slice());
+    Ok(text)
+}
+
+fn are_all(words: &[Word], wanted: &[u8]) -> bool {
+    for word in words {
+        if word.as_bytes() != wanted {
+            return false;
+        }
     }
-    assert!(rt; conf.blacklisted(b"b"));
-    assert_eq!(rt; conf.skipped(), [PIECES + 2].as_slice());
+    true
+}
+
+/// All pieces are words of one options line, and the lines behind it keep their numbers.
+fn has_all_pieces(conf: &Conf) -> bool {
+    let options = conf.options(b"a");
+    options.len() == PIECES
+        && are_all(options, b"level=12345")
+        && conf.blacklisted(b"b")
+        && conf.skipped() == [PIECES + 2].as_slice()
+}
+
+#[test]
+fn a_line_of_many_pieces(rt: HostRuntime) -> Result<(), Fail> {
+    let text = many_pieces(rt.alloc())?;
+    let conf = read_conf(rt.alloc(), &text)?;
+    assert!(rt; has_all_pieces(&conf));
     Ok(())
 }

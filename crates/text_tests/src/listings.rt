@@ -1,126 +1,115 @@
-//! Lines and listings, byte for byte.
+//! Lines of /proc/modules, the listings of a table, and what is told of a module, byte for byte.
 ghost use Rattle.std.specs.Prelude.{◌≡◌, ◌<◌, length, IfOk};
 ghost use Rattle.dep_index.specs.Catalogue.{modules_of};
 
+use crate::texts::{is_answer, push_number};
 use dep_index::{Call, Catalogue, read_catalogue};
 use proc_modules::{
     Line, LineError, LineState, lsmod_text, modinfo_text, proc_text, read_line, write_line,
 };
 use seq_table::{Modules, Table};
 use std::alloc::{AllocError, Global};
-use std::process::Abort;
 use std::test::Fail;
 
-const CARDS: &[u8] = b"module snd
-size 114688
-exports snd_card_new
-module snd-pcm
-size 143360
-exports snd_pcm_new
-needs snd_card_new
-param debug bool
-module p
-permanent
-module a_module_with_a_long_name
-size 4294967295
-exports long
-module user
-needs long
-";
+/// How many bytes a line took, and the line that is written of it.
+fn line_text(alloc: Global, line: &Line, used: usize) -> Result<Vec<u8>, AllocError> {
+    let mut text = Vec::new(alloc);
+    push_number(alloc, &mut text, used)?;
+    text.extend_from_slice(b" ")?;
+    text.extend_from_slice(&write_line(alloc, line)?)?;
+    Ok(text)
+}
 
-/// What a text reads as: the line that is written of it, and how many bytes it took.
-fn told(alloc: Global, text: &[u8]) -> Result<Vec<u8>, AllocError> {
-    let mut answer = Vec::new(alloc);
+fn error_text(alloc: Global, error: LineError) -> Result<Vec<u8>, AllocError> {
+    let text = format!(in alloc; "{error:?}")?;
+    Vec::from_slice(alloc, text.as_bytes())
+}
+
+/// What a text reads as: how many bytes the line took and what is written of it, or why it is none.
+fn reading(alloc: Global, text: &[u8]) -> Result<Vec<u8>, AllocError> {
     match read_line(alloc, text) {
-        Ok((line, used)) => {
-            answer.extend_from_slice(format!(in alloc; "{used} ")?.as_bytes())?;
-            answer.extend_from_slice(write_line(alloc, &line)?.as_slice())?;
-        }
-        Err(error) => answer.extend_from_slice(format!(in alloc; "{error:?}")?.as_bytes())?,
+        Ok((line, used)) => line_text(alloc, &line, used),
+        Err(error) => error_text(alloc, error),
     }
-    Ok(answer)
 }
 
 /// Texts, and what they read as.
-const LINES: [(&[u8], &[u8]); 29] = [
+const LINES: [(&str, &str); 29] = [
     (
-        b"snd 114688 1 snd_pcm, Live 0x0000000000000000",
-        b"45 snd 114688 1 snd_pcm, Live 0x0000000000000000\n",
+        "snd 114688 1 snd_pcm, Live 0x0000000000000000",
+        "45 snd 114688 1 snd_pcm, Live 0x0000000000000000\n",
     ),
     (
-        b"snd 114688 1 snd_pcm, Live 0x0000000000000000 (OE)",
-        b"50 snd 114688 1 snd_pcm, Live 0x0000000000000000\n",
+        "snd 114688 1 snd_pcm, Live 0x0000000000000000 (OE)",
+        "50 snd 114688 1 snd_pcm, Live 0x0000000000000000\n",
     ),
     (
-        b"a 0 0 - Live 0x0\nb",
-        b"17 a 0 0 - Live 0x0000000000000000\n",
+        "a 0 0 - Live 0x0\nb",
+        "17 a 0 0 - Live 0x0000000000000000\n",
     ),
-    (b"a 0 0 - Live 0x0", b"16 a 0 0 - Live 0x0000000000000000\n"),
+    ("a 0 0 - Live 0x0", "16 a 0 0 - Live 0x0000000000000000\n"),
     (
-        b"snd_timer 49152 2 snd_seq,snd_pcm, Live 0xffffffffc0a4f000\n",
-        b"59 snd_timer 49152 2 snd_seq,snd_pcm, Live 0x0000000000000000\n",
-    ),
-    (
-        b"vfat 24576 1 - Live 0x0000000000000000 (E)\n",
-        b"43 vfat 24576 1 - Live 0x0000000000000000\n",
+        "snd_timer 49152 2 snd_seq,snd_pcm, Live 0xffffffffc0a4f000\n",
+        "59 snd_timer 49152 2 snd_seq,snd_pcm, Live 0x0000000000000000\n",
     ),
     (
-        b"p 1 2 a,[permanent], Unloading 0xAbCdEf0123456789",
-        b"49 p 1 2 a,[permanent], Unloading 0x0000000000000000\n",
+        "vfat 24576 1 - Live 0x0000000000000000 (E)\n",
+        "43 vfat 24576 1 - Live 0x0000000000000000\n",
     ),
     (
-        b"p 4294967295 0 [permanent], Loading 0x1",
-        b"39 p 4294967295 0 [permanent], Loading 0x0000000000000000\n",
+        "p 1 2 a,[permanent], Unloading 0xAbCdEf0123456789",
+        "49 p 1 2 a,[permanent], Unloading 0x0000000000000000\n",
     ),
-    (b"", b"MissingField"),
-    (b"snd", b"MissingField"),
-    (b"snd 114688", b"MissingField"),
-    (b"snd 114688 1", b"MissingField"),
-    (b"snd 114688 1 snd_pcm,", b"MissingField"),
-    (b"snd 114688 1 snd_pcm, Live", b"MissingField"),
-    (b"snd-pcm 1 0 - Live 0x0", b"BadName"),
-    (b" 1 0 - Live 0x0", b"BadName"),
-    (b"snd  1 0 - Live 0x0", b"BadNumber"),
-    (b"snd 01 0 - Live 0x0", b"BadNumber"),
-    (b"snd 4294967296 0 - Live 0x0", b"BadNumber"),
-    (b"snd 1 - - Live 0x0", b"BadNumber"),
-    (b"snd 1 1 snd_pcm Live 0x0", b"BadUsers"),
-    (b"snd 1 1 , Live 0x0", b"BadUsers"),
-    (b"snd 1 1 [permanent],a, Live 0x0", b"BadUsers"),
-    (b"snd 1 0 - live 0x0", b"BadState"),
-    (b"snd 1 0 - Live 0x", b"BadAddress"),
-    (b"snd 1 0 - Live 0x00000000000000000", b"BadAddress"),
-    (b"snd 1 0 - Live 0x0 ", b"BadAddress"),
-    (b"snd 1 0 - Live 0x0 (E) b", b"BadAddress"),
-    (b"snd 1 0 - Live 0x0\r\n", b"BadAddress"),
+    (
+        "p 4294967295 0 [permanent], Loading 0x1",
+        "39 p 4294967295 0 [permanent], Loading 0x0000000000000000\n",
+    ),
+    ("", "MissingField"),
+    ("snd", "MissingField"),
+    ("snd 114688", "MissingField"),
+    ("snd 114688 1", "MissingField"),
+    ("snd 114688 1 snd_pcm,", "MissingField"),
+    ("snd 114688 1 snd_pcm, Live", "MissingField"),
+    ("snd-pcm 1 0 - Live 0x0", "BadName"),
+    (" 1 0 - Live 0x0", "BadName"),
+    ("snd  1 0 - Live 0x0", "BadNumber"),
+    ("snd 01 0 - Live 0x0", "BadNumber"),
+    ("snd 4294967296 0 - Live 0x0", "BadNumber"),
+    ("snd 1 - - Live 0x0", "BadNumber"),
+    ("snd 1 1 snd_pcm Live 0x0", "BadUsers"),
+    ("snd 1 1 , Live 0x0", "BadUsers"),
+    ("snd 1 1 [permanent],a, Live 0x0", "BadUsers"),
+    ("snd 1 0 - live 0x0", "BadState"),
+    ("snd 1 0 - Live 0x", "BadAddress"),
+    ("snd 1 0 - Live 0x00000000000000000", "BadAddress"),
+    ("snd 1 0 - Live 0x0 ", "BadAddress"),
+    ("snd 1 0 - Live 0x0 (E) b", "BadAddress"),
+    ("snd 1 0 - Live 0x0\r\n", "BadAddress"),
 ];
 
 #[test]
 fn reads_lines(rt: HostRuntime) -> Result<(), Fail> {
-    for (text, want) in LINES {
-        let answer = told(rt.alloc(), text)?;
-        assert_eq!(rt; answer.as_slice(), want);
+    for (text, wanted) in &LINES {
+        let found = reading(rt.alloc(), text.as_bytes())?;
+        is_answer(&rt, text, &found, wanted.as_bytes());
     }
     Ok(())
 }
 
-fn first_line(alloc: Global, text: &[u8]) -> Result<(Line, usize), LineError> {
-    read_line(alloc, text)
-}
-
-fn is_of_snd(rt: &impl Abort, line: &Line) {
-    assert_eq!(rt; line.name.as_bytes(), b"snd".as_slice());
-    assert_eq!(rt; (line.size, line.count), (7, 2));
-    assert_eq!(rt; line.users.as_slice().len(), 2);
-    assert!(rt; line.permanent && line.state == LineState::Loading);
+/// The line is that of `snd`, which is Loading and permanent, with a size of 7, a count of 2 and two users.
+fn is_of_snd(line: &Line) -> bool {
+    line.name.as_bytes() == b"snd".as_slice()
+        && (line.size, line.count) == (7, 2)
+        && line.users.as_slice().len() == 2
+        && line.permanent
+        && line.state == LineState::Loading
 }
 
 #[test]
 fn tells_the_parts_of_a_line(rt: HostRuntime) -> Result<(), Fail> {
     let text = b"snd 7 2 a,b,[permanent], Loading 0x0 (E)\n";
-    let (line, used) = first_line(rt.alloc(), text)?;
-    assert_eq!(rt; used, 41);
-    is_of_snd(&rt, &line);
+    let (line, used) = read_line(rt.alloc(), text)?;
+    assert!(rt; used == 41 && is_of_snd(&line));
     Ok(())
 }
 
@@ -166,6 +155,28 @@ fn table_after(alloc: Global, catalogue: &Catalogue, calls: &[Call]) -> Result<T
     Ok(table)
 }
 
+/// Modules with all that a catalogue says.
+const CARDS: &[u8] = b"module snd
+size 114688
+exports snd_card_new
+module snd-pcm
+size 143360
+exports snd_pcm_new
+needs snd_card_new
+param debug bool
+module p
+permanent
+module a_module_with_a_long_name
+size 4294967295
+exports long
+module user
+needs long
+";
+
+/// A module with two users, of which one names it twice.
+const USERS: &[u8] =
+    b"module base\npermanent\nexports b\nmodule first\nneeds b\nmodule second\nneeds b b\n";
+
 const SND: usize = 0;
 
 const PCM: usize = 1;
@@ -176,114 +187,116 @@ const LONG: usize = 3;
 
 const USER: usize = 4;
 
-/// The listings of a table: /proc/modules, and what lsmod shows.
-fn is_listed<R: Abort + AllocGlobal>(
-    rt: &R,
-    catalogue: &Catalogue,
-    table: &Table,
-    proc: &[u8],
-    lsmod: &[u8],
-) -> Result<(), Fail>
-    requires { table.now.catalogue ≡ modules_of catalogue.now }
-{
-    let text = proc_text(rt.alloc(), catalogue, table)?;
-    assert_eq!(rt; text.as_slice(), proc);
-    let text = lsmod_text(rt.alloc(), catalogue, table)?;
-    assert_eq!(rt; text.as_slice(), lsmod);
-    Ok(())
+/// What a row shows, a catalogue, calls on its table, and both listings then.
+struct Row {
+    shows: &'static str,
+    catalogue: &'static [u8],
+    calls: &'static [Call],
+    proc_modules: &'static [u8],
+    lsmod: &'static [u8],
 }
 
-/// The listings of a catalogue's table after calls.
-fn lists<R: Abort + AllocGlobal>(
-    rt: &R,
-    catalogue: &[u8],
-    calls: &[Call],
-    proc: &[u8],
-    lsmod: &[u8],
-) -> Result<(), Fail> {
-    let catalogue = read_catalogue(rt.alloc(), catalogue)?;
-    let table = table_after(rt.alloc(), &catalogue, calls)?;
-    is_listed(rt, &catalogue, &table, proc, lsmod)
-}
-
-#[test]
-fn lists_a_table_in_all_states(rt: HostRuntime) -> Result<(), Fail> {
-    let calls = [
-        Call::BeginLoad(SND),
-        Call::EndLoad(SND, true),
-        Call::BeginLoad(LONG),
-        Call::EndLoad(LONG, true),
-        Call::BeginLoad(FIXED),
-        Call::EndLoad(FIXED, true),
-        Call::Get(0, FIXED),
-        Call::Get(1, FIXED),
-        Call::BeginLoad(PCM),
-        Call::EndLoad(PCM, true),
-        Call::Get(0, PCM),
-        Call::BeginDrain(PCM),
-        Call::BeginLoad(USER),
-    ];
-    lists(
-        &rt,
-        CARDS,
-        &calls,
-        b"user 0 0 - Loading 0x0000000000000000
+const LISTINGS: [Row; 3] = [
+    Row {
+        shows: "a table in all states",
+        catalogue: CARDS,
+        calls: &[
+            Call::BeginLoad(SND),
+            Call::EndLoad(SND, true),
+            Call::BeginLoad(LONG),
+            Call::EndLoad(LONG, true),
+            Call::BeginLoad(FIXED),
+            Call::EndLoad(FIXED, true),
+            Call::Get(0, FIXED),
+            Call::Get(1, FIXED),
+            Call::BeginLoad(PCM),
+            Call::EndLoad(PCM, true),
+            Call::Get(0, PCM),
+            Call::BeginDrain(PCM),
+            Call::BeginLoad(USER),
+        ],
+        proc_modules: b"user 0 0 - Loading 0x0000000000000000
 snd_pcm 143360 1 - Unloading 0x0000000000000000
 p 0 2 [permanent], Live 0x0000000000000000
 a_module_with_a_long_name 4294967295 1 user, Live 0x0000000000000000
 snd 114688 1 snd_pcm, Live 0x0000000000000000
 ",
-        b"Module                  Size  Used by
+        lsmod: b"Module                  Size  Used by
 user                       0  0
 snd_pcm               143360  1
 p                          0  2
 a_module_with_a_long_name 4294967295  1 user
 snd                   114688  1 snd_pcm
 ",
-    )
-}
-
-/// A module with two users, of which one names it twice.
-const USERS: &[u8] =
-    b"module base\npermanent\nexports b\nmodule first\nneeds b\nmodule second\nneeds b b\n";
-
-#[test]
-fn lists_an_empty_table(rt: HostRuntime) -> Result<(), Fail> {
-    lists(
-        &rt,
-        USERS,
-        &[],
-        b"",
-        b"Module                  Size  Used by\n",
-    )
-}
-
-#[test]
-fn lists_users_newest_first(rt: HostRuntime) -> Result<(), Fail> {
-    let calls = [
-        Call::BeginLoad(0),
-        Call::EndLoad(0, true),
-        Call::BeginLoad(1),
-        Call::EndLoad(1, true),
-        Call::BeginRemove(1),
-        Call::BeginLoad(2),
-        Call::EndLoad(2, true),
-        Call::Get(1, 0),
-    ];
-    lists(
-        &rt,
-        USERS,
-        &calls,
-        b"second 0 0 - Live 0x0000000000000000
+    },
+    Row {
+        shows: "an empty table",
+        catalogue: USERS,
+        calls: &[],
+        proc_modules: b"",
+        lsmod: b"Module                  Size  Used by\n",
+    },
+    Row {
+        shows: "users, the newest first",
+        catalogue: USERS,
+        calls: &[
+            Call::BeginLoad(0),
+            Call::EndLoad(0, true),
+            Call::BeginLoad(1),
+            Call::EndLoad(1, true),
+            Call::BeginRemove(1),
+            Call::BeginLoad(2),
+            Call::EndLoad(2, true),
+            Call::Get(1, 0),
+        ],
+        proc_modules: b"second 0 0 - Live 0x0000000000000000
 first 0 0 - Unloading 0x0000000000000000
 base 0 3 second,first,[permanent], Live 0x0000000000000000
 ",
-        b"Module                  Size  Used by
+        lsmod: b"Module                  Size  Used by
 second                     0  0
 first                      0  0
 base                       0  3 second,first
 ",
-    )
+    },
+];
+
+/// Both listings of a table, the one of /proc/modules first.
+fn both_texts(
+    alloc: Global,
+    catalogue: &Catalogue,
+    table: &Table,
+) -> Result<(Vec<u8>, Vec<u8>), AllocError>
+    requires { table.now.catalogue ≡ modules_of catalogue.now }
+{
+    let proc_modules = proc_text(alloc, catalogue, table)?;
+    let lsmod = lsmod_text(alloc, catalogue, table)?;
+    Ok((proc_modules, lsmod))
+}
+
+/// Both listings of the catalogue's table after calls.
+fn listed_after(
+    alloc: Global,
+    catalogue: &Catalogue,
+    calls: &[Call],
+) -> Result<(Vec<u8>, Vec<u8>), AllocError> {
+    let table = table_after(alloc, catalogue, calls)?;
+    Ok(both_texts(alloc, catalogue, &table)?)
+}
+
+fn listed(alloc: Global, row: &Row) -> Result<(Vec<u8>, Vec<u8>), Fail> {
+    let catalogue = read_catalogue(alloc, row.catalogue)?;
+    Ok(listed_after(alloc, &catalogue, row.calls)?)
+}
+
+#[test]
+fn lists_tables(rt: HostRuntime) -> Result<(), Fail> {
+    for row in &LISTINGS {
+        let (proc_modules, lsmod) = listed(rt.alloc(), row)?;
+        is_answer(&rt, row.shows, &proc_modules, row.proc_modules);
+        is_answer(&rt, row.shows, &lsmod, row.lsmod);
+    }
+    Ok(())
 }
 
 /// What is told of the module of the name.
@@ -294,42 +307,37 @@ fn told_of(alloc: Global, catalogue: &Catalogue, name: &[u8]) -> Result<Vec<u8>,
     }
 }
 
-/// What is told of a module of a catalogue.
-fn tells<R: Abort + AllocGlobal>(
-    rt: &R,
-    catalogue: &[u8],
-    name: &[u8],
-    lines: &[u8],
-) -> Result<(), Fail> {
-    let catalogue = read_catalogue(rt.alloc(), catalogue)?;
-    let text = told_of(rt.alloc(), &catalogue, name)?;
-    assert_eq!(rt; text.as_slice(), lines);
-    Ok(())
-}
-
-#[test]
-fn tells_of_a_module(rt: HostRuntime) -> Result<(), Fail> {
-    tells(
-        &rt,
+/// A catalogue, a name, and what is told of the module of the name.
+const MODULES: [(&[u8], &str, &[u8]); 2] = [
+    (
         CARDS,
-        b"snd_pcm",
+        "snd_pcm",
         b"name:           snd_pcm
 size:           143360
 depends:        snd
 parm:           debug:bool
 ",
-    )
-}
-
-#[test]
-fn tells_of_a_module_of_its_name_alone(rt: HostRuntime) -> Result<(), Fail> {
-    tells(
-        &rt,
+    ),
+    (
         b"module q",
-        b"q",
+        "q",
         b"name:           q
 size:           0
 depends:        
 ",
-    )
+    ),
+];
+
+fn told(alloc: Global, catalogue: &[u8], name: &[u8]) -> Result<Vec<u8>, Fail> {
+    let catalogue = read_catalogue(alloc, catalogue)?;
+    Ok(told_of(alloc, &catalogue, name)?)
+}
+
+#[test]
+fn tells_of_modules(rt: HostRuntime) -> Result<(), Fail> {
+    for (catalogue, name, wanted) in &MODULES {
+        let text = told(rt.alloc(), catalogue, name.as_bytes())?;
+        is_answer(&rt, name, &text, wanted);
+    }
+    Ok(())
 }

@@ -1,136 +1,165 @@
-use alias_match::{Pattern, PatternError, read_aliases};
+//! Patterns, and modules.alias texts.
+
+use crate::texts::{holds_at, is_answer};
+use alias_match::{Aliases, Pattern, PatternError, read_aliases};
+use std::alloc::{AllocError, Global};
+use std::process::Abort;
 use std::test::Fail;
 
-fn is_match(rt: &HostRuntime, pattern: &[u8], text: &[u8]) -> Result<bool, Fail> {
-    let pattern = Pattern::read(rt.alloc(), pattern)?;
-    Ok(pattern.matches(text))
+/// Whether the pattern matches the text, or why it is none.
+fn answer(alloc: Global, pattern: &str, text: &str) -> Result<bool, PatternError> {
+    let pattern = Pattern::read(alloc, pattern.as_bytes())?;
+    Ok(pattern.matches(text.as_bytes()))
 }
 
-fn fault(rt: &HostRuntime, pattern: &[u8]) -> Option<PatternError> {
-    Pattern::read(rt.alloc(), pattern).err()
-}
-
-const UNCLOSED: [&[u8]; 4] = [b"[", b"[]", b"[!]", b"[a-"];
-
-const CLASSES: [&[u8]; 2] = [b"x[[:alpha:]]", b"[[."];
-
-const BACKSLASHES: [&[u8]; 3] = [b"a\\", b"[a\\", b"x[a-\\"];
-
-#[test]
-fn first_faults(rt: HostRuntime) {
-    for pattern in UNCLOSED {
-        assert_eq!(rt; fault(&rt, pattern), Some(PatternError::Unclosed));
-    }
-    for pattern in CLASSES {
-        assert_eq!(rt; fault(&rt, pattern), Some(PatternError::Class));
-    }
-    for pattern in BACKSLASHES {
-        assert_eq!(rt; fault(&rt, pattern), Some(PatternError::Backslash));
-    }
-}
-
-const MATCHES: [(&[u8], &[u8]); 16] = [
-    (b"a-b", b"a_b"),
-    (b"a\\-b", b"a_b"),
-    (b"[a-]", b"a"),
-    (b"[a-]", b"-"),
-    (b"[^a]", b"b"),
-    (b"*", b""),
-    (b"usb:v[0-9A-F]*p??", b"usb:v0Ap12"),
-    (b"usb:v[0-9A-F]*p??", b"usb:v0pp12"),
-    (b"[a-[:]", b":"),
-    (b"[\\[:]", b"["),
-    (b"[\\[:]", b":"),
-    (b"[\\a-\\c]", b"b"),
-    (b"[]-a]", b"_"),
-    (b"[]]", b"]"),
-    (b"\\*", b"*"),
+/// A pattern, a text, and whether the one matches the other, or why the pattern is none.
+const ANSWERS: [(&str, &str, Result<bool, PatternError>); 37] = [
+    ("[", "", Err(PatternError::Unclosed)),
+    ("[]", "", Err(PatternError::Unclosed)),
+    ("[!]", "", Err(PatternError::Unclosed)),
+    ("[a-", "", Err(PatternError::Unclosed)),
+    ("x[[:alpha:]]", "", Err(PatternError::Class)),
+    ("[[.", "", Err(PatternError::Class)),
+    ("a\\", "", Err(PatternError::Backslash)),
+    ("[a\\", "", Err(PatternError::Backslash)),
+    ("x[a-\\", "", Err(PatternError::Backslash)),
+    ("a-b", "a_b", Ok(true)),
+    ("a\\-b", "a_b", Ok(true)),
+    ("[a-]", "a", Ok(true)),
+    ("[a-]", "-", Ok(true)),
+    ("[^a]", "b", Ok(true)),
+    ("*", "", Ok(true)),
+    ("usb:v[0-9A-F]*p??", "usb:v0Ap12", Ok(true)),
+    ("usb:v[0-9A-F]*p??", "usb:v0pp12", Ok(true)),
+    ("[a-[:]", ":", Ok(true)),
+    ("[\\[:]", "[", Ok(true)),
+    ("[\\[:]", ":", Ok(true)),
+    ("[\\a-\\c]", "b", Ok(true)),
+    ("[]-a]", "_", Ok(true)),
+    ("[]]", "]", Ok(true)),
+    ("\\*", "*", Ok(true)),
     (
-        b"pci:v00008086d*sv*sd*bc03sc*i*",
-        b"pci:v00008086d00001916sv00001028sd000006DEbc03sc00i00",
+        "pci:v00008086d*sv*sd*bc03sc*i*",
+        "pci:v00008086d00001916sv00001028sd000006DEbc03sc00i00",
+        Ok(true),
+    ),
+    ("a-b", "a-b", Ok(false)),
+    ("[^a]", "a", Ok(false)),
+    ("[^a]", "", Ok(false)),
+    ("[z-a]", "m", Ok(false)),
+    ("[z-a]", "z", Ok(false)),
+    ("usb:v[0-9A-F]*p??", "usb:vGp12", Ok(false)),
+    ("usb:v[0-9A-F]*p??", "usb:v0p1", Ok(false)),
+    ("[a-[:]", "a", Ok(false)),
+    ("[]-a]", "b", Ok(false)),
+    ("\\*", "a", Ok(false)),
+    ("", "a", Ok(false)),
+    (
+        "pci:v00008086d*sv*sd*bc03sc*i*",
+        "pci:v00008086d00009D2Fsv00001028sd000006DEbc0Csc03i30",
+        Ok(false),
     ),
 ];
 
-const MISSES: [(&[u8], &[u8]); 12] = [
-    (b"a-b", b"a-b"),
-    (b"[^a]", b"a"),
-    (b"[^a]", b""),
-    (b"[z-a]", b"m"),
-    (b"[z-a]", b"z"),
-    (b"usb:v[0-9A-F]*p??", b"usb:vGp12"),
-    (b"usb:v[0-9A-F]*p??", b"usb:v0p1"),
-    (b"[a-[:]", b"a"),
-    (b"[]-a]", b"b"),
-    (b"\\*", b"a"),
-    (b"", b"a"),
-    (
-        b"pci:v00008086d*sv*sd*bc03sc*i*",
-        b"pci:v00008086d00009D2Fsv00001028sd000006DEbc0Csc03i30",
-    ),
-];
+fn is_row(rt: &impl Abort, pattern: &str, text: &str, fact: bool) {
+    assert!(rt; fact, "{pattern} at {text}");
+}
 
 #[test]
-fn answers(rt: HostRuntime) -> Result<(), Fail> {
-    for (pattern, text) in MATCHES {
-        assert!(rt; is_match(&rt, pattern, text)?, "{pattern:?} at {text:?}");
+fn answers(rt: HostRuntime) {
+    for (pattern, text, wanted) in &ANSWERS {
+        let found = answer(rt.alloc(), pattern, text);
+        is_row(&rt, pattern, text, found == *wanted);
     }
-    for (pattern, text) in MISSES {
-        assert!(rt; !is_match(&rt, pattern, text)?, "{pattern:?} at {text:?}");
+}
+
+fn repeated(alloc: Global, word: &[u8], count: usize) -> Result<Vec<u8>, AllocError> {
+    let mut text = Vec::new(alloc);
+    for _ in 0..count {
+        text.extend_from_slice(word)?;
     }
-    Ok(())
+    Ok(text)
 }
 
 #[test]
 fn many_runs_end_at_once(rt: HostRuntime) -> Result<(), Fail> {
-    let mut pattern = Vec::new(rt.alloc());
-    for _ in 0..1000 {
-        pattern.extend_from_slice(b"*a")?;
-    }
-    let mut text = Vec::new(rt.alloc());
-    for _ in 0..4000 {
-        text.push(b'a')?;
-    }
+    let pattern = Pattern::read(rt.alloc(), &repeated(rt.alloc(), b"*a", 1000)?)?;
+    let mut text = repeated(rt.alloc(), b"a", 4000)?;
     text.push(b'b')?;
-    assert!(rt; !is_match(&rt, pattern.as_slice(), text.as_slice())?);
+    assert!(rt; !pattern.matches(&text));
     Ok(())
+}
+
+const ALIASES: &[u8] =
+    b"# alias a b\n\nalias usb:v[0-9A-F]*p?? usbx\r\nalias x\nalias [ y\n\talias snd-* snd-pcm more\noptions q r";
+
+/// A text, and the targets of the aliases that match it, one a line.
+const TARGETS: [(&str, &[u8]); 2] = [("usb:v0Ap12", b"usbx\n"), ("snd_hda", b"snd_pcm\n")];
+
+fn targets_text(alloc: Global, aliases: &Aliases, name: &[u8]) -> Result<Vec<u8>, AllocError> {
+    let mut text = Vec::new(alloc);
+    for i in 0..aliases.len() {
+        if aliases.pattern(i).matches(name) {
+            text.extend_from_slice(aliases.target(i).as_bytes())?;
+            text.push(b'\n')?;
+        }
+    }
+    Ok(text)
+}
+
+#[test]
+fn targets_of_aliases(rt: HostRuntime) -> Result<(), Fail> {
+    let aliases = read_aliases(rt.alloc(), ALIASES)?;
+    for (name, wanted) in &TARGETS {
+        let answer = targets_text(rt.alloc(), &aliases, name.as_bytes())?;
+        is_answer(&rt, name, &answer, wanted);
+    }
+    Ok(())
+}
+
+/// There are two aliases, and the lines 4, 5 and 7 are none.
+fn has_two_aliases(aliases: &Aliases) -> bool {
+    aliases.len() == 2 && aliases.skipped() == [4, 5, 7].as_slice()
 }
 
 #[test]
 fn lines_of_aliases(rt: HostRuntime) -> Result<(), Fail> {
-    let text =
-        b"# alias a b\n\nalias usb:v[0-9A-F]*p?? usbx\r\nalias x\nalias [ y\n\talias snd-* snd-pcm more\noptions q r";
-    let aliases = read_aliases(rt.alloc(), text)?;
-    assert_eq!(rt; aliases.len(), 2);
-    assert!(rt; aliases.pattern(0).matches(b"usb:v0Ap12"));
-    assert_eq!(rt; aliases.target(0).as_bytes(), b"usbx".as_slice());
-    assert!(rt; aliases.pattern(1).matches(b"snd_hda"));
-    assert_eq!(rt; aliases.target(1).as_bytes(), b"snd_pcm".as_slice());
-    assert_eq!(rt; aliases.skipped(), [4, 5, 7].as_slice());
+    let aliases = read_aliases(rt.alloc(), ALIASES)?;
+    assert!(rt; has_two_aliases(&aliases));
+    Ok(())
+}
+
+/// How many aliases a text has, and how many lines that are none.
+fn counts(alloc: Global, text: &[u8]) -> Result<(usize, usize), AllocError> {
+    let aliases = read_aliases(alloc, text)?;
+    Ok((aliases.len(), aliases.skipped().len()))
+}
+
+#[test]
+fn each_prefix_of_an_alias(rt: HostRuntime) -> Result<(), Fail> {
+    let text = b"alias usb:v[0-9A-F]*p?? usbx".as_slice();
+    for end in 0..=text.len() {
+        let wanted = match end {
+            0 => (0, 0),
+            1..=24 => (0, 1),
+            _ => (1, 0),
+        };
+        let found = counts(rt.alloc(), &text[..end])?;
+        holds_at(&rt, end, found == wanted);
+    }
     Ok(())
 }
 
 #[test]
-fn each_prefix(rt: HostRuntime) -> Result<(), Fail> {
-    let text = b"alias usb:v[0-9A-F]*p?? usbx".as_slice();
-    for end in 0..=text.len() {
-        let aliases = read_aliases(rt.alloc(), &text[..end])?;
-        let is_whole = 24 < end;
-        assert_eq!(rt; aliases.len(), if is_whole { 1 } else { 0 }, "at {end}");
-        assert_eq!(rt;
-            aliases.skipped().len(),
-            if is_whole || end == 0 { 0 } else { 1 },
-            "at {end}"
-        );
-    }
+fn each_prefix_of_a_pattern(rt: HostRuntime) {
     let pattern = b"x[[:a\\-z]*?\\".as_slice();
     for end in 0..=pattern.len() {
-        let answer = Pattern::read(rt.alloc(), &pattern[..end]).map(|_| ());
         let wanted = match end {
-            0 | 1 => Ok(()),
-            2 | 3 => Err(PatternError::Unclosed),
-            _ => Err(PatternError::Class),
+            0 | 1 => None,
+            2 | 3 => Some(PatternError::Unclosed),
+            _ => Some(PatternError::Class),
         };
-        assert_eq!(rt; answer, wanted, "at {end}");
+        let found = Pattern::read(rt.alloc(), &pattern[..end]).err();
+        holds_at(&rt, end, found == wanted);
     }
-    Ok(())
 }

@@ -1,60 +1,49 @@
 //! Long chains of hard dependencies.
 
-use super::{Texts, read};
-use crate::texts::push_line;
-use load_plan::plan;
+use super::is_answered;
+use crate::texts::{push_line, push_number};
 use std::alloc::{AllocError, Global};
 use std::process::Abort;
 use std::test::Fail;
 
-/// A chain in which each module but the last needs the symbol of the next.
-fn chain(alloc: Global, head: &[u8], count: usize) -> Result<Vec<u8>, AllocError> {
-    let mut text = Vec::from_slice(alloc, head)?;
+/// Adds the catalogue of a chain in which each module but the last needs the symbol of the next.
+fn push_chain(alloc: Global, row: &mut Vec<u8>, count: usize) -> Result<(), AllocError> {
     for i in 0..count {
-        push_line(alloc, &mut text, b"module m", i)?;
-        push_line(alloc, &mut text, b"exports s", i)?;
+        push_line(alloc, row, b"C module m", i)?;
+        push_line(alloc, row, b"C exports s", i)?;
         if i + 1 < count {
-            push_line(alloc, &mut text, b"needs s", i + 1)?;
+            push_line(alloc, row, b"C needs s", i + 1)?;
         }
     }
-    Ok(text)
+    Ok(())
 }
 
-/// The plan of the first module has each module of the chain, the last first, all hard.
-fn is_whole<R: Abort + AllocGlobal>(rt: &R, head: &[u8], count: usize) -> Result<(), Fail> {
-    let text = chain(rt.alloc(), head, count)?;
-    let texts = Texts {
-        catalogue: &text,
-        dependencies: b"",
-        configuration: b"",
-    };
-    let sources = read(rt, texts)?;
-    let made = plan(
-        rt.alloc(),
-        b"m0",
-        &[],
-        &sources.catalogue,
-        &sources.dependencies,
-        &sources.configuration,
-    );
-    let Ok(items) = made else {
-        return Err("no plan".into());
-    };
-    let mut left = count;
-    for item in &items {
-        let Some(slot) = left.checked_sub(1) else {
-            return Err("too many items".into());
-        };
-        assert_eq!(rt; item.slot, slot);
-        assert!(rt; !item.soft);
-        left = slot;
+/// Adds each module of the chain as an answer, the last first, all hard.
+fn push_answer(alloc: Global, row: &mut Vec<u8>, count: usize) -> Result<(), AllocError> {
+    for i in 0..count {
+        row.extend_from_slice(b"> m")?;
+        push_number(alloc, row, count - 1 - i)?;
+        row.extend_from_slice(b" hard\n")?;
     }
-    assert_eq!(rt; left, 0);
     Ok(())
+}
+
+/// The plan of the first module of a chain is the whole chain.
+fn chain_row(alloc: Global, head: &[u8], count: usize) -> Result<Vec<u8>, AllocError> {
+    let mut row = Vec::from_slice(alloc, head)?;
+    push_chain(alloc, &mut row, count)?;
+    row.extend_from_slice(b"? plan m0\n")?;
+    push_answer(alloc, &mut row, count)?;
+    Ok(row)
+}
+
+fn is_whole(rt: &impl Abort, alloc: Global, head: &str, count: usize) -> Result<(), Fail> {
+    let row = chain_row(alloc, head.as_bytes(), count)?;
+    is_answered(rt, alloc, head, &row)
 }
 
 #[test]
 fn as_many_modules_as_a_catalogue_has(rt: HostRuntime) -> Result<(), Fail> {
-    is_whole(&rt, b"", 256)?;
-    is_whole(&rt, b"version 2\n", 1024)
+    is_whole(&rt, rt.alloc(), "", 256)?;
+    is_whole(&rt, rt.alloc(), "C version 2\n", 1024)
 }

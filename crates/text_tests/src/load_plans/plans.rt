@@ -1,107 +1,200 @@
 //! Plans: hard dependencies, install lines, options.
 
-use super::{CIRCLE, LEVELS, SOUND, Texts, has_plan, has_plan_with};
-use std::test::Fail;
-
-#[test]
-fn install_lines_and_options(rt: HostRuntime) -> Result<(), Fail> {
-    has_plan(&rt, LEVELS, b"x", b"install x\n")?;
-    has_plan(&rt, LEVELS, b"y", b"y hard debug=1 level=3\n")?;
-    has_plan(&rt, LEVELS, b"z", b"y soft debug=1 level=3\nz hard\n")?;
-    has_plan(&rt, LEVELS, b"no-such", b"unknown no_such\n")
-}
-
-#[test]
-fn the_words_of_the_command_come_last(rt: HostRuntime) -> Result<(), Fail> {
-    let words: [&[u8]; 1] = [b"level=4"];
-    has_plan_with(
-        &rt,
-        LEVELS,
-        b"y",
-        &words,
-        b"y hard debug=1 level=3 level=4\n",
-    )?;
-    has_plan_with(
-        &rt,
-        LEVELS,
-        b"z",
-        &words,
-        b"y soft debug=1 level=3\nz hard level=4\n",
-    )
-}
-
-#[test]
-fn a_dependency_stands_first_with_its_own_options(rt: HostRuntime) -> Result<(), Fail> {
-    let texts = Texts {
-        configuration: b"options snd index=2\noptions snd-pcm debug\n",
-        ..SOUND
-    };
-    let words: [&[u8]; 1] = [b"debug=0"];
-    has_plan_with(
-        &rt,
-        texts,
-        b"snd-pcm",
-        &words,
-        b"snd hard index=2\nsnd_pcm hard debug debug=0\n",
-    )
-}
-
-#[test]
-fn a_line_of_modules_dep_stands_in_for_needs(rt: HostRuntime) -> Result<(), Fail> {
-    let texts = Texts {
-        dependencies: b"kernel/sound/snd-pcm.ko.gz:\n",
-        ..SOUND
-    };
-    has_plan(&rt, texts, b"snd_pcm", b"snd_pcm hard\n")
-}
-
-/// Four modules, of which two need a third, and the first needs both.
-const SHARED: Texts = Texts {
-    catalogue: b"module a\nmodule b\nmodule c\nmodule d\n",
-    dependencies: b"a.ko: b.ko c.ko b.ko\nb.ko: d.ko\nc.ko: d.ko\n",
-    configuration: b"",
-};
-
-#[test]
-fn a_shared_dependency_stands_once(rt: HostRuntime) -> Result<(), Fail> {
-    has_plan(&rt, SHARED, b"a", b"d hard\nb hard\nc hard\na hard\n")
-}
-
-#[test]
-fn an_install_line_of_a_dependency_refuses(rt: HostRuntime) -> Result<(), Fail> {
-    let texts = Texts {
-        configuration: b"install d /bin/true\ninstall c /bin/true\n",
-        ..SHARED
-    };
-    has_plan(&rt, texts, b"a", b"install d\n")
-}
-
-#[test]
-fn a_missing_module_comes_before_its_install_line(rt: HostRuntime) -> Result<(), Fail> {
-    let texts = Texts {
-        catalogue: b"module a\n",
-        dependencies: b"a.ko: gone-1.ko\n",
-        configuration: b"install gone_1 /bin/true\n",
-    };
-    has_plan(&rt, texts, b"a", b"unknown gone_1\n")?;
-    has_plan(&rt, texts, b"gone-1", b"unknown gone_1\n")
-}
-
-#[test]
-fn a_softdep_line_without_marks_lifts_an_install_line(rt: HostRuntime) -> Result<(), Fail> {
-    let texts = Texts {
-        configuration: b"install d /bin/true\nsoftdep d c\n",
-        ..SHARED
-    };
-    has_plan(&rt, texts, b"d", b"d hard\n")
-}
-
-#[test]
-fn hard_dependencies_in_a_circle(rt: HostRuntime) -> Result<(), Fail> {
-    has_plan(&rt, CIRCLE, b"a", b"cycle a\n")?;
-    let by_symbols = Texts {
-        dependencies: b"",
-        ..CIRCLE
-    };
-    has_plan(&rt, by_symbols, b"b", b"cycle b\n")
-}
+pub(super) const ROWS: [&str; 15] = [
+    "# an install line refuses
+C module x
+C module y
+C param debug bool
+C param level int
+C module z
+C module w
+M options y debug=1 \\
+M  level=3
+M install x /bin/true
+M softdep z pre: y
+M install z /bin/true
+M blacklist w \\
+? plan x
+> install x
+",
+    "# a module is loaded with the words of its options line
+C module x
+C module y
+C param debug bool
+C param level int
+C module z
+C module w
+M options y debug=1 \\
+M  level=3
+M install x /bin/true
+M softdep z pre: y
+M install z /bin/true
+M blacklist w \\
+? plan y
+> y hard debug=1 level=3
+",
+    "# a softdep line lifts an install line, and its item has options of its own
+C module x
+C module y
+C param debug bool
+C param level int
+C module z
+C module w
+M options y debug=1 \\
+M  level=3
+M install x /bin/true
+M softdep z pre: y
+M install z /bin/true
+M blacklist w \\
+? plan z
+> y soft debug=1 level=3
+> z hard
+",
+    "# a name that no module has is told in normal form
+C module x
+C module y
+C param debug bool
+C param level int
+C module z
+C module w
+M options y debug=1 \\
+M  level=3
+M install x /bin/true
+M softdep z pre: y
+M install z /bin/true
+M blacklist w \\
+? plan no-such
+> unknown no_such
+",
+    "# the words of the command come last
+C module x
+C module y
+C param debug bool
+C param level int
+C module z
+C module w
+M options y debug=1 \\
+M  level=3
+M install x /bin/true
+M softdep z pre: y
+M install z /bin/true
+M blacklist w \\
+? plan y level=4
+> y hard debug=1 level=3 level=4
+",
+    "# the words of the command are those of the module itself
+C module x
+C module y
+C param debug bool
+C param level int
+C module z
+C module w
+M options y debug=1 \\
+M  level=3
+M install x /bin/true
+M softdep z pre: y
+M install z /bin/true
+M blacklist w \\
+? plan z level=4
+> y soft debug=1 level=3
+> z hard level=4
+",
+    "# a dependency stands first, with its own options
+C module snd
+C exports snd_card_new
+C module snd-pcm
+C needs snd_card_new
+C param debug bool
+M options snd index=2
+M options snd-pcm debug
+? plan snd-pcm debug=0
+> snd hard index=2
+> snd_pcm hard debug debug=0
+",
+    "# a line of modules.dep stands in for needs
+C module snd
+C exports snd_card_new
+C module snd-pcm
+C needs snd_card_new
+C param debug bool
+D kernel/sound/snd-pcm.ko.gz:
+? plan snd_pcm
+> snd_pcm hard
+",
+    "# a shared dependency stands once
+C module a
+C module b
+C module c
+C module d
+D a.ko: b.ko c.ko b.ko
+D b.ko: d.ko
+D c.ko: d.ko
+? plan a
+> d hard
+> b hard
+> c hard
+> a hard
+",
+    "# an install line of a dependency refuses
+C module a
+C module b
+C module c
+C module d
+D a.ko: b.ko c.ko b.ko
+D b.ko: d.ko
+D c.ko: d.ko
+M install d /bin/true
+M install c /bin/true
+? plan a
+> install d
+",
+    "# a missing dependency comes before its install line
+C module a
+D a.ko: gone-1.ko
+M install gone_1 /bin/true
+? plan a
+> unknown gone_1
+",
+    "# a missing module comes before its install line
+C module a
+D a.ko: gone-1.ko
+M install gone_1 /bin/true
+? plan gone-1
+> unknown gone_1
+",
+    "# a softdep line without marks lifts an install line
+C module a
+C module b
+C module c
+C module d
+D a.ko: b.ko c.ko b.ko
+D b.ko: d.ko
+D c.ko: d.ko
+M install d /bin/true
+M softdep d c
+? plan d
+> d hard
+",
+    "# hard dependencies in a circle by modules.dep
+C module a
+C exports fa
+C needs fb
+C module b
+C exports fb
+C needs fa
+D kernel/a.ko: kernel/b.ko
+D kernel/b.ko.xz: kernel/a.ko
+? plan a
+> cycle a
+",
+    "# hard dependencies in a circle by symbols
+C module a
+C exports fa
+C needs fb
+C module b
+C exports fb
+C needs fa
+? plan b
+> cycle b
+",
+];

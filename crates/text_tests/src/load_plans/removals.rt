@@ -1,54 +1,114 @@
 //! Removal plans.
 
-use super::{CIRCLE, SOUND, Texts, has_removal_plan};
-use std::test::Fail;
-
-#[test]
-fn a_user_comes_before_its_dependencies(rt: HostRuntime) -> Result<(), Fail> {
-    has_removal_plan(&rt, SOUND, b"snd-pcm", b"snd_pcm\nsnd\n")?;
-    has_removal_plan(&rt, SOUND, b"snd", b"snd\n")
-}
-
-#[test]
-fn remove_lines(rt: HostRuntime) -> Result<(), Fail> {
-    let texts = Texts {
-        configuration: b"remove snd /bin/true\nremove gone x\n",
-        ..SOUND
-    };
-    has_removal_plan(&rt, texts, b"snd", b"remove snd\n")?;
-    has_removal_plan(&rt, texts, b"snd-pcm", b"snd_pcm\nsnd\n")?;
-    has_removal_plan(&rt, texts, b"gone", b"remove gone\n")?;
-    has_removal_plan(&rt, texts, b"no-such", b"unknown no_such\n")
-}
-
-#[test]
-fn a_softdep_line_lifts_a_remove_line(rt: HostRuntime) -> Result<(), Fail> {
-    let texts = Texts {
-        configuration: b"remove snd /bin/true\nsoftdep snd x\n",
-        ..SOUND
-    };
-    has_removal_plan(&rt, texts, b"snd", b"snd\n")
-}
-
-#[test]
-fn install_lines_have_no_part(rt: HostRuntime) -> Result<(), Fail> {
-    let texts = Texts {
-        configuration: b"install snd /bin/true\ninstall snd-pcm /bin/true\n",
-        ..SOUND
-    };
-    has_removal_plan(&rt, texts, b"snd-pcm", b"snd_pcm\nsnd\n")
-}
-
-#[test]
-fn soft_items_have_no_part(rt: HostRuntime) -> Result<(), Fail> {
-    let texts = Texts {
-        configuration: b"softdep snd-pcm pre: x post: snd y\n",
-        ..SOUND
-    };
-    has_removal_plan(&rt, texts, b"snd-pcm", b"snd_pcm\nsnd\n")
-}
-
-#[test]
-fn a_circle_has_no_removal_plan(rt: HostRuntime) -> Result<(), Fail> {
-    has_removal_plan(&rt, CIRCLE, b"b", b"cycle b\n")
-}
+pub(super) const ROWS: [&str; 10] = [
+    "# a user comes before its dependencies
+C module snd
+C exports snd_card_new
+C module snd-pcm
+C needs snd_card_new
+C param debug bool
+? removal snd-pcm
+> snd_pcm
+> snd
+",
+    "# a removal takes no users
+C module snd
+C exports snd_card_new
+C module snd-pcm
+C needs snd_card_new
+C param debug bool
+? removal snd
+> snd
+",
+    "# a remove line refuses
+C module snd
+C exports snd_card_new
+C module snd-pcm
+C needs snd_card_new
+C param debug bool
+M remove snd /bin/true
+M remove gone x
+? removal snd
+> remove snd
+",
+    "# a remove line of a dependency has no part
+C module snd
+C exports snd_card_new
+C module snd-pcm
+C needs snd_card_new
+C param debug bool
+M remove snd /bin/true
+M remove gone x
+? removal snd-pcm
+> snd_pcm
+> snd
+",
+    "# a remove line of a missing module refuses
+C module snd
+C exports snd_card_new
+C module snd-pcm
+C needs snd_card_new
+C param debug bool
+M remove snd /bin/true
+M remove gone x
+? removal gone
+> remove gone
+",
+    "# a name that no module has is told in normal form
+C module snd
+C exports snd_card_new
+C module snd-pcm
+C needs snd_card_new
+C param debug bool
+M remove snd /bin/true
+M remove gone x
+? removal no-such
+> unknown no_such
+",
+    "# a softdep line lifts a remove line
+C module snd
+C exports snd_card_new
+C module snd-pcm
+C needs snd_card_new
+C param debug bool
+M remove snd /bin/true
+M softdep snd x
+? removal snd
+> snd
+",
+    "# install lines have no part
+C module snd
+C exports snd_card_new
+C module snd-pcm
+C needs snd_card_new
+C param debug bool
+M install snd /bin/true
+M install snd-pcm /bin/true
+? removal snd-pcm
+> snd_pcm
+> snd
+",
+    "# soft items have no part
+C module snd
+C exports snd_card_new
+C module snd-pcm
+C needs snd_card_new
+C param debug bool
+M softdep snd-pcm pre: x post: snd y
+? removal snd-pcm
+> snd_pcm
+> snd
+",
+    "# a circle has no removal plan
+C module a
+C exports fa
+C needs fb
+C module b
+C exports fb
+C needs fa
+D kernel/a.ko: kernel/b.ko
+D kernel/b.ko.xz: kernel/a.ko
+? removal b
+> cycle b
+",
+];

@@ -1,130 +1,162 @@
 //! Soft items: which are taken, where they stand, and how they are marked.
 
-use super::{SOFTNEEDS, Texts, has_plan};
-use std::test::Fail;
-
-#[test]
-fn soft_items_stand_before_and_after(rt: HostRuntime) -> Result<(), Fail> {
-    let texts = Texts {
-        catalogue: b"module a\nmodule c\nmodule d\nmodule e\n",
-        dependencies: b"",
-        configuration: b"softdep c pre: a b post: d e\noptions c debug=1\n",
-    };
-    has_plan(
-        &rt,
-        texts,
-        b"c",
-        b"a soft\nc hard debug=1\nd soft\ne soft\n",
-    )
-}
-
-#[test]
-fn two_that_name_each_other(rt: HostRuntime) -> Result<(), Fail> {
-    let before = Texts {
-        catalogue: b"module a\nmodule b\n",
-        dependencies: b"",
-        configuration: b"softdep a pre: b\nsoftdep b pre: a\n",
-    };
-    has_plan(&rt, before, b"a", b"b soft\na hard\n")?;
-    let after = Texts {
-        configuration: b"softdep a post: b\nsoftdep b post: a\n",
-        ..before
-    };
-    has_plan(&rt, after, b"a", b"a hard\nb soft\n")
-}
-
-#[test]
-fn the_first_softdep_line_counts(rt: HostRuntime) -> Result<(), Fail> {
-    let texts = Texts {
-        catalogue: b"module a\nmodule b\nmodule c\n",
-        dependencies: b"",
-        configuration: b"softdep a pre: b\nsoftdep a pre: c post: c\n",
-    };
-    has_plan(&rt, texts, b"a", b"b soft\na hard\n")
-}
-
-/// A module with a soft item that needs a third module.
-const ITEM: Texts = Texts {
-    catalogue: b"module a\nmodule b\nmodule c\n",
-    dependencies: b"b.ko: c.ko\n",
-    configuration: b"softdep a pre: b\n",
-};
-
-#[test]
-fn a_soft_item_brings_its_dependencies(rt: HostRuntime) -> Result<(), Fail> {
-    has_plan(&rt, ITEM, b"a", b"c soft\nb soft\na hard\n")
-}
-
-#[test]
-fn a_soft_item_over_an_install_line_is_passed_over(rt: HostRuntime) -> Result<(), Fail> {
-    let texts = Texts {
-        configuration: b"softdep a pre: b c\ninstall c /bin/true\n",
-        ..ITEM
-    };
-    has_plan(&rt, texts, b"a", b"a hard\n")
-}
-
-#[test]
-fn a_soft_item_over_a_missing_module_is_passed_over(rt: HostRuntime) -> Result<(), Fail> {
-    let texts = Texts {
-        dependencies: b"b.ko: gone.ko\n",
-        ..ITEM
-    };
-    has_plan(&rt, texts, b"a", b"a hard\n")
-}
-
-#[test]
-fn a_soft_item_in_a_circle_is_passed_over(rt: HostRuntime) -> Result<(), Fail> {
-    let texts = Texts {
-        dependencies: b"b.ko: c.ko\nc.ko: b.ko\n",
-        ..ITEM
-    };
-    has_plan(&rt, texts, b"a", b"a hard\n")
-}
-
-#[test]
-fn a_soft_item_that_needs_its_user_comes_after_it_or_not(rt: HostRuntime) -> Result<(), Fail> {
-    let before = Texts {
-        dependencies: b"b.ko: a.ko\n",
-        ..ITEM
-    };
-    has_plan(&rt, before, b"a", b"a hard\n")?;
-    let after = Texts {
-        configuration: b"softdep a post: b\n",
-        ..before
-    };
-    has_plan(&rt, after, b"a", b"a hard\nb soft\n")
-}
-
-#[test]
-fn what_is_reached_hard_too_is_hard(rt: HostRuntime) -> Result<(), Fail> {
-    let texts = Texts {
-        dependencies: b"a.ko: b.ko\nb.ko: c.ko\n",
-        ..ITEM
-    };
-    has_plan(&rt, texts, b"a", b"c hard\nb hard\na hard\n")
-}
-
-#[test]
-fn softneeds_stand_in_for_a_softdep_line(rt: HostRuntime) -> Result<(), Fail> {
-    has_plan(&rt, SOFTNEEDS, b"c", b"d soft\na soft\nc hard\n")?;
-    let told = Texts {
-        configuration: b"softdep c post: d\n",
-        ..SOFTNEEDS
-    };
-    has_plan(&rt, told, b"c", b"c hard\nd soft\n")?;
-    let without_marks = Texts {
-        configuration: b"softdep c d\n",
-        ..SOFTNEEDS
-    };
-    has_plan(&rt, without_marks, b"c", b"c hard\n")
-}
-
-#[test]
-fn softneeds_lift_no_install_line(rt: HostRuntime) -> Result<(), Fail> {
-    let texts = Texts {
-        configuration: b"install c /bin/true\n",
-        ..SOFTNEEDS
-    };
-    has_plan(&rt, texts, b"c", b"install c\n")
-}
+pub(super) const ROWS: [&str; 15] = [
+    "# soft items stand before and after their module
+C module a
+C module c
+C module d
+C module e
+M softdep c pre: a b post: d e
+M options c debug=1
+? plan c
+> a soft
+> c hard debug=1
+> d soft
+> e soft
+",
+    "# two name each other as pre items
+C module a
+C module b
+M softdep a pre: b
+M softdep b pre: a
+? plan a
+> b soft
+> a hard
+",
+    "# two name each other as post items
+C module a
+C module b
+M softdep a post: b
+M softdep b post: a
+? plan a
+> a hard
+> b soft
+",
+    "# the first softdep line counts
+C module a
+C module b
+C module c
+M softdep a pre: b
+M softdep a pre: c post: c
+? plan a
+> b soft
+> a hard
+",
+    "# a soft item brings its dependencies
+C module a
+C module b
+C module c
+D b.ko: c.ko
+M softdep a pre: b
+? plan a
+> c soft
+> b soft
+> a hard
+",
+    "# a soft item over an install line is passed over
+C module a
+C module b
+C module c
+D b.ko: c.ko
+M softdep a pre: b c
+M install c /bin/true
+? plan a
+> a hard
+",
+    "# a soft item over a missing module is passed over
+C module a
+C module b
+C module c
+D b.ko: gone.ko
+M softdep a pre: b
+? plan a
+> a hard
+",
+    "# a soft item in a circle is passed over
+C module a
+C module b
+C module c
+D b.ko: c.ko
+D c.ko: b.ko
+M softdep a pre: b
+? plan a
+> a hard
+",
+    "# a pre item that needs its user is passed over
+C module a
+C module b
+C module c
+D b.ko: a.ko
+M softdep a pre: b
+? plan a
+> a hard
+",
+    "# a post item that needs its user comes after it
+C module a
+C module b
+C module c
+D b.ko: a.ko
+M softdep a post: b
+? plan a
+> a hard
+> b soft
+",
+    "# what is reached hard too is hard
+C module a
+C module b
+C module c
+D a.ko: b.ko
+D b.ko: c.ko
+M softdep a pre: b
+? plan a
+> c hard
+> b hard
+> a hard
+",
+    "# softneeds are soft items, in turn
+C version 2
+C module a
+C softneeds d b
+C module c
+C softneeds a
+C module d
+? plan c
+> d soft
+> a soft
+> c hard
+",
+    "# a softdep line stands in for softneeds
+C version 2
+C module a
+C softneeds d b
+C module c
+C softneeds a
+C module d
+M softdep c post: d
+? plan c
+> c hard
+> d soft
+",
+    "# a softdep line without marks stands in for softneeds
+C version 2
+C module a
+C softneeds d b
+C module c
+C softneeds a
+C module d
+M softdep c d
+? plan c
+> c hard
+",
+    "# softneeds lift no install line
+C version 2
+C module a
+C softneeds d b
+C module c
+C softneeds a
+C module d
+M install c /bin/true
+? plan c
+> install c
+",
+];
