@@ -1,6 +1,6 @@
 //! Reading a catalogue of 1,024 modules with 10 exports and 10 needs each.
 
-use crate::figure::print_rate;
+use crate::figure::{print_figure, print_rate};
 use anyhow::{Result, bail};
 use dep_index::{Catalogue, read_catalogue};
 use std::alloc::{AllocError, Global};
@@ -22,36 +22,33 @@ pub(crate) fn catalogue_of(alloc: Global, text: &[u8]) -> Result<Catalogue> {
 }
 
 pub fn measure<R: Print + Clock + AllocGlobal>(rt: &R) -> Result<()> {
-    let alloc = rt.alloc();
-    let text = text(alloc)?;
+    let text = text(rt.alloc())?;
+    measure_text(rt, text.as_bytes())
+}
+
+fn measure_text<R: Print + Clock + AllocGlobal>(rt: &R, text: &[u8]) -> Result<()> {
+    let megabytes = (text.len() as u64).wrapping_mul(READS as u64) / 1_000_000;
     let start = Instant::now(rt)?;
+    let needs = read_often(rt.alloc(), text)?;
+    print_rate(rt, "read_catalogue", megabytes, start, "MB/s")?;
+    print_figure(rt, "catalogue_needs", needs as u128, "needs")
+}
+
+/// Reads the text again and again. How many needs there were in all.
+fn read_often(alloc: Global, text: &[u8]) -> Result<usize> {
     let mut needs: usize = 0;
     for _ in 0..READS {
-        needs = needs.wrapping_add(read(alloc, text.as_bytes())?);
+        needs = needs.wrapping_add(needs_of(&catalogue_of(alloc, text)?));
     }
-    let elapsed = start.elapsed(rt)?;
-    println!(rt; "catalogue_needs {needs} needs")?;
-    let bytes = (text.len() as u64).wrapping_mul(READS as u64);
-    print_rate(rt, "read_catalogue", bytes / 1_000_000, elapsed, "MB")
+    Ok(needs)
 }
 
-/// Adds the lines of a module: it exports ten symbols, and needs one of each of ten others.
-fn push_module(text: &mut String, m: usize) -> Result<(), AllocError> {
-    write!(text, "module module_{m}\nexports")?;
-    for k in 0..SYMBOLS {
-        push_symbol(text, m, k)?;
+fn needs_of(catalogue: &Catalogue) -> usize {
+    let mut needs: usize = 0;
+    for m in 0..catalogue.len() {
+        needs = needs.wrapping_add(catalogue.needs(m).len());
     }
-    text.push_str("\nneeds")?;
-    for k in 0..SYMBOLS {
-        push_symbol(text, (m % MODULES + 97 * k + 1) % MODULES, k)?;
-    }
-    text.push_str("\n")
-}
-
-fn push_symbol(text: &mut String, m: usize, k: usize) -> Result<(), AllocError> {
-    write!(text, " symbol_{m}")?;
-    write!(text, "_{k}")?;
-    Ok(())
+    needs
 }
 
 fn text(alloc: Global) -> Result<String, AllocError> {
@@ -62,12 +59,30 @@ fn text(alloc: Global) -> Result<String, AllocError> {
     Ok(text)
 }
 
-/// Reads the text. How many needs its modules have.
-fn read(alloc: Global, text: &[u8]) -> Result<usize> {
-    let catalogue = catalogue_of(alloc, text)?;
-    let mut needs: usize = 0;
-    for m in 0..catalogue.len() {
-        needs = needs.wrapping_add(catalogue.needs(m).len());
+/// Adds the lines of a module: it exports ten symbols, and needs one of each of ten others.
+fn push_module(text: &mut String, m: usize) -> Result<(), AllocError> {
+    write!(text, "module module_{m}\nexports")?;
+    push_exports(text, m)?;
+    text.push_str("\nneeds")?;
+    push_needs(text, m)?;
+    text.push_str("\n")
+}
+
+fn push_exports(text: &mut String, m: usize) -> Result<(), AllocError> {
+    for k in 0..SYMBOLS {
+        push_symbol(text, m, k)?;
     }
-    Ok(needs)
+    Ok(())
+}
+
+fn push_needs(text: &mut String, m: usize) -> Result<(), AllocError> {
+    for k in 0..SYMBOLS {
+        push_symbol(text, (m % MODULES + 97 * k + 1) % MODULES, k)?;
+    }
+    Ok(())
+}
+
+fn push_symbol(text: &mut String, m: usize, k: usize) -> Result<(), AllocError> {
+    write!(text, " symbol_{m}_{k}")?;
+    Ok(())
 }

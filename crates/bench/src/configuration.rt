@@ -16,19 +16,20 @@ const NAMES: [&[u8]; 4] = [b"driver_7", b"driver_777", b"driver_7777", b"driver_
 
 /// Adds a module's alias and its options, which go over two lines.
 fn push_options(text: &mut String, module: u32) -> Result<(), AllocError> {
-    write!(text, "alias pci:v0000{module:04X}d*sv*sd*bc*sc*i* ")?;
-    writeln!(text, "driver-{module}")?;
-    writeln!(text, "options driver-{module} debug=1 \\")?;
-    writeln!(text, " level=3 name=card{module}")?;
+    writeln!(
+        text,
+        "alias pci:v0000{module:04X}d*sv*sd*bc*sc*i* driver-{module}
+options driver-{module} debug=1 \\\n level=3 name=card{module}"
+    )?;
     Ok(())
 }
 
 /// Adds a module's softdep line, and a blacklist line of another.
 fn push_softdep(text: &mut String, module: u32) -> Result<(), AllocError> {
-    write!(text, "softdep driver-{module} pre: ")?;
-    write!(text, "first-{module} post: ")?;
-    writeln!(text, "last-{module}")?;
-    writeln!(text, "blacklist other-{module}")?;
+    writeln!(
+        text,
+        "softdep driver-{module} pre: first-{module} post: last-{module}\nblacklist other-{module}"
+    )?;
     Ok(())
 }
 
@@ -41,23 +42,31 @@ fn configuration_text(alloc: Global) -> Result<String, AllocError> {
     Ok(text)
 }
 
-/// Reads the text, and prints how many bytes it reads in a second.
-fn measure_read<R: Print + Clock + AllocGlobal>(rt: &R) -> Result<Conf> {
+pub fn measure<R: Print + Clock + AllocGlobal>(rt: &R) -> Result<()> {
     let text = configuration_text(rt.alloc())?;
-    let start = Instant::now(rt)?;
-    let conf = read_conf(rt.alloc(), text.as_bytes())?;
-    let elapsed = start.elapsed(rt)?;
-    print_rate(rt, "read_conf", text.len() as u64, elapsed, "bytes")?;
-    Ok(conf)
+    measure_text(rt, text.as_bytes())
 }
 
-pub fn measure<R: Print + Clock + AllocGlobal>(rt: &R) -> Result<()> {
-    let conf = measure_read(rt)?;
-    let mut words = 0u64;
+fn measure_text<R: Print + Clock + AllocGlobal>(rt: &R, text: &[u8]) -> Result<()> {
     let start = Instant::now(rt)?;
+    let conf = read_conf(rt.alloc(), text)?;
+    measure_conf(rt, text.len() as u64, start, &conf)
+}
+
+/// Prints how many bytes were read in a second since the start, and how long a look-up takes.
+fn measure_conf<R: Print + Clock>(rt: &R, bytes: u64, start: Instant, conf: &Conf) -> Result<()> {
+    print_rate(rt, "read_conf", bytes, start, "bytes/s")?;
+    let start = Instant::now(rt)?;
+    let words = look_up_often(conf);
+    print_time(rt, "options_of_a_name", words / 3, start)
+}
+
+/// How many words of options the look-ups found.
+fn look_up_often(conf: &Conf) -> u64 {
+    let mut words = 0u64;
     for turn in 0..LOOKUPS {
         let name = NAMES[turn as usize % NAMES.len()];
         words = words.wrapping_add(conf.options(name).len() as u64);
     }
-    print_time(rt, "options_of_a_name", words / 3, start.elapsed(rt)?)
+    words
 }

@@ -1,23 +1,41 @@
-use anyhow::Result;
-use std::time::Duration;
+//! How figures are printed.
 
-/// Prints one figure as `NAME VALUE UNIT`: so many units a second.
-pub fn print_rate<R: Print>(
-    rt: &R,
-    name: &str,
-    units: u64,
-    elapsed: Duration,
-    unit: &str,
-) -> Result<()> {
-    let nanos = elapsed.as_nanos().max(1);
-    let rate = units as u128 * 1_000_000_000 / nanos;
-    println!(rt; "{name} {rate} {unit}/s")?;
+use anyhow::Result;
+use std::rt::Clock;
+use std::time::Instant;
+
+/// Prints one figure as `NAME VALUE UNIT`.
+pub fn print_figure<R: Print>(rt: &R, name: &str, value: u128, unit: &str) -> Result<()> {
+    println!(rt; "{name} {value} {unit}")?;
     Ok(())
 }
 
-/// Prints one figure as `NAME VALUE ns`: how long one of so many takes.
-pub fn print_time<R: Print>(rt: &R, name: &str, count: u64, elapsed: Duration) -> Result<()> {
-    let each = elapsed.as_nanos() / (count.max(1) as u128);
-    println!(rt; "{name} {each} ns")?;
-    Ok(())
+/// Prints how many units there were in a second since the start.
+pub fn print_rate<R: Print + Clock>(
+    rt: &R,
+    name: &str,
+    units: u64,
+    start: Instant,
+    unit: &str,
+) -> Result<()> {
+    let nanos = start.elapsed(rt)?.as_nanos().max(1);
+    print_figure(rt, name, units as u128 * 1_000_000_000 / nanos, unit)
+}
+
+/// Prints how long each of so many took since the start.
+pub fn print_time<R: Print + Clock>(rt: &R, name: &str, count: u64, start: Instant) -> Result<()> {
+    let each = start.elapsed(rt)?.as_nanos() / (count.max(1) as u128);
+    print_figure(rt, name, each, "ns")
+}
+
+/// Prints how many pairs of a get and a put so many workers made in a second since the start.
+pub fn print_pairs<R: Print + Clock + AllocGlobal>(
+    rt: &R,
+    name: &str,
+    workers: usize,
+    pairs: u64,
+    start: Instant,
+) -> Result<()> {
+    let name = format!(in rt.alloc(); "{name}_{workers}")?;
+    print_rate(rt, name.as_str(), pairs, start, "pairs/s")
 }

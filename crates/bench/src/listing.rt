@@ -3,7 +3,7 @@ ghost use Rattle.std.specs.Prelude.{◌≡◌, IfOk};
 ghost use Rattle.dep_index.specs.Catalogue.{modules_of};
 
 use crate::catalogue::catalogue_of;
-use crate::figure::print_time;
+use crate::figure::{print_figure, print_time};
 use anyhow::Result;
 use dep_index::Catalogue;
 use proc_modules::{lsmod_text, proc_text};
@@ -16,74 +16,112 @@ const WORKERS: usize = 64;
 
 const LISTINGS: u64 = 200;
 
+/// How many modules are listed, and the names of the figures.
+struct Size {
+    modules: u32,
+    lines: &'static str,
+    columns: &'static str,
+    bytes: &'static str,
+}
+
+const SMALL: Size = Size {
+    modules: 256,
+    lines: "proc_text_256",
+    columns: "lsmod_text_256",
+    bytes: "proc_text_256_and_columns",
+};
+
+const MIDDLE: Size = Size {
+    modules: 512,
+    lines: "proc_text_512",
+    columns: "lsmod_text_512",
+    bytes: "proc_text_512_and_columns",
+};
+
+const LARGE: Size = Size {
+    modules: 1024,
+    lines: "proc_text_1024",
+    columns: "lsmod_text_1024",
+    bytes: "proc_text_1024_and_columns",
+};
+
 pub fn measure<R: Print + Clock + AllocGlobal>(rt: &R) -> Result<()> {
-    measure_of(rt, 256, "proc_text_256", "lsmod_text_256")?;
-    measure_of(rt, 512, "proc_text_512", "lsmod_text_512")?;
-    measure_of(rt, 1024, "proc_text_1024", "lsmod_text_1024")
+    measure_size(rt, &SMALL)?;
+    measure_size(rt, &MIDDLE)?;
+    measure_size(rt, &LARGE)
 }
 
-/// What is listed: /proc/modules, or the columns of lsmod.
-#[derive(Clone, Copy)]
-enum Listing {
-    Proc,
-    Lsmod,
+fn measure_size<R: Print + Clock + AllocGlobal>(rt: &R, size: &Size) -> Result<()> {
+    let catalogue = catalogue(rt.alloc(), size.modules)?;
+    measure_catalogue(rt, size, &catalogue)
 }
 
-fn listing_len(
-    alloc: Global,
-    listing: Listing,
+fn measure_catalogue<R: Print + Clock + AllocGlobal>(
+    rt: &R,
+    size: &Size,
+    catalogue: &Catalogue,
+) -> Result<()> {
+    let table = loaded(rt.alloc(), catalogue)?;
+    measure_table(rt, size, catalogue, &table)
+}
+
+/// Prints how long each of the listings takes, and how many bytes both have.
+fn measure_table<R: Print + Clock + AllocGlobal>(
+    rt: &R,
+    size: &Size,
     catalogue: &Catalogue,
     table: &Table,
-) -> Result<usize, AllocError>
+) -> Result<()>
     requires { table.now.catalogue ≡ modules_of catalogue.now }
 {
-    let text = match listing {
-        Listing::Proc => proc_text(alloc, catalogue, table)?,
-        Listing::Lsmod => lsmod_text(alloc, catalogue, table)?,
-    };
-    Ok(text.len())
+    let start = Instant::now(rt)?;
+    let in_lines = proc_often(rt.alloc(), catalogue, table)?;
+    print_time(rt, size.lines, LISTINGS, start)?;
+    let start = Instant::now(rt)?;
+    let in_columns = lsmod_often(rt.alloc(), catalogue, table)?;
+    print_time(rt, size.columns, LISTINGS, start)?;
+    print_figure(
+        rt,
+        size.bytes,
+        in_lines as u128 + in_columns as u128,
+        "bytes",
+    )
 }
 
-/// Prints how long a listing takes, and answers how many bytes all have.
-fn measure_listing<R: Print + Clock + AllocGlobal>(
-    rt: &R,
-    name: &str,
-    listing: Listing,
-    catalogue: &Catalogue,
-    table: &Table,
-) -> Result<u64>
+/// How many bytes all listings as of /proc/modules have.
+fn proc_often(alloc: Global, catalogue: &Catalogue, table: &Table) -> Result<u64, AllocError>
     requires { table.now.catalogue ≡ modules_of catalogue.now }
 {
     let mut bytes = 0u64;
-    let start = Instant::now(rt)?;
     for _ in 0..LISTINGS {
-        bytes = bytes.wrapping_add(listing_len(rt.alloc(), listing, catalogue, table)? as u64);
+        bytes = bytes.wrapping_add(proc_text(alloc, catalogue, table)?.len() as u64);
     }
-    print_time(rt, name, LISTINGS, start.elapsed(rt)?)?;
     Ok(bytes)
 }
 
-fn measure_of<R: Print + Clock + AllocGlobal>(
-    rt: &R,
-    modules: u32,
-    lines: &str,
-    columns: &str,
-) -> Result<()> {
-    let text = catalogue_text(rt.alloc(), modules)?;
-    let catalogue = catalogue_of(rt.alloc(), text.as_bytes())?;
-    let table = loaded(rt.alloc(), &catalogue)?;
-    let in_lines = measure_listing(rt, lines, Listing::Proc, &catalogue, &table)?;
-    let in_columns = measure_listing(rt, columns, Listing::Lsmod, &catalogue, &table)?;
-    let bytes = in_lines.wrapping_add(in_columns);
-    println!(rt; "{lines}_and_columns {bytes} bytes")?;
-    Ok(())
+/// How many bytes all listings as of lsmod have.
+fn lsmod_often(alloc: Global, catalogue: &Catalogue, table: &Table) -> Result<u64, AllocError>
+    requires { table.now.catalogue ≡ modules_of catalogue.now }
+{
+    let mut bytes = 0u64;
+    for _ in 0..LISTINGS {
+        bytes = bytes.wrapping_add(lsmod_text(alloc, catalogue, table)?.len() as u64);
+    }
+    Ok(bytes)
+}
+
+fn catalogue(alloc: Global, modules: u32) -> Result<Catalogue> {
+    let text = catalogue_text(alloc, modules)?;
+    catalogue_of(alloc, text.as_bytes())
 }
 
 /// Adds the lines of a module, which needs the four before it.
 fn push_module(text: &mut String, m: u32) -> Result<(), AllocError> {
-    writeln!(text, "module driver-{m}")?;
-    writeln!(text, "size {m}8192")?;
-    writeln!(text, "exports symbol_{m}")?;
+    writeln!(text, "module driver-{m}\nsize {m}8192\nexports symbol_{m}")?;
+    push_needs(text, m)
+}
+
+fn push_needs(text: &mut String, m: u32) -> Result<(), AllocError> {
     for need in m.saturating_sub(4)..m {
         writeln!(text, "needs symbol_{need}")?;
     }

@@ -1,6 +1,6 @@
 //! Steps of the machine: 8 threads that get, put, query, remove and load over 64 modules.
 
-use crate::figure::print_rate;
+use crate::figure::{print_figure, print_rate};
 use anyhow::{Result, bail};
 use dep_index::Slots;
 use std::alloc::{AllocError, Global};
@@ -15,14 +15,17 @@ const MODULES: usize = 64;
 const STEPS: usize = 10_000_000;
 
 pub fn measure<R: Print + Clock + AllocGlobal>(rt: &R) -> Result<()> {
-    let alloc = rt.alloc();
-    let mut machine = Machine::over(alloc, modules(alloc)?, THREADS, THREADS, STEPS)?;
-    load(&mut machine)?;
+    let slots = modules(rt.alloc())?;
+    let mut machine = Machine::over(rt.alloc(), slots, THREADS, THREADS, STEPS)?;
+    measure_machine(rt, &mut machine)
+}
+
+fn measure_machine<R: Print + Clock>(rt: &R, machine: &mut Machine) -> Result<()> {
+    load(machine)?;
     let start = Instant::now(rt)?;
-    let points = run(&mut machine)?;
-    let elapsed = start.elapsed(rt)?;
-    println!(rt; "machine_points {points} points")?;
-    print_rate(rt, "machine_steps", STEPS as u64, elapsed, "steps")
+    let points = run(machine)?;
+    print_rate(rt, "machine_steps", STEPS as u64, start, "steps/s")?;
+    print_figure(rt, "machine_points", points as u128, "points")
 }
 
 fn modules(alloc: Global) -> Result<Slots, AllocError> {
@@ -36,12 +39,17 @@ fn modules(alloc: Global) -> Result<Slots, AllocError> {
 /// Makes all modules live.
 fn load(machine: &mut Machine) -> Result<()> {
     for module in 0..MODULES {
-        for call in [Call::BeginLoad(module), Call::EndLoad(module, true)] {
-            step(machine, Step::Invoke(0, call))?;
-            for _ in 0..4 {
-                step(machine, Step::Go(0))?;
-            }
-        }
+        make(machine, Call::BeginLoad(module))?;
+        make(machine, Call::EndLoad(module, true))?;
+    }
+    Ok(())
+}
+
+/// Makes a whole call of thread 0.
+fn make(machine: &mut Machine, call: Call) -> Result<()> {
+    step(machine, Step::Invoke(0, call))?;
+    for _ in 0..4 {
+        step(machine, Step::Go(0))?;
     }
     Ok(())
 }

@@ -7,6 +7,7 @@ mod configuration;
 mod figure;
 mod leaves;
 mod listing;
+mod load;
 mod machine;
 mod manager;
 mod patterns;
@@ -21,7 +22,7 @@ use std::sync::Wait;
 use std::thread::Threads;
 
 /// What can be measured.
-#[derive(Clone, Copy, Debug, PartialEq, Eq)]
+#[derive(Clone, Copy)]
 enum Benchmark {
     Catalogue,
     Configuration,
@@ -77,7 +78,7 @@ impl Benchmark {
 }
 
 fn list<R: Runtime + AllocGlobal>(rt: &R) -> Result<()> {
-    for benchmark in ALL {
+    for benchmark in &ALL {
         let name = benchmark.name();
         println!(rt; "{name}")?;
     }
@@ -85,14 +86,26 @@ fn list<R: Runtime + AllocGlobal>(rt: &R) -> Result<()> {
 }
 
 fn run<R: Runtime + AllocGlobal + Threads + Wait + Sync>(rt: &R, name: &str) -> Result<ExitCode> {
-    for benchmark in ALL {
-        if benchmark.name() == name {
+    match named(name) {
+        Some(benchmark) => {
+            load::print_load(rt)?;
             benchmark.measure(rt)?;
-            return Ok(ExitCode::SUCCESS);
+            Ok(ExitCode::SUCCESS)
+        }
+        None => {
+            eprintln!(rt; "bench: no benchmark {name}")?;
+            Ok(ExitCode::from(2))
         }
     }
-    eprintln!(rt; "bench: no benchmark {name}")?;
-    Ok(ExitCode::from(2))
+}
+
+fn named(name: &str) -> Option<Benchmark> {
+    for benchmark in &ALL {
+        if benchmark.name() == name {
+            return Some(*benchmark);
+        }
+    }
+    None
 }
 
 fn main(rt: HostRuntime) -> Result<ExitCode> {

@@ -3,10 +3,10 @@
 ghost use Rattle.std.specs.Prelude.{◌<◌};
 
 use crate::catalogue::catalogue_of;
-use crate::figure::print_rate;
-use anyhow::{Result, bail};
+use crate::figure::print_pairs;
+use anyhow::{Result, ensure};
+use dep_index::Catalogue;
 use module_table::Manager;
-use std::alloc::Global;
 use std::rt::Clock;
 use std::sync::Wait;
 use std::thread;
@@ -16,43 +16,70 @@ use std::time::Instant;
 const PAIRS: u64 = 1_000_000;
 
 pub fn measure<R: Print + Clock + AllocGlobal + Threads + Wait + Sync>(rt: &R) -> Result<()> {
-    for workers in [1, 2, 4] {
-        let manager = live_manager(rt, rt.alloc(), workers)?;
-        let from_zero = format!(in rt.alloc(); "manager_pairs_from_zero_{workers}")?;
-        time_pairs(rt, from_zero.as_str(), &manager)?;
-        for worker in 0..workers {
-            let _ = manager.get(rt, worker, 0);
-        }
-        let held = format!(in rt.alloc(); "manager_pairs_held_{workers}")?;
-        time_pairs(rt, held.as_str(), &manager)?;
-    }
-    Ok(())
+    let catalogue = catalogue_of(rt.alloc(), b"module snd\n")?;
+    measure_over(rt, &catalogue)
 }
 
-/// A manager over one module, which is live.
-fn live_manager<R: Wait>(rt: &R, alloc: Global, workers: usize) -> Result<Manager>
+fn measure_over<R: Print + Clock + AllocGlobal + Threads + Wait + Sync>(
+    rt: &R,
+    catalogue: &Catalogue,
+) -> Result<()> {
+    measure_workers(rt, catalogue, 1)?;
+    measure_workers(rt, catalogue, 2)?;
+    measure_workers(rt, catalogue, 4)
+}
+
+fn measure_workers<R: Print + Clock + AllocGlobal + Threads + Wait + Sync>(
+    rt: &R,
+    catalogue: &Catalogue,
+    workers: usize,
+) -> Result<()>
     requires { workers < 64 }
 {
-    let catalogue = catalogue_of(alloc, b"module snd\n")?;
-    let (manager, _readers) = Manager::new(alloc, &catalogue, workers)?;
-    let begun = manager.begin_load(rt, 0) == Some(Ok(()));
-    if !begun || manager.end_load(rt, 0, true) != Some(Ok(())) {
-        bail!("the module is not loaded");
+    let (manager, _readers) = Manager::new(rt.alloc(), catalogue, workers)?;
+    measure_manager(rt, &manager, workers)
+}
+
+fn measure_manager<R: Print + Clock + AllocGlobal + Threads + Wait + Sync>(
+    rt: &R,
+    manager: &Manager,
+    workers: usize,
+) -> Result<()>
+    requires { workers < 64 }
+{
+    ensure!(is_loaded(rt, manager), "the module is not loaded");
+    time_pairs(rt, "manager_pairs_from_zero", manager, workers)?;
+    hold(rt, manager, workers);
+    time_pairs(rt, "manager_pairs_held", manager, workers)
+}
+
+/// Each worker takes the reference that it holds throughout.
+fn hold<R: Wait>(rt: &R, manager: &Manager, workers: usize) {
+    for worker in 0..workers {
+        let _ = manager.get(rt, worker, 0);
     }
-    Ok(manager)
+}
+
+/// Loads the module. Whether that was done.
+fn is_loaded<R: Wait>(rt: &R, manager: &Manager) -> bool {
+    manager.begin_load(rt, 0) == Some(Ok(())) && manager.end_load(rt, 0, true) == Some(Ok(()))
 }
 
 /// Prints how many pairs all workers made in a second, each on a thread of its own.
-fn time_pairs<R: Print + Clock + Threads + Wait + Sync>(
+fn time_pairs<R: Print + Clock + AllocGlobal + Threads + Wait + Sync>(
     rt: &R,
     name: &str,
     manager: &Manager,
-) -> Result<()> {
-    let workers = manager.workers();
-    if workers > 64 {
-        bail!("too many workers");
-    }
+    workers: usize,
+) -> Result<()>
+    requires { workers < 64 }
+{
     let start = Instant::now(rt)?;
+    make_all_pairs(rt, manager, workers);
+    print_pairs(rt, name, workers, PAIRS * workers as u64, start)
+}
+
+fn make_all_pairs<R: Threads + Wait + Sync>(rt: &R, manager: &Manager, workers: usize) {
     thread::scope(thread::scope_env(), rt, |scope| {
         for worker in 0..workers {
             if scope
@@ -63,13 +90,6 @@ fn time_pairs<R: Print + Clock + Threads + Wait + Sync>(
             }
         }
     });
-    print_rate(
-        rt,
-        name,
-        PAIRS * workers as u64,
-        start.elapsed(rt)?,
-        "pairs",
-    )
 }
 
 /// Takes a reference and gives it back, again and again.

@@ -44,19 +44,69 @@ const PAIRS: [Pair; 4] = [
 
 const ROUNDS: u64 = 300_000;
 
+const LOOKUPS: u64 = 100;
+
+pub fn measure<R: Print + Clock + AllocGlobal>(rt: &R) -> Result<()> {
+    for pair in &PAIRS {
+        measure_pair(rt, pair)?;
+    }
+    measure_lookup(rt)
+}
+
 fn measure_pair<R: Print + Clock + AllocGlobal>(rt: &R, pair: &Pair) -> Result<()> {
     let pattern = Pattern::read(rt.alloc(), pair.pattern)?;
-    let mut answers = 0u64;
+    measure_matches(rt, pair, &pattern)
+}
+
+fn measure_matches<R: Print + Clock>(rt: &R, pair: &Pair, pattern: &Pattern) -> Result<()> {
     let start = Instant::now(rt)?;
+    let answers = match_often(pattern, pair.text, pair.is_hit);
+    print_time(rt, pair.name, answers, start)
+}
+
+/// How many of the answers were right.
+fn match_often(pattern: &Pattern, text: &[u8], is_hit: bool) -> u64 {
+    let mut answers = 0u64;
     for _ in 0..ROUNDS {
-        if pattern.matches(pair.text) == pair.is_hit {
+        if pattern.matches(text) == is_hit {
             answers = answers.wrapping_add(1);
         }
     }
-    print_time(rt, pair.name, answers, start.elapsed(rt)?)
+    answers
 }
 
-const LOOKUPS: u64 = 100;
+fn measure_lookup<R: Print + Clock + AllocGlobal>(rt: &R) -> Result<()> {
+    let text = aliases_text(rt.alloc())?;
+    measure_text(rt, text.as_bytes())
+}
+
+fn measure_text<R: Print + Clock + AllocGlobal>(rt: &R, text: &[u8]) -> Result<()> {
+    let start = Instant::now(rt)?;
+    let aliases = read_aliases(rt.alloc(), text)?;
+    measure_aliases(rt, text.len() as u64, start, &aliases)
+}
+
+/// Prints how many bytes were read in a second since the start, and how long a look-up takes.
+fn measure_aliases<R: Print + Clock>(
+    rt: &R,
+    bytes: u64,
+    start: Instant,
+    aliases: &Aliases,
+) -> Result<()> {
+    print_rate(rt, "read_aliases", bytes, start, "bytes/s")?;
+    let start = Instant::now(rt)?;
+    let found = look_up_often(aliases);
+    print_time(rt, "lookup_26000_patterns", found, start)
+}
+
+/// How many patterns matched in all look-ups.
+fn look_up_often(aliases: &Aliases) -> u64 {
+    let mut found = 0u64;
+    for _ in 0..LOOKUPS {
+        found = found.wrapping_add(hits(aliases, DEVICE));
+    }
+    found
+}
 
 fn hits(aliases: &Aliases, text: &[u8]) -> u64 {
     let mut hits = 0u64;
@@ -66,25 +116,4 @@ fn hits(aliases: &Aliases, text: &[u8]) -> u64 {
         }
     }
     hits
-}
-
-fn measure_lookup<R: Print + Clock + AllocGlobal>(rt: &R) -> Result<()> {
-    let text = aliases_text(rt.alloc())?;
-    let start = Instant::now(rt)?;
-    let aliases = read_aliases(rt.alloc(), text.as_bytes())?;
-    let elapsed = start.elapsed(rt)?;
-    print_rate(rt, "read_aliases", text.len() as u64, elapsed, "bytes")?;
-    let mut found = 0u64;
-    let start = Instant::now(rt)?;
-    for _ in 0..LOOKUPS {
-        found = found.wrapping_add(hits(&aliases, DEVICE));
-    }
-    print_time(rt, "lookup_26000_patterns", found, start.elapsed(rt)?)
-}
-
-pub fn measure<R: Print + Clock + AllocGlobal>(rt: &R) -> Result<()> {
-    for pair in PAIRS {
-        measure_pair(rt, &pair)?;
-    }
-    measure_lookup(rt)
 }

@@ -1,12 +1,12 @@
 //! Plans in a catalogue of 1,024 modules with three hard dependencies each, and a look-up over 26,000 aliases.
 
-use crate::aliases::{DEVICE, aliases_text};
+use crate::aliases::{DEVICE, aliases};
 use crate::catalogue::catalogue_of;
-use crate::figure::print_time;
-use alias_match::{Aliases, read_aliases};
+use crate::figure::{print_figure, print_time};
+use alias_match::Aliases;
 use anyhow::{Result, bail};
 use dep_index::{Catalogue, DepIndex, read_dep};
-use load_plan::{find, plan, removal_plan};
+use load_plan::{PlanError, find, plan, removal_plan};
 use modprobe_conf::{Conf, read_conf};
 use std::alloc::{AllocError, Global};
 use std::rt::Clock;
@@ -28,235 +28,278 @@ struct Sources {
     configuration: Conf,
 }
 
-fn catalogue_text(alloc: Global, has_symbols: bool) -> Result<String, AllocError> {
-    let mut text = String::from_str(alloc, "version 2\n")?;
-    for m in 0..MODULES {
-        text.push_str(&format!(in alloc; "module module_{m}\n")?)?;
-        if has_symbols {
-            text.push_str(&format!(in alloc; "exports symbol_{m}\n")?)?;
-            add_needs(alloc, &mut text, m)?;
-        }
-    }
-    Ok(text)
-}
-
-fn add_needs(alloc: Global, text: &mut String, m: usize) -> Result<(), AllocError> {
-    for step in STEPS {
-        if step < MODULES && m < MODULES - step {
-            let need = m + step;
-            text.push_str(&format!(in alloc; "needs symbol_{need}\n")?)?;
-        }
-    }
-    Ok(())
-}
-
-fn add_paths(alloc: Global, text: &mut String, m: usize) -> Result<(), AllocError> {
-    for step in STEPS {
-        if step < MODULES && m < MODULES - step {
-            let need = m + step;
-            text.push_str(&format!(in alloc; " kernel/drivers/module_{need}.ko")?)?;
-        }
-    }
-    Ok(())
-}
-
-fn dependencies_text(alloc: Global) -> Result<String, AllocError> {
-    let mut text = String::new(alloc);
-    for m in 0..MODULES {
-        text.push_str(&format!(in alloc; "kernel/drivers/module_{m}.ko:")?)?;
-        add_paths(alloc, &mut text, m)?;
-        text.push_str("\n")?;
-    }
-    Ok(text)
-}
-
-/// An options line for every eighth module, and a softdep line for every sixteenth.
-fn configuration_text(alloc: Global) -> Result<String, AllocError> {
-    let mut text = String::new(alloc);
-    for m in 0..MODULES {
-        if m % 8 == 0 {
-            text.push_str(&format!(in alloc; "options module_{m} debug=1 level=3\n")?)?;
-        }
-        if m % 16 == 0 {
-            text.push_str(&format!(in alloc; "softdep module_{m} pre: other_{m}\n")?)?;
-        }
-    }
-    Ok(text)
-}
-
-fn dependencies_of(alloc: Global, text: &String) -> Result<DepIndex> {
-    match read_dep(alloc, text.as_bytes()) {
-        Ok(dependencies) => Ok(dependencies),
-        Err(error) => bail!("{error:?}"),
-    }
-}
-
-fn configuration_of(alloc: Global) -> Result<Conf> {
-    let text = configuration_text(alloc)?;
-    Ok(read_conf(alloc, text.as_bytes())?)
-}
-
-/// The hard dependencies stand in the catalogue.
-fn by_symbols(alloc: Global) -> Result<Sources> {
-    let text = catalogue_text(alloc, true)?;
-    let catalogue = catalogue_of(alloc, text.as_bytes())?;
-    let dependencies = dependencies_of(alloc, &String::new(alloc))?;
-    let configuration = configuration_of(alloc)?;
-    Ok(Sources {
-        catalogue,
-        dependencies,
-        configuration,
-    })
-}
-
-/// The hard dependencies stand in a modules.dep text.
-fn by_paths(alloc: Global) -> Result<Sources> {
-    let text = catalogue_text(alloc, false)?;
-    let catalogue = catalogue_of(alloc, text.as_bytes())?;
-    let text = dependencies_text(alloc)?;
-    let dependencies = dependencies_of(alloc, &text)?;
-    let configuration = configuration_of(alloc)?;
-    Ok(Sources {
-        catalogue,
-        dependencies,
-        configuration,
-    })
-}
-
-/// How many modules a plan has.
-fn plan_len(alloc: Global, sources: &Sources, name: &[u8]) -> Result<u64> {
-    let made = plan(
-        alloc,
-        name,
-        &[],
-        &sources.catalogue,
-        &sources.dependencies,
-        &sources.configuration,
-    );
-    match made {
-        Ok(items) => Ok(items.len() as u64),
-        Err(_) => bail!("no plan"),
-    }
-}
-
-fn removal_len(alloc: Global, sources: &Sources, name: &[u8]) -> Result<u64> {
-    let made = removal_plan(
-        alloc,
-        name,
-        &sources.catalogue,
-        &sources.dependencies,
-        &sources.configuration,
-    );
-    match made {
-        Ok(order) => Ok(order.len() as u64),
-        Err(_) => bail!("no removal plan"),
-    }
-}
-
-/// What is asked for a module.
+/// What is measured, over sources of its own.
 #[derive(Clone, Copy)]
-enum Asked {
-    Plan,
-    RemovalPlan,
+enum Part {
+    BySymbols,
+    ByPaths,
+    Find,
 }
 
-/// How many modules the plan that is asked for has.
-fn len_of(alloc: Global, asked: Asked, sources: &Sources, module: &[u8]) -> Result<u64> {
-    match asked {
-        Asked::Plan => plan_len(alloc, sources, module),
-        Asked::RemovalPlan => removal_len(alloc, sources, module),
+pub fn measure<R: Print + Clock + AllocGlobal>(rt: &R) -> Result<()> {
+    measure_part(rt, Part::BySymbols)?;
+    measure_part(rt, Part::ByPaths)?;
+    measure_part(rt, Part::Find)
+}
+
+fn measure_part<R: Print + Clock + AllocGlobal>(rt: &R, part: Part) -> Result<()> {
+    let has_symbols = !matches!(part, Part::ByPaths);
+    let sources = read_sources(rt.alloc(), has_symbols)?;
+    measure_over(rt, part, &sources)
+}
+
+fn measure_over<R: Print + Clock + AllocGlobal>(
+    rt: &R,
+    part: Part,
+    sources: &Sources,
+) -> Result<()> {
+    match part {
+        Part::BySymbols => measure_by_symbols(rt, sources),
+        Part::ByPaths => measure_by_paths(rt, sources),
+        Part::Find => measure_find(rt, sources),
     }
+}
+
+fn measure_by_symbols<R: Print + Clock + AllocGlobal>(rt: &R, sources: &Sources) -> Result<()> {
+    measure_plan(rt, sources, &BY_SYMBOLS)?;
+    measure_plan(rt, sources, &SHORT_BY_SYMBOLS)
+}
+
+fn measure_by_paths<R: Print + Clock + AllocGlobal>(rt: &R, sources: &Sources) -> Result<()> {
+    measure_plan(rt, sources, &BY_PATHS)?;
+    measure_plan(rt, sources, &SHORT_BY_PATHS)?;
+    measure_plan(rt, sources, &REMOVAL_BY_PATHS)
+}
+
+/// What is asked of a module, and the names of its figures.
+struct Asked {
+    module: &'static [u8],
+    is_removal: bool,
+    time: &'static str,
+    items: &'static str,
+}
+
+const BY_SYMBOLS: Asked = Asked {
+    module: b"module_0",
+    is_removal: false,
+    time: "plan_by_symbols",
+    items: "plan_by_symbols_items",
+};
+
+const SHORT_BY_SYMBOLS: Asked = Asked {
+    module: b"module_1000",
+    is_removal: false,
+    time: "short_plan_by_symbols",
+    items: "short_plan_by_symbols_items",
+};
+
+const BY_PATHS: Asked = Asked {
+    module: b"module_0",
+    is_removal: false,
+    time: "plan_by_modules_dep",
+    items: "plan_by_modules_dep_items",
+};
+
+const SHORT_BY_PATHS: Asked = Asked {
+    module: b"module_1000",
+    is_removal: false,
+    time: "short_plan_by_modules_dep",
+    items: "short_plan_by_modules_dep_items",
+};
+
+const REMOVAL_BY_PATHS: Asked = Asked {
+    module: b"module_0",
+    is_removal: true,
+    time: "removal_plan_by_modules_dep",
+    items: "removal_plan_by_modules_dep_items",
+};
+
+fn measure_plan<R: Print + Clock + AllocGlobal>(
+    rt: &R,
+    sources: &Sources,
+    asked: &Asked,
+) -> Result<()> {
+    let start = Instant::now(rt)?;
+    let items = plan_often(rt.alloc(), sources, asked)?;
+    print_time(rt, asked.time, PLANS, start)?;
+    print_figure(rt, asked.items, (items / PLANS) as u128, "items")
 }
 
 /// How many modules all plans have.
-fn len_of_all(alloc: Global, asked: Asked, sources: &Sources, module: &[u8]) -> Result<u64> {
+fn plan_often(alloc: Global, sources: &Sources, asked: &Asked) -> Result<u64> {
     let mut items = 0u64;
     for _ in 0..PLANS {
-        items = items.wrapping_add(len_of(alloc, asked, sources, module)?);
+        items = items.wrapping_add(len_of(alloc, sources, asked)? as u64);
     }
     Ok(items)
 }
 
-fn measure_plans<R: Print + Clock + AllocGlobal>(
+/// How many modules the plan that is asked for has.
+fn len_of(alloc: Global, sources: &Sources, asked: &Asked) -> Result<usize> {
+    let len = if asked.is_removal {
+        removal_len(alloc, sources, asked.module)
+    } else {
+        plan_len(alloc, sources, asked.module)
+    };
+    match len {
+        Ok(len) => Ok(len),
+        Err(_) => bail!("no plan"),
+    }
+}
+
+fn plan_len(alloc: Global, sources: &Sources, module: &[u8]) -> Result<usize, PlanError> {
+    let Sources {
+        catalogue,
+        dependencies,
+        configuration,
+    } = sources;
+    Ok(plan(alloc, module, &[], catalogue, dependencies, configuration)?.len())
+}
+
+fn removal_len(alloc: Global, sources: &Sources, module: &[u8]) -> Result<usize, PlanError> {
+    let Sources {
+        catalogue,
+        dependencies,
+        configuration,
+    } = sources;
+    Ok(removal_plan(alloc, module, catalogue, dependencies, configuration)?.len())
+}
+
+fn measure_find<R: Print + Clock + AllocGlobal>(rt: &R, sources: &Sources) -> Result<()> {
+    let aliases = aliases(rt.alloc())?;
+    time_finds(rt, sources, &aliases)
+}
+
+fn time_finds<R: Print + Clock + AllocGlobal>(
     rt: &R,
-    name: &str,
-    asked: Asked,
     sources: &Sources,
-    module: &[u8],
+    aliases: &Aliases,
 ) -> Result<()> {
     let start = Instant::now(rt)?;
-    let items = len_of_all(rt.alloc(), asked, sources, module)?;
-    let elapsed = start.elapsed(rt)?;
-    let each = items / PLANS;
-    println!(rt; "{name}_items {each} items")?;
-    print_time(rt, name, PLANS, elapsed)
+    let found = find_often(rt.alloc(), sources, aliases);
+    print_time(rt, "find_in_26000_aliases", found, start)
 }
 
-fn measure_by_symbols<R: Print + Clock + AllocGlobal>(rt: &R) -> Result<()> {
-    let sources = by_symbols(rt.alloc())?;
-    measure_plans(rt, "plan_by_symbols", Asked::Plan, &sources, b"module_0")?;
-    measure_plans(
-        rt,
-        "short_plan_by_symbols",
-        Asked::Plan,
-        &sources,
-        b"module_1000",
-    )
-}
-
-fn measure_by_paths<R: Print + Clock + AllocGlobal>(rt: &R) -> Result<()> {
-    let sources = by_paths(rt.alloc())?;
-    measure_plans(
-        rt,
-        "plan_by_modules_dep",
-        Asked::Plan,
-        &sources,
-        b"module_0",
-    )?;
-    measure_plans(
-        rt,
-        "short_plan_by_modules_dep",
-        Asked::Plan,
-        &sources,
-        b"module_1000",
-    )?;
-    measure_plans(
-        rt,
-        "removal_plan_by_modules_dep",
-        Asked::RemovalPlan,
-        &sources,
-        b"module_0",
-    )
-}
-
-fn finds(alloc: Global, sources: &Sources, aliases: &Aliases) -> u64 {
+/// How many of the look-ups found a name.
+fn find_often(alloc: Global, sources: &Sources, aliases: &Aliases) -> u64 {
     let mut found = 0u64;
     for _ in 0..LOOKUPS {
-        let names = find(
-            alloc,
-            DEVICE,
-            &sources.catalogue,
-            &sources.configuration,
-            aliases,
-        );
-        if names.is_ok() {
+        if is_found(alloc, sources, aliases) {
             found = found.wrapping_add(1);
         }
     }
     found
 }
 
-fn measure_find<R: Print + Clock + AllocGlobal>(rt: &R) -> Result<()> {
-    let text = aliases_text(rt.alloc())?;
-    let aliases = read_aliases(rt.alloc(), text.as_bytes())?;
-    let sources = by_symbols(rt.alloc())?;
-    let start = Instant::now(rt)?;
-    let found = finds(rt.alloc(), &sources, &aliases);
-    print_time(rt, "find_in_26000_aliases", found, start.elapsed(rt)?)
+fn is_found(alloc: Global, sources: &Sources, aliases: &Aliases) -> bool {
+    find(
+        alloc,
+        DEVICE,
+        &sources.catalogue,
+        &sources.configuration,
+        aliases,
+    )
+    .is_ok()
 }
 
-pub fn measure<R: Print + Clock + AllocGlobal>(rt: &R) -> Result<()> {
-    measure_by_symbols(rt)?;
-    measure_by_paths(rt)?;
-    measure_find(rt)
+/// The hard dependencies stand in the catalogue, as symbols, or else in modules.dep.
+fn read_sources(alloc: Global, has_symbols: bool) -> Result<Sources> {
+    Ok(Sources {
+        catalogue: catalogue(alloc, has_symbols)?,
+        dependencies: dependencies(alloc, !has_symbols)?,
+        configuration: configuration(alloc)?,
+    })
+}
+
+fn catalogue(alloc: Global, has_symbols: bool) -> Result<Catalogue> {
+    let text = catalogue_text(alloc, has_symbols)?;
+    catalogue_of(alloc, text.as_bytes())
+}
+
+fn dependencies(alloc: Global, has_paths: bool) -> Result<DepIndex> {
+    let text = dependencies_text(alloc, has_paths)?;
+    dependencies_of(alloc, text.as_bytes())
+}
+
+fn dependencies_of(alloc: Global, text: &[u8]) -> Result<DepIndex> {
+    match read_dep(alloc, text) {
+        Ok(dependencies) => Ok(dependencies),
+        Err(error) => bail!("{error:?}"),
+    }
+}
+
+fn configuration(alloc: Global) -> Result<Conf> {
+    let text = configuration_text(alloc)?;
+    Ok(read_conf(alloc, text.as_bytes())?)
+}
+
+fn catalogue_text(alloc: Global, has_symbols: bool) -> Result<String, AllocError> {
+    let mut text = String::from_str(alloc, "version 2\n")?;
+    for m in 0..MODULES {
+        writeln!(text, "module module_{m}")?;
+        if has_symbols {
+            push_symbols(&mut text, m)?;
+        }
+    }
+    Ok(text)
+}
+
+fn push_symbols(text: &mut String, m: usize) -> Result<(), AllocError> {
+    writeln!(text, "exports symbol_{m}")?;
+    for step in &STEPS {
+        push_need(text, m, *step)?;
+    }
+    Ok(())
+}
+
+fn push_need(text: &mut String, m: usize, step: usize) -> Result<(), AllocError> {
+    if step < MODULES && m < MODULES - step {
+        writeln!(text, "needs symbol_{}", m + step)?;
+    }
+    Ok(())
+}
+
+/// The modules.dep text, which is empty where the hard dependencies stand elsewhere.
+fn dependencies_text(alloc: Global, has_paths: bool) -> Result<String, AllocError> {
+    let mut text = String::new(alloc);
+    if has_paths {
+        for m in 0..MODULES {
+            push_paths(&mut text, m)?;
+        }
+    }
+    Ok(text)
+}
+
+fn push_paths(text: &mut String, m: usize) -> Result<(), AllocError> {
+    write!(text, "kernel/drivers/module_{m}.ko:")?;
+    for step in &STEPS {
+        push_path(text, m, *step)?;
+    }
+    text.push_str("\n")
+}
+
+fn push_path(text: &mut String, m: usize, step: usize) -> Result<(), AllocError> {
+    if step < MODULES && m < MODULES - step {
+        write!(text, " kernel/drivers/module_{}.ko", m + step)?;
+    }
+    Ok(())
+}
+
+/// An options line for every eighth module, and a softdep line for every sixteenth.
+fn configuration_text(alloc: Global) -> Result<String, AllocError> {
+    let mut text = String::new(alloc);
+    for m in 0..MODULES {
+        push_settings(&mut text, m)?;
+    }
+    Ok(text)
+}
+
+fn push_settings(text: &mut String, m: usize) -> Result<(), AllocError> {
+    if m % 8 == 0 {
+        writeln!(text, "options module_{m} debug=1 level=3")?;
+    }
+    if m % 16 == 0 {
+        writeln!(text, "softdep module_{m} pre: other_{m}")?;
+    }
+    Ok(())
 }

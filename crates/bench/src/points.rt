@@ -17,64 +17,95 @@ const MODULES: usize = 64;
 /// Lines of a get, a query and a put, with the steps that begin them.
 const LINES: usize = 14;
 
-const SMALL: usize = 250_000;
+/// How many steps a schedule has, and the names of its figures.
+struct Size {
+    steps: usize,
+    points: &'static str,
+    check: &'static str,
+}
 
-const LARGE: usize = 1_000_000;
+const SMALL: Size = Size {
+    steps: 250_000,
+    points: "points_of_250000",
+    check: "check_points_of_250000",
+};
+
+const LARGE: Size = Size {
+    steps: 1_000_000,
+    points: "points_of_1000000",
+    check: "check_points_of_1000000",
+};
 
 pub fn measure<R: Print + Clock + AllocGlobal>(rt: &R) -> Result<()> {
-    let alloc = rt.alloc();
-    let catalogue = modules(alloc)?;
-    let steps = schedule(alloc, SMALL)?;
-    let found = measure_points(rt, &catalogue, "points_of_250000", &steps)?;
-    measure_check(rt, &catalogue, "check_points_of_250000", &steps, &found)?;
-    let steps = schedule(alloc, LARGE)?;
-    let found = measure_points(rt, &catalogue, "points_of_1000000", &steps)?;
-    measure_check(rt, &catalogue, "check_points_of_1000000", &steps, &found)
+    let catalogue = modules(rt.alloc())?;
+    measure_schedules(rt, &catalogue)
+}
+
+fn measure_schedules<R: Print + Clock + AllocGlobal>(rt: &R, catalogue: &Catalogue) -> Result<()> {
+    measure_schedule(rt, catalogue, &SMALL)?;
+    measure_schedule(rt, catalogue, &LARGE)
+}
+
+fn measure_schedule<R: Print + Clock + AllocGlobal>(
+    rt: &R,
+    catalogue: &Catalogue,
+    size: &Size,
+) -> Result<()> {
+    let steps = schedule(rt.alloc(), size.steps)?;
+    measure_points(rt, catalogue, size, &steps)
 }
 
 fn measure_points<R: Print + Clock + AllocGlobal>(
     rt: &R,
     catalogue: &Catalogue,
-    name: &str,
+    size: &Size,
     steps: &[Step],
-) -> Result<Vec<Point>> {
-    let start = Instant::now(rt)?;
-    let found = points(rt.alloc(), catalogue, THREADS, THREADS, steps)?;
-    let elapsed = start.elapsed(rt)?;
-    print_rate(rt, name, steps.len() as u64, elapsed, "steps")?;
-    Ok(found)
-}
-
-fn measure_check<R: Print + Clock + AllocGlobal>(
-    rt: &R,
-    catalogue: &Catalogue,
-    name: &str,
-    steps: &[Step],
-    found: &[Point],
 ) -> Result<()> {
     let start = Instant::now(rt)?;
+    let found = points(rt.alloc(), catalogue, THREADS, THREADS, steps)?;
+    print_found(rt, catalogue, size, steps, &found, start)
+}
+
+/// Prints how fast the points were found since the start, and how fast they are judged.
+fn print_found<R: Print + Clock + AllocGlobal>(
+    rt: &R,
+    catalogue: &Catalogue,
+    size: &Size,
+    steps: &[Step],
+    found: &[Point],
+    start: Instant,
+) -> Result<()> {
+    print_rate(rt, size.points, steps.len() as u64, start, "steps/s")?;
+    let start = Instant::now(rt)?;
     let linear = check_points(rt.alloc(), catalogue, THREADS, THREADS, steps, found)?;
-    let elapsed = start.elapsed(rt)?;
     ensure!(linear, "the points are no linearization");
-    print_rate(rt, name, steps.len() as u64, elapsed, "steps")
+    print_rate(rt, size.check, steps.len() as u64, start, "steps/s")
 }
 
 fn modules(alloc: Global) -> Result<Catalogue> {
+    let text = modules_text(alloc)?;
+    catalogue_of(alloc, text.as_bytes())
+}
+
+fn modules_text(alloc: Global) -> Result<String, AllocError> {
     let mut text = String::new(alloc);
     for m in 0..MODULES {
-        let line = format!(in alloc; "module m{m}\n")?;
-        text.push_str(line.as_str())?;
+        writeln!(text, "module m{m}")?;
     }
-    catalogue_of(alloc, text.as_bytes())
+    Ok(text)
 }
 
 /// Adds the steps that load a module.
 fn push_load(steps: &mut Vec<Step>, m: usize) -> Result<(), AllocError> {
-    for call in [Call::BeginLoad(m), Call::EndLoad(m, true)] {
-        steps.push(Step::Invoke(0, call))?;
-        for _ in 0..4 {
-            steps.push(Step::Go(0))?;
-        }
+    push_call(steps, Call::BeginLoad(m))?;
+    push_call(steps, Call::EndLoad(m, true))
+}
+
+/// Adds the steps of a whole call of thread 0.
+fn push_call(steps: &mut Vec<Step>, call: Call) -> Result<(), AllocError> {
+    steps.push(Step::Invoke(0, call))?;
+    for _ in 0..4 {
+        steps.push(Step::Go(0))?;
     }
     Ok(())
 }
