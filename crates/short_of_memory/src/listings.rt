@@ -3,10 +3,10 @@ ghost use Rattle.std.specs.Prelude.{◌≡◌, IfOk};
 ghost use Rattle.dep_index.specs.Catalogue.{modules_of};
 
 use crate::outcome::{Stop, agree, needed, stop_at, tell};
-use crate::texts::sound;
+use crate::sound::{OverSound, try_over_sound};
 use dep_index::{Catalogue, Name};
 use proc_modules::{
-    LineError, LineState, Names, lsmod_text, modinfo_text, proc_text, read_line, write_line,
+    Line, LineError, LineState, Names, lsmod_text, modinfo_text, proc_text, read_line, write_line,
 };
 use seq_table::{Modules, Table};
 use std::alloc::{AllocError, Global};
@@ -36,19 +36,25 @@ parm:           debug:bool
 
 fn try_read_line(alloc: Global) -> Result<(), Stop> {
     let (line, used) = read_line(alloc, LINE)?;
-    agree(
-        used == 46
-            && line.name.as_bytes() == b"snd".as_slice()
-            && line.size == 114_688
-            && line.count == 1
-            && line.users.as_slice().len() == 1
-            && line.state == LineState::Live,
-    )
+    agree(used == 46 && is_sound(&line))
+}
+
+fn is_sound(line: &Line) -> bool {
+    line.name.as_bytes() == b"snd".as_slice()
+        && line.size == 114_688
+        && line.count == 1
+        && line.users.as_slice().len() == 1
+        && line.state == LineState::Live
 }
 
 fn try_write_line(alloc: Global) -> Result<(), Stop> {
     let (line, _) = needed(read_line(alloc, LINE))?;
-    agree(write_line(alloc, &line)?.as_slice() == LINE)
+    try_write(alloc, &line)
+}
+
+fn try_write(alloc: Global, line: &Line) -> Result<(), Stop> {
+    let text = write_line(alloc, line)?;
+    agree(text.as_slice() == LINE)
 }
 
 fn try_names(alloc: Global) -> Result<(), Stop> {
@@ -77,28 +83,40 @@ fn loaded(alloc: Global, catalogue: &Catalogue) -> Result<Table, AllocError>
     Ok(table)
 }
 
-fn try_proc(alloc: Global) -> Result<(), Stop> {
-    let catalogue = sound(alloc)?;
-    let Ok(table) = loaded(alloc, &catalogue) else {
+pub fn try_proc(alloc: Global, catalogue: &Catalogue) -> Result<(), Stop> {
+    let Ok(table) = loaded(alloc, catalogue) else {
         return Err(Stop::NotMade);
     };
-    agree(proc_text(alloc, &catalogue, &table)?.as_slice() == LISTING)
+    is_proc(alloc, catalogue, &table)
 }
 
-fn try_lsmod(alloc: Global) -> Result<(), Stop> {
-    let catalogue = sound(alloc)?;
-    let Ok(table) = loaded(alloc, &catalogue) else {
+fn is_proc(alloc: Global, catalogue: &Catalogue, table: &Table) -> Result<(), Stop>
+    requires { table.now.catalogue ≡ modules_of catalogue.now }
+{
+    let text = proc_text(alloc, catalogue, table)?;
+    agree(text.as_slice() == LISTING)
+}
+
+pub fn try_lsmod(alloc: Global, catalogue: &Catalogue) -> Result<(), Stop> {
+    let Ok(table) = loaded(alloc, catalogue) else {
         return Err(Stop::NotMade);
     };
-    agree(lsmod_text(alloc, &catalogue, &table)?.as_slice() == COLUMNS)
+    is_lsmod(alloc, catalogue, &table)
 }
 
-fn try_modinfo(alloc: Global) -> Result<(), Stop> {
-    let catalogue = sound(alloc)?;
+fn is_lsmod(alloc: Global, catalogue: &Catalogue, table: &Table) -> Result<(), Stop>
+    requires { table.now.catalogue ≡ modules_of catalogue.now }
+{
+    let text = lsmod_text(alloc, catalogue, table)?;
+    agree(text.as_slice() == COLUMNS)
+}
+
+pub fn try_modinfo(alloc: Global, catalogue: &Catalogue) -> Result<(), Stop> {
     if catalogue.len() != 2 {
         return Err(Stop::Wrong);
     }
-    agree(modinfo_text(alloc, &catalogue, 1)?.as_slice() == DETAILS)
+    let text = modinfo_text(alloc, catalogue, 1)?;
+    agree(text.as_slice() == DETAILS)
 }
 
 pub fn try_calls<R: Print + AllocGlobal>(rt: &R) -> anyhow::Result<()> {
@@ -106,7 +124,15 @@ pub fn try_calls<R: Print + AllocGlobal>(rt: &R) -> anyhow::Result<()> {
     tell(rt, "read_line", try_read_line(alloc))?;
     tell(rt, "write_line", try_write_line(alloc))?;
     tell(rt, "Names::push", try_names(alloc))?;
-    tell(rt, "proc_text", try_proc(alloc))?;
-    tell(rt, "lsmod_text", try_lsmod(alloc))?;
-    tell(rt, "modinfo_text", try_modinfo(alloc))
+    tell(rt, "proc_text", try_over_sound(alloc, OverSound::ProcText))?;
+    tell(
+        rt,
+        "lsmod_text",
+        try_over_sound(alloc, OverSound::LsmodText),
+    )?;
+    tell(
+        rt,
+        "modinfo_text",
+        try_over_sound(alloc, OverSound::ModinfoText),
+    )
 }

@@ -3,11 +3,14 @@
 //! answer ends the program with status 1.
 #![tactic(auto)]
 
+mod graphs;
 mod listings;
 mod outcome;
 mod plans;
 mod schedules;
 mod sessions;
+mod settings;
+mod sound;
 mod tables;
 mod texts;
 mod threads;
@@ -16,7 +19,9 @@ use anyhow::Result;
 
 fn main(rt: HostRuntime) -> Result<()> {
     texts::try_calls(&rt)?;
+    settings::try_calls(&rt)?;
     plans::try_calls(&rt)?;
+    graphs::try_calls(&rt)?;
     tables::try_calls(&rt)?;
     listings::try_calls(&rt)?;
     schedules::try_calls(&rt)?;

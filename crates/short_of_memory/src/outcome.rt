@@ -45,11 +45,15 @@ pub fn agree(is_same: bool) -> Result<(), Stop>
 
 /// Whether these are the names, in order.
 pub fn are_names(names: &[Name], wanted: &[&[u8]]) -> bool {
-    names.len() == wanted.len()
-        && names
-            .iter()
-            .zip(wanted)
-            .all(|(name, own)| name.as_bytes() == *own)
+    if names.len() != wanted.len() {
+        return false;
+    }
+    for (name, own) in names.iter().zip(wanted) {
+        if name.as_bytes() != *own {
+            return false;
+        }
+    }
+    true
 }
 
 /// Prints what came of the call.

@@ -1,8 +1,8 @@
 //! The points of a schedule, their checker, and the intervals of its calls.
 
-use crate::outcome::{Stop, agree, needed, stop_at, tell};
-use crate::texts::sound;
-use dep_index::{Call, Reply};
+use crate::outcome::{Stop, agree, stop_at, tell};
+use crate::sound::{OverSound, try_over_sound};
+use dep_index::{Call, Catalogue, Reply};
 use linear_points::{End, Interval, Point, PointsError, call_intervals, check_points, points};
 use std::alloc::Global;
 use step_core::Step;
@@ -71,33 +71,41 @@ const GET: Interval = Interval {
     }),
 };
 
-fn try_points(alloc: Global) -> Result<(), Stop> {
-    let catalogue = sound(alloc)?;
-    let found = points(alloc, &catalogue, 2, 2, &STEPS)?;
+pub fn try_points(alloc: Global, catalogue: &Catalogue) -> Result<(), Stop> {
+    let found = points(alloc, catalogue, 2, 2, &STEPS)?;
     agree(found.as_slice() == POINTS.as_slice())
 }
 
-fn try_check(alloc: Global) -> Result<(), Stop> {
-    let catalogue = sound(alloc)?;
-    agree(check_points(alloc, &catalogue, 2, 2, &STEPS, &POINTS)?)
+pub fn try_check(alloc: Global, catalogue: &Catalogue) -> Result<(), Stop> {
+    agree(check_points(alloc, catalogue, 2, 2, &STEPS, &POINTS)?)
 }
 
-fn try_check_of_three(alloc: Global) -> Result<(), Stop> {
-    let catalogue = sound(alloc)?;
-    let is_linear = check_points(alloc, &catalogue, 2, 2, &STEPS, &POINTS[..3])?;
+pub fn try_check_of_three(alloc: Global, catalogue: &Catalogue) -> Result<(), Stop> {
+    let is_linear = check_points(alloc, catalogue, 2, 2, &STEPS, &POINTS[..3])?;
     agree(!is_linear)
 }
 
-fn try_intervals(alloc: Global) -> Result<(), Stop> {
-    let catalogue = sound(alloc)?;
-    let calls = call_intervals(alloc, &catalogue, 2, 2, &STEPS)?;
+pub fn try_intervals(alloc: Global, catalogue: &Catalogue) -> Result<(), Stop> {
+    let calls = call_intervals(alloc, catalogue, 2, 2, &STEPS)?;
     agree(calls.len() == 4 && calls.get(2) == Some(&GET))
 }
 
 pub fn try_calls<R: Print + AllocGlobal>(rt: &R) -> anyhow::Result<()> {
     let alloc = rt.alloc();
-    tell(rt, "points", try_points(alloc))?;
-    tell(rt, "check_points", try_check(alloc))?;
-    tell(rt, "check_points of too few", try_check_of_three(alloc))?;
-    tell(rt, "call_intervals", try_intervals(alloc))
+    tell(rt, "points", try_over_sound(alloc, OverSound::Points))?;
+    tell(
+        rt,
+        "check_points",
+        try_over_sound(alloc, OverSound::CheckPoints),
+    )?;
+    tell(
+        rt,
+        "check_points of too few",
+        try_over_sound(alloc, OverSound::CheckOfThree),
+    )?;
+    tell(
+        rt,
+        "call_intervals",
+        try_over_sound(alloc, OverSound::CallIntervals),
+    )
 }

@@ -1,10 +1,10 @@
 //! Lines, sections and sessions: where memory is wanting, what was written is the beginning of the answer.
 ghost use Rattle.std.specs.Prelude.{◌≡◌, false, None};
 
-use crate::outcome::{Stop, agree, needed, stop_at, tell};
+use crate::outcome::{Stop, agree, stop_at, tell};
 use modprobe::{
-    Failed, FromRead, LineFault, Lines, RunFault, ServeFault, SetupCode, SetupFault, Sink,
-    read_setup, run, serve,
+    Failed, FromRead, LineFault, Lines, RunFault, ServeFault, Setup, SetupCode, SetupFault, Sink,
+    Source, read_setup, run, serve,
 };
 use seq_table::{Modules, Table};
 use std::alloc::Global;
@@ -165,9 +165,16 @@ fn judge(stopped: Option<Stop>, written: &[u8]) -> Result<(), Stop> {
 fn try_lines(alloc: Global) -> Result<(), Stop> {
     let mut reader = FromRead::new(b"insmod snd\nquery".as_slice());
     let mut lines = Lines::new(alloc, &mut reader, 9)?;
+    agree(are_both(&mut lines)?)
+}
+
+/// Whether these are the two lines and no other.
+fn are_both<R: Source>(lines: &mut Lines<'_, R>) -> Result<bool, LineFault>
+    requires { R.has_failed lines.old.reader.now ≡ false }
+{
     let is_first = lines.next_line()? && lines.line() == b"insmod snd".as_slice();
     let is_last = lines.next_line()? && lines.line() == b"query".as_slice();
-    agree(is_first && is_last && !lines.next_line()?)
+    Ok(is_first && is_last && !lines.next_line()?)
 }
 
 fn try_setup(alloc: Global) -> Result<(), Stop> {
@@ -175,7 +182,13 @@ fn try_setup(alloc: Global) -> Result<(), Stop> {
     let Ok(mut lines) = Lines::new(alloc, &mut reader, 9) else {
         return Err(Stop::NotMade);
     };
-    let setup = read_setup(alloc, &mut lines)?;
+    try_setup_of(alloc, &mut lines)
+}
+
+fn try_setup_of<R: Source>(alloc: Global, lines: &mut Lines<'_, R>) -> Result<(), Stop>
+    requires { R.has_failed lines.old.reader.now ≡ false }
+{
+    let setup = read_setup(alloc, lines)?;
     agree(setup.catalogue().len() == 2)
 }
 
@@ -184,14 +197,30 @@ fn try_run(alloc: Global) -> Result<(), Stop> {
     let Ok(mut lines) = Lines::new(alloc, &mut reader, 9) else {
         return Err(Stop::NotMade);
     };
-    let Ok(setup) = read_setup(alloc, &mut lines) else {
+    try_run_of(alloc, &mut lines)
+}
+
+fn try_run_of<R: Source>(alloc: Global, lines: &mut Lines<'_, R>) -> Result<(), Stop>
+    requires { R.has_failed lines.old.reader.now ≡ false }
+{
+    let Ok(setup) = read_setup(alloc, lines) else {
         return Err(Stop::NotMade);
     };
+    try_session(alloc, &setup, lines)
+}
+
+fn try_session<R: Source>(
+    alloc: Global,
+    setup: &Setup,
+    lines: &mut Lines<'_, R>,
+) -> Result<(), Stop>
+    requires { R.has_failed lines.old.reader.now ≡ false }
+{
     let Ok(mut table) = Table::new(alloc, setup.catalogue(), 1) else {
         return Err(Stop::NotMade);
     };
     let mut writer = Paper::new();
-    let stopped = run(alloc, &setup, &mut lines, &mut writer, &mut table)
+    let stopped = run(alloc, setup, lines, &mut writer, &mut table)
         .err()
         .map(Stop::from);
     judge(stopped, writer.text())
