@@ -12,12 +12,16 @@ class NotProved(Exception):
     """A crate that is not proved as it stands."""
 
 
+class Stopped(Exception):
+    """The run is to end, so no further check begins."""
+
+
 class Room:
     """A folder with two repositories for each crate: in one it is proved as it stands, in the other with edits."""
 
     def __init__(self, root, folder, crates):
         self.root, self.folder, self.crates = root, folder, crates
-        self.running = set()
+        self.running, self.is_stopped = set(), False
 
     def prove(self, crate, waits):
         """Proves the crate after the libraries below it, over what its own out/ keeps where that still fits."""
@@ -60,15 +64,20 @@ class Room:
 
     def run(self, folder, verb):
         """Runs rt in the folder. Returns its status and what it printed."""
+        if self.is_stopped:
+            raise Stopped
         how = {"stdin": subprocess.DEVNULL, "stdout": subprocess.PIPE, "stderr": subprocess.STDOUT}
         with subprocess.Popen(["rt", verb, "--jobs", "1"], cwd=folder, text=True, errors="replace", **how) as ran:
             self.running.add(ran)
             said = ran.communicate()[0]
             self.running.discard(ran)
+        if self.is_stopped:
+            raise Stopped
         return ran.returncode, said
 
     def stop(self):
-        """Ends what still runs: rt ends the prover when it ends itself."""
+        """Ends the checks: rt ends the prover when it ends itself."""
+        self.is_stopped = True
         for ran in list(self.running):
             ran.kill()
 
