@@ -85,7 +85,7 @@ fn repeated(alloc: Global, word: &[u8], count: usize) -> Result<Vec<u8>, AllocEr
 fn many_runs_end_at_once(rt: HostRuntime) -> Result<(), Fail> {
     let pattern = Pattern::read(rt.alloc(), &repeated(rt.alloc(), b"*a", 1000)?)?;
     let mut text = repeated(rt.alloc(), b"a", 4000)?;
-    text.push(b'b')?;
+    text.extend_from_slice(b"b")?;
     assert!(rt; !pattern.matches(&text));
     Ok(())
 }
@@ -101,7 +101,7 @@ fn targets_text(alloc: Global, aliases: &Aliases, name: &[u8]) -> Result<Vec<u8>
     for i in 0..aliases.len() {
         if aliases.pattern(i).matches(name) {
             text.extend_from_slice(aliases.target(i).as_bytes())?;
-            text.push(b'\n')?;
+            text.extend_from_slice(b"\n")?;
         }
     }
     Ok(text)

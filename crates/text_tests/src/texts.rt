@@ -47,7 +47,7 @@ pub(crate) fn push_line(
 
 /// Adds a word behind a space.
 pub(crate) fn push_word(text: &mut Vec<u8>, word: &[u8]) -> Result<(), AllocError> {
-    text.push(b' ')?;
+    text.extend_from_slice(b" ")?;
     text.extend_from_slice(word)
 }
 

@@ -37,13 +37,26 @@ fn chain_row(alloc: Global, head: &[u8], count: usize) -> Result<Vec<u8>, AllocE
     Ok(row)
 }
 
-fn is_whole(rt: &impl Abort, alloc: Global, head: &str, count: usize) -> Result<(), Fail> {
-    let row = chain_row(alloc, head.as_bytes(), count)?;
-    is_answered(rt, alloc, head, &row)
+/// The row of a chain has its answer, else the words that say what it shows are told.
+fn is_whole(
+    rt: &impl Abort,
+    alloc: Global,
+    shows: &str,
+    head: &[u8],
+    count: usize,
+) -> Result<(), Fail> {
+    let row = chain_row(alloc, head, count)?;
+    is_answered(rt, alloc, shows, &row)
 }
 
 #[test]
 fn as_many_modules_as_a_catalogue_has(rt: HostRuntime) -> Result<(), Fail> {
-    is_whole(&rt, rt.alloc(), "", 256)?;
-    is_whole(&rt, rt.alloc(), "C version 2\n", 1024)
+    is_whole(&rt, rt.alloc(), "a chain of 256 modules", b"", 256)?;
+    is_whole(
+        &rt,
+        rt.alloc(),
+        "a chain of 1,024 modules",
+        b"C version 2\n",
+        1024,
+    )
 }
