@@ -12,8 +12,10 @@ fn a_reader_that_fails(rt: HostRuntime) -> Result<(), Fail> {
     let mut written = Vec::new(rt.alloc());
     let mut errors = Vec::new(rt.alloc());
     let status = drive(&rt, &[], INPUT.chain(Broken), &mut written, &mut errors);
-    let ended = (status, written.as_slice(), errors.as_slice());
-    assert!(rt; ended == (3, b"ok\n".as_slice(), b"modsh: read fault\n".as_slice()));
+    let is_answered = written.as_slice() == b"ok\n".as_slice();
+    assert!(rt;
+        status == 3 && is_answered && errors.as_slice() == b"modsh: read fault\n".as_slice()
+    );
     Ok(())
 }
 

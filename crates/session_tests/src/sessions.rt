@@ -1,9 +1,10 @@
 //! Sessions over devices that fail, the longest line, and sessions that run out of memory.
+ghost use Rattle.std.specs.Prelude.{◌≡◌, false};
 
 use crate::devices::{Dripping, Narrow, Scripted};
 use dep_index::ModuleState;
 use modprobe::{
-    FromRead, FromWrite, Lines, RunFault, ServeFault, SetupCode, read_setup, run, serve,
+    FromRead, FromWrite, Lines, RunFault, ServeFault, Setup, SetupCode, read_setup, run, serve,
 };
 use seq_table::{Modules, Table};
 use std::alloc::{AllocError, Global};
@@ -26,13 +27,17 @@ fn a_reader_that_fails_in_a_line(rt: HostRuntime) {
 
 /// Whether a run over a writer that takes one byte, and then fails or takes none, ends with that fault, the byte
 /// written and the module loaded.
-fn stops_after_a_byte(alloc: Global, fails: bool) -> Result<bool, ServeFault> {
-    let mut reader = Scripted::new(FIRST_RUN, false);
-    let mut lines = Lines::new(alloc, &mut reader, 100)?;
-    let setup = read_setup(alloc, &mut lines)?;
+fn stops_after_a_byte(
+    alloc: Global,
+    setup: &Setup,
+    lines: &mut Lines<'_, Scripted<'_>>,
+    fails: bool,
+) -> Result<bool, AllocError>
+    requires { lines.old.reader.now.failed ≡ false }
+{
     let mut table = Table::new(alloc, setup.catalogue(), 1)?;
     let mut writer = Narrow::new(1, fails);
-    let result = run(alloc, &setup, &mut lines, &mut writer, &mut table);
+    let result = run(alloc, setup, lines, &mut writer, &mut table);
     Ok(
         matches!(result, Err(RunFault::Write))
             && writer.text() == b"o".as_slice()
@@ -41,16 +46,24 @@ fn stops_after_a_byte(alloc: Global, fails: bool) -> Result<bool, ServeFault> {
     )
 }
 
+/// The same of the first run, from its input.
+fn first_run_stops(alloc: Global, fails: bool) -> Result<bool, ServeFault> {
+    let mut reader = Scripted::new(FIRST_RUN, false);
+    let mut lines = Lines::new(alloc, &mut reader, 100)?;
+    let setup = read_setup(alloc, &mut lines)?;
+    Ok(stops_after_a_byte(alloc, &setup, &mut lines, fails)?)
+}
+
 #[test]
 fn a_writer_that_fails(rt: HostRuntime) -> Result<(), Fail> {
-    let stops = stops_after_a_byte(rt.alloc(), true)?;
+    let stops = first_run_stops(rt.alloc(), true)?;
     assert!(rt; stops);
     Ok(())
 }
 
 #[test]
 fn a_writer_that_takes_nothing(rt: HostRuntime) -> Result<(), Fail> {
-    let stops = stops_after_a_byte(rt.alloc(), false)?;
+    let stops = first_run_stops(rt.alloc(), false)?;
     assert!(rt; stops);
     Ok(())
 }
