@@ -21,7 +21,7 @@ use Rattle.root_row.specs.declared.view.SeatName.TheVariants as name_is
 use Rattle.root_row.specs.declared.view.Part.TheVariants as part_is
 use Rattle.root_row.specs.declared.view.Member.{Member}
 use Rattle.root_row.specs.declared.view.View.{View}
-use Rattle.root_row.specs.World.{slots}
+use Rattle.root_row.specs.World.{slots, place_of}
 use Rattle.root_row.specs.History.{table_after, makes}
 use Rattle.root_row.specs.Views.{Part, member, name_of, IsOne, seen_in, part_in, book_in, book_of, IsBook, state_in}
 use Rattle.root_row.specs.Rule.{Agrees, RowRule}
@@ -58,7 +58,7 @@ module _ (s : move.St) (id : ℕ) (v : View) (kept : RowRule v.world s) (at : ge
   x = part_is.Book (book_of v)
 
   abbrev n : ℕ
-  n = get_or s.words (m + 1) 0
+  n = get_or s.words (place_of m) 0
 
   abbrev h : ℕ
   h = holders (table_after v.world kept.history).rows m
@@ -130,7 +130,7 @@ module _ (s : move.St) (id : ℕ) (v : View) (kept : RowRule v.world s) (at : ge
 
   -- the call was answered, and the word is n' now
   abbrev Put : ℕ → (View → Type 0) → Type 0
-  Put n' then = (w : View) × RowRule v.world (stepped s (m + 1) n' id c w keeps) × then w
+  Put n' then = (w : View) × RowRule v.world (stepped s (place_of m) n' id c w keeps) × then w
 
   answers : (kind : BookCall) (r : Reply) (n' : ℕ) → (r ≡ reply v.world.catalogue T (book_call kind m)) × (n' ≡ word_of (next v.world.catalogue T (book_call kind m)) m)
       → Put n' (λ w. BookAnswered v m kind r w × (n' ≡ word_after w m))
@@ -174,7 +174,7 @@ module _ (s : move.St) (id : ℕ) (v : View) (kept : RowRule v.world s) (at : ge
   Look kind o = Put n (λ w. MatchOption o (w ≡ v) (λ r. BookAnswered v m kind r w × (n ≡ word_after w m)))
 
   stays : (kind : BookCall) → Look kind None
-  stays kind = (v, move.still v.world s kept id v at (m + 1) c, refl)
+  stays kind = (v, move.still v.world s kept id v at (place_of m) c, refl)
 
   looks_end_remove : (b : Bool) → is_draining (state_of book m) ≡ b → RightAt book_is.EndRemove (book_step book (book_call book_is.EndRemove m) n) → Look book_is.EndRemove (cond b None (Some Done))
   looks_end_remove true e is = stays book_is.EndRemove
@@ -248,18 +248,18 @@ made kind = AtSlot (λ _ m v _ w. BookAnswered v m kind Done w)
 module _ (world : World) (slots' id : ℕ) (me : Me (Unit {0}) View) (is : IsBook me.0) (m : ℕ) (inside : m < slots world) where
   -- what a step owes, at the world w
   abbrev Owes : move.St → (ℕ → ℕ) → (ℕ → Me (Unit {0}) View → Type 0) → World → Type 0
-  Owes s f then d = (w : View) × (a : Act (Unit {0})) × Valid s.homes me.1 a × RowRule d (stepped s (m + 1) (f (get_or s.words (m + 1) 0)) id me.1 w a) × then (get_or s.words (m + 1) 0) (w, carried_after me.1 a)
+  Owes s f then d = (w : View) × (a : Act (Unit {0})) × Valid s.homes me.1 a × RowRule d (stepped s (place_of m) (f (get_or s.words (place_of m) 0)) id me.1 w a) × then (get_or s.words (place_of m) 0) (w, carried_after me.1 a)
 
   -- the step may take the world from its own view
   at_own : (f : ℕ → ℕ) (then : ℕ → Me (Unit {0}) View → Type 0)
       → ((s : move.St) → RowRule me.0.world s → get_elem? s.views id ≡ some me.0 → m < slots me.0.world → Owes s f then me.0.world)
-      → Allows (RowRule world) slots' id me (m + 1) f then
+      → Allows (RowRule world) slots' id me (place_of m) f then
   at_own f then own s kept _ at _ =
       let same = (move.fits_one world s kept id me.0 _ is at).same_world in
       subst (Owes s f then) same (own s (subst (λ (d : World). RowRule d s) (sym same) kept) at (subst (λ (d : World). m < slots d) (sym same) inside))
 
-  pub looks : (kind : BookCall) → Allows (RowRule world) slots' id me (m + 1) (λ n. n) (looked_book kind (step slots' (m + 1) 0 0 none) me)
-  looks kind = at_own (λ n. n) (looked_book kind (step slots' (m + 1) 0 0 none) me) (λ s kept at inside'.
+  pub looks : (kind : BookCall) → Allows (RowRule world) slots' id me (place_of m) (λ n. n) (looked_book kind (step slots' (place_of m) 0 0 none) me)
+  looks kind = at_own (λ n. n) (looked_book kind (step slots' (place_of m) 0 0 none) me) (λ s kept at inside'.
       let r = looks_at s id me.0 kept at is m inside' me.1 kind in (
         r.0,
         keeps,
@@ -267,26 +267,26 @@ module _ (world : World) (slots' id : ℕ) (me : Me (Unit {0}) View) (is : IsBoo
         r.1,
         (
           refl,
-          λ j e. subst (λ i. LookedBook kind i me.0 (get_or s.words (m + 1) 0) r.0) (move.same_slot m j e) r.2,
+          λ j e. subst (λ i. LookedBook kind i me.0 (get_or s.words (place_of m) 0) r.0) (move.same_slot m j e) r.2,
         ),
       ))
 
-  pub drains : MayLeave me.0 m → Allows (RowRule world) slots' id me (m + 1) (λ n. (n + drained) % 2 ^ 64) (made book_is.BeginDrain (step slots' (m + 1) drained 0 none) me)
-  drains may = at_own (λ n. (n + drained) % 2 ^ 64) (made book_is.BeginDrain (step slots' (m + 1) drained 0 none) me) (λ s kept at inside'.
+  pub drains : MayLeave me.0 m → Allows (RowRule world) slots' id me (place_of m) (λ n. (n + drained) % 2 ^ 64) (made book_is.BeginDrain (step slots' (place_of m) drained 0 none) me)
+  drains may = at_own (λ n. (n + drained) % 2 ^ 64) (made book_is.BeginDrain (step slots' (place_of m) drained 0 none) me) (λ s kept at inside'.
       let r = drains_at s id me.0 kept at is m inside' me.1 may in
       (r.0, keeps, tt, r.1, (refl, λ j e. subst (λ i. BookAnswered me.0 i book_is.BeginDrain Done r.0) (move.same_slot m j e) r.2)))
 
   -- an exchange, by whether it is made
   exchanges : (old new : ℕ) (then : ℕ → Me (Unit {0}) View → Type 0)
       → ((s : move.St) → RowRule me.0.world s → get_elem? s.views id ≡ some me.0 → m < slots me.0.world
-      → (get_or s.words (m + 1) 0 ≡ old → Owes s (λ _. new) then me.0.world) × (get_or s.words (m + 1) 0 ≢ old → Owes s (λ n. n) then me.0.world))
-      → Allows (RowRule world) slots' id me (m + 1) (λ n. either (eqb n old) new n) then
+      → (get_or s.words (place_of m) 0 ≡ old → Owes s (λ _. new) then me.0.world) × (get_or s.words (place_of m) 0 ≢ old → Owes s (λ n. n) then me.0.world))
+      → Allows (RowRule world) slots' id me (place_of m) (λ n. either (eqb n old) new n) then
   exchanges old new then both = at_own (λ n. either (eqb n old) new n) then (λ s kept at inside'.
       let t = both s kept at inside' in
-      exchanged (get_or s.words (m + 1) 0) old new (λ n'. Owes s (λ _. n') then me.0.world) t.0 t.1)
+      exchanged (get_or s.words (place_of m) 0) old new (λ n'. Owes s (λ _. n') then me.0.world) t.0 t.1)
 
-  pub opens : state_in me.0 m ≡ state_is.Loading → Allows (RowRule world) slots' id me (m + 1) (λ n. either (eqb n closed) 0 n) (made (book_is.EndLoad true) (step slots' (m + 1) closed 0 none) me)
-  opens loading = exchanges closed 0 (made (book_is.EndLoad true) (step slots' (m + 1) closed 0 none) me) (λ s kept at inside'. (
+  pub opens : state_in me.0 m ≡ state_is.Loading → Allows (RowRule world) slots' id me (place_of m) (λ n. either (eqb n closed) 0 n) (made (book_is.EndLoad true) (step slots' (place_of m) closed 0 none) me)
+  opens loading = exchanges closed 0 (made (book_is.EndLoad true) (step slots' (place_of m) closed 0 none) me) (λ s kept at inside'. (
     (λ hit.
         let r = opens_at s id me.0 kept at is m inside' me.1 loading in
         (r.0, keeps, tt, r.1, (refl, λ j e. subst (λ i. BookAnswered me.0 i (book_is.EndLoad true) Done r.0) (move.same_slot m j e) r.2))),
@@ -295,22 +295,22 @@ module _ (world : World) (slots' id : ℕ) (me : Me (Unit {0}) View) (is : IsBoo
 
   -- a closing tells what it promises
   tells : (kind : BookCall) (found old : ℕ) (b : Bool) (w : View) → (found == old) ≡ b → BookAnswered me.0 m kind (cond b Done InUse) w
-      → tried_close kind (step slots' (m + 1) old closed none) me found (w, me.1)
+      → tried_close kind (step slots' (place_of m) old closed none) me found (w, me.1)
   tells kind found old b w is t = (refl, λ j e. subst (λ i. TriedClose kind i me.0 (found == old) w) (move.same_slot m j e) (subst (λ (a : Bool). BookAnswered me.0 m kind (cond a Done InUse) w) (sym is) t))
 
-  closes : (kind : BookCall) (old : ℕ) → ((s : move.St) (kept : RowRule me.0.world s) (at : get_elem? s.views id ≡ some me.0) (inside' : m < slots me.0.world) → RightAt s id me.0 kept at is m inside' me.1 kind (close_step old (get_or s.words (m + 1) 0)))
-      → Allows (RowRule world) slots' id me (m + 1) (λ n. either (eqb n old) closed n) (tried_close kind (step slots' (m + 1) old closed none) me)
-  closes kind old right_step = exchanges old closed (tried_close kind (step slots' (m + 1) old closed none) me) (λ s kept at inside'. (
+  closes : (kind : BookCall) (old : ℕ) → ((s : move.St) (kept : RowRule me.0.world s) (at : get_elem? s.views id ≡ some me.0) (inside' : m < slots me.0.world) → RightAt s id me.0 kept at is m inside' me.1 kind (close_step old (get_or s.words (place_of m) 0)))
+      → Allows (RowRule world) slots' id me (place_of m) (λ n. either (eqb n old) closed n) (tried_close kind (step slots' (place_of m) old closed none) me)
+  closes kind old right_step = exchanges old closed (tried_close kind (step slots' (place_of m) old closed none) me) (λ s kept at inside'. (
     (λ hit.
         let r = closes_hit s id me.0 kept at is m inside' me.1 kind old (right_step s kept at inside') hit in
-        (r.0, keeps, tt, r.1, tells kind (get_or s.words (m + 1) 0) old true r.0 (eq-eqb _ _ hit) r.2)),
+        (r.0, keeps, tt, r.1, tells kind (get_or s.words (place_of m) 0) old true r.0 (eq-eqb _ _ hit) r.2)),
     (λ miss.
         let r = closes_miss s id me.0 kept at is m inside' me.1 kind old (right_step s kept at inside') miss in
-        (r.0, keeps, tt, r.1, tells kind (get_or s.words (m + 1) 0) old false r.0 (ne_eqb _ _ miss) r.2)),
+        (r.0, keeps, tt, r.1, tells kind (get_or s.words (place_of m) 0) old false r.0 (ne_eqb _ _ miss) r.2)),
   ))
 
-  pub closes_open : MayLeave me.0 m → Allows (RowRule world) slots' id me (m + 1) (λ n. either (eqb n 0) closed n) (tried_close book_is.BeginRemove (step slots' (m + 1) 0 closed none) me)
+  pub closes_open : MayLeave me.0 m → Allows (RowRule world) slots' id me (place_of m) (λ n. either (eqb n 0) closed n) (tried_close book_is.BeginRemove (step slots' (place_of m) 0 closed none) me)
   closes_open may = closes book_is.BeginRemove 0 (λ s kept at inside'. removes_right s id me.0 kept at is m inside' me.1 may)
 
-  pub closes_drained : state_in me.0 m ≡ state_is.Draining → Allows (RowRule world) slots' id me (m + 1) (λ n. either (eqb n drained) closed n) (tried_close book_is.EndRemove (step slots' (m + 1) drained closed none) me)
+  pub closes_drained : state_in me.0 m ≡ state_is.Draining → Allows (RowRule world) slots' id me (place_of m) (λ n. either (eqb n drained) closed n) (tried_close book_is.EndRemove (step slots' (place_of m) drained closed none) me)
   closes_drained draining = closes book_is.EndRemove drained (λ s kept at inside'. ends_right s id me.0 kept at is m inside' me.1 draining)

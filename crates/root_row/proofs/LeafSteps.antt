@@ -24,7 +24,7 @@ use Rattle.root_row.specs.declared.view.SeatName.TheVariants as name_is
 use Rattle.root_row.specs.declared.view.Part.TheVariants as part_is
 use Rattle.root_row.specs.declared.view.Member.{Member}
 use Rattle.root_row.specs.declared.view.View.{View}
-use Rattle.root_row.specs.World.{slots}
+use Rattle.root_row.specs.World.{slots, place_of}
 use Rattle.root_row.specs.History.{table_after, makes}
 use Rattle.root_row.specs.Views.{Part, member, name_of, IsLeaf, IsOne, seen_in, part_in, worker_in, counts_in, worker_of, counts_of, count_of}
 use Rattle.root_row.specs.Rule.{Agrees, RowRule}
@@ -72,7 +72,7 @@ module _ (world : World) (s : move.St) (kept : RowRule world s) (id : ℕ) (v : 
   count = get_or counts m 0
 
   abbrev n : ℕ
-  n = get_or s.words (m + 1) 0
+  n = get_or s.words (place_of m) 0
 
   row_at : get_elem? T.rows worker ≡ some counts
   row_at = (move.fits_one world s kept id v x single at).agrees
@@ -141,7 +141,7 @@ module _ (world : World) (s : move.St) (kept : RowRule world s) (id : ℕ) (v : 
 
   -- the call was answered, and the word is n' now
   answers : (kind : LeafCall) (r : Reply) (n' : ℕ) → reply world.catalogue T (leaf_call kind worker m) ≡ r → n' ≡ word_of (next world.catalogue T (leaf_call kind worker m)) m
-      → (w : View) × RowRule world (stepped s (m + 1) n' id c w keeps) × By kind r w × (n' ≡ word_after w m)
+      → (w : View) × RowRule world (stepped s (place_of m) n' id c w keeps) × By kind r w × (n' ≡ word_after w m)
   answers kind r n' is here =
       let t = turns kind r n' is here in (
         move.next_view world s kept id v at x (given kind r) single (leaf_call kind worker m) m n' inside (range kind) (maker kind) t,
@@ -152,10 +152,10 @@ module _ (world : World) (s : move.St) (kept : RowRule world s) (id : ℕ) (v : 
 
   -- what a load gives: the call was answered, or nothing changed
   abbrev Load : LeafCall → Outcome → Type 0
-  Load kind o = (w : View) × RowRule world (stepped s (m + 1) n id c w keeps) × MatchOutcome o (λ r. By kind r w × (n ≡ word_after w m)) (λ _. w ≡ v)
+  Load kind o = (w : View) × RowRule world (stepped s (place_of m) n id c w keeps) × MatchOutcome o (λ r. By kind r w × (n ≡ word_after w m)) (λ _. w ≡ v)
 
   stays : (kind : LeafCall) (word : ℕ) → Load kind (GoesOn word)
-  stays kind word = (v, move.still world s kept id v at (m + 1) c, refl)
+  stays kind word = (v, move.still world s kept id v at (place_of m) c, refl)
 
   loads : (kind : LeafCall) (Q : ℕ → Type 0) (o : Outcome) (word : ℕ) → word ≡ n
       → MatchOutcome o (λ r. (r ≡ reply world.catalogue T (leaf_call kind worker m)) × (word ≡ word_of (next world.catalogue T (leaf_call kind worker m)) m)) Q → Load kind o
@@ -177,7 +177,7 @@ module _ (world : World) (s : move.St) (kept : RowRule world s) (id : ℕ) (v : 
   looks_at leaf_is.Put = put_looks (count == 1) refl
 
   abbrev Makes : ℕ → (View → Type 0) → Type 0
-  Makes n' then = (w : View) × RowRule world (stepped s (m + 1) n' id c w keeps) × then w
+  Makes n' then = (w : View) × RowRule world (stepped s (place_of m) n' id c w keeps) × then w
 
   arrives_at : (old : ℕ) → n ≡ old → old < closed → count ≡ 0 → Makes (old + 1) (λ w. By leaf_is.Get Done w)
   arrives_at old hit below none_held =
@@ -211,34 +211,34 @@ abbrev pub departed : Step (Unit {0}) → SeatState → ℕ → SeatState → Ty
 departed = AtSlot (λ _ m v _ w. LeafAnswered v m leaf_is.Put Done w)
 
 module _ (world : World) (slots' id : ℕ) (me : Me (Unit {0}) View) (is : IsLeaf me.0) (m : ℕ) (inside : m < slots world) where
-  pub looks : (kind : LeafCall) → Allows (RowRule world) slots' id me (m + 1) (λ n. n) (looked kind (step slots' (m + 1) 0 0 none) me)
+  pub looks : (kind : LeafCall) → Allows (RowRule world) slots' id me (place_of m) (λ n. n) (looked kind (step slots' (place_of m) 0 0 none) me)
   looks kind s kept _ at small =
       let r = looks_at world s kept id me.0 at (worker_of me.0) (counts_of me.0) is m inside me.1 kind in
-      (r.0, keeps, tt, r.1, (refl, λ j e. subst (λ i. Looked kind i me.0 (get_or s.words (m + 1) 0) r.0) (move.same_slot m j e) r.2))
+      (r.0, keeps, tt, r.1, (refl, λ j e. subst (λ i. Looked kind i me.0 (get_or s.words (place_of m) 0) r.0) (move.same_slot m j e) r.2))
 
-  pub arrives : (old : ℕ) → old < closed → count_of me.0 m ≡ 0 → Allows (RowRule world) slots' id me (m + 1) (λ n. either (eqb n old) (old + 1) n) (arrived (step slots' (m + 1) old (old + 1) none) me)
+  pub arrives : (old : ℕ) → old < closed → count_of me.0 m ≡ 0 → Allows (RowRule world) slots' id me (place_of m) (λ n. either (eqb n old) (old + 1) n) (arrived (step slots' (place_of m) old (old + 1) none) me)
   arrives old below zero_is s kept _ at small = exchanged found old (old + 1) Goal hit miss
     where
       found : ℕ
-      found = get_or s.words (m + 1) 0
+      found = get_or s.words (place_of m) 0
 
       Goal : ℕ → Type 0
-      Goal n' = (w : View) × (a : Act (Unit {0})) × Valid s.homes me.1 a × RowRule world (stepped s (m + 1) n' id me.1 w a) × arrived (step slots' (m + 1) old (old + 1) none) me (get_or s.words (m + 1) 0) (w, carried_after me.1 a)
+      Goal n' = (w : View) × (a : Act (Unit {0})) × Valid s.homes me.1 a × RowRule world (stepped s (place_of m) n' id me.1 w a) × arrived (step slots' (place_of m) old (old + 1) none) me (get_or s.words (place_of m) 0) (w, carried_after me.1 a)
 
-      hit : get_or s.words (m + 1) 0 ≡ old → Goal (old + 1)
+      hit : get_or s.words (place_of m) 0 ≡ old → Goal (old + 1)
       hit e =
           let r = arrives_at world s kept id me.0 at (worker_of me.0) (counts_of me.0) is m inside me.1 old e below zero_is in (
             r.0,
             keeps,
             tt,
             r.1,
-            (refl, λ j q. subst (λ i. TriedArrive i me.0 (get_or s.words (m + 1) 0 == old) r.0) (move.same_slot m j q) (subst (λ b. MatchBool b (LeafAnswered me.0 m leaf_is.Get Done r.0) (r.0 ≡ me.0)) (sym (eq-eqb (get_or s.words (m + 1) 0) old e)) r.2)),
+            (refl, λ j q. subst (λ i. TriedArrive i me.0 (get_or s.words (place_of m) 0 == old) r.0) (move.same_slot m j q) (subst (λ b. MatchBool b (LeafAnswered me.0 m leaf_is.Get Done r.0) (r.0 ≡ me.0)) (sym (eq-eqb (get_or s.words (place_of m) 0) old e)) r.2)),
           )
 
-      miss : get_or s.words (m + 1) 0 ≢ old → Goal (get_or s.words (m + 1) 0)
-      miss ne = (me.0, keeps, tt, move.still world s kept id me.0 at (m + 1) me.1, (refl, λ j q. subst (λ b. MatchBool b (LeafAnswered me.0 j leaf_is.Get Done me.0) (me.0 ≡ me.0)) (sym (ne_eqb (get_or s.words (m + 1) 0) old ne)) refl))
+      miss : get_or s.words (place_of m) 0 ≢ old → Goal (get_or s.words (place_of m) 0)
+      miss ne = (me.0, keeps, tt, move.still world s kept id me.0 at (place_of m) me.1, (refl, λ j q. subst (λ b. MatchBool b (LeafAnswered me.0 j leaf_is.Get Done me.0) (me.0 ≡ me.0)) (sym (ne_eqb (get_or s.words (place_of m) 0) old ne)) refl))
 
-  pub departs : count_of me.0 m ≡ 1 → Allows (RowRule world) slots' id me (m + 1) (λ n. (n + (2 ^ 64 - 1)) % 2 ^ 64) (departed (step slots' (m + 1) 1 0 none) me)
+  pub departs : count_of me.0 m ≡ 1 → Allows (RowRule world) slots' id me (place_of m) (λ n. (n + (2 ^ 64 - 1)) % 2 ^ 64) (departed (step slots' (place_of m) 1 0 none) me)
   departs one s kept _ at small =
       let r = departs_at world s kept id me.0 at (worker_of me.0) (counts_of me.0) is m inside me.1 one in
       (r.0, keeps, tt, r.1, (refl, λ j e. subst (λ i. LeafAnswered me.0 i leaf_is.Put Done r.0) (move.same_slot m j e) r.2))

@@ -1,5 +1,5 @@
 -- A step by a seat of one part keeps the rule.
-use Rattle.std.proofs.Common.{◌≡◌, ◌≢◌, ℕ, zero, suc, ◌+◌, ◌<◌, true, false, cond, nat_lt, List, [], ◌∷◌, ◌++◌, get_or, set, refl, sym, ap, ◌∙◌, subst, inr, ⊎_elim, arith, append_assoc, append-nil, length-set, get_or-set_other, get_or-set_same, eq-eqb, eqb-true}
+use Rattle.std.proofs.Common.{◌≡◌, ◌≢◌, ℕ, zero, suc, ◌<◌, true, false, cond, nat_lt, List, [], ◌∷◌, ◌++◌, get_or, set, refl, sym, ap, ◌∙◌, subst, inr, ⊎_elim, arith, append_assoc, append-nil, length-set, get_or-set_other, get_or-set_same, eq-eqb, eqb-true}
 use Rattle.std.proofs.lemmas.Bool.{false≢true, cases_eq, cases_Bool}
 use Rattle.std.proofs.lemmas.List.Elements.{filter-append}
 use Rattle.std.proofs.lemmas.List.Sums.{count_by-le-length}
@@ -22,7 +22,7 @@ use Rattle.root_row.specs.declared.view.SeatName.TheVariants as name_is
 use Rattle.root_row.specs.declared.view.SeatAnswer.{SeatAnswer}
 use Rattle.root_row.specs.declared.view.Member.{Member}
 use Rattle.root_row.specs.declared.view.View.{View}
-use Rattle.root_row.specs.World.{slots}
+use Rattle.root_row.specs.World.{slots, place_of}
 use Rattle.root_row.specs.History.{SeatName, seat_answer, answers_in, table_after, makes, same_name, own_answers}
 use Rattle.root_row.specs.Views.{Part, name_of, member, seen_of, IsOne}
 use Rattle.root_row.specs.Rule.{Agrees, FitsMember, Fits, IsAt, HasAll, RowRule}
@@ -136,7 +136,7 @@ module _ (world : World) (s : St) (kept : RowRule world s) (id : ℕ) (v : View)
     all_there : HasAll world (set s.views id next_view) kept.owner
     all_there n of = let t = kept.there n of in let z = stands (kept.owner n) t.0 t.1 in (z.0, z.1, z.2 ∙ t.2)
 
-    pub point : (c : List (ℕ × Unit {0})) → RowRule world (stepped s (m + 1) n' id c next_view keeps)
+    pub point : (c : List (ℕ × Unit {0})) → RowRule world (stepped s (place_of m) n' id c next_view keeps)
     point c = record {
       history = now;
       owner = kept.owner;
@@ -149,11 +149,11 @@ module _ (world : World) (s : St) (kept : RowRule world s) (id : ℕ) (v : View)
           (λ (z : (j ≢ id) × (get_elem? s.views j ≡ some u)). other_fit j u z.0 (kept.seats j u z.1))
           (at_set s.views id j next_view u is);
       there = all_there;
-      wide = length-set s.words (m + 1) n' ∙ kept.wide;
-      spare = get_or-set_other s.words (m + 1) 0 n' 0 (λ q. omega arith) ∙ kept.spare;
+      wide = length-set s.words (place_of m) n' ∙ kept.wide;
+      spare = get_or-set_other s.words (place_of m) 0 n' 0 (λ q. omega arith) ∙ kept.spare;
       words = λ j lt. ⊎_elim
-          (λ (z : j ≡ m). ap (λ i. get_or (set s.words (m + 1) n') (i + 1) 0) z ∙ get_or-set_same s.words (m + 1) n' 0 (let wide = kept.wide in omega arith) ∙ turns.here ∙ ap (λ (t : Table). word_of t m) (sym table_is) ∙ ap (λ i. word_of (table_after world now) i) (sym z))
-          (λ (z : j ≡ m → ⊥). get_or-set_other s.words (m + 1) (j + 1) n' 0 (λ q. z (omega arith)) ∙ kept.words j lt ∙ sym (turns.elsewhere j z) ∙ ap (λ (t : Table). word_of t j) (sym table_is))
+          (λ (z : j ≡ m). ap (λ i. get_or (set s.words (place_of m) n') (place_of i) 0) z ∙ get_or-set_same s.words (place_of m) n' 0 (let wide = kept.wide in omega arith) ∙ turns.here ∙ ap (λ (t : Table). word_of t m) (sym table_is) ∙ ap (λ i. word_of (table_after world now) i) (sym z))
+          (λ (z : j ≡ m → ⊥). get_or-set_other s.words (place_of m) (place_of j) n' 0 (λ q. z (omega arith)) ∙ kept.words j lt ∙ sym (turns.elsewhere j z) ∙ ap (λ (t : Table). word_of t j) (sym table_is))
           (cases_eq j m);
     }
 
@@ -192,7 +192,7 @@ module _ (world : World) (s : St) (kept : RowRule world s) (call : Call) (range 
       ∙ ap (λ (a : Reply). cond (is_done a) (effect (table_after world kept.history) call) (table_after world kept.history)) is
 
 -- the slot of a word
-pub same_slot : (i j : ℕ) → i + 1 ≡ j + 1 → i ≡ j
+pub same_slot : (i j : ℕ) → place_of i ≡ place_of j → i ≡ j
 same_slot i j e = omega arith
 
 -- fewer workers hold a slot than there are words below the closed one

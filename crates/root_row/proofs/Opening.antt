@@ -14,7 +14,7 @@ use Rattle.root_row.specs.declared.view.SeatName.TheVariants as name_is
 use Rattle.root_row.specs.declared.view.Part.TheVariants as part_is
 use Rattle.root_row.specs.declared.view.Member.{Member}
 use Rattle.root_row.specs.declared.view.View.{View}
-use Rattle.root_row.specs.World.{slots, opened}
+use Rattle.root_row.specs.World.{slots, opened, place_of}
 use Rattle.root_row.specs.Views.{Part, name_of}
 use Rattle.root_row.specs.Rule.{Agrees, Owner, FitsMember, Fits, HasAll, RowRule}
 use Rattle.root_row.specs.Setting.{world_of, leaf_parts, reader_parts, book_part, new_member, new_view, first_view}
@@ -131,7 +131,7 @@ module _ (setting : Setting) where
     refl,
   )
 
-  pub opens : (words : List ℕ) → words ≡ replicate (slots (world_of setting) + 1) closed → setting.workers < closed → RowRule (world_of setting) (table.opening words [] (first_view setting))
+  pub opens : (words : List ℕ) → words ≡ replicate (place_of (slots (world_of setting))) closed → setting.workers < closed → RowRule (world_of setting) (table.opening words [] (first_view setting))
   opens words is few = record {
     history = [];
     owner = owner;
@@ -141,9 +141,9 @@ module _ (setting : Setting) where
     whole = inl refl;
     seats = seats_fit;
     there = all_there;
-    wide = ap length is ∙ length-replicate (slots (world_of setting) + 1) closed;
-    spare = ap (λ l. get_or l 0 0) is ∙ get_or-replicate (slots (world_of setting) + 1) 0 closed 0 (omega arith);
-    words = λ m lt. ap (λ l. get_or l (m + 1) 0) is ∙ get_or-replicate (slots (world_of setting) + 1) (m + 1) closed 0 (omega arith) ∙ sym (ap (λ st. word_in st (holders (opened (world_of setting)).rows m)) (opening_absent setting.catalogue.value setting.workers m));
+    wide = ap length is ∙ length-replicate (place_of (slots (world_of setting))) closed;
+    spare = ap (λ l. get_or l 0 0) is ∙ get_or-replicate (place_of (slots (world_of setting))) 0 closed 0 (omega arith);
+    words = λ m lt. ap (λ l. get_or l (place_of m) 0) is ∙ get_or-replicate (place_of (slots (world_of setting))) (place_of m) closed 0 (omega arith) ∙ sym (ap (λ st. word_in st (holders (opened (world_of setting)).rows m)) (opening_absent setting.catalogue.value setting.workers m));
   }
 
 -- one leaf is cut off
@@ -191,7 +191,7 @@ seat_at row view = record { row = row; view = view }
 pub is_seated : (id row : TableId) (v w : View) → row ≡ id → w ≡ v → seat_at id v ≡ seat_at row w
 is_seated id row v w a b = λ i. seat_at (sym a i) (sym b i)
 
--- a word for each slot, and the spare word
+-- a line for each slot, and the spare line
 pub room : (setting : Setting) (catalogue : List Module) (n : ℕ) → setting.catalogue.value ≡ catalogue → n ≡ length catalogue → n ≡ slots (world_of setting)
 room setting catalogue n is len = len ∙ ap length (sym is)
 

@@ -1,5 +1,5 @@
 -- A reader's load.
-use Rattle.std.proofs.Common.{◌≡◌, ℕ, ◌+◌, ◌<◌, cond, List, [], ◌∷◌, get_or, refl, sym, subst}
+use Rattle.std.proofs.Common.{◌≡◌, ℕ, ◌<◌, cond, List, [], ◌∷◌, get_or, refl, sym, subst}
 use mathlib.Core.Option.{none}
 use Rattle.atomic_table.specs.Table.{Me, Step, keeps, step, Allows}
 use Rattle.dep_index.specs.declared.calls.Call.TheVariants as call_is
@@ -12,7 +12,7 @@ use Rattle.root_row.specs.declared.view.World.{World}
 use Rattle.root_row.specs.declared.view.Part.TheVariants as part_is
 use Rattle.root_row.specs.declared.view.Member.{Member}
 use Rattle.root_row.specs.declared.view.View.{View}
-use Rattle.root_row.specs.World.{slots}
+use Rattle.root_row.specs.World.{slots, place_of}
 use Rattle.root_row.specs.History.{table_after}
 use Rattle.root_row.specs.Views.{Part, member, seen_in, part_in, reader_in, reader_of, IsReader}
 use Rattle.root_row.specs.Rule.{Agrees, RowRule}
@@ -24,11 +24,11 @@ abbrev pub read : Step (Unit {0}) → SeatState → ℕ → SeatState → Type 0
 read = AtSlot (λ _ m v found w. LookedRead m v found w)
 
 module _ (world : World) (slots' id : ℕ) (me : Me (Unit {0}) View) (is : IsReader me.0) (m : ℕ) (inside : m < slots world) where
-  pub reads : Allows (RowRule world) slots' id me (m + 1) (λ n. n) (read (step slots' (m + 1) 0 0 none) me)
+  pub reads : Allows (RowRule world) slots' id me (place_of m) (λ n. n) (read (step slots' (place_of m) 0 0 none) me)
   reads s kept _ at small =
       let T = table_after world kept.history in
       let x : Part = part_is.Reader (reader_of me.0) in
-      let n = get_or s.words (m + 1) 0 in
+      let n = get_or s.words (place_of m) 0 in
       let right : IsRightStep world.catalogue T (call_is.InUse m) (query_look n) = subst (λ k. IsRightStep world.catalogue T (call_is.InUse m) (query_look k)) (sym (kept.words m inside)) (move.right world s kept (call_is.InUse m) (inside, tt)) in
       let turns : move.Turns T (next world.catalogue T (call_is.InUse m)) x x m n = record {
         same = refl;

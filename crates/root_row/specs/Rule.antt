@@ -1,5 +1,5 @@
 -- The rule of the row: there is one legal history, of which each seat has seen a beginning, and the words show the table after it.
-use Rattle.std.specs.Prelude.{◌≡◌, ℕ, ◌+◌, ◌<◌, ◌⊎◌, List, [], length, slice_index}
+use Rattle.std.specs.Prelude.{◌≡◌, ℕ, ◌<◌, ◌⊎◌, List, [], length, slice_index}
 use mathlib.Core.Option.{some}
 use lib.ListN.{get_elem?}
 use Rattle.atomic_table.specs.Table as table
@@ -12,7 +12,7 @@ use Rattle.root_row.specs.declared.view.Part.TheVariants as part_is
 use Rattle.root_row.specs.declared.view.SeatAnswer.{SeatAnswer}
 use Rattle.root_row.specs.declared.view.Member.{Member}
 use Rattle.root_row.specs.declared.view.View.{View}
-use Rattle.root_row.specs.World.{slots}
+use Rattle.root_row.specs.World.{slots, place_of}
 use Rattle.root_row.specs.History.{SeatName, answers_in, table_after, AreOfTheirSeats, own_answers, StartsWith}
 use Rattle.root_row.specs.Views.{Part, name_of}
 
@@ -59,7 +59,7 @@ abbrev pub HasAll : World → List View → Owner → Type 0
 HasAll world views owner = (n : SeatName) → IsOfTable world n → (x : Member) × IsAt views (owner n) x × (name_of x.part ≡ n)
 
 -- The rule. One history for all seats: it is legal, and some seat has seen the whole of it or it is empty. Each leaf and
--- the book are among the views, and what each seat knows fits the history. Each slot's word, behind a spare word, is the
+-- the book are among the views, and what each seat knows fits the history. Each slot's word, at its place, is the
 -- one that belongs to it in the table after the history
 pub record RowRule (world : World) (s : table.State (Unit {0}) View) : Type 0 where
   pub history : List SeatAnswer
@@ -70,6 +70,6 @@ pub record RowRule (world : World) (s : table.State (Unit {0}) View) : Type 0 wh
   pub whole : (history ≡ []) ⊎ IsSeen history s.views
   pub seats : (j : ℕ) (v : View) → get_elem? s.views j ≡ some v → Fits world history owner j v
   pub there : HasAll world s.views owner
-  pub wide : length s.words ≡ slots world + 1
+  pub wide : length s.words ≡ place_of (slots world)
   pub spare : slice_index s.words 0 ≡ closed
-  pub words : (m : ℕ) → m < slots world → slice_index s.words (m + 1) ≡ word_of (table_after world history) m
+  pub words : (m : ℕ) → m < slots world → slice_index s.words (place_of m) ≡ word_of (table_after world history) m

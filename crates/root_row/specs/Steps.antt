@@ -1,5 +1,5 @@
 -- What each step on the row tells the seat that makes it.
-use Rattle.std.specs.Prelude.{◌≡◌, ℕ, ◌+◌, Bool, ◌==◌, if◌then◌else◌, List, [], ◌∷◌, ◌++◌, MatchBool}
+use Rattle.std.specs.Prelude.{◌≡◌, ℕ, Bool, ◌==◌, if◌then◌else◌, List, [], ◌∷◌, ◌++◌, MatchBool}
 use Rattle.atomic_table.specs.Table.{Me, Step}
 use Rattle.dep_index.specs.declared.calls.Call.{Call}
 use Rattle.dep_index.specs.declared.calls.Call.TheVariants as call_is
@@ -17,6 +17,7 @@ use Rattle.root_row.specs.declared.view.SeatName.TheVariants as name_is
 use Rattle.root_row.specs.declared.view.SeatAnswer.{SeatAnswer}
 use Rattle.root_row.specs.declared.view.View.{View}
 use Rattle.root_row.specs.History.{SeatName, seat_answer, answers_in, table_after, AreOfTheirSeats, own_answers}
+use Rattle.root_row.specs.World.{place_of}
 use Rattle.root_row.specs.Views.{Part, member, seen_of, worker_of, counts_of, count_of, reader_of}
 use Rattle.root_row.specs.Rule.{Agrees}
 
@@ -43,7 +44,7 @@ SeatState = Me (Unit {0}) View
 -- after. The seat takes nothing
 abbrev pub AtSlot : (ℕ → ℕ → View → ℕ → View → Type 0) → Step (Unit {0}) → SeatState → ℕ → SeatState → Type 0
 AtSlot Tells st me found me' =
-    (me'.1 ≡ me.1) × ((m : ℕ) → st.word ≡ m + 1 → Tells st.first m me.0 found me'.0)
+    (me'.1 ≡ me.1) × ((m : ℕ) → st.word ≡ place_of m → Tells st.first m me.0 found me'.0)
 
 abbrev pub leaf_call : LeafCall → ℕ → ℕ → Call
 leaf_call leaf_is.Get w m = call_is.Get w m

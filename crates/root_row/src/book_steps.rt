@@ -12,7 +12,7 @@ use crate::plays::{
     AskBeginDrain, AskBeginLoad, AskBeginRemove, AskEndLoad, AskEndRemove, AskFailLoad, Asked,
     CloseDrained, CloseOpen, Drain, LookBook, Open,
 };
-use crate::row::Row;
+use crate::row::{Row, WORDS_PER_LINE};
 use dep_index::words::{CLOSED, DRAINED};
 use dep_index::{ModuleState, Reply};
 
@@ -46,7 +46,7 @@ impl Row {
         ensures exact { OrderIsExact (book_of seat.new.view) }
     {
         let shared = &self.table.shared;
-        shared.load::<LookBook<C>>(&mut seat.seat, slot + 1)
+        shared.load::<LookBook<C>>(&mut seat.seat, (slot + 1) * WORDS_PER_LINE)
     }
 
     /// The exchange that opens the word of a slot whose load ends well. It is the point of `end_load`.
@@ -58,7 +58,7 @@ impl Row {
         ensures point { BookAnswered seat.old.view slot (BookCall.EndLoad true) Reply.Done seat.new.view }
     {
         let shared = &self.table.shared;
-        shared.compare_exchange::<Open>(&mut seat.seat, slot + 1, CLOSED, 0);
+        shared.compare_exchange::<Open>(&mut seat.seat, (slot + 1) * WORDS_PER_LINE, CLOSED, 0);
     }
 
     /// The addition that lets no further get in, while the references stay. It is the point of `begin_drain`.
@@ -70,7 +70,7 @@ impl Row {
         ensures point { BookAnswered seat.old.view slot BookCall.BeginDrain Reply.Done seat.new.view }
     {
         let shared = &self.table.shared;
-        shared.fetch_add::<Drain>(&mut seat.seat, slot + 1, DRAINED);
+        shared.fetch_add::<Drain>(&mut seat.seat, (slot + 1) * WORDS_PER_LINE, DRAINED);
         seat.draining[slot] = true;
     }
 
@@ -100,7 +100,8 @@ impl Row {
         ensures point { TriedClose BookCall.BeginRemove slot seat.old.view result seat.new.view }
     {
         let shared = &self.table.shared;
-        shared.compare_exchange::<CloseOpen>(&mut seat.seat, slot + 1, 0, CLOSED) == 0
+        let word = (slot + 1) * WORDS_PER_LINE;
+        shared.compare_exchange::<CloseOpen>(&mut seat.seat, word, 0, CLOSED) == 0
     }
 
     fn close_drained(&self, seat: &mut BookSeat, slot: usize) -> bool
@@ -113,7 +114,7 @@ impl Row {
         let shared = &self.table.shared;
         let found = shared.compare_exchange::<CloseDrained>(
             &mut seat.seat,
-            slot + 1,
+            (slot + 1) * WORDS_PER_LINE,
             DRAINED,
             CLOSED,
         );

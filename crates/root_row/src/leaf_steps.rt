@@ -10,7 +10,7 @@ use crate::calls::LeafCall;
 use crate::leaf_seat::LeafSeat;
 use crate::plays::{Arrive, Depart, LookGet, LookPut, LookRead};
 use crate::read_seat::ReadSeat;
-use crate::row::Row;
+use crate::row::{Row, WORDS_PER_LINE};
 use dep_index::Reply;
 
 impl Row {
@@ -24,9 +24,11 @@ impl Row {
         ensures own { IsOf self.now seat.new }
         ensures point { Looked call slot seat.old.view result seat.new.view }
     {
+        let shared = &self.table.shared;
+        let word = (slot + 1) * WORDS_PER_LINE;
         match call {
-            LeafCall::Get => self.table.shared.load::<LookGet>(&mut seat.seat, slot + 1),
-            LeafCall::Put => self.table.shared.load::<LookPut>(&mut seat.seat, slot + 1),
+            LeafCall::Get => shared.load::<LookGet>(&mut seat.seat, word),
+            LeafCall::Put => shared.load::<LookPut>(&mut seat.seat, word),
         }
     }
 
@@ -44,7 +46,7 @@ impl Row {
         let shared = &self.table.shared;
         let found = shared.compare_exchange::<Arrive>(
             &mut seat.seat,
-            slot + 1,
+            (slot + 1) * WORDS_PER_LINE,
             expected,
             expected + 1,
         );
@@ -60,7 +62,7 @@ impl Row {
         ensures point { LeafAnswered seat.old.view slot LeafCall.Put Reply.Done seat.new.view }
     {
         let shared = &self.table.shared;
-        shared.fetch_sub::<Depart>(&mut seat.seat, slot + 1, 1);
+        shared.fetch_sub::<Depart>(&mut seat.seat, (slot + 1) * WORDS_PER_LINE, 1);
     }
 
     /// One load for a query, which answers the word. It is the query's point.
@@ -70,6 +72,7 @@ impl Row {
         ensures own { IsOf self.now seat.new }
         ensures point { LookedRead slot seat.old.view result seat.new.view }
     {
-        self.table.shared.load::<LookRead>(&mut seat.seat, slot + 1)
+        let shared = &self.table.shared;
+        shared.load::<LookRead>(&mut seat.seat, (slot + 1) * WORDS_PER_LINE)
     }
 }

@@ -11,7 +11,7 @@ use crate::book_seat::BookSeat;
 use crate::leaf_seat::LeafSeat;
 use crate::plays::FirstMember;
 use crate::read_seat::ReadSeat;
-use crate::row::Row;
+use crate::row::{Row, WORDS_PER_LINE};
 use crate::rule::{OneHistory, Setting};
 use crate::view::View;
 use atomic_table::{Seat, Table};
@@ -56,9 +56,9 @@ impl Row {
         ensures readers { IfOk result (λ r. AreNew (new_reader r.0.id r.0.world) readers r.3.items) }
         ensures new_readers { IfOk result (λ r. All (λ s. s ≡ new_reader r.0.id r.0.world (reader_of s.view)) r.3.items) }
     {
-        let slots = catalogue.len();
-        let words = Vec::from_elem(alloc, CLOSED, slots + 1)?;
-        let draining = Vec::from_elem(alloc, false, slots)?;
+        let slot_count = catalogue.len();
+        let words = Vec::from_elem(alloc, CLOSED, (slot_count + 1) * WORDS_PER_LINE)?;
+        let draining = Vec::from_elem(alloc, false, slot_count)?;
         let setting = Setting {
             workers,
             readers,
@@ -68,7 +68,7 @@ impl Row {
         let leaves = cut_leaves(alloc, &table, &mut rest, workers)?;
         let read_seats = cut_readers(alloc, &table, &mut rest, readers)?;
         Ok((
-            Row { table },
+            Row { table, slot_count },
             leaves,
             BookSeat {
                 seat: rest,

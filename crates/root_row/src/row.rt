@@ -5,17 +5,22 @@ use atomic_table::Table;
 use std::alloc::Global;
 use std::marker::Model;
 
-/// A root word for each slot of a catalogue, behind a spare word. The word of slot m is word m + 1.
+/// How many words a cache line has. The word of a slot is the first of the line `slot + 1`.
+pub(crate) const WORDS_PER_LINE: usize = 8;
+
+/// A root word for each slot of a catalogue, each on a cache line of its own, so that workers of different modules don't
+/// disturb each other. A spare line stands before them.
 ///
 /// Each of its steps is one atomic step with one seat of this row, takes no memory and does not wait.
 #[derive(Drop)]
 pub struct Row {
     pub(crate) table: Table<(), View, Setting, OneHistory, Global>,
+    pub(crate) slot_count: usize,
 }
 
 impl Model for Row {
     ghost use Rattle.std.specs.Prelude.{◌≡◌, ◌+◌, ◌<◌};
-    ghost use Rattle.root_row.specs.World.{slots};
+    ghost use Rattle.root_row.specs.World.{slots, place_of};
     ghost use Rattle.root_row.specs.Setting.{world_of};
     ghost use Rattle.root_row.specs.Seats.{RowIs};
 
@@ -23,7 +28,7 @@ impl Model for Row {
 
     ghost view = { λ r. record { id = r.table.shared.table_id; world = world_of r.table.shared.key } };
 
-    ghost invariant = { λ r. (r.table.shared.table_id.words ≡ slots (world_of r.table.shared.key) + 1) × (slots (world_of r.table.shared.key) < 4294967296) };
+    ghost invariant = { λ r. (r.table.shared.table_id.words ≡ place_of (slots (world_of r.table.shared.key))) × (r.slot_count ≡ slots (world_of r.table.shared.key)) × (r.slot_count < 4294967296) };
 }
 
 impl Row {
@@ -34,6 +39,6 @@ impl Row {
     pub fn slots(&self) -> usize
         ensures { result ≡ slots self.now.world }
     {
-        self.table.word_count() - 1
+        self.slot_count
     }
 }
