@@ -6,6 +6,7 @@ ghost use Rattle.root_row.specs.Views.{worker_of};
 use crate::book::Book;
 use crate::own_book::OwnBook;
 use crate::own_leaf::OwnLeaf;
+use crossbeam_utils::CachePadded;
 use dep_index::{
     BeginDrainError, BeginLoadError, BeginRemoveError, Catalogue, EndLoadError, EndRemoveError,
     GetError, ModuleState, PutError,
@@ -21,11 +22,13 @@ use use_indicator::{Leaf, Reader};
 /// A call that locks takes one lock, makes one call and lets go; it answers None where the worker, the slot or
 /// the place is out of range, and nothing is changed then. What it did under the lock no contract can say: a
 /// caller who wants to know takes the lock by `leaf` or `book`, and reads the contracts of `OwnLeaf` and `OwnBook`.
+///
+/// Each lock has cache lines of its own, so workers who hold a module don't slow each other.
 #[derive(Drop)]
 pub struct Manager {
     row: Arc<Row, Global>,
-    leaves: Vec<Mutex<OwnLeaf>>,
-    book: Mutex<OwnBook>,
+    leaves: Vec<CachePadded<Mutex<OwnLeaf>>>,
+    book: CachePadded<Mutex<OwnBook>>,
 }
 
 impl Model for Manager {
@@ -67,7 +70,7 @@ impl Manager {
         let book = Book::new(alloc, book_seat, catalogue)?;
         let row = Arc::new(alloc, row)?;
         let leaves = own_leaves(alloc, &row, leaf_seats)?;
-        let book = Mutex::new(OwnBook::new(book, Arc::try_clone(&row)?));
+        let book = CachePadded::new(Mutex::new(OwnBook::new(book, Arc::try_clone(&row)?)));
         let readers = readers_of(alloc, read_seats)?;
         Ok((Manager { row, leaves, book }, readers))
     }
@@ -90,7 +93,7 @@ impl Manager {
     pub fn leaf(&self, worker: usize) -> Option<&Mutex<OwnLeaf>>
         ensures { IsNone result ↔ (self.now.world.workers ≤ worker) }
     {
-        self.leaves.get(worker)
+        Some(self.leaves.get(worker)?)
     }
 
     /// The lock of the book.
@@ -184,14 +187,14 @@ fn own_leaves(
     alloc: Global,
     row: &Arc<Row, Global>,
     seats: Vec<LeafSeat>,
-) -> Result<Vec<Mutex<OwnLeaf>>, AllocError>
+) -> Result<Vec<CachePadded<Mutex<OwnLeaf>>>, AllocError>
     requires { All (λ s. s ≡ new_leaf (arc_value row.now).id (arc_value row.now).world (worker_of s.view)) seats.items }
     ensures { IfOk result (λ locks. length locks.items ≡ length seats.items) }
 {
     let mut locks = Vec::new(alloc);
     for seat in seats {
         let lock = own_leaf(alloc, row, seat)?;
-        locks.push(lock)?;
+        locks.push(CachePadded::new(lock))?;
     }
     Ok(locks)
 }
