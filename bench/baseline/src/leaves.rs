@@ -1,53 +1,51 @@
-//! Pairs of a get and a put on one shared atomic counter: a compare-exchange unless it is closed, and a subtraction.
+//! Lent leaves in stock Rust: counts of a worker's own and one word per module, each on cache lines of its own or beside
+//! its neighbours; and one shared atomic per module without counts.
 
+use crate::pairs::{self, Padded, Plain, Table};
+use std::ops::Deref;
 use std::sync::atomic::{AtomicU64, Ordering::SeqCst};
-use std::thread;
-use std::time::Instant;
 
-const PAIRS: u64 = 2_000_000;
+struct OwnCounts<C> {
+    words: Vec<C>,
+    are_apart: bool,
+}
 
-const CLOSED: u64 = 1 << 32;
+impl<C: Deref<Target = AtomicU64> + Sync> Table for OwnCounts<C> {
+    type Worker = Vec<u16>;
 
-fn get(counter: &AtomicU64) -> bool {
-    let mut found = counter.load(SeqCst);
-    while found < CLOSED {
-        match counter.compare_exchange(found, found + 1, SeqCst, SeqCst) {
-            Ok(_) => return true,
-            Err(other) => found = other,
-        }
+    fn worker(&self, _number: usize) -> Vec<u16> {
+        pairs::counts(self.are_apart)
     }
-    false
+
+    fn get(&self, worker: &mut Vec<u16>, slot: usize) -> bool {
+        pairs::get(worker, &self.words[slot], slot)
+    }
+
+    fn put(&self, worker: &mut Vec<u16>, slot: usize) {
+        pairs::put(worker, &self.words[slot], slot)
+    }
 }
 
-fn put(counter: &AtomicU64) {
-    counter.fetch_sub(1, SeqCst);
-}
+/// One shared atomic per module, on a cache line of its own.
+pub struct OneAtomic(pub Vec<Padded<AtomicU64>>);
 
-fn time_pairs(name: &str, counter: &AtomicU64, workers: u64) {
-    let start = Instant::now();
-    thread::scope(|scope| {
-        for _ in 0..workers {
-            scope.spawn(|| {
-                for _ in 0..PAIRS {
-                    if std::hint::black_box(get(counter)) {
-                        put(counter);
-                    }
-                }
-            });
-        }
-    });
-    let rate = (PAIRS * workers) as f64 / start.elapsed().as_secs_f64();
-    println!("{name}_{workers} {rate:.0} pairs/s");
+impl Table for OneAtomic {
+    type Worker = ();
+
+    fn worker(&self, _number: usize) {}
+
+    fn get(&self, _worker: &mut (), slot: usize) -> bool {
+        pairs::enter(&self.0[slot])
+    }
+
+    fn put(&self, _worker: &mut (), slot: usize) {
+        self.0[slot].fetch_sub(1, SeqCst);
+    }
 }
 
 pub fn measure() {
-    for workers in [1, 2, 4] {
-        let counter = AtomicU64::new(0);
-        time_pairs("leaf_pairs_from_zero", &counter, workers);
-        for _ in 0..workers {
-            get(&counter);
-        }
-        time_pairs("leaf_pairs_held", &counter, workers);
-        assert_eq!(counter.load(SeqCst), workers);
-    }
+    let name = "leaf_pairs";
+    pairs::measure(name, "own_counts_padded", |_| OwnCounts::<Padded<_>> { words: pairs::words(), are_apart: true });
+    pairs::measure(name, "own_counts", |_| OwnCounts::<Plain<_>> { words: pairs::words(), are_apart: false });
+    pairs::measure(name, "one_atomic", |_| OneAtomic(pairs::words()));
 }

@@ -2,6 +2,7 @@
 
 mod leaves;
 mod manager;
+mod pairs;
 mod patterns;
 mod plans;
 

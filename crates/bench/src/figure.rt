@@ -27,15 +27,3 @@ pub fn print_time<R: Print + Clock>(rt: &R, name: &str, count: u64, start: Insta
     let each = start.elapsed(rt)?.as_nanos() / (count.max(1) as u128);
     print_figure(rt, name, each, "ns")
 }
-
-/// Prints how many pairs of a get and a put so many workers made in a second since the start.
-pub fn print_pairs<R: Print + Clock + AllocGlobal>(
-    rt: &R,
-    name: &str,
-    workers: usize,
-    pairs: u64,
-    start: Instant,
-) -> Result<()> {
-    let name = format!(in rt.alloc(); "{name}_{workers}")?;
-    print_rate(rt, name.as_str(), pairs, start, "pairs/s")
-}

@@ -1,5 +1,5 @@
-//! Pairs of a get and a put by lent leaves in 1, 2 and 4 threads: of a module from and to zero, and of one that each
-//! leaf holds throughout.
+//! Pairs of a get and a put by lent leaves, each in a thread of its own: from and to zero, and of modules that each leaf
+//! holds throughout.
 ghost use Rattle.std.specs.Prelude.{◌≡◌, ◌<◌, ◌≤◌, All, IfOk};
 ghost use Rattle.root_row.specs.World.{slots};
 ghost use Rattle.root_row.specs.Seats.{IsOf};
@@ -8,8 +8,11 @@ ghost use Rattle.root_row.specs.Made.{new_book, new_leaf};
 ghost use Rattle.dep_index.specs.Catalogue.{modules_of};
 
 use crate::catalogue::catalogue_of;
-use crate::figure::print_pairs;
-use anyhow::{Result, bail, ensure};
+use crate::workers::{
+    CATALOGUE, COUNT, DOUBLINGS, MODULES, Modules, ROUNDS, Round, SlotRange, WORKERS,
+    has_processors, is_long,
+};
+use anyhow::{Result, bail};
 use dep_index::Catalogue;
 use module_table::Book;
 use root_row::{BookSeat, LeafSeat, Row};
@@ -20,29 +23,24 @@ use std::thread::{Threads, for_each_mut};
 use std::time::Instant;
 use use_indicator::Leaf;
 
-const PAIRS: u64 = 2_000_000;
-
 pub fn measure<R: Print + Clock + AllocGlobal + Threads + Wait + Sync>(rt: &R) -> Result<()> {
-    let catalogue = catalogue_of(rt.alloc(), b"module snd\n")?;
-    measure_over(rt, &catalogue)
-}
-
-fn measure_over<R: Print + Clock + AllocGlobal + Threads + Wait + Sync>(
-    rt: &R,
-    catalogue: &Catalogue,
-) -> Result<()> {
-    measure_workers(rt, catalogue, 1)?;
-    measure_workers(rt, catalogue, 2)?;
-    measure_workers(rt, catalogue, 4)
+    let catalogue = catalogue_of(rt.alloc(), CATALOGUE)?;
+    for workers in &WORKERS {
+        if has_processors(rt, *workers)? {
+            measure_workers(rt, &catalogue, *workers)?;
+        }
+    }
+    Ok(())
 }
 
 fn measure_workers<R: Print + Clock + AllocGlobal + Threads + Wait + Sync>(
     rt: &R,
     catalogue: &Catalogue,
     workers: usize,
-) -> Result<()>
-    requires { workers < 64 }
-{
+) -> Result<()> {
+    if workers > 64 {
+        bail!("more workers than a table has");
+    }
     let (row, seats, seat, _) = Row::new(rt.alloc(), catalogue, workers, 0)?;
     measure_row(rt, catalogue, &row, seats, seat)
 }
@@ -58,10 +56,11 @@ fn measure_row<R: Print + Clock + AllocGlobal + Threads + Wait + Sync>(
     requires same { modules_of catalogue.now ≡ row.now.world.catalogue }
     requires leaves { All (λ s. s ≡ new_leaf row.now.id row.now.world (worker_of s.view)) seats.items }
 {
-    if row.slots() == 0 {
-        bail!("no slot");
+    if row.slots() < COUNT {
+        bail!("too few slots");
     }
-    load(rt.alloc(), row, seat, catalogue)?;
+    let mut book = Book::new(rt.alloc(), seat, catalogue)?;
+    load_all(row, &mut book)?;
     let mut leaves = leaves_of(rt.alloc(), row, seats)?;
     measure_leaves(rt, row, &mut leaves)
 }
@@ -71,115 +70,157 @@ fn measure_leaves<R: Print + Clock + AllocGlobal + Threads + Wait + Sync>(
     row: &Row,
     leaves: &mut Vec<Leaf>,
 ) -> Result<()>
-    requires inside { 0 < slots row.now.world }
+    requires eight { 8 ≤ slots row.now.world }
     requires own { All (IsOf row.now) leaves.old.items }
 {
-    let workers = leaves.len();
-    if workers == 0 || workers > 64 {
-        bail!("no leaf, or too many");
+    for modules in &MODULES {
+        measure_modules(rt, *modules, row, leaves)?;
     }
-    time_pairs(rt, "leaf_pairs_from_zero", workers, row, leaves)?;
-    do_each(rt, Work::Hold, workers, row, leaves);
-    time_pairs(rt, "leaf_pairs_held", workers, row, leaves)?;
-    ensure!(all_hold(row, leaves), "a leaf holds its module no more");
     Ok(())
 }
 
-/// Whether each leaf holds one reference.
-fn all_hold(row: &Row, leaves: &[Leaf]) -> bool
-    requires inside { 0 < slots row.now.world }
-    requires own { All (IsOf row.now) leaves.now }
-{
-    for leaf in leaves {
-        if leaf.held(0) != 1 {
-            return false;
-        }
-    }
-    true
-}
-
-/// Prints how many pairs all leaves made in a second, each in a thread of its own.
-fn time_pairs<R: Print + Clock + AllocGlobal + Threads + Wait + Sync>(
+fn measure_modules<R: Print + Clock + AllocGlobal + Threads + Wait + Sync>(
     rt: &R,
-    name: &str,
-    workers: usize,
+    modules: Modules,
     row: &Row,
     leaves: &mut Vec<Leaf>,
 ) -> Result<()>
-    requires some { (0 < workers) × (workers ≤ 64) }
-    requires inside { 0 < slots row.now.world }
+    requires eight { 8 ≤ slots row.now.world }
     requires own { All (IsOf row.now) leaves.old.items }
     ensures own { All (IsOf row.now) leaves.new.items }
 {
-    let start = Instant::now(rt)?;
-    do_each(rt, Work::Pairs, workers, row, leaves);
-    print_pairs(rt, name, workers, PAIRS * workers as u64, start)
+    time_pairs(rt, "leaf_pairs_from_zero", modules, row, leaves)?;
+    do_each(rt, Work::Get, modules, row, leaves);
+    time_pairs(rt, "leaf_pairs_held", modules, row, leaves)?;
+    do_each(rt, Work::Put, modules, row, leaves);
+    Ok(())
 }
 
-/// What each leaf does.
+/// Prints how many pairs all leaves make in a second, in a round that is long enough.
+fn time_pairs<R: Print + Clock + AllocGlobal + Threads + Wait + Sync>(
+    rt: &R,
+    name: &str,
+    modules: Modules,
+    row: &Row,
+    leaves: &mut Vec<Leaf>,
+) -> Result<()>
+    requires eight { 8 ≤ slots row.now.world }
+    requires own { All (IsOf row.now) leaves.old.items }
+    ensures own { All (IsOf row.now) leaves.new.items }
+{
+    let mut rounds = ROUNDS;
+    for _ in 0..DOUBLINGS {
+        let start = Instant::now(rt)?;
+        do_each(rt, Work::Pairs(rounds), modules, row, leaves);
+        let time = start.elapsed(rt)?;
+        if is_long(time) {
+            let workers = leaves.len();
+            let round = Round {
+                modules,
+                workers,
+                rounds,
+            };
+            return round.print_pairs(rt, name, time);
+        }
+        rounds = rounds.saturating_mul(2);
+    }
+    bail!("the clock stands still")
+}
+
+/// What each leaf does with its modules in turn.
 #[derive(Clone, Copy)]
 enum Work {
-    /// It takes a reference and gives it back, again and again.
-    Pairs,
-    /// It takes the reference that is held throughout.
-    Hold,
+    /// It takes a reference to each and gives it back, so many times.
+    Pairs(u64),
+    Get,
+    Put,
 }
 
 /// Each leaf does it, in a thread of its own.
 fn do_each<R: Threads + Wait + Sync>(
     rt: &R,
     work: Work,
-    workers: usize,
+    modules: Modules,
     row: &Row,
     leaves: &mut Vec<Leaf>,
 )
-    requires some { 0 < workers }
-    requires inside { 0 < slots row.now.world }
+    requires eight { 8 ≤ slots row.now.world }
     requires own { All (IsOf row.now) leaves.old.items }
     ensures own { All (IsOf row.now) leaves.new.items }
 {
-    for_each_mut(rt, leaves, workers, &|_, leaf| do_work(rt, work, row, leaf));
+    let threads = leaves.len().max(1);
+    for_each_mut(
+        rt,
+        leaves,
+        threads,
+        &|worker, leaf| { do_work(rt, work, modules, row, worker, leaf) },
+    );
 }
 
-fn do_work<R: Wait>(rt: &R, work: Work, row: &Row, leaf: &mut Leaf)
-    requires inside { 0 < slots row.now.world }
+fn do_work<R: Wait>(rt: &R, work: Work, modules: Modules, row: &Row, worker: usize, leaf: &mut Leaf)
+    requires eight { 8 ≤ slots row.now.world }
     requires own { IsOf row.now leaf.old }
     ensures own { IsOf row.now leaf.new }
 {
+    let range = modules.slots(worker);
     match work {
-        Work::Pairs => make_pairs(rt, row, leaf),
-        Work::Hold => hold(rt, row, leaf),
+        Work::Pairs(rounds) => make_pairs(rt, row, range, leaf, rounds),
+        Work::Get => get_each(rt, row, range, leaf),
+        Work::Put => put_each(row, range, leaf),
     }
 }
 
-fn make_pairs<R: Wait>(rt: &R, row: &Row, leaf: &mut Leaf)
-    requires inside { 0 < slots row.now.world }
+fn make_pairs<R: Wait>(rt: &R, row: &Row, range: SlotRange, leaf: &mut Leaf, rounds: u64)
+    requires inside { range.to ≤ slots row.now.world }
     requires own { IsOf row.now leaf.old }
     ensures own { IsOf row.now leaf.new }
 {
-    for _ in 0..PAIRS {
-        let _ = leaf.get(rt, row, 0);
-        let _ = leaf.put(row, 0);
+    for _ in 0..rounds {
+        make_round(rt, row, range, leaf);
     }
 }
 
-fn hold<R: Wait>(rt: &R, row: &Row, leaf: &mut Leaf)
-    requires inside { 0 < slots row.now.world }
+/// A reference to each is taken and given back.
+fn make_round<R: Wait>(rt: &R, row: &Row, range: SlotRange, leaf: &mut Leaf)
+    requires inside { range.to ≤ slots row.now.world }
     requires own { IsOf row.now leaf.old }
     ensures own { IsOf row.now leaf.new }
 {
-    let _ = leaf.get(rt, row, 0);
+    for slot in range.from..range.to {
+        let _ = leaf.get(rt, row, slot);
+        let _ = leaf.put(row, slot);
+    }
 }
 
-/// Loads the module of slot 0.
-fn load(alloc: Global, row: &Row, seat: BookSeat, catalogue: &Catalogue) -> Result<()>
-    requires inside { 0 < slots row.now.world }
-    requires new { seat ≡ new_book row.now.id row.now.world }
-    requires same { modules_of catalogue.now ≡ row.now.world.catalogue }
+fn get_each<R: Wait>(rt: &R, row: &Row, range: SlotRange, leaf: &mut Leaf)
+    requires inside { range.to ≤ slots row.now.world }
+    requires own { IsOf row.now leaf.old }
+    ensures own { IsOf row.now leaf.new }
 {
-    let mut book = Book::new(alloc, seat, catalogue)?;
-    if book.begin_load(row, 0).is_err() || book.end_load(row, 0, true).is_err() {
-        bail!("the module is not loaded");
+    for slot in range.from..range.to {
+        let _ = leaf.get(rt, row, slot);
+    }
+}
+
+fn put_each(row: &Row, range: SlotRange, leaf: &mut Leaf)
+    requires inside { range.to ≤ slots row.now.world }
+    requires own { IsOf row.now leaf.old }
+    ensures own { IsOf row.now leaf.new }
+{
+    for slot in range.from..range.to {
+        let _ = leaf.put(row, slot);
+    }
+}
+
+/// Loads all modules.
+fn load_all(row: &Row, book: &mut Book) -> Result<()>
+    requires eight { 8 ≤ slots row.now.world }
+    requires own { IsOf row.now book.old }
+{
+    for slot in 0..COUNT {
+        if book.begin_load(row, slot).is_err() || book.end_load(row, slot, true).is_err() {
+            bail!("a module is not loaded");
+        }
     }
     Ok(())
 }

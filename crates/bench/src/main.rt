@@ -13,6 +13,7 @@ mod manager;
 mod patterns;
 mod plans;
 mod points;
+mod workers;
 
 use anyhow::Result;
 use std::env;
