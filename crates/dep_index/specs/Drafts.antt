@@ -1,9 +1,12 @@
 -- What the program keeps while it reads a catalogue, as a draft of the definitions.
-use Rattle.std.specs.Prelude.{◌≡◌, ◌≤◌, false, List, [], ◌∷◌, ◌++◌, length, Option, Some, None}
+use Rattle.std.specs.Prelude.{◌≡◌, ℕ, ◌≤◌, false, List, [], ◌∷◌, ◌++◌, length, Option, Some, None, Result, Ok, MatchResult}
 use Rattle.dep_index.specs.Catalogue as spec
 use Rattle.dep_index.specs.Catalogue.{Description, has_name}
 use Rattle.dep_index.specs.Descriptions.{descriptions_in, open_in}
 use Rattle.dep_index.specs.Exports.{links_of}
+use Rattle.dep_index.specs.Faults.{IsRefused, IsFirstFault}
+use Rattle.dep_index.specs.declared.faults.CatError.{CatError}
+use Rattle.dep_index.specs.declared.faults.Refused.{Refused}
 use Rattle.dep_index.specs.declared.details.Open.{Open}
 use Rattle.dep_index.specs.declared.draft.Draft.{Draft}
 
@@ -35,3 +38,11 @@ pub record IsSound (draft : Draft) : Type 0 where
   pub links : draft.exporters ≡ links_of (modules_read draft)
   pub is_new : IsNew (descriptions_in draft.earlier.entries) draft.last
   pub few : length (modules_read draft) ≤ 1024
+
+-- the draft is now what the definition makes, and sound, or the line is refused for the definition's fault
+abbrev pub DraftIsMade : {T : Type 0} → Result T Refused → Result spec.Draft spec.Refusal → Draft → Type 0
+DraftIsMade result meant now = MatchResult result (λ _. (meant ≡ Ok (draft_in now)) × IsSound now) (λ e. IsRefused e meant)
+
+-- the draft is what the definition reads, and sound, or the text has the definition's fault
+abbrev pub DraftIsRead : Result Draft CatError → Result spec.Draft (spec.Refusal × ℕ) → Type 0
+DraftIsRead result meant = MatchResult result (λ draft. (meant ≡ Ok (draft_in draft)) × IsSound draft) (λ e. IsFirstFault e meant)

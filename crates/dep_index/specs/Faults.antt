@@ -1,5 +1,5 @@
 -- What a refusal says of a text.
-use Rattle.std.specs.Prelude.{◌≡◌, ℕ, Result, Err}
+use Rattle.std.specs.Prelude.{◌≡◌, ℕ, Result, Ok, Err, MatchResult}
 use Rattle.dep_index.specs.Catalogue.{Refusal, bad, duplicate, twice_exported, too_many}
 use Rattle.dep_index.specs.Dependencies.{DepRefusal, no_colon, empty_name, second_line}
 use Rattle.dep_index.specs.declared.faults.CatError.{CatError}
@@ -55,3 +55,11 @@ dep_fault_at dep_line.NoColon n = dep.NoColon n
 dep_fault_at dep_line.EmptyName n = dep.EmptyName n
 dep_fault_at dep_line.SecondLine n = dep.SecondLine n
 dep_fault_at dep_line.Memory n = dep.Memory
+
+-- what the program has now is what the definition makes, or it is refused for the definition's fault
+abbrev pub IsMade : {T A : Type 0} → Result T Refused → Result A Refusal → A → Type 0
+IsMade result meant now = MatchResult result (λ _. meant ≡ Ok now) (λ e. IsRefused e meant)
+
+-- the same of modules.dep
+abbrev pub IsDepMade : {T A : Type 0} → Result T DepRefused → Result A DepRefusal → A → Type 0
+IsDepMade result meant now = MatchResult result (λ _. meant ≡ Ok now) (λ e. IsDepRefused e meant)

@@ -58,64 +58,64 @@ impl Catalogue {
     }
 
     /// The name of the module in the slot, in normal form.
-    pub fn name(&self, m: usize) -> &[u8]
-        requires { m < length self.now }
-        ensures { result.now ≡ (description_at self.now m).name }
+    pub fn name(&self, slot: usize) -> &[u8]
+        requires { slot < length self.now }
+        ensures { result.now ≡ (description_at self.now slot).name }
     {
-        let (name, _) = self.modules.get_index(m).unwrap();
+        let (name, _) = self.modules.get_index(slot).unwrap();
         name
     }
 
     /// The size of the module, 0 where the text has none.
-    pub fn size(&self, m: usize) -> u32
-        requires { m < length self.now }
-        ensures { result ≡ unwrap_or (description_at self.now m).size 0 }
+    pub fn size(&self, slot: usize) -> u32
+        requires { slot < length self.now }
+        ensures { result ≡ unwrap_or (description_at self.now slot).size 0 }
     {
-        let (_, details) = self.modules.get_index(m).unwrap();
+        let (_, details) = self.modules.get_index(slot).unwrap();
         details.size.unwrap_or(0)
     }
 
     /// The slots that the module needs: the exporters of its symbols, in the order of the symbols, each once and
     /// never the module itself.
-    pub fn needs(&self, m: usize) -> &[u16]
-        requires { m < length self.now }
-        ensures { result.now ≡ needs_of self.now m }
+    pub fn needs(&self, slot: usize) -> &[u16]
+        requires { slot < length self.now }
+        ensures { result.now ≡ needs_of self.now slot }
     {
-        self.slots.needs(m)
+        self.slots.needs(slot)
     }
 
     /// Whether the module needs a symbol that no module exports.
-    pub fn unknown_symbol(&self, m: usize) -> bool
-        requires { m < length self.now }
-        ensures { result ≡ has_unknown_symbol self.now m }
+    pub fn unknown_symbol(&self, slot: usize) -> bool
+        requires { slot < length self.now }
+        ensures { result ≡ has_unknown_symbol self.now slot }
     {
-        self.slots.unknown_symbol(m)
+        self.slots.unknown_symbol(slot)
     }
 
     /// The parameters of the module, in the order of the text.
-    pub fn params(&self, m: usize) -> &[Param]
-        requires { m < length self.now }
-        ensures { result.now ≡ (description_at self.now m).params }
+    pub fn params(&self, slot: usize) -> &[Param]
+        requires { slot < length self.now }
+        ensures { result.now ≡ (description_at self.now slot).params }
     {
-        let (_, details) = self.modules.get_index(m).unwrap();
+        let (_, details) = self.modules.get_index(slot).unwrap();
         &details.params
     }
 
     /// Whether the module stays once it is loaded.
-    pub fn permanent(&self, m: usize) -> bool
-        requires { m < length self.now }
-        ensures { result ≡ (description_at self.now m).permanent }
+    pub fn permanent(&self, slot: usize) -> bool
+        requires { slot < length self.now }
+        ensures { result ≡ (description_at self.now slot).permanent }
     {
-        self.slots.permanent(m)
+        self.slots.permanent(slot)
     }
 
     /// The names of the modules that the module would have loaded before it, repeats kept; they need not be in the
     /// catalogue.
-    pub fn softneeds(&self, m: usize) -> &[Name]
-        requires { m < length self.now }
-        ensures { result.now ≡ (description_at self.now m).softneeds }
+    pub fn softneeds(&self, slot: usize) -> &[Name]
+        requires { slot < length self.now }
+        ensures { result.now ≡ (description_at self.now slot).softneeds }
     {
-        let (_, details) = self.modules.get_index(m).unwrap();
+        let (_, details) = self.modules.get_index(slot).unwrap();
         &details.softneeds
     }
 

@@ -2,7 +2,7 @@
 ghost use Rattle.std.specs.Prelude.{◌≡◌, Ok, IfOk, MatchResult};
 ghost use Rattle.std.specs.Str.Lines.{lines};
 ghost use Rattle.dep_index.specs.Catalogue.{catalogue_of, read_lines, no_draft};
-ghost use Rattle.dep_index.specs.Drafts.{draft_in, modules_read, IsSound};
+ghost use Rattle.dep_index.specs.Drafts.{modules_read, IsSound, DraftIsRead};
 ghost use Rattle.dep_index.specs.Faults.{IsFirstFault};
 
 use crate::catalogue::Catalogue;
@@ -14,7 +14,7 @@ use std::alloc::{AllocError, Global};
 
 /// Reads line after line.
 fn read_draft<'a>(alloc: Global, text: &'a [u8]) -> Result<Draft<'a>, CatError>
-    ensures { MatchResult result (λ draft. (read_lines 1 no_draft (lines text.now) ≡ Ok (draft_in draft)) × IsSound draft) (λ e. IsFirstFault e (read_lines 1 no_draft (lines text.now))) }
+    ensures { DraftIsRead result (read_lines 1 no_draft (lines text.now)) }
 {
     let mut draft = Draft::new(alloc);
     let mut lines = whole_lines(text);

@@ -4,7 +4,7 @@ ghost use Rattle.std.specs.List.{list_any};
 ghost use Rattle.std.specs.Str.{bytes_eq};
 ghost use Rattle.std.specs.Str.Lines.{lines};
 ghost use Rattle.dep_index.specs.Dependencies.{Pair, dependencies_of, dep_line, is_empty, with_pair};
-ghost use Rattle.dep_index.specs.Faults.{IsDepRefused, IsFirstDepFault};
+ghost use Rattle.dep_index.specs.Faults.{IsDepMade, IsFirstDepFault};
 ghost use Rattle.dep_index.specs.Pairs.{pairs_in};
 
 use crate::dependencies::DepIndex;
@@ -39,7 +39,7 @@ fn add(
     name: Name,
     names: Vec<Name>,
 ) -> Result<(), DepRefused>
-    ensures { MatchResult result (λ _. with_pair (pairs_in index.old.entries) (name, names.items) ≡ Ok (pairs_in index.new.entries)) (λ e. IsDepRefused e (with_pair (pairs_in index.old.entries) (name, names.items))) }
+    ensures { IsDepMade result (with_pair (pairs_in index.old.entries) (name, names.items)) (pairs_in index.new.entries) }
 {
     if has_no_bytes(name.as_bytes()) || has_empty(&names) {
         return Err(DepRefused::EmptyName);
@@ -57,7 +57,7 @@ fn read_line(
     alloc: Global,
     line: &[u8],
 ) -> Result<(), DepRefused>
-    ensures { MatchResult result (λ _. dep_line (pairs_in index.old.entries) line.now ≡ Ok (pairs_in index.new.entries)) (λ e. IsDepRefused e (dep_line (pairs_in index.old.entries) line.now)) }
+    ensures { IsDepMade result (dep_line (pairs_in index.old.entries) line.now) (pairs_in index.new.entries) }
 {
     if is_comment(line) || words(alloc, line)?.is_empty() {
         return Ok(());

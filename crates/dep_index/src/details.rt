@@ -8,7 +8,7 @@ ghost use Rattle.dep_index.specs.Catalogue as spec;
 ghost use Rattle.dep_index.specs.Descriptions.{owned, open_in};
 ghost use Rattle.dep_index.specs.Directives.{directive_in};
 ghost use Rattle.dep_index.specs.Exports.{export_links, change_links};
-ghost use Rattle.dep_index.specs.Faults.{IsRefused};
+ghost use Rattle.dep_index.specs.Faults.{IsMade};
 
 use crate::directives::{Directive, is_same};
 use crate::exporters::Exporters;
@@ -72,7 +72,7 @@ impl Open {
     }
 
     fn set_size(&mut self, n: u32) -> Result<(), Refused>
-        ensures { MatchResult result (λ _. sized (open_in self.old) (open_in self.old).size n ≡ Ok (open_in self.new)) (λ e. IsRefused e (sized (open_in self.old) (open_in self.old).size n)) }
+        ensures { IsMade result (sized (open_in self.old) (open_in self.old).size n) (open_in self.new) }
     {
         if self.details.size.is_some() {
             return Err(Refused::Bad);
@@ -94,7 +94,7 @@ impl Open {
     }
 
     fn define(&mut self, name: Name, kind: ParamKind) -> Result<(), Refused>
-        ensures { MatchResult result (λ _. change false [] (open_in self.old) (spec.param name kind) ≡ Ok (open_in self.new)) (λ e. IsRefused e (change false [] (open_in self.old) (spec.param name kind))) }
+        ensures { IsMade result (change false [] (open_in self.old) (spec.param name kind)) (open_in self.new) }
     {
         if has_param(&self.details.params, name.as_bytes()) {
             return Err(Refused::Bad);
@@ -110,7 +110,7 @@ impl Open {
         slot: u16,
         symbols: &[&'a [u8]],
     ) -> Result<(), Refused>
-        ensures { MatchResult result (λ _. export_links exporters.old slot (open_in self.old) (texts_of symbols.now) ≡ Ok (open_in self.new, exporters.new)) (λ e. IsRefused e (export_links exporters.old slot (open_in self.old) (texts_of symbols.now))) }
+        ensures { IsMade result (export_links exporters.old slot (open_in self.old) (texts_of symbols.now)) (open_in self.new, exporters.new) }
     {
         for symbol in symbols {
             if !exporters.add(symbol, slot)? {
@@ -130,7 +130,8 @@ impl Open {
         slot: u16,
         directive: Directive<'_, 'a>,
     ) -> Result<(), Refused>
-        ensures { MatchResult result (λ _. change_links is_version_2 exporters.old slot (open_in self.old) (directive_in directive.entry) ≡ Ok (open_in self.new, exporters.new)) (λ e. IsRefused e (change_links is_version_2 exporters.old slot (open_in self.old) (directive_in directive.entry))) }
+        ensures { let meant = change_links is_version_2 exporters.old slot (open_in self.old) (directive_in directive.entry) in
+            IsMade result meant (open_in self.new, exporters.new) }
     {
         match directive {
             Directive::Version | Directive::Module(_) => return Err(Refused::Bad),

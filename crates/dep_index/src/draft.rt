@@ -5,8 +5,7 @@ ghost use Rattle.dep_index.specs.Catalogue as spec;
 ghost use Rattle.dep_index.specs.Catalogue.{has_name, limit, apply, change_last, with_modules, read_words, read_line, no_draft};
 ghost use Rattle.dep_index.specs.Descriptions.{descriptions_in};
 ghost use Rattle.dep_index.specs.Directives.{directive_in};
-ghost use Rattle.dep_index.specs.Drafts.{draft_in, modules_read, IsSound};
-ghost use Rattle.dep_index.specs.Faults.{IsRefused};
+ghost use Rattle.dep_index.specs.Drafts.{draft_in, modules_read, IsSound, DraftIsMade};
 
 use crate::details::{Details, Open};
 use crate::directives::{Directive, is_same, read_directive};
@@ -90,7 +89,7 @@ impl<'a> Draft<'a> {
 
     fn version(&mut self) -> Result<(), Refused>
         requires sound { IsSound self.old }
-        ensures { MatchResult result (λ _. (apply (draft_in self.old) spec.version ≡ Ok (draft_in self.new)) × IsSound self.new) (λ e. IsRefused e (apply (draft_in self.old) spec.version)) }
+        ensures { DraftIsMade result (apply (draft_in self.old) spec.version) self.new }
     {
         if self.begun {
             return Err(Refused::Bad);
@@ -102,7 +101,7 @@ impl<'a> Draft<'a> {
 
     fn begin(&mut self, alloc: Global, name: Name) -> Result<(), Refused>
         requires sound { IsSound self.old }
-        ensures { MatchResult result (λ _. (apply (draft_in self.old) (spec.begin name) ≡ Ok (draft_in self.new)) × IsSound self.new) (λ e. IsRefused e (apply (draft_in self.old) (spec.begin name))) }
+        ensures { DraftIsMade result (apply (draft_in self.old) (spec.begin name)) self.new }
     {
         let name = name.into_bytes();
         if self.has(&name) {
@@ -119,7 +118,8 @@ impl<'a> Draft<'a> {
 
     fn change(&mut self, alloc: Global, directive: Directive<'_, 'a>) -> Result<(), Refused>
         requires sound { IsSound self.old }
-        ensures { MatchResult result (λ _. (with_modules (draft_in self.old) (change_last self.old.is_version_2 [] (modules_read self.old) (directive_in directive.entry)) ≡ Ok (draft_in self.new)) × IsSound self.new) (λ e. IsRefused e (with_modules (draft_in self.old) (change_last self.old.is_version_2 [] (modules_read self.old) (directive_in directive.entry)))) }
+        ensures { let changed = change_last self.old.is_version_2 [] (modules_read self.old) (directive_in directive.entry) in
+            DraftIsMade result (with_modules (draft_in self.old) changed) self.new }
     {
         let Some(open) = &mut self.last else {
             return Err(Refused::Bad);
@@ -137,7 +137,7 @@ impl<'a> Draft<'a> {
 
     fn apply(&mut self, alloc: Global, directive: Directive<'_, 'a>) -> Result<(), Refused>
         requires sound { IsSound self.old }
-        ensures { MatchResult result (λ _. (apply (draft_in self.old) (directive_in directive.entry) ≡ Ok (draft_in self.new)) × IsSound self.new) (λ e. IsRefused e (apply (draft_in self.old) (directive_in directive.entry))) }
+        ensures { DraftIsMade result (apply (draft_in self.old) (directive_in directive.entry)) self.new }
     {
         match directive {
             Directive::Version => self.version(),
@@ -148,7 +148,7 @@ impl<'a> Draft<'a> {
 
     fn read_words(&mut self, alloc: Global, words: &[&'a [u8]]) -> Result<(), Refused>
         requires sound { IsSound self.old }
-        ensures { MatchResult result (λ _. (read_words (draft_in self.old) (texts_of words.now) ≡ Ok (draft_in self.new)) × IsSound self.new) (λ e. IsRefused e (read_words (draft_in self.old) (texts_of words.now))) }
+        ensures { DraftIsMade result (read_words (draft_in self.old) (texts_of words.now)) self.new }
     {
         let Some((word, rest)) = words.split_first() else {
             return Ok(());
@@ -162,7 +162,7 @@ impl<'a> Draft<'a> {
     /// Takes one line.
     pub(crate) fn read_line(&mut self, alloc: Global, line: &'a [u8]) -> Result<(), Refused>
         requires sound { IsSound self.old }
-        ensures { MatchResult result (λ _. (read_line (draft_in self.old) line.now ≡ Ok (draft_in self.new)) × IsSound self.new) (λ e. IsRefused e (read_line (draft_in self.old) line.now)) }
+        ensures { DraftIsMade result (read_line (draft_in self.old) line.now) self.new }
     {
         if is_comment(line) {
             return Ok(());

@@ -1,6 +1,7 @@
 //! What all crates share: the calls on a module table and their replies, and the catalogue by slot.
 #![tactic(auto)]
 
+mod book;
 mod calls;
 mod catalogue;
 mod catalogue_text;
@@ -23,6 +24,7 @@ mod states;
 pub mod text;
 pub mod words;
 
+pub use book::Book;
 pub use calls::{Call, Reply};
 pub use catalogue::Catalogue;
 pub use catalogue_text::read_catalogue;
@@ -33,7 +35,7 @@ pub use names::Name;
 pub use params::{Param, ParamKind};
 pub use refusals::{
     BeginDrainError, BeginLoadError, BeginRemoveError, EndLoadError, EndRemoveError, GetError,
-    PutError,
+    PutError, Refusal,
 };
 pub use slots::Slots;
 pub use states::ModuleState;

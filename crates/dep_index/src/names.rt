@@ -40,6 +40,14 @@ impl Name {
         Ok(Name { bytes })
     }
 
+    /// The same name, for another owner. It fails for want of memory alone.
+    pub fn copy(&self, alloc: Global) -> Result<Name, AllocError>
+        ensures { IfOk result (λ copied. copied ≡ self.now) }
+    {
+        let bytes = Vec::from_slice(alloc, &self.bytes)?;
+        Ok(Name { bytes })
+    }
+
     /// The bytes of the name, which are in normal form.
     pub fn as_bytes(&self) -> &[u8]
         ensures { result.now ≡ self.now }

@@ -12,45 +12,45 @@ use crate::slots::Slots;
 use indexmap::IndexMap;
 use std::alloc::{AllocError, Global};
 
-/// Adds the slot k to the needs of m, where it is not m and not there. Of the marks, those of the slots that are
-/// there are the turn.
+/// Adds a need to the needs of a slot, where it is another slot and not there. Of the marks, those of the needs that
+/// are there are the turn.
 fn add_need(
     needs: &mut Vec<u16>,
     marks: &mut [u16],
-    m: u16,
+    slot: u16,
     turn: u16,
-    k: u16,
+    need: u16,
 ) -> Result<(), AllocError>
-    requires slot { k < length marks.old }
+    requires slot { need < length marks.old }
     requires marked { IsMarked turn marks.old needs.old.items }
-    ensures needs { OnOk result (needs.new.items ≡ with_need m needs.old.items (Some k)) }
+    ensures needs { OnOk result (needs.new.items ≡ with_need slot needs.old.items (Some need)) }
     ensures marked { OnOk result (IsMarked turn marks.new needs.new.items) }
 {
-    if k != m && marks[k as usize] != turn {
-        needs.push(k)?;
-        marks[k as usize] = turn;
+    if need != slot && marks[need as usize] != turn {
+        needs.push(need)?;
+        marks[need as usize] = turn;
     }
     Ok(())
 }
 
-/// The slots of the exporters of the symbols, each once and without m.
+/// The slots of the exporters of the symbols, each once and without the slot itself.
 fn needs_of(
     alloc: Global,
     exporters: &Exporters<'_>,
     marks: &mut [u16],
-    m: u16,
+    slot: u16,
     symbols: &[Vec<u8>],
 ) -> Result<Vec<u16>, AllocError>
-    requires small { m < 1024 }
+    requires small { slot < 1024 }
     requires slots { (s : List ℕ) → IfSome (slot_at exporters.now s) (λ k. k < length marks.old) }
-    requires marks { (k : ℕ) → slice_index marks.old k ≤ m }
-    ensures needs { IfOk result (λ needs. needs.items ≡ needs_by exporters.now m [] (owned symbols.now)) }
-    ensures marks { OnOk result ((k : ℕ) → slice_index marks.new k ≤ m + 1) }
+    requires marks { (k : ℕ) → slice_index marks.old k ≤ slot }
+    ensures needs { IfOk result (λ needs. needs.items ≡ needs_by exporters.now slot [] (owned symbols.now)) }
+    ensures marks { OnOk result ((k : ℕ) → slice_index marks.new k ≤ slot + 1) }
 {
     let mut needs = Vec::new(alloc);
     for symbol in symbols {
         if let Some(k) = exporters.slot(symbol) {
-            add_need(&mut needs, marks, m, m + 1, k)?;
+            add_need(&mut needs, marks, slot, slot + 1, k)?;
         }
     }
     Ok(needs)
@@ -78,10 +78,10 @@ pub(crate) fn slots_of(
     let mut marks = vec![in alloc; 0u16; modules.len()]?;
     let marks = marks.as_mut_slice();
     let mut slots = Slots::new(alloc);
-    for m in 0..modules.len() {
-        let (_, details) = modules.get_index(m).unwrap();
+    for slot in 0..modules.len() {
+        let (_, details) = modules.get_index(slot).unwrap();
         let symbols = &details.needed_symbols;
-        let needs = needs_of(alloc, exporters, marks, m as u16, symbols)?;
+        let needs = needs_of(alloc, exporters, marks, slot as u16, symbols)?;
         slots.push(needs, has_unknown(exporters, symbols), details.permanent)?;
     }
     Ok(slots)

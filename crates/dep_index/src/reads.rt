@@ -8,10 +8,10 @@ use crate::slots::Slots;
 use crate::states::ModuleState;
 
 /// The state of the slot, Absent past the end.
-pub fn state_at(states: &[ModuleState], m: usize) -> ModuleState
-    ensures { result ≡ slice_index_or states.now m ModuleState.Absent }
+pub fn state_at(states: &[ModuleState], slot: usize) -> ModuleState
+    ensures { result ≡ slice_index_or states.now slot ModuleState.Absent }
 {
-    states.get(m).copied().unwrap_or(ModuleState::Absent)
+    states.get(slot).copied().unwrap_or(ModuleState::Absent)
 }
 
 /// Whether the module takes references and may be needed.
@@ -59,25 +59,25 @@ pub fn first_missing(states: &[ModuleState], needs: &[u16]) -> Option<u16>
         .find(|need| !is_live(state_at(states, *need as usize)))
 }
 
-/// Whether the slot u needs the slot m; no slot past the end needs one.
-pub fn needs_slot(slots: &Slots, m: usize, u: u16) -> bool
-    ensures { result ≡ needs_slot slots.now m u }
+/// Whether the slot `user` needs the slot; no slot past the end needs one.
+pub fn needs_slot(slots: &Slots, slot: usize, user: u16) -> bool
+    ensures { result ≡ needs_slot slots.now slot user }
 {
-    let u = u as usize;
-    u < slots.len() && slots.needs(u).iter().any(|need| *need as usize == m)
+    let user = user as usize;
+    user < slots.len() && slots.needs(user).iter().any(|need| *need as usize == slot)
 }
 
-/// Whether a module of the order needs the slot m.
-pub fn has_users(slots: &Slots, order: &[u16], m: usize) -> bool
-    ensures { result ≡ list_any (needs_slot slots.now m) order.now }
+/// Whether a module of the order needs the slot.
+pub fn has_users(slots: &Slots, order: &[u16], slot: usize) -> bool
+    ensures { result ≡ list_any (needs_slot slots.now slot) order.now }
 {
-    order.iter().any(|user| needs_slot(slots, m, *user))
+    order.iter().any(|user| needs_slot(slots, slot, *user))
 }
 
 /// The slot leaves the order; the room stays.
-pub fn forget(order: &mut Vec<u16>, m: usize)
-    ensures after { order.new.items ≡ filter (λ s. not (s == m)) order.old.items }
+pub fn forget(order: &mut Vec<u16>, slot: usize)
+    ensures after { order.new.items ≡ filter (λ s. not (s == slot)) order.old.items }
     ensures capacity { vec_capacity order.new ≡ vec_capacity order.old }
 {
-    order.retain(|slot| *slot as usize != m);
+    order.retain(|other| *other as usize != slot);
 }

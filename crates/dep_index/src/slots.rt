@@ -69,27 +69,27 @@ impl Slots {
     }
 
     /// The slots that the module needs, in the order of its symbols.
-    pub fn needs(&self, m: usize) -> &[u16]
-        requires { m < length self.now }
-        ensures { result.now ≡ (module_at self.now m).needs }
+    pub fn needs(&self, slot: usize) -> &[u16]
+        requires { slot < length self.now }
+        ensures { result.now ≡ (module_at self.now slot).needs }
     {
-        &self.slots[m].needs
+        &self.slots[slot].needs
     }
 
     /// Whether the module needs a symbol that no module exports.
-    pub fn unknown_symbol(&self, m: usize) -> bool
-        requires { m < length self.now }
-        ensures { result ≡ (module_at self.now m).unknown_symbol }
+    pub fn unknown_symbol(&self, slot: usize) -> bool
+        requires { slot < length self.now }
+        ensures { result ≡ (module_at self.now slot).unknown_symbol }
     {
-        self.slots[m].unknown_symbol
+        self.slots[slot].unknown_symbol
     }
 
     /// Whether the module stays once it is loaded.
-    pub fn permanent(&self, m: usize) -> bool
-        requires { m < length self.now }
-        ensures { result ≡ (module_at self.now m).permanent }
+    pub fn permanent(&self, slot: usize) -> bool
+        requires { slot < length self.now }
+        ensures { result ≡ (module_at self.now slot).permanent }
     {
-        self.slots[m].permanent
+        self.slots[slot].permanent
     }
 
     /// The same slots, for another owner. It fails for want of memory alone.

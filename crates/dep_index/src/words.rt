@@ -1,7 +1,7 @@
 //! What one step on a root word does. A Live module's word is the number of workers that hold it, a Draining one's
 //! `DRAINED` and that number, every other `CLOSED`.
 ghost use Rattle.std.specs.Prelude.{◌≡◌, ◌<◌, ◌+◌, ◌≤◌, ◌^◌};
-ghost use Rattle.dep_index.specs.Words.{get_look, put_step, query_look, close_step, takes_effect};
+ghost use Rattle.dep_index.specs.Words.{get_look, put_step, query_look, shows_holders, close_step, takes_effect};
 
 use crate::calls::Reply;
 
@@ -62,13 +62,19 @@ pub fn put_step(count: u16, word: u64) -> WordStep
 pub fn query_look(word: u64) -> WordStep
     ensures { result ≡ query_look word }
 {
-    let held = if word < CLOSED {
+    let reply = Reply::of_query(shows_holders(word));
+    takes_effect(word, reply)
+}
+
+/// Whether a word says that some worker holds its module, Live or Draining.
+pub fn shows_holders(word: u64) -> bool
+    ensures { result ≡ shows_holders word }
+{
+    if word < CLOSED {
         word > 0
     } else {
         word > DRAINED
-    };
-    let reply = if held { Reply::Yes } else { Reply::No };
-    takes_effect(word, reply)
+    }
 }
 
 /// The call takes effect, and leaves this word.

@@ -13,19 +13,19 @@ use Rattle.dep_index.proofs.needs.slots_of.Goals as goal
 
 pub needs_of-requires-clause-slots : goal.needs_of-requires-clause-slots
 needs_of-requires-clause-slots c =
-    slot_within (descriptions_in c.args.modules.now.entries) (length c.loop-m.marks) c.args.exporters.now c.requires.links (c.loop-m.invariant.len ∙ sym (length-map c.args.modules.now.entries description_of))
+    slot_within (descriptions_in c.args.modules.now.entries) (length c.loop-slot.marks) c.args.exporters.now c.requires.links (c.loop-slot.invariant.len ∙ sym (length-map c.args.modules.now.entries description_of))
 
-pub loop-m-preserved : goal.loop-m-preserved
-loop-m-preserved c =
+pub loop-slot-preserved : goal.loop-slot-preserved
+loop-slot-preserved c =
     let entry = deref_pair c.unwrap.result in
-    let here : slice_get c.args.modules.now.entries c.loop-m.m ≡ Some entry = sym c.get_index.ensures.entry ∙ ap (option_map deref_pair) c.unwrap.ensures in
-    let below : c.loop-m.m < length c.args.modules.now.entries = omega arith in
+    let here : slice_get c.args.modules.now.entries c.loop-slot.slot ≡ Some entry = sym c.get_index.ensures.entry ∙ ap (option_map deref_pair) c.unwrap.ensures in
+    let below : c.loop-slot.slot < length c.args.modules.now.entries = omega arith in
     record {
       slots =
           c.in_ok-push.ensures
-          ∙ next_slot c.args.modules.now.entries c.args.exporters.now c.loop-m.m entry c.loop-m.slots c.deref.result.now c.in_ok-needs.needs.items c.has_unknown.result
-          c.requires.links here below c.deref.ensures.value c.loop-m.invariant.slots c.in_ok-needs.ensures.needs
-          (c.has_unknown.ensures ∙ ap (list_any (λ (s : Vec ℕ Global). is_none (slot_at c.args.exporters.now s.items))) (c.deref-in-loop-m.ensures.value ∙ sym c.deref.ensures.value));
+          ∙ next_slot c.args.modules.now.entries c.args.exporters.now c.loop-slot.slot entry c.loop-slot.slots c.deref.result.now c.in_ok-needs.needs.items c.has_unknown.result
+          c.requires.links here below c.deref.ensures.value c.loop-slot.invariant.slots c.in_ok-needs.ensures.needs
+          (c.has_unknown.ensures ∙ ap (list_any (λ (s : Vec ℕ Global). is_none (slot_at c.args.exporters.now s.items))) (c.deref-in-loop-slot.ensures.value ∙ sym c.deref.ensures.value));
       len = omega arith;
       marks = c.in_ok-needs.ensures.marks;
     }
@@ -34,4 +34,4 @@ pub returns : goal.returns
 returns c =
     let all : length (modules_of (descriptions_in c.args.modules.now.entries)) ≡ length c.args.modules.now.entries =
     length-modules_of (descriptions_in c.args.modules.now.entries) ∙ length-map c.args.modules.now.entries description_of in
-    c.loop-m.invariant.slots ∙ take_all c.loop-m.m (modules_of (descriptions_in c.args.modules.now.entries)) (omega (arith, all))
+    c.loop-slot.invariant.slots ∙ take_all c.loop-slot.slot (modules_of (descriptions_in c.args.modules.now.entries)) (omega (arith, all))

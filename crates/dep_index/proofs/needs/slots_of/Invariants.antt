@@ -5,9 +5,9 @@ use Rattle.dep_index.specs.Descriptions.{descriptions_in}
 use Rattle.dep_index.proofs.needs.slots_of.Given as goal
 
 -- the slots before this one are done, and no mark is of a later one
-abbrev pub invariant-loop-m : goal.invariant-loop-m
-invariant-loop-m l = record {
-  slots : l.slots ≡ take l.m (modules_of (descriptions_in l.modules.entries));
+abbrev pub invariant-loop-slot : goal.invariant-loop-slot
+invariant-loop-slot l = record {
+  slots : l.slots ≡ take l.slot (modules_of (descriptions_in l.modules.entries));
   len : length l.marks ≡ length l.modules.entries;
-  marks : (k : ℕ) → slice_index l.marks k ≤ l.m;
+  marks : (k : ℕ) → slice_index l.marks k ≤ l.slot;
 }

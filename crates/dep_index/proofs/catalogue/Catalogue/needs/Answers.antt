@@ -13,4 +13,4 @@ needs-requires c =
 pub returns : goal.returns
 returns c =
     let is : c.self.inside.slots ≡ modules_of c.args.self.now = c.self.invariant.slots ∙ ap modules_of c.self.view_is in
-    c.needs.ensures ∙ ap (λ slots. (module_at slots c.args.m).needs) is ∙ ap (λ (m : Module). m.needs) (module_at-modules_of c.args.self.now c.args.m c.requires)
+    c.needs.ensures ∙ ap (λ slots. (module_at slots c.args.slot).needs) is ∙ ap (λ (m : Module). m.needs) (module_at-modules_of c.args.self.now c.args.slot c.requires)

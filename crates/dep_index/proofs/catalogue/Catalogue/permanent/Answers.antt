@@ -13,4 +13,4 @@ permanent-requires c =
 pub returns : goal.returns
 returns c =
     let is : c.self.inside.slots ≡ modules_of c.args.self.now = c.self.invariant.slots ∙ ap modules_of c.self.view_is in
-    c.permanent.ensures ∙ ap (λ slots. (module_at slots c.args.m).permanent) is ∙ ap (λ (m : Module). m.permanent) (module_at-modules_of c.args.self.now c.args.m c.requires)
+    c.permanent.ensures ∙ ap (λ slots. (module_at slots c.args.slot).permanent) is ∙ ap (λ (m : Module). m.permanent) (module_at-modules_of c.args.self.now c.args.slot c.requires)

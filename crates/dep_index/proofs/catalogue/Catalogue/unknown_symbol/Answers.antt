@@ -13,4 +13,4 @@ unknown_symbol-requires c =
 pub returns : goal.returns
 returns c =
     let is : c.self.inside.slots ≡ modules_of c.args.self.now = c.self.invariant.slots ∙ ap modules_of c.self.view_is in
-    c.unknown_symbol.ensures ∙ ap (λ slots. (module_at slots c.args.m).unknown_symbol) is ∙ ap (λ (m : Module). m.unknown_symbol) (module_at-modules_of c.args.self.now c.args.m c.requires)
+    c.unknown_symbol.ensures ∙ ap (λ slots. (module_at slots c.args.slot).unknown_symbol) is ∙ ap (λ (m : Module). m.unknown_symbol) (module_at-modules_of c.args.self.now c.args.slot c.requires)
