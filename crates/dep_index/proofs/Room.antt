@@ -1,13 +1,17 @@
 -- The order of a lawful book has room for a slot that is Absent.
-use Rattle.std.proofs.Common.{◌≡◌, ℕ, ◌+◌, ◌<◌, ◌≤◌, Bool, true, false, ◌||◌, ◌⊎◌, eqb, cond, List, [], ◌∷◌, length, refl, sym, ◌∙◌, ap, subst, arith, inl, inr}
+use Rattle.std.proofs.Common.{◌≡◌, ℕ, ◌+◌, ◌<◌, ◌≤◌, Bool, true, false, ◌||◌, ◌⊎◌, eqb, cond, not, List, [], ◌∷◌, ◌++◌, length, length-append, length-set, Option, None, refl, sym, ◌∙◌, ap, subst, arith, inl, inr}
 use Rattle.std.proofs.lemmas.Bool.Decides.{nat_tests}
 use Rattle.std.proofs.lemmas.Bool.{cases_lt, eqb-true, eq-eqb, or_cases}
 use Rattle.std.proofs.lemmas.List.{get_or_past}
 use Rattle.std.proofs.lemmas.Map.Keys.{IsDistinct-cons}
 use Rattle.std.proofs.lemmas.Map.Steps.{length-le_from_distinct_below}
 use Rattle.std.specs.List.{count_by, list_any, IsDistinct, AllByRecursion}
-use Rattle.dep_index.specs.declared.states.ModuleState.TheVariants.{Absent}
-use Rattle.dep_index.specs.Table.{Book, state_of, is_absent}
+use Rattle.dep_index.specs.declared.states.ModuleState.TheVariants.{Absent, Loading}
+use Rattle.dep_index.specs.declared.calls.Call.TheVariants.{BeginLoad}
+use Rattle.dep_index.specs.declared.calls.Reply.{Reply}
+use Rattle.dep_index.specs.declared.calls.Reply.TheVariants.{Exists}
+use Rattle.dep_index.specs.Table.{Module, Book, state_of, is_absent}
+use Rattle.dep_index.specs.Calls.{refuse, book_refusal, book_effect}
 use Rattle.dep_index.specs.Laws.{OrderIsExact}
 use Rattle.dep_index.proofs.Lists.{count_by-cons}
 
@@ -80,3 +84,17 @@ order_has_room book m exact room absent =
         at : (eqb q m ≡ true) ⊎ (list_any (eqb q) book.order ≡ true) → q < length book.states
         at (inl t) = let is : q ≡ m = eqb-true q m t in omega (arith, is, room)
         at (inr t) = order_below book exact q t
+
+not_in_table : (b : Bool) (later : Option Reply) → refuse (not b) Exists later ≡ None → b ≡ true
+not_in_table true later e = refl
+not_in_table false later e = absurd (cc)
+
+-- a load that the book does not refuse finds room
+pub load_has_room : (catalogue : List Module) (book : Book) (m : ℕ) → OrderIsExact book → m < length book.states → book_refusal catalogue book (BeginLoad m) ≡ None
+    → length book.order < length book.states
+load_has_room catalogue book m exact room allowed = order_has_room book m exact room (not_in_table (is_absent (state_of book m)) _ allowed)
+
+-- a load that makes an exact order found room
+pub load_had_room : (book : Book) (m : ℕ) → OrderIsExact (book_effect book (BeginLoad m)) → length book.order < length book.states
+load_had_room book m exact =
+    omega (arith, order_fits (book_effect book (BeginLoad m)) exact, length-append book.order (m ∷ []), length-set book.states m Loading)

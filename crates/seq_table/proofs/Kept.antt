@@ -1,13 +1,11 @@
 -- A table is kept by each call.
-use Rattle.std.proofs.Common.{◌≡◌, ℕ, zero, suc, ◌<◌, ◌≤◌, true, false, leb, List, [], ◌∷◌, length, get_or, refl, sym, ap, subst, arith}
+use Rattle.std.proofs.Common.{◌≡◌, ℕ, zero, suc, ◌<◌, true, false, leb, List, [], ◌∷◌, length, get_or, refl, sym, ap, subst, arith}
 use Rattle.std.proofs.Math.ListN.{set}
 use Rattle.std.proofs.lemmas.Bool.{lt-leb}
 use Rattle.std.specs.Global.{Vec}
-use Rattle.std.specs.Vec.{vec_capacity}
-use Rattle.dep_index.specs.declared.states.ModuleState.{ModuleState}
 use Rattle.dep_index.specs.declared.calls.Call.{Call}
 use Rattle.dep_index.specs.declared.calls.Call.TheVariants.{Get}
-use Rattle.dep_index.specs.Table.{Module, Table, is_live, state_of, count_of}
+use Rattle.dep_index.specs.Table.{Module, Book, Table, is_live, state_of, count_of}
 use Rattle.dep_index.specs.Calls.{next, effect, IsInRange}
 use Rattle.dep_index.specs.Laws.{IsShaped, IsLawful}
 use Rattle.dep_index.proofs.RunLaws.{next_lawful, next_shaped}
@@ -27,21 +25,19 @@ pub length-rows_of : (rows : List (Vec ℕ)) → length (rows_of rows) ≡ lengt
 length-rows_of [] = refl
 length-rows_of (r ∷ rows) = ap suc (length-rows_of rows)
 
--- parts that are the next table are kept
-pub kept_after : (catalogue : List Module) (states states' : Vec ModuleState) (order order' : Vec ℕ) (rows rows' : Vec (Vec ℕ)) (call : Call)
-    → IsKept catalogue states order rows → IsInRange (length catalogue) (length rows.items) call
-    → table_of states'.items order'.items rows'.items ≡ next catalogue (table_of states.items order.items rows.items) call
-    → length rows'.items ≡ length rows.items → vec_capacity order ≤ vec_capacity order'
-    → IsKept catalogue states' order' rows'
-kept_after catalogue states states' order order' rows rows' call kept range is same room =
+-- a book and rows that are the next table are kept
+pub kept_after : (catalogue : List Module) (book book' : Book) (rows rows' : Vec (Vec ℕ)) (call : Call)
+    → IsKept catalogue book rows → IsInRange (length catalogue) (length rows.items) call
+    → table_of book' rows'.items ≡ next catalogue (table_of book rows.items) call → length rows'.items ≡ length rows.items
+    → IsKept catalogue book' rows'
+kept_after catalogue book book' rows rows' call kept range is same =
     record {
       slots = kept.slots;
       workers = rw same kept.workers;
       shape = rw same (subst (λ (t : Table). IsShaped (length catalogue) (length rows.items) t) (sym is)
-          (next_shaped (length catalogue) (length rows.items) catalogue (table_of states.items order.items rows.items) call kept.shape));
+          (next_shaped (length catalogue) (length rows.items) catalogue (table_of book rows.items) call kept.shape));
       lawful = subst (λ (t : Table). IsLawful catalogue t) (sym is)
-          (next_lawful catalogue (length rows.items) (table_of states.items order.items rows.items) call kept.shape kept.lawful range);
-      room = omega (arith, kept.room, room);
+          (next_lawful catalogue (length rows.items) (table_of book rows.items) call kept.shape kept.lawful range);
     }
 
 -- a get that is done

@@ -3,7 +3,7 @@
 
 mod counts;
 mod modules;
-mod tables;
+mod table;
 
 pub use modules::Modules;
-pub use tables::Table;
+pub use table::Table;

@@ -2,7 +2,8 @@
 ghost use Rattle.std.specs.Prelude.{◌≡◌, ◌<◌, ◌≤◌, ◌↔◌, length, slice_index, List, Contains, IsTrue};
 ghost use Rattle.dep_index.specs.Table.{Module, Table as OneThread, state_of, count_of, is_held, needs_slot, users, references};
 ghost use Rattle.dep_index.specs.Calls.{reply, next};
-ghost use Rattle.dep_index.specs.Refusals.{reply_of, get_refusal, put_refusal, begin_load_refusal, end_load_refusal, begin_drain_refusal, begin_remove_refusal, end_remove_refusal};
+ghost use Rattle.dep_index.specs.Refusals.{reply_of, get_refusal, put_refusal, begin_load_refusal, end_load_refusal};
+ghost use Rattle.dep_index.specs.Refusals.{begin_drain_refusal, begin_remove_refusal, end_remove_refusal};
 ghost use Rattle.dep_index.specs.Laws.{IsShaped, IsLawful};
 ghost use Rattle.dep_index.specs.declared.calls.Call.TheVariants.{Get, Put, BeginLoad, EndLoad, BeginDrain, BeginRemove, EndRemove};
 
@@ -31,26 +32,26 @@ pub trait Modules {
         ensures bound { result ≤ 1024 };
 
     /// The state of a module.
-    fn state(&self, m: usize) -> ModuleState
-        requires { m < length (catalogue self.now) }
-        ensures { result ≡ state_of (table self.now).book m };
+    fn state(&self, slot: usize) -> ModuleState
+        requires { slot < length (catalogue self.now) }
+        ensures { result ≡ state_of (table self.now).book slot };
 
     /// How many references a worker holds to a module, 65,535 at most.
-    fn held(&self, w: usize, m: usize) -> u32
-        requires worker { w < length (table self.now).rows }
-        requires slot { m < length (catalogue self.now) }
-        ensures count { result ≡ count_of (table self.now) w m }
+    fn held(&self, worker: usize, slot: usize) -> u32
+        requires worker { worker < length (table self.now).rows }
+        requires slot { slot < length (catalogue self.now) }
+        ensures count { result ≡ count_of (table self.now) worker slot }
         ensures bound { result ≤ 65535 };
 
     /// Whether any worker holds a reference to a module.
-    fn in_use(&self, m: usize) -> bool
-        requires { m < length (catalogue self.now) }
-        ensures { result ≡ is_held (table self.now) m };
+    fn in_use(&self, slot: usize) -> bool
+        requires { slot < length (catalogue self.now) }
+        ensures { result ≡ is_held (table self.now) slot };
 
     /// How many references there are to a module, and modules of the table that need it.
-    fn references(&self, m: usize) -> u32
-        requires { m < length (catalogue self.now) }
-        ensures number { result ≡ references (catalogue self.now) (table self.now) m }
+    fn references(&self, slot: usize) -> u32
+        requires { slot < length (catalogue self.now) }
+        ensures number { result ≡ references (catalogue self.now) (table self.now) slot }
         ensures bound { result ≤ 4195264 };
 
     /// How many modules the table has, in any state but Absent; no more than the catalogue.
@@ -60,17 +61,17 @@ pub trait Modules {
         ensures limit { result ≤ 1024 };
 
     /// A module of the table by its age, the oldest at 0.
-    fn loaded_at(&self, i: usize) -> usize
-        requires { i < length (table self.now).book.order }
-        ensures element { result ≡ slice_index (table self.now).book.order i }
+    fn loaded_at(&self, place: usize) -> usize
+        requires { place < length (table self.now).book.order }
+        ensures element { result ≡ slice_index (table self.now).book.order place }
         ensures slot { result < length (catalogue self.now) };
 
-    /// Whether `u` is in the table and needs `m`.
-    fn is_user(&self, u: usize, m: usize) -> bool
-        requires user { u < length (catalogue self.now) }
-        requires slot { m < length (catalogue self.now) }
-        ensures user { IsTrue result ↔ Contains (users (catalogue self.now) (table self.now).book m) u }
-        ensures needs { Contains (table self.now).book.order u → result ≡ needs_slot (catalogue self.now) m u };
+    /// Whether `user` is in the table and needs `slot`.
+    fn is_user(&self, user: usize, slot: usize) -> bool
+        requires user { user < length (catalogue self.now) }
+        requires slot { slot < length (catalogue self.now) }
+        ensures user { IsTrue result ↔ Contains (users (catalogue self.now) (table self.now).book slot) user }
+        ensures needs { Contains (table self.now).book.order user → result ≡ needs_slot (catalogue self.now) slot user };
 
     /// The table has a state for each module and a row for each worker, and it is lawful: its order has each module
     /// of the table once, references name live or draining modules, and the needs of each module of the table are live.
@@ -80,57 +81,57 @@ pub trait Modules {
 
     /// A worker takes a reference to a module. `NotLive`: the module is not live. `TooMany`: the worker holds
     /// 65,535 references to it.
-    fn get(&mut self, w: usize, m: usize) -> Result<(), GetError>
-        requires worker { w < length (table self.old).rows }
-        requires slot { m < length (catalogue self.old) }
-        ensures answers { reply_of get_refusal result ≡ reply (catalogue self.old) (table self.old) (Get w m) }
-        ensures becomes { table self.new ≡ next (catalogue self.old) (table self.old) (Get w m) }
+    fn get(&mut self, worker: usize, slot: usize) -> Result<(), GetError>
+        requires worker { worker < length (table self.old).rows }
+        requires slot { slot < length (catalogue self.old) }
+        ensures answers { reply_of get_refusal result ≡ reply (catalogue self.old) (table self.old) (Get worker slot) }
+        ensures becomes { table self.new ≡ next (catalogue self.old) (table self.old) (Get worker slot) }
         ensures over { catalogue self.new ≡ catalogue self.old };
 
     /// A worker puts a reference back. `NotHeld`: it holds none.
-    fn put(&mut self, w: usize, m: usize) -> Result<(), PutError>
-        requires worker { w < length (table self.old).rows }
-        requires slot { m < length (catalogue self.old) }
-        ensures answers { reply_of put_refusal result ≡ reply (catalogue self.old) (table self.old) (Put w m) }
-        ensures becomes { table self.new ≡ next (catalogue self.old) (table self.old) (Put w m) }
+    fn put(&mut self, worker: usize, slot: usize) -> Result<(), PutError>
+        requires worker { worker < length (table self.old).rows }
+        requires slot { slot < length (catalogue self.old) }
+        ensures answers { reply_of put_refusal result ≡ reply (catalogue self.old) (table self.old) (Put worker slot) }
+        ensures becomes { table self.new ≡ next (catalogue self.old) (table self.old) (Put worker slot) }
         ensures over { catalogue self.new ≡ catalogue self.old };
 
     /// A module enters the table and loads (init_module(2)). `Exists`: it is in the table. `UnknownSymbol`: it needs
     /// a symbol that no module exports. `NeedNotLive`: the first of its needs that is not live.
-    fn begin_load(&mut self, m: usize) -> Result<(), BeginLoadError>
-        requires { m < length (catalogue self.old) }
-        ensures answers { reply_of begin_load_refusal result ≡ reply (catalogue self.old) (table self.old) (BeginLoad m) }
-        ensures becomes { table self.new ≡ next (catalogue self.old) (table self.old) (BeginLoad m) }
+    fn begin_load(&mut self, slot: usize) -> Result<(), BeginLoadError>
+        requires { slot < length (catalogue self.old) }
+        ensures answers { reply_of begin_load_refusal result ≡ reply (catalogue self.old) (table self.old) (BeginLoad slot) }
+        ensures becomes { table self.new ≡ next (catalogue self.old) (table self.old) (BeginLoad slot) }
         ensures over { catalogue self.new ≡ catalogue self.old };
 
     /// A load ends: the module is live, or where it did not go well it leaves the table. `NotLoading`: it does not load.
-    fn end_load(&mut self, m: usize, ok: bool) -> Result<(), EndLoadError>
-        requires { m < length (catalogue self.old) }
-        ensures answers { reply_of end_load_refusal result ≡ reply (catalogue self.old) (table self.old) (EndLoad m ok) }
-        ensures becomes { table self.new ≡ next (catalogue self.old) (table self.old) (EndLoad m ok) }
+    fn end_load(&mut self, slot: usize, ok: bool) -> Result<(), EndLoadError>
+        requires { slot < length (catalogue self.old) }
+        ensures answers { reply_of end_load_refusal result ≡ reply (catalogue self.old) (table self.old) (EndLoad slot ok) }
+        ensures becomes { table self.new ≡ next (catalogue self.old) (table self.old) (EndLoad slot ok) }
         ensures over { catalogue self.new ≡ catalogue self.old };
 
     /// A live module takes no further reference; those that are held stay. `NoEntry`: it is not in the table.
     /// `NeededBy`: a module of the table needs it. `NotLive`: it loads, drains or unloads. `Permanent`: it stays for good.
-    fn begin_drain(&mut self, m: usize) -> Result<(), BeginDrainError>
-        requires { m < length (catalogue self.old) }
-        ensures answers { reply_of begin_drain_refusal result ≡ reply (catalogue self.old) (table self.old) (BeginDrain m) }
-        ensures becomes { table self.new ≡ next (catalogue self.old) (table self.old) (BeginDrain m) }
+    fn begin_drain(&mut self, slot: usize) -> Result<(), BeginDrainError>
+        requires { slot < length (catalogue self.old) }
+        ensures answers { reply_of begin_drain_refusal result ≡ reply (catalogue self.old) (table self.old) (BeginDrain slot) }
+        ensures becomes { table self.new ≡ next (catalogue self.old) (table self.old) (BeginDrain slot) }
         ensures over { catalogue self.new ≡ catalogue self.old };
 
     /// A live module begins to unload (delete_module(2)). The refusals of `begin_drain`, then `InUse`: a worker holds
     /// a reference.
-    fn begin_remove(&mut self, m: usize) -> Result<(), BeginRemoveError>
-        requires { m < length (catalogue self.old) }
-        ensures answers { reply_of begin_remove_refusal result ≡ reply (catalogue self.old) (table self.old) (BeginRemove m) }
-        ensures becomes { table self.new ≡ next (catalogue self.old) (table self.old) (BeginRemove m) }
+    fn begin_remove(&mut self, slot: usize) -> Result<(), BeginRemoveError>
+        requires { slot < length (catalogue self.old) }
+        ensures answers { reply_of begin_remove_refusal result ≡ reply (catalogue self.old) (table self.old) (BeginRemove slot) }
+        ensures becomes { table self.new ≡ next (catalogue self.old) (table self.old) (BeginRemove slot) }
         ensures over { catalogue self.new ≡ catalogue self.old };
 
     /// An unloading or draining module leaves the table. `NotUnloading`: it is neither. `InUse`: it drains, and a worker
     /// holds a reference.
-    fn end_remove(&mut self, m: usize) -> Result<(), EndRemoveError>
-        requires { m < length (catalogue self.old) }
-        ensures answers { reply_of end_remove_refusal result ≡ reply (catalogue self.old) (table self.old) (EndRemove m) }
-        ensures becomes { table self.new ≡ next (catalogue self.old) (table self.old) (EndRemove m) }
+    fn end_remove(&mut self, slot: usize) -> Result<(), EndRemoveError>
+        requires { slot < length (catalogue self.old) }
+        ensures answers { reply_of end_remove_refusal result ≡ reply (catalogue self.old) (table self.old) (EndRemove slot) }
+        ensures becomes { table self.new ≡ next (catalogue self.old) (table self.old) (EndRemove slot) }
         ensures over { catalogue self.new ≡ catalogue self.old };
 }

@@ -5,4 +5,4 @@ use Rattle.seq_table.proofs.counts.pairs.Given as goal
 
 abbrev pub invariant-loop-row : goal.invariant-loop-row
 invariant-loop-row l =
-    record { sum : l.total ≡ pairs (rows_of (take l.row-index l.rows)) l.m; bound : l.total ≤ 65535 * l.row-index }
+    record { sum : l.total ≡ pairs (rows_of (take l.row-index l.rows)) l.slot; bound : l.total ≤ 65535 * l.row-index }

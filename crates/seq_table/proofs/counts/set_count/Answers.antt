@@ -7,7 +7,7 @@ use Rattle.seq_table.proofs.counts.set_count.Goals as goal
 
 pub returns-clause-after : goal.returns-clause-after
 returns-clause-after c =
-    rows_of-set c.args.rows.now.items c.args.w _
-    ∙ ap (λ (row : List ℕ). set (rows_of c.args.rows.now.items) c.args.w (set row c.args.m c.args.count))
+    rows_of-set c.args.rows.now.items c.args.worker _
+    ∙ ap (λ (row : List ℕ). set (rows_of c.args.rows.now.items) c.args.worker (set row c.args.slot c.args.count))
     (ap (λ (v : Vec ℕ). v.items) c.index_mut-row.ensures.value
-    ∙ sym (get_or-rows_of c.args.rows.now.items c.args.w c.index_mut-row.result.now c.requires.worker))
+    ∙ sym (get_or-rows_of c.args.rows.now.items c.args.worker c.index_mut-row.result.now c.requires.worker))

@@ -1,0 +1,16 @@
+use Rattle.std.proofs.Common.{rules, ◌≡◌, None, refl}
+use Rattle.dep_index.specs.declared.calls.Call.TheVariants.{BeginLoad}
+use Rattle.dep_index.specs.Calls.{book_refusal}
+use Rattle.dep_index.proofs.Room.{load_has_room}
+use Rattle.seq_table.proofs.Kept.{kept_after}
+use Rattle.seq_table.proofs.table.TableModules.begin_load.Goals as goal
+
+pub enter-requires-clause-room : goal.enter-requires-clause-room
+enter-requires-clause-room c =
+    let allowed : book_refusal c.self.inside.slots c.self.inside.book (BeginLoad c.args.slot) ≡ None = search rules in
+    load_has_room c.self.inside.slots c.self.inside.book c.args.slot c.self.invariant.lawful.order (search rules) allowed
+
+pub invariant_of-self : goal.invariant_of-self
+invariant_of-self c =
+    kept_after c.self.inside.slots c.self.inside.book _ c.self.inside.rows c.self.inside.rows (BeginLoad c.args.slot)
+    c.self.invariant (search rules, tt) (search rules) refl

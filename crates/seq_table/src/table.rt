@@ -1,0 +1,175 @@
+//! The table.
+ghost use Rattle.std.specs.Prelude.{◌≡◌, ◌≤◌, IfOk};
+ghost use Rattle.dep_index.specs.Catalogue.{modules_of};
+ghost use Rattle.dep_index.specs.Calls.{opening};
+
+use crate::counts;
+use crate::modules::Modules;
+use dep_index::{
+    BeginDrainError, BeginLoadError, BeginRemoveError, Book, Catalogue, EndLoadError,
+    EndRemoveError, GetError, ModuleState, PutError, Slots, reads,
+};
+use std::alloc::{AllocError, Global};
+use std::marker::Model;
+
+/// The table of modules, used by one thread. Contracts see it as its catalogue and the table that it is.
+#[derive(Drop)]
+pub struct Table {
+    slots: Slots,
+    book: Book,
+    rows: Vec<Vec<u16>>,
+}
+
+impl Model for Table {
+    ghost use Rattle.seq_table.specs.Over.{Over};
+
+    ghost Value = { Over };
+
+    ghost use Rattle.seq_table.specs.Rows.{table_of, IsKept};
+
+    ghost view = { λ t. record { catalogue = t.slots; table = table_of t.book t.rows.items } };
+
+    ghost invariant = { λ t. IsKept t.slots t.book t.rows };
+}
+
+impl Table {
+    /// The opening table over a catalogue: nothing is loaded, and nothing is held. It reserves all room, so that no
+    /// later call takes memory.
+    pub fn new(alloc: Global, catalogue: &Catalogue, workers: usize) -> Result<Table, AllocError>
+        requires { workers ≤ 64 }
+        ensures over { IfOk result (λ t. t.catalogue ≡ modules_of catalogue.now) }
+        ensures opens { IfOk result (λ t. t.table ≡ opening (modules_of catalogue.now) workers) }
+    {
+        Table::over(alloc, catalogue.slots(alloc)?, workers)
+    }
+
+    /// The opening table over the slots of a catalogue, as `new`.
+    pub fn over(alloc: Global, slots: Slots, workers: usize) -> Result<Table, AllocError>
+        requires { workers ≤ 64 }
+        ensures over { IfOk result (λ t. t.catalogue ≡ slots) }
+        ensures opens { IfOk result (λ t. t.table ≡ opening slots workers) }
+    {
+        let book = Book::new(alloc, &slots)?;
+        let rows = counts::zero_rows(alloc, workers, slots.len())?;
+        Ok(Table { slots, book, rows })
+    }
+}
+
+impl Modules for Table {
+    ghost catalogue = { λ t. t.catalogue };
+
+    ghost table = { λ t. t.table };
+
+    fn workers(&self) -> usize {
+        self.rows.len()
+    }
+
+    fn slots(&self) -> usize {
+        self.slots.len()
+    }
+
+    fn state(&self, slot: usize) -> ModuleState {
+        self.book.state(slot)
+    }
+
+    fn held(&self, worker: usize, slot: usize) -> u32 {
+        u32::from(counts::count_of(&self.rows, worker, slot))
+    }
+
+    fn in_use(&self, slot: usize) -> bool {
+        counts::holders(&self.rows, slot) > 0
+    }
+
+    fn references(&self, slot: usize) -> u32 {
+        counts::pairs(&self.rows, slot) + self.book.user_count(&self.slots, slot) as u32
+    }
+
+    fn loaded(&self) -> usize {
+        self.book.loaded()
+    }
+
+    fn loaded_at(&self, place: usize) -> usize {
+        self.book.loaded_at(place)
+    }
+
+    fn is_user(&self, user: usize, slot: usize) -> bool {
+        !reads::is_absent(self.book.state(user))
+            && reads::needs_slot(&self.slots, slot, user as u16)
+    }
+
+    fn laws(&self) {
+        let _ = &self.rows;
+    }
+
+    fn get(&mut self, worker: usize, slot: usize) -> Result<(), GetError> {
+        if !reads::is_live(self.book.state(slot)) {
+            return Err(GetError::NotLive);
+        }
+        let count = counts::count_of(&self.rows, worker, slot);
+        if count == u16::MAX {
+            return Err(GetError::TooMany);
+        }
+        counts::set_count(&mut self.rows, worker, slot, count + 1);
+        Ok(())
+    }
+
+    fn put(&mut self, worker: usize, slot: usize) -> Result<(), PutError> {
+        let count = counts::count_of(&self.rows, worker, slot);
+        if count == 0 {
+            return Err(PutError::NotHeld);
+        }
+        counts::set_count(&mut self.rows, worker, slot, count - 1);
+        Ok(())
+    }
+
+    fn begin_load(&mut self, slot: usize) -> Result<(), BeginLoadError> {
+        if let Some(refusal) = self.book.load_refusal(&self.slots, slot) {
+            return Err(refusal);
+        }
+        self.book.enter(slot);
+        Ok(())
+    }
+
+    fn end_load(&mut self, slot: usize, ok: bool) -> Result<(), EndLoadError> {
+        if let Some(refusal) = self.book.end_load_refusal(slot) {
+            return Err(refusal);
+        }
+        if ok {
+            self.book.set(slot, ModuleState::Live);
+        } else {
+            self.book.leave(slot);
+        }
+        Ok(())
+    }
+
+    fn begin_drain(&mut self, slot: usize) -> Result<(), BeginDrainError> {
+        if let Some(refusal) = self.book.drain_refusal(&self.slots, slot) {
+            return Err(refusal);
+        }
+        self.book.set(slot, ModuleState::Draining);
+        Ok(())
+    }
+
+    fn begin_remove(&mut self, slot: usize) -> Result<(), BeginRemoveError> {
+        if let Some(refusal) = self.book.remove_refusal(&self.slots, slot) {
+            return Err(refusal);
+        }
+        if counts::holders(&self.rows, slot) > 0 {
+            return Err(BeginRemoveError::InUse);
+        }
+        self.book.set(slot, ModuleState::Unloading);
+        Ok(())
+    }
+
+    fn end_remove(&mut self, slot: usize) -> Result<(), EndRemoveError> {
+        if let Some(refusal) = self.book.end_remove_refusal(slot) {
+            return Err(refusal);
+        }
+        let draining = reads::is_draining(self.book.state(slot));
+        if draining && counts::holders(&self.rows, slot) > 0 {
+            return Err(EndRemoveError::InUse);
+        }
+        self.book.leave(slot);
+        Ok(())
+    }
+}
