@@ -1,7 +1,6 @@
 -- What a sound machine knows of a thread at a line of its call.
 use Rattle.std.proofs.lemmas.List.Sums.{count_by-le-length}
-use Rattle.std.proofs.Common.{◌++◌, ltb, length-append, ◌≡◌, ℕ, zero, suc, ◌+◌, ◌<◌, ◌≤◌, List, [], ◌∷◌, length, get_or, Option, Some, None, refl, sym, ◌∙◌, ap, subst, arith, get_or-set_same}
-use Rattle.std.proofs.Math.ListN.{set, length-set}
+use Rattle.std.proofs.Common.{ltb, ◌≡◌, ℕ, zero, suc, ◌+◌, ◌<◌, List, [], length, get_or, Option, Some, None, refl, sym, ◌∙◌, ap, subst, arith, get_or-set_same}
 use Rattle.dep_index.specs.declared.states.ModuleState.{ModuleState}
 use Rattle.dep_index.specs.declared.states.ModuleState.TheVariants.{Absent, Loading, Live, Draining, Unloading}
 use Rattle.dep_index.specs.declared.calls.Call.{Call}
@@ -9,7 +8,7 @@ use Rattle.dep_index.specs.declared.calls.Call.TheVariants.{Get, Put, BeginLoad}
 use Rattle.dep_index.specs.Table.{Module, state_of, count_of, holders}
 use Rattle.dep_index.specs.Calls.{row_effect, book_effect, opening, IsInRange}
 use Rattle.dep_index.specs.Laws.{OrderIsExact}
-use Rattle.dep_index.proofs.Room.{order_fits}
+use Rattle.dep_index.proofs.Room.{load_had_room}
 use Rattle.dep_index.specs.Words.{word_in, word_of}
 use Rattle.dep_index.proofs.TableLaws.{none_held}
 use Rattle.step_core.specs.declared.steps.Line.{Line}
@@ -121,9 +120,7 @@ order_room catalogue workers s t a m sound here is call =
     let own : pending s.threads s.locks.table ≡ Some (BeginLoad m) =
     ap (pending s.threads) place'.1 ∙ ap writing here ∙ ap (λ (l : Line). writing (Some (record a { line = l }))) is ∙ ap Some call in
     let book : (shown s).book ≡ book_effect s.written.book (BeginLoad m) = ap (λ (o : Option Call). book_after o s.written.book) own in
-    let fits : length (s.written.book.order ++ m ∷ []) ≤ length (set s.written.book.states m Loading) =
-    order_fits (book_effect s.written.book (BeginLoad m)) (subst OrderIsExact book sound.lawful.order) in
-    omega (arith, fits, length-append s.written.book.order (m ∷ []), length-set s.written.book.states m Loading)
+    load_had_room s.written.book m (subst OrderIsExact book sound.lawful.order)
 
 -- a thread at the line that writes can write
 pub can_write : (catalogue : List Module) (workers : ℕ) (s : State) (t : ℕ) (a : Activity) → IsSound catalogue workers s → get_or s.threads t None ≡ Some a → a.line ≡ Write

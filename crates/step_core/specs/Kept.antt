@@ -1,8 +1,6 @@
--- For proofs alone: what the machine's parts keep, and what they need.
-use Rattle.std.specs.Prelude.{ℕ, ◌≡◌, ◌<◌, ◌≤◌, List, [], length, map, slice_index_or}
+-- For proofs alone: the rows of counts as lists, and what a write needs.
+use Rattle.std.specs.Prelude.{ℕ, ◌≡◌, ◌<◌, List, [], length, map, slice_index_or}
 use Rattle.std.specs.Global.{Vec}
-use Rattle.std.specs.Vec.{vec_capacity}
-use Rattle.dep_index.specs.declared.states.ModuleState.{ModuleState}
 use Rattle.dep_index.specs.declared.calls.Call.{Call}
 use Rattle.dep_index.specs.declared.calls.Call.TheVariants.{Get, BeginLoad}
 use Rattle.dep_index.specs.Table.{Table, count_of}
@@ -11,11 +9,6 @@ use Rattle.dep_index.specs.Calls.{IsInRange}
 -- each worker's counts by slot
 abbrev pub rows_of : List (Vec ℕ) → List (List ℕ)
 rows_of rows = map (λ row. row.items) rows
-
--- the order has room for every slot, and a slot's number is short
-pub record HasRoom (states : Vec ModuleState) (order : Vec ℕ) : Type 0 where
-  pub few : length states.items ≤ 1024
-  pub room : length states.items ≤ vec_capacity order
 
 -- what a write needs: slot and worker are there, a count stays short, and the order has room
 pub record CanWrite (written : Table) (call : Call) : Type 0 where

@@ -42,20 +42,20 @@ impl Counts {
     }
 
     /// How often the worker holds the slot.
-    pub fn count(&self, w: usize, m: usize) -> u16
-        requires { w < length self.now }
-        ensures { result ≡ slice_index (slice_index_or self.now w []) m }
+    pub fn count(&self, worker: usize, slot: usize) -> u16
+        requires { worker < length self.now }
+        ensures { result ≡ slice_index (slice_index_or self.now worker []) slot }
     {
-        self.rows[w].get(m).copied().unwrap_or(0)
+        self.rows[worker].get(slot).copied().unwrap_or(0)
     }
 
-    fn set_count(&mut self, w: usize, m: usize, count: u16)
-        requires worker { w < length self.old }
-        requires slot { m < length (slice_index_or self.old w []) }
-        ensures { self.new ≡ slice_set self.old w (slice_set (slice_index_or self.old w []) m count) }
+    fn set_count(&mut self, worker: usize, slot: usize, count: u16)
+        requires worker { worker < length self.old }
+        requires slot { slot < length (slice_index_or self.old worker []) }
+        ensures { self.new ≡ slice_set self.old worker (slice_set (slice_index_or self.old worker []) slot count) }
     {
-        let row = &mut self.rows[w];
-        row[m] = count;
+        let row = &mut self.rows[worker];
+        row[slot] = count;
     }
 
     /// Writes a call that is not refused.
@@ -66,13 +66,13 @@ impl Counts {
         ensures { self.new ≡ rows_effect self.old call }
     {
         match call {
-            Call::Get(w, m) => {
-                let count = self.count(w, m);
-                self.set_count(w, m, count + 1);
+            Call::Get(worker, slot) => {
+                let count = self.count(worker, slot);
+                self.set_count(worker, slot, count + 1);
             }
-            Call::Put(w, m) => {
-                let count = self.count(w, m);
-                self.set_count(w, m, count.saturating_sub(1));
+            Call::Put(worker, slot) => {
+                let count = self.count(worker, slot);
+                self.set_count(worker, slot, count.saturating_sub(1));
             }
             _ => {}
         }

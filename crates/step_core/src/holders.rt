@@ -38,7 +38,7 @@ impl Holders {
         ensures { result ≡ holder self.now (lock_of call) }
     {
         match call {
-            Call::Get(w, _) | Call::Put(w, _) => self.leaves.get(w).copied().flatten(),
+            Call::Get(leaf, _) | Call::Put(leaf, _) => self.leaves.get(leaf).copied().flatten(),
             Call::InUse(_) => None,
             _ => self.table,
         }
@@ -50,7 +50,7 @@ impl Holders {
         ensures { self.new ≡ with_holder self.old (lock_of call) thread }
     {
         match call {
-            Call::Get(w, _) | Call::Put(w, _) => self.leaves[w] = thread,
+            Call::Get(leaf, _) | Call::Put(leaf, _) => self.leaves[leaf] = thread,
             Call::InUse(_) => {}
             _ => self.table = thread,
         }

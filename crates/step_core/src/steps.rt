@@ -54,10 +54,38 @@ pub enum Line {
     Return(Reply),
 }
 
+impl Line {
+    ghost use Rattle.std.specs.Prelude.{◌≡◌};
+    ghost use Rattle.step_core.specs.Machine.{first_line, line_after};
+
+    /// The line that a call begins with.
+    pub(crate) fn first(call: Call) -> Line
+        ensures { result ≡ first_line call }
+    {
+        match call {
+            Call::InUse(_) => Line::Word,
+            _ => Line::Lock,
+        }
+    }
+
+    /// The line after the point of a call that has this reply.
+    pub(crate) fn after(reply: Reply) -> Line
+        ensures { result ≡ line_after reply }
+    {
+        match reply {
+            Reply::Done => Line::Write,
+            _ => Line::Return(reply),
+        }
+    }
+}
+
 /// A thread's call, and the line that it makes next.
 #[derive(Clone, Copy, Debug, PartialEq, Eq, Drop)]
 pub struct Activity {
+    /// The number of the call, from 0, in the order in which calls were invoked.
     pub number: usize,
+    /// The call.
     pub call: Call,
+    /// The line that the thread makes next.
     pub line: Line,
 }

@@ -7,10 +7,10 @@ use Rattle.step_core.proofs.counts.Counts.set_count.Goals as goal
 
 pub returns : goal.returns
 returns c =
-    let worker : c.args.w < length (rows_of c.self.inside.rows.items) = subst (λ (rows : List (List ℕ)). c.args.w < length rows) (sym c.self.view_is) c.requires.worker in
-    let inside : c.args.w < length c.self.inside.rows.items = omega (arith, worker, length-rows_of c.self.inside.rows.items) in
-    rows_of-set c.self.inside.rows.items c.args.w _
-    ∙ ap (λ (row : List ℕ). set (rows_of c.self.inside.rows.items) c.args.w (set row c.args.m c.args.count))
+    let worker : c.args.worker < length (rows_of c.self.inside.rows.items) = subst (λ (rows : List (List ℕ)). c.args.worker < length rows) (sym c.self.view_is) c.requires.worker in
+    let inside : c.args.worker < length c.self.inside.rows.items = omega (arith, worker, length-rows_of c.self.inside.rows.items) in
+    rows_of-set c.self.inside.rows.items c.args.worker _
+    ∙ ap (λ (row : List ℕ). set (rows_of c.self.inside.rows.items) c.args.worker (set row c.args.slot c.args.count))
     (ap (λ (v : Vec ℕ). v.items) c.index_mut-row.ensures.value
-    ∙ sym (get_or-rows_of c.self.inside.rows.items c.args.w c.index_mut-row.result.now inside))
-    ∙ ap (λ (rows : List (List ℕ)). set rows c.args.w (set (get_or rows c.args.w []) c.args.m c.args.count)) c.self.view_is
+    ∙ sym (get_or-rows_of c.self.inside.rows.items c.args.worker c.index_mut-row.result.now inside))
+    ∙ ap (λ (rows : List (List ℕ)). set rows c.args.worker (set (get_or rows c.args.worker []) c.args.slot c.args.count)) c.self.view_is

@@ -3,7 +3,7 @@ ghost use Rattle.std.specs.Prelude.{◌≡◌, ◌<◌, ◌^◌, Some, None, Mat
 ghost use Rattle.dep_index.specs.Calls.{opening};
 ghost use Rattle.dep_index.specs.Catalogue.{modules_of};
 
-use crate::parts::Parts;
+use crate::state::State;
 use crate::steps::{Event, Step, StepError};
 use dep_index::{Catalogue, Slots};
 use std::alloc::{AllocError, Global};
@@ -13,7 +13,7 @@ use std::marker::Model;
 #[derive(Drop)]
 pub struct Machine {
     slots: Slots,
-    parts: Parts,
+    state: State,
 }
 
 impl Model for Machine {
@@ -24,9 +24,9 @@ impl Model for Machine {
 
     ghost use Rattle.step_core.specs.Sound.{IsSound};
 
-    ghost view = { λ m. record { catalogue = m.slots; state = m.parts } };
+    ghost view = { λ m. record { catalogue = m.slots; state = m.state } };
 
-    ghost invariant = { λ m. IsSound m.slots (length m.parts.written.rows) m.parts };
+    ghost invariant = { λ m. IsSound m.slots (length m.state.written.rows) m.state };
 }
 
 impl Machine {
@@ -67,8 +67,8 @@ impl Machine {
         ensures shows { IfOk result (λ machine. shown machine.state ≡ opening slots workers) }
         ensures words { IfOk result (λ machine. WordsAreRight slots machine.state) }
     {
-        let parts = Parts::new(alloc, &slots, workers, threads, calls)?;
-        Ok(Machine { slots, parts })
+        let state = State::new(alloc, &slots, workers, threads, calls)?;
+        Ok(Machine { slots, state })
     }
 
     /// Makes one step, or says why it is refused: thread, worker or slot out of range, or no more calls,
@@ -85,12 +85,12 @@ impl Machine {
         ensures words { WordsAreRight self.new.catalogue self.new.state }
         ensures over { self.new.catalogue ≡ self.old.catalogue }
     {
-        if let Some(error) = self.parts.refusal(&self.slots, step) {
+        if let Some(error) = self.state.refusal(&self.slots, step) {
             return Err(error);
         }
         let event = match step {
-            Step::Invoke(t, call) => self.parts.invoke(t, call),
-            Step::Go(t) => self.parts.go(&self.slots, t),
+            Step::Invoke(thread, call) => self.state.invoke(thread, call),
+            Step::Go(thread) => self.state.go(&self.slots, thread),
         };
         Ok(event)
     }
