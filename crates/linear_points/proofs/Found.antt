@@ -5,7 +5,7 @@ use Rattle.dep_index.specs.History.{RemovalsAreSafe, LegalIsSafe}
 use Rattle.dep_index.specs.Words.{closed}
 use Rattle.step_core.specs.declared.steps.Step.{Step}
 use Rattle.step_core.specs.declared.steps.Event.{Event}
-use Rattle.linear_points.specs.declared.taken.Point.{Point}
+use Rattle.linear_points.specs.declared.point.Point.{Point}
 use Rattle.linear_points.specs.Run.{IsRun, run_events, run_calls, points_from}
 use Rattle.linear_points.specs.Linearization.{IsLinearization, answers}
 use Rattle.linear_points.proofs.Headline.{runs_are_linear}

@@ -19,7 +19,7 @@ use Rattle.step_core.specs.Machine.{start}
 use Rattle.step_core.specs.Run.{IsAccepted, events, call_numbered}
 use Rattle.step_core.specs.Sound.{IsSound}
 use Rattle.step_core.proofs.WholeSteps.{starts_sound}
-use Rattle.linear_points.specs.declared.taken.Point.{Point}
+use Rattle.linear_points.specs.declared.point.Point.{Point}
 use Rattle.linear_points.specs.Run.{IsRun, run_start, run_events, run_calls, run_points, points_from}
 use Rattle.linear_points.specs.Linearization.{IsWithin, IsAsReturned, HasItsPoint, RunsAreLinear, answers, point_count, first_index, first_step, returned_reply, is_returned}
 use Rattle.linear_points.specs.Noted.{calls_made}

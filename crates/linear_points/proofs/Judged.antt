@@ -11,7 +11,7 @@ use Rattle.dep_index.specs.Words.{closed}
 use Rattle.step_core.specs.declared.steps.Step.{Step}
 use Rattle.step_core.specs.declared.steps.Event.{Event}
 use Rattle.step_core.proofs.WholeSteps.{starts_sound}
-use Rattle.linear_points.specs.declared.taken.Point.{Point}
+use Rattle.linear_points.specs.declared.point.Point.{Point}
 use Rattle.linear_points.specs.Run.{IsRun, run_start, run_events, run_calls}
 use Rattle.linear_points.specs.Linearization.{IsLinearization, IsWithin, IsAsReturned, HasItsPoint, answers}
 use Rattle.linear_points.proofs.Range.{calls_in_range}

@@ -9,7 +9,7 @@ use Rattle.step_core.specs.declared.steps.Event.{Event}
 use Rattle.step_core.specs.Machine.{State, step}
 use Rattle.step_core.specs.Run.{events}
 use Rattle.step_core.proofs.WholeSteps.{starts_sound}
-use Rattle.linear_points.specs.declared.taken.Point.{Point}
+use Rattle.linear_points.specs.declared.point.Point.{Point}
 use Rattle.linear_points.specs.declared.intervals.Interval.{Interval}
 use Rattle.linear_points.specs.declared.intervals.End.{End}
 use Rattle.linear_points.specs.Run.{IsRun, run_start, run_events, run_calls}

@@ -10,7 +10,7 @@ use Rattle.step_core.specs.declared.steps.Line.{Line}
 use Rattle.step_core.specs.declared.steps.Line.TheVariants.{Lock, Word, Exchange, Write, Return}
 use Rattle.step_core.specs.declared.steps.Activity.{Activity}
 use Rattle.step_core.specs.Machine.{State, activity}
-use Rattle.linear_points.specs.declared.taken.Point.{Point}
+use Rattle.linear_points.specs.declared.point.Point.{Point}
 use Rattle.linear_points.specs.Run.{points_from}
 use Rattle.linear_points.specs.Linearization.{point_count}
 

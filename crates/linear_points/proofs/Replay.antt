@@ -29,7 +29,7 @@ use Rattle.step_core.specs.Sound.{IsSound}
 use Rattle.step_core.proofs.Shown.{active_in_range}
 use Rattle.step_core.proofs.WholeSteps.{steps_are_right, starts_sound}
 use Rattle.dep_index.proofs.RunLaws.{replicated}
-use Rattle.linear_points.specs.declared.taken.Point.{Point}
+use Rattle.linear_points.specs.declared.point.Point.{Point}
 use Rattle.linear_points.specs.Run.{IsRun, point_at, points_from, run_calls, run_points}
 
 -- a thread's activity, by the list of the calls that were invoked so far

@@ -10,7 +10,7 @@ use Rattle.dep_index.specs.Table.{Module, Table}
 use Rattle.dep_index.specs.Calls.{reply, next, replies, effect, rows_effect, row_effect, refusal, IsInRange}
 use Rattle.dep_index.specs.Laws.{AllInRange}
 use Rattle.step_core.specs.Run.{call_numbered}
-use Rattle.linear_points.specs.declared.taken.Point.{Point}
+use Rattle.linear_points.specs.declared.point.Point.{Point}
 use Rattle.linear_points.specs.declared.intervals.Interval.{Interval}
 use Rattle.linear_points.specs.Noted.{calls_at}
 use Rattle.linear_points.proofs.Numbers.{numbered_in_range}

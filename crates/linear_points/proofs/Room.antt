@@ -18,8 +18,8 @@ use Rattle.step_core.specs.declared.steps.StepError.{StepError}
 use Rattle.step_core.specs.declared.steps.StepError.TheVariants.{Thread, Worker, Slot, Calls}
 use Rattle.step_core.specs.Machine.{State, Running, activity, line, locked, stepped, exchanged, go, invoke, step, step_refusal, holder, lock_of, unless, worker_exists}
 use Rattle.step_core.specs.Run.{state_after}
-use Rattle.linear_points.specs.declared.taken.PointsError.{PointsError}
-use Rattle.linear_points.specs.declared.taken.PointsError.TheVariants as fault
+use Rattle.linear_points.specs.declared.point.PointsError.{PointsError}
+use Rattle.linear_points.specs.declared.point.PointsError.TheVariants as fault
 use Rattle.linear_points.specs.Run.{run_start, IsRefusedFrom, IsRefusedAt}
 use Rattle.linear_points.specs.Refused.{IsStepRefused, IsRefusal}
 

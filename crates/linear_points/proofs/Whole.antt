@@ -8,7 +8,7 @@ use Rattle.std.specs.List.{slice_get}
 use Rattle.dep_index.specs.declared.calls.Reply.{Reply}
 use Rattle.step_core.specs.declared.steps.Event.{Event}
 use Rattle.step_core.specs.declared.steps.Event.TheVariants.{Nothing, Invoked, Moved, Point as Takes, Returned}
-use Rattle.linear_points.specs.declared.taken.Point.{Point}
+use Rattle.linear_points.specs.declared.point.Point.{Point}
 use Rattle.linear_points.specs.Run.{points_from}
 use Rattle.linear_points.specs.Linearization.{point_count, first_index, is_invoked, is_returned, returned_reply}
 use Rattle.linear_points.proofs.Lives.{Stage, Before, Open, Effective, Over, Lives, points_left, once}

@@ -11,7 +11,7 @@ use Rattle.dep_index.specs.Words.{closed}
 use Rattle.step_core.specs.declared.steps.Step.{Step}
 use Rattle.step_core.specs.declared.steps.Event.{Event}
 use Rattle.step_core.specs.declared.steps.Event.TheVariants.{Invoked, Returned}
-use Rattle.linear_points.specs.declared.taken.Point.{Point}
+use Rattle.linear_points.specs.declared.point.Point.{Point}
 use Rattle.step_core.specs.Run.{call_numbered}
 use Rattle.linear_points.specs.Run.{IsRun, run_events, run_calls, run_points}
 

@@ -8,7 +8,7 @@ use Rattle.step_core.specs.declared.steps.Step.TheVariants.{Invoke, Go}
 use Rattle.step_core.specs.declared.steps.Event.{Event}
 use Rattle.step_core.specs.declared.steps.Event.TheVariants.{Invoked, Returned}
 use Rattle.step_core.specs.Run.{invoked_call, call_numbered}
-use Rattle.linear_points.specs.declared.taken.Point.{Point}
+use Rattle.linear_points.specs.declared.point.Point.{Point}
 use Rattle.linear_points.specs.declared.intervals.Interval.{Interval}
 
 -- the calls that steps with these events make

@@ -4,8 +4,8 @@ use Rattle.dep_index.specs.Table.{Module}
 use Rattle.step_core.specs.declared.steps.Step.{Step}
 use Rattle.step_core.specs.declared.steps.StepError.TheVariants.{Calls}
 use Rattle.step_core.specs.Machine.{State}
-use Rattle.linear_points.specs.declared.taken.PointsError.{PointsError}
-use Rattle.linear_points.specs.declared.taken.PointsError.TheVariants as fault
+use Rattle.linear_points.specs.declared.point.PointsError.{PointsError}
+use Rattle.linear_points.specs.declared.point.PointsError.TheVariants as fault
 use Rattle.linear_points.specs.Run.{IsRefusedFrom, IsRefusedAt}
 
 -- a step error names the first step that is refused; want of memory says nothing of the steps

@@ -9,7 +9,7 @@ use Rattle.step_core.specs.declared.steps.Event.TheVariants.{Point as Takes}
 use Rattle.step_core.specs.declared.steps.StepError.{StepError}
 use Rattle.step_core.specs.Machine.{State, start, step_refusal}
 use Rattle.step_core.specs.Run.{IsAccepted, events, state_after, calls_of}
-use Rattle.linear_points.specs.declared.taken.Point.{Point}
+use Rattle.linear_points.specs.declared.point.Point.{Point}
 
 -- a run begins in the opening state, and may make as many calls as it has steps
 abbrev pub run_start : List Module → ℕ → ℕ → List Step → State

@@ -6,7 +6,7 @@ ghost use Rattle.linear_points.specs.Linearization.{IsLinearization};
 ghost use Rattle.linear_points.specs.Refused.{IsRefusal};
 
 use crate::course::{self, Course};
-use crate::taken::{Point, PointsError};
+use crate::point::{Point, PointsError};
 use dep_index::Catalogue;
 use seq_table::Table;
 use std::alloc::Global;

@@ -12,7 +12,7 @@ ghost use Rattle.linear_points.specs.Interval.{AreIntervals};
 ghost use Rattle.linear_points.specs.Noted.{calls_at};
 
 use crate::intervals::{self, Interval};
-use crate::taken::{Point, PointsError};
+use crate::point::{Point, PointsError};
 use crate::{replays, runs};
 use dep_index::Catalogue;
 use seq_table::Table;
@@ -119,7 +119,8 @@ impl Course {
     pub fn replays(&self, mut table: Table, points: &[Point]) -> bool
         requires calls { All (λ p. p.call < length self.now.intervals.items) points.now }
         requires range { AllInRange table.catalogue (length table.table.rows) (map (λ i. i.call) self.now.intervals.items) }
-        ensures { IsTrue result ↔ (replies table.catalogue table.table (calls_at (map (λ i. i.call) self.now.intervals.items) points.now) ≡ map (λ p. p.reply) points.now) }
+        ensures { let calls = calls_at (map (λ i. i.call) self.now.intervals.items) points.now in
+            IsTrue result ↔ (replies table.catalogue table.table calls ≡ map (λ p. p.reply) points.now) }
     {
         for point in points {
             if !self.answers_as(&mut table, point) {
@@ -133,8 +134,10 @@ impl Course {
     fn answers_as(&self, table: &mut Table, point: &Point) -> bool
         requires call { point.now.call < length self.now.intervals.items }
         requires range { AllInRange table.old.catalogue (length table.old.table.rows) (map (λ i. i.call) self.now.intervals.items) }
-        ensures answer { IsTrue result ↔ (reply table.old.catalogue table.old.table (call_numbered (map (λ i. i.call) self.now.intervals.items) point.now.call) ≡ point.now.reply) }
-        ensures becomes { table.new.table ≡ next table.old.catalogue table.old.table (call_numbered (map (λ i. i.call) self.now.intervals.items) point.now.call) }
+        ensures answer { let call = call_numbered (map (λ i. i.call) self.now.intervals.items) point.now.call in
+            IsTrue result ↔ (reply table.old.catalogue table.old.table call ≡ point.now.reply) }
+        ensures becomes { let call = call_numbered (map (λ i. i.call) self.now.intervals.items) point.now.call in
+            table.new.table ≡ next table.old.catalogue table.old.table call }
         ensures over { table.new.catalogue ≡ table.old.catalogue }
     {
         let interval = &self.intervals[point.call];

@@ -6,12 +6,12 @@ mod course;
 mod intervals;
 pub mod laws;
 mod linear;
+mod point;
 mod replays;
 mod runs;
-mod taken;
 
 pub use checker::check_points;
 pub use course::call_intervals;
 pub use intervals::{End, Interval};
 pub use linear::points;
-pub use taken::{Point, PointsError};
+pub use point::{Point, PointsError};

@@ -6,8 +6,8 @@ ghost use Rattle.linear_points.specs.Run.{IsRun, run_calls, run_points, points_f
 ghost use Rattle.linear_points.specs.Linearization.{IsLinearization, answers};
 ghost use Rattle.linear_points.specs.Refused.{IsRefusal};
 
+use crate::point::{Point, PointsError};
 use crate::runs;
-use crate::taken::{Point, PointsError};
 use dep_index::Catalogue;
 use dep_index::laws::legal_is_safe;
 use std::alloc::{AllocError, Global};
@@ -33,7 +33,8 @@ pub fn points(
     ensures run { OnOk result (IsRun (modules_of catalogue.now) workers threads steps.now) }
     ensures points { IfOk result (λ p. p.items ≡ run_points (modules_of catalogue.now) workers threads steps.now) }
     ensures linearization { IfOk result (λ p. IsLinearization (modules_of catalogue.now) workers threads steps.now p.items) }
-    ensures safe { IfOk result (λ p. RemovalsAreSafe (modules_of catalogue.now) workers (answers (run_calls (modules_of catalogue.now) workers threads steps.now) p.items)) }
+    ensures safe { let calls = run_calls (modules_of catalogue.now) workers threads steps.now in
+        IfOk result (λ p. RemovalsAreSafe (modules_of catalogue.now) workers (answers calls p.items)) }
 
     ensures refused { IfErr result (IsRefusal (modules_of catalogue.now) workers threads steps.now) }
 {

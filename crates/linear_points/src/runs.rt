@@ -5,7 +5,7 @@ ghost use Rattle.step_core.specs.Run.{IsAccepted, events};
 ghost use Rattle.linear_points.specs.Run.{IsRun, run_events};
 ghost use Rattle.linear_points.specs.Refused.{IsStepRefused, IsRefusal};
 
-use crate::taken::PointsError;
+use crate::point::PointsError;
 use dep_index::Catalogue;
 use std::alloc::Global;
 use step_core::{Event, Machine, Step};

@@ -1,6 +1,6 @@
 -- the indices so far rise
 use Rattle.std.proofs.Common.{◌<◌, ◌+◌, ℕ, get_or, map}
-use Rattle.linear_points.specs.declared.taken.Point.{Point}
+use Rattle.linear_points.specs.declared.point.Point.{Point}
 use Rattle.linear_points.proofs.course.rising.Given as goal
 
 abbrev pub invariant-loop-i : goal.invariant-loop-i

@@ -1,7 +1,7 @@
 -- the points so far replay, so that the rest decides
 use Rattle.std.proofs.Common.{◌≡◌, ◌↔◌, length, drop, map}
 use Rattle.dep_index.specs.Calls.{replies}
-use Rattle.linear_points.specs.declared.taken.Point.{Point}
+use Rattle.linear_points.specs.declared.point.Point.{Point}
 use Rattle.linear_points.specs.declared.intervals.Interval.{Interval}
 use Rattle.linear_points.specs.Noted.{calls_at}
 use Rattle.linear_points.proofs.course.Course.replays.Given as goal

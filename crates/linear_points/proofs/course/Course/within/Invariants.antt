@@ -1,6 +1,6 @@
 -- the points so far lie within their calls
 use Rattle.std.proofs.Common.{◌<◌, ℕ, get_or}
-use Rattle.linear_points.specs.declared.taken.Point.{Point}
+use Rattle.linear_points.specs.declared.point.Point.{Point}
 use Rattle.linear_points.specs.Linearization.{IsWithin}
 use Rattle.linear_points.proofs.course.Course.within.Given as goal
 

@@ -1,6 +1,6 @@
 //! A call's point, and why there are none.
 ghost use Rattle.std.specs.Prelude.{◌≡◌};
-ghost use Rattle.linear_points.specs.declared.taken.PointsError.TheVariants.{Memory};
+ghost use Rattle.linear_points.specs.declared.point.PointsError.TheVariants.{Memory};
 
 use dep_index::Reply;
 use std::alloc::{AllocError, AllocFailed};
