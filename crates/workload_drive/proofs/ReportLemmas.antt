@@ -8,12 +8,12 @@ use Rattle.dep_index.specs.Catalogue.{modules_of}
 use Rattle.step_core.specs.declared.steps.Step.TheVariants.{Go}
 use Rattle.step_core.specs.declared.steps.StepError.TheVariants.{Calls}
 use Rattle.step_core.specs.declared.steps.Event.{Event}
-use Rattle.linear_points.specs.declared.taken.Point.{Point}
+use Rattle.linear_points.specs.declared.point.Point.{Point}
 use Rattle.linear_points.specs.declared.intervals.Interval.{Interval}
 use Rattle.linear_points.specs.Interval.{AreIntervals}
 use Rattle.linear_points.specs.declared.intervals.End.{End}
-use Rattle.linear_points.specs.declared.taken.PointsError.{PointsError}
-use Rattle.linear_points.specs.declared.taken.PointsError.TheVariants as points
+use Rattle.linear_points.specs.declared.point.PointsError.{PointsError}
+use Rattle.linear_points.specs.declared.point.PointsError.TheVariants as points
 use Rattle.linear_points.specs.Linearization.{last_step}
 use Rattle.linear_points.specs.Refused.{IsRefusal}
 use Rattle.linear_points.specs.Run.{IsRun, IsRefusedAt, run_events, run_calls, run_points}

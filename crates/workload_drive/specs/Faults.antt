@@ -3,8 +3,8 @@ use Rattle.std.specs.Prelude.{◌≡◌, ℕ, Result, Err}
 use Rattle.dep_index.specs.Catalogue.{Refusal, bad, duplicate, twice_exported, too_many}
 use Rattle.dep_index.specs.declared.faults.CatError.{CatError}
 use Rattle.dep_index.specs.declared.faults.CatError.TheVariants as cat
-use Rattle.linear_points.specs.declared.taken.PointsError.{PointsError}
-use Rattle.linear_points.specs.declared.taken.PointsError.TheVariants as points
+use Rattle.linear_points.specs.declared.point.PointsError.{PointsError}
+use Rattle.linear_points.specs.declared.point.PointsError.TheVariants as points
 use Rattle.workload_drive.specs.declared.fault.LineCode.{LineCode}
 use Rattle.workload_drive.specs.declared.fault.LineCode.TheVariants.{C1, C2, C3, C4, H1}
 use Rattle.workload_drive.specs.declared.fault.LineFault.{LineFault}

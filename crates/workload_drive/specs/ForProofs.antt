@@ -3,7 +3,7 @@ use Rattle.std.specs.Prelude.{ℕ, ◌+◌, List, [], ◌∷◌, ◌++◌, map, 
 use Rattle.std.specs.Option.{option_map}
 use Rattle.dep_index.specs.Text.{texts_of}
 use Rattle.step_core.specs.declared.steps.Step.TheVariants as step
-use Rattle.linear_points.specs.declared.taken.Point.{Point}
+use Rattle.linear_points.specs.declared.point.Point.{Point}
 use Rattle.linear_points.specs.declared.intervals.Interval.{Interval}
 use Rattle.linear_points.specs.declared.intervals.End.{End}
 use Rattle.workload_drive.specs.declared.lines.Line.{Line}

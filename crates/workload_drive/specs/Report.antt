@@ -9,7 +9,7 @@ use Rattle.step_core.specs.declared.steps.Step.{Step}
 use Rattle.step_core.specs.declared.steps.Step.TheVariants.{Invoke, Go}
 use Rattle.step_core.specs.declared.steps.Event.{Event}
 use Rattle.step_core.specs.declared.steps.StepError.TheVariants.{Calls}
-use Rattle.linear_points.specs.declared.taken.Point.{Point}
+use Rattle.linear_points.specs.declared.point.Point.{Point}
 use Rattle.linear_points.specs.Run.{IsRun, IsRefusedAt, run_events, run_calls, run_points}
 use Rattle.linear_points.specs.Linearization.{first_step, last_step}
 use Rattle.workload_drive.specs.declared.fault.ScheduleFault.{ScheduleFault}

@@ -1,6 +1,6 @@
 use Rattle.std.proofs.Common.{◌∙◌, ap, arith, length, List}
 use Rattle.std.proofs.lemmas.List.{take_all}
-use Rattle.linear_points.specs.declared.taken.Point.{Point}
+use Rattle.linear_points.specs.declared.point.Point.{Point}
 use Rattle.workload_drive.specs.Report.{point_of}
 use Rattle.workload_drive.proofs.ReportLemmas.{length-with_point, point_noted}
 use Rattle.workload_drive.proofs.reports.points_by_call.Goals as goal

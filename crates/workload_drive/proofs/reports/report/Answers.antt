@@ -1,5 +1,5 @@
 use Rattle.std.proofs.Common.{◌∙◌, ap, get_or, List, Option, None}
-use Rattle.linear_points.specs.declared.taken.Point.{Point}
+use Rattle.linear_points.specs.declared.point.Point.{Point}
 use Rattle.workload_drive.specs.ForProofs.{schedule_in}
 use Rattle.workload_drive.proofs.ReportLemmas.{reports}
 use Rattle.workload_drive.proofs.reports.report.Goals as goal
