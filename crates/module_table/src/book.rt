@@ -1,9 +1,7 @@
-ghost use Rattle.std.specs.Prelude.{◌≡◌};
-ghost use Rattle.dep_index.specs.Refusals.{begin_drain_refusal, begin_remove_refusal};
-
+//! The book of a running table: its seat at the row, and the states and order that its calls write.
 use dep_index::{
-    BeginDrainError, BeginLoadError, BeginRemoveError, Call, Catalogue, EndLoadError,
-    EndRemoveError, ModuleState, Slots, reads,
+    BeginDrainError, BeginLoadError, BeginRemoveError, Catalogue, EndLoadError, EndRemoveError,
+    ModuleState, Slots, reads,
 };
 use root_row::{BookCall, BookSeat, Row};
 use std::alloc::{AllocError, Global};
@@ -14,8 +12,7 @@ use std::marker::Model;
 #[derive(Drop)]
 pub struct Book {
     seat: BookSeat,
-    states: Vec<ModuleState>,
-    order: Vec<u16>,
+    book: dep_index::Book,
     catalogue: Slots,
 }
 
@@ -27,15 +24,15 @@ impl Model for Book {
 
     ghost view = { λ b. b.seat };
 
-    ghost invariant = { λ b. IsInStep b.states b.order b.catalogue b.seat.view };
+    ghost invariant = { λ b. IsInStep b.book b.catalogue b.seat.view };
 }
 
 impl Book {
     ghost use Rattle.std.specs.Prelude.{◌≡◌, ◌<◌, length, slice_index, IfOk};
     ghost use Rattle.root_row.specs.Made.{new_book};
-    ghost use Rattle.dep_index.specs.Calls.{book_refusal, unload_refusal};
     ghost use Rattle.dep_index.specs.Catalogue.{modules_of};
-    ghost use Rattle.dep_index.specs.Refusals.{reply_of, refusal_of, begin_load_refusal, end_load_refusal, begin_drain_refusal, begin_remove_refusal, end_remove_refusal};
+    ghost use Rattle.dep_index.specs.Refusals.{reply_of, begin_load_refusal, end_load_refusal};
+    ghost use Rattle.dep_index.specs.Refusals.{begin_drain_refusal, begin_remove_refusal, end_remove_refusal};
     ghost use Rattle.root_row.specs.World.{slots};
     ghost use Rattle.root_row.specs.Seats.{IsOf, KnowsTable};
     ghost use Rattle.root_row.specs.Views.{state_in, book_of};
@@ -50,12 +47,10 @@ impl Book {
         ensures { IfOk result (λ b. b ≡ seat) }
     {
         let catalogue = catalogue.slots(alloc)?;
-        let states = vec![in alloc; ModuleState::Absent; catalogue.len()]?;
-        let order = Vec::with_capacity(alloc, catalogue.len())?;
+        let book = dep_index::Book::new(alloc, &catalogue)?;
         Ok(Book {
             seat,
-            states,
-            order,
+            book,
             catalogue,
         })
     }
@@ -72,7 +67,7 @@ impl Book {
     pub fn loaded(&self) -> usize
         ensures { result ≡ length (book_of self.now.view).order }
     {
-        self.order.len()
+        self.book.loaded()
     }
 
     /// The loaded module at this place, the oldest first.
@@ -80,14 +75,15 @@ impl Book {
         requires { place < length (book_of self.now.view).order }
         ensures { result ≡ slice_index (book_of self.now.view).order place }
     {
-        self.order[place] as usize
+        self.book.loaded_at(place)
     }
 
+    /// The state of a module.
     pub fn state(&self, slot: usize) -> ModuleState
         requires { slot < slots self.now.view.world }
         ensures { result ≡ state_in self.now.view slot }
     {
-        self.states[slot]
+        self.book.state(slot)
     }
 
     /// Begins a load.
@@ -97,32 +93,13 @@ impl Book {
         ensures own { IsOf row.now self.new }
         ensures call { BookAnswered self.old.view slot BookCall.BeginLoad (reply_of begin_load_refusal result) self.new.view }
     {
-        let refusal = self.load_refusal(slot);
+        let refusal = self.book.load_refusal(&self.catalogue, slot);
         row.look_book(&mut self.seat, slot, BookCall::BeginLoad);
-        if let Some(error) = refusal {
-            return Err(error);
+        if let Some(refusal) = refusal {
+            return Err(refusal);
         }
-        self.states[slot] = ModuleState::Loading;
-        match self.order.push(slot as u16) {
-            Ok(()) => Ok(()),
-            Err(_) => unreachable!(),
-        }
-    }
-
-    // The refusal of a load.
-    fn load_refusal(&self, slot: usize) -> Option<BeginLoadError>
-        requires { slot < slots self.now.view.world }
-        ensures { refusal_of begin_load_refusal result ≡ book_refusal self.now.view.world.catalogue (book_of self.now.view) (Call.BeginLoad slot) }
-    {
-        if !reads::is_absent(self.states[slot]) {
-            return Some(BeginLoadError::Exists);
-        }
-        if self.catalogue.unknown_symbol(slot) {
-            return Some(BeginLoadError::UnknownSymbol);
-        }
-        reads::first_missing(&self.states, self.catalogue.needs(slot)).map(
-            |need| BeginLoadError::NeedNotLive(need as usize),
-        )
+        self.book.enter(slot);
+        Ok(())
     }
 
     /// Ends a load, well or not.
@@ -132,38 +109,18 @@ impl Book {
         ensures own { IsOf row.now self.new }
         ensures call { BookAnswered self.old.view slot (BookCall.EndLoad ok) (reply_of end_load_refusal result) self.new.view }
     {
-        if !reads::is_loading(self.states[slot]) {
+        if let Some(refusal) = self.book.end_load_refusal(slot) {
             row.look_book(&mut self.seat, slot, BookCall::EndLoad(ok));
-            return Err(EndLoadError::NotLoading);
+            return Err(refusal);
         }
         if ok {
             row.open(&mut self.seat, slot);
-            self.states[slot] = ModuleState::Live;
+            self.book.set(slot, ModuleState::Live);
         } else {
             row.look_book(&mut self.seat, slot, BookCall::EndLoad(false));
-            self.states[slot] = ModuleState::Absent;
-            reads::forget(&mut self.order, slot);
+            self.book.leave(slot);
         }
         Ok(())
-    }
-
-    // The first refusal that the book knows.
-    fn refusal(&self, slot: usize) -> Option<BeginDrainError>
-        requires { slot < slots self.now.view.world }
-        ensures { refusal_of begin_drain_refusal result ≡ unload_refusal self.now.view.world.catalogue (book_of self.now.view) slot }
-    {
-        let state = self.states[slot];
-        if reads::is_absent(state) {
-            Some(BeginDrainError::NoEntry)
-        } else if reads::has_users(&self.catalogue, &self.order, slot) {
-            Some(BeginDrainError::NeededBy)
-        } else if !reads::is_live(state) {
-            Some(BeginDrainError::NotLive)
-        } else if self.catalogue.permanent(slot) {
-            Some(BeginDrainError::Permanent)
-        } else {
-            None
-        }
     }
 
     /// Lets no further get in.
@@ -173,12 +130,12 @@ impl Book {
         ensures own { IsOf row.now self.new }
         ensures call { BookAnswered self.old.view slot BookCall.BeginDrain (reply_of begin_drain_refusal result) self.new.view }
     {
-        if let Some(error) = self.refusal(slot) {
+        if let Some(refusal) = self.book.drain_refusal(&self.catalogue, slot) {
             row.look_book(&mut self.seat, slot, BookCall::BeginDrain);
-            return Err(error);
+            return Err(refusal);
         }
         row.drain(&mut self.seat, slot);
-        self.states[slot] = ModuleState::Draining;
+        self.book.set(slot, ModuleState::Draining);
         Ok(())
     }
 
@@ -189,14 +146,14 @@ impl Book {
         ensures own { IsOf row.now self.new }
         ensures call { BookAnswered self.old.view slot BookCall.BeginRemove (reply_of begin_remove_refusal result) self.new.view }
     {
-        if let Some(error) = self.refusal(slot) {
+        if let Some(refusal) = self.book.remove_refusal(&self.catalogue, slot) {
             row.look_book(&mut self.seat, slot, BookCall::BeginRemove);
-            return Err(as_removal(error));
+            return Err(refusal);
         }
         if !row.try_close(&mut self.seat, slot) {
             return Err(BeginRemoveError::InUse);
         }
-        self.states[slot] = ModuleState::Unloading;
+        self.book.set(slot, ModuleState::Unloading);
         Ok(())
     }
 
@@ -207,33 +164,18 @@ impl Book {
         ensures own { IsOf row.now self.new }
         ensures call { BookAnswered self.old.view slot BookCall.EndRemove (reply_of end_remove_refusal result) self.new.view }
     {
-        match self.states[slot] {
-            ModuleState::Unloading => {
-                row.look_book(&mut self.seat, slot, BookCall::EndRemove);
-            }
-            ModuleState::Draining => {
-                if !row.try_close(&mut self.seat, slot) {
-                    return Err(EndRemoveError::InUse);
-                }
-            }
-            _ => {
-                row.look_book(&mut self.seat, slot, BookCall::EndRemove);
-                return Err(EndRemoveError::NotUnloading);
-            }
+        if let Some(refusal) = self.book.end_remove_refusal(slot) {
+            row.look_book(&mut self.seat, slot, BookCall::EndRemove);
+            return Err(refusal);
         }
-        self.states[slot] = ModuleState::Absent;
-        reads::forget(&mut self.order, slot);
+        if reads::is_draining(self.book.state(slot)) {
+            if !row.try_close(&mut self.seat, slot) {
+                return Err(EndRemoveError::InUse);
+            }
+        } else {
+            row.look_book(&mut self.seat, slot, BookCall::EndRemove);
+        }
+        self.book.leave(slot);
         Ok(())
-    }
-}
-
-fn as_removal(error: BeginDrainError) -> BeginRemoveError
-    ensures { begin_remove_refusal result ≡ begin_drain_refusal error }
-{
-    match error {
-        BeginDrainError::NoEntry => BeginRemoveError::NoEntry,
-        BeginDrainError::NeededBy => BeginRemoveError::NeededBy,
-        BeginDrainError::NotLive => BeginRemoveError::NotLive,
-        BeginDrainError::Permanent => BeginRemoveError::Permanent,
     }
 }
