@@ -10,11 +10,12 @@ ghost use Rattle.dep_index.specs.Directives.{directive_in};
 ghost use Rattle.dep_index.specs.Exports.{export_links, change_links};
 ghost use Rattle.dep_index.specs.Faults.{IsMade};
 
-use crate::directives::{Directive, is_same};
+use crate::directives::Directive;
 use crate::exporters::Exporters;
 use crate::faults::Refused;
 use crate::names::Name;
 use crate::params::{Param, ParamKind};
+use crate::text::is_same;
 use std::alloc::{AllocError, Global};
 
 /// What a catalogue says of a module beside its name.

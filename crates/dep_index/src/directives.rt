@@ -2,7 +2,6 @@
 ghost use Rattle.std.specs.Prelude.{◌≡◌, IfOk, codes, map};
 ghost use Rattle.std.specs.List.{list_all};
 ghost use Rattle.std.specs.Option.{option_map};
-ghost use Rattle.std.specs.Str.{bytes_eq};
 ghost use Rattle.dep_index.specs.Text.{texts_of, is_name, normal_form};
 ghost use Rattle.dep_index.specs.Catalogue.{directive_of, begin_of, size_of, some_symbols, some_names, param_of, kind_of, alone, version_of};
 ghost use Rattle.dep_index.specs.Catalogue as spec;
@@ -10,7 +9,7 @@ ghost use Rattle.dep_index.specs.Directives.{directive_in};
 
 use crate::names::Name;
 use crate::params::ParamKind;
-use crate::text::{is_name, number_within};
+use crate::text::{is_name, is_same, number_within};
 use std::alloc::{AllocError, Global};
 
 /// What the words of a line say.
@@ -24,13 +23,6 @@ pub(crate) enum Directive<'w, 'a> {
     Softneeds(Vec<Name>),
     Param(Name, ParamKind),
     Permanent,
-}
-
-/// Whether the two texts are the same.
-pub(crate) fn is_same(word: &[u8], text: &[u8]) -> bool
-    ensures { result ≡ bytes_eq word.now text.now }
-{
-    word == text
 }
 
 fn module<'w, 'a>(

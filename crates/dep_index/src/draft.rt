@@ -8,11 +8,11 @@ ghost use Rattle.dep_index.specs.Directives.{directive_in};
 ghost use Rattle.dep_index.specs.Drafts.{draft_in, modules_read, IsSound, DraftIsMade};
 
 use crate::details::{Details, Open};
-use crate::directives::{Directive, is_same, read_directive};
+use crate::directives::{Directive, read_directive};
 use crate::exporters::Exporters;
 use crate::faults::Refused;
 use crate::names::Name;
-use crate::text::{is_comment, words};
+use crate::text::{is_comment, is_same, words};
 use indexmap::IndexMap;
 use std::alloc::{AllocError, Global};
 

@@ -1,12 +1,20 @@
 //! What all readers of texts share: lines, words, names and numbers.
 ghost use Rattle.std.specs.Prelude.{◌≡◌, ◌++◌, ◌∷◌, [], true, filter, IfOk, IfSome, OnOk, length, ◌≤◌};
 ghost use Rattle.std.specs.List.{list_all};
+ghost use Rattle.std.specs.Str.{bytes_eq};
 ghost use Rattle.std.specs.Str.Lines.{lines};
 ghost use Rattle.dep_index.specs.Text.{words, texts_of, is_filled, is_comment, is_name, is_name_byte, is_digit, is_number, digits_from, number_within};
 
 use bstr::{ByteSlice, Lines};
 use memchr::memchr2;
 use std::alloc::{AllocError, Global};
+
+/// Whether the two texts are the same.
+pub fn is_same(word: &[u8], text: &[u8]) -> bool
+    ensures { result ≡ bytes_eq word.now text.now }
+{
+    word == text
+}
 
 /// Adds the part, where it is a word.
 fn push_word<'a>(found: &mut Vec<&'a [u8]>, part: &'a [u8]) -> Result<(), AllocError>
