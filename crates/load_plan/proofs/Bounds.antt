@@ -1,8 +1,7 @@
 -- The slots that a bounded graph names.
 use Rattle.std.proofs.Common.{◌≡◌, ℕ, zero, suc, ◌<◌, nat_lt, ltb-true, true, ◌&&◌, List, [], ◌∷◌, length, refl}
 use Rattle.std.specs.List.{list_all}
-use Rattle.load_plan.specs.declared.graph.Node.{Node}
-use Rattle.load_plan.specs.Graph.{node_at, is_within, names_within, is_bounded}
+use Rattle.load_plan.specs.Graph.{Node, node_at, is_within, names_within, is_bounded}
 use Rattle.load_plan.proofs.Lists.{and_true}
 
 pub lt-true : (a b : ℕ) → nat_lt a b ≡ true → a < b

@@ -6,10 +6,10 @@ use Rattle.std.proofs.lemmas.List.{get_or_default, get_or-map, get_or-set_same, 
 use Rattle.std.proofs.lemmas.List.Folds.{list_all-append, drop_split}
 use Rattle.std.proofs.Math.Seq.{take-append-add}
 use Rattle.load_plan.specs.declared.graph.Target.{Target}
-use Rattle.load_plan.specs.declared.graph.Node.{Node}
 use Rattle.load_plan.specs.declared.graph.Row.{Row}
 use Rattle.load_plan.specs.Cuts.{no_row, node_in, nodes_in, Fits, AllFit, Appends}
-use Rattle.load_plan.specs.Graph.{node_at}
+use Rattle.load_plan.specs.Graph.{Node, node_at, is_bounded, is_within}
+use Rattle.load_plan.proofs.Bounds.{named_within}
 
 -- a range of a list is the same after an append
 range-stays : {A : Type 0} (xs ys : List A) (a b : ℕ) → a ≤ b → b ≤ length xs → slice_range (xs ++ ys) a b ≡ slice_range xs a b
@@ -57,6 +57,13 @@ pub row_is : (ts : List Target) (rows : List Row) (w : List Node) (m : ℕ) (row
 row_is ts rows w m row view within is =
     let long : length rows ≡ length w = sym (length-map rows (node_in ts)) ∙ ap length view in
     node_in-at ts rows m row (omega (arith, within, long)) is ∙ ap (λ ns. node_at ns m) view
+
+-- what a row cuts out are modules of the graph
+pub row_within : (ts cut : List Target) (rows : List Row) (w : List Node) (m : ℕ) (row : Row) → nodes_in ts rows ≡ w → is_bounded (nodes_in ts rows) ≡ true → m < length w → row ≡ get_or rows m row → cut ≡ ts
+    → (list_all (is_within (length w)) (node_in cut row).hard ≡ true) × (list_all (is_within (length w)) (node_in cut row).pre ≡ true) × (list_all (is_within (length w)) (node_in cut row).post ≡ true)
+row_within ts cut rows w m row view bounded within is same =
+    let node : node_in cut row ≡ node_at w m = ap (λ l. node_in l row) same ∙ row_is ts rows w m row view within is in
+    subst (λ n. (list_all (is_within (length w)) n.hard ≡ true) × (list_all (is_within (length w)) n.pre ≡ true) × (list_all (is_within (length w)) n.post ≡ true)) (sym node) (named_within w m (ap is_bounded (sym view) ∙ bounded))
 
 -- the soft items of a module stand one behind the other
 pub soft_is : (ts : List Target) (rows : List Row) (w : List Node) (m : ℕ) (row : Row) → nodes_in ts rows ≡ w → AllFit (length ts) rows → m < length w → row ≡ get_or rows m row → slice_range ts row.pre_from row.end ≡ (node_at w m).pre ++ (node_at w m).post
@@ -114,23 +121,3 @@ fit-set {before} {after} {row} {node} rows m within fit added k = elim (eqb_tell
   where
     longer : length before ≤ length after
     longer = omega (arith, ap length added.behind, length-append before added.more)
-
--- a module comes behind the others
-pub nodes_in-push : {before after : List Target} {row : Row} {node : Node} (rows : List Row) → AllFit (length before) rows → Appends before after row node → nodes_in after (rows ++ row ∷ []) ≡ nodes_in before rows ++ node ∷ []
-nodes_in-push {before} {after} {row} {node} rows fit added =
-    map-append (node_in after) rows (row ∷ [])
-    ∙ ap (λ n. nodes_in after rows ++ n ∷ []) added.same
-    ∙ ap (λ ts. nodes_in ts rows ++ node ∷ []) added.behind
-    ∙ ap (λ ns. ns ++ node ∷ []) (nodes_in-stays before added.more rows fit)
-
-pub fit-push : {before after : List Target} {row : Row} {node : Node} (rows : List Row) → AllFit (length before) rows → Appends before after row node → AllFit (length after) (rows ++ row ∷ [])
-fit-push {before} {after} {row} {node} rows fit added k = behind rows k (λ m. fits_more longer (fit m))
-  where
-    longer : length before ≤ length after
-    longer = omega (arith, ap length added.behind, length-append before added.more)
-
-    behind : (rows : List Row) (k : ℕ) → AllFit (length after) rows → Fits (length after) (get_or (rows ++ row ∷ []) k no_row)
-    behind [] zero fit = added.fits
-    behind [] (suc k) fit = nothing_fits (length after)
-    behind (x ∷ rows) zero fit = fit 0
-    behind (x ∷ rows) (suc k) fit = behind rows k (λ m. fit (suc m))

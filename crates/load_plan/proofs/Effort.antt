@@ -6,13 +6,12 @@ use Rattle.std.proofs.lemmas.List.Sums.{sum_by-set, sum_by-cons, get_or-le-sum_b
 use Rattle.std.proofs.Math.Nat.{mul-le-mul_right, add-mul}
 use Rattle.load_plan.specs.declared.graph.Target.{Target}
 use Rattle.load_plan.specs.declared.graph.Target.TheVariants.{Slot}
-use Rattle.load_plan.specs.declared.graph.Node.{Node}
 use Rattle.load_plan.specs.declared.walk.Mark.{Mark}
 use Rattle.load_plan.specs.declared.walk.Mark.TheVariants.{New, Open, Done}
-use Rattle.load_plan.specs.declared.visit.Phase.{Phase}
-use Rattle.load_plan.specs.declared.visit.Phase.TheVariants.{Pre, Hard, Post}
+use Rattle.load_plan.specs.declared.graph.Phase.{Phase}
+use Rattle.load_plan.specs.declared.graph.Phase.TheVariants.{Pre, Hard, Post}
 use Rattle.load_plan.specs.declared.visit.Stage.{Stage}
-use Rattle.load_plan.specs.Graph.{node_at, no_node}
+use Rattle.load_plan.specs.Graph.{Node, node_at, no_node}
 use Rattle.load_plan.specs.ForProofs.{mark_at}
 use Rattle.load_plan.specs.VisitSteps.{left_of, next_stage, first_stage, Leads}
 use Rattle.load_plan.proofs.Walking.{fresh_of}

@@ -3,9 +3,8 @@ use Rattle.std.proofs.Common.{◌≡◌, ℕ, ◌<◌, true, false, not, List, �
 use Rattle.std.specs.List.{list_all, list_any}
 use Rattle.std.proofs.lemmas.Bool.Decides.{eqb_tells}
 use Rattle.load_plan.specs.declared.graph.Target.TheVariants.{Slot}
-use Rattle.load_plan.specs.declared.graph.Node.{Node}
 use Rattle.load_plan.specs.declared.refusal.PlanRefusal.{PlanRefusal}
-use Rattle.load_plan.specs.Graph.{node_at, is_bounded}
+use Rattle.load_plan.specs.Graph.{Node, node_at, is_bounded}
 use Rattle.load_plan.specs.Walk.{has, hard_walk}
 use Rattle.load_plan.specs.Plan.{is_free, is_clean}
 use Rattle.load_plan.specs.Laws.{is_in, IsOrder}

@@ -3,10 +3,9 @@ use Rattle.std.proofs.Common.{◌≡◌, ℕ, zero, suc, ◌<◌, true, false, L
 use Rattle.std.specs.List.{list_all}
 use Rattle.load_plan.specs.declared.graph.Target.{Target}
 use Rattle.load_plan.specs.declared.graph.Target.TheVariants.{Slot, Missing}
-use Rattle.load_plan.specs.declared.graph.Node.{Node}
 use Rattle.load_plan.specs.declared.refusal.PlanRefusal.{PlanRefusal}
 use Rattle.load_plan.specs.declared.refusal.PlanRefusal.TheVariants.{Cycle, Install, Unknown}
-use Rattle.load_plan.specs.Graph.{node_at, is_bounded}
+use Rattle.load_plan.specs.Graph.{Node, node_at, is_bounded}
 use Rattle.load_plan.specs.Walk.{◌>>=◌, has, walk_each, walk, hard_walk}
 use Rattle.load_plan.specs.Plan.{each_soft, each_hard, visit}
 use Rattle.load_plan.specs.SoftModules.{is_missing, names_no_soft_module, HasNoSoftModules}

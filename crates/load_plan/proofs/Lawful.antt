@@ -9,11 +9,10 @@ use Rattle.dep_index.specs.Catalogue.{Description, described, slot_named}
 use Rattle.dep_index.specs.Dependencies.{Pair}
 use Rattle.modprobe_conf.specs.Configuration.{Configuration, options_of}
 use Rattle.load_plan.specs.declared.graph.Target.TheVariants.{Slot}
-use Rattle.load_plan.specs.declared.graph.Node.{Node}
 use Rattle.load_plan.specs.declared.items.Item.{Item}
 use Rattle.load_plan.specs.declared.refusal.PlanRefusal.{PlanRefusal}
-use Rattle.load_plan.specs.declared.steps.PlanStep.{PlanStep}
-use Rattle.load_plan.specs.Graph.{is_bounded}
+use Rattle.load_plan.specs.declared.plans.PlanStep.{PlanStep}
+use Rattle.load_plan.specs.Graph.{Node, is_bounded}
 use Rattle.load_plan.specs.Walk.{has}
 use Rattle.load_plan.specs.Plan.{plan}
 use Rattle.load_plan.specs.Laws.{IsOrder, Reaches, slots_in, HasRightMarks}

@@ -8,10 +8,9 @@ use Rattle.std.proofs.lemmas.Map.Steps.{length-le_from_distinct_below}
 use Rattle.std.proofs.lemmas.Cmp.{nat_eq_equiv}
 use Rattle.load_plan.specs.declared.graph.Target.{Target}
 use Rattle.load_plan.specs.declared.graph.Target.TheVariants.{Slot, Missing}
-use Rattle.load_plan.specs.declared.graph.Node.{Node}
 use Rattle.load_plan.specs.declared.refusal.PlanRefusal.{PlanRefusal}
 use Rattle.load_plan.specs.declared.refusal.PlanRefusal.TheVariants.{Cycle, Install}
-use Rattle.load_plan.specs.Graph.{node_at, is_within, is_bounded}
+use Rattle.load_plan.specs.Graph.{Node, node_at, is_within, is_bounded}
 use Rattle.load_plan.specs.Walk.{◌>>=◌, has, walk_each, walk}
 use Rattle.load_plan.specs.Laws.{is_in, IsOrder, start, more}
 use Rattle.load_plan.proofs.Lists.{and_true, and_makes, either_way, chosen, has-same, has-other, has-last_same, has-last_other, nothing_apart}

@@ -3,10 +3,9 @@ use Rattle.std.proofs.Common.{◌≡◌, ℕ, zero, suc, Bool, true, false, cond
 use Rattle.std.specs.List.{list_all}
 use Rattle.load_plan.specs.declared.graph.Target.{Target}
 use Rattle.load_plan.specs.declared.graph.Target.TheVariants.{Slot, Missing}
-use Rattle.load_plan.specs.declared.graph.Node.{Node}
 use Rattle.load_plan.specs.declared.refusal.PlanRefusal.{PlanRefusal}
 use Rattle.load_plan.specs.declared.refusal.PlanRefusal.TheVariants.{Cycle, Install}
-use Rattle.load_plan.specs.Graph.{node_at}
+use Rattle.load_plan.specs.Graph.{Node, node_at}
 use Rattle.load_plan.specs.Walk.{◌>>=◌, has, walk_each, walk, hard_walk}
 use Rattle.load_plan.specs.Plan.{is_free, is_clean, each_soft, is_done, each_hard, visit, marked, plan, removal_plan}
 use Rattle.load_plan.specs.Parts.{is_target_in, names_in, IsPart}

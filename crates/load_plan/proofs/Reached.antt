@@ -4,10 +4,9 @@ use Rattle.std.specs.List.{Contains}
 use Rattle.std.proofs.lemmas.Bool.Decides.{eqb_tells}
 use Rattle.load_plan.specs.declared.graph.Target.{Target}
 use Rattle.load_plan.specs.declared.graph.Target.TheVariants.{Slot, Missing}
-use Rattle.load_plan.specs.declared.graph.Node.{Node}
-use Rattle.load_plan.specs.declared.steps.PlanStep.{PlanStep}
+use Rattle.load_plan.specs.declared.plans.PlanStep.{PlanStep}
 use Rattle.load_plan.specs.declared.refusal.PlanRefusal.{PlanRefusal}
-use Rattle.load_plan.specs.Graph.{node_at, is_bounded}
+use Rattle.load_plan.specs.Graph.{Node, node_at, is_bounded}
 use Rattle.load_plan.specs.Walk.{has, hard_walk}
 use Rattle.load_plan.specs.Plan.{is_clean, each_soft, is_done, each_hard, visit, marked, plan}
 use Rattle.load_plan.specs.Laws.{is_in, IsOrder, Reaches, self, over_hard, over_pre, over_post, slots_in, MarksAreRight}

@@ -7,8 +7,7 @@ use Rattle.std.proofs.lemmas.List.Folds.{list_all_more}
 use Rattle.std.proofs.lemmas.List.Sums.{sum_by-set}
 use Rattle.load_plan.specs.declared.graph.Target.{Target}
 use Rattle.load_plan.specs.declared.graph.Target.TheVariants.{Slot, Missing}
-use Rattle.load_plan.specs.declared.graph.Node.{Node}
-use Rattle.load_plan.specs.Graph.{node_at, no_node, names_within, is_bounded}
+use Rattle.load_plan.specs.Graph.{Node, node_at, no_node, names_within, is_bounded}
 use Rattle.load_plan.specs.Walk.{has}
 use Rattle.load_plan.specs.Parts.{is_target_in, names_in, IsPart, known_at, unknown, cost, Adds}
 use Rattle.load_plan.proofs.Lists.{and_true, and_makes, has-append, has-last_same, has-last_other}

@@ -2,11 +2,10 @@
 use Rattle.std.proofs.Common.{◌≡◌, ℕ, suc, ◌-◌, ◌≤◌, Bool, true, false, cond, not, List, [], ◌∷◌, ◌++◌, length, refl, ◌∙◌, ap, arith}
 use Rattle.load_plan.specs.declared.graph.Target.{Target}
 use Rattle.load_plan.specs.declared.graph.Target.TheVariants.{Slot}
-use Rattle.load_plan.specs.declared.graph.Node.{Node}
-use Rattle.load_plan.specs.declared.visit.Phase.{Phase}
-use Rattle.load_plan.specs.declared.visit.Phase.TheVariants.{Pre, Hard, Post}
+use Rattle.load_plan.specs.declared.graph.Phase.{Phase}
+use Rattle.load_plan.specs.declared.graph.Phase.TheVariants.{Pre, Hard, Post}
 use Rattle.load_plan.specs.declared.visit.Stage.{Stage}
-use Rattle.load_plan.specs.Graph.{node_at}
+use Rattle.load_plan.specs.Graph.{Node, node_at}
 use Rattle.load_plan.specs.Plan.{is_done, each_soft, each_hard, visit}
 use Rattle.load_plan.specs.VisitSteps.{left_of, next_stage, first_stage, Leads, is_taken}
 

@@ -7,10 +7,10 @@ use Rattle.std.specs.Str.{bytes_eq}
 use Rattle.dep_index.specs.Catalogue.{Description, description_at, described, needs_of, needs_from, with_need, exporter, exports_symbol, slot_named}
 use Rattle.dep_index.specs.Dependencies.{Pair, deps}
 use Rattle.modprobe_conf.specs.Configuration.{Configuration, softdep_of}
+use Rattle.load_plan.specs.declared.sources.Sources.{Sources}
 use Rattle.load_plan.specs.declared.graph.Target.TheVariants.{Slot}
-use Rattle.load_plan.specs.declared.graph.Node.{Node}
-use Rattle.load_plan.specs.Graph.{is_within, names_within, is_bounded, node_at}
-use Rattle.load_plan.specs.Sources.{target_at, target_of, hard_of, pre_of, post_of, node_of, nodes_from, graph_of}
+use Rattle.load_plan.specs.Graph.{Node, is_within, names_within, is_bounded, node_at}
+use Rattle.load_plan.specs.Sources.{target_at, target_of, hard_of, pre_of, post_of, node_of, nodes_from, graph_of, node_from, graph_from}
 use Rattle.load_plan.proofs.Lists.{and_true, and_makes, all-append}
 use Rattle.load_plan.proofs.Clean.{lt-makes}
 
@@ -60,7 +60,7 @@ hard_within : (catalogue : List Description) (m : ℕ) (o : Option (List (List �
 hard_within catalogue m (Some names) = targets_within catalogue names
 hard_within catalogue m None = slots_within (length catalogue) (needs_of catalogue m) (needs_below catalogue m (description_at catalogue m).needed_symbols [] refl)
 
-pub node_within : (catalogue : List Description) (dependencies : List Pair) (configuration : Configuration) (m : ℕ) (d : Description) → names_within (length catalogue) (node_of catalogue dependencies configuration m d) ≡ true
+node_within : (catalogue : List Description) (dependencies : List Pair) (configuration : Configuration) (m : ℕ) (d : Description) → names_within (length catalogue) (node_of catalogue dependencies configuration m d) ≡ true
 node_within catalogue dependencies configuration m d =
     let n : ℕ = length catalogue in
     let x : Node = node_of catalogue dependencies configuration m d in
@@ -98,10 +98,20 @@ nodes_from-at catalogue dependencies configuration k (d ∷ ds) (suc m) within =
     turn : (a b : ℕ) → a + suc b ≡ suc a + b
     turn a b = omega arith
 
-pub graph_of-at : (catalogue : List Description) (dependencies : List Pair) (configuration : Configuration) (m : ℕ) → m < length catalogue → node_of catalogue dependencies configuration m (description_at catalogue m) ≡ node_at (graph_of catalogue dependencies configuration) m
+graph_of-at : (catalogue : List Description) (dependencies : List Pair) (configuration : Configuration) (m : ℕ) → m < length catalogue → node_of catalogue dependencies configuration m (description_at catalogue m) ≡ node_at (graph_of catalogue dependencies configuration) m
 graph_of-at catalogue dependencies configuration m within =
     ap (λ j. node_of catalogue dependencies configuration j (description_at catalogue m)) (more m)
     ∙ sym (nodes_from-at catalogue dependencies configuration 0 catalogue m within)
   where
     more : (j : ℕ) → j ≡ j + 0
     more j = omega arith
+
+-- the same of what plans are made from
+pub length-graph_from : (s : Sources) → length (graph_from s) ≡ length s.catalogue.now
+length-graph_from s = length-graph_of s.catalogue.now s.dependencies.now s.configuration.now
+
+pub node_from-within : (s : Sources) (slot : ℕ) → names_within (length s.catalogue.now) (node_from s slot) ≡ true
+node_from-within s slot = node_within s.catalogue.now s.dependencies.now s.configuration.now slot (description_at s.catalogue.now slot)
+
+pub graph_from-at : (s : Sources) (slot : ℕ) → slot < length s.catalogue.now → node_from s slot ≡ node_at (graph_from s) slot
+graph_from-at s slot within = graph_of-at s.catalogue.now s.dependencies.now s.configuration.now slot within

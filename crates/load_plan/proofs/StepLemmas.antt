@@ -1,7 +1,7 @@
 -- The steps of a plan by marks are those of its definition.
 use Rattle.std.proofs.Common.{◌&&◌, zero, suc, ◌≡◌, ℕ, ◌<◌, arith, nat_lt, Bool, true, false, not, List, [], ◌∷◌, length, get_or, refl, sym, ◌∙◌, ap}
 use Rattle.std.specs.List.{list_all}
-use Rattle.load_plan.specs.declared.steps.PlanStep.{PlanStep}
+use Rattle.load_plan.specs.declared.plans.PlanStep.{PlanStep}
 use Rattle.load_plan.specs.declared.walk.Mark.{Mark}
 use Rattle.load_plan.specs.declared.walk.Mark.TheVariants.{New}
 use Rattle.load_plan.specs.Walk.{has}

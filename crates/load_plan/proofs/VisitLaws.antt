@@ -6,8 +6,7 @@ use Rattle.std.proofs.lemmas.List.{length-append}
 use Rattle.std.proofs.lemmas.Map.Keys.{IsDistinct-cons, IsDistinct-head, IsDistinct-tail}
 use Rattle.load_plan.specs.declared.graph.Target.{Target}
 use Rattle.load_plan.specs.declared.graph.Target.TheVariants.{Slot, Missing}
-use Rattle.load_plan.specs.declared.graph.Node.{Node}
-use Rattle.load_plan.specs.Graph.{node_at, is_bounded, is_within}
+use Rattle.load_plan.specs.Graph.{Node, node_at, is_bounded, is_within}
 use Rattle.load_plan.specs.Walk.{has, hard_walk}
 use Rattle.load_plan.specs.Plan.{is_clean, each_soft, is_done, each_hard, visit}
 use Rattle.load_plan.specs.Laws.{is_in, IsOrder, start, more}

@@ -5,20 +5,19 @@ use Rattle.std.proofs.lemmas.Bool.Decides.{eqb_tells}
 use Rattle.std.proofs.lemmas.Map.Keys.{IsDistinct-cons, IsDistinct-head, IsDistinct-tail}
 use Rattle.load_plan.specs.declared.graph.Target.{Target}
 use Rattle.load_plan.specs.declared.graph.Target.TheVariants.{Slot, Missing}
-use Rattle.load_plan.specs.declared.graph.Node.{Node}
 use Rattle.load_plan.specs.declared.walk.Mark.{Mark}
 use Rattle.load_plan.specs.declared.walk.Mark.TheVariants.{New, Open, Done}
-use Rattle.load_plan.specs.declared.visit.Phase.{Phase}
-use Rattle.load_plan.specs.declared.visit.Phase.TheVariants.{Pre, Hard, Post}
+use Rattle.load_plan.specs.declared.graph.Phase.{Phase}
+use Rattle.load_plan.specs.declared.graph.Phase.TheVariants.{Pre, Hard, Post}
 use Rattle.load_plan.specs.declared.visit.Stage.{Stage}
 use Rattle.load_plan.specs.declared.visit.Move.{Move}
 use Rattle.load_plan.specs.declared.visit.Move.TheVariants.{Pass, Append, Enter}
-use Rattle.load_plan.specs.Graph.{node_at, is_bounded}
+use Rattle.load_plan.specs.Graph.{targets_of, Node, node_at, is_bounded}
 use Rattle.load_plan.specs.Walk.{has, hard_walk}
 use Rattle.load_plan.specs.Plan.{is_free, visit}
 use Rattle.load_plan.specs.Laws.{is_in, start, more}
 use Rattle.load_plan.specs.ForProofs.{mark_at, AreMarks, IsKept}
-use Rattle.load_plan.specs.VisitSteps.{targets_of, left_of, next_stage, first_stage, Leads, is_taken, IsUnmet, IsUnmetFirst, IsMove, IsTaken}
+use Rattle.load_plan.specs.VisitSteps.{left_of, next_stage, first_stage, Leads, is_taken, IsUnmet, IsUnmetFirst, IsMove, IsTaken}
 use Rattle.load_plan.proofs.Lists.{and_makes, or_false, or_comes, has-same, has-other, has-last_same, has-last_other, apart_from, below_cons, nothing_apart, room_for, has-from_apart, passes_at, not_false, all-append, take-first, take-all}
 use Rattle.load_plan.proofs.Orders.{IsWithin, grows_last, all_in-grows}
 use Rattle.load_plan.proofs.Walking.{mark_new, marks-open, marks-done}

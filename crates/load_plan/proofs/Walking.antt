@@ -8,13 +8,12 @@ use Rattle.std.proofs.lemmas.Map.Keys.{IsDistinct-cons, IsDistinct-tail}
 use Rattle.std.specs.List.{IsDistinct, list_all, sum_by}
 use Rattle.load_plan.specs.declared.graph.Target.{Target}
 use Rattle.load_plan.specs.declared.graph.Target.TheVariants.{Slot, Missing}
-use Rattle.load_plan.specs.declared.graph.Node.{Node}
 use Rattle.load_plan.specs.declared.refusal.PlanRefusal.{PlanRefusal}
 use Rattle.load_plan.specs.declared.refusal.PlanRefusal.TheVariants.{Cycle, Install, Unknown}
 use Rattle.load_plan.specs.declared.walk.Mark.{Mark}
 use Rattle.load_plan.specs.declared.walk.Mark.TheVariants.{New, Open, Done}
 use Rattle.load_plan.specs.declared.walk.Frame.{Frame}
-use Rattle.load_plan.specs.Graph.{node_at, no_node, is_bounded, is_within}
+use Rattle.load_plan.specs.Graph.{Node, node_at, no_node, is_bounded, is_within}
 use Rattle.load_plan.specs.Walk.{◌>>=◌, has, walk_each, walk}
 use Rattle.load_plan.specs.ForProofs.{mark_of, mark_at, AreMarks, left_of, next_frame, Leads}
 use Rattle.load_plan.proofs.Bounds.{named_within}

@@ -1,9 +1,8 @@
 -- Serves proofs alone: the targets of all modules in one list, and for each module where its own stand there.
 use Rattle.std.specs.Prelude.{◌≡◌, ℕ, ◌≤◌, true, false, List, ◌++◌, length, map, slice_index_or, slice_range}
 use Rattle.load_plan.specs.declared.graph.Target.{Target}
-use Rattle.load_plan.specs.declared.graph.Node.{Node}
 use Rattle.load_plan.specs.declared.graph.Row.{Row}
-use Rattle.load_plan.specs.Graph.{is_bounded}
+use Rattle.load_plan.specs.Graph.{Node, is_bounded}
 
 -- the row of a module that names nothing
 abbrev pub no_row : Row

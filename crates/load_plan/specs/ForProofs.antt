@@ -3,14 +3,13 @@ use Rattle.std.specs.Prelude.{◌≡◌, ℕ, ◌+◌, ◌<◌, Bool, true, fals
 use Rattle.std.specs.List.{list_all}
 use Rattle.load_plan.specs.declared.graph.Target.{Target}
 use Rattle.load_plan.specs.declared.graph.Target.TheVariants.{Slot, Missing}
-use Rattle.load_plan.specs.declared.graph.Node.{Node}
-use Rattle.load_plan.specs.declared.steps.PlanStep.{PlanStep}
+use Rattle.load_plan.specs.declared.plans.PlanStep.{PlanStep}
 use Rattle.load_plan.specs.declared.walk.Mark.{Mark}
 use Rattle.load_plan.specs.declared.walk.Mark.TheVariants.{New, Open, Done}
 use Rattle.load_plan.specs.declared.walk.Frame.{Frame}
 use Rattle.load_plan.specs.declared.walk.Step.{Step}
 use Rattle.load_plan.specs.declared.walk.Step.TheVariants.{Finish, Pass, Enter, Again, Blocked, Nowhere}
-use Rattle.load_plan.specs.Graph.{node_at, is_bounded}
+use Rattle.load_plan.specs.Graph.{Node, node_at, is_bounded}
 use Rattle.load_plan.specs.Laws.{IsOrder}
 use Rattle.load_plan.specs.Walk.{has}
 

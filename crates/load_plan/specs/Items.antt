@@ -4,12 +4,13 @@ use Rattle.dep_index.specs.Text.{normal_form}
 use Rattle.dep_index.specs.Catalogue.{Description, description_at}
 use Rattle.dep_index.specs.Dependencies.{Pair}
 use Rattle.modprobe_conf.specs.Configuration.{Configuration, options_of}
+use Rattle.load_plan.specs.declared.sources.Sources.{Sources}
 use Rattle.load_plan.specs.declared.graph.Target.{Target}
 use Rattle.load_plan.specs.declared.graph.Target.TheVariants.{Slot, Missing}
 use Rattle.load_plan.specs.declared.items.Item.{Item}
 use Rattle.load_plan.specs.declared.items.PlanError.{PlanError}
 use Rattle.load_plan.specs.declared.items.PlanError.TheVariants as error
-use Rattle.load_plan.specs.declared.steps.PlanStep.{PlanStep}
+use Rattle.load_plan.specs.declared.plans.PlanStep.{PlanStep}
 use Rattle.load_plan.specs.declared.refusal.PlanRefusal.{PlanRefusal}
 use Rattle.load_plan.specs.declared.refusal.PlanRefusal.TheVariants.{Cycle, Install, Unknown}
 use Rattle.load_plan.specs.Plan.{plan, removal_plan}
@@ -58,6 +59,13 @@ removal_plan_of catalogue dependencies configuration name =
     if is_kept configuration (normal_form name)
     then Err (error.Remove (normal_form name))
     else removal_at catalogue dependencies configuration (target_of catalogue (normal_form name))
+
+-- both, of what plans are made from
+abbrev pub plan_from : Sources → List ℕ → List (List ℕ) → Result (List Item) PlanError
+plan_from s name words = plan_of s.catalogue.now s.dependencies.now s.configuration.now name words
+
+abbrev pub removal_plan_from : Sources → List ℕ → Result (List ℕ) PlanError
+removal_plan_from s name = removal_plan_of s.catalogue.now s.dependencies.now s.configuration.now name
 
 -- The answer of a call is what the definition gives, unless memory ran out.
 abbrev pub FailsAs : {A : Type 0} → PlanError → Result A PlanError → Type 0

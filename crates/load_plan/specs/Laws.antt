@@ -3,9 +3,8 @@ use Rattle.std.specs.Prelude.{◌≡◌, ◌≤◌, ◌<◌, ℕ, Bool, true, fa
 use Rattle.std.specs.List.{list_all}
 use Rattle.load_plan.specs.declared.graph.Target.{Target}
 use Rattle.load_plan.specs.declared.graph.Target.TheVariants.{Slot, Missing}
-use Rattle.load_plan.specs.declared.graph.Node.{Node}
-use Rattle.load_plan.specs.declared.steps.PlanStep.{PlanStep}
-use Rattle.load_plan.specs.Graph.{node_at, is_bounded}
+use Rattle.load_plan.specs.declared.plans.PlanStep.{PlanStep}
+use Rattle.load_plan.specs.Graph.{Node, node_at, is_bounded}
 use Rattle.load_plan.specs.Walk.{has, walk, hard_walk}
 use Rattle.load_plan.specs.Plan.{visit, plan}
 

@@ -1,11 +1,17 @@
--- Serves proofs alone: the words of the options lines of the modules that were read.
+-- Serves proofs alone: the words of the options lines of the modules that were read, and an item for a command.
 use Rattle.std.specs.Prelude.{◌≡◌, ℕ, List, Option, None, IfSome, slice_index_or}
 use Rattle.std.specs.Borrow.{Bor}
-use Rattle.dep_index.specs.Catalogue.{Description}
-use Rattle.modprobe_conf.specs.Configuration.{Configuration, options_of}
-use Rattle.load_plan.specs.Items.{name_at}
+use Rattle.dep_index.specs.Text.{texts_of}
+use Rattle.load_plan.specs.declared.items.Asked.{Asked}
+use Rattle.load_plan.specs.declared.items.Item.{Item}
+use Rattle.load_plan.specs.declared.plans.PlanStep.{PlanStep}
+use Rattle.load_plan.specs.declared.sources.Sources.{Sources}
+use Rattle.load_plan.specs.Items.{item_of}
+use Rattle.load_plan.specs.Sources.{options_from}
 
 -- what there is of a module's words is what the configuration says of its name
-abbrev pub AreOptions : List Description → Configuration → List (Option (Bor (List (List ℕ)))) → Type 0
-AreOptions catalogue configuration options =
-    (m : ℕ) → IfSome (slice_index_or options m None) (λ words. words.now ≡ options_of configuration (name_at catalogue m))
+abbrev pub AreOptions : Sources → List (Option (Bor (List (List ℕ)))) → Type 0
+AreOptions s options = (slot : ℕ) → IfSome (slice_index_or options slot None) (λ words. words.now ≡ options_from s slot)
+
+abbrev pub item_for : Sources → Asked → PlanStep → Item
+item_for s asked step = item_of s.catalogue.now s.configuration.now asked.slot (texts_of asked.words.now) step

@@ -3,8 +3,7 @@ use Rattle.std.specs.Prelude.{◌≡◌, ◌≤◌, ◌⊎◌, ℕ, ◌+◌, ◌
 use Rattle.std.specs.List.{list_all, sum_by}
 use Rattle.load_plan.specs.declared.graph.Target.{Target}
 use Rattle.load_plan.specs.declared.graph.Target.TheVariants.{Slot, Missing}
-use Rattle.load_plan.specs.declared.graph.Node.{Node}
-use Rattle.load_plan.specs.Graph.{node_at}
+use Rattle.load_plan.specs.Graph.{Node, node_at}
 use Rattle.load_plan.specs.Walk.{has}
 
 -- a module of the part, or a name without a module

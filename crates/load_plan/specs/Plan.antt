@@ -4,10 +4,9 @@ use Rattle.std.specs.Prelude.{ℕ, zero, suc, Bool, true, false, not, if◌then�
 use Rattle.std.specs.List.{list_any}
 use Rattle.load_plan.specs.declared.graph.Target.{Target}
 use Rattle.load_plan.specs.declared.graph.Target.TheVariants.{Slot, Missing}
-use Rattle.load_plan.specs.declared.graph.Node.{Node}
-use Rattle.load_plan.specs.declared.steps.PlanStep.{PlanStep}
+use Rattle.load_plan.specs.declared.plans.PlanStep.{PlanStep}
 use Rattle.load_plan.specs.declared.refusal.PlanRefusal.{PlanRefusal}
-use Rattle.load_plan.specs.Graph.{node_at}
+use Rattle.load_plan.specs.Graph.{Node, node_at}
 use Rattle.load_plan.specs.Walk.{◌>>=◌, has, hard_walk}
 
 -- whether a walk has no fault and reaches no module in progress

@@ -3,8 +3,7 @@ use Rattle.std.specs.Prelude.{◌≡◌, ℕ, ◌<◌, Bool, true, false, List, 
 use Rattle.std.specs.List.{list_all}
 use Rattle.load_plan.specs.declared.graph.Target.{Target}
 use Rattle.load_plan.specs.declared.graph.Target.TheVariants.{Slot, Missing}
-use Rattle.load_plan.specs.declared.graph.Node.{Node}
-use Rattle.load_plan.specs.Graph.{node_at}
+use Rattle.load_plan.specs.Graph.{Node, node_at}
 
 abbrev pub is_missing : Target → Bool
 is_missing (Slot m) = false

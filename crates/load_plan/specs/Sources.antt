@@ -1,11 +1,12 @@
 -- Which dependency graph a catalogue, a modules.dep text and a configuration are.
 use Rattle.std.specs.Prelude.{ℕ, suc, Bool, not, ◌&&◌, List, [], ◌∷◌, map, Option, Some, None, is_some}
-use Rattle.dep_index.specs.Catalogue.{Description, needs_of, slot_named}
+use Rattle.dep_index.specs.Catalogue.{Description, description_at, needs_of, slot_named}
 use Rattle.dep_index.specs.Dependencies.{Pair, deps}
-use Rattle.modprobe_conf.specs.Configuration.{Configuration, SoftItems, softdep_of, has_install_line, has_remove_line}
+use Rattle.modprobe_conf.specs.Configuration.{Configuration, SoftItems, softdep_of, options_of, has_install_line, has_remove_line}
+use Rattle.load_plan.specs.declared.sources.Sources.{Sources}
 use Rattle.load_plan.specs.declared.graph.Target.{Target}
 use Rattle.load_plan.specs.declared.graph.Target.TheVariants.{Slot, Missing}
-use Rattle.load_plan.specs.declared.graph.Node.{Node}
+use Rattle.load_plan.specs.Graph.{Node}
 
 abbrev pub target_at : List ℕ → Option ℕ → Target
 target_at name None = Missing name
@@ -53,3 +54,15 @@ nodes_from catalogue dependencies configuration m (description ∷ later) =
 
 abbrev pub graph_of : List Description → List Pair → Configuration → List Node
 graph_of catalogue dependencies configuration = nodes_from catalogue dependencies configuration 0 catalogue
+
+-- the graph that plans are made from, and what it asks of a slot
+abbrev pub graph_from : Sources → List Node
+graph_from s = graph_of s.catalogue.now s.dependencies.now s.configuration.now
+
+abbrev pub node_from : Sources → ℕ → Node
+node_from s slot =
+    node_of s.catalogue.now s.dependencies.now s.configuration.now slot (description_at s.catalogue.now slot)
+
+-- the words of the options lines of a slot's name
+abbrev pub options_from : Sources → ℕ → List (List ℕ)
+options_from s slot = options_of s.configuration.now (description_at s.catalogue.now slot).name

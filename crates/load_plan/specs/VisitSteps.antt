@@ -3,23 +3,17 @@ use Rattle.std.specs.Prelude.{◌≡◌, ℕ, ◌+◌, ◌<◌, Bool, true, fals
 use Rattle.std.specs.Prelude.{length}
 use Rattle.load_plan.specs.declared.graph.Target.{Target}
 use Rattle.load_plan.specs.declared.graph.Target.TheVariants.{Slot}
-use Rattle.load_plan.specs.declared.graph.Node.{Node}
 use Rattle.load_plan.specs.declared.walk.Mark.{Mark}
 use Rattle.load_plan.specs.declared.walk.Mark.TheVariants.{New}
-use Rattle.load_plan.specs.declared.visit.Phase.{Phase}
-use Rattle.load_plan.specs.declared.visit.Phase.TheVariants.{Pre, Hard, Post}
+use Rattle.load_plan.specs.declared.graph.Phase.{Phase}
+use Rattle.load_plan.specs.declared.graph.Phase.TheVariants.{Pre, Hard, Post}
 use Rattle.load_plan.specs.declared.visit.Stage.{Stage}
 use Rattle.load_plan.specs.declared.visit.Move.{Move}
 use Rattle.load_plan.specs.declared.visit.Move.TheVariants.{Turn, Append, Leave, Pass, Enter}
-use Rattle.load_plan.specs.Graph.{node_at}
+use Rattle.load_plan.specs.Graph.{Node, node_at, targets_of}
 use Rattle.load_plan.specs.Walk.{has}
 use Rattle.load_plan.specs.Plan.{is_clean, is_done}
 use Rattle.load_plan.specs.ForProofs.{mark_at}
-
-abbrev pub targets_of : Node → Phase → List Target
-targets_of node Pre = node.pre
-targets_of node Hard = node.hard
-targets_of node Post = node.post
 
 -- what is left to visit in a phase
 abbrev pub left_of : List Node → Stage → List Target

@@ -1,72 +1,22 @@
 //! What a command loads for a name, and what it removes.
-ghost use Rattle.std.specs.Prelude.{◌≡◌, ◌<◌, [], ◌++◌, ℕ, length, map, true, IfOk, OnOk};
+ghost use Rattle.std.specs.Prelude.{◌≡◌, ◌<◌, length, map, true, IfOk};
 ghost use Rattle.dep_index.specs.Text.{normal_form, texts_of};
-ghost use Rattle.modprobe_conf.specs.Configuration.{options_of};
 ghost use Rattle.load_plan.specs.declared.refusal.WalkError.TheVariants.{Refused};
 ghost use Rattle.load_plan.specs.ForProofs.{are_within};
-ghost use Rattle.load_plan.specs.Items.{Answers, error_of, item_of, name_at, plan_of, removal_plan_of};
-ghost use Rattle.load_plan.specs.OptionWords.{AreOptions};
+ghost use Rattle.load_plan.specs.Items.{Answers, error_of, name_at, plan_from, removal_plan_from};
+ghost use Rattle.load_plan.specs.OptionWords.{item_for, AreOptions};
 ghost use Rattle.load_plan.specs.Results.{IsRefusalWithin};
+ghost use Rattle.load_plan.specs.Sources.{options_from};
 
-use crate::reach::part_from;
+use crate::kept::is_kept;
+use crate::options::Options;
+use crate::plans::{PlanStep, plan_in, removal_plan_in};
+use crate::reach::{Part, part_from};
 use crate::refusal::{PlanRefusal, WalkError};
-use crate::sources::{is_kept, slot_of};
-use crate::steps::{PlanStep, plan_in, removal_plan_in};
-use dep_index::{Catalogue, DepIndex, Name};
-use modprobe_conf::{Conf, Word};
+use crate::sources::{Sources, slot_of};
+use dep_index::{Catalogue, Name};
+use modprobe_conf::Word;
 use std::alloc::{AllocError, AllocFailed, Global};
-use std::marker::Model;
-
-/// The words that a module is loaded with. Contracts see it as their list.
-#[derive(Drop)]
-pub struct Options<'a> {
-    words: Vec<&'a [u8]>,
-}
-
-impl<'a> Model for Options<'a> {
-    ghost use Rattle.std.specs.Prelude.{ℕ, List};
-    ghost use Rattle.dep_index.specs.Text.{texts_of};
-
-    ghost Value = { List (List ℕ) };
-
-    ghost view = { λ o. texts_of o.words.items };
-}
-
-impl<'a> Options<'a> {
-    fn new(alloc: Global) -> Options<'a>
-        ensures { result ≡ [] }
-    {
-        Options {
-            words: Vec::new(alloc),
-        }
-    }
-
-    /// Adds the words of options lines.
-    fn add_options(&mut self, words: &'a [Word]) -> Result<(), AllocError>
-        ensures { OnOk result (self.new ≡ self.old ++ words.now) }
-    {
-        for word in words {
-            self.words.push(word.as_bytes())?;
-        }
-        Ok(())
-    }
-
-    fn add_words(&mut self, words: &[&'a [u8]]) -> Result<(), AllocError>
-        ensures { OnOk result (self.new ≡ self.old ++ texts_of words.now) }
-    {
-        for word in words {
-            self.words.push(word)?;
-        }
-        Ok(())
-    }
-
-    /// The words, in order.
-    pub fn words(&self) -> &[&'a [u8]]
-        ensures { texts_of result.now ≡ self.now }
-    {
-        &self.words
-    }
-}
 
 /// A module that a plan loads, whether only soft items ask for it, and the words that it is loaded with.
 #[derive(Drop)]
@@ -111,11 +61,11 @@ impl<T: Drop> From<AllocFailed<T>> for PlanError {
     }
 }
 
-fn module_name(alloc: Global, catalogue: &Catalogue, m: usize) -> Result<Name, AllocError>
-    requires { m < length catalogue.now }
-    ensures { IfOk result (λ name. name ≡ normal_form (name_at catalogue.now m)) }
+fn module_name(alloc: Global, catalogue: &Catalogue, slot: usize) -> Result<Name, AllocError>
+    requires { slot < length catalogue.now }
+    ensures { IfOk result (λ name. name ≡ normal_form (name_at catalogue.now slot)) }
 {
-    Name::new(alloc, catalogue.name(m))
+    Name::new(alloc, catalogue.name(slot))
 }
 
 /// The refusal with the name of its module.
@@ -128,46 +78,46 @@ fn error_of(
     ensures { IfOk result (λ e. e ≡ error_of catalogue.now refusal) }
 {
     match refusal {
-        PlanRefusal::Cycle(m) => Ok(PlanError::Cycle(module_name(alloc, catalogue, m)?)),
-        PlanRefusal::Install(m) => Ok(PlanError::Install(module_name(alloc, catalogue, m)?)),
+        PlanRefusal::Cycle(slot) => Ok(PlanError::Cycle(module_name(alloc, catalogue, slot)?)),
+        PlanRefusal::Install(slot) => Ok(PlanError::Install(module_name(alloc, catalogue, slot)?)),
         PlanRefusal::Unknown(name) => Ok(PlanError::Unknown(name)),
     }
 }
 
-/// The words of the options lines of a slot: where they were read, as read.
-fn options_at<'a>(
-    catalogue: &Catalogue,
-    configuration: &'a Conf,
-    read: &[Option<&'a [Word]>],
+/// The module that a command asks for, and the words of the command.
+#[derive(Clone, Copy)]
+struct Asked<'a, 'b> {
     slot: usize,
-) -> &'a [Word]
-    requires slot { slot < length catalogue.now }
-    requires read { AreOptions catalogue.now configuration.now read.now }
-    ensures { result.now ≡ options_of configuration.entry.now (name_at catalogue.now slot) }
+    words: &'b [&'a [u8]],
+}
+
+/// The words of the options lines of a slot: where they were read, as read.
+fn options_at<'a>(sources: &Sources<'a>, part: &Part<'a>, slot: usize) -> &'a [Word]
+    requires slot { slot < length sources.now.catalogue.now }
+    requires read { AreOptions sources.now part.now.options.items }
+    ensures { result.now ≡ options_from sources.now slot }
 {
-    match read.get(slot) {
+    match part.options.get(slot) {
         Some(Some(words)) => words,
-        _ => configuration.options(catalogue.name(slot)),
+        _ => sources.configuration.options(sources.catalogue.name(slot)),
     }
 }
 
 fn item_of<'a>(
     alloc: Global,
-    catalogue: &Catalogue,
-    configuration: &'a Conf,
-    read: &[Option<&'a [Word]>],
-    target: usize,
-    words: &[&'a [u8]],
+    sources: &Sources<'a>,
+    part: &Part<'a>,
+    asked: Asked<'a, '_>,
     step: PlanStep,
 ) -> Result<Item<'a>, AllocError>
-    requires slot { step.slot < length catalogue.now }
-    requires read { AreOptions catalogue.now configuration.now read.now }
-    ensures { IfOk result (λ item. item ≡ item_of catalogue.now configuration.now target (texts_of words.now) step) }
+    requires slot { step.slot < length sources.now.catalogue.now }
+    requires read { AreOptions sources.now part.now.options.items }
+    ensures { IfOk result (λ item. item ≡ item_for sources.now asked.entry step) }
 {
     let mut options = Options::new(alloc);
-    options.add_options(options_at(catalogue, configuration, read, step.slot))?;
-    if step.slot == target {
-        options.add_words(words)?;
+    options.add_options(options_at(sources, part, step.slot))?;
+    if step.slot == asked.slot {
+        options.add_words(asked.words)?;
     }
     Ok(Item {
         slot: step.slot,
@@ -178,20 +128,18 @@ fn item_of<'a>(
 
 fn items_of<'a>(
     alloc: Global,
-    catalogue: &Catalogue,
-    configuration: &'a Conf,
-    read: &[Option<&'a [Word]>],
-    target: usize,
-    words: &[&'a [u8]],
+    sources: &Sources<'a>,
+    part: &Part<'a>,
+    asked: Asked<'a, '_>,
     steps: &[PlanStep],
 ) -> Result<Vec<Item<'a>>, AllocError>
-    requires within { are_within (length catalogue.now) steps.now ≡ true }
-    requires read { AreOptions catalogue.now configuration.now read.now }
-    ensures { IfOk result (λ items. items.items ≡ map (item_of catalogue.now configuration.now target (texts_of words.now)) steps.now) }
+    requires within { are_within (length sources.now.catalogue.now) steps.now ≡ true }
+    requires read { AreOptions sources.now part.now.options.items }
+    ensures { IfOk result (λ items. items.items ≡ map (item_for sources.now asked.entry) steps.now) }
 {
     let mut items = Vec::with_capacity(alloc, steps.len())?;
     for step in steps {
-        items.push(item_of(alloc, catalogue, configuration, read, target, words, *step)?)?;
+        items.push(item_of(alloc, sources, part, asked, *step)?)?;
     }
     Ok(items)
 }
@@ -205,28 +153,18 @@ pub fn plan<'a>(
     alloc: Global,
     name: &[u8],
     words: &[&'a [u8]],
-    catalogue: &Catalogue,
-    dependencies: &DepIndex,
-    configuration: &'a Conf,
+    sources: &Sources<'a>,
 ) -> Result<Vec<Item<'a>>, PlanError>
-    ensures { Answers (λ items. items.items) result (plan_of catalogue.now dependencies.now configuration.now name.now (texts_of words.now)) }
+    ensures { Answers (λ items. items.items) result (plan_from sources.now name.now (texts_of words.now)) }
 {
     let name = Name::new(alloc, name)?;
-    let Some(target) = slot_of(catalogue, &name) else {
+    let Some(slot) = slot_of(sources.catalogue, &name) else {
         return Err(PlanError::Unknown(name));
     };
-    let part = part_from(alloc, catalogue, dependencies, configuration, target)?;
-    match plan_in(alloc, &part.graph, target) {
-        Ok(steps) => Ok(items_of(
-            alloc,
-            catalogue,
-            configuration,
-            &part.options,
-            target,
-            words,
-            &steps,
-        )?),
-        Err(WalkError::Refused(refusal)) => Err(error_of(alloc, catalogue, refusal)?),
+    let part = part_from(alloc, sources, slot)?;
+    match plan_in(alloc, &part.graph, slot) {
+        Ok(steps) => Ok(items_of(alloc, sources, &part, Asked { slot, words }, &steps)?),
+        Err(WalkError::Refused(refusal)) => Err(error_of(alloc, sources.catalogue, refusal)?),
         Err(WalkError::Memory) => Err(PlanError::Memory),
     }
 }
@@ -234,26 +172,20 @@ pub fn plan<'a>(
 /// The removal plan of a name: its module, and then what it stands on, each user before its dependencies. It is
 /// refused where the name has a remove line and no softdep line (Remove), else at the first module of the hard walk
 /// that is on the way to itself (Cycle) or that the catalogue does not have (Unknown), and for want of memory.
-pub fn removal_plan(
-    alloc: Global,
-    name: &[u8],
-    catalogue: &Catalogue,
-    dependencies: &DepIndex,
-    configuration: &Conf,
-) -> Result<Vec<usize>, PlanError>
-    ensures { Answers (λ order. order.items) result (removal_plan_of catalogue.now dependencies.now configuration.now name.now) }
+pub fn removal_plan(alloc: Global, name: &[u8], sources: &Sources) -> Result<Vec<usize>, PlanError>
+    ensures { Answers (λ order. order.items) result (removal_plan_from sources.now name.now) }
 {
     let name = Name::new(alloc, name)?;
-    if is_kept(configuration, name.as_bytes()) {
+    if is_kept(sources.configuration, name.as_bytes()) {
         return Err(PlanError::Remove(name));
     }
-    let Some(target) = slot_of(catalogue, &name) else {
+    let Some(slot) = slot_of(sources.catalogue, &name) else {
         return Err(PlanError::Unknown(name));
     };
-    let part = part_from(alloc, catalogue, dependencies, configuration, target)?;
-    match removal_plan_in(alloc, &part.graph, target) {
+    let part = part_from(alloc, sources, slot)?;
+    match removal_plan_in(alloc, &part.graph, slot) {
         Ok(order) => Ok(order),
-        Err(WalkError::Refused(refusal)) => Err(error_of(alloc, catalogue, refusal)?),
+        Err(WalkError::Refused(refusal)) => Err(error_of(alloc, sources.catalogue, refusal)?),
         Err(WalkError::Memory) => Err(PlanError::Memory),
     }
 }

@@ -3,22 +3,23 @@
 
 mod graph;
 mod items;
+mod kept;
 pub mod laws;
 mod look_up;
 mod names;
+mod options;
 mod parameters;
+mod plans;
 mod reach;
 mod refusal;
 mod sources;
-mod steps;
 mod values;
 mod visit;
 mod walk;
 
-pub use graph::{DependencyGraph, Node, Target, Targets};
-pub use items::{Item, Options, PlanError, plan, removal_plan};
+pub use items::{Item, PlanError, plan, removal_plan};
+pub use kept::is_kept;
 pub use look_up::{FindError, find};
+pub use options::Options;
 pub use parameters::params_valid;
-pub use refusal::{PlanRefusal, WalkError};
-pub use sources::is_kept;
-pub use steps::{PlanStep, plan_in, removal_plan_in};
+pub use sources::Sources;

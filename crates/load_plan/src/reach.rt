@@ -6,13 +6,12 @@ ghost use Rattle.load_plan.specs.Graph.{is_within};
 ghost use Rattle.load_plan.specs.Cuts.{no_row};
 ghost use Rattle.load_plan.specs.OptionWords.{AreOptions};
 ghost use Rattle.load_plan.specs.Plan.{plan, removal_plan};
-ghost use Rattle.load_plan.specs.Sources.{graph_of};
+ghost use Rattle.load_plan.specs.Sources.{graph_from};
 ghost use Rattle.load_plan.specs.Parts.{Adds, is_target_in, known_at};
 
 use crate::graph::{DependencyGraph, Row, Target};
-use crate::sources::add_node;
-use dep_index::{Catalogue, DepIndex};
-use modprobe_conf::{Conf, Word};
+use crate::sources::{Sources, add_node};
+use modprobe_conf::Word;
 use std::alloc::{AllocError, Global};
 
 /// So many modules that name nothing.
@@ -92,38 +91,30 @@ pub(crate) struct Part<'a> {
 /// What a module reaches; the modules that it does not reach name nothing in the graph.
 pub(crate) fn part_from<'a>(
     alloc: Global,
-    catalogue: &Catalogue,
-    dependencies: &DepIndex,
-    configuration: &'a Conf,
+    sources: &Sources<'a>,
     start: usize,
 ) -> Result<Part<'a>, AllocError>
-    requires { start < length catalogue.now }
-    ensures plans { IfOk result (λ part. plan part.graph (Slot start) ≡ plan (graph_of catalogue.now dependencies.now configuration.entry.now) (Slot start)) }
-    ensures removals { IfOk result (λ part. removal_plan part.graph (Slot start) ≡ removal_plan (graph_of catalogue.now dependencies.now configuration.entry.now) (Slot start)) }
-    ensures len { IfOk result (λ part. length part.graph ≡ length catalogue.now) }
-    ensures options { IfOk result (λ part. AreOptions catalogue.now configuration.entry.now part.options.items) }
+    requires { start < length sources.now.catalogue.now }
+    ensures plans { IfOk result (λ part. plan part.graph (Slot start) ≡ plan (graph_from sources.now) (Slot start)) }
+    ensures removals { IfOk result (λ part. removal_plan part.graph (Slot start) ≡ removal_plan (graph_from sources.now) (Slot start)) }
+    ensures len { IfOk result (λ part. length part.graph ≡ length sources.now.catalogue.now) }
+    ensures options { IfOk result (λ part. AreOptions sources.now part.options.items) }
 {
-    let mut rows = no_rows(alloc, catalogue.len())?;
-    let mut targets = Vec::with_capacity(alloc, catalogue.len())?;
-    let mut options = no_options(alloc, catalogue.len())?;
+    let count = sources.catalogue.len();
+    let mut rows = no_rows(alloc, count)?;
+    let mut targets = Vec::with_capacity(alloc, count)?;
+    let mut options = no_options(alloc, count)?;
     let mut reach = Reach {
-        known: none_known(alloc, catalogue.len())?,
+        known: none_known(alloc, count)?,
         left: Vec::new(alloc),
     };
     reach.add(start)?;
     'modules: while let Some(slot) = reach.left.pop() {
-        let (row, words) = add_node(
-            alloc,
-            catalogue,
-            dependencies,
-            configuration,
-            slot,
-            &mut targets,
-        )?;
+        let (row, words) = add_node(alloc, sources, slot, &mut targets)?;
         reach.add_targets(&targets[row.hard_from..row.end])?;
         rows[slot] = row;
         options[slot] = Some(words);
     }
-    let graph = DependencyGraph::of_rows(rows, targets);
+    let graph = DependencyGraph::new(rows, targets);
     Ok(Part { graph, options })
 }

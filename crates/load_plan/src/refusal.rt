@@ -6,7 +6,7 @@ use std::alloc::{AllocError, AllocFailed};
 
 /// Why a module has no plan, by slots of the catalogue and by names that it does not have.
 #[derive(Drop)]
-pub enum PlanRefusal {
+pub(crate) enum PlanRefusal {
     /// The module is a hard dependency of itself.
     Cycle(usize),
     /// The module has an install line and no softdep line (modprobe.d(5)).
@@ -17,7 +17,7 @@ pub enum PlanRefusal {
 
 /// Why a walk ends early: a refusal, or want of memory.
 #[derive(Drop)]
-pub enum WalkError {
+pub(crate) enum WalkError {
     Refused(PlanRefusal),
     Memory,
 }

@@ -1,9 +1,9 @@
-//! What a catalogue, a modules.dep text and a configuration say of a module.
+//! What plans are made from, and what it says of a module.
 ghost use Rattle.std.specs.Prelude.{◌≡◌, ◌<◌, ◌++◌, length, map, IfOk, IfSome, OnOk};
 ghost use Rattle.dep_index.specs.Catalogue.{description_at, slot_named};
 ghost use Rattle.load_plan.specs.declared.graph.Target.TheVariants.{Slot};
 ghost use Rattle.load_plan.specs.Cuts.{Appends};
-ghost use Rattle.load_plan.specs.Sources.{hard_of, is_kept, is_stopped, node_of, post_of, pre_of, target_of};
+ghost use Rattle.load_plan.specs.Sources.{hard_of, is_stopped, node_from, options_from, post_of, pre_of, target_of};
 ghost use Rattle.dep_index.specs.Dependencies.{deps};
 ghost use Rattle.modprobe_conf.specs.Configuration.{options_of, softdep_of};
 ghost use Rattle.std.specs.Option.{option_copied};
@@ -14,10 +14,18 @@ use dep_index::{Catalogue, DepIndex, Name};
 use modprobe_conf::{Conf, Softdep, Word};
 use std::alloc::{AllocError, Global};
 
+/// What plans are made from: the catalogue, the modules.dep text that goes before its needs, and the configuration.
+#[derive(Clone, Copy)]
+pub struct Sources<'a> {
+    pub catalogue: &'a Catalogue,
+    pub dependencies: &'a DepIndex,
+    pub configuration: &'a Conf,
+}
+
 /// The slot of a name in normal form.
 pub(crate) fn slot_of(catalogue: &Catalogue, name: &Name) -> Option<usize>
     ensures slot { result ≡ slot_named catalogue.now name.now }
-    ensures within { IfSome result (λ m. m < length catalogue.now) }
+    ensures within { IfSome result (λ slot. slot < length catalogue.now) }
 {
     catalogue.slot(name.as_bytes())
 }
@@ -60,26 +68,16 @@ fn add_hard(
     alloc: Global,
     catalogue: &Catalogue,
     dependencies: &DepIndex,
-    m: usize,
+    slot: usize,
     targets: &mut Vec<Target>,
 ) -> Result<(), AllocError>
-    requires { m < length catalogue.now }
-    ensures { OnOk result (targets.new.items ≡ targets.old.items ++ hard_of catalogue.now m (deps dependencies.now (description_at catalogue.now m).name)) }
+    requires { slot < length catalogue.now }
+    ensures { OnOk result (targets.new.items ≡ targets.old.items
+        ++ hard_of catalogue.now slot (deps dependencies.now (description_at catalogue.now slot).name)) }
 {
-    match dependencies.deps(catalogue.name(m)) {
+    match dependencies.deps(catalogue.name(slot)) {
         Some(names) => add_names(alloc, catalogue, names, targets),
-        None => add_slots(catalogue.needs(m), targets),
-    }
-}
-
-/// Whether a removal passes the module of a name in normal form over: it has a remove line and no softdep line
-/// (modprobe.d(5)).
-pub fn is_kept(configuration: &Conf, name: &[u8]) -> bool
-    ensures { result ≡ is_kept configuration.now name.now }
-{
-    match configuration.settings(name) {
-        Some(settings) => settings.has_remove() && settings.softdep().is_none(),
-        None => false,
+        None => add_slots(catalogue.needs(slot), targets),
     }
 }
 
@@ -88,15 +86,16 @@ fn add_pre(
     alloc: Global,
     catalogue: &Catalogue,
     softdep: Option<&Softdep>,
-    m: usize,
+    slot: usize,
     targets: &mut Vec<Target>,
 ) -> Result<(), AllocError>
-    requires { m < length catalogue.now }
-    ensures { OnOk result (targets.new.items ≡ targets.old.items ++ map (target_of catalogue.now) (pre_of (description_at catalogue.now m) (option_copied softdep.entry))) }
+    requires { slot < length catalogue.now }
+    ensures { OnOk result (targets.new.items ≡ targets.old.items
+        ++ map (target_of catalogue.now) (pre_of (description_at catalogue.now slot) (option_copied softdep.entry))) }
 {
     match softdep {
         Some(softdep) => add_names(alloc, catalogue, softdep.pre(), targets),
-        None => add_names(alloc, catalogue, catalogue.softneeds(m), targets),
+        None => add_names(alloc, catalogue, catalogue.softneeds(slot), targets),
     }
 }
 
@@ -107,7 +106,8 @@ fn add_post(
     softdep: Option<&Softdep>,
     targets: &mut Vec<Target>,
 ) -> Result<(), AllocError>
-    ensures { OnOk result (targets.new.items ≡ targets.old.items ++ map (target_of catalogue.now) (post_of (option_copied softdep.entry))) }
+    ensures { OnOk result (targets.new.items ≡ targets.old.items
+        ++ map (target_of catalogue.now) (post_of (option_copied softdep.entry))) }
 {
     match softdep {
         Some(softdep) => add_names(alloc, catalogue, softdep.post(), targets),
@@ -150,21 +150,24 @@ fn said_of<'a>(configuration: &'a Conf, name: &[u8]) -> Said<'a>
 /// Adds what a plan asks of a slot behind the targets of others, and tells the words of its options lines.
 pub(crate) fn add_node<'a>(
     alloc: Global,
-    catalogue: &Catalogue,
-    dependencies: &DepIndex,
-    configuration: &'a Conf,
-    m: usize,
+    sources: &Sources<'a>,
+    slot: usize,
     targets: &mut Vec<Target>,
 ) -> Result<(Row, &'a [Word]), AllocError>
-    requires { m < length catalogue.now }
-    ensures row { IfOk result (λ read. Appends targets.old.items targets.new.items read.0 (node_of catalogue.now dependencies.now configuration.entry.now m (description_at catalogue.now m))) }
-    ensures options { IfOk result (λ read. read.1.now ≡ options_of configuration.entry.now (description_at catalogue.now m).name) }
+    requires { slot < length sources.now.catalogue.now }
+    ensures row { IfOk result (λ read. Appends targets.old.items targets.new.items read.0 (node_from sources.now slot)) }
+    ensures options { IfOk result (λ read. read.1.now ≡ options_from sources.now slot) }
 {
-    let said = said_of(configuration, catalogue.name(m));
+    let Sources {
+        catalogue,
+        dependencies,
+        configuration,
+    } = *sources;
+    let said = said_of(configuration, catalogue.name(slot));
     let hard_from = targets.len();
-    add_hard(alloc, catalogue, dependencies, m, targets)?;
+    add_hard(alloc, catalogue, dependencies, slot, targets)?;
     let pre_from = targets.len();
-    add_pre(alloc, catalogue, said.softdep, m, targets)?;
+    add_pre(alloc, catalogue, said.softdep, slot, targets)?;
     let post_from = targets.len();
     add_post(alloc, catalogue, said.softdep, targets)?;
     let row = Row {

@@ -5,24 +5,15 @@ ghost use Rattle.load_plan.specs.declared.walk.Mark.TheVariants.{New};
 ghost use Rattle.load_plan.specs.declared.graph.Target.TheVariants.{Slot};
 ghost use Rattle.load_plan.specs.ForProofs.{AreMarks, mark_at, IsKept};
 ghost use Rattle.load_plan.specs.declared.walk.Mark.{Mark};
-ghost use Rattle.load_plan.specs.declared.graph.Node.{Node};
-ghost use Rattle.load_plan.specs.VisitSteps.{IsMove, IsTaken, IsUnmet, IsUnmetFirst, is_taken, left_of, Leads, next_stage, targets_of};
-ghost use Rattle.load_plan.specs.Graph.{is_within, node_at};
+ghost use Rattle.load_plan.specs.VisitSteps.{IsMove, IsTaken, IsUnmet, IsUnmetFirst, is_taken, left_of, Leads, next_stage};
+ghost use Rattle.load_plan.specs.Graph.{is_within, Node};
 ghost use Rattle.load_plan.specs.Plan.{is_clean, visit};
 ghost use Rattle.load_plan.specs.Walk.{hard_walk};
 
-use crate::graph::{DependencyGraph, Target, target_at};
+use crate::graph::{DependencyGraph, Phase, Target, target_at};
 use crate::refusal::WalkError;
 use crate::walk::{Mark, new_marks, walk};
 use std::alloc::{AllocError, Global};
-
-/// Which targets of a module a visit goes through.
-#[derive(Clone, Copy)]
-enum Phase {
-    Pre,
-    Hard,
-    Post,
-}
 
 /// A module whose visit has begun, and how many targets of the phase were visited.
 #[derive(Clone, Copy)]
@@ -89,19 +80,6 @@ fn enters(
     }
 }
 
-/// The targets of the stage's phase.
-fn targets_of(graph: &DependencyGraph, stage: Stage) -> &[Target]
-    requires { stage.slot < length graph.now }
-    ensures targets { result.now ≡ targets_of (node_at graph.entry.now stage.slot) stage.phase }
-    ensures within { list_all (is_within (length graph.entry.now)) result.now ≡ true }
-{
-    match stage.phase {
-        Phase::Pre => graph.pre(stage.slot),
-        Phase::Hard => graph.hard(stage.slot),
-        Phase::Post => graph.post(stage.slot),
-    }
-}
-
 /// The first target that is left, and the stage behind it.
 fn first_left(graph: &DependencyGraph, stage: Stage) -> Option<(&Target, Stage)>
     requires { stage.slot < length graph.now }
@@ -109,7 +87,7 @@ fn first_left(graph: &DependencyGraph, stage: Stage) -> Option<(&Target, Stage)>
     ensures within { IfSome result (λ x. is_within (length graph.entry.now) x.0.now ≡ true) }
     ensures next { IfSome result (λ x. x.1 ≡ next_stage stage) }
 {
-    match target_at(targets_of(graph, stage), stage.visited) {
+    match target_at(graph.targets(stage.slot, stage.phase), stage.visited) {
         Some(target) => Some((
             target,
             Stage {
@@ -168,11 +146,15 @@ fn next_move(
 }
 
 /// The visit of a module whose hard walk has no fault: all that is loaded for it, in order.
-pub fn visit(alloc: Global, graph: &DependencyGraph, start: usize) -> Result<Vec<usize>, AllocError>
+pub(crate) fn visit(
+    alloc: Global,
+    graph: &DependencyGraph,
+    start: usize,
+) -> Result<Vec<usize>, AllocError>
     requires start { start < length graph.now }
     requires walked { (reached : List ℕ) × (hard_walk graph.now true (Slot start) ≡ Ok reached) }
     ensures order { IfOk result (λ order. order.items ≡ visit graph.now (length graph.now) [] [] (Slot start)) }
-    ensures within { IfOk result (λ order. list_all (λ m. nat_lt m (length graph.now)) order.items ≡ true) }
+    ensures within { IfOk result (λ order. list_all (λ slot. nat_lt slot (length graph.now)) order.items ≡ true) }
 {
     let mut marks = new_marks(alloc, graph.len())?;
     marks[start] = Mark::Open;

@@ -8,7 +8,7 @@ ghost use Rattle.load_plan.specs.Graph.{is_within, node_at};
 ghost use Rattle.load_plan.specs.Results.{Gives, IsRefusalWithin};
 ghost use Rattle.load_plan.specs.Walk.{hard_walk, walk};
 
-use crate::graph::{DependencyGraph, Target, target_at};
+use crate::graph::{DependencyGraph, Phase, Target, target_at};
 use crate::names::copy_name;
 use crate::refusal::{PlanRefusal, WalkError};
 use dep_index::Name;
@@ -16,7 +16,7 @@ use std::alloc::{AllocError, Global};
 
 /// Where a walk or a visit is with a module.
 #[derive(Clone, Copy, Debug, PartialEq, Eq)]
-pub enum Mark {
+pub(crate) enum Mark {
     New,
     Open,
     Done,
@@ -42,9 +42,9 @@ enum Step<'a> {
 
 /// What a walk finished, in order, and the marks behind it.
 #[derive(Drop)]
-pub struct Walked {
-    pub order: Vec<usize>,
-    pub marks: Vec<Mark>,
+pub(crate) struct Walked {
+    pub(crate) order: Vec<usize>,
+    pub(crate) marks: Vec<Mark>,
 }
 
 /// Whether the walk stops at a module for its install line.
@@ -62,7 +62,7 @@ fn first_left(graph: &DependencyGraph, frame: Frame) -> Option<(&Target, Frame)>
     ensures within { IfSome result (λ x. is_within (length graph.entry.now) x.0.now ≡ true) }
     ensures next { IfSome result (λ x. x.1 ≡ next_frame frame) }
 {
-    match target_at(graph.hard(frame.slot), frame.walked) {
+    match target_at(graph.targets(frame.slot, Phase::Hard), frame.walked) {
         Some(target) => Some((
             target,
             Frame {
@@ -92,7 +92,7 @@ fn next_step<'a>(graph: &'a DependencyGraph, tests: bool, marks: &[Mark], frame:
 }
 
 /// A mark for each module, all New.
-pub fn new_marks(alloc: Global, count: usize) -> Result<Vec<Mark>, AllocError>
+pub(crate) fn new_marks(alloc: Global, count: usize) -> Result<Vec<Mark>, AllocError>
     ensures { IfOk result (λ marks. marks.items ≡ replicate count New) }
 {
     vec![in alloc; Mark::New; count]
@@ -100,7 +100,7 @@ pub fn new_marks(alloc: Global, count: usize) -> Result<Vec<Mark>, AllocError>
 
 /// The walk from a new module, on from marks: the modules that it finishes, in order.
 /// Marks that are Open are on the way, marks that are Done are finished.
-pub fn walk(
+pub(crate) fn walk(
     alloc: Global,
     graph: &DependencyGraph,
     tests: bool,
@@ -152,7 +152,7 @@ pub fn walk(
 }
 
 /// The hard walk from a module: what it reaches, each dependency before its user.
-pub fn hard_walk(
+pub(crate) fn hard_walk(
     alloc: Global,
     graph: &DependencyGraph,
     tests: bool,

@@ -1,17 +1,17 @@
 use Rattle.std.proofs.Common.{◌≡◌, length}
 use Rattle.load_plan.specs.Cuts.{nodes_in, AllFit}
 use Rattle.load_plan.specs.OptionWords.{AreOptions}
-use Rattle.load_plan.specs.Sources.{graph_of}
+use Rattle.load_plan.specs.Sources.{graph_from}
 use Rattle.load_plan.specs.Parts.{cost}
 use Rattle.load_plan.proofs.Reaching.{Reaching}
 use Rattle.load_plan.proofs.reach.part_from.Given as goal
 
 abbrev pub invariant-modules : goal.invariant-modules
 invariant-modules l = record {
-  reaching : Reaching (graph_of l.catalogue l.dependencies l.configuration) l.start (nodes_in l.targets.items l.rows.items) l.reach.known.items l.reach.left.items;
+  reaching : Reaching (graph_from l.sources) l.start (nodes_in l.targets.items l.rows.items) l.reach.known.items l.reach.left.items;
   fit : AllFit (length l.targets.items) l.rows.items;
-  options : AreOptions l.catalogue l.configuration l.options.items;
-  options_long : length l.options.items ≡ length l.catalogue;
+  options : AreOptions l.sources l.options.items;
+  options_long : length l.options.items ≡ length l.sources.catalogue.now;
 }
 
 abbrev pub decreases-modules : goal.decreases-modules

@@ -2,7 +2,7 @@ use Rattle.std.proofs.Common.{◌≡◌, ◌<◌, ◌∙◌, [], ◌∷◌, leng
 use Rattle.std.proofs.lemmas.List.{length-replicate}
 use Rattle.load_plan.specs.declared.walk.Mark.{Mark}
 use Rattle.load_plan.specs.declared.walk.Mark.TheVariants.{New}
-use Rattle.load_plan.specs.declared.visit.Phase.TheVariants.{Pre}
+use Rattle.load_plan.specs.declared.graph.Phase.TheVariants.{Pre}
 use Rattle.load_plan.specs.ForProofs.{AreMarks}
 use Rattle.load_plan.specs.VisitSteps.{first_stage}
 use Rattle.load_plan.proofs.Lists.{all_from_members}

@@ -6,4 +6,4 @@ use Rattle.load_plan.proofs.graph.DependencyGraph.soft.Goals as goal
 pub returns : goal.returns
 returns c =
     ap (λ ts. slice_range ts c.index-row.result.now.pre_from c.index-row.result.now.end) c.deref.ensures.value
-    ∙ soft_is c.self.inside.targets.items c.self.inside.rows.items c.args.self.now c.args.m c.index-row.result.now c.self.view_is c.self.invariant.fit c.requires c.index-row.ensures
+    ∙ soft_is c.self.inside.targets.items c.self.inside.rows.items c.args.self.now c.args.slot c.index-row.result.now c.self.view_is c.self.invariant.fit c.requires c.index-row.ensures

@@ -6,8 +6,8 @@ use Rattle.load_plan.specs.Plan.{marked, visit}
 use Rattle.load_plan.specs.ForProofs.{are_within, steps_of}
 use Rattle.load_plan.proofs.HardVisits.{visit_is_walk, walk_within}
 use Rattle.load_plan.proofs.StepLemmas.{steps_marked, steps_within}
-use Rattle.load_plan.proofs.steps.plan_in.Goals as goal
-use Rattle.load_plan.proofs.steps.plan_in.Goals.{then-has_no_soft_module, else-has_no_soft_module+in_ok-order-2}
+use Rattle.load_plan.proofs.plans.plan_in.Goals as goal
+use Rattle.load_plan.proofs.plans.plan_in.Goals.{then-has_no_soft_module, else-has_no_soft_module+in_ok-order-2}
 
 pub returns-clause-steps : goal.returns-clause-steps
 returns-clause-steps c =

@@ -1,6 +1,6 @@
 use Rattle.std.proofs.Common.{◌≡◌, ◌++◌, take}
 use Rattle.dep_index.specs.Text.{texts_of}
-use Rattle.load_plan.proofs.items.Options.add_words.Given as goal
+use Rattle.load_plan.proofs.options.Options.add_words.Given as goal
 
 abbrev pub invariant-loop-word : goal.invariant-loop-word
 invariant-loop-word l = texts_of l.self-inside.words.items ≡ l.fn.self ++ texts_of (take l.word-index l.words)

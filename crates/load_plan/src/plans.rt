@@ -17,9 +17,9 @@ use std::alloc::{AllocError, Global};
 
 /// A module that a plan loads, and whether only soft items ask for it.
 #[derive(Clone, Copy, Debug, PartialEq, Eq)]
-pub struct PlanStep {
-    pub slot: usize,
-    pub soft: bool,
+pub(crate) struct PlanStep {
+    pub(crate) slot: usize,
+    pub(crate) soft: bool,
 }
 
 /// Whether the hard walk that left these marks did not reach a module.
@@ -57,8 +57,8 @@ fn has_no_soft_module(graph: &DependencyGraph) -> bool
     ensures none { result ≡ true → HasNoSoftModules graph.now }
     ensures bounded { is_bounded graph.now ≡ true }
 {
-    for m in 0..graph.len() {
-        if !are_missing(graph.soft(m)) {
+    for slot in 0..graph.len() {
+        if !are_missing(graph.soft(slot)) {
             return false;
         }
     }
@@ -66,7 +66,7 @@ fn has_no_soft_module(graph: &DependencyGraph) -> bool
 }
 
 /// The plan of a module of the graph: the modules that are loaded, in order, or why there is none.
-pub fn plan_in(
+pub(crate) fn plan_in(
     alloc: Global,
     graph: &DependencyGraph,
     start: usize,
@@ -86,7 +86,7 @@ pub fn plan_in(
 }
 
 /// The removal plan of a module of the graph: the modules that are removed, the module first, or why there is none.
-pub fn removal_plan_in(
+pub(crate) fn removal_plan_in(
     alloc: Global,
     graph: &DependencyGraph,
     start: usize,
