@@ -1,17 +1,22 @@
 -- Where no soft item is a module of the graph, a visit gives what the hard walk gives.
-use Rattle.std.proofs.Common.{◌≡◌, ℕ, zero, suc, ◌<◌, true, false, List, [], ◌∷◌, ◌++◌, length, if◌then◌else◌, Result, Ok, Err, refl, sym, ◌∙◌, ap, arith, inl, inr, lt-ltb, nat_lt}
-use Rattle.std.specs.List.{list_all}
+use Rattle.std.proofs.Common.{◌≡◌, ℕ, zero, suc, ◌<◌, true, false, List, [], ◌∷◌, ◌++◌, length, if◌then◌else◌, Result, Ok, Err, refl, sym, ◌∙◌, ap, arith, inl, inr, Bool, IfOk}
+use Rattle.std.specs.List.{All, list_all}
 use Rattle.load_plan.specs.declared.graph.Target.{Target}
 use Rattle.load_plan.specs.declared.graph.Target.TheVariants.{Slot, Missing}
 use Rattle.load_plan.specs.declared.refusal.PlanRefusal.{PlanRefusal}
 use Rattle.load_plan.specs.declared.refusal.PlanRefusal.TheVariants.{Cycle, Install, Unknown}
+use Rattle.load_plan.specs.declared.refusal.WalkError.{WalkError}
+use Rattle.load_plan.specs.declared.walk.Walked.{Walked}
+use Rattle.load_plan.specs.Results.{Gives}
 use Rattle.load_plan.specs.Graph.{Node, node_at, is_bounded}
 use Rattle.load_plan.specs.Walk.{◌>>=◌, has, walk_each, walk, hard_walk}
 use Rattle.load_plan.specs.Plan.{each_soft, each_hard, visit}
 use Rattle.load_plan.specs.SoftModules.{is_missing, names_no_soft_module, HasNoSoftModules}
 use Rattle.std.proofs.lemmas.List.Folds.{list_all-append}
-use Rattle.load_plan.proofs.Lists.{and_true, either_way, all_from_members}
-use Rattle.load_plan.proofs.Clean.{Whole, whole_walk}
+use Rattle.load_plan.proofs.Lists.{and_true, either_way, all_below}
+use Rattle.load_plan.specs.Laws.{start}
+use Rattle.load_plan.proofs.Clean.{lt-makes}
+use Rattle.load_plan.proofs.Orders.{Extends, walk_extends}
 use Rattle.load_plan.proofs.Walking.{walk-passed, walk-cycle, walk-unknown, walk-install, walk-enter}
 
 -- a slot past the end names nothing
@@ -90,7 +95,8 @@ pub visit_is_walk : (w : List Node) (m : ℕ) (reached : List ℕ) → HasNoSoft
 visit_is_walk w m reached none h = visits_same w (none_anywhere w none) (length w) [] [] [] m reached refl h
 
 -- the modules of a walk are of the graph
-pub walk_within : (w : List Node) (m : ℕ) (reached : List ℕ) → is_bounded w ≡ true → m < length w → hard_walk w true (Slot m) ≡ Ok reached → list_all (λ q. nat_lt q (length w)) reached ≡ true
-walk_within w m reached bounded below h =
-    let x : Whole w m reached = whole_walk w m reached bounded below h in
-    all_from_members (λ q. nat_lt q (length w)) reached (λ q g. lt-ltb q (length w) (x.below q g))
+pub walked_within : (w : List Node) (tests : Bool) (m : ℕ) (r : Result Walked WalkError) → is_bounded w ≡ true → m < length w → Gives (λ (x : Walked). x.order.items) r (hard_walk w tests (Slot m)) → IfOk r (λ x. All (λ q. q < length w) x.order.items)
+walked_within w tests m (Err e) bounded below gives = tt
+walked_within w tests m (Ok x) bounded below gives =
+    let e : Extends w tests [] [] x.order.items = (walk_extends w tests bounded (length w) [] [] (Slot m) x.order.items (lt-makes m (length w) below) start (λ p g. refl) gives).0 in
+    all_below (length w) x.order.items (λ q g. (e.entered (λ p k. absurd (cc)) q g).0)

@@ -1,6 +1,7 @@
 -- Members of lists of slots.
 use Rattle.std.proofs.Common.{◌≡◌, ℕ, zero, suc, ◌+◌, ◌<◌, ◌≤◌, Bool, true, false, cond, not, get_or, arith, ◌&&◌, ◌||◌, nat_eq, List, [], ◌∷◌, ◌++◌, length, drop, take, add-one, refl, sym, ◌∙◌, ap, subst, eqb-true, eq-eqb, ◌⊎◌, inl, inr}
-use Rattle.std.specs.List.{list_any, list_all, AllByRecursion, IsDistinct, Contains}
+use Rattle.std.specs.List.{All, list_any, list_all, AllByRecursion, IsDistinct, Contains}
+use Rattle.std.proofs.lemmas.List.Elements.{All-nil, All-cons}
 use Rattle.std.proofs.lemmas.List.Folds.{list_any-append}
 use Rattle.std.proofs.lemmas.Map.Steps.{length-le_from_distinct_below}
 use Rattle.std.proofs.lemmas.Map.Keys.{IsDistinct-cons}
@@ -145,7 +146,7 @@ take-all [] (suc k) e = refl
 take-all (x ∷ xs) zero e = absurd (cc)
 take-all (x ∷ xs) (suc k) e = ap (λ l. x ∷ l) (take-all xs k e)
 
--- what holds of each member holds of all
-pub all_from_members : (p : ℕ → Bool) (ms : List ℕ) → ((q : ℕ) → has ms q ≡ true → p q ≡ true) → list_all p ms ≡ true
-all_from_members p [] h = refl
-all_from_members p (x ∷ xs) h = and_makes (p x) (list_all p xs) (h x (has-same xs x x refl)) (all_from_members p xs (λ q k. h q (or_comes (nat_eq q x) (has xs q) k)))
+-- members that are below n
+pub all_below : (n : ℕ) (ms : List ℕ) → ((q : ℕ) → has ms q ≡ true → q < n) → All (λ q. q < n) ms
+all_below n [] h = All-nil (λ q. q < n)
+all_below n (x ∷ xs) h = All-cons (λ q. q < n) x xs (h x (has-same xs x x refl)) (all_below n xs (λ q k. h q (or_comes (nat_eq q x) (has xs q) k)))

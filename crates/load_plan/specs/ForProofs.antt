@@ -59,7 +59,3 @@ is_done_mark _ = false
 -- the steps of a list, soft where the mark is not Done
 abbrev pub steps_of : List Mark → List ℕ → List PlanStep
 steps_of marks ms = map (λ m. record { slot = m; soft = not (is_done_mark (slice_index_or marks m New)) }) ms
-
--- the modules of the steps are of the graph
-abbrev pub are_within : ℕ → List PlanStep → Bool
-are_within n steps = list_all (λ (s : PlanStep). nat_lt s.slot n) steps

@@ -1,8 +1,7 @@
 //! What a command loads for a name, and what it removes.
-ghost use Rattle.std.specs.Prelude.{◌≡◌, ◌<◌, length, map, true, IfOk};
+ghost use Rattle.std.specs.Prelude.{◌≡◌, ◌<◌, length, map, All, IfOk};
 ghost use Rattle.dep_index.specs.Text.{normal_form, texts_of};
 ghost use Rattle.load_plan.specs.declared.refusal.WalkError.TheVariants.{Refused};
-ghost use Rattle.load_plan.specs.ForProofs.{are_within};
 ghost use Rattle.load_plan.specs.Items.{Answers, error_of, name_at, plan_from, removal_plan_from};
 ghost use Rattle.load_plan.specs.OptionWords.{item_for, AreOptions};
 ghost use Rattle.load_plan.specs.Results.{IsRefusalWithin};
@@ -133,9 +132,10 @@ fn items_of<'a>(
     asked: Asked<'a, '_>,
     steps: &[PlanStep],
 ) -> Result<Vec<Item<'a>>, AllocError>
-    requires within { are_within (length sources.now.catalogue.now) steps.now ≡ true }
+    requires within { All (λ step. step.slot < length sources.now.catalogue.now) steps.now }
     requires read { AreOptions sources.now part.now.options.items }
-    ensures { IfOk result (λ items. items.items ≡ map (item_for sources.now asked.entry) steps.now) }
+    ensures items { IfOk result (λ items. items.items ≡ map (item_for sources.now asked.entry) steps.now) }
+    ensures within { IfOk result (λ items. All (λ item. item.slot < length sources.now.catalogue.now) items.items) }
 {
     let mut items = Vec::with_capacity(alloc, steps.len())?;
     for step in steps {
@@ -155,7 +155,8 @@ pub fn plan<'a>(
     words: &[&'a [u8]],
     sources: &Sources<'a>,
 ) -> Result<Vec<Item<'a>>, PlanError>
-    ensures { Answers (λ items. items.items) result (plan_from sources.now name.now (texts_of words.now)) }
+    ensures items { Answers (λ items. items.items) result (plan_from sources.now name.now (texts_of words.now)) }
+    ensures within { IfOk result (λ items. All (λ item. item.slot < length sources.now.catalogue.now) items.items) }
 {
     let name = Name::new(alloc, name)?;
     let Some(slot) = slot_of(sources.catalogue, &name) else {
@@ -173,7 +174,8 @@ pub fn plan<'a>(
 /// refused where the name has a remove line and no softdep line (Remove), else at the first module of the hard walk
 /// that is on the way to itself (Cycle) or that the catalogue does not have (Unknown), and for want of memory.
 pub fn removal_plan(alloc: Global, name: &[u8], sources: &Sources) -> Result<Vec<usize>, PlanError>
-    ensures { Answers (λ order. order.items) result (removal_plan_from sources.now name.now) }
+    ensures order { Answers (λ order. order.items) result (removal_plan_from sources.now name.now) }
+    ensures within { IfOk result (λ order. All (λ slot. slot < length sources.now.catalogue.now) order.items) }
 {
     let name = Name::new(alloc, name)?;
     if is_kept(sources.configuration, name.as_bytes()) {

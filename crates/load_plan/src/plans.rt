@@ -1,8 +1,8 @@
 //! The plan of a module: what is loaded for it, in order, and what is removed with it.
-ghost use Rattle.std.specs.Prelude.{◌≡◌, ◌<◌, length, not, slice_index_or, true, IfErr, IfOk};
+ghost use Rattle.std.specs.Prelude.{◌≡◌, ◌<◌, length, not, slice_index_or, true, All, IfErr, IfOk};
 ghost use Rattle.load_plan.specs.declared.graph.Target.TheVariants.{Slot};
 ghost use Rattle.load_plan.specs.declared.walk.Mark.TheVariants.{New};
-ghost use Rattle.load_plan.specs.ForProofs.{are_within, is_done_mark, steps_of};
+ghost use Rattle.load_plan.specs.ForProofs.{is_done_mark, steps_of};
 ghost use Rattle.load_plan.specs.Graph.{is_bounded};
 ghost use Rattle.load_plan.specs.SoftModules.{is_missing, HasNoSoftModules};
 ghost use Rattle.std.specs.List.{list_all};
@@ -73,7 +73,7 @@ pub(crate) fn plan_in(
 ) -> Result<Vec<PlanStep>, WalkError>
     requires { start < length graph.now }
     ensures steps { Gives (λ steps. steps.items) result (plan graph.now (Slot start)) }
-    ensures within { IfOk result (λ steps. are_within (length graph.now) steps.items ≡ true) }
+    ensures within { IfOk result (λ steps. All (λ step. step.slot < length graph.now) steps.items) }
     ensures refusal { IfErr result (IsRefusalWithin (length graph.now)) }
 {
     let Walked { order, marks } = hard_walk(alloc, graph, true, start)?;
@@ -93,6 +93,7 @@ pub(crate) fn removal_plan_in(
 ) -> Result<Vec<usize>, WalkError>
     requires { start < length graph.now }
     ensures order { Gives (λ order. order.items) result (removal_plan graph.now (Slot start)) }
+    ensures within { IfOk result (λ order. All (λ slot. slot < length graph.now) order.items) }
     ensures refusal { IfErr result (IsRefusalWithin (length graph.now)) }
 {
     let walked = hard_walk(alloc, graph, false, start)?;

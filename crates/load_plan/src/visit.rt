@@ -1,5 +1,5 @@
 //! The visit: a module, what it stands on and the soft items that are clean, by marks and a stack of its own.
-ghost use Rattle.std.specs.Prelude.{◌≡◌, ◌<◌, ℕ, List, [], length, nat_lt, true, MatchOption, IfSome, IfOk};
+ghost use Rattle.std.specs.Prelude.{◌≡◌, ◌<◌, ℕ, List, [], length, true, All, MatchOption, IfSome, IfOk};
 ghost use Rattle.std.specs.List.{list_all};
 ghost use Rattle.load_plan.specs.declared.walk.Mark.TheVariants.{New};
 ghost use Rattle.load_plan.specs.declared.graph.Target.TheVariants.{Slot};
@@ -154,7 +154,7 @@ pub(crate) fn visit(
     requires start { start < length graph.now }
     requires walked { (reached : List ℕ) × (hard_walk graph.now true (Slot start) ≡ Ok reached) }
     ensures order { IfOk result (λ order. order.items ≡ visit graph.now (length graph.now) [] [] (Slot start)) }
-    ensures within { IfOk result (λ order. list_all (λ slot. nat_lt slot (length graph.now)) order.items ≡ true) }
+    ensures within { IfOk result (λ order. All (λ slot. slot < length graph.now) order.items) }
 {
     let mut marks = new_marks(alloc, graph.len())?;
     marks[start] = Mark::Open;

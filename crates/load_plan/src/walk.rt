@@ -1,5 +1,5 @@
 //! The hard walk: a module and all that it stands on, depth first, by marks and a stack of its own.
-ghost use Rattle.std.specs.Prelude.{◌≡◌, ◌<◌, ◌&&◌, ℕ, List, [], ◌++◌, length, replicate, true, MatchOption, IfSome, IfOk, IfErr};
+ghost use Rattle.std.specs.Prelude.{◌≡◌, ◌<◌, ◌&&◌, ℕ, List, [], ◌++◌, length, replicate, true, All, MatchOption, IfSome, IfOk, IfErr};
 ghost use Rattle.load_plan.specs.declared.walk.Mark.TheVariants.{New};
 ghost use Rattle.load_plan.specs.declared.walk.Walked.{Walked};
 ghost use Rattle.load_plan.specs.declared.graph.Target.TheVariants.{Slot};
@@ -110,10 +110,12 @@ pub(crate) fn walk(
     requires start { start < length graph.now }
     requires marks { length marks.items ≡ length graph.now }
     requires new { mark_at marks.items start ≡ New }
-    ensures order { (way done : List ℕ) → AreMarks (length graph.now) marks.items way done → Gives (λ (w : Walked). done ++ w.order.items) result (walk graph.now tests (length graph.now) way done (Slot start)) }
+    ensures order { (way done : List ℕ) → AreMarks (length graph.now) marks.items way done
+        → Gives (λ (walked : Walked). done ++ walked.order.items) result (walk graph.now tests (length graph.now) way done (Slot start)) }
     ensures refusal { IfErr result (IsRefusalWithin (length graph.now)) }
-    ensures long { IfOk result (λ w. length w.marks.items ≡ length graph.now) }
-    ensures marks { (way done : List ℕ) → AreMarks (length graph.now) marks.items way done → IfOk result (λ w. AreMarks (length graph.now) w.marks.items way (done ++ w.order.items)) }
+    ensures long { IfOk result (λ walked. length walked.marks.items ≡ length graph.now) }
+    ensures marks { (way done : List ℕ) → AreMarks (length graph.now) marks.items way done
+        → IfOk result (λ walked. AreMarks (length graph.now) walked.marks.items way (done ++ walked.order.items)) }
 {
     if is_blocked(graph, tests, start) {
         return Err(WalkError::Refused(PlanRefusal::Install(start)));
@@ -159,10 +161,11 @@ pub(crate) fn hard_walk(
     start: usize,
 ) -> Result<Walked, WalkError>
     requires { start < length graph.now }
-    ensures order { Gives (λ (w : Walked). w.order.items) result (hard_walk graph.now tests (Slot start)) }
+    ensures order { Gives (λ (walked : Walked). walked.order.items) result (hard_walk graph.now tests (Slot start)) }
+    ensures within { IfOk result (λ walked. All (λ slot. slot < length graph.now) walked.order.items) }
     ensures refusal { IfErr result (IsRefusalWithin (length graph.now)) }
-    ensures long { IfOk result (λ w. length w.marks.items ≡ length graph.now) }
-    ensures marks { IfOk result (λ w. AreMarks (length graph.now) w.marks.items [] w.order.items) }
+    ensures long { IfOk result (λ walked. length walked.marks.items ≡ length graph.now) }
+    ensures marks { IfOk result (λ walked. AreMarks (length graph.now) walked.marks.items [] walked.order.items) }
 {
     let marks = new_marks(alloc, graph.len())?;
     walk(alloc, graph, tests, marks, start)

@@ -5,8 +5,7 @@ use Rattle.load_plan.specs.declared.walk.Mark.TheVariants.{New}
 use Rattle.load_plan.specs.declared.graph.Phase.TheVariants.{Pre}
 use Rattle.load_plan.specs.ForProofs.{AreMarks}
 use Rattle.load_plan.specs.VisitSteps.{first_stage}
-use Rattle.load_plan.proofs.Lists.{all_from_members}
-use Rattle.load_plan.proofs.Clean.{lt-makes}
+use Rattle.load_plan.proofs.Lists.{all_below}
 use Rattle.load_plan.proofs.Walking.{marks-new}
 use Rattle.load_plan.proofs.Visiting.{Visits-begin, Visits-slot, Visits-by_pass, Visits-by_append, Visits-leave, Visits-by_enter}
 use Rattle.load_plan.proofs.Effort.{effort-append, stack_of, stack-pop, stack-push}
@@ -41,4 +40,4 @@ visit-preserved c =
     (Visits-by_enter c.in-Enter.slot c.visit.invariant (rw (c.deref.ensures.value, c.in-Enter.is) at c.in_ok-next.ensures.moves) (rw (c.deref.ensures.value, c.in-Enter.is) at c.in_ok-next.ensures.taken))
 
 pub returns-in-None-clause-within : goal.returns-in-None-clause-within
-returns-in-None-clause-within c = all_from_members (λ m. nat_lt m (length c.args.graph.now)) c.visit.order.items (λ q h. lt-makes q (length c.args.graph.now) (c.visit.invariant.kept.entered q h).0)
+returns-in-None-clause-within c = all_below (length c.args.graph.now) c.visit.order.items (λ q h. (c.visit.invariant.kept.entered q h).0)
