@@ -1,5 +1,6 @@
 ghost use Rattle.std.specs.Prelude.{◌≡◌, ◌≤◌, ◌∷◌, length, false, Ok, Err, IfOk, MatchOption, MatchResult};
-ghost use Rattle.alias_match.specs.Reading.{Gives, HasItem, HasMembers, Reads, closes, class_mark, letter, member, negates, after_sign, range, plain_item, undashed};
+ghost use Rattle.alias_match.specs.Reading.{Gives, HasItem, HasMembers, Reads, closes, class_mark, letter, member};
+ghost use Rattle.alias_match.specs.Reading.{negates, after_sign, range, plain_item, undashed};
 ghost use Rattle.alias_match.specs.Pattern.{piece, pieces};
 
 use crate::pattern::{ByteRange, Item, Set};
