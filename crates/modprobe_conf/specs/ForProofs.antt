@@ -5,7 +5,8 @@ use Rattle.modprobe_conf.specs.declared.settings.Line.{Line as CodeLine}
 use Rattle.modprobe_conf.specs.declared.settings.Line.TheVariants.{Blacklist, Install, Remove, Options, Softdep}
 use Rattle.modprobe_conf.specs.declared.entry.Entry.{Entry as CodeEntry}
 use Rattle.modprobe_conf.specs.declared.entry.Entry.TheVariants.{Aliased, Named}
-use Rattle.modprobe_conf.specs.Configuration.{Line, blacklist, install, remove, options, softdep, Entry, alias, named, Configuration, with_named, aliases_in, modules_from}
+use Rattle.modprobe_conf.specs.Configuration.{Line, blacklist, install, remove, options, softdep, Entry, alias, named}
+use Rattle.modprobe_conf.specs.Configuration.{Configuration, with_named, aliases_in, modules_from}
 
 abbrev pub line_of : CodeLine → Line
 line_of Blacklist = blacklist

@@ -2,7 +2,8 @@ ghost use Rattle.std.specs.Prelude.{◌≡◌, ◌<◌, ◌∷◌, [], length, I
 ghost use Rattle.dep_index.specs.Text.{texts_of};
 ghost use Rattle.alias_match.specs.Aliases.{line_before, words_before};
 ghost use Rattle.alias_match.specs.ForProofs.{nothing_read};
-ghost use Rattle.modprobe_conf.specs.Configuration.{configuration_of, entry_of, options_of, settings_by, settings_of, softdep_of, has_install_line, has_remove_line, is_blacklisted};
+ghost use Rattle.modprobe_conf.specs.Configuration.{configuration_of, entry_of, options_of, settings_by, settings_of, softdep_of};
+ghost use Rattle.modprobe_conf.specs.Configuration.{has_install_line, has_remove_line, is_blacklisted};
 ghost use Rattle.modprobe_conf.specs.ForProofs.{no_configuration, with_entry, with_lines, entry_seen};
 
 use crate::entry::Entry;

@@ -28,7 +28,13 @@ impl Model for Settings {
 
     ghost Value = { ModuleSettings };
 
-    ghost view = { λ s. record { options = s.options.items; softdep = s.softdep; has_install = s.has_install; has_remove = s.has_remove; is_blacklisted = s.is_blacklisted } };
+    ghost view = { λ s. record {
+      options = s.options.items;
+      softdep = s.softdep;
+      has_install = s.has_install;
+      has_remove = s.has_remove;
+      is_blacklisted = s.is_blacklisted;
+    } };
 }
 
 impl Settings {
