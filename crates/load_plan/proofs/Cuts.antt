@@ -2,7 +2,7 @@
 use Rattle.std.proofs.Common.{◌≡◌, ℕ, zero, suc, ◌+◌, ◌-◌, ◌<◌, ◌≤◌, Bool, true, ◌&&◌, List, [], ◌∷◌, ◌++◌, length, take, drop, get_or, set, replicate, length-append, length-drop, inl, inr, refl, sym, ◌∙◌, ap, subst, arith}
 use Rattle.std.specs.List.{list_all, slice_range}
 use Rattle.std.proofs.lemmas.Bool.Decides.{eqb_tells}
-use Rattle.std.proofs.lemmas.List.{get_or_default, get_or-map, get_or-set_same, get_or-set_other, map-set, length-map, take-append-le, drop-append-le, map-append, length-take-le}
+use Rattle.std.proofs.lemmas.List.{get_or_default, get_or-map, get_or-set_same, get_or-set_other, map-set, length-map, take-append-le, drop-append-le, length-take-le}
 use Rattle.std.proofs.lemmas.List.Folds.{list_all-append, drop_split}
 use Rattle.std.proofs.Math.Seq.{take-append-add}
 use Rattle.load_plan.specs.declared.graph.Target.{Target}

@@ -1,6 +1,5 @@
 -- Serves proofs alone: marks by slot, and one step of a walk with a stack of its own.
-use Rattle.std.specs.Prelude.{◌≡◌, ℕ, ◌+◌, ◌<◌, Bool, true, false, ◌&&◌, List, [], ◌∷◌, length, drop, map, nat_lt, not, slice_index_or}
-use Rattle.std.specs.List.{list_all}
+use Rattle.std.specs.Prelude.{◌≡◌, ℕ, ◌+◌, ◌<◌, Bool, true, false, ◌&&◌, List, [], ◌∷◌, length, drop, map, not, slice_index_or}
 use Rattle.load_plan.specs.declared.graph.Target.{Target}
 use Rattle.load_plan.specs.declared.graph.Target.TheVariants.{Slot, Missing}
 use Rattle.load_plan.specs.declared.plans.PlanStep.{PlanStep}
@@ -39,10 +38,14 @@ Leads graph frame target = left_of graph frame ≡ target ∷ left_of graph (nex
 
 abbrev pub IsStep : List Node → Bool → List Mark → Frame → Step → Type 0
 IsStep graph tests marks frame Finish = left_of graph frame ≡ []
-IsStep graph tests marks frame (Pass next) = (m : ℕ) × Leads graph frame (Slot m) × (mark_at marks m ≡ Done) × (m < length graph) × (next ≡ next_frame frame)
-IsStep graph tests marks frame (Enter m next) = Leads graph frame (Slot m) × (mark_at marks m ≡ New) × ((tests && (node_at graph m).installs) ≡ false) × (m < length graph) × (next ≡ next_frame frame)
+IsStep graph tests marks frame (Pass next) =
+    (m : ℕ) × Leads graph frame (Slot m) × (mark_at marks m ≡ Done) × (m < length graph) × (next ≡ next_frame frame)
+IsStep graph tests marks frame (Enter m next) =
+    Leads graph frame (Slot m) × (mark_at marks m ≡ New) × ((tests && (node_at graph m).installs) ≡ false)
+    × (m < length graph) × (next ≡ next_frame frame)
 IsStep graph tests marks frame (Again m) = Leads graph frame (Slot m) × (mark_at marks m ≡ Open) × (m < length graph)
-IsStep graph tests marks frame (Blocked m) = Leads graph frame (Slot m) × (mark_at marks m ≡ New) × ((tests && (node_at graph m).installs) ≡ true) × (m < length graph)
+IsStep graph tests marks frame (Blocked m) =
+    Leads graph frame (Slot m) × (mark_at marks m ≡ New) × ((tests && (node_at graph m).installs) ≡ true) × (m < length graph)
 IsStep graph tests marks frame (Nowhere name) = Leads graph frame (Missing name.now)
 
 -- what a visit has made so far: an order without a module in progress, of modules that a walk may enter
@@ -51,6 +54,11 @@ pub record IsKept (graph : List Node) (progress done : List ℕ) : Type 0 where
   pub order : IsOrder graph done
   pub off : (q : ℕ) → has progress q ≡ true → has done q ≡ false
   pub entered : (q : ℕ) → has done q ≡ true → (q < length graph) × ((node_at graph q).installs ≡ false)
+
+-- what is true wherever a visit with these marks has come to
+abbrev pub InVisit : List Node → List Mark → (List ℕ → List ℕ → Type 0) → Type 0
+InVisit graph marks P =
+    (progress done : List ℕ) → AreMarks (length graph) marks progress done → IsKept graph progress done → P progress done
 
 abbrev pub is_done_mark : Mark → Bool
 is_done_mark Done = true

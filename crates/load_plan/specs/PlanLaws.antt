@@ -18,7 +18,9 @@ item_slots items = map (λ (i : Item). i.slot) items
 -- The plan of a name: no module stands twice and each hard dependency before its user; all that the hard walk
 -- from its module reaches stands in it, marked hard; all else is marked soft and is reached over at least one
 -- soft item; the words of the command stand at its module alone.
-pub record IsLawful (catalogue : List Description) (dependencies : List Pair) (configuration : Configuration) (name : List ℕ) (words : List (List ℕ)) (items : List Item) : Type 0 where
+pub record IsLawful
+    (catalogue : List Description) (dependencies : List Pair) (configuration : Configuration)
+    (name : List ℕ) (words : List (List ℕ)) (items : List Item) : Type 0 where
   pub target : ℕ
   pub named : slot_named catalogue (normal_form name) ≡ Some target
   pub order : IsOrder (graph_of catalogue dependencies configuration) (item_slots items)

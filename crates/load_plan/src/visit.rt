@@ -3,7 +3,7 @@ ghost use Rattle.std.specs.Prelude.{◌≡◌, ◌<◌, ℕ, List, [], length, t
 ghost use Rattle.std.specs.List.{list_all};
 ghost use Rattle.load_plan.specs.declared.walk.Mark.TheVariants.{New};
 ghost use Rattle.load_plan.specs.declared.graph.Target.TheVariants.{Slot};
-ghost use Rattle.load_plan.specs.ForProofs.{AreMarks, mark_at, IsKept};
+ghost use Rattle.load_plan.specs.ForProofs.{mark_at, InVisit};
 ghost use Rattle.load_plan.specs.declared.walk.Mark.{Mark};
 ghost use Rattle.load_plan.specs.VisitSteps.{IsMove, IsTaken, IsUnmet, IsUnmetFirst, is_taken, left_of, Leads, next_stage};
 ghost use Rattle.load_plan.specs.Graph.{is_within, Node};
@@ -42,7 +42,8 @@ fn is_clean(
 ) -> Result<bool, AllocError>
     requires slot { slot < length graph.now }
     requires marks { length marks.now ≡ length graph.now }
-    ensures clean { (progress done : List ℕ) → AreMarks (length graph.now) marks.now progress done → IsKept graph.now progress done → IfOk result (λ clean. clean ≡ is_clean graph.now progress done (Slot slot)) }
+    ensures clean { InVisit graph.now marks.now (λ progress done.
+        IfOk result (λ clean. clean ≡ is_clean graph.now progress done (Slot slot))) }
     ensures new { IfOk result (λ clean. clean ≡ true → mark_at marks.now slot ≡ New) }
 {
     match marks[slot] {
@@ -68,7 +69,8 @@ fn enters(
 ) -> Result<bool, AllocError>
     requires slot { slot < length graph.now }
     requires marks { length marks.now ≡ length graph.now }
-    ensures taken { (progress done : List ℕ) → AreMarks (length graph.now) marks.now progress done → IsKept graph.now progress done → IsUnmet progress phase (Slot slot) → IfOk result (λ taken. taken ≡ is_taken graph.now progress done phase (Slot slot)) }
+    ensures taken { InVisit graph.now marks.now (λ progress done. IsUnmet progress phase (Slot slot)
+        → IfOk result (λ taken. taken ≡ is_taken graph.now progress done phase (Slot slot))) }
     ensures new { IfOk result (λ taken. taken ≡ true → mark_at marks.now slot ≡ New) }
 {
     match phase {
@@ -130,7 +132,8 @@ fn next_move(
     requires slot { stage.slot < length graph.now }
     requires marks { length marks.now ≡ length graph.now }
     ensures moves { IfOk result (IsMove graph.now marks.now stage) }
-    ensures taken { (progress done : List ℕ) → AreMarks (length graph.now) marks.now progress done → IsKept graph.now progress done → IsUnmetFirst graph.now progress stage → IfOk result (IsTaken graph.now progress done stage) }
+    ensures taken { InVisit graph.now marks.now (λ progress done. IsUnmetFirst graph.now progress stage
+        → IfOk result (IsTaken graph.now progress done stage)) }
 {
     match first_left(graph, stage) {
         None => Ok(behind(stage)),
