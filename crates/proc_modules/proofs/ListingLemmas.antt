@@ -21,13 +21,10 @@ use Rattle.proc_modules.specs.declared.line.Line.{Line}
 use Rattle.proc_modules.specs.LineText.{line_text, head_text, tail_text, with_comma, is_used}
 use Rattle.std.proofs.Common.{not}
 use Rattle.std.proofs.lemmas.List.Concat.{flat_map-append}
-use Rattle.dep_index.specs.Catalogue.{description_at}
-use Rattle.dep_index.specs.Table.{references, state_of}
 use Rattle.dep_index.specs.declared.params.Param.{Param}
-use Rattle.proc_modules.specs.declared.line.LineState.{LineState}
-use Rattle.proc_modules.specs.Listings.{newest_first, size_of, shown, line_at}
+use Rattle.proc_modules.specs.Listings.{newest_first}
 use Rattle.proc_modules.specs.Details.{param_line}
-use Rattle.proc_modules.specs.UserRows.{WithUser, if_user, IsListed, AllListed}
+use Rattle.proc_modules.specs.UserRows.{WithUser, if_user, HaveUsers, AllListed}
 use Rattle.proc_modules.specs.Listings.{name_of, names_of, comma_before}
 
 more_than_none : (n : ℕ) → (suc n == 0) ≡ false
@@ -68,12 +65,12 @@ names_step catalogue slots before text text' text'' i d below so_far comma name 
     ∙ ap (λ (ns : List (List ℕ)). before ++ join_with_byte 44 ns) (sym more)
 
 -- one module more was found
-pub newest_step : (order found found' : List ℕ) (age loaded m : ℕ) → loaded ≡ length order → age < loaded → found ≡ take age (reverse order)
-    → m ≡ get_or order (loaded - 1 - age) 0 → found' ≡ found ++ m ∷ [] → found' ≡ take (age + 1) (reverse order)
-newest_step order found found' age loaded m len below so_far is pushed =
+pub newest_step : (order found found' : List ℕ) (age loaded slot : ℕ) → loaded ≡ length order → age < loaded → found ≡ take age (reverse order)
+    → slot ≡ get_or order (loaded - 1 - age) 0 → found' ≡ found ++ slot ∷ [] → found' ≡ take (age + 1) (reverse order)
+newest_step order found found' age loaded slot len below so_far is pushed =
     let below' : age < length (reverse order) = omega (arith, length-reverse order) in
-    let here : get_or (reverse order) age 0 ≡ m = get_or-reverse order age 0 (omega arith) ∙ ap (λ (n : ℕ). get_or order (n - 1 - age) 0) (sym len) ∙ sym is in
-    pushed ∙ ap (λ (xs : List ℕ). xs ++ m ∷ []) so_far ∙ ap (λ (n : ℕ). take age (reverse order) ++ n ∷ []) (sym here)
+    let here : get_or (reverse order) age 0 ≡ slot = get_or-reverse order age 0 (omega arith) ∙ ap (λ (n : ℕ). get_or order (n - 1 - age) 0) (sym len) ∙ sym is in
+    pushed ∙ ap (λ (xs : List ℕ). xs ++ slot ∷ []) so_far ∙ ap (λ (n : ℕ). take age (reverse order) ++ n ∷ []) (sym here)
     ∙ sym (take_more (reverse order) age 0 below')
 
 user_row : (row : List ℕ) (user : ℕ) (b : Bool) → row ++ if_user b user ≡ row ++ cond b (user ∷ []) []
@@ -82,20 +79,20 @@ user_row row user false = refl
 
 -- one module more was given to the rows of its needs
 pub users_step : (catalogue : List Description) (rows rows' : List (List ℕ)) (modules needs : List ℕ) (i d : ℕ) → i < length modules
-    → All (λ m. m < length catalogue) modules → length rows ≡ length catalogue → needs ≡ needs_of catalogue (get_or modules i d)
-    → ((m : ℕ) → m < length catalogue → get_or rows m [] ≡ filter (needs_slot (modules_of catalogue) m) (take i modules))
+    → All (λ slot. slot < length catalogue) modules → length rows ≡ length catalogue → needs ≡ needs_of catalogue (get_or modules i d)
+    → HaveUsers catalogue (take i modules) rows
     → WithUser rows rows' needs (get_or modules i d)
-    → (m : ℕ) → m < length catalogue → get_or rows' m [] ≡ filter (needs_slot (modules_of catalogue) m) (take (i + 1) modules)
-users_step catalogue rows rows' modules needs i d below slots len is so_far given m within =
+    → HaveUsers catalogue (take (i + 1) modules) rows'
+users_step catalogue rows rows' modules needs i d below slots len is so_far given slot within =
     let user : ℕ = get_or modules i d in
-    let slot : user < length catalogue = slots i d below in
-    let same : list_any (λ n. n == m) needs ≡ needs_slot (modules_of catalogue) m user =
-    ap (list_any (λ n. n == m)) (is ∙ sym (ap (λ (a : Module). a.needs) (module_at-modules_of catalogue user slot))) in
-    given m (omega arith)
-    ∙ ap (λ (row : List ℕ). row ++ if_user (list_any (λ n. n == m) needs) user) (so_far m within)
-    ∙ ap (λ (b : Bool). filter (needs_slot (modules_of catalogue) m) (take i modules) ++ if_user b user) same
-    ∙ user_row (filter (needs_slot (modules_of catalogue) m) (take i modules)) user (needs_slot (modules_of catalogue) m user)
-    ∙ sym (filter_more (needs_slot (modules_of catalogue) m) modules i d below)
+    let inside : user < length catalogue = slots i d below in
+    let same : list_any (λ n. n == slot) needs ≡ needs_slot (modules_of catalogue) slot user =
+    ap (list_any (λ n. n == slot)) (is ∙ sym (ap (λ (a : Module). a.needs) (module_at-modules_of catalogue user inside))) in
+    given slot (omega arith)
+    ∙ ap (λ (row : List ℕ). row ++ if_user (list_any (λ n. n == slot) needs) user) (so_far slot within)
+    ∙ ap (λ (b : Bool). filter (needs_slot (modules_of catalogue) slot) (take i modules) ++ if_user b user) same
+    ∙ user_row (filter (needs_slot (modules_of catalogue) slot) (take i modules)) user (needs_slot (modules_of catalogue) slot user)
+    ∙ sym (filter_more (needs_slot (modules_of catalogue) slot) modules i d below)
 
 pub length-rows : (rows : List (Vec ℕ)) → length (rows_of rows) ≡ length rows
 length-rows rows = length-rows_of rows
@@ -113,18 +110,18 @@ filter-reverse p (x ∷ xs) =
 
 -- all users are found
 pub all_listed : (catalogue : List Description) (table : Table) (modules : List ℕ) (rows : List (List ℕ))
-    → modules ≡ newest_first table → All (λ m. m < length catalogue) modules → length modules ≤ 1024 → length rows ≡ length catalogue
-    → ((m : ℕ) → m < length catalogue → get_or rows m [] ≡ filter (needs_slot (modules_of catalogue) m) modules)
+    → modules ≡ newest_first table → All (λ slot. slot < length catalogue) modules → length modules ≤ 1024 → length rows ≡ length catalogue
+    → HaveUsers catalogue modules rows
     → AllListed catalogue table modules rows
 all_listed catalogue table modules rows newest slots few len users i below =
-    let m : ℕ = get_or modules i 0 in
-    let slot : m < length catalogue = slots i 0 below in
-    let row : get_or rows m [] ≡ filter (needs_slot (modules_of catalogue) m) modules = users m slot in
-    let p : ℕ → Bool = needs_slot (modules_of catalogue) m in (
-      omega (arith, slot, len),
+    let slot : ℕ = get_or modules i 0 in
+    let inside : slot < length catalogue = slots i 0 below in
+    let row : get_or rows slot [] ≡ filter (needs_slot (modules_of catalogue) slot) modules = users slot inside in
+    let p : ℕ → Bool = needs_slot (modules_of catalogue) slot in (
+      omega (arith, inside, len),
       record {
-        slot = slot;
-        known = omega (arith, slot, length-modules_of catalogue);
+        inside = inside;
+        known = omega (arith, inside, length-modules_of catalogue);
         newest = row ∙ ap (filter p) newest ∙ filter-reverse p table.book.order;
         slots = subst (λ (us : List ℕ). All (λ u. u < length catalogue) us) (sym row) (All-filter p (λ u. u < length catalogue) modules slots);
         few = omega (arith, ap length row, length-filter p modules, count_by-le-length p modules, few);
@@ -137,41 +134,30 @@ line_text-parts l = simp append_assoc
 
 -- each module of the list is a slot of the catalogue
 pub slots_known : (catalogue : List Description) (modules : List Module) (found : List ℕ) → modules ≡ modules_of catalogue
-    → All (λ m. m < length modules) found → All (λ m. m < length catalogue) found
+    → All (λ slot. slot < length modules) found → All (λ slot. slot < length catalogue) found
 slots_known catalogue modules found over slots i d below =
     omega (arith, slots i d below, ap length over, length-modules_of catalogue)
 
-filled_is : (catalogue : List Description) (users : List ℕ) (empty : Bool) → empty ≡ (length users == 0) → not empty ≡ is_used (names_of catalogue users)
+pub filled_is : (catalogue : List Description) (users : List ℕ) (empty : Bool) → empty ≡ (length users == 0) → not empty ≡ is_used (names_of catalogue users)
 filled_is catalogue [] empty is = ap not is
 filled_is catalogue (u ∷ us) empty is = ap not (is ∙ more_than_none (length us))
 
 -- a line is written whole
-pub line_written : (catalogue : List Description) (table : Table) (m : ℕ) (users old head used new : List ℕ) (count : ℕ) (empty : Bool) (state : LineState)
-    → IsListed catalogue table m users → count ≡ references (modules_of catalogue) table m
-    → head ≡ old ++ head_text (name_of catalogue m) (size_of catalogue m) count
-    → used ≡ head ++ flat_map with_comma (names_of catalogue users)
-    → empty ≡ (length users == 0) → state ≡ shown (state_of table.book m)
-    → new ≡ used ++ tail_text (not empty) (description_at catalogue m).permanent state
-    → new ≡ old ++ line_text (line_at catalogue table m)
-line_written catalogue table m users old head used new count empty state listed counted begun named none shows ended =
-    let l : Line = line_at catalogue table m in
-    let names : names_of catalogue users ≡ l.users = ap (names_of catalogue) listed.newest in
-    let filled : not empty ≡ is_used l.users = filled_is catalogue users empty none ∙ ap is_used names in
-    let begun' : head ≡ old ++ head_text l.name l.size l.count = begun ∙ ap (λ (n : ℕ). old ++ head_text l.name l.size n) counted in
-    let named' : used ≡ head ++ flat_map with_comma l.users = named ∙ ap (λ (ns : List (List ℕ)). head ++ flat_map with_comma ns) names in
-    let ended' : new ≡ used ++ tail_text (is_used l.users) l.permanent l.state =
-    ended ∙ ap (λ (b : Bool). used ++ tail_text b l.permanent state) filled ∙ ap (λ (s : LineState). used ++ tail_text (is_used l.users) l.permanent s) shows in
-    ended'
-    ∙ ap (λ (t : List ℕ). t ++ tail_text (is_used l.users) l.permanent l.state)
-    (named' ∙ ap (λ (t : List ℕ). t ++ flat_map with_comma l.users) begun')
+pub line_written : (l : Line) (old head used new : List ℕ) (filled : Bool) → head ≡ old ++ head_text l.name l.size l.count
+    → used ≡ head ++ flat_map with_comma l.users → filled ≡ is_used l.users → new ≡ used ++ tail_text filled l.permanent l.state
+    → new ≡ old ++ line_text l
+line_written l old head used new filled begun named fills ended =
+    ended
+    ∙ ap (λ (b : Bool). used ++ tail_text b l.permanent l.state) fills
+    ∙ ap (λ (t : List ℕ). t ++ tail_text (is_used l.users) l.permanent l.state) (named ∙ ap (λ (t : List ℕ). t ++ flat_map with_comma l.users) begun)
     ∙ regroup old (head_text l.name l.size l.count) (flat_map with_comma l.users) (tail_text (is_used l.users) l.permanent l.state)
     ∙ ap (λ (t : List ℕ). old ++ t) (sym (line_text-parts l)) where
       regroup : (a b c d : List ℕ) → ((a ++ b) ++ c) ++ d ≡ a ++ (b ++ (c ++ d))
       regroup a b c d = simp append_assoc
 
 -- a module of the catalogue is one of the table's catalogue
-pub known_slot : (catalogue : List Description) (modules : List Module) (m : ℕ) → modules ≡ modules_of catalogue → m < length (modules_of catalogue) → m < length modules
-known_slot catalogue modules m over known = subst (λ (ms : List Module). m < length ms) (sym over) known
+pub known_slot : (catalogue : List Description) (modules : List Module) (slot : ℕ) → modules ≡ modules_of catalogue → slot < length (modules_of catalogue) → slot < length modules
+known_slot catalogue modules slot over known = subst (λ (ms : List Module). slot < length ms) (sym over) known
 
 -- the line of one parameter more
 pub param_step : (params : List Param) (i : ℕ) (param : Param) (start text next : List ℕ) → i < length params → param ≡ get_or params i param

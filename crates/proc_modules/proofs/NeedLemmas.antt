@@ -37,23 +37,23 @@ once_push found k once new j below = at (cases_lt j (length found)) where
       ∙ ap (λ (xs : List ℕ). list_any (λ x. x == k) xs) front
       ∙ turned k found ∙ new
 
-once_with : (m : ℕ) (found : List ℕ) (k : Option ℕ) → EachOnce found → EachOnce (with_need m found k)
-once_with m found None once = once
-once_with m found (Some k) once = at (k == m) (list_any (nat_eq k) found) refl where
+once_with : (slot : ℕ) (found : List ℕ) (k : Option ℕ) → EachOnce found → EachOnce (with_need slot found k)
+once_with slot found None once = once
+once_with slot found (Some k) once = at (k == slot) (list_any (nat_eq k) found) refl where
   at : (a b : Bool) → list_any (nat_eq k) found ≡ b → EachOnce (cond (a || b) found (found ++ k ∷ []))
   at true b e = once
   at false true e = once
   at false false e = once_push found k once e
 
-pub needs_once : (modules : List Description) (m : ℕ) → EachOnce (needs_of modules m)
-needs_once modules m = from [] (description_at modules m).needed_symbols (λ j below. absurd (omega (arith, below))) where
-  from : (found : List ℕ) (ss : List (List ℕ)) → EachOnce found → EachOnce (needs_from modules m found ss)
+pub needs_once : (modules : List Description) (slot : ℕ) → EachOnce (needs_of modules slot)
+needs_once modules slot = from [] (description_at modules slot).needed_symbols (λ j below. absurd (omega (arith, below))) where
+  from : (found : List ℕ) (ss : List (List ℕ)) → EachOnce found → EachOnce (needs_from modules slot found ss)
   from found [] once = once
-  from found (s ∷ ss) once = from (with_need m found (exporter modules s)) ss (once_with m found (exporter modules s) once)
+  from found (s ∷ ss) once = from (with_need slot found (exporter modules s)) ss (once_with slot found (exporter modules s) once)
 
-within_with : (limit m : ℕ) (found : List ℕ) (k : Option ℕ) → ((n : ℕ) → k ≡ Some n → n < limit) → All (λ n. n < limit) found → All (λ n. n < limit) (with_need m found k)
-within_with limit m found None small within = within
-within_with limit m found (Some k) small within = at (k == m || list_any (nat_eq k) found) where
+within_with : (limit slot : ℕ) (found : List ℕ) (k : Option ℕ) → ((n : ℕ) → k ≡ Some n → n < limit) → All (λ n. n < limit) found → All (λ n. n < limit) (with_need slot found k)
+within_with limit slot found None small within = within
+within_with limit slot found (Some k) small within = at (k == slot || list_any (nat_eq k) found) where
   at : (b : Bool) → All (λ n. n < limit) (cond b found (found ++ k ∷ []))
   at true = within
   at false = All-push (λ n. n < limit) found k within (small k refl)
@@ -73,8 +73,8 @@ exporter_within modules s n e = at (nat_lt place (length modules)) refl e where
       omega (arith, same, below)
   at false is found = cc
 
-pub needs_within : (modules : List Description) (m : ℕ) → All (λ n. n < length modules) (needs_of modules m)
-needs_within modules m = from [] (description_at modules m).needed_symbols (All-nil (λ n. n < length modules)) where
-  from : (found : List ℕ) (ss : List (List ℕ)) → All (λ n. n < length modules) found → All (λ n. n < length modules) (needs_from modules m found ss)
+pub needs_within : (modules : List Description) (slot : ℕ) → All (λ n. n < length modules) (needs_of modules slot)
+needs_within modules slot = from [] (description_at modules slot).needed_symbols (All-nil (λ n. n < length modules)) where
+  from : (found : List ℕ) (ss : List (List ℕ)) → All (λ n. n < length modules) found → All (λ n. n < length modules) (needs_from modules slot found ss)
   from found [] within = within
-  from found (s ∷ ss) within = from (with_need m found (exporter modules s)) ss (within_with (length modules) m found (exporter modules s) (exporter_within modules s) within)
+  from found (s ∷ ss) within = from (with_need slot found (exporter modules s)) ss (within_with (length modules) slot found (exporter modules s) (exporter_within modules s) within)

@@ -5,13 +5,12 @@ use Rattle.std.proofs.lemmas.List.{length-map}
 use Rattle.std.specs.List.{list_any}
 use Rattle.std.specs.Borrow.{Bor}
 use Rattle.dep_index.specs.Text.{is_name, normal_form, texts_of}
-use Rattle.std.proofs.Common.{Result, position, Ok, Err}
-use Rattle.std.specs.List.{slice_split}
+use Rattle.std.proofs.Common.{Result, Ok, Err}
 use Rattle.proc_modules.specs.declared.line.LineError.{LineError}
 use Rattle.proc_modules.specs.declared.line.LineState.{LineState}
 use Rattle.proc_modules.specs.declared.line.Line.{Line}
 use Rattle.proc_modules.specs.declared.line.LineError.TheVariants.{BadName, BadUsers}
-use Rattle.proc_modules.specs.Reading.{is_mark, is_end, is_line_name, with_user, users_in, users_of, numbers_in, state_in, then_read, or_refuse, first_line, with_used, line_in, line_of}
+use Rattle.proc_modules.specs.Reading.{is_mark, is_end, is_line_name, with_user, users_in, users_of, numbers_in, state_in, then_read, or_refuse, line_in}
 
 -- users that were read before the others
 abbrev pub with_users : List (List ℕ) → Option (List (List ℕ) × Bool) → Option (List (List ℕ) × Bool)

@@ -19,9 +19,12 @@ kind_text Charp = codes "charp"
 abbrev pub param_line : Param → List ℕ
 param_line param = field (codes "parm:") (param.name ++ (codes ":" ++ kind_text param.kind))
 
+abbrev pub depends_line : List Description → ℕ → List ℕ
+depends_line catalogue slot = field (codes "depends:") (join_with_byte 44 (names_of catalogue (needs_of catalogue slot)))
+
 abbrev pub modinfo_text : List Description → ℕ → List ℕ
-modinfo_text catalogue m =
-    field (codes "name:") (name_of catalogue m)
-    ++ (field (codes "size:") (decimal (size_of catalogue m))
-    ++ (field (codes "depends:") (join_with_byte 44 (names_of catalogue (needs_of catalogue m)))
-    ++ flat_map param_line (description_at catalogue m).params))
+modinfo_text catalogue slot =
+    field (codes "name:") (name_of catalogue slot)
+    ++ (field (codes "size:") (decimal (size_of catalogue slot))
+    ++ (depends_line catalogue slot
+    ++ flat_map param_line (description_at catalogue slot).params))

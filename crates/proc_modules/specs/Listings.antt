@@ -5,17 +5,18 @@ use Rattle.dep_index.specs.declared.states.ModuleState.{ModuleState}
 use Rattle.dep_index.specs.declared.states.ModuleState.TheVariants as module_is
 use Rattle.dep_index.specs.Catalogue.{Description, description_at, modules_of}
 use Rattle.dep_index.specs.Table.{Table, state_of, users, references}
+use Rattle.proc_modules.specs.declared.entry.Entry.{Entry}
 use Rattle.proc_modules.specs.declared.line.Line.{Line}
 use Rattle.proc_modules.specs.declared.line.LineState.{LineState}
 use Rattle.proc_modules.specs.declared.line.LineState.TheVariants.{Live, Loading, Unloading}
 use Rattle.proc_modules.specs.LineText.{line_text}
 
 abbrev pub name_of : List Description → ℕ → List ℕ
-name_of catalogue m = (description_at catalogue m).name
+name_of catalogue slot = (description_at catalogue slot).name
 
 -- the size of a module, 0 where the catalogue has none
 abbrev pub size_of : List Description → ℕ → ℕ
-size_of catalogue m = unwrap_or (description_at catalogue m).size 0
+size_of catalogue slot = unwrap_or (description_at catalogue slot).size 0
 
 abbrev pub names_of : List Description → List ℕ → List (List ℕ)
 names_of catalogue slots = map (name_of catalogue) slots
@@ -26,7 +27,7 @@ newest_first table = reverse table.book.order
 
 -- the users of a module, the newest first
 abbrev pub newest_users : List Description → Table → ℕ → List ℕ
-newest_users catalogue table m = reverse (users (modules_of catalogue) table.book m)
+newest_users catalogue table slot = reverse (users (modules_of catalogue) table.book slot)
 
 -- a module that drains is shown as unloading; none of the table is absent
 abbrev pub shown : ModuleState → LineState
@@ -36,21 +37,29 @@ shown module_is.Draining = Unloading
 shown module_is.Unloading = Unloading
 shown module_is.Absent = Unloading
 
+-- the line of a module in this state, with so many references and these users
+abbrev pub module_line : List Description → ℕ → ModuleState → ℕ → List ℕ → Line
+module_line catalogue slot state count users =
+    record {
+      name = name_of catalogue slot;
+      size = size_of catalogue slot;
+      count = count;
+      users = names_of catalogue users;
+      permanent = (description_at catalogue slot).permanent;
+      state = shown state;
+    }
+
+abbrev pub entry_line : List Description → Entry → Line
+entry_line catalogue e = module_line catalogue e.slot e.state e.count e.users.now
+
 -- the line of a module of the table; its count is the number of its references in every state
 abbrev pub line_at : List Description → Table → ℕ → Line
-line_at catalogue table m =
-    record {
-      name = name_of catalogue m;
-      size = size_of catalogue m;
-      count = references (modules_of catalogue) table m;
-      users = names_of catalogue (newest_users catalogue table m);
-      permanent = (description_at catalogue m).permanent;
-      state = shown (state_of table.book m);
-    }
+line_at catalogue table slot =
+    module_line catalogue slot (state_of table.book slot) (references (modules_of catalogue) table slot) (newest_users catalogue table slot)
 
 -- the text of /proc/modules
 abbrev pub proc_text : List Description → Table → List ℕ
-proc_text catalogue table = flat_map (λ m. line_text (line_at catalogue table m)) (newest_first table)
+proc_text catalogue table = flat_map (λ slot. line_text (line_at catalogue table slot)) (newest_first table)
 
 -- a text at the left of so many places, or in the places that it needs
 abbrev pub left_in : ℕ → List ℕ → List ℕ
@@ -75,10 +84,10 @@ used_by [] = []
 used_by (user ∷ users) = codes " " ++ join_with_byte 44 (user ∷ users)
 
 abbrev pub lsmod_line : List Description → Table → ℕ → List ℕ
-lsmod_line catalogue table m =
-    columns (name_of catalogue m) (decimal (size_of catalogue m))
-    ++ (decimal (references (modules_of catalogue) table m)
-    ++ (used_by (names_of catalogue (newest_users catalogue table m)) ++ codes "\n"))
+lsmod_line catalogue table slot =
+    columns (name_of catalogue slot) (decimal (size_of catalogue slot))
+    ++ (decimal (references (modules_of catalogue) table slot)
+    ++ (used_by (names_of catalogue (newest_users catalogue table slot)) ++ codes "\n"))
 
 -- the text of lsmod: a header, then a line for each module of the table
 abbrev pub lsmod_text : List Description → Table → List ℕ

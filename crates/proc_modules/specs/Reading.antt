@@ -1,5 +1,6 @@
 -- What a text reads as that begins with a line of /proc/modules (proc(5)).
-use Rattle.std.specs.Prelude.{ℕ, ◌+◌, ◌==◌, nat_lt, nat_le, Bool, true, false, not, ◌&&◌, ◌||◌, if◌then◌else◌, List, [], ◌∷◌, length, take, position, slice_index, codes, Option, Some, None, Result, Ok, Err}
+use Rattle.std.specs.Prelude.{◌≡◌, ◌≢◌, ℕ, ◌+◌, ◌==◌, nat_lt, nat_le, Bool, true, false, not, ◌&&◌, ◌||◌, if◌then◌else◌, MatchResult}
+use Rattle.std.specs.Prelude.{List, [], ◌∷◌, length, take, position, slice_index, codes, Option, Some, None, Result, Ok, Err}
 use Rattle.std.specs.List.{list_all, list_any, slice_split}
 use Rattle.std.specs.Str.{bytes_eq}
 use Rattle.dep_index.specs.Text.{is_name, is_digit, number_within}
@@ -7,7 +8,7 @@ use Rattle.proc_modules.specs.declared.line.Line.{Line}
 use Rattle.proc_modules.specs.declared.line.LineState.{LineState}
 use Rattle.proc_modules.specs.declared.line.LineState.TheVariants.{Live, Loading, Unloading}
 use Rattle.proc_modules.specs.declared.line.LineError.{LineError}
-use Rattle.proc_modules.specs.declared.line.LineError.TheVariants.{MissingField, BadName, BadNumber, BadUsers, BadState, BadAddress}
+use Rattle.proc_modules.specs.declared.line.LineError.TheVariants.{MissingField, BadName, BadNumber, BadUsers, BadState, BadAddress, Memory}
 
 -- a module's name has `_` for each `-`
 abbrev pub is_line_name : List ℕ → Bool
@@ -127,6 +128,15 @@ first_line text (Some end) = (take end text, end + 1)
 abbrev pub with_used : ℕ → Result Line LineError → Result (Line × ℕ) LineError
 with_used used (Ok line) = Ok (line, used)
 with_used used (Err refusal) = Err refusal
+
+-- what was read is the line, and each refusal is the one that is wanted; want of memory says nothing of the text
+abbrev pub ReadsLine : Result Line LineError → Result Line LineError → Type 0
+ReadsLine wanted result = MatchResult result (λ l. wanted ≡ Ok l) (λ e. e ≢ Memory → wanted ≡ Err e)
+
+-- the same of the users
+abbrev pub ReadsUsers : Option (List (List ℕ) × Bool) → Result (List (List ℕ) × Bool) LineError → Type 0
+ReadsUsers wanted result =
+    MatchResult result (λ found. wanted ≡ Some (found.0, found.1)) (λ e. e ≢ Memory → (e ≡ BadUsers) × (wanted ≡ None))
 
 -- the line with which a text begins and how many bytes it takes, or the first fault
 abbrev pub line_of : List ℕ → Result (Line × ℕ) LineError

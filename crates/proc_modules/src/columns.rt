@@ -47,7 +47,7 @@ pub(crate) fn push_names(
     catalogue: &Catalogue,
     slots: &[u16],
 ) -> Result<(), AllocError>
-    requires { All (λ m. m < length catalogue.now) slots.now }
+    requires { All (λ slot. slot < length catalogue.now) slots.now }
     ensures { OnOk result (text.new.items ≡ text.old.items ++ join_with_byte 44 (names_of catalogue.now slots.now)) }
 {
     for (i, slot) in slots.iter().enumerate() {

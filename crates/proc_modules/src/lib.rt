@@ -2,19 +2,21 @@
 #![tactic(auto)]
 
 mod columns;
+mod entry;
 pub mod laws;
 mod line;
 mod listing;
 mod modinfo;
 mod names;
-mod newest;
 mod read;
+mod users;
 mod words;
 mod write;
 
+pub use entry::{Entry, push_line};
 pub use line::{Line, LineError, LineState};
 pub use listing::{lsmod_text, proc_text};
 pub use modinfo::modinfo_text;
 pub use names::Names;
 pub use read::read_line;
-pub use write::write_line;
+pub use write::{push_number, write_line};

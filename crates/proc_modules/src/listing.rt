@@ -1,70 +1,48 @@
 //! The listings of a table of modules.
-ghost use Rattle.std.specs.Prelude.{◌≡◌, ◌≤◌, ◌<◌, ◌++◌, length, flat_map, All, IfOk, OnOk};
+ghost use Rattle.std.specs.Prelude.{◌≡◌, ◌<◌, ◌++◌, length, All, IfOk, OnOk};
 ghost use Rattle.dep_index.specs.Catalogue.{modules_of};
 ghost use Rattle.dep_index.specs.Table.{references};
-ghost use Rattle.proc_modules.specs.LineText.{line_text, with_comma};
-ghost use Rattle.proc_modules.specs.Listings.{names_of, newest_users, shown, line_at, columns, used_by, proc_text, lsmod_line, lsmod_text};
+ghost use Rattle.proc_modules.specs.LineText.{line_text};
+ghost use Rattle.proc_modules.specs.Listings.{names_of, line_at, columns, used_by, proc_text, lsmod_line, lsmod_text};
 ghost use Rattle.proc_modules.specs.UserRows.{IsListed};
 
 use crate::columns::{push_left, push_names, push_right};
-use crate::line::LineState;
-use crate::newest::{listed, pairs, row};
-use crate::write::{push_head, push_number, push_tail, push_user};
-use dep_index::{Catalogue, ModuleState};
+use crate::entry::{Entry, push_line};
+use crate::users::{listed, pairs, row};
+use crate::write::push_number;
+use dep_index::Catalogue;
 use itoa::Buffer;
 use seq_table::Modules;
 use std::alloc::{AllocError, Global};
 
-fn shown(state: ModuleState) -> LineState
-    ensures { result ≡ shown state }
-{
-    match state {
-        ModuleState::Live => LineState::Live,
-        ModuleState::Loading => LineState::Loading,
-        ModuleState::Absent | ModuleState::Draining | ModuleState::Unloading => {
-            LineState::Unloading
-        }
-    }
-}
-
 /// How many references there are to a module of these users.
-fn references<M: Modules>(catalogue: &Catalogue, table: &M, m: usize, users: &[u16]) -> u32
+fn references<M: Modules>(catalogue: &Catalogue, table: &M, slot: usize, users: &[u16]) -> u32
     requires over { M.catalogue table.now ≡ modules_of catalogue.now }
-    requires listed { IsListed catalogue.now (M.table table.now) m users.now }
-    ensures { result ≡ references (modules_of catalogue.now) (M.table table.now) m }
+    requires listed { IsListed catalogue.now (M.table table.now) slot users.now }
+    ensures { result ≡ references (modules_of catalogue.now) (M.table table.now) slot }
 {
-    pairs(table, m) + users.len() as u32
-}
-
-/// Adds the users, each with its comma.
-fn push_users(text: &mut Vec<u8>, catalogue: &Catalogue, users: &[u16]) -> Result<(), AllocError>
-    requires { All (λ u. u < length catalogue.now) users.now }
-    ensures { OnOk result (text.new.items ≡ text.old.items ++ flat_map with_comma (names_of catalogue.now users.now)) }
-{
-    for user in users {
-        push_user(text, catalogue.name(*user as usize))?;
-    }
-    Ok(())
+    pairs(table, slot) + users.len() as u32
 }
 
 /// Adds the line of /proc/modules of a module of these users.
-fn push_line<M: Modules>(
+fn push_listed<M: Modules>(
     text: &mut Vec<u8>,
     catalogue: &Catalogue,
     table: &M,
-    m: usize,
+    slot: usize,
     users: &[u16],
 ) -> Result<(), AllocError>
     requires over { M.catalogue table.now ≡ modules_of catalogue.now }
-    requires listed { IsListed catalogue.now (M.table table.now) m users.now }
-    ensures { OnOk result (text.new.items ≡ text.old.items ++ line_text (line_at catalogue.now (M.table table.now) m)) }
+    requires listed { IsListed catalogue.now (M.table table.now) slot users.now }
+    ensures { OnOk result (text.new.items ≡ text.old.items ++ line_text (line_at catalogue.now (M.table table.now) slot)) }
 {
-    let count = references(catalogue, table, m, users);
-    push_head(text, catalogue.name(m), catalogue.size(m), count)?;
-    push_users(text, catalogue, users)?;
-    let state = shown(table.state(m));
-    push_tail(text, !users.is_empty(), catalogue.permanent(m), state)?;
-    Ok(())
+    let entry = Entry {
+        slot,
+        state: table.state(slot),
+        count: references(catalogue, table, slot, users),
+        users,
+    };
+    push_line(text, catalogue, &entry)
 }
 
 /// The text of /proc/modules (proc(5)) for a table over the catalogue: a line for each module of the table, the
@@ -80,8 +58,8 @@ pub fn proc_text<M: Modules>(
     let (newest, users) = listed(alloc, catalogue, table)?;
     let mut text = Vec::new(alloc);
     for slot in &newest {
-        let m = *slot as usize;
-        push_line(&mut text, catalogue, table, m, row(&users, m))?;
+        let slot = *slot as usize;
+        push_listed(&mut text, catalogue, table, slot, row(&users, slot))?;
     }
     Ok(text)
 }
@@ -114,20 +92,20 @@ fn push_lsmod_line<M: Modules>(
     text: &mut Vec<u8>,
     catalogue: &Catalogue,
     table: &M,
-    m: usize,
+    slot: usize,
     users: &[u16],
 ) -> Result<(), AllocError>
     requires over { M.catalogue table.now ≡ modules_of catalogue.now }
-    requires listed { IsListed catalogue.now (M.table table.now) m users.now }
-    ensures { OnOk result (text.new.items ≡ text.old.items ++ lsmod_line catalogue.now (M.table table.now) m) }
+    requires listed { IsListed catalogue.now (M.table table.now) slot users.now }
+    ensures { OnOk result (text.new.items ≡ text.old.items ++ lsmod_line catalogue.now (M.table table.now) slot) }
 {
     let mut size = Buffer::new();
     push_columns(
         text,
-        catalogue.name(m),
-        size.format(catalogue.size(m)).as_bytes(),
+        catalogue.name(slot),
+        size.format(catalogue.size(slot)).as_bytes(),
     )?;
-    push_number(text, references(catalogue, table, m, users))?;
+    push_number(text, references(catalogue, table, slot, users) as usize)?;
     push_used_by(text, catalogue, users)?;
     text.push(b'\n')?;
     Ok(())
@@ -148,8 +126,8 @@ pub fn lsmod_text<M: Modules>(
     push_columns(&mut text, b"Module", b"Size")?;
     text.extend_from_slice(b"Used by\n")?;
     for slot in &newest {
-        let m = *slot as usize;
-        push_lsmod_line(&mut text, catalogue, table, m, row(&users, m))?;
+        let slot = *slot as usize;
+        push_lsmod_line(&mut text, catalogue, table, slot, row(&users, slot))?;
     }
     Ok(text)
 }

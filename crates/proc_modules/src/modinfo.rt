@@ -3,7 +3,7 @@ ghost use Rattle.std.specs.Prelude.{◌≡◌, ◌<◌, ◌++◌, length, decima
 ghost use Rattle.std.specs.List.{join_with_byte};
 ghost use Rattle.dep_index.specs.Catalogue.{needs_of};
 ghost use Rattle.proc_modules.specs.Listings.{names_of};
-ghost use Rattle.proc_modules.specs.Details.{field, kind_text, param_line, modinfo_text};
+ghost use Rattle.proc_modules.specs.Details.{field, kind_text, depends_line, param_line, modinfo_text};
 
 use crate::columns::{push_left, push_names};
 use crate::write::push_number;
@@ -34,17 +34,17 @@ fn push_size(text: &mut Vec<u8>, size: u32) -> Result<(), AllocError>
     ensures { OnOk result (text.new.items ≡ text.old.items ++ field (codes "size:") (decimal size)) }
 {
     push_left(text, 16, b"size:")?;
-    push_number(text, size)?;
+    push_number(text, size as usize)?;
     text.push(b'\n')?;
     Ok(())
 }
 
-fn push_depends(text: &mut Vec<u8>, catalogue: &Catalogue, m: usize) -> Result<(), AllocError>
-    requires { m < length catalogue.now }
-    ensures { OnOk result (text.new.items ≡ text.old.items ++ field (codes "depends:") (join_with_byte 44 (names_of catalogue.now (needs_of catalogue.now m)))) }
+fn push_depends(text: &mut Vec<u8>, catalogue: &Catalogue, slot: usize) -> Result<(), AllocError>
+    requires { slot < length catalogue.now }
+    ensures { OnOk result (text.new.items ≡ text.old.items ++ depends_line catalogue.now slot) }
 {
     push_left(text, 16, b"depends:")?;
-    push_names(text, catalogue, catalogue.needs(m))?;
+    push_names(text, catalogue, catalogue.needs(slot))?;
     text.push(b'\n')?;
     Ok(())
 }
@@ -62,15 +62,19 @@ fn push_param(text: &mut Vec<u8>, param: &Param) -> Result<(), AllocError>
 
 /// What modinfo(8) tells of the module: its name, its size, the modules that it needs, and its parameters in the
 /// order of the catalogue, each with its type.
-pub fn modinfo_text(alloc: Global, catalogue: &Catalogue, m: usize) -> Result<Vec<u8>, AllocError>
-    requires { m < length catalogue.now }
-    ensures { IfOk result (λ text. text.items ≡ modinfo_text catalogue.now m) }
+pub fn modinfo_text(
+    alloc: Global,
+    catalogue: &Catalogue,
+    slot: usize,
+) -> Result<Vec<u8>, AllocError>
+    requires { slot < length catalogue.now }
+    ensures { IfOk result (λ text. text.items ≡ modinfo_text catalogue.now slot) }
 {
     let mut text = Vec::new(alloc);
-    push_field(&mut text, b"name:", catalogue.name(m))?;
-    push_size(&mut text, catalogue.size(m))?;
-    push_depends(&mut text, catalogue, m)?;
-    let params = catalogue.params(m);
+    push_field(&mut text, b"name:", catalogue.name(slot))?;
+    push_size(&mut text, catalogue.size(slot))?;
+    push_depends(&mut text, catalogue, slot)?;
+    let params = catalogue.params(slot);
     for param in params {
         push_param(&mut text, param)?;
     }

@@ -2,7 +2,7 @@
 ghost use Rattle.std.specs.Prelude.{◌≡◌, ◌≢◌, ◌<◌, ◌==◌, ◌&&◌, length, position, MatchOption, MatchResult, IfOk, IfErr, Ok, Err, Some, None};
 ghost use Rattle.std.specs.List.{slice_split};
 ghost use Rattle.dep_index.specs.Text.{texts_of};
-ghost use Rattle.proc_modules.specs.Reading.{is_mark, is_end, users_in, users_of, numbers_in, state_in, first_line, line_in, line_of};
+ghost use Rattle.proc_modules.specs.Reading.{is_mark, is_end, users_in, users_of, numbers_in, state_in, first_line, line_in, line_of, ReadsLine, ReadsUsers};
 ghost use Rattle.proc_modules.specs.Fields.{texts_in};
 
 use crate::line::{Line, LineError, LineState};
@@ -41,7 +41,7 @@ fn is_last_mark(part: &[u8], later: &[&[u8]]) -> bool
 
 /// The users and the mark that the parts of their field are.
 fn users_in(alloc: Global, parts: &[&[u8]]) -> Result<(Names, bool), LineError>
-    ensures { MatchResult result (λ found. users_in (texts_of parts.now) ≡ Some (found.0, found.1)) (λ e. e ≢ LineError.Memory → (e ≡ LineError.BadUsers) × (users_in (texts_of parts.now) ≡ None)) }
+    ensures { ReadsUsers (users_in (texts_of parts.now)) result }
 {
     let mut users = Names::new(alloc);
     for (i, user) in parts.iter().enumerate() {
@@ -66,7 +66,7 @@ fn users_in(alloc: Global, parts: &[&[u8]]) -> Result<(Names, bool), LineError>
 }
 
 fn users(alloc: Global, field: &[u8]) -> Result<(Names, bool), LineError>
-    ensures { MatchResult result (λ found. users_of field.now ≡ Some (found.0, found.1)) (λ e. e ≢ LineError.Memory → (e ≡ LineError.BadUsers) × (users_of field.now ≡ None)) }
+    ensures { ReadsUsers (users_of field.now) result }
 {
     if is_same(field, b"-") {
         return Ok((Names::new(alloc), false));
@@ -131,7 +131,7 @@ fn six_fields<'f, 'a>(fields: &'f [&'a [u8]]) -> Option<Fields<'f, 'a>>
 
 /// The line that fields are.
 fn good_line(alloc: Global, fields: Fields<'_, '_>) -> Result<Line, LineError>
-    ensures { MatchResult result (λ l. line_in (texts_in fields.entry) ≡ Ok l) (λ e. e ≢ LineError.Memory → line_in (texts_in fields.entry) ≡ Err e) }
+    ensures { ReadsLine (line_in (texts_in fields.entry)) result }
 {
     let (size, count) = numbers(fields.name, fields.size, fields.count)?;
     let (users, permanent) = users(alloc, fields.users)?;
@@ -165,7 +165,7 @@ fn first_line(text: &[u8]) -> (&[u8], usize)
 
 /// Reads a line without its end.
 fn read_fields(alloc: Global, line: &[u8]) -> Result<Line, LineError>
-    ensures { MatchResult result (λ l. line_in (slice_split (λ byte. byte == 32) line.now) ≡ Ok l) (λ e. e ≢ LineError.Memory → line_in (slice_split (λ byte. byte == 32) line.now) ≡ Err e) }
+    ensures { ReadsLine (line_in (slice_split (λ byte. byte == 32) line.now)) result }
 {
     let fields = parts(alloc, line, b' ')?;
     let Some(fields) = six_fields(&fields) else {

@@ -6,13 +6,12 @@ use crate::line::{Line, LineState};
 use itoa::Buffer;
 use std::alloc::{AllocError, Global};
 
-/// Adds a number in decimal.
-pub(crate) fn push_number(text: &mut Vec<u8>, n: u32) -> Result<(), AllocError>
+/// Adds a number in decimal. It fails for want of memory alone; what stands in the text then is not said.
+pub fn push_number(text: &mut Vec<u8>, n: usize) -> Result<(), AllocError>
     ensures { OnOk result (text.new.items ≡ text.old.items ++ decimal n) }
 {
     let mut buffer = Buffer::new();
-    text.extend_from_slice(buffer.format(n).as_bytes())?;
-    Ok(())
+    text.extend_from_slice(buffer.format(n).as_bytes())
 }
 
 /// Adds the fields before the users, each with the space behind it.
@@ -26,9 +25,9 @@ pub(crate) fn push_head(
 {
     text.extend_from_slice(name)?;
     text.push(b' ')?;
-    push_number(text, size)?;
+    push_number(text, size as usize)?;
     text.push(b' ')?;
-    push_number(text, count)?;
+    push_number(text, count as usize)?;
     text.push(b' ')?;
     Ok(())
 }

@@ -5,4 +5,4 @@ use Rattle.proc_modules.proofs.listing.proc_text.Given as goal
 
 abbrev pub invariant-loop-slot : goal.invariant-loop-slot
 invariant-loop-slot g l =
-    l.text.items ≡ flat_map (λ m. line_text (line_at l.catalogue (g.M.Modules.table l.table) m)) (take l.slot-index l.slot-items)
+    l.text.items ≡ flat_map (λ slot. line_text (line_at l.catalogue (g.M.Modules.table l.table) slot)) (take l.slot-index l.slot-items)

@@ -1,10 +1,9 @@
 use Rattle.std.proofs.Common.{◌∙◌, ◌++◌, List, ℕ, codes, decimal, flat_map, ap}
-use Rattle.std.specs.List.{join_with_byte}
 use Rattle.std.proofs.lemmas.List.{take_all}
 use Rattle.dep_index.specs.declared.params.Param.{Param}
-use Rattle.dep_index.specs.Catalogue.{description_at, needs_of}
-use Rattle.proc_modules.specs.Listings.{name_of, size_of, names_of}
-use Rattle.proc_modules.specs.Details.{field, param_line}
+use Rattle.dep_index.specs.Catalogue.{description_at}
+use Rattle.proc_modules.specs.Listings.{name_of, size_of}
+use Rattle.proc_modules.specs.Details.{field, depends_line, param_line}
 use Rattle.proc_modules.proofs.ListingLemmas.{param_step, fields_written}
 use Rattle.proc_modules.proofs.modinfo.modinfo_text.Goals as goal
 
@@ -16,8 +15,8 @@ loop-param-preserved c =
 pub returns : goal.returns
 returns c =
     let catalogue = c.args.catalogue.now in
-    fields_written (field (codes "name:") (name_of catalogue c.args.m)) (field (codes "size:") (decimal (size_of catalogue c.args.m)))
-    (field (codes "depends:") (join_with_byte 44 (names_of catalogue (needs_of catalogue c.args.m)))) (flat_map param_line (description_at catalogue c.args.m).params)
+    fields_written (field (codes "name:") (name_of catalogue c.args.slot)) (field (codes "size:") (decimal (size_of catalogue c.args.slot)))
+    (depends_line catalogue c.args.slot) (flat_map param_line (description_at catalogue c.args.slot).params)
     c.new-text.result.items c.push_field.new.text.items c.push_size.new.text.items c.push_depends.new.text.items c.loop-param.text.items
     c.new-text.ensures.items
     (c.in_ok-push_field.ensures ∙ ap (λ (name : List ℕ). c.new-text.result.items ++ field (codes "name:") name) c.name.ensures)

@@ -4,4 +4,4 @@ use Rattle.proc_modules.proofs.modinfo.push_depends.Goals as goal
 
 pub push_names-requires : goal.push_names-requires
 push_names-requires c =
-    subst (λ (needs : List ℕ). All (λ n. n < length c.args.catalogue.now) needs) (sym c.needs.ensures) (needs_within c.args.catalogue.now c.args.m)
+    subst (λ (needs : List ℕ). All (λ n. n < length c.args.catalogue.now) needs) (sym c.needs.ensures) (needs_within c.args.catalogue.now c.args.slot)

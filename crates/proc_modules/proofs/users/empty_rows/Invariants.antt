@@ -1,7 +1,7 @@
 use Rattle.std.proofs.Common.{◌≡◌, []}
 use Rattle.std.specs.Prelude.{replicate}
 use Rattle.seq_table.specs.Rows.{rows_of}
-use Rattle.proc_modules.proofs.newest.empty_rows.Given as goal
+use Rattle.proc_modules.proofs.users.empty_rows.Given as goal
 
 abbrev pub invariant-loop : goal.invariant-loop
 invariant-loop l = rows_of l.rows.items ≡ replicate l.counter []

@@ -6,7 +6,7 @@ use Rattle.seq_table.proofs.Kept.{length-rows_of}
 use Rattle.proc_modules.specs.UserRows.{EachOnce}
 use Rattle.proc_modules.proofs.NeedLemmas.{needs_once, needs_within}
 use Rattle.proc_modules.proofs.ListingLemmas.{users_step}
-use Rattle.proc_modules.proofs.newest.users_by_slot.Goals as goal
+use Rattle.proc_modules.proofs.users.users_by_slot.Goals as goal
 
 pub push_to_needs-requires-clause-within : goal.push_to_needs-requires-clause-within
 push_to_needs-requires-clause-within c =

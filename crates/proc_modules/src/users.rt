@@ -4,7 +4,7 @@ ghost use Rattle.dep_index.specs.Table.{needs_slot, pairs};
 ghost use Rattle.dep_index.specs.Catalogue.{modules_of};
 ghost use Rattle.seq_table.specs.Rows.{rows_of};
 ghost use Rattle.proc_modules.specs.Listings.{newest_first};
-ghost use Rattle.proc_modules.specs.UserRows.{EachOnce, WithUser, AllListed};
+ghost use Rattle.proc_modules.specs.UserRows.{EachOnce, with_user_at, WithUser, HaveUsers, AllListed};
 
 use dep_index::Catalogue;
 use seq_table::Modules;
@@ -13,27 +13,27 @@ use std::alloc::{AllocError, Global};
 /// The modules of the table, the newest first.
 fn newest_first<M: Modules>(alloc: Global, table: &M) -> Result<Vec<u16>, AllocError>
     ensures order { IfOk result (λ found. found.items ≡ newest_first (M.table table.now)) }
-    ensures slots { IfOk result (λ found. All (λ m. m < length (M.catalogue table.now)) found.items) }
+    ensures slots { IfOk result (λ found. All (λ slot. slot < length (M.catalogue table.now)) found.items) }
     ensures few { IfOk result (λ found. length found.items ≤ 1024) }
 {
     let loaded = table.loaded();
     let mut found = Vec::new(alloc);
     for age in 0..loaded {
         prove!(age < loaded);
-        let m = table.loaded_at(loaded - 1 - age);
-        prove!(m < table.slots());
-        found.push(m as u16)?;
+        let slot = table.loaded_at(loaded - 1 - age);
+        prove!(slot < table.slots());
+        found.push(slot as u16)?;
     }
     Ok(found)
 }
 
 /// Adds a slot to the row of another.
-fn push_user(rows: &mut Vec<Vec<u16>>, m: usize, user: u16) -> Result<(), AllocError>
-    requires { m < length rows.old.items }
-    ensures after { OnOk result (rows_of rows.new.items ≡ slice_set (rows_of rows.old.items) m (slice_index_or (rows_of rows.old.items) m [] ++ user ∷ [])) }
+fn push_user(rows: &mut Vec<Vec<u16>>, slot: usize, user: u16) -> Result<(), AllocError>
+    requires { slot < length rows.old.items }
+    ensures after { OnOk result (rows_of rows.new.items ≡ with_user_at (rows_of rows.old.items) slot user) }
     ensures len { OnOk result (vec_len rows.new ≡ vec_len rows.old) }
 {
-    let row = &mut rows[m];
+    let row = &mut rows[slot];
     row.push(user)?;
     Ok(())
 }
@@ -68,9 +68,9 @@ fn users_by_slot(
     catalogue: &Catalogue,
     modules: &[u16],
 ) -> Result<Vec<Vec<u16>>, AllocError>
-    requires { All (λ m. m < length catalogue.now) modules.now }
+    requires { All (λ slot. slot < length catalogue.now) modules.now }
     ensures len { IfOk result (λ rows. length rows.items ≡ length catalogue.now) }
-    ensures users { IfOk result (λ rows. (m : ℕ) → m < length catalogue.now → slice_index_or (rows_of rows.items) m [] ≡ filter (needs_slot (modules_of catalogue.now) m) modules.now) }
+    ensures users { IfOk result (λ rows. HaveUsers catalogue.now modules.now (rows_of rows.items)) }
 {
     let mut rows = empty_rows(alloc, catalogue.len())?;
     for user in modules {
@@ -95,24 +95,24 @@ pub(crate) fn listed<M: Modules>(
 }
 
 /// The row of a slot.
-pub(crate) fn row(rows: &[Vec<u16>], m: usize) -> &[u16]
-    requires { m < length (rows_of rows.now) }
-    ensures { result.now ≡ slice_index_or (rows_of rows.now) m [] }
+pub(crate) fn row(rows: &[Vec<u16>], slot: usize) -> &[u16]
+    requires { slot < length (rows_of rows.now) }
+    ensures { result.now ≡ slice_index_or (rows_of rows.now) slot [] }
 {
-    &rows[m]
+    &rows[slot]
 }
 
 /// How many references all workers hold to a module.
-pub(crate) fn pairs<M: Modules>(table: &M, m: usize) -> u32
-    requires { m < length (M.catalogue table.now) }
-    ensures sum { result ≡ pairs (M.table table.now).rows m }
+pub(crate) fn pairs<M: Modules>(table: &M, slot: usize) -> u32
+    requires { slot < length (M.catalogue table.now) }
+    ensures sum { result ≡ pairs (M.table table.now).rows slot }
     ensures bound { result ≤ 4194240 }
 {
     let workers = table.workers();
     let mut total = 0;
-    for w in 0..workers {
-        prove!(w < workers);
-        total += table.held(w, m);
+    for worker in 0..workers {
+        prove!(worker < workers);
+        total += table.held(worker, slot);
     }
     total
 }

@@ -1,7 +1,7 @@
 use Rattle.std.proofs.Common.{◌≡◌, take, vec_len}
 use Rattle.seq_table.specs.Rows.{rows_of}
 use Rattle.proc_modules.specs.UserRows.{WithUser}
-use Rattle.proc_modules.proofs.newest.push_to_needs.Given as goal
+use Rattle.proc_modules.proofs.users.push_to_needs.Given as goal
 
 abbrev pub invariant-loop-need : goal.invariant-loop-need
 invariant-loop-need l =
