@@ -14,6 +14,8 @@ mod points;
 #[cfg(test)]
 mod replies;
 #[cfg(test)]
+mod schedule;
+#[cfg(test)]
 mod scripts;
 #[cfg(test)]
 mod sound;

@@ -1,14 +1,16 @@
 //! Scripts on threads with gates of their own, and streams that fail.
 
+use crate::sound::SOUND;
 use dep_index::Reply;
 use module_table::Manager;
+use std::alloc::{AllocError, Global};
 use std::io;
 use std::io::{Read, Write};
 use std::sync::Wait;
 use std::sync::atomic::{AtomicBool, AtomicUsize, Ordering};
 use std::test::Fail;
 use std::thread::Threads;
-use workload_drive::{Gate, WorkFault, drive, read_script, run_threads};
+use workload_drive::{Gate, OpenGate, WorkFault, drive, read_script, run_threads};
 
 /// How often a gate looks before it gives up.
 const TURNS: usize = 50_000_000;
@@ -36,13 +38,22 @@ impl Course {
     }
 }
 
-/// Runs a script on a manager of its own.
+/// The input of a script of these lines over the sound card.
+fn input(alloc: Global, lines: &[u8]) -> Result<Vec<u8>, AllocError> {
+    let mut input = Vec::from_slice(alloc, b"%catalogue\n")?;
+    input.extend_from_slice(SOUND)?;
+    input.extend_from_slice(b"%script\n")?;
+    input.extend_from_slice(lines)?;
+    Ok(input)
+}
+
+/// Runs a script of these lines on a manager of its own.
 fn run<R: AllocGlobal + Threads + Wait + Sync, G: Gate + Sync>(
     rt: &R,
-    input: &[u8],
+    lines: &[u8],
     gate: &G,
 ) -> Result<Course, Fail> {
-    let script = read_script(rt.alloc(), input)?;
+    let script = read_script(rt.alloc(), &input(rt.alloc(), lines)?)?;
     let (manager, readers) = Manager::new(rt.alloc(), script.catalogue(), script.workers())?;
     let answer = run_threads(rt, script.catalogue(), &manager, readers, &script, gate);
     Ok(Course {
@@ -52,30 +63,8 @@ fn run<R: AllocGlobal + Threads + Wait + Sync, G: Gate + Sync>(
     })
 }
 
-/// A gate that is always open.
-#[derive(Drop)]
-struct Open;
-
-impl Gate for Open {
-    fn before(&self, _worker: usize, _line: usize) -> bool {
-        true
-    }
-
-    fn after(&self, _worker: usize, _line: usize, _reply: Reply) {}
-}
-
 /// Both workers keep what they get.
-const KEPT: &[u8] = b"%catalogue
-module snd
-size 114688
-exports snd_card_new
-module snd-pcm
-size 143360
-exports snd_pcm_new
-needs snd_card_new
-param debug bool
-%script
-workers 2
+const KEPT: &[u8] = b"workers 2
 load snd
 w0 get snd
 w1 get snd
@@ -84,7 +73,7 @@ w1 get snd
 
 #[test]
 fn references_are_left(rt: HostRuntime) -> Result<(), Fail> {
-    let course = run(&rt, KEPT, &Open)?;
+    let course = run(&rt, KEPT, &OpenGate)?;
     let text = "snd 114688 3 - Live 0x0000000000000000\ncalls 4\n";
     assert!(rt; course.is(Ok(text)) && course.are_held(1, 2));
     Ok(())
@@ -156,17 +145,7 @@ impl Gate for Meeting {
 }
 
 /// A removal beside a worker that holds the module.
-const MET: &[u8] = b"%catalogue
-module snd
-size 114688
-exports snd_card_new
-module snd-pcm
-size 143360
-exports snd_pcm_new
-needs snd_card_new
-param debug bool
-%script
-workers 2
+const MET: &[u8] = b"workers 2
 load snd
 w0 get snd
 w0 put snd
@@ -201,17 +180,7 @@ impl Gate for Shut {
 }
 
 /// Two workers, the first of which is shut out.
-const SHUT_OUT: &[u8] = b"%catalogue
-module snd
-size 114688
-exports snd_card_new
-module snd-pcm
-size 143360
-exports snd_pcm_new
-needs snd_card_new
-param debug bool
-%script
-workers 2
+const SHUT_OUT: &[u8] = b"workers 2
 load snd
 w0 get snd
 w0 put snd

@@ -8,7 +8,7 @@ pub(crate) const SND: usize = 0;
 
 pub(crate) const SND_PCM: usize = 1;
 
-const TEXT: &[u8] = b"module snd
+pub(crate) const SOUND: &[u8] = b"module snd
 size 114688
 exports snd_card_new
 module snd-pcm
@@ -20,5 +20,5 @@ param debug bool
 
 /// The catalogue of snd, and of snd_pcm, which needs it.
 pub(crate) fn sound(alloc: Global) -> Result<Catalogue, Fail> {
-    Ok(read_catalogue(alloc, TEXT)?)
+    Ok(read_catalogue(alloc, SOUND)?)
 }

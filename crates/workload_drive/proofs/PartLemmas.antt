@@ -14,7 +14,7 @@ use Rattle.workload_drive.specs.declared.fault.ScheduleFault.TheVariants as faul
 use Rattle.workload_drive.specs.declared.lines.Line.{Line}
 use Rattle.workload_drive.specs.Faults.{IsFirstFault, catalogue_fault}
 use Rattle.workload_drive.specs.Statements.{Statement, Parts, numbered, behind_head, text_before, lines_behind, statements, with_catalogue, with_lines, parts_among, parts_of, setting}
-use Rattle.workload_drive.specs.Schedule.{steps_of, with_steps, with_threads, with_workers, with_parts, schedule_of}
+use Rattle.workload_drive.specs.Schedule.Steps.{steps_of, with_steps, with_threads, with_workers, with_parts, schedule_of}
 use Rattle.workload_drive.specs.ForProofs.{lines_in}
 use Rattle.workload_drive.proofs.LineLemmas.{length-numbered}
 

@@ -21,9 +21,9 @@ use Rattle.workload_drive.specs.declared.fault.LineFault.{LineFault}
 use Rattle.workload_drive.specs.declared.fault.ScheduleFault.{ScheduleFault}
 use Rattle.workload_drive.specs.declared.fault.ScheduleFault.TheVariants as fault
 use Rattle.workload_drive.specs.Faults.{IsFirstFault, points_fault}
-use Rattle.workload_drive.specs.Report.{point_of, first_of, thread_of, call_line, line_of, lines_from, report_of, IsReport, Reports, Refuses}
-use Rattle.workload_drive.specs.Schedule.{Schedule, schedule_of}
-use Rattle.workload_drive.specs.ForProofs.{with_point, interval_line, interval_lines}
+use Rattle.workload_drive.specs.Schedule.Report.{point_of, first_of, thread_of, call_line, line_of, lines_from, report_of, IsReport, Reports, Refuses}
+use Rattle.workload_drive.specs.Schedule.Steps.{Schedule, schedule_of}
+use Rattle.workload_drive.specs.Schedule.ForProofs.{with_point, interval_line, interval_lines}
 
 -- one option, or else another
 abbrev or_else : {A : Type 0} → Option A → Option A → Option A
@@ -92,7 +92,7 @@ get_at (x ∷ xs) (suc n) i later is = get_at xs n i later is
 
 same_line : (s : Schedule) (es : List Event) (points : List Point) (taken : List (Option Point)) (all : List Interval) (n : ℕ) (i : Interval)
     → AreIntervals es all → slice_get all n ≡ Some i → get_or taken n None ≡ point_of points n
-    → interval_line s taken n i ≡ line_of s es points n i.call
+    → interval_line s n i (get_or taken n None) ≡ line_of s es points n i.call
 same_line s es points taken all n i are found point =
     let first : first_of es n ≡ i.first = ap (λ (o : Option ℕ). unwrap_or o 0) (are.first n ∙ ap (option_map (λ (x : Interval). x.first)) found) in
     let last : last_step es n ≡ option_map (λ (e : End). e.index) i.end =

@@ -1,5 +1,6 @@
 -- The parts of an input: the text of its catalogue, and the lines behind it that say something, by their words.
-use Rattle.std.specs.Prelude.{ℕ, ◌+◌, ◌||◌, ◌==◌, Bool, if◌then◌else◌, List, [], ◌∷◌, ◌++◌, length, codes, Option, Some, None, Result, Ok, Err}
+use Rattle.std.specs.Prelude.{ℕ, ◌+◌, ◌||◌, ◌==◌, Bool, if◌then◌else◌, List, [], ◌∷◌, ◌++◌}
+use Rattle.std.specs.Prelude.{length, drop, slice_index, codes, Option, Some, None, Result, Ok, Err}
 use Rattle.std.specs.Str.{bytes_eq}
 use Rattle.dep_index.specs.Text.{Line, cut_lines, words, is_comment, number_within}
 use Rattle.dep_index.specs.Catalogue.{Description, Refusal, catalogue_of}
@@ -81,6 +82,14 @@ parts_of section input = parts_among section (length (cut_lines input) + 1) (num
 abbrev pub from_one : Option ℕ → Option ℕ
 from_one None = None
 from_one (Some n) = if n == 0 then None else Some n
+
+-- the largest number of 10 digits
+abbrev pub largest : ℕ
+largest = 9999999999
+
+-- the number of a word that is a mark, as `t`, and 1 to 10 digits
+abbrev pub marked : ℕ → List ℕ → Option ℕ
+marked mark word = if slice_index word 0 == mark then number_within largest (drop 1 word) else None
 
 -- the number of words `WORD N`, from 1 to 64
 abbrev pub setting_in : List ℕ → List (List ℕ) → Option ℕ

@@ -3,19 +3,12 @@
 
 mod fault;
 mod lines;
-mod listing;
-mod order;
 mod program;
-mod reports;
 mod schedule;
 mod script;
 mod statement;
-mod texts;
-mod threads;
-mod worker;
 
 pub use fault::{LineCode, LineFault, ScheduleFault};
 pub use program::drive;
-pub use reports::report;
-pub use script::{Script, read_script};
-pub use threads::{Gate, WorkFault, run_threads};
+pub use schedule::report;
+pub use script::{Gate, OpenGate, Script, WorkFault, read_script, run_threads};

@@ -1,14 +1,12 @@
 //! The program over any input and output.
 ghost use Rattle.std.specs.Prelude.{◌≡◌};
-ghost use Rattle.workload_drive.specs.declared.program.Stop.TheVariants as stops;
+ghost use Rattle.workload_drive.specs.declared.program.Fault.TheVariants as faults;
 
 use crate::fault::ScheduleFault;
-use crate::reports::report;
-use crate::script::read_script;
-use crate::threads::{Gate, WorkFault, run_threads};
+use crate::schedule::report;
+use crate::script::{OpenGate, WorkFault, read_script, run_threads};
 use clap::error::ErrorKind;
 use clap::{Arg, ArgAction, Command, Error as ClapError};
-use dep_index::Reply;
 use module_table::Manager;
 use std::alloc::{AllocError, Global};
 use std::io;
@@ -29,7 +27,7 @@ enum Status {
 
 /// Why the program wrote nothing, or not all.
 #[derive(Clone, Copy, Debug, Drop, Error)]
-enum Stop {
+enum Fault {
     #[error("read fault")]
     Read,
     #[error("write fault")]
@@ -42,67 +40,62 @@ enum Stop {
     Work(WorkFault),
 }
 
-impl From<AllocError> for Stop {
-    ghost from_gives = { λ _ stop. stop ≡ stops.Memory };
+impl From<AllocError> for Fault {
+    ghost from_gives = { λ _ told. told ≡ faults.Memory };
 
-    fn from(_: AllocError) -> Stop {
-        Stop::Memory
+    fn from(_: AllocError) -> Fault {
+        Fault::Memory
     }
 }
 
-impl From<WorkFault> for Stop {
-    ghost from_gives = { λ fault stop. stop ≡ stops.Work fault };
+impl From<WorkFault> for Fault {
+    ghost from_gives = { λ fault told. told ≡ faults.Work fault };
 
-    fn from(fault: WorkFault) -> Stop {
-        Stop::Work(fault)
+    fn from(fault: WorkFault) -> Fault {
+        Fault::Work(fault)
     }
 }
 
-impl From<ScheduleFault> for Stop {
-    ghost from_gives = { λ fault stop. stop ≡ stops.Input fault };
+impl From<ScheduleFault> for Fault {
+    ghost from_gives = { λ fault told. told ≡ faults.Input fault };
 
-    fn from(fault: ScheduleFault) -> Stop {
-        Stop::Input(fault)
+    fn from(fault: ScheduleFault) -> Fault {
+        Fault::Input(fault)
     }
 }
 
-fn status_of(stop: Stop) -> Status {
-    match stop {
-        Stop::Input(ScheduleFault::Line(_) | ScheduleFault::Step { .. }) => Status::Refused,
+fn status_of(fault: Fault) -> Status {
+    match fault {
+        Fault::Input(ScheduleFault::Line(_) | ScheduleFault::Step { .. }) => Status::Refused,
         _ => Status::Fault,
     }
 }
 
 /// All bytes of the reader.
-fn read_input<I: Read>(alloc: Global, reader: &mut I) -> Result<Vec<u8>, Stop> {
+fn read_input<I: Read>(alloc: Global, reader: &mut I) -> Result<Vec<u8>, Fault> {
     let mut input = Vec::new(alloc);
     match reader.read_to_end(&mut input) {
         Ok(_) => Ok(input),
-        Err(error) if error.kind() == io::ErrorKind::OutOfMemory => Err(Stop::Memory),
-        Err(_) => Err(Stop::Read),
+        Err(error) if error.kind() == io::ErrorKind::OutOfMemory => Err(Fault::Memory),
+        Err(_) => Err(Fault::Read),
     }
-}
-
-/// A gate that lets every line begin.
-#[derive(Drop)]
-struct Open;
-
-impl Gate for Open {
-    fn before(&self, _worker: usize, _line: usize) -> bool {
-        true
-    }
-
-    fn after(&self, _worker: usize, _line: usize, _reply: Reply) {}
 }
 
 /// What the workers of a script come to, on a manager of its own.
 fn script_text<R: AllocGlobal + Threads + Wait + Sync>(
     rt: &R,
     input: &[u8],
-) -> Result<Vec<u8>, Stop> {
+) -> Result<Vec<u8>, Fault> {
     let script = read_script(rt.alloc(), input)?;
     let (manager, readers) = Manager::new(rt.alloc(), script.catalogue(), script.workers())?;
-    let text = run_threads(rt, script.catalogue(), &manager, readers, &script, &Open)?;
+    let text = run_threads(
+        rt,
+        script.catalogue(),
+        &manager,
+        readers,
+        &script,
+        &OpenGate,
+    )?;
     Ok(text)
 }
 
@@ -112,7 +105,7 @@ fn write_text<R: AllocGlobal + Threads + Wait + Sync, I: Read, O: Write>(
     on_threads: bool,
     reader: &mut I,
     writer: &mut O,
-) -> Result<(), Stop> {
+) -> Result<(), Fault> {
     let input = read_input(rt.alloc(), reader)?;
     let text = if on_threads {
         script_text(rt, &input)?
@@ -121,7 +114,7 @@ fn write_text<R: AllocGlobal + Threads + Wait + Sync, I: Read, O: Write>(
     };
     match writer.write_all(&text) {
         Ok(()) => Ok(()),
-        Err(_) => Err(Stop::Write),
+        Err(_) => Err(Fault::Write),
     }
 }
 
@@ -157,9 +150,9 @@ fn drive_or_fail<R: AllocGlobal + Threads + Wait + Sync, I: Read, O: Write, E: W
     };
     match write_text(rt, on_threads, reader, writer) {
         Ok(()) => Ok(Status::Done),
-        Err(stop) => {
-            let _ = writeln!(errors, "workload: {stop}");
-            Ok(status_of(stop))
+        Err(fault) => {
+            let _ = writeln!(errors, "workload: {fault}");
+            Ok(status_of(fault))
         }
     }
 }

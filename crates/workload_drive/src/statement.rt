@@ -1,9 +1,8 @@
 //! The parts of an input: its catalogue, and the lines behind it that say something.
-ghost use Rattle.std.specs.Prelude.{◌≡◌, ◌≤◌, Ok, IfOk, IfSome, MatchResult, Option};
+ghost use Rattle.std.specs.Prelude.{◌≡◌, ◌≤◌, IfOk, IfSome, Option};
 ghost use Rattle.std.specs.Str.{bytes_eq};
-ghost use Rattle.workload_drive.specs.Faults.{IsFirstFault};
-ghost use Rattle.workload_drive.specs.Statements.{behind_head, text_before, lines_behind, statements, parts_among, parts_of, from_one, setting_in, setting};
-ghost use Rattle.workload_drive.specs.ForProofs.{lines_in, statements_in, parts_in};
+ghost use Rattle.workload_drive.specs.Statements.{behind_head, text_before, lines_behind, statements, parts_of, from_one, marked, setting_in, setting};
+ghost use Rattle.workload_drive.specs.ForProofs.{Reads, lines_in, statements_in, parts_in};
 ghost use Rattle.dep_index.specs.Text.{texts_of};
 
 use crate::fault::{LineCode, ScheduleFault};
@@ -11,6 +10,9 @@ use crate::lines::{Line, cut_lines, is_ignored};
 use dep_index::text::{number_within, words};
 use dep_index::{Catalogue, read_catalogue};
 use std::alloc::{AllocError, Global};
+
+/// The largest number of 10 digits.
+pub(crate) const LARGEST: u64 = 9_999_999_999;
 
 /// The most workers and the most threads.
 const MOST: u64 = 64;
@@ -43,7 +45,7 @@ fn behind_head<'l, 'a>(
     lines: &'l [Line<'a>],
     end: usize,
 ) -> Result<&'l [Line<'a>], ScheduleFault>
-    ensures { MatchResult result (λ rest. behind_head end (lines_in lines.now) ≡ Ok (lines_in rest.now)) (λ e. IsFirstFault e (behind_head end (lines_in lines.now))) }
+    ensures { Reads (behind_head end (lines_in lines.now)) (λ rest. lines_in rest.now) result }
 {
     for (i, line) in lines.iter().enumerate() {
         if is_same(line.text, b"%catalogue") {
@@ -106,7 +108,7 @@ pub(crate) fn read_parts<'a>(
     section: &[u8],
     input: &'a [u8],
 ) -> Result<Parts<'a>, ScheduleFault>
-    ensures { MatchResult result (λ parts. parts_of section.now input.now ≡ Ok (parts_in parts)) (λ e. IsFirstFault e (parts_of section.now input.now)) }
+    ensures { Reads (parts_of section.now input.now) parts_in result }
 {
     let lines = cut_lines(alloc, input)?;
     let end = lines.len() + 1;
@@ -131,6 +133,16 @@ pub(crate) fn from_one(number: Option<u64>) -> Option<u64>
     }
 }
 
+/// The number of a word that is a mark and 1 to 10 digits.
+pub(crate) fn marked(mark: u8, word: &[u8]) -> Option<u64>
+    ensures { result ≡ marked mark word.now }
+{
+    match word.split_first() {
+        Some((first, digits)) if *first == mark => number_within(LARGEST, digits),
+        _ => None,
+    }
+}
+
 /// The number of words `WORD N`, from 1 to 64.
 fn setting_in(word: &[u8], words: &[&[u8]]) -> Option<u64>
     ensures value { result ≡ setting_in word.now (texts_of words.now) }
@@ -142,10 +154,7 @@ fn setting_in(word: &[u8], words: &[&[u8]]) -> Option<u64>
     if !is_same(first, word) {
         return None;
     }
-    match number_within(MOST, number) {
-        Some(n) if n != 0 => Some(n),
-        _ => None,
-    }
+    from_one(number_within(MOST, number))
 }
 
 /// The number of the first statement, and the later ones.
@@ -155,7 +164,7 @@ pub(crate) fn setting<'s, 'a>(
     statements: &'s [Statement<'a>],
 ) -> Result<(usize, &'s [Statement<'a>]), ScheduleFault>
     ensures within { IfOk result (λ found. found.0 ≤ 64) }
-    ensures value { MatchResult result (λ found. setting word.now end (statements_in statements.now) ≡ Ok (found.0, statements_in found.1.now)) (λ e. IsFirstFault e (setting word.now end (statements_in statements.now))) }
+    ensures value { Reads (setting word.now end (statements_in statements.now)) (λ found. (found.0, statements_in found.1.now)) result }
 {
     let Some((said, later)) = statements.split_first() else {
         return Err(ScheduleFault::at(LineCode::H1, end));

@@ -1,0 +1,191 @@
+//! The workers of a script, each on a thread of its own.
+ghost use Rattle.std.specs.Prelude.{◌≡◌, All};
+ghost use Rattle.root_row.specs.Seats.{IsOf};
+ghost use Rattle.workload_drive.specs.declared.script.threads.WorkFault.TheVariants as work_faults;
+
+use super::listing::listing;
+use super::tasks::Script;
+use super::worker::{Worker, make};
+use dep_index::{Catalogue, Reply};
+use module_table::Manager;
+use proc_modules::push_number;
+use std::alloc::AllocError;
+use std::sync::Wait;
+use std::sync::atomic::{AtomicBool, AtomicUsize, Ordering};
+use std::thread;
+use std::thread::Threads;
+use thiserror::Error;
+use use_indicator::Reader;
+
+/// Who is asked before each line of a worker, and told after it. Lines are counted from 0, each worker's by itself.
+pub trait Gate {
+    /// Whether the worker may make this line. Where it may not, it makes no further one.
+    fn before(&self, worker: usize, line: usize) -> bool;
+
+    /// The worker has made this line, with this reply.
+    fn after(&self, worker: usize, line: usize, reply: Reply);
+}
+
+/// A gate that lets every line begin.
+#[derive(Drop)]
+pub struct OpenGate;
+
+impl Gate for OpenGate {
+    fn before(&self, _worker: usize, _line: usize) -> bool {
+        true
+    }
+
+    fn after(&self, _worker: usize, _line: usize, _reply: Reply) {}
+}
+
+/// Why a script was not run to its end.
+#[derive(Clone, Copy, Debug, PartialEq, Eq, Drop, Error)]
+pub enum WorkFault {
+    #[error("out of memory")]
+    Memory,
+    /// A thread could not be started.
+    #[error("spawn fault")]
+    Spawn,
+    /// The gate let a line not begin.
+    #[error("gate")]
+    Gate,
+}
+
+impl From<AllocError> for WorkFault {
+    ghost from_gives = { λ _ fault. fault ≡ work_faults.Memory };
+
+    fn from(_: AllocError) -> WorkFault {
+        WorkFault::Memory
+    }
+}
+
+/// What the workers have come to together.
+#[derive(Drop)]
+struct Course {
+    /// How many lines were made.
+    calls: AtomicUsize,
+    /// Whether the gate let a line not begin.
+    shut: AtomicBool,
+    /// Whether a thread could not be started.
+    missing: AtomicBool,
+}
+
+impl Course {
+    fn new() -> Course {
+        Course {
+            calls: AtomicUsize::new(0),
+            shut: AtomicBool::new(false),
+            missing: AtomicBool::new(false),
+        }
+    }
+
+    fn count(&self) {
+        self.calls.fetch_add(1, Ordering::SeqCst);
+    }
+
+    /// How many lines were made, where nothing stopped a worker.
+    fn calls(&self) -> Result<usize, WorkFault> {
+        if self.missing.load(Ordering::SeqCst) {
+            return Err(WorkFault::Spawn);
+        }
+        if self.shut.load(Ordering::SeqCst) {
+            return Err(WorkFault::Gate);
+        }
+        Ok(self.calls.load(Ordering::SeqCst))
+    }
+}
+
+/// Makes the lines of a worker, in order.
+fn work<R: Wait, G: Gate>(
+    rt: &R,
+    mut worker: Worker<'_>,
+    script: &Script,
+    gate: &G,
+    course: &Course,
+) {
+    let number = worker.number();
+    for (line, task) in script.tasks(number).iter().enumerate() {
+        if !gate.before(number, line) {
+            course.shut.store(true, Ordering::SeqCst);
+            return;
+        }
+        if let Some(reply) = worker.perform(rt, *task) {
+            course.count();
+            gate.after(number, line, reply);
+        }
+    }
+}
+
+/// Starts the workers, and waits until all have ended.
+fn work_all<R: Threads + Wait + Sync, G: Gate + Sync>(
+    rt: &R,
+    workers: Vec<Worker<'_>>,
+    script: &Script,
+    gate: &G,
+    course: &Course,
+) {
+    thread::scope(thread::scope_env(), rt, move |scope| {
+        for worker in workers {
+            if scope
+                .spawn(move || work(rt, worker, script, gate, course))
+                .is_err()
+            {
+                course.missing.store(true, Ordering::SeqCst);
+            }
+        }
+    });
+}
+
+/// A worker for each reader.
+fn workers_of<'a, R: AllocGlobal>(
+    rt: &R,
+    manager: &'a Manager,
+    readers: Vec<Reader>,
+) -> Result<Vec<Worker<'a>>, AllocError>
+    requires { All (IsOf manager.now) readers.items }
+{
+    let mut workers = Vec::new(rt.alloc());
+    for reader in readers {
+        let number = workers.len();
+        workers.push(Worker::new(manager, reader, number))?;
+    }
+    Ok(workers)
+}
+
+/// Makes the changes of a script that come before its workers.
+fn open<R: Wait>(rt: &R, manager: &Manager, script: &Script, course: &Course) {
+    for opening in script.opening() {
+        if make(rt, manager, opening.change, opening.slot).is_some() {
+            course.count();
+        }
+    }
+}
+
+/// Runs a script on a manager: first the changes that come before the workers, then each worker's lines in order, on a
+/// thread of its own, with the gate before and after each. The answer, once all have ended, is the lines of /proc/modules
+/// with the counts of all workers, and a line `calls N` with the number of lines that were made. `Gate`: the gate let a
+/// line not begin, and its worker ended there. `Spawn`: a thread could not be started. `Memory`: there was none.
+///
+/// The manager is to be over the script's catalogue, which is handed in beside it, with the script's workers; its readers
+/// are to stand in order.
+pub fn run_threads<R: AllocGlobal + Threads + Wait + Sync, G: Gate + Sync>(
+    rt: &R,
+    catalogue: &Catalogue,
+    manager: &Manager,
+    readers: Vec<Reader>,
+    script: &Script,
+    gate: &G,
+) -> Result<Vec<u8>, WorkFault>
+    requires { All (IsOf manager.now) readers.items }
+{
+    let course = Course::new();
+    let workers = workers_of(rt, manager, readers)?;
+    open(rt, manager, script, &course);
+    work_all(rt, workers, script, gate, &course);
+    let calls = course.calls()?;
+    let mut text = listing(rt, catalogue, manager)?;
+    text.extend_from_slice(b"calls ")?;
+    push_number(&mut text, calls)?;
+    text.extend_from_slice(b"\n")?;
+    Ok(text)
+}

@@ -1,0 +1,147 @@
+//! A worker of a script, and what it does to a module.
+
+use super::tasks::{Change, Deed, Task};
+use dep_index::{
+    BeginDrainError, BeginLoadError, BeginRemoveError, EndLoadError, EndRemoveError, GetError,
+    PutError, Reply,
+};
+use module_table::Manager;
+use std::marker::Model;
+use std::sync::Wait;
+use use_indicator::Reader;
+
+/// A worker by its number, with what it works on. Contracts see its reader, which is of the manager's row.
+#[derive(Drop)]
+pub(super) struct Worker<'a> {
+    manager: &'a Manager,
+    reader: Reader,
+    number: usize,
+}
+
+impl<'a> Model for Worker<'a> {
+    ghost use Rattle.root_row.specs.Seats.{Seated, IsOf};
+
+    ghost Value = { Seated };
+
+    ghost view = { λ worker. worker.reader };
+
+    ghost invariant = { λ worker. IsOf worker.manager.now worker.reader };
+}
+
+fn load<R: Wait>(rt: &R, manager: &Manager, slot: usize) -> Option<Reply> {
+    let reply = match manager.begin_load(rt, slot)? {
+        Ok(()) => match manager.end_load(rt, slot, true)? {
+            Ok(()) => Reply::Done,
+            Err(EndLoadError::NotLoading) => Reply::NotLoading,
+        },
+        Err(BeginLoadError::Exists) => Reply::Exists,
+        Err(BeginLoadError::UnknownSymbol) => Reply::UnknownSymbol,
+        Err(BeginLoadError::NeedNotLive(need)) => Reply::NeedNotLive(need),
+    };
+    Some(reply)
+}
+
+fn finish<R: Wait>(rt: &R, manager: &Manager, slot: usize) -> Option<Reply> {
+    let reply = match manager.end_remove(rt, slot)? {
+        Ok(()) => Reply::Done,
+        Err(EndRemoveError::NotUnloading) => Reply::NotUnloading,
+        Err(EndRemoveError::InUse) => Reply::InUse,
+    };
+    Some(reply)
+}
+
+fn remove<R: Wait>(rt: &R, manager: &Manager, slot: usize) -> Option<Reply> {
+    let reply = match manager.begin_remove(rt, slot)? {
+        Ok(()) => return finish(rt, manager, slot),
+        Err(BeginRemoveError::NoEntry) => Reply::NoEntry,
+        Err(BeginRemoveError::NeededBy) => Reply::NeededBy,
+        Err(BeginRemoveError::NotLive) => Reply::NotLive,
+        Err(BeginRemoveError::Permanent) => Reply::Permanent,
+        Err(BeginRemoveError::InUse) => Reply::InUse,
+    };
+    Some(reply)
+}
+
+fn drain<R: Wait>(rt: &R, manager: &Manager, slot: usize) -> Option<Reply> {
+    let reply = match manager.begin_drain(rt, slot)? {
+        Ok(()) => Reply::Done,
+        Err(BeginDrainError::NoEntry) => Reply::NoEntry,
+        Err(BeginDrainError::NeededBy) => Reply::NeededBy,
+        Err(BeginDrainError::NotLive) => Reply::NotLive,
+        Err(BeginDrainError::Permanent) => Reply::Permanent,
+    };
+    Some(reply)
+}
+
+/// Makes a change, and answers the reply of the first of its calls that was refused, or else Done. It is None where the
+/// slot is out of range.
+pub(super) fn make<R: Wait>(
+    rt: &R,
+    manager: &Manager,
+    change: Change,
+    slot: usize,
+) -> Option<Reply> {
+    match change {
+        Change::Load => load(rt, manager, slot),
+        Change::Remove => remove(rt, manager, slot),
+        Change::Drain => drain(rt, manager, slot),
+        Change::Finish => finish(rt, manager, slot),
+    }
+}
+
+impl<'a> Worker<'a> {
+    ghost use Rattle.root_row.specs.Seats.{IsOf};
+
+    pub(super) fn new(manager: &'a Manager, reader: Reader, number: usize) -> Worker<'a>
+        requires { IsOf manager.now reader }
+    {
+        Worker {
+            manager,
+            reader,
+            number,
+        }
+    }
+
+    pub(super) fn number(&self) -> usize {
+        self.number
+    }
+
+    fn get<R: Wait>(&self, rt: &R, slot: usize) -> Option<Reply> {
+        let reply = match self.manager.get(rt, self.number, slot)? {
+            Ok(()) => Reply::Done,
+            Err(GetError::NotLive) => Reply::NotLive,
+            Err(GetError::TooMany) => Reply::TooMany,
+        };
+        Some(reply)
+    }
+
+    fn put<R: Wait>(&self, rt: &R, slot: usize) -> Option<Reply> {
+        let reply = match self.manager.put(rt, self.number, slot)? {
+            Ok(()) => Reply::Done,
+            Err(PutError::NotHeld) => Reply::NotHeld,
+        };
+        Some(reply)
+    }
+
+    fn query(&mut self, slot: usize) -> Option<Reply> {
+        if slot >= self.manager.slots() {
+            return None;
+        }
+        if self.manager.query(&mut self.reader, slot) {
+            Some(Reply::Yes)
+        } else {
+            Some(Reply::No)
+        }
+    }
+
+    /// Does a task, and answers its reply. It is None where the worker or the slot is out of range.
+    pub(super) fn perform<R: Wait>(&mut self, rt: &R, task: Task) -> Option<Reply> {
+        let slot = task.slot;
+        match task.deed {
+            Deed::Get => self.get(rt, slot),
+            Deed::Put => self.put(rt, slot),
+            Deed::Query => self.query(slot),
+            Deed::Change(change) => make(rt, self.manager, change, slot),
+        }
+    }
+}
