@@ -2,7 +2,7 @@
 use Rattle.std.specs.Prelude.{ℕ, ◌+◌, List, [], ◌∷◌, ◌++◌, slice_index_or, slice_set, Option, Some, None, is_some, if◌then◌else◌}
 use Rattle.std.specs.Option.{option_map}
 use Rattle.step_core.specs.declared.steps.Step.TheVariants as step
-use Rattle.linear_points.specs.declared.taken.Point.{Point}
+use Rattle.linear_points.specs.declared.point.Point.{Point}
 use Rattle.linear_points.specs.declared.intervals.Interval.{Interval}
 use Rattle.linear_points.specs.declared.intervals.End.{End}
 use Rattle.workload_drive.specs.declared.schedule.order.Order.{Order}
