@@ -5,8 +5,10 @@ mod book;
 mod manager;
 mod own_book;
 mod own_leaf;
+mod own_reader;
 
 pub use book::Book;
 pub use manager::Manager;
 pub use own_book::OwnBook;
 pub use own_leaf::OwnLeaf;
+pub use own_reader::OwnReader;

@@ -62,6 +62,18 @@ impl OwnLeaf {
         Some(self.leaf.get(rt, &self.row, slot))
     }
 
+    /// As `get`, but it tries at most this many times. The inner None: each try was missed, and nothing is changed.
+    pub fn try_get(&mut self, slot: usize, tries: u32) -> Option<Option<Result<(), GetError>>>
+        ensures range { MatchOption result ((slots self.old.view.world ≤ slot) × (self.new ≡ self.old)) (λ _. slot < slots self.old.view.world) }
+        ensures call { MatchOption result (self.new ≡ self.old) (λ o. MatchOption o (self.new ≡ self.old) (λ r. LeafAnswered self.old.view slot LeafCall.Get (reply_of get_refusal r) self.new.view)) }
+        ensures row { self.new.row ≡ self.old.row }
+    {
+        if slot >= self.row.slots() {
+            return None;
+        }
+        Some(self.leaf.try_get(&self.row, slot, tries))
+    }
+
     /// Gives one reference back.
     pub fn put(&mut self, slot: usize) -> Option<Result<(), PutError>>
         ensures range { MatchOption result ((slots self.old.view.world ≤ slot) × (self.new ≡ self.old)) (λ _. slot < slots self.old.view.world) }
