@@ -1,0 +1,10 @@
+use Rattle.std.proofs.Common.{◌≡◌, ◌+◌, ◌++◌, true, map, length, take}
+use Rattle.std.specs.List.{All}
+use Rattle.gourzhiel.proofs.table_calls.fill_readers.Given as goal
+
+abbrev pub invariant-loop-reader : goal.invariant-loop-reader
+invariant-loop-reader l = record {
+  left : l.place + length l.reader-iterator.rest.items ≡ length l.handles;
+  full : All (λ h. h.full ≡ true) (take l.place l.handles);
+  held : map (λ h. h.held) (take l.place l.handles) ++ map (λ b. b.value) l.reader-iterator.rest.items ≡ map (λ b. b.value) l.fn.readers.items;
+}

@@ -1,0 +1,105 @@
+//! Makes a table, and fills empty handles with it.
+ghost use Rattle.std.specs.Prelude.{◌≡◌, true, false, map, length, All};
+ghost use Rattle.dep_index.specs.Catalogue.{modules_of};
+ghost use Rattle.gourzhiel.specs.Making.{AreFull, HandlesMade};
+
+use crate::book::GzBook;
+use crate::catalogue::GzCatalogue;
+use crate::leaf::GzLeaf;
+use crate::making::{Made, make};
+use crate::numbers::{DONE, OUT_OF_MEMORY, TOO_MANY_LEAVES};
+use crate::reader::GzReader;
+use dep_index::Catalogue;
+use dep_index::words::CLOSED;
+use module_table::{OwnLeaf, OwnReader};
+use std::alloc::Global;
+
+fn fill_leaves(handles: &mut [GzLeaf], leaves: Vec<Box<OwnLeaf>>)
+    requires { length handles.old ≡ length leaves.items }
+    ensures full { All (λ h. h.full ≡ true) handles.new }
+    ensures held { map (λ h. h.held) handles.new ≡ map (λ b. b.value) leaves.items }
+{
+    let mut place = 0;
+    for leaf in leaves {
+        handles[place] = GzLeaf::new(leaf);
+        place += 1;
+    }
+}
+
+fn fill_readers(handles: &mut [GzReader], readers: Vec<Box<OwnReader>>)
+    requires { length handles.old ≡ length readers.items }
+    ensures full { All (λ h. h.full ≡ true) handles.new }
+    ensures held { map (λ h. h.held) handles.new ≡ map (λ b. b.value) readers.items }
+{
+    let mut place = 0;
+    for reader in readers {
+        handles[place] = GzReader::new(reader);
+        place += 1;
+    }
+}
+
+fn made(
+    alloc: Global,
+    catalogue: &Catalogue,
+    book: &mut GzBook,
+    leaves: &mut [GzLeaf],
+    readers: &mut [GzReader],
+) -> u32
+    ensures { HandlesMade (modules_of catalogue.now) result book.old book.new leaves.old leaves.new readers.old readers.new }
+{
+    if leaves.len() >= CLOSED as usize {
+        return TOO_MANY_LEAVES;
+    }
+    match make(alloc, catalogue, leaves.len(), readers.len()) {
+        Err(_) => OUT_OF_MEMORY,
+        Ok(made) => {
+            fill(made, book, leaves, readers);
+            DONE
+        }
+    }
+}
+
+fn fill(made: Made, book: &mut GzBook, leaves: &mut [GzLeaf], readers: &mut [GzReader])
+    requires leaves { length leaves.old ≡ length made.leaves.items }
+    requires readers { length readers.old ≡ length made.readers.items }
+    ensures full { AreFull book.new leaves.new readers.new }
+    ensures book { book.new.held ≡ made.book.value }
+    ensures leaves { map (λ h. h.held) leaves.new ≡ map (λ b. b.value) made.leaves.items }
+    ensures readers { map (λ h. h.held) readers.new ≡ map (λ b. b.value) made.readers.items }
+{
+    let Made {
+        book: owner,
+        leaves: leaf_boxes,
+        readers: reader_boxes,
+    } = made;
+    *book = GzBook::new(owner);
+    fill_leaves(leaves, leaf_boxes);
+    fill_readers(readers, reader_boxes);
+}
+
+/// A new table over a catalogue: its book, so many leaves and so many readers. All modules are absent.
+/// It fills empty handles; the leaf at place k is the worker of the number k.
+///
+/// OUT_OF_MEMORY: nothing is kept. TOO_MANY_LEAVES: 2^32 or more. No handle is then touched.
+#[unsafe(no_mangle)]
+pub extern "C" fn gz_table_new(
+    alloc: Global,
+    catalogue: GzCatalogue,
+    back: &mut GzCatalogue,
+    book: &mut GzBook,
+    leaves: &mut [GzLeaf],
+    readers: &mut [GzReader],
+) -> u32
+    requires full { catalogue.full ≡ true }
+    requires empty { back.old.full ≡ false }
+    requires no_book { book.old.full ≡ false }
+    requires no_leaves { All (λ h. h.full ≡ false) leaves.old }
+    requires no_readers { All (λ h. h.full ≡ false) readers.old }
+    ensures kept { (back.new.full ≡ true) × (back.new.held ≡ catalogue.held) }
+    ensures made { HandlesMade (modules_of catalogue.held) result book.old book.new leaves.old leaves.new readers.old readers.new }
+{
+    let catalogue = catalogue.into_box();
+    let number = made(alloc, &catalogue, book, leaves, readers);
+    *back = GzCatalogue::new(catalogue);
+    number
+}
