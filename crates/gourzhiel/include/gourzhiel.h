@@ -1,0 +1,315 @@
+/* gourzhiel.h: the table of loadable modules, for programs in C and C++.
+ *
+ * A table counts who uses which module while others load, drain and remove modules beside them. Each user has a leaf,
+ * which counts its own references; one atomic word a module counts the leaves that hold it. Nothing here takes a lock.
+ *
+ *     gz_catalogue catalogue = GZ_EMPTY;   what modules there may be, read from a text
+ *     gz_book book = GZ_EMPTY;             loads, drains and removes: one to a table
+ *     gz_leaf leaves[4] = { GZ_EMPTY };    take and give references: one to a thread
+ *     gz_reader reader = GZ_EMPTY;         asks whether a module is held
+ *
+ * What a caller owes. The library is proved against its contracts; nobody proves a caller. Otherwise the behaviour is
+ * undefined:
+ *   - A handle begins as GZ_EMPTY, and gz_read or gz_new fills it. Every other call wants full handles, and fills no
+ *     full one. The gz_free_ calls also take an empty one.
+ *   - A handle is in one call at a time. Handles of one table may be in calls of several threads at once.
+ *   - A handle is moved, not copied: after `b = a` only b is used. After gz_free_ it is empty.
+ *   - A hand-over of a handle to another thread is ordered by a lock, a thread's start or join, or a seq_cst atomic.
+ *   - Lengths are true, and what a pointer points to is not changed by others during the call.
+ *   - No call from a signal handler, and none in the forked child of a process with threads.
+ *   - malloc, realloc and free are of one allocator, whose blocks are aligned as C's are.
+ * Each comment names the numbers that a call may answer beside GZ_DONE. A refusal changes nothing.
+ * GZ_OUT_OF_RANGE: the slot is none of the table.
+ */
+#ifndef GOURZHIEL_H
+#define GOURZHIEL_H
+
+#include <stdbool.h>
+#include <stddef.h>
+#include <stdint.h>
+#include <string.h>
+
+#ifdef __cplusplus
+extern "C" {
+#endif
+
+typedef enum gz_number {
+    GZ_DONE = 0,            /* the call is made */
+    GZ_NOT_LIVE = 1,        /* the module is not live */
+    GZ_TOO_MANY = 2,        /* the leaf holds the module 65,535 times */
+    GZ_NOT_HELD = 3,        /* the leaf holds no reference to the module */
+    GZ_EXISTS = 4,          /* the module is not absent */
+    GZ_UNKNOWN_SYMBOL = 5,  /* the module needs a symbol that no module exports */
+    GZ_NEED_NOT_LIVE = 6,   /* a module that the module needs is not live */
+    GZ_NOT_LOADING = 7,     /* the module's load has not begun */
+    GZ_NO_ENTRY = 8,        /* the module is absent */
+    GZ_NEEDED_BY = 9,       /* a loaded module needs the module */
+    GZ_PERMANENT = 10,      /* the module stays once it is loaded */
+    GZ_IN_USE = 11,         /* some leaf holds the module */
+    GZ_NOT_UNLOADING = 12,  /* neither a drain nor a removal of the module has begun */
+    GZ_YES = 13,            /* some leaf holds the module */
+    GZ_NO = 14,             /* no leaf holds the module */
+    GZ_ABSENT = 16,         /* states: not in the table */
+    GZ_LOADING = 17,        /* its load has begun */
+    GZ_LIVE = 18,           /* references are given */
+    GZ_DRAINING = 19,       /* references are put back, and given no more */
+    GZ_UNLOADING = 20,      /* its removal has begun, and nobody holds it */
+    GZ_BAD_LINE = 24,       /* the line is none of a catalogue, or stands where it may not */
+    GZ_DUPLICATE = 25,      /* a module of the name stands already */
+    GZ_TWICE_EXPORTED = 26, /* the symbol is exported already */
+    GZ_TOO_MANY_MODULES = 27, /* more than 256 modules, or 1,024 in version 2 */
+    GZ_OUT_OF_MEMORY = 28,  /* malloc answered NULL, and nothing is kept */
+    GZ_BUSY = 32,           /* each try was missed, since other leaves took or gave the module between */
+    GZ_OUT_OF_RANGE = 33,   /* the slot or the place is none of the table */
+    GZ_UNKNOWN_NAME = 34,   /* no module has the name */
+    GZ_TOO_SHORT = 35,      /* the buffer is shorter than the name */
+    GZ_TOO_MANY_LEAVES = 36 /* a table has fewer than 2^32 leaves */
+} gz_number;
+
+/* Handles. Only the library reads what `at` points to. */
+typedef struct gz_catalogue { void *at; } gz_catalogue;
+typedef struct gz_book { void *at; } gz_book;
+typedef struct gz_leaf { void *at; } gz_leaf;
+typedef struct gz_reader { void *at; } gz_reader;
+
+#define GZ_EMPTY { NULL }
+
+/* The longest name, and the room that gz_name wants for any: with its 0. */
+#define GZ_NAME_LENGTH 55
+#define GZ_NAME_ROOM 56
+
+/* The library's own calls. Each takes its handle by value and writes it back: `back` is empty, or the same handle. The
+ * inline functions below do that, and are what programs in C and C++ call. Slices are a pointer that is not NULL and a
+ * length; other pointers are not NULL. */
+uint32_t gz_catalogue_read(const uint8_t *text, size_t length, gz_catalogue *back, size_t *line);
+size_t gz_catalogue_len(gz_catalogue spent, gz_catalogue *back);
+uint32_t gz_catalogue_slot(gz_catalogue spent, gz_catalogue *back, const uint8_t *name, size_t length, size_t *slot);
+uint32_t gz_catalogue_name(gz_catalogue spent, gz_catalogue *back, size_t slot, uint8_t *buffer, size_t room, size_t *length);
+void gz_catalogue_free(gz_catalogue spent);
+uint32_t gz_table_new(gz_catalogue spent, gz_catalogue *back, gz_book *book, gz_leaf *leaves, size_t leaf_count,
+                      gz_reader *readers, size_t reader_count);
+uint32_t gz_leaf_get(gz_leaf spent, gz_leaf *back, size_t slot, uint32_t tries);
+uint32_t gz_leaf_put(gz_leaf spent, gz_leaf *back, size_t slot);
+uint32_t gz_leaf_held(gz_leaf spent, gz_leaf *back, size_t slot, uint32_t *count);
+void gz_leaf_free(gz_leaf spent);
+uint32_t gz_reader_in_use(gz_reader spent, gz_reader *back, size_t slot);
+void gz_reader_free(gz_reader spent);
+uint32_t gz_book_begin_load(gz_book spent, gz_book *back, size_t slot, size_t *need);
+uint32_t gz_book_end_load(gz_book spent, gz_book *back, size_t slot, bool ok);
+uint32_t gz_book_begin_drain(gz_book spent, gz_book *back, size_t slot);
+uint32_t gz_book_begin_remove(gz_book spent, gz_book *back, size_t slot);
+uint32_t gz_book_end_remove(gz_book spent, gz_book *back, size_t slot);
+uint32_t gz_book_state(gz_book spent, gz_book *back, size_t slot);
+size_t gz_book_loaded(gz_book spent, gz_book *back);
+uint32_t gz_book_loaded_at(gz_book spent, gz_book *back, size_t place, size_t *slot);
+void gz_book_free(gz_book spent);
+
+/* ---- Catalogues ---- */
+
+/* Reads a catalogue from `length` bytes of text into an empty handle. Line by line: `module NAME`, `exports SYMBOL..`,
+ * `needs SYMBOL..`, `size N`, `param NAME int|bool|charp`, `permanent`; a line that begins with # says nothing.
+ * GZ_BAD_LINE, GZ_DUPLICATE, GZ_TWICE_EXPORTED, GZ_TOO_MANY_MODULES: the first fault, its line in *line, from 1.
+ * GZ_OUT_OF_MEMORY. The handle is full only after GZ_DONE. */
+static inline gz_number gz_read(gz_catalogue *catalogue, const char *text, size_t length, size_t *line)
+{
+    return (gz_number)gz_catalogue_read((const uint8_t *)(length ? text : ""), length, catalogue, line);
+}
+
+/* How many modules the catalogue has. Their slots are 0 and up, in the order of the text. */
+static inline size_t gz_slots(gz_catalogue *catalogue) { return gz_catalogue_len(*catalogue, catalogue); }
+
+/* The slot of a name that ends with 0, in *slot. Names are kept with _ for each -, and compared as they stand.
+ * GZ_UNKNOWN_NAME: *slot is left as it is. */
+static inline gz_number gz_slot(gz_catalogue *catalogue, const char *name, size_t *slot)
+{
+    return (gz_number)gz_catalogue_slot(*catalogue, catalogue, (const uint8_t *)name, strlen(name), slot);
+}
+
+/* The name of the module in a slot, ended with 0, in a buffer of `room` bytes, which is at least 1.
+ * GZ_OUT_OF_RANGE. GZ_TOO_SHORT: GZ_NAME_ROOM bytes are always enough. The buffer is left as it is then. */
+static inline gz_number gz_name(gz_catalogue *catalogue, size_t slot, char *buffer, size_t room)
+{
+    size_t length = 0;
+    gz_number number = (gz_number)gz_catalogue_name(*catalogue, catalogue, slot, (uint8_t *)buffer, room - 1, &length);
+    if (number == GZ_DONE)
+        buffer[length] = 0;
+    return number;
+}
+
+/* Frees the catalogue, and empties the handle. Tables over it go on. */
+static inline void gz_free_catalogue(gz_catalogue *catalogue)
+{
+    if (catalogue->at)
+        gz_catalogue_free(*catalogue);
+    catalogue->at = NULL;
+}
+
+/* ---- Tables ---- */
+
+/* A new table over a catalogue, in empty handles: its book, `leaf_count` leaves and `reader_count` readers. All modules
+ * are absent. The catalogue may be freed, or serve for further tables.
+ * GZ_OUT_OF_MEMORY, GZ_TOO_MANY_LEAVES: no handle is filled. */
+static inline gz_number gz_new(gz_catalogue *catalogue, gz_book *book, gz_leaf *leaves, size_t leaf_count, gz_reader *readers,
+                               size_t reader_count)
+{
+    gz_leaf no_leaf = GZ_EMPTY;
+    gz_reader no_reader = GZ_EMPTY;
+    return (gz_number)gz_table_new(*catalogue, catalogue, book, leaf_count ? leaves : &no_leaf, leaf_count,
+                                   reader_count ? readers : &no_reader, reader_count);
+}
+
+/* ---- Leaves ---- */
+
+/* Takes one reference to the module, in at most `tries` tries. A leaf that holds the module already needs none.
+ * GZ_NOT_LIVE, GZ_TOO_MANY, GZ_OUT_OF_RANGE. GZ_BUSY: no promise is made that a later call succeeds. */
+static inline gz_number gz_try_get(gz_leaf *leaf, size_t slot, uint32_t tries)
+{
+    return (gz_number)gz_leaf_get(*leaf, leaf, slot, tries);
+}
+
+/* Takes one reference to the module, and tries as long as others are in its way.
+ * GZ_NOT_LIVE, GZ_TOO_MANY, GZ_OUT_OF_RANGE. */
+static inline gz_number gz_get(gz_leaf *leaf, size_t slot)
+{
+    gz_number number;
+    do
+        number = gz_try_get(leaf, slot, 64);
+    while (number == GZ_BUSY);
+    return number;
+}
+
+/* Gives one reference to the module back. GZ_NOT_HELD, GZ_OUT_OF_RANGE. */
+static inline gz_number gz_put(gz_leaf *leaf, size_t slot) { return (gz_number)gz_leaf_put(*leaf, leaf, slot); }
+
+/* How often the leaf holds the module, in *count. GZ_OUT_OF_RANGE: *count is left as it is. */
+static inline gz_number gz_held(gz_leaf *leaf, size_t slot, uint32_t *count)
+{
+    return (gz_number)gz_leaf_held(*leaf, leaf, slot, count);
+}
+
+/* Frees the leaf, and empties the handle. Give its references back before: what it still holds stays in use. */
+static inline void gz_free_leaf(gz_leaf *leaf)
+{
+    if (leaf->at)
+        gz_leaf_free(*leaf);
+    leaf->at = NULL;
+}
+
+/* ---- Readers ---- */
+
+/* Whether any leaf holds the module: GZ_YES or GZ_NO. GZ_OUT_OF_RANGE. */
+static inline gz_number gz_in_use(gz_reader *reader, size_t slot)
+{
+    return (gz_number)gz_reader_in_use(*reader, reader, slot);
+}
+
+/* Frees the reader, and empties the handle. */
+static inline void gz_free_reader(gz_reader *reader)
+{
+    if (reader->at)
+        gz_reader_free(*reader);
+    reader->at = NULL;
+}
+
+/* ---- The book ---- */
+
+/* Begins a load: the module is then loading, and the newest. GZ_EXISTS, GZ_UNKNOWN_SYMBOL, GZ_OUT_OF_RANGE.
+ * GZ_NEED_NOT_LIVE: the slot of a module that it needs is in *need, which is else left as it is. */
+static inline gz_number gz_begin_load(gz_book *book, size_t slot, size_t *need)
+{
+    return (gz_number)gz_book_begin_load(*book, book, slot, need);
+}
+
+/* Ends a load: the module is then live where it went well (ok), else absent. GZ_NOT_LOADING, GZ_OUT_OF_RANGE. */
+static inline gz_number gz_end_load(gz_book *book, size_t slot, bool ok)
+{
+    return (gz_number)gz_book_end_load(*book, book, slot, ok);
+}
+
+/* Begins a drain: gets are refused from then on, and references stay until they are given back.
+ * GZ_NO_ENTRY, GZ_NEEDED_BY, GZ_NOT_LIVE, GZ_PERMANENT, GZ_OUT_OF_RANGE. */
+static inline gz_number gz_begin_drain(gz_book *book, size_t slot)
+{
+    return (gz_number)gz_book_begin_drain(*book, book, slot);
+}
+
+/* Begins a removal of a module that nobody holds: gets are refused from then on, so what the module has may be freed.
+ * GZ_NO_ENTRY, GZ_NEEDED_BY, GZ_NOT_LIVE, GZ_PERMANENT, GZ_IN_USE, GZ_OUT_OF_RANGE. */
+static inline gz_number gz_begin_remove(gz_book *book, size_t slot)
+{
+    return (gz_number)gz_book_begin_remove(*book, book, slot);
+}
+
+/* Ends a removal, or a drain once nobody holds the module: it is then absent, and may be loaded again.
+ * GZ_NOT_UNLOADING, GZ_IN_USE, GZ_OUT_OF_RANGE. */
+static inline gz_number gz_end_remove(gz_book *book, size_t slot)
+{
+    return (gz_number)gz_book_end_remove(*book, book, slot);
+}
+
+/* The state of the module: GZ_ABSENT, GZ_LOADING, GZ_LIVE, GZ_DRAINING or GZ_UNLOADING. GZ_OUT_OF_RANGE. */
+static inline gz_number gz_state(gz_book *book, size_t slot) { return (gz_number)gz_book_state(*book, book, slot); }
+
+/* How many modules are not absent. */
+static inline size_t gz_loaded(gz_book *book) { return gz_book_loaded(*book, book); }
+
+/* The slot of the loaded module at a place, the oldest first, in *slot.
+ * GZ_OUT_OF_RANGE: fewer are loaded, and *slot is left as it is. */
+static inline gz_number gz_loaded_at(gz_book *book, size_t place, size_t *slot)
+{
+    return (gz_number)gz_book_loaded_at(*book, book, place, slot);
+}
+
+/* Frees the book, and empties the handle. Leaves and readers go on; no module is loaded or removed any more. */
+static inline void gz_free_book(gz_book *book)
+{
+    if (book->at)
+        gz_book_free(*book);
+    book->at = NULL;
+}
+
+/* ---- Numbers ---- */
+
+/* What a number says, for people. It is never NULL, and is not to be freed. */
+static inline const char *gz_strerror(gz_number number)
+{
+    switch (number) {
+    case GZ_DONE: return "done";
+    case GZ_NOT_LIVE: return "the module is not live";
+    case GZ_TOO_MANY: return "too many references";
+    case GZ_NOT_HELD: return "no reference is held";
+    case GZ_EXISTS: return "the module is not absent";
+    case GZ_UNKNOWN_SYMBOL: return "no module exports a needed symbol";
+    case GZ_NEED_NOT_LIVE: return "a needed module is not live";
+    case GZ_NOT_LOADING: return "no load has begun";
+    case GZ_NO_ENTRY: return "the module is absent";
+    case GZ_NEEDED_BY: return "a loaded module needs the module";
+    case GZ_PERMANENT: return "the module is permanent";
+    case GZ_IN_USE: return "the module is in use";
+    case GZ_NOT_UNLOADING: return "no drain or removal has begun";
+    case GZ_YES: return "yes";
+    case GZ_NO: return "no";
+    case GZ_ABSENT: return "absent";
+    case GZ_LOADING: return "loading";
+    case GZ_LIVE: return "live";
+    case GZ_DRAINING: return "draining";
+    case GZ_UNLOADING: return "unloading";
+    case GZ_BAD_LINE: return "bad line";
+    case GZ_DUPLICATE: return "duplicate module";
+    case GZ_TWICE_EXPORTED: return "symbol exported twice";
+    case GZ_TOO_MANY_MODULES: return "too many modules";
+    case GZ_OUT_OF_MEMORY: return "out of memory";
+    case GZ_BUSY: return "busy";
+    case GZ_OUT_OF_RANGE: return "out of range";
+    case GZ_UNKNOWN_NAME: return "unknown name";
+    case GZ_TOO_SHORT: return "the buffer is too short";
+    case GZ_TOO_MANY_LEAVES: return "too many leaves";
+    }
+    return "unknown number";
+}
+
+#ifdef __cplusplus
+}
+#endif
+
+#endif
