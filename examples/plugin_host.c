@@ -1,0 +1,160 @@
+/* A plugin host: workers call plugins while the host loads, drains and removes them.
+ *
+ * A plugin is memory that its load makes and its removal frees. A worker may touch it only between a get and a put.
+ * codec needs stream, so stream does not go while codec is loaded.
+ *
+ *     cc -O2 plugin_host.c $(pkg-config --cflags --libs gourzhiel) -pthread
+ */
+#include <gourzhiel.h>
+#include <pthread.h>
+#include <stdatomic.h>
+#include <stdio.h>
+#include <stdlib.h>
+#include <time.h>
+
+enum { WORKERS = 3, ROUNDS = 200 };
+
+static const char text[] =
+    "module stream\n"
+    "exports stream_open\n"
+    "module codec\n"
+    "exports codec_run\n"
+    "needs stream_open\n";
+
+/* What a plugin has while it is loaded. */
+struct plugin {
+    const char *name;
+    unsigned long (*run)(struct plugin *, unsigned long);
+    unsigned long salt;
+};
+
+static _Atomic(struct plugin *) plugins[2];
+static atomic_bool is_over;
+
+static unsigned long add(struct plugin *self, unsigned long x) { return x + self->salt; }
+static unsigned long mix(struct plugin *self, unsigned long x) { return x * 31 + self->salt; }
+
+/* ---- Workers ---- */
+
+struct worker {
+    gz_leaf leaf;
+    unsigned long calls, refused, sum;
+};
+
+/* Calls the plugin, where it is live. */
+static void use(struct worker *worker, size_t slot)
+{
+    if (gz_get(&worker->leaf, slot) != GZ_DONE) {
+        worker->refused++;
+        return;
+    }
+    struct plugin *plugin = atomic_load(&plugins[slot]);
+    worker->sum += plugin->run(plugin, worker->calls++);
+    gz_put(&worker->leaf, slot);
+}
+
+static void *work(void *argument)
+{
+    struct worker *worker = argument;
+    for (size_t turn = 0; !atomic_load(&is_over); turn++)
+        use(worker, turn % 2);
+    return NULL;
+}
+
+/* ---- The host ---- */
+
+/* Loads a plugin: its memory is there before the first get succeeds. */
+static gz_number load(gz_book *book, size_t slot, const char *name)
+{
+    size_t need;
+    gz_number number = gz_begin_load(book, slot, &need);
+    if (number != GZ_DONE)
+        return number;
+    struct plugin *plugin = malloc(sizeof *plugin);
+    if (plugin) {
+        *plugin = (struct plugin){ name, slot ? mix : add, 7 };
+        atomic_store(&plugins[slot], plugin);
+    }
+    return gz_end_load(book, slot, plugin != NULL);
+}
+
+/* Removes a plugin, if nobody holds it at this moment. From then on no get succeeds, so its memory is freed. */
+static gz_number try_remove(gz_book *book, size_t slot)
+{
+    gz_number number = gz_begin_remove(book, slot);
+    if (number != GZ_DONE)
+        return number;
+    free(atomic_exchange(&plugins[slot], NULL));
+    return gz_end_remove(book, slot);
+}
+
+/* Lets no further call in, waits until the last is over, and removes the plugin. Nothing loads it before its memory is
+ * freed, since this thread alone has the book. */
+static gz_number drain(gz_book *book, size_t slot)
+{
+    gz_number number = gz_begin_drain(book, slot);
+    if (number != GZ_DONE)
+        return number;
+    while ((number = gz_end_remove(book, slot)) == GZ_IN_USE)
+        ;
+    free(atomic_exchange(&plugins[slot], NULL));
+    return number;
+}
+
+static int fails(const char *what, gz_number number)
+{
+    fprintf(stderr, "%s: %s\n", what, gz_strerror(number));
+    return 1;
+}
+
+/* One round: both plugins come, are used for a while, and go. */
+static int round_of(gz_book *book, unsigned long *in_use)
+{
+    struct timespec a_while = { 0, 100000 };
+    gz_number number;
+    if ((number = load(book, 0, "stream")) || (number = load(book, 1, "codec")))
+        return fails("load", number);
+    nanosleep(&a_while, NULL);
+    if ((number = gz_begin_remove(book, 0)) != GZ_NEEDED_BY)
+        return fails("removal of a plugin that is needed", number);
+    while ((number = try_remove(book, 1)) == GZ_IN_USE)
+        if (++*in_use % 8 == 0)
+            return drain(book, 1) || drain(book, 0);
+    return number ? fails("removal", number) : (int)drain(book, 0);
+}
+
+int main(void)
+{
+    gz_catalogue catalogue = GZ_EMPTY;
+    gz_book book = GZ_EMPTY;
+    gz_leaf leaves[WORKERS] = { GZ_EMPTY };
+    size_t line = 0;
+    gz_number number = gz_read(&catalogue, text, sizeof text - 1, &line);
+    if (number != GZ_DONE)
+        return fprintf(stderr, "line %zu: %s\n", line, gz_strerror(number)), 1;
+    if ((number = gz_new(&catalogue, &book, leaves, WORKERS, NULL, 0)))
+        return fails("no table", number);
+    struct worker workers[WORKERS];
+    pthread_t threads[WORKERS];
+    for (int i = 0; i < WORKERS; i++) {
+        workers[i] = (struct worker){ .leaf = leaves[i] };
+        if (pthread_create(&threads[i], NULL, work, &workers[i]))
+            return 1;
+    }
+    int wrong = 0;
+    unsigned long in_use = 0, calls = 0, refused = 0;
+    for (int i = 0; i < ROUNDS && !wrong; i++)
+        wrong = round_of(&book, &in_use);
+    atomic_store(&is_over, true);
+    for (int i = 0; i < WORKERS; i++) {
+        pthread_join(threads[i], NULL);
+        calls += workers[i].calls, refused += workers[i].refused;
+        gz_free_leaf(&workers[i].leaf);
+    }
+    printf("%d rounds, %lu calls, %lu refused, %lu removals found it in use, %zu plugins left\n", ROUNDS, calls, refused,
+           in_use, gz_loaded(&book));
+    wrong |= gz_loaded(&book) != 0 || calls == 0;
+    gz_free_book(&book);
+    gz_free_catalogue(&catalogue);
+    return wrong;
+}

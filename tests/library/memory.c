@@ -1,0 +1,128 @@
+/* Refuses each allocation in turn, once alone and once with all later ones. Where the answer is GZ_OUT_OF_MEMORY no
+ * handle is filled and nothing is left allocated; else the call did without, and all is as ever.
+ * To be linked with -Wl,--wrap=malloc,--wrap=realloc,--wrap=free. */
+#include <gourzhiel.h>
+#include <stdio.h>
+#include <stdlib.h>
+
+enum { LEAVES = 3, READERS = 2 };
+
+static const char text[] = "module snd\nexports snd_card_new\nmodule snd-pcm\nneeds snd_card_new\nparam debug bool\n";
+
+void *__real_malloc(size_t);
+void *__real_realloc(void *, size_t);
+void __real_free(void *);
+
+static long made, refused_from = -1, refused_to = -1, blocks;
+
+static bool is_refused(void)
+{
+    long number = made++;
+    return number >= refused_from && number < refused_to;
+}
+
+/* From now on the allocations of these numbers are refused. */
+static void refuse(long from, long to) { made = 0, refused_from = from, refused_to = to; }
+
+void *__wrap_malloc(size_t size)
+{
+    void *at = is_refused() ? NULL : __real_malloc(size);
+    blocks += at != NULL;
+    return at;
+}
+
+void *__wrap_realloc(void *old, size_t size)
+{
+    if (!old)
+        return __wrap_malloc(size);
+    return is_refused() ? NULL : __real_realloc(old, size);
+}
+
+void __wrap_free(void *at)
+{
+    blocks -= at != NULL;
+    __real_free(at);
+}
+
+static int fails(const char *what, long number)
+{
+    fprintf(stderr, "%s, allocation %ld\n", what, number);
+    return 1;
+}
+
+static gz_number read_text(gz_catalogue *catalogue)
+{
+    size_t line;
+    return gz_read(catalogue, text, sizeof text - 1, &line);
+}
+
+struct table {
+    gz_book book;
+    gz_leaf leaves[LEAVES];
+    gz_reader readers[READERS];
+};
+
+static gz_number make(gz_catalogue *catalogue, struct table *table)
+{
+    return gz_new(catalogue, &table->book, table->leaves, LEAVES, table->readers, READERS);
+}
+
+static void free_table(struct table *table)
+{
+    for (int i = 0; i < LEAVES; i++)
+        gz_free_leaf(&table->leaves[i]);
+    for (int i = 0; i < READERS; i++)
+        gz_free_reader(&table->readers[i]);
+    gz_free_book(&table->book);
+}
+
+/* Whether all handles of the table are full, or all are empty. */
+static bool is_filled(const struct table *table, bool wanted)
+{
+    bool is = (table->book.at != NULL) == wanted;
+    for (int i = 0; i < LEAVES; i++)
+        is = is && (table->leaves[i].at != NULL) == wanted;
+    for (int i = 0; i < READERS; i++)
+        is = is && (table->readers[i].at != NULL) == wanted;
+    return is;
+}
+
+/* Reads and makes with some allocations refused, and frees what was made. */
+static bool is_sound(long from, long to)
+{
+    gz_catalogue catalogue = GZ_EMPTY;
+    struct table table = { .book = GZ_EMPTY };
+    refuse(from, to);
+    gz_number number = read_text(&catalogue);
+    bool is = (number == GZ_DONE) == (catalogue.at != NULL) && (number == GZ_DONE || number == GZ_OUT_OF_MEMORY);
+    if (number == GZ_DONE) {
+        number = make(&catalogue, &table);
+        is = is && is_filled(&table, number == GZ_DONE) && (number == GZ_DONE || number == GZ_OUT_OF_MEMORY);
+    }
+    refuse(-1, -1);
+    free_table(&table);
+    gz_free_catalogue(&catalogue);
+    return is && blocks == 0 && (from >= 0 || number == GZ_DONE);
+}
+
+int main(void)
+{
+    if (!is_sound(-1, -1))
+        return fails("all allowed", 0);
+    gz_catalogue catalogue = GZ_EMPTY;
+    struct table table = { .book = GZ_EMPTY };
+    refuse(-1, -1);
+    if (read_text(&catalogue) || make(&catalogue, &table))
+        return fails("all allowed", 0);
+    long last = made;
+    free_table(&table);
+    gz_free_catalogue(&catalogue);
+    for (long number = 0; number < last; number++) {
+        if (!is_sound(number, number + 1))
+            return fails("one refused", number);
+        if (!is_sound(number, 1000))
+            return fails("it and all later ones refused", number);
+    }
+    printf("each of %ld allocations refused, nothing is left\n", last);
+    return 0;
+}
