@@ -5,7 +5,7 @@ from dataclasses import dataclass
 from pathlib import Path
 
 PARTS = ("src", "specs", "proofs")
-FUNCTION_HEAD = re.compile(r"( {4})?(?:pub(?:\([a-z]+\))? )?(?:const )?(?:unsafe )?fn (\w+)")
+FUNCTION_HEAD = re.compile(r'( {4})?(?:pub(?:\([a-z]+\))? )?(?:const )?(?:unsafe )?(?:extern "C" )?fn (\w+)')
 IMPL_HEAD = re.compile(r"impl(?:<.*?>)? (?:(?P<trait>.+) for )?(?P<type>\w+)")
 
 
