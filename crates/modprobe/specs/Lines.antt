@@ -1,7 +1,7 @@
 -- What the lines that are read leave.
-use Rattle.std.specs.Prelude.{◌≡◌, ℕ, ◌+◌, ◌*◌, ◌-◌, ◌<◌, ◌≤◌, Bool, true, false, ◌==◌, if◌then◌else◌, List, [], ◌∷◌, ◌++◌, All, length, slice_range, Option, Some, None, ⊤, Result, Ok, Err}
+use Rattle.std.specs.Prelude.{◌≡◌, ◌≢◌, ℕ, ◌+◌, ◌*◌, ◌<◌, ◌≤◌, ◌⊎◌, Bool, true, false, ◌==◌, if◌then◌else◌, List, [], ◌∷◌, ◌++◌, All, length, IfErr, OnOk, Option, Some, None, ⊤, Result, Ok, Err}
 use Rattle.std.specs.Option.{option_map}
-use Rattle.std.specs.Io.KnownBytes.{Consumes}
+use Rattle.std.specs.Io.KnownBytes.{Consumes, Keeps, IsAtEnd}
 use Rattle.std.specs.Str.Lines.{lines}
 use Rattle.dep_index.specs.Text.{Line, cut_lines}
 use Rattle.modprobe.specs.declared.lines.LineFault.{LineFault}
@@ -18,13 +18,9 @@ HasNoFeed bytes = All (λ byte. (byte == 10) ≡ false) bytes
 abbrev pub left_of : Bool → List ℕ → Option (List ℕ) → Option (List ℕ)
 left_of at_end unused told = option_map (λ rest. if at_end then [] else unused ++ rest) told
 
--- the bytes that were read and not used yet
-abbrev pub unused : {R : Type 0} → Lines R → List ℕ
-unused s = slice_range s.piece.items s.start s.end
-
 -- the bytes that are left for further lines, where the source tells them
 abbrev pub bytes_left : {R : Type 0} → (R → Option (List ℕ)) → Lines R → Option (List ℕ)
-bytes_left remaining s = left_of s.at_end (unused s) (remaining s.reader.now)
+bytes_left remaining s = left_of s.at_end s.piece (remaining s.reader.now)
 
 -- the same behind the bytes of the line in hand
 abbrev pub text_left : {R : Type 0} → (R → Option (List ℕ)) → Lines R → Option (List ℕ)
@@ -32,11 +28,11 @@ text_left remaining s = option_map (λ rest. s.line.items ++ rest) (bytes_left r
 
 -- no byte that was read is unused, and the source is not known to be at its end
 abbrev pub IsDrained : {R : Type 0} → Lines R → Type 0
-IsDrained s = (s.start ≡ s.end) × (s.at_end ≡ false)
+IsDrained s = (s.piece ≡ []) × (s.at_end ≡ false)
 
 -- the reads and bytes that are left: a read counts for more than the bytes of a piece
 abbrev pub steps_left : {R : Type 0} → Lines R → ℕ
-steps_left s = s.turns * 4097 + (s.end - s.start)
+steps_left s = s.turns * 4097 + length s.piece
 
 -- the text's first line is too long
 abbrev pub BeginsWithLongLine : List ℕ → Type 0
@@ -107,3 +103,53 @@ is_read_fault (Err Memory) = false
 is_read_fault (Err Turns) = false
 is_read_fault (Err LongLine) = false
 is_read_fault (Ok x) = false
+
+-- The reader, its turns, its end and the end of the line in hand are as before.
+pub record SameSource {R : Type 0} (old new : Lines R) : Type 0 where
+  pub reader : new.reader ≡ old.reader
+  pub turns : new.turns ≡ old.turns
+  pub at_end : new.at_end ≡ old.at_end
+  pub ending : new.ending ≡ old.ending
+
+-- Bytes are at hand, or the end was found, or the source stopped: no byte is lost, and the line in hand is as before.
+pub record Fetched {R : Type 0} (remaining : R → Option (List ℕ)) (old new : Lines R) (result : Result Bool LineFault) : Type 0 where
+  pub line : new.line ≡ old.line
+  pub ending : new.ending ≡ old.ending
+  pub text : Keeps (text_left remaining old) (text_left remaining new)
+  pub some : result ≡ Ok true → (new.at_end ≡ false) × (0 < length new.piece)
+  pub none : result ≡ Ok false → new.at_end ≡ true
+  pub paid : OnOk result (IsPaid remaining old new)
+  pub stopped : IfErr result (λ fault. (fault ≡ Read) ⊎ (fault ≡ Turns))
+  pub drained : IfErr result (λ fault. IsDrained new)
+  pub spent : result ≡ Err Turns → (new.turns ≡ 0) × IsPaid remaining old new
+  pub falls : OnOk result (steps_left new ≤ steps_left old)
+
+-- why the piece was not moved to the line: there is no memory, or the text begins with a line that is too long
+pub record StoppedTaking (fault : LineFault) (text : Option (List ℕ)) : Type 0 where
+  pub why : (fault ≡ Memory) ⊎ (fault ≡ LongLine)
+  pub long : fault ≡ LongLine → IfTold text BeginsWithLongLine
+
+-- a line was given, which is not too long: it is the first of what was left, and the others are left
+pub record GaveLine {R : Type 0} (remaining : R → Option (List ℕ)) (old new : Lines R) : Type 0 where
+  pub line : GivesLine (bytes_left remaining old) (bytes_left remaining new) new.line.items
+  pub cut : GivesCut (bytes_left remaining old) (bytes_left remaining new) (record { text = new.line.items; ending = ending_bytes new.ending })
+  pub raw : Consumes (bytes_left remaining old) (bytes_left remaining new) (new.line.items ++ ending_bytes new.ending)
+  pub short : length new.line.items ≤ 65535
+  pub paid : IsPaid remaining old new
+  pub falls : steps_left new < steps_left old
+
+-- there was no line: nothing was left
+pub record FoundEnd {R : Type 0} (remaining : R → Option (List ℕ)) (old new : Lines R) : Type 0 where
+  pub before : IsAtEnd (bytes_left remaining old)
+  pub after : IsAtEnd (bytes_left remaining new)
+  pub kept : Keeps (bytes_left remaining old) (bytes_left remaining new)
+  pub paid : IsPaid remaining old new
+
+-- No line was given, for a fault. What was read of it is in hand and has no end, unless it is too long. Where the source
+-- failed, or may not be read again, that is all that it gave.
+pub record StoppedReading {R : Type 0} (fault : LineFault) (remaining : R → Option (List ℕ)) (old new : Lines R) : Type 0 where
+  pub in_hand : fault ≢ LongLine → IsPartOfLine (bytes_left remaining old) (bytes_left remaining new) new.line.items
+  pub read : fault ≡ Read → bytes_left remaining new ≡ remaining new.reader.now
+  pub turns : fault ≡ Turns → bytes_left remaining new ≡ remaining new.reader.now
+  pub spent : fault ≡ Turns → (new.turns ≡ 0) × (new.at_end ≡ false) × IsPaid remaining old new
+  pub long : fault ≡ LongLine → IfTold (bytes_left remaining old) BeginsWithLongLine

@@ -8,6 +8,7 @@ mod device;
 mod fault;
 mod lines;
 mod load;
+mod piece;
 mod refusal;
 mod removal;
 mod reply;

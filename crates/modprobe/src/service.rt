@@ -5,7 +5,8 @@ ghost use Rattle.modprobe.specs.Serve.{AnswersInput, ServeStands, failed_reading
 
 use crate::device::{Sink, Source};
 use crate::fault::ServeFault;
-use crate::lines::{Buffers, Lines};
+use crate::lines::Lines;
+use crate::piece::Piece;
 use crate::session::run;
 use crate::setup::read_setup;
 use seq_table::Table;
@@ -68,8 +69,8 @@ pub fn serve<R: Source, W: Sink>(
     ensures turns { ran_out_of_turns result ≡ true →
         GaveAtLeast 16777216 (R.remaining reader.old) (R.remaining reader.new) }
 {
-    let buffers = Buffers::new(alloc)?;
-    let mut lines = Lines::over(buffers, reader, TURNS);
+    let piece = Piece::new(alloc)?;
+    let mut lines = Lines::over(alloc, piece, reader, TURNS);
     let result = serve_lines(alloc, workers, &mut lines, writer);
     let reader = lines.into_reader();
     // No effect at run time. The proof reads what the reader is left as from this use.

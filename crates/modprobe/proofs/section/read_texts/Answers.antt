@@ -1,4 +1,4 @@
-use Rattle.std.proofs.Common.{◌≡◌, ◌++◌, ◌∙◌, refl, sym, ap, Some, None, true, false, Err}
+use Rattle.std.proofs.Common.{◌≡◌, ◌++◌, ◌∙◌, refl, sym, ap, Some, None, true, false}
 use Rattle.std.proofs.lemmas.Result.{err_from_is_err_and}
 use Rattle.dep_index.specs.Text.{Line}
 use Rattle.modprobe.specs.Lines.{bytes_left, ending_bytes}
@@ -15,10 +15,10 @@ returns-then-is_session-clause-sections g c =
     let line : Line = record { text = s.line.items; ending = ending_bytes s.ending } in
     let current = c.loop-texts.current in
     let parts = parts_of c.loop-texts.texts in
-    let short = c.in_ok-next_line.ensures.short (rw c.if-branch.true refl) in
+    let short = (c.in_ok-next_line.ensures.gave (rw c.if-branch.true refl)).short in
     let found : section_of s.line.items ≡ Some c.in-Some.section = sym (rw c.line.ensures at c.in-Some.ensures) in
     let is : is_session c.in-Some.section ≡ true = sym c.is_session.ensures ∙ c.if-is_session.true in
-    begins (left c.args.lines.now) (left c.loop-texts.lines) (left s) current parts line c.loop-texts.invariant.goes_on (c.in_ok-next_line.ensures.cut (rw c.if-branch.true refl))
+    begins (left c.args.lines.now) (left c.loop-texts.lines) (left s) current parts line c.loop-texts.invariant.goes_on (c.in_ok-next_line.ensures.gave (rw c.if-branch.true refl)).cut
     (step_of-begin c.in-Some.section current parts line short found is)
 
 pub loop-texts-preserved-in-Some : goal.loop-texts-preserved-in-Some
@@ -28,15 +28,15 @@ loop-texts-preserved-in-Some g c =
     let line : Line = record { text = s.line.items; ending = ending_bytes s.ending } in
     let current = c.loop-texts.current in
     let parts = parts_of c.loop-texts.texts in
-    let short = c.in_ok-next_line.ensures.short (rw c.if-branch.true refl) in
+    let short = (c.in_ok-next_line.ensures.gave (rw c.if-branch.true refl)).short in
     let found : section_of s.line.items ≡ Some c.in-Some.section = sym (rw c.line.ensures at c.in-Some.ensures) in
     let is : is_session c.in-Some.section ≡ false = sym c.is_session.ensures ∙ c.if-is_session.false in
     record {
       works = c.in_ok-next_line.ensures.failed;
       same_reader = c.in_ok-next_line.ensures.same_reader ∙ c.loop-texts.invariant.same_reader;
-      paid = paid_trans g.R.Source.remaining c.args.lines.now c.loop-texts.lines c.next_line.new.self c.loop-texts.invariant.paid c.in_ok-next_line.ensures.paid;
+      paid = paid_trans g.R.Source.remaining c.args.lines.now c.loop-texts.lines c.next_line.new.self c.loop-texts.invariant.paid (c.in_ok-next_line.ensures.gave (rw c.if-branch.true refl)).paid;
       goes_on = goes_on (left c.args.lines.now) (left c.loop-texts.lines) (left s) current parts line (Some c.in-Some.section) parts c.loop-texts.invariant.goes_on
-          (c.in_ok-next_line.ensures.cut (rw c.if-branch.true refl)) (step_of-go c.in-Some.section current parts line short found is);
+          (c.in_ok-next_line.ensures.gave (rw c.if-branch.true refl)).cut (step_of-go c.in-Some.section current parts line short found is);
     }
 
 pub returns-in_default-current-clause-refused : goal.returns-in_default-current-clause-refused
@@ -46,10 +46,10 @@ returns-in_default-current-clause-refused g c =
     let line : Line = record { text = s.line.items; ending = ending_bytes s.ending } in
     let current = c.loop-texts.current in
     let parts = parts_of c.loop-texts.texts in
-    let short = c.in_ok-next_line.ensures.short (rw c.if-branch.true refl) in
+    let short = (c.in_ok-next_line.ensures.gave (rw c.if-branch.true refl)).short in
     let found : section_of s.line.items ≡ None = sym (rw c.line.ensures at c.in_default.ensures) in
     let is : step_of current parts line ≡ stop early = step_of-text current parts line short found ∙ ap (λ o. text_step o parts line) c.in_default-current.is in
-    early_stops (left c.args.lines.now) (left c.loop-texts.lines) (left s) current parts line c.loop-texts.invariant.goes_on (c.in_ok-next_line.ensures.cut (rw c.if-branch.true refl)) is
+    early_stops (left c.args.lines.now) (left c.loop-texts.lines) (left s) current parts line c.loop-texts.invariant.goes_on (c.in_ok-next_line.ensures.gave (rw c.if-branch.true refl)).cut is
 
 pub loop-texts-preserved : goal.loop-texts-preserved
 loop-texts-preserved g c =
@@ -59,7 +59,7 @@ loop-texts-preserved g c =
     let current = c.loop-texts.current in
     let parts = parts_of c.loop-texts.texts in
     let section = c.in-Some-current.section in
-    let short = c.in_ok-next_line.ensures.short (rw c.if-branch.true refl) in
+    let short = (c.in_ok-next_line.ensures.gave (rw c.if-branch.true refl)).short in
     let found : section_of s.line.items ≡ None = sym (rw c.line.ensures at c.in_default.ensures) in
     let pushed : parts_of c.push_line.new.self ≡ add_bytes section (s.line.items ++ ending_bytes s.ending) parts = rw (c.line-in_default.ensures, c.ending.ensures) at c.in_ok-push_line.ensures in
     let is : step_of current parts line ≡ go (Some section) (parts_of c.push_line.new.self) =
@@ -67,25 +67,24 @@ loop-texts-preserved g c =
     record {
       works = c.in_ok-next_line.ensures.failed;
       same_reader = c.in_ok-next_line.ensures.same_reader ∙ c.loop-texts.invariant.same_reader;
-      paid = paid_trans g.R.Source.remaining c.args.lines.now c.loop-texts.lines c.next_line.new.self c.loop-texts.invariant.paid c.in_ok-next_line.ensures.paid;
+      paid = paid_trans g.R.Source.remaining c.args.lines.now c.loop-texts.lines c.next_line.new.self c.loop-texts.invariant.paid (c.in_ok-next_line.ensures.gave (rw c.if-branch.true refl)).paid;
       goes_on = goes_on (left c.args.lines.now) (left c.loop-texts.lines) (left s) current parts line (Some section) (parts_of c.push_line.new.self) c.loop-texts.invariant.goes_on
-          (c.in_ok-next_line.ensures.cut (rw c.if-branch.true refl)) is;
+          (c.in_ok-next_line.ensures.gave (rw c.if-branch.true refl)).cut is;
     }
 
 pub returns-clause-sections : goal.returns-clause-sections
 returns-clause-sections g c =
     let left = bytes_left g.R.Source.remaining in
     let s = c.next_line.new.self in
-    let none = c.in_ok-next_line.ensures.none (rw c.if-branch.false refl) in
-    at_end (left c.args.lines.now) (left c.loop-texts.lines) (left s) c.loop-texts.current (parts_of c.loop-texts.texts) c.loop-texts.invariant.goes_on none.0 none.1
-    (c.in_ok-next_line.ensures.kept (rw c.if-branch.false refl))
+    let none = c.in_ok-next_line.ensures.ended (rw c.if-branch.false refl) in
+    at_end (left c.args.lines.now) (left c.loop-texts.lines) (left s) c.loop-texts.current (parts_of c.loop-texts.texts) c.loop-texts.invariant.goes_on none.before none.after none.kept
 
 pub returns-in_err-next_line-clause-refused : goal.returns-in_err-next_line-clause-refused
 returns-in_err-next_line-clause-refused g c =
     let left = bytes_left g.R.Source.remaining in
     let p = err_from_is_err_and c.from_residual.result c.from_residual.ensures.1 in
     let fault = c.in_err-next_line.field-0.0 in
-    rw (p.1, p.2) (stops_as (left c.args.lines.now) (left c.loop-texts.lines) c.loop-texts.current (parts_of c.loop-texts.texts) fault c.loop-texts.invariant.goes_on (λ e. c.in_err-next_line.ensures.long (ap Err e)))
+    rw (p.1, p.2) (stops_as (left c.args.lines.now) (left c.loop-texts.lines) c.loop-texts.current (parts_of c.loop-texts.texts) fault c.loop-texts.invariant.goes_on c.in_err-next_line.ensures.stopped.long)
 
 pub returns-in_err-next_line-clause-stops : goal.returns-in_err-next_line-clause-stops
 returns-in_err-next_line-clause-stops g c =
@@ -94,4 +93,4 @@ returns-in_err-next_line-clause-stops g c =
     let s = c.next_line.new.self in
     let fault = c.in_err-next_line.field-0.0 in
     rw (p.1, p.2) (setup_stops (left c.args.lines.now) (left c.loop-texts.lines) (left s) (g.R.Source.remaining s.reader.now) c.loop-texts.current (parts_of c.loop-texts.texts) fault s.line.items
-    c.loop-texts.invariant.goes_on c.in_err-next_line.ensures.in_hand (λ e. c.in_err-next_line.ensures.drained_read (ap Err e)) (λ e. c.in_err-next_line.ensures.drained_turns (ap Err e)))
+    c.loop-texts.invariant.goes_on c.in_err-next_line.ensures.stopped.in_hand c.in_err-next_line.ensures.stopped.read c.in_err-next_line.ensures.stopped.turns)

@@ -14,6 +14,7 @@ loop-lines-preserved g c =
     let start = g.M.Modules.table c.args.table.now in
     let before = c.loop-lines.invariant.answered in
     let line = c.next_line.new.self.line.items in
+    let given = c.in_ok-next_line.ensures.gave (rw c.if-branch.true refl) in
     let left = bytes_left g.R.Source.remaining in
     let wrote = g.W.Sink.contents in
     record {
@@ -21,13 +22,13 @@ loop-lines-preserved g c =
       writer_works = c.in_ok-write_all.ensures.failed;
       same_reader = c.in_ok-next_line.ensures.same_reader ∙ c.loop-lines.invariant.same_reader;
       over = c.in_ok-reply.ensures.over ∙ c.loop-lines.invariant.over;
-      paid = paid_trans g.R.Source.remaining c.args.lines.now c.loop-lines.lines c.next_line.new.self c.loop-lines.invariant.paid c.in_ok-next_line.ensures.paid;
+      paid = paid_trans g.R.Source.remaining c.args.lines.now c.loop-lines.lines c.next_line.new.self c.loop-lines.invariant.paid given.paid;
       answered = (
         before.0 ++ line ∷ [],
         answered_more s start (left c.args.lines.now) (wrote c.args.writer.now)
             (left c.loop-lines.lines) (left c.next_line.new.self) (wrote c.loop-lines.writer) (wrote c.write_all.new.writer)
             (g.M.Modules.table c.loop-lines.table) (g.M.Modules.table c.reply_line.new.table) before.0 line c.in_ok-reply.reply.items
-            before.1 (c.in_ok-next_line.ensures.line (rw c.if-branch.true refl)) (c.in_ok-next_line.ensures.short (rw c.if-branch.true refl))
+            before.1 given.line given.short
             (rw c.line.ensures at c.in_ok-reply.ensures.reply) (rw c.line.ensures at c.in_ok-reply.ensures.after)
             (rw c.as_slice.ensures.value at c.in_ok-write_all.ensures.ok),
       );
@@ -40,6 +41,7 @@ returns-in_err-write_all-clause-stands g c =
     let start = g.M.Modules.table c.args.table.now in
     let before = c.loop-lines.invariant.answered in
     let line = c.next_line.new.self.line.items in
+    let given = c.in_ok-next_line.ensures.gave (rw c.if-branch.true refl) in
     let left = bytes_left g.R.Source.remaining in
     let wrote = g.W.Sink.contents in
     let part = c.in_err-write_all.ensures.err in
@@ -53,8 +55,8 @@ returns-in_err-write_all-clause-stands g c =
     let stopped : StoppedWriting s start (left c.args.lines.now) hand (wrote c.args.writer.now) (wrote c.write_all.new.writer) (g.M.Modules.table c.reply_line.new.table) = (
       before.0,
       part.0,
-      gives_more (left c.args.lines.now) (left c.loop-lines.lines) (left c.next_line.new.self) before.0 line before.1.gives (c.in_ok-next_line.ensures.line (rw c.if-branch.true refl)),
-      short-more before.0 line before.1.short (c.in_ok-next_line.ensures.short (rw c.if-branch.true refl)),
+      gives_more (left c.args.lines.now) (left c.loop-lines.lines) (left c.next_line.new.self) before.0 line before.1.gives given.line,
+      short-more before.0 line before.1.short given.short,
       less,
       appends_trans (wrote c.args.writer.now) (wrote c.loop-lines.writer) (wrote c.write_all.new.writer) (answer s start before.0).0 _ before.1.wrote appends,
       after,

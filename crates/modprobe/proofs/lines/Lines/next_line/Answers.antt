@@ -1,62 +1,66 @@
-use Rattle.std.proofs.Common.{arith, ◌≡◌, ◌<◌, length, refl}
+use Rattle.std.proofs.Common.{arith, rules, ◌<◌, length, refl, ◌∙◌}
 use Rattle.std.proofs.lemmas.Grind.{common_steps}
 use Rattle.std.specs.Str.Lines.{strip_carriage_return}
-use Rattle.modprobe.specs.Lines.{text_left, bytes_left, unused}
-use Rattle.modprobe.proofs.LeftLemmas.{gives_line, long_line, last_line, last_long_line, raw_last, gives_cut, last_cut, keeps_empty}
+use Rattle.modprobe.specs.Lines.{text_left, bytes_left, HasNoFeed}
+use Rattle.modprobe.proofs.LeftLemmas.{keeps_trans, stopped_at_long_line, gives_line, long_line, last_line, last_long_line, raw_last, gives_cut, last_cut}
 use Rattle.modprobe.proofs.lines.Lines.next_line.Goals as goal
 
-pub returns-then-len-gt-LONGEST_LINE-clause-long : goal.returns-then-len-gt-LONGEST_LINE-clause-long
-returns-then-len-gt-LONGEST_LINE-clause-long g c =
-    let line = c.read_on.new.self.line.items in
-    let long : 65535 < length (strip_carriage_return line) = rw (← c.end_line.ensures.line) (omega arith) in
-    λ _. long_line (bytes_left g.R.Source.remaining c.args.self.now) (text_left g.R.Source.remaining c.loop-self.self) (bytes_left g.R.Source.remaining c.read_on.new.self) line
-    c.loop-self.invariant.text (c.in_ok-read_on.ensures.ended (rw c.if-branch.true refl)) c.in_ok-read_on.ensures.no_feed long
+pub returns-then-len-gt-LONGEST_LINE-clause-stopped : goal.returns-then-len-gt-LONGEST_LINE-clause-stopped
+returns-then-len-gt-LONGEST_LINE-clause-stopped g c =
+    let left = bytes_left g.R.Source.remaining in
+    let text = text_left g.R.Source.remaining in
+    let kept = keeps_trans (left c.args.self.now) (text c.loop-self.self) (text c.fetch.new.self) c.loop-self.invariant.text c.in_ok-fetch.ensures.fetched.text in
+    let too_long : 65535 < length (strip_carriage_return c.take.new.self.line.items) = rw (← c.end_line.ensures.line) (omega arith) in
+    stopped_at_long_line g.R.Source.remaining _ _
+    (long_line (left c.args.self.now) (text c.fetch.new.self) (left c.take.new.self) c.take.new.self.line.items kept (c.in_ok-take.ensures.ended (rw c.if-branch-2.true refl)) c.in_ok-take.ensures.no_feed too_long)
 
-pub returns-else-len-gt-LONGEST_LINE-clause-line : goal.returns-else-len-gt-LONGEST_LINE-clause-line
-returns-else-len-gt-LONGEST_LINE-clause-line g c =
-    let line = c.read_on.new.self.line.items in
-    λ _. rw (c.end_line.ensures.line, c.end_line.ensures.left)
-    (gives_line (bytes_left g.R.Source.remaining c.args.self.now) (text_left g.R.Source.remaining c.loop-self.self) (bytes_left g.R.Source.remaining c.read_on.new.self) line
-    c.loop-self.invariant.text (c.in_ok-read_on.ensures.ended (rw c.if-branch.true refl)) c.in_ok-read_on.ensures.no_feed)
+pub returns-else-len-gt-LONGEST_LINE-clause-gave : goal.returns-else-len-gt-LONGEST_LINE-clause-gave
+returns-else-len-gt-LONGEST_LINE-clause-gave g c =
+    let left = bytes_left g.R.Source.remaining in
+    let text = text_left g.R.Source.remaining in
+    let line = c.take.new.self.line.items in
+    let kept = keeps_trans (left c.args.self.now) (text c.loop-self.self) (text c.fetch.new.self) c.loop-self.invariant.text c.in_ok-fetch.ensures.fetched.text in
+    let ended = c.in_ok-take.ensures.ended (rw c.if-branch-2.true refl) in
+    λ _. record {
+      line = rw (c.end_line.ensures.line, c.end_line.ensures.left.0, c.end_line.ensures.left.1, c.end_line.ensures.source.0)
+          (gives_line (left c.args.self.now) (text c.fetch.new.self) (left c.take.new.self) line kept ended c.in_ok-take.ensures.no_feed);
+      cut = rw (c.end_line.ensures.cut, c.end_line.ensures.left.0, c.end_line.ensures.left.1, c.end_line.ensures.source.0)
+          (gives_cut (left c.args.self.now) (text c.fetch.new.self) (left c.take.new.self) line kept ended c.in_ok-take.ensures.no_feed);
+      raw = search rules;
+      short = search rules;
+      paid = search rules;
+      falls = search rules;
+    }
 
-pub returns-then-len-gt-LONGEST_LINE-2-clause-long : goal.returns-then-len-gt-LONGEST_LINE-2-clause-long
-returns-then-len-gt-LONGEST_LINE-2-clause-long g c =
-    let s = c.loop-self.self in
-    λ _. last_long_line (bytes_left g.R.Source.remaining c.args.self.now) (g.R.Source.remaining s.reader.now) s.line.items (unused s) s.at_end c.loop-self-test.false
-    c.loop-self.invariant.text c.loop-self.invariant.no_feed (omega arith)
+pub returns-then-len-gt-LONGEST_LINE-2-clause-stopped : goal.returns-then-len-gt-LONGEST_LINE-2-clause-stopped
+returns-then-len-gt-LONGEST_LINE-2-clause-stopped g c =
+    let left = bytes_left g.R.Source.remaining in
+    let text = text_left g.R.Source.remaining in
+    let s = c.fetch.new.self in
+    let fetched = c.in_ok-fetch.ensures.fetched in
+    let kept = keeps_trans (left c.args.self.now) (text c.loop-self.self) (text s) c.loop-self.invariant.text fetched.text in
+    let none : HasNoFeed s.line.items = rw fetched.line c.loop-self.invariant.no_feed in
+    stopped_at_long_line g.R.Source.remaining _ _
+    (last_long_line (left c.args.self.now) (g.R.Source.remaining s.reader.now) s.line.items s.piece s.at_end (fetched.none (rw c.if-branch.false refl)) kept none (omega arith))
 
-pub returns-clause-line : goal.returns-clause-line
-returns-clause-line g c =
-    let s = c.loop-self.self in
+pub returns-clause-gave : goal.returns-clause-gave
+returns-clause-gave g c =
+    let left = bytes_left g.R.Source.remaining in
+    let text = text_left g.R.Source.remaining in
+    let s = c.fetch.new.self in
+    let told = g.R.Source.remaining s.reader.now in
+    let fetched = c.in_ok-fetch.ensures.fetched in
+    let kept = keeps_trans (left c.args.self.now) (text c.loop-self.self) (text s) c.loop-self.invariant.text fetched.text in
+    let none : HasNoFeed s.line.items = rw fetched.line c.loop-self.invariant.no_feed in
+    let ended = fetched.none (rw c.if-branch.false refl) in
+    let absent = fetched.ending ∙ c.loop-self.invariant.ending in
     λ there.
     let some : 0 < length s.line.items = grind (arith, common_steps) in
-    last_line (bytes_left g.R.Source.remaining c.args.self.now) (g.R.Source.remaining s.reader.now) s.line.items (unused s) s.at_end c.loop-self-test.false
-    c.loop-self.invariant.text c.loop-self.invariant.no_feed some
-
-pub returns-clause-raw : goal.returns-clause-raw
-returns-clause-raw g c =
-    let s = c.loop-self.self in
-    λ _. raw_last (bytes_left g.R.Source.remaining c.args.self.now) (g.R.Source.remaining s.reader.now) s.line.items (unused s) s.at_end s.ending c.loop-self-test.false
-    c.loop-self.invariant.ending c.loop-self.invariant.text
-
-pub returns-else-len-gt-LONGEST_LINE-clause-cut : goal.returns-else-len-gt-LONGEST_LINE-clause-cut
-returns-else-len-gt-LONGEST_LINE-clause-cut g c =
-    let line = c.read_on.new.self.line.items in
-    λ _. rw (c.end_line.ensures.cut, c.end_line.ensures.left)
-    (gives_cut (bytes_left g.R.Source.remaining c.args.self.now) (text_left g.R.Source.remaining c.loop-self.self) (bytes_left g.R.Source.remaining c.read_on.new.self) line
-    c.loop-self.invariant.text (c.in_ok-read_on.ensures.ended (rw c.if-branch.true refl)) c.in_ok-read_on.ensures.no_feed)
-
-pub returns-clause-cut : goal.returns-clause-cut
-returns-clause-cut g c =
-    let s = c.loop-self.self in
-    λ there.
-    let some : 0 < length s.line.items = grind (arith, common_steps) in
-    last_cut (bytes_left g.R.Source.remaining c.args.self.now) (g.R.Source.remaining s.reader.now) s.line.items (unused s) s.at_end s.ending c.loop-self-test.false
-    c.loop-self.invariant.ending c.loop-self.invariant.text c.loop-self.invariant.no_feed some
-
-pub returns-clause-kept : goal.returns-clause-kept
-returns-clause-kept g c =
-    let s = c.loop-self.self in
-    λ there.
-    let none : length s.line.items ≡ 0 = grind (arith, common_steps) in
-    keeps_empty (bytes_left g.R.Source.remaining c.args.self.now) (bytes_left g.R.Source.remaining s) s.line.items none c.loop-self.invariant.text
+    record {
+      line = last_line (left c.args.self.now) told s.line.items s.piece s.at_end ended kept none some;
+      cut = last_cut (left c.args.self.now) told s.line.items s.piece s.at_end s.ending ended absent kept none some;
+      raw = raw_last (left c.args.self.now) told s.line.items s.piece s.at_end s.ending ended absent kept;
+      short = search rules;
+      paid = search rules;
+      falls = search rules;
+    }

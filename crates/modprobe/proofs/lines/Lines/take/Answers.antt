@@ -1,16 +1,20 @@
-use Rattle.std.proofs.Common.{arith, ◌<◌, ◌+◌, length}
-use Rattle.modprobe.proofs.LeftLemmas.{keeps_taken, long_taken}
+use Rattle.std.proofs.Common.{arith, rules, ◌<◌, ◌+◌, length, inr, refl}
+use Rattle.modprobe.proofs.LeftLemmas.{long_taken, ends_line}
 use Rattle.modprobe.proofs.lines.Lines.take.Goals as goal
-use Rattle.modprobe.proofs.lines.Lines.take.Goals.{then-count-via-then-count, then-count-via-else-count+then-len-count}
 
-pub returns-then-count-clause-long : goal.returns-then-count-clause-long
-returns-then-count-clause-long g c =
+pub returns-then-saturating_add-clause-stopped : goal.returns-then-saturating_add-clause-stopped
+returns-then-saturating_add-clause-stopped g c =
     let s = c.args.self.now in
-    let long : 65536 < length s.line.items + c.args.count = elim c.then-count.branch [ then-count-via-then-count w ↦ omega arith | then-count-via-else-count+then-len-count w ↦ omega arith ] in
-    λ _. long_taken s.line.items s.piece.items s.start c.args.count s.end s.at_end (g.R.Source.remaining s.reader.now) c.requires.fits (omega arith) c.requires.going c.requires.line c.requires.no_feed long
+    let part = c.before_feed-count.ensures in
+    let long : 65536 < length s.line.items + c.before_feed-count.result.0 = omega arith in
+    record {
+      why = inr refl;
+      long = λ _. long_taken s.line.items s.piece c.before_feed-count.result.0 s.at_end (g.R.Source.remaining s.reader.now) part.within c.requires.going c.requires.line part.no_feed long;
+    }
 
-pub returns-clause-text : goal.returns-clause-text
-returns-clause-text g c =
+pub returns-clause-ended : goal.returns-clause-ended
+returns-clause-ended g c =
     let s = c.args.self.now in
-    rw (c.in_ok-extend_from_slice.ensures.items, c.deref.ensures.value)
-    (keeps_taken s.line.items s.piece.items s.start c.args.count s.end s.at_end (g.R.Source.remaining s.reader.now) c.requires.fits c.requires.going)
+    let count = c.before_feed-count.result.0 in
+    let feed = c.before_feed-count.ensures.feed (search rules) in
+    λ _. rw (c.in_ok-extend_from_slice.ensures.items, c.unused.ensures.bytes, c.skip-2.ensures, c.skip.ensures) (ends_line s.line.items s.piece count s.at_end (g.R.Source.remaining s.reader.now) c.requires.going feed.0 feed.1)
