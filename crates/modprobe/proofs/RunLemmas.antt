@@ -8,7 +8,7 @@ use Rattle.std.specs.Str.Lines.{lines}
 use Rattle.modprobe.specs.Lines.{IfTold, GivesLine}
 use Rattle.dep_index.specs.Table.{Table}
 use Rattle.modprobe.specs.Setup.{Setup}
-use Rattle.modprobe.specs.Session.{line_answer, answer}
+use Rattle.modprobe.specs.Session.{line_reply, answer}
 use Rattle.modprobe.specs.Run.{Answered, GivesLines, AllShort}
 use Rattle.std.proofs.Common.{false, Ok}
 use Rattle.std.specs.Prelude.{◌&&◌, nat_lt}
@@ -44,16 +44,16 @@ gives_none None = tt
 gives_none (Some x) = refl
 
 -- One more line: its reply comes behind the others, and its table is the last.
-pub answer-more : (s : Setup) (t : Table) (done : List (List ℕ)) (line : List ℕ) → (answer s t (done ++ line ∷ [])).0 ≡ (answer s t done).0 ++ (line_answer s (answer s t done).1 line).0
-answer-more s t [] line = append-nil (line_answer s t line).0
+pub answer-more : (s : Setup) (t : Table) (done : List (List ℕ)) (line : List ℕ) → (answer s t (done ++ line ∷ [])).0 ≡ (answer s t done).0 ++ (line_reply s (answer s t done).1 line).0
+answer-more s t [] line = append-nil (line_reply s t line).0
 answer-more s t (first ∷ done) line =
-    let next = (line_answer s t first).1 in
-    ap (λ l. (line_answer s t first).0 ++ l) (answer-more s next done line)
-    ∙ sym (append_assoc (line_answer s t first).0 (answer s next done).0 (line_answer s (answer s next done).1 line).0)
+    let next = (line_reply s t first).1 in
+    ap (λ l. (line_reply s t first).0 ++ l) (answer-more s next done line)
+    ∙ sym (append_assoc (line_reply s t first).0 (answer s next done).0 (line_reply s (answer s next done).1 line).0)
 
-pub table-more : (s : Setup) (t : Table) (done : List (List ℕ)) (line : List ℕ) → (answer s t (done ++ line ∷ [])).1 ≡ (line_answer s (answer s t done).1 line).1
+pub table-more : (s : Setup) (t : Table) (done : List (List ℕ)) (line : List ℕ) → (answer s t (done ++ line ∷ [])).1 ≡ (line_reply s (answer s t done).1 line).1
 table-more s t [] line = refl
-table-more s t (first ∷ done) line = table-more s (line_answer s t first).1 done line
+table-more s t (first ∷ done) line = table-more s (line_reply s t first).1 done line
 
 pub short-more : (done : List (List ℕ)) (line : List ℕ) → AllShort done → length line ≤ 65535 → AllShort (done ++ line ∷ [])
 short-more done line before short =
@@ -66,7 +66,7 @@ module _ (s : Setup) (start : Table) (text : Option (List ℕ)) (held : Option (
 
   -- One more line was answered.
   pub answered_more : (left left' wrote wrote' : Option (List ℕ)) (table table' : Table) (done : List (List ℕ)) (line reply : List ℕ)
-      → Answered s start text left held wrote table done → GivesLine left left' line → length line ≤ 65535 → reply ≡ (line_answer s table line).0 → table' ≡ (line_answer s table line).1 → Appends wrote wrote' reply
+      → Answered s start text left held wrote table done → GivesLine left left' line → length line ≤ 65535 → reply ≡ (line_reply s table line).0 → table' ≡ (line_reply s table line).1 → Appends wrote wrote' reply
       → Answered s start text left' held wrote' table' (done ++ line ∷ [])
   answered_more left left' wrote wrote' table table' done line reply before gives short is after appends = record {
     gives = gives_more text left left' done line before.gives gives;

@@ -15,6 +15,10 @@ length-modules_from all (d ∷ rest) m = ap suc (length-modules_from all rest (s
 pub named_below : (modules : List Description) (name : List ℕ) (m : ℕ) → slot_named modules name ≡ Some m → m < length modules
 named_below modules name m found = (position-Some (λ (d : Description). bytes_eq name d.name) modules m (described []) found).0
 
+-- A table has a slot for each module of its catalogue.
+pub modules_of_length : (modules : List Description) → length (modules_of modules) ≡ length modules
+modules_of_length modules = length-modules_from modules modules 0
+
 pub known_below : (modules : List Description) (m : ℕ) → m < length modules → m < length (modules_of modules)
 known_below modules m below = omega (arith, below, length-modules_from modules modules 0)
 

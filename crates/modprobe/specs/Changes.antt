@@ -25,27 +25,27 @@ abbrev pub ◌then◌ : Change → (Table → Change) → Change
 
 -- the refusal of a call on a module; that of a need which is not live names the need
 abbrev pub refusal_of : Setup → (Reply → Code) → ℕ → Reply → Option Refusal
-refusal_of s code m reply_is.Done = None
-refusal_of s code m (reply_is.NeedNotLive n) = refuse (code (reply_is.NeedNotLive n)) (name_at s n)
-refusal_of s code m r = refuse (code r) (name_at s m)
+refusal_of s code slot reply_is.Done = None
+refusal_of s code slot (reply_is.NeedNotLive n) = refuse (code (reply_is.NeedNotLive n)) (name_at s n)
+refusal_of s code slot r = refuse (code r) (name_at s slot)
 
 -- one call on the table
-abbrev pub made : Setup → (Reply → Code) → ℕ → Call → Table → Change
-made s code m call t =
-    (refusal_of s code m (reply (modules_of s.catalogue) t call), next (modules_of s.catalogue) t call)
+abbrev pub call_change : Setup → (Reply → Code) → ℕ → Call → Table → Change
+call_change s code slot call t =
+    (refusal_of s code slot (reply (modules_of s.catalogue) t call), next (modules_of s.catalogue) t call)
 
 -- the end of a load; where a parameter has no good value the load fails, and the module leaves the table
 abbrev pub end_of_load : Setup → ℕ → Bool → Table → Change
-end_of_load s m true t = made s code_of m (call.EndLoad m true) t
-end_of_load s m false t = made s code_of m (call.EndLoad m false) t then (λ u. (refuse Einval (name_at s m), u))
+end_of_load s slot true t = call_change s code_of slot (call.EndLoad slot true) t
+end_of_load s slot false t = call_change s code_of slot (call.EndLoad slot false) t then (λ u. (refuse Einval (name_at s slot), u))
 
 -- a load is two calls; behind the first the words of the parameters are looked at
 abbrev pub one_load : Setup → ℕ → List (List ℕ) → Table → Change
-one_load s m words t =
-    made s code_of m (call.BeginLoad m) t then (λ u. end_of_load s m (are_valid (description_at s.catalogue m) words) u)
+one_load s slot words t =
+    call_change s code_of slot (call.BeginLoad slot) t then (λ u. end_of_load s slot (are_valid (description_at s.catalogue slot) words) u)
 
 -- a removal is two calls, and the second alone where the module is draining
 abbrev pub one_removal : Setup → ℕ → Table → Change
-one_removal s m t =
-    if is_draining (state_of t.book m) then made s unload_code m (call.EndRemove m) t
-    else (made s unload_code m (call.BeginRemove m) t then (λ u. made s unload_code m (call.EndRemove m) u))
+one_removal s slot t =
+    if is_draining (state_of t.book slot) then call_change s unload_code slot (call.EndRemove slot) t
+    else (call_change s unload_code slot (call.BeginRemove slot) t then (λ u. call_change s unload_code slot (call.EndRemove slot) u))

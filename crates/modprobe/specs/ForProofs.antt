@@ -2,18 +2,22 @@
 use Rattle.std.specs.Prelude.{◌≡◌, ℕ, ◌≤◌, Bool, true, false, List, ◌++◌, ◌∷◌, [], All, length, codes, Option, Some, None, ⊤, Result, Ok, Err}
 use Rattle.dep_index.specs.Text.{cut_lines, texts_of}
 use Rattle.dep_index.specs.Catalogue.{Description}
+use Rattle.dep_index.specs.declared.calls.Call.{Call}
+use Rattle.dep_index.specs.declared.calls.Call.TheVariants as call
 use Rattle.dep_index.specs.declared.faults.CatError.{CatError}
 use Rattle.dep_index.specs.declared.faults.CatError.TheVariants as cat
 use Rattle.dep_index.specs.declared.faults.DepError.{DepError}
 use Rattle.dep_index.specs.declared.faults.DepError.TheVariants as dep
 use Rattle.modprobe.specs.declared.command.Action.{Action}
 use Rattle.modprobe.specs.declared.command.Action.TheVariants as action_is
+use Rattle.modprobe.specs.declared.command.Reference.{Reference}
+use Rattle.modprobe.specs.declared.command.Reference.TheVariants as reference_is
 use Rattle.modprobe.specs.declared.command.Request.{Request}
 use Rattle.modprobe.specs.declared.command.Request.TheVariants as request_is
 use Rattle.modprobe.specs.declared.command.Command.{Command}
 use Rattle.modprobe.specs.declared.command.Command.TheVariants as command_is
-use Rattle.modprobe.specs.declared.answer.Answer.{Answer}
-use Rattle.modprobe.specs.declared.answer.Answer.TheVariants as answer_is
+use Rattle.modprobe.specs.declared.action.Answer.{Answer}
+use Rattle.modprobe.specs.declared.action.Answer.TheVariants as answer_is
 use Rattle.modprobe.specs.declared.lines.LineFault.{LineFault}
 use Rattle.modprobe.specs.declared.lines.LineFault.TheVariants as line_faults
 use Rattle.modprobe.specs.declared.fault.SetupCode.{SetupCode}
@@ -26,6 +30,7 @@ use Rattle.modprobe.specs.Commands as meaning
 use Rattle.load_plan.specs.declared.items.PlanError.{PlanError}
 use Rattle.load_plan.specs.declared.items.PlanError.TheVariants as plan_error
 use Rattle.modprobe.specs.declared.refusal.Refusal.{Refusal}
+use Rattle.modprobe.specs.Setup.{Setup, name_at}
 use Rattle.modprobe.specs.Refusals.{error_line, refuse}
 use Rattle.modprobe.specs.Refusals as told
 use Rattle.modprobe.specs.Sections.{Parts, no_parts, early, too_long, sections}
@@ -36,8 +41,13 @@ action_from (action_is.Insmod words) = meaning.insmod (texts_of words.now)
 action_from action_is.Rmmod = meaning.rmmod
 action_from action_is.Drain = meaning.drain
 action_from action_is.Query = meaning.query
-action_from (action_is.Get worker) = meaning.get worker
-action_from (action_is.Put worker) = meaning.put worker
+action_from (action_is.Refer reference_is.Get worker) = meaning.get worker
+action_from (action_is.Refer reference_is.Put worker) = meaning.put worker
+
+-- the call by which a worker does that
+abbrev pub call_of : Reference → ℕ → ℕ → Call
+call_of reference_is.Get worker slot = call.Get worker slot
+call_of reference_is.Put worker slot = call.Put worker slot
 
 abbrev pub request_from : Request → meaning.Request
 request_from (request_is.Act action) = meaning.act (action_from action)
@@ -69,28 +79,17 @@ abbrev pub TellsRefusal : PlanError → List ℕ → Type 0
 TellsRefusal plan_error.Memory text = ⊥
 TellsRefusal e text = text ≡ told.refusal_line (told.plan_refusal e)
 
--- the refusal that an answer is
-abbrev pub refusal_in : {X : Type 0} → Result X Refusal → Option told.Refusal
-refusal_in (Ok x) = None
-refusal_in (Err r) = refuse r.code r.name.now
+-- the refusal that a result is
+abbrev pub refusal_in : {X : Type 0} → Setup → Result X Refusal → Option told.Refusal
+refusal_in s (Ok x) = None
+refusal_in s (Err r) = refuse r.code (name_at s r.slot)
 
 -- what an answer writes
-abbrev pub text_of : Answer → List ℕ
-text_of answer_is.Done = codes "ok" ++ 10 ∷ []
-text_of answer_is.Yes = codes "yes" ++ 10 ∷ []
-text_of answer_is.No = codes "no" ++ 10 ∷ []
-text_of (answer_is.Refused r) = error_line r.code r.name.now
-
-abbrev pub name_len : Answer → ℕ
-name_len answer_is.Done = 0
-name_len answer_is.Yes = 0
-name_len answer_is.No = 0
-name_len (answer_is.Refused r) = length r.name.now
-
--- no refusal names a module by a longer name than modules have
-abbrev pub IsShort : {X : Type 0} → Result X Refusal → Type 0
-IsShort (Ok x) = ⊤
-IsShort (Err r) = length r.name.now ≤ 55
+abbrev pub answer_text : Setup → Answer → List ℕ
+answer_text s answer_is.Done = codes "ok" ++ 10 ∷ []
+answer_text s answer_is.Yes = codes "yes" ++ 10 ∷ []
+answer_text s answer_is.No = codes "no" ++ 10 ∷ []
+answer_text s (answer_is.Refused r) = error_line r.code (name_at s r.slot)
 
 abbrev pub is_session : Section → Bool
 is_session Session = true

@@ -12,3 +12,4 @@ pub mod SetupInput
 pub mod Run
 pub mod ForProofs
 pub mod Serve
+pub mod Sessions

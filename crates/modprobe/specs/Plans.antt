@@ -23,14 +23,14 @@ abbrev pub targets_of : Setup → List ℕ → Result (List (List ℕ)) PlanErro
 targets_of s name = if_some name (found s.catalogue s.configuration s.aliases.entries name)
 
 -- the items of the plans of these modules, in order, behind those that stand there, or the first refusal
-abbrev pub planned : Setup → List (List ℕ) → List Item → List (List ℕ) → Result (List Item) PlanError
-planned s words items [] = Ok items
-planned s words items (target ∷ targets) =
-    plan_of s.catalogue s.dependencies s.configuration target words >>= λ more. planned s words (items ++ more) targets
+abbrev pub items_of_plans : Setup → List (List ℕ) → List Item → List (List ℕ) → Result (List Item) PlanError
+items_of_plans s words items [] = Ok items
+items_of_plans s words items (target ∷ targets) =
+    plan_of s.catalogue s.dependencies s.configuration target words >>= λ more. items_of_plans s words (items ++ more) targets
 
 -- all that is planned for a name without words
 abbrev pub whole_plan : Setup → List ℕ → Result (List Item) PlanError
-whole_plan s name = targets_of s name >>= λ targets. planned s [] [] targets
+whole_plan s name = targets_of s name >>= λ targets. items_of_plans s [] [] targets
 
 abbrev pub mark_text : Bool → List ℕ
 mark_text true = codes "soft"

@@ -9,7 +9,7 @@ use Rattle.modprobe.specs.declared.fault.RunFault.{RunFault}
 use Rattle.modprobe.specs.declared.fault.RunFault.TheVariants.{Read, Write, Memory, Turns, LongLine}
 use Rattle.modprobe.specs.Lines.{AtHand, IfTold, GivesLine, IsPartOfLine, BeginsWithLongLine}
 use Rattle.modprobe.specs.Setup.{Setup}
-use Rattle.modprobe.specs.Session.{line_answer, answer}
+use Rattle.modprobe.specs.Session.{line_reply, answer}
 
 -- the lines of the old text are these and those of the new text
 abbrev pub GivesLines : Option (List ℕ) → Option (List ℕ) → List (List ℕ) → Type 0
@@ -57,8 +57,8 @@ WritesPart old new bytes = (count : ℕ) × (count < length bytes) × Appends ol
 abbrev pub StoppedWriting : Setup → Table → Option (List ℕ) → AtHand → Option (List ℕ) → Option (List ℕ) → Table → Type 0
 StoppedWriting s start text hand held written table =
     (done : List (List ℕ)) × (count : ℕ) × GivesLines text hand.left (done ++ hand.line ∷ []) × AllShort (done ++ hand.line ∷ [])
-    × (count < length (line_answer s (answer s start done).1 hand.line).0)
-    × Appends held written ((answer s start done).0 ++ take count (line_answer s (answer s start done).1 hand.line).0)
+    × (count < length (line_reply s (answer s start done).1 hand.line).0)
+    × Appends held written ((answer s start done).0 ++ take count (line_reply s (answer s start done).1 hand.line).0)
     × (table ≡ (answer s start (done ++ hand.line ∷ [])).1)
 
 -- what stands after each fault

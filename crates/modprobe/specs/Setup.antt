@@ -14,4 +14,4 @@ pub record Setup : Type 0 where
   pub configuration : Configuration
 
 abbrev pub name_at : Setup → ℕ → List ℕ
-name_at s m = (description_at s.catalogue m).name
+name_at s slot = (description_at s.catalogue slot).name

@@ -11,6 +11,15 @@ use std::alloc::{AllocError, Global};
 /// The largest number of 10 digits.
 const LARGEST_WORKER: u64 = 9_999_999_999;
 
+/// What a worker does with a reference.
+#[derive(Clone, Copy, Drop)]
+pub(crate) enum Reference {
+    /// It takes one.
+    Get,
+    /// It puts one back.
+    Put,
+}
+
 /// What is done to one module of the catalogue.
 #[derive(Clone, Copy, Drop)]
 pub(crate) enum Action<'a> {
@@ -19,10 +28,8 @@ pub(crate) enum Action<'a> {
     Rmmod,
     Drain,
     Query,
-    /// The worker takes a reference.
-    Get(u64),
-    /// The worker puts a reference back.
-    Put(u64),
+    /// This worker takes or puts back a reference.
+    Refer(Reference, u64),
 }
 
 /// What is asked for by a name.
@@ -97,9 +104,9 @@ fn worker_request_of<'a>(first: &[u8], worker: u64) -> Option<Request<'a>>
     ensures { option_map request_from result ≡ worker_request_of first.now worker }
 {
     if first == b"get".as_slice() {
-        Some(Request::Act(Action::Get(worker)))
+        Some(Request::Act(Action::Refer(Reference::Get, worker)))
     } else if first == b"put".as_slice() {
-        Some(Request::Act(Action::Put(worker)))
+        Some(Request::Act(Action::Refer(Reference::Put, worker)))
     } else {
         None
     }

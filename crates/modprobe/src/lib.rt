@@ -1,7 +1,7 @@
 //! A session over a table of modules: sections and command lines in, replies out.
 #![tactic(auto)]
 
-mod answer;
+mod action;
 mod change;
 mod command;
 mod device;
@@ -12,16 +12,16 @@ mod piece;
 mod refusal;
 mod removal;
 mod reply;
+mod request;
+mod runs;
 mod section;
 mod service;
 mod session;
 mod setup;
-mod targets;
-mod text;
 
 pub use device::{Failed, FromRead, FromWrite, Sink, Source};
 pub use fault::{RunFault, ServeFault, SetupCode, SetupFault};
 pub use lines::{LONGEST_LINE, LineFault, Lines};
+pub use runs::run;
 pub use service::{TURNS, serve};
-pub use session::run;
 pub use setup::{Setup, read_setup};

@@ -49,9 +49,17 @@ impl Code {
     }
 }
 
-/// Why a command is refused: a code, and the name that its line tells.
+/// Why a call on the table is refused: a code, and the module that its line names.
 #[derive(Clone, Copy, Drop)]
-pub(crate) struct Refusal<'a> {
+pub(crate) struct Refusal {
     pub(crate) code: Code,
-    pub(crate) name: &'a [u8],
+    pub(crate) slot: usize,
+}
+
+impl Refusal {
+    pub(crate) fn new(code: Code, slot: usize) -> Refusal
+        ensures { result ≡ record { code = code; slot = slot } }
+    {
+        Refusal { code, slot }
+    }
 }

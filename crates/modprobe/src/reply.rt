@@ -1,176 +1,148 @@
-//! The reply to a line.
-ghost use Rattle.std.specs.Prelude.{◌≡◌, IfOk, OnOk, OnErr};
+//! The text of replies, and the room for it.
+ghost use Rattle.std.specs.Prelude.{◌≡◌, ◌≤◌, ◌+◌, ◌++◌, [], length, flat_map, vec_len, vec_capacity, IfOk, OnOk};
 ghost use Rattle.dep_index.specs.Text.{texts_of};
-ghost use Rattle.dep_index.specs.Catalogue.{slot_named, modules_of};
-ghost use Rattle.modprobe.specs.Plans.{whole_plan, plan_text};
-ghost use Rattle.modprobe.specs.Session.{told as answer_of, details, answered, performed, line_answer};
-ghost use Rattle.modprobe.specs.Loads.{modprobe, modprobe_remove};
-ghost use Rattle.modprobe.specs.Commands.{by_words};
-ghost use Rattle.modprobe.specs.ForProofs.{request_from};
+ghost use Rattle.dep_index.specs.Catalogue.{slot_named};
+ghost use Rattle.modprobe.specs.Session.{details};
+ghost use Rattle.modprobe.specs.Refusals.{error_line};
+ghost use Rattle.modprobe.specs.Plans.{mark_text, words_text, item_text};
+ghost use Rattle.modprobe.specs.ForProofs.{answer_text, TellsRefusal};
 
-use crate::answer::{perform, told};
-use crate::command::{Action, Command, Request, parse};
-use crate::load::load_items;
+use crate::action::Answer;
 use crate::refusal::Code;
-use crate::removal::remove_plans;
 use crate::setup::Setup;
-use crate::targets::{load_plan, removal_plans, whole_plan};
-use crate::text::{items_text, plan_refusal, refusal_text, render, room};
 use dep_index::Name;
-use dep_index::text::{is_comment, words};
-use proc_modules::{lsmod_text, modinfo_text, proc_text};
-use seq_table::Modules;
+use load_plan::{Item, PlanError};
+use proc_modules::modinfo_text;
 use std::alloc::{AllocError, Global};
 
-/// What modinfo(8) tells of a module.
-fn details(alloc: Global, setup: &Setup, name: &Name) -> Result<Vec<u8>, AllocError>
-    ensures { IfOk result (λ text. text.items ≡ details setup.now name.now (slot_named setup.now.catalogue name.now)) }
+/// The longest name of a catalogue.
+const LONGEST_NAME: usize = 55;
+
+/// Room for what else an error line has.
+const ERROR_ROOM: usize = 32;
+
+/// Room for a reply that names this, or a module of the catalogue.
+pub(crate) fn room(alloc: Global, name: &[u8]) -> Result<Vec<u8>, AllocError>
+    ensures empty { IfOk result (λ text. text.items ≡ []) }
+    ensures named { IfOk result (λ text. length name.now + 32 ≤ vec_capacity text) }
+    ensures short { IfOk result (λ text. 55 + 32 ≤ vec_capacity text) }
 {
-    match setup.catalogue().slot(name.as_bytes()) {
-        Some(m) => modinfo_text(alloc, setup.catalogue(), m),
-        None => refusal_text(alloc, Code::Enoent, name.as_bytes()),
+    Vec::with_capacity(alloc, name.len().max(LONGEST_NAME) + ERROR_ROOM)
+}
+
+/// Adds bytes, for which there is room.
+fn put_bytes(text: &mut Vec<u8>, bytes: &[u8])
+    requires { vec_len text.old + length bytes.now ≤ vec_capacity text.old }
+    ensures items { text.new.items ≡ text.old.items ++ bytes.now }
+    ensures len { vec_len text.new ≡ vec_len text.old + length bytes.now }
+    ensures capacity { vec_capacity text.old ≤ vec_capacity text.new }
+{
+    match text.extend_from_slice(bytes) {
+        Ok(()) => {}
+        Err(_) => unreachable!(),
     }
 }
 
-/// What modprobe(8) would load for a name.
-fn plan_text(alloc: Global, setup: &Setup, name: Name) -> Result<Vec<u8>, AllocError>
-    ensures { IfOk result (λ text. text.items ≡ plan_text setup.now (whole_plan setup.now name)) }
+/// Writes the line of a refusal to the room that was made for it.
+#[tactic(auto, unfolding(crate::specs::Refusals::error_line), using(std::proofs::lemmas::List::append_assoc))]
+fn put_error(text: &mut Vec<u8>, code: Code, name: &[u8])
+    requires empty { text.old.items ≡ [] }
+    requires room { length name.now + 32 ≤ vec_capacity text.old }
+    ensures { text.new.items ≡ error_line code name.now }
 {
-    match whole_plan(alloc, setup, name) {
-        Ok(items) => items_text(alloc, setup, &items),
-        Err(error) => plan_refusal(alloc, error),
+    put_bytes(text, b"error ");
+    put_bytes(text, code.text());
+    put_bytes(text, b" ");
+    put_bytes(text, name);
+    put_bytes(text, b"\n");
+}
+
+/// Writes an answer to the room that was made for it.
+pub(crate) fn render(text: &mut Vec<u8>, setup: &Setup, answer: Answer)
+    requires empty { text.old.items ≡ [] }
+    requires room { 55 + 32 ≤ vec_capacity text.old }
+    ensures { text.new.items ≡ answer_text setup.now answer }
+{
+    match answer {
+        Answer::Done => put_bytes(text, b"ok\n"),
+        Answer::Yes => put_bytes(text, b"yes\n"),
+        Answer::No => put_bytes(text, b"no\n"),
+        Answer::Refused(refusal) => put_error(text, refusal.code, setup.name(refusal.slot)),
     }
 }
 
-/// Makes an action on the module of a name, with its reply. All memory is taken before the table is changed.
-fn act<M: Modules>(
-    alloc: Global,
-    setup: &Setup,
-    name: &Name,
-    action: Action<'_>,
-    table: &mut M,
-) -> Result<Vec<u8>, AllocError>
-    requires over { M.catalogue table.old ≡ modules_of setup.now.catalogue }
-    ensures reply { IfOk result (λ text. text.items ≡ (answered setup.now name.now (request_from (Request.Act action.entry)) (M.table table.old)).0) }
-    ensures after { OnOk result (M.table table.new ≡ (answered setup.now name.now (request_from (Request.Act action.entry)) (M.table table.old)).1) }
-    ensures unchanged { OnErr result (M.table table.new ≡ M.table table.old) }
-    ensures over { M.catalogue table.new ≡ M.catalogue table.old }
+/// The line of a refusal.
+pub(crate) fn error_line(alloc: Global, code: Code, name: &[u8]) -> Result<Vec<u8>, AllocError>
+    ensures { IfOk result (λ text. text.items ≡ error_line code name.now) }
 {
-    let mut text = room(alloc, name.as_bytes())?;
-    let answer = perform(setup, table, name, action);
-    render(&mut text, answer);
+    let mut text = room(alloc, name)?;
+    put_error(&mut text, code, name);
     Ok(text)
 }
 
-/// Loads the modules of a name (modprobe(8)), with the reply. All is planned before the first change.
-fn modprobe<M: Modules>(
-    alloc: Global,
-    setup: &Setup,
-    name: Name,
-    words: &[&[u8]],
-    table: &mut M,
-) -> Result<Vec<u8>, AllocError>
-    requires over { M.catalogue table.old ≡ modules_of setup.now.catalogue }
-    ensures reply { IfOk result (λ text. text.items ≡ (answer_of (modprobe setup.now name (texts_of words.now) (M.table table.old))).0) }
-    ensures after { OnOk result (M.table table.new ≡ (answer_of (modprobe setup.now name (texts_of words.now) (M.table table.old))).1) }
-    ensures unchanged { OnErr result (M.table table.new ≡ M.table table.old) }
-    ensures over { M.catalogue table.new ≡ M.catalogue table.old }
+/// The line that says why there is no plan.
+pub(crate) fn plan_refusal(alloc: Global, error: PlanError) -> Result<Vec<u8>, AllocError>
+    ensures { IfOk result (λ text. TellsRefusal error text.items) }
 {
-    match load_plan(alloc, setup, name, words, table) {
-        Ok(items) => {
-            let mut text = room(alloc, b"")?;
-            render(&mut text, told(load_items(setup, table, &items)));
-            Ok(text)
-        }
-        Err(error) => plan_refusal(alloc, error),
+    match error {
+        PlanError::Cycle(name) => error_line(alloc, Code::Cycle, name.as_bytes()),
+        PlanError::Install(name) => error_line(alloc, Code::Install, name.as_bytes()),
+        PlanError::Unknown(name) => error_line(alloc, Code::Enoent, name.as_bytes()),
+        PlanError::Remove(name) => error_line(alloc, Code::Remove, name.as_bytes()),
+        PlanError::Memory => Err(AllocError),
     }
 }
 
-/// Removes the modules of a name (modprobe(8)), with the reply. All is planned before the first change.
-fn modprobe_remove<M: Modules>(
-    alloc: Global,
-    setup: &Setup,
-    name: Name,
-    table: &mut M,
-) -> Result<Vec<u8>, AllocError>
-    requires over { M.catalogue table.old ≡ modules_of setup.now.catalogue }
-    ensures reply { IfOk result (λ text. text.items ≡ (answer_of (modprobe_remove setup.now name (M.table table.old))).0) }
-    ensures after { OnOk result (M.table table.new ≡ (answer_of (modprobe_remove setup.now name (M.table table.old))).1) }
-    ensures unchanged { OnErr result (M.table table.new ≡ M.table table.old) }
-    ensures over { M.catalogue table.new ≡ M.catalogue table.old }
+fn mark_text(soft: bool) -> &'static [u8]
+    ensures { result.now ≡ mark_text soft }
 {
-    match removal_plans(alloc, setup, name, table) {
-        Ok(plans) => {
-            let mut text = room(alloc, b"")?;
-            render(&mut text, told(remove_plans(setup, table, &plans)));
-            Ok(text)
-        }
-        Err(error) => plan_refusal(alloc, error),
-    }
+    if soft { b"soft" } else { b"hard" }
 }
 
-/// Makes what is asked for by a name, with its reply.
-fn reply_by_name<M: Modules>(
-    alloc: Global,
-    setup: &Setup,
-    name: Name,
-    request: Request<'_>,
-    table: &mut M,
-) -> Result<Vec<u8>, AllocError>
-    requires over { M.catalogue table.old ≡ modules_of setup.now.catalogue }
-    ensures reply { IfOk result (λ text. text.items ≡ (answered setup.now name (request_from request.entry) (M.table table.old)).0) }
-    ensures after { OnOk result (M.table table.new ≡ (answered setup.now name (request_from request.entry) (M.table table.old)).1) }
-    ensures unchanged { OnErr result (M.table table.new ≡ M.table table.old) }
-    ensures over { M.catalogue table.new ≡ M.catalogue table.old }
+/// Adds a space and the word, for each word.
+fn push_words(text: &mut Vec<u8>, words: &[&[u8]]) -> Result<(), AllocError>
+    ensures { OnOk result (text.new.items ≡ text.old.items ++ words_text (texts_of words.now)) }
 {
-    match request {
-        Request::Act(action) => act(alloc, setup, &name, action, table),
-        Request::Modinfo => details(alloc, setup, &name),
-        Request::Plan => plan_text(alloc, setup, name),
-        Request::Modprobe(words) => modprobe(alloc, setup, name, words, table),
-        Request::ModprobeRemove => modprobe_remove(alloc, setup, name, table),
+    for word in words {
+        text.extend_from_slice(b" ")?;
+        text.extend_from_slice(word)?;
     }
+    Ok(())
 }
 
-/// Makes what the words of a line ask for, with its reply.
-fn reply_words<M: Modules>(
-    alloc: Global,
-    setup: &Setup,
-    words: &[&[u8]],
-    table: &mut M,
-) -> Result<Vec<u8>, AllocError>
-    requires over { M.catalogue table.old ≡ modules_of setup.now.catalogue }
-    ensures reply { IfOk result (λ text. text.items ≡ (performed setup.now (by_words (texts_of words.now)) (M.table table.old)).0) }
-    ensures after { OnOk result (M.table table.new ≡ (performed setup.now (by_words (texts_of words.now)) (M.table table.old)).1) }
-    ensures unchanged { OnErr result (M.table table.new ≡ M.table table.old) }
-    ensures over { M.catalogue table.new ≡ M.catalogue table.old }
+/// Adds the line of an item of a plan.
+fn push_item(text: &mut Vec<u8>, setup: &Setup, item: &Item<'_>) -> Result<(), AllocError>
+    ensures { OnOk result (text.new.items ≡ text.old.items ++ item_text setup.now item.now) }
 {
-    match parse(alloc, words)? {
-        Command::Nothing => Ok(Vec::new(alloc)),
-        Command::Malformed(first) => refusal_text(alloc, Code::Syntax, first),
-        Command::ByName(name, request) => reply_by_name(alloc, setup, name, request, table),
-        Command::Lsmod => lsmod_text(alloc, setup.catalogue(), table),
-        Command::Proc => proc_text(alloc, setup.catalogue(), table),
-    }
+    text.extend_from_slice(b"load ")?;
+    text.extend_from_slice(setup.name(item.slot))?;
+    text.extend_from_slice(b" ")?;
+    text.extend_from_slice(mark_text(item.soft))?;
+    push_words(text, item.options.words())?;
+    text.extend_from_slice(b"\n")
 }
 
-/// Makes what the line asks for, and answers the reply. All memory is taken before the table is changed.
-#[tactic(auto, unfolding(crate::specs::Session::line_answer))]
-pub(crate) fn reply_line<M: Modules>(
+/// The lines of the items of a plan.
+pub(crate) fn items_text(
     alloc: Global,
     setup: &Setup,
-    line: &[u8],
-    table: &mut M,
+    items: &[Item<'_>],
 ) -> Result<Vec<u8>, AllocError>
-    requires over { M.catalogue table.old ≡ modules_of setup.now.catalogue }
-    ensures reply { IfOk result (λ text. text.items ≡ (line_answer setup.now (M.table table.old) line.now).0) }
-    ensures after { OnOk result (M.table table.new ≡ (line_answer setup.now (M.table table.old) line.now).1) }
-    ensures unchanged { OnErr result (M.table table.new ≡ M.table table.old) }
-    ensures over { M.catalogue table.new ≡ M.catalogue table.old }
+    ensures { IfOk result (λ text. text.items ≡ flat_map (item_text setup.now) items.now) }
 {
-    if is_comment(line) {
-        return Ok(Vec::new(alloc));
+    let mut text = Vec::new(alloc);
+    for item in items {
+        push_item(&mut text, setup, item)?;
     }
-    let words = words(alloc, line)?;
-    reply_words(alloc, setup, &words, table)
+    Ok(text)
+}
+
+/// What modinfo(8) tells of a module.
+pub(crate) fn details(alloc: Global, setup: &Setup, name: &Name) -> Result<Vec<u8>, AllocError>
+    ensures { IfOk result (λ text. text.items ≡ details setup.now name.now (slot_named setup.now.catalogue name.now)) }
+{
+    match setup.catalogue().slot(name.as_bytes()) {
+        Some(slot) => modinfo_text(alloc, setup.catalogue(), slot),
+        None => error_line(alloc, Code::Enoent, name.as_bytes()),
+    }
 }

@@ -7,7 +7,7 @@ use crate::device::{Sink, Source};
 use crate::fault::ServeFault;
 use crate::lines::Lines;
 use crate::piece::Piece;
-use crate::session::run;
+use crate::runs::run;
 use crate::setup::read_setup;
 use seq_table::Table;
 use std::alloc::Global;

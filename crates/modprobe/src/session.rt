@@ -1,78 +1,141 @@
-//! A session: each line is read and answered, and its reply is written.
-ghost use Rattle.std.specs.Prelude.{◌≡◌, false, IfOk, IfErr, OnOk, OnErr, is_err};
-ghost use Rattle.std.specs.Io.KnownBytes.{Appends, IsAtEnd};
-ghost use Rattle.std.specs.Str.Lines.{lines as lines_of};
+//! A table in use by a session, and its reply to a line.
+ghost use Rattle.std.specs.Prelude.{◌≡◌, IfOk};
 ghost use Rattle.dep_index.specs.Catalogue.{modules_of};
-ghost use Rattle.modprobe.specs.Lines.{bytes_left, IfTold, StopsForTurns};
-ghost use Rattle.modprobe.specs.Session.{answer};
-ghost use Rattle.modprobe.specs.Run.{AllShort, WritesPart, StandsAfter, is_read, is_write};
+ghost use Rattle.modprobe.specs.Plans.{whole_plan, plan_text};
 
-use crate::device::{Failed, Sink, Source};
-use crate::fault::RunFault;
-use crate::lines::Lines;
-use crate::reply::reply_line;
+use crate::action::Answer;
+use crate::command::{Action, Command, Request, parse};
+use crate::refusal::Code;
+use crate::reply::{details, error_line, items_text, plan_refusal, render, room};
+use crate::request::whole_plan;
 use crate::setup::Setup;
+use dep_index::Name;
+use dep_index::text::{is_comment, words};
+use proc_modules::{lsmod_text, proc_text};
 use seq_table::Modules;
-use std::alloc::Global;
+use std::alloc::{AllocError, Global};
 
-/// Writes all bytes. Where that fails, a front part of them was written.
-fn write_all<W: Sink>(writer: &mut W, bytes: &[u8]) -> Result<(), Failed>
-    requires { W.has_failed writer.old ≡ false }
-    ensures ok { OnOk result (Appends (W.contents writer.old) (W.contents writer.new) bytes.now) }
-    ensures err { OnErr result (WritesPart (W.contents writer.old) (W.contents writer.new) bytes.now) }
-    ensures failed { W.has_failed writer.new ≡ is_err result }
-{
-    let mut written = 0;
-    while written < bytes.len() {
-        let count = writer.write(&bytes[written..])?;
-        if count == 0 {
-            return Err(Failed);
-        }
-        written += count;
-    }
-    Ok(())
+/// A table in use by a session, over the catalogue of its setup.
+#[derive(Drop)]
+pub(crate) struct Session<'s, 't, M: Modules> {
+    pub(crate) setup: &'s Setup,
+    pub(crate) table: &'t mut M,
+    ghost over: { M.catalogue table.now ≡ modules_of setup.now.catalogue },
 }
 
-/// Answers each line that is left, up to the end of the input or a fault. `Read` and `Write` come where the device
-/// fails in this call, `Turns` where the source was read as often as `lines` may, `LongLine` at a line of more than
-/// 65,535 bytes, `Memory` where there is none. After a fault all lines before the one in hand are answered, and of the
-/// reply to that one a front part is written after `Write`, and nothing after the others. The table has the effect of
-/// the line in hand after `Write` alone.
-pub fn run<R: Source, W: Sink, M: Modules>(
-    alloc: Global,
-    setup: &Setup,
-    lines: &mut Lines<'_, R>,
-    writer: &mut W,
-    table: &mut M,
-) -> Result<(), RunFault>
-    requires reader_works { R.has_failed lines.old.reader.now ≡ false }
-    requires writer_works { W.has_failed writer.old ≡ false }
-    requires over { M.catalogue table.old ≡ modules_of setup.now.catalogue }
-
-    // At the end of the input: the answer to all lines that were left, and nothing else.
-    ensures answered { OnOk result (IfTold (bytes_left R.remaining lines.old) (λ text.
-        Appends (W.contents writer.old) (W.contents writer.new) (answer setup.now (M.table table.old) (lines_of text)).0)) }
-    ensures table { OnOk result (IfTold (bytes_left R.remaining lines.old) (λ text.
-        M.table table.new ≡ (answer setup.now (M.table table.old) (lines_of text)).1)) }
-    ensures short { OnOk result (IfTold (bytes_left R.remaining lines.old) (λ text. AllShort (lines_of text))) }
-    ensures all_read { OnOk result (IsAtEnd (bytes_left R.remaining lines.new)) }
-
-    // What stands after each fault.
-    ensures stands { IfErr result (λ fault. StandsAfter fault setup.now (M.table table.old) (bytes_left R.remaining lines.old)
-        (record { left = bytes_left R.remaining lines.new; ungiven = R.remaining lines.new.reader.now; line = lines.new.line.items })
-        (W.contents writer.old) (W.contents writer.new) (M.table table.new)) }
-
-    // When each fault comes.
-    ensures read { R.has_failed lines.new.reader.now ≡ is_read result }
-    ensures write { W.has_failed writer.new ≡ is_write result }
-    ensures turns { result ≡ Err RunFault.Turns → StopsForTurns R.remaining lines.old lines.new }
-
-    ensures same_reader { lines.new.reader.ghost_name ≡ lines.old.reader.ghost_name }
-    ensures over { M.catalogue table.new ≡ M.catalogue table.old }
+/// What modprobe(8) would load for a name.
+fn plan_text(alloc: Global, setup: &Setup, name: Name) -> Result<Vec<u8>, AllocError>
+    ensures { IfOk result (λ text. text.items ≡ plan_text setup.now (whole_plan setup.now name)) }
 {
-    while lines.next_line()? {
-        let reply = reply_line(alloc, setup, lines.line(), table)?;
-        write_all(writer, reply.as_slice())?;
+    match whole_plan(alloc, setup, name) {
+        Ok(items) => items_text(alloc, setup, &items),
+        Err(error) => plan_refusal(alloc, error),
     }
-    Ok(())
+}
+
+impl<'s, 't, M: Modules> Session<'s, 't, M> {
+    ghost use Rattle.std.specs.Prelude.{OnErr};
+    ghost use Rattle.dep_index.specs.Text.{texts_of};
+    ghost use Rattle.modprobe.specs.Session.{change_reply, request_reply, command_reply, line_reply};
+    ghost use Rattle.modprobe.specs.Loads.{modprobe, modprobe_remove};
+    ghost use Rattle.modprobe.specs.Commands.{by_words};
+    ghost use Rattle.modprobe.specs.ForProofs.{request_from};
+    ghost use Rattle.modprobe.specs.Sessions.{Makes, Becomes};
+
+    /// Makes what a line asks for, and answers its reply. All memory is taken before the table is changed.
+    #[tactic(auto, unfolding(crate::specs::Session::line_reply))]
+    pub(crate) fn reply(&mut self, alloc: Global, line: &[u8]) -> Result<Vec<u8>, AllocError>
+        ensures reply { IfOk result (λ text. Makes self.old self.new text.items (λ s t. line_reply s t line.now)) }
+        ensures unchanged { OnErr result (Becomes self.old self.new (λ s t. t)) }
+    {
+        if is_comment(line) {
+            return Ok(Vec::new(alloc));
+        }
+        let words = words(alloc, line)?;
+        self.reply_to_words(alloc, &words)
+    }
+
+    /// Makes what the words of a line ask for.
+    fn reply_to_words(&mut self, alloc: Global, words: &[&[u8]]) -> Result<Vec<u8>, AllocError>
+        ensures reply { IfOk result (λ text. Makes self.old self.new text.items (λ s t. command_reply s (by_words (texts_of words.now)) t)) }
+        ensures unchanged { OnErr result (Becomes self.old self.new (λ s t. t)) }
+    {
+        match parse(alloc, words)? {
+            Command::Nothing => Ok(Vec::new(alloc)),
+            Command::Malformed(first) => error_line(alloc, Code::Syntax, first),
+            Command::ByName(name, request) => self.reply_by_name(alloc, name, request),
+            Command::Lsmod => lsmod_text(alloc, self.setup.catalogue(), self.table),
+            Command::Proc => proc_text(alloc, self.setup.catalogue(), self.table),
+        }
+    }
+
+    /// Makes what is asked for by a name.
+    fn reply_by_name(
+        &mut self,
+        alloc: Global,
+        name: Name,
+        request: Request<'_>,
+    ) -> Result<Vec<u8>, AllocError>
+        ensures reply { IfOk result (λ text. Makes self.old self.new text.items (λ s t. request_reply s name (request_from request.entry) t)) }
+        ensures unchanged { OnErr result (Becomes self.old self.new (λ s t. t)) }
+    {
+        match request {
+            Request::Act(action) => self.act(alloc, &name, action),
+            Request::Modinfo => details(alloc, self.setup, &name),
+            Request::Plan => plan_text(alloc, self.setup, name),
+            Request::Modprobe(words) => self.modprobe(alloc, name, words),
+            Request::ModprobeRemove => self.modprobe_remove(alloc, name),
+        }
+    }
+
+    /// Makes an action on the module of a name.
+    fn act(&mut self, alloc: Global, name: &Name, action: Action<'_>) -> Result<Vec<u8>, AllocError>
+        ensures reply { IfOk result (λ text. Makes self.old self.new text.items (λ s t. request_reply s name.now (request_from (Request.Act action.entry)) t)) }
+        ensures unchanged { OnErr result (Becomes self.old self.new (λ s t. t)) }
+    {
+        let Some(slot) = self.setup.catalogue().slot(name.as_bytes()) else {
+            return error_line(alloc, Code::Enoent, name.as_bytes());
+        };
+        let mut text = room(alloc, b"")?;
+        let answer = self.act_on(slot, action);
+        render(&mut text, self.setup, answer);
+        Ok(text)
+    }
+
+    /// Loads the modules of a name (modprobe(8)). All is planned before the first change.
+    fn modprobe(
+        &mut self,
+        alloc: Global,
+        name: Name,
+        words: &[&[u8]],
+    ) -> Result<Vec<u8>, AllocError>
+        ensures reply { IfOk result (λ text. Makes self.old self.new text.items (λ s t. change_reply (modprobe s name (texts_of words.now) t))) }
+        ensures unchanged { OnErr result (Becomes self.old self.new (λ s t. t)) }
+    {
+        match self.load_plan(alloc, name, words) {
+            Ok(items) => {
+                let mut text = room(alloc, b"")?;
+                let change = self.load_items(&items);
+                render(&mut text, self.setup, Answer::of(change));
+                Ok(text)
+            }
+            Err(error) => plan_refusal(alloc, error),
+        }
+    }
+
+    /// Removes the modules of a name (modprobe(8)). All is planned before the first change.
+    fn modprobe_remove(&mut self, alloc: Global, name: Name) -> Result<Vec<u8>, AllocError>
+        ensures reply { IfOk result (λ text. Makes self.old self.new text.items (λ s t. change_reply (modprobe_remove s name t))) }
+        ensures unchanged { OnErr result (Becomes self.old self.new (λ s t. t)) }
+    {
+        match self.removal_plans(alloc, name) {
+            Ok(plans) => {
+                let mut text = room(alloc, b"")?;
+                let change = self.remove_plans(&plans);
+                render(&mut text, self.setup, Answer::of(change));
+                Ok(text)
+            }
+            Err(error) => plan_refusal(alloc, error),
+        }
+    }
 }

@@ -8,7 +8,6 @@ ghost use Rattle.modprobe.specs.ForProofs.{HasLine, is_setup_read};
 use crate::device::Source;
 use crate::fault::{SetupCode, SetupFault};
 use crate::lines::Lines;
-use crate::refusal::{Code, Refusal};
 use crate::section::read_texts;
 use alias_match::{Aliases, read_aliases};
 use dep_index::{Catalogue, DepIndex, read_catalogue, read_dep};
@@ -66,26 +65,14 @@ impl Setup {
     }
 
     /// The name of the module in a slot; of a slot past the end it is empty.
-    pub(crate) fn name(&self, m: usize) -> &[u8]
-        ensures name { result.now ≡ name_at self.now m }
+    pub(crate) fn name(&self, slot: usize) -> &[u8]
+        ensures name { result.now ≡ name_at self.now slot }
         ensures short { length result.now ≤ 55 }
     {
-        if m < self.catalogue.len() {
-            self.catalogue.name(m)
+        if slot < self.catalogue.len() {
+            self.catalogue.name(slot)
         } else {
             b""
-        }
-    }
-
-    /// The refusal that names the module in a slot.
-    pub(crate) fn refusal(&self, code: Code, m: usize) -> Refusal<'_>
-        ensures code { result.code ≡ code }
-        ensures name { result.name.now ≡ name_at self.now m }
-        ensures short { length result.name.now ≤ 55 }
-    {
-        Refusal {
-            code,
-            name: self.name(m),
         }
     }
 }

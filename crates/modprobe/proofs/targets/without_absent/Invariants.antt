@@ -1,7 +1,0 @@
-use Rattle.std.proofs.Common.{◌≡◌, not, take, filter}
-use Rattle.modprobe.specs.Loads.{is_absent_target}
-use Rattle.modprobe.proofs.targets.without_absent.Given as goal
-
-abbrev pub invariant-loop-name : goal.invariant-loop-name
-invariant-loop-name g l =
-    l.left.items ≡ filter (λ name. not (is_absent_target l.setup (g.M.Modules.table l.table) name)) (take l.name-index l.names)

@@ -1,0 +1,201 @@
+//! What a request by a name needs: the modules that are found for it, and their plans.
+ghost use Rattle.std.specs.Prelude.{◌≡◌, ◌<◌, [], All, IfOk, filter, length, not};
+ghost use Rattle.dep_index.specs.Text.{texts_of};
+ghost use Rattle.load_plan.specs.Items.{Answers, plan_of, removal_plan_of};
+ghost use Rattle.modprobe.specs.Plans.{targets_of, items_of_plans, whole_plan};
+ghost use Rattle.modprobe.specs.Loads.{has_reached, is_there, load_plan, removal_plans_of, removal_plans};
+
+use crate::removal::RemovalPlan;
+use crate::session::Session;
+use crate::setup::Setup;
+use dep_index::reads::{is_absent, is_live};
+use dep_index::{ModuleState, Name};
+use load_plan::{FindError, Item, PlanError, find, plan, removal_plan};
+use seq_table::Modules;
+use std::alloc::{AllocError, Global};
+
+/// What modprobe(8) makes of the modules that are found.
+#[derive(Clone, Copy, Drop)]
+pub(crate) enum Aim {
+    Live,
+    Absent,
+}
+
+impl Aim {
+    fn has_reached(self, state: ModuleState) -> bool
+        ensures { result ≡ has_reached self state }
+    {
+        match self {
+            Aim::Live => is_live(state),
+            Aim::Absent => is_absent(state),
+        }
+    }
+}
+
+fn copy_name(alloc: Global, name: &Name) -> Result<Name, AllocError>
+    ensures { IfOk result (λ copy. copy ≡ name.now) }
+{
+    name.is_normal();
+    Name::new(alloc, name.as_bytes())
+}
+
+/// The modules that are found for a name; a name for which none is found is unknown.
+fn targets_of(alloc: Global, setup: &Setup, name: Name) -> Result<Vec<Name>, PlanError>
+    ensures { Answers (λ names. names.items) result (targets_of setup.now name) }
+{
+    let (catalogue, configuration) = (setup.catalogue(), setup.configuration());
+    match find(
+        alloc,
+        name.as_bytes(),
+        catalogue,
+        configuration,
+        setup.aliases(),
+    ) {
+        Ok(names) => Ok(names),
+        Err(FindError::NotFound) => Err(PlanError::Unknown(name)),
+        Err(FindError::Memory) => Err(PlanError::Memory),
+    }
+}
+
+/// The items of the plan of one module, each of a module of the catalogue.
+fn plan_of<'a>(
+    alloc: Global,
+    setup: &'a Setup,
+    words: &[&'a [u8]],
+    target: &Name,
+) -> Result<Vec<Item<'a>>, PlanError>
+    ensures items { Answers (λ items. items.items) result (plan_of setup.now.catalogue setup.now.dependencies setup.now.configuration target.now (texts_of words.now)) }
+    ensures within { IfOk result (λ items. All (λ item. item.slot < length setup.now.catalogue) items.items) }
+{
+    plan(
+        alloc,
+        target.as_bytes(),
+        words,
+        setup.catalogue(),
+        setup.dependencies(),
+        setup.configuration(),
+    )
+}
+
+/// The items of the plans of these modules, in order, each with the words.
+fn items_of_plans<'a>(
+    alloc: Global,
+    setup: &'a Setup,
+    words: &[&'a [u8]],
+    targets: &[Name],
+) -> Result<Vec<Item<'a>>, PlanError>
+    ensures items { Answers (λ items. items.items) result (items_of_plans setup.now (texts_of words.now) [] targets.now) }
+    ensures within { IfOk result (λ items. All (λ item. item.slot < length setup.now.catalogue) items.items) }
+{
+    let mut items = Vec::new(alloc);
+    for target in targets {
+        let mut more = plan_of(alloc, setup, words, target)?;
+        items.append(&mut more)?;
+    }
+    Ok(items)
+}
+
+/// All that is planned for a name without words.
+pub(crate) fn whole_plan<'a>(
+    alloc: Global,
+    setup: &'a Setup,
+    name: Name,
+) -> Result<Vec<Item<'a>>, PlanError>
+    ensures { Answers (λ items. items.items) result (whole_plan setup.now name) }
+{
+    let targets = targets_of(alloc, setup, name)?;
+    items_of_plans(alloc, setup, &[], &targets)
+}
+
+/// The removal plan of one module, of modules of the catalogue.
+fn removal_plan_of(alloc: Global, setup: &Setup, target: &Name) -> Result<RemovalPlan, PlanError>
+    ensures plan { Answers (λ plan. plan) result (removal_plan_of setup.now.catalogue setup.now.dependencies setup.now.configuration target.now) }
+    ensures within { IfOk result (λ plan. All (λ slot. slot < length setup.now.catalogue) plan) }
+{
+    let order = removal_plan(
+        alloc,
+        target.as_bytes(),
+        setup.catalogue(),
+        setup.dependencies(),
+        setup.configuration(),
+    )?;
+    Ok(RemovalPlan::new(order))
+}
+
+/// The removal plans of these modules, in order.
+fn removal_plans_of(
+    alloc: Global,
+    setup: &Setup,
+    targets: &[Name],
+) -> Result<Vec<RemovalPlan>, PlanError>
+    ensures plans { Answers (λ plans. plans.items) result (removal_plans_of setup.now [] targets.now) }
+    ensures within { IfOk result (λ plans. All (λ plan. All (λ slot. slot < length setup.now.catalogue) plan) plans.items) }
+{
+    let mut plans = Vec::new(alloc);
+    for target in targets {
+        plans.push(removal_plan_of(alloc, setup, target)?)?;
+    }
+    Ok(plans)
+}
+
+#[tactic(auto, using(crate::proofs::SlotLemmas::modules_of_length))]
+impl<'s, 't, M: Modules> Session<'s, 't, M> {
+    /// Whether the module of a name is there already; one outside the catalogue is not.
+    fn is_there(&self, name: &Name, aim: Aim) -> bool
+        ensures { result ≡ is_there aim self.now.setup.now (M.table self.now.table.now) name.now }
+    {
+        match self.setup.catalogue().slot(name.as_bytes()) {
+            Some(slot) => aim.has_reached(self.table.state(slot)),
+            None => false,
+        }
+    }
+
+    /// The names of modules that are not there yet.
+    fn without_those_there(
+        &self,
+        alloc: Global,
+        names: &[Name],
+        aim: Aim,
+    ) -> Result<Vec<Name>, AllocError>
+        ensures { IfOk result (λ left. left.items ≡ filter (λ name. not (is_there aim self.now.setup.now (M.table self.now.table.now) name)) names.now) }
+    {
+        let mut left = Vec::new(alloc);
+        for name in names {
+            if !self.is_there(name, aim) {
+                left.push(copy_name(alloc, name)?)?;
+            }
+        }
+        Ok(left)
+    }
+
+    /// What is planned for a name and words: for each module that is found and not live.
+    pub(crate) fn load_plan<'a>(
+        &self,
+        alloc: Global,
+        name: Name,
+        words: &[&'a [u8]],
+    ) -> Result<Vec<Item<'a>>, PlanError>
+    where
+        's: 'a,
+        ensures items { Answers (λ items. items.items) result (load_plan self.now.setup.now name (texts_of words.now) (M.table self.now.table.now)) }
+        ensures within { IfOk result (λ items. All (λ item. item.slot < length self.now.setup.now.catalogue) items.items) }
+    {
+        let found = targets_of(alloc, self.setup, name)?;
+        let targets = self.without_those_there(alloc, &found, Aim::Live)?;
+        items_of_plans(alloc, self.setup, words, &targets)
+    }
+
+    /// The removal plans for a name: of each module that is found and not absent.
+    pub(crate) fn removal_plans(
+        &self,
+        alloc: Global,
+        name: Name,
+    ) -> Result<Vec<RemovalPlan>, PlanError>
+        ensures plans { Answers (λ plans. plans.items) result (removal_plans self.now.setup.now name (M.table self.now.table.now)) }
+        ensures within { IfOk result (λ plans. All (λ plan. All (λ slot. slot < length self.now.setup.now.catalogue) plan) plans.items) }
+    {
+        let found = targets_of(alloc, self.setup, name)?;
+        let targets = self.without_those_there(alloc, &found, Aim::Absent)?;
+        removal_plans_of(alloc, self.setup, &targets)
+    }
+}
