@@ -7,5 +7,4 @@ pub mod NameLemmas
 pub mod ServeLemmas
 pub mod TurnLemmas
 pub mod PlanLemmas
-pub mod PlanBounds
 pub mod ChangeLemmas

@@ -4,7 +4,7 @@ use Rattle.std.specs.Prelude.{IfOk}
 use Rattle.load_plan.specs.declared.items.Item.{Item}
 use Rattle.load_plan.specs.declared.items.PlanError.{PlanError}
 use Rattle.load_plan.specs.declared.items.PlanError.TheVariants.{Cycle, Install, Unknown, Remove, Memory}
-use Rattle.load_plan.specs.Items.{FailsAs, Answers}
+use Rattle.load_plan.specs.Items.{FailsAs}
 use Rattle.modprobe.specs.Setup.{Setup}
 use Rattle.modprobe.specs.Plans.{plan_text}
 use Rattle.modprobe.specs.ForProofs.{TellsRefusal}
@@ -20,8 +20,3 @@ tells_plan s Memory given text fails tells = absurd tells
 pub if_ok-map : {X E : Type 0} (r : Result X E) (P Q : X → Type 0) → ((x : X) → P x → Q x) → IfOk r P → IfOk r Q
 if_ok-map (Ok x) P Q goes known = goes x known
 if_ok-map (Err e) P Q goes known = tt
-
--- What the definition gives has a property, so what is answered has it.
-pub answers_within : {X A : Type 0} (view : X → A) (r : Result X PlanError) (given : Result A PlanError) (P : A → Type 0) → ((a : A) → given ≡ Ok a → P a) → Answers view r given → IfOk r (λ x. P (view x))
-answers_within view (Ok x) given P all is = all (view x) is
-answers_within view (Err e) given P all is = tt

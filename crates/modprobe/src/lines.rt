@@ -1,5 +1,5 @@
 //! The lines of a source, one at a time.
-ghost use Rattle.std.specs.Prelude.{◌≡◌, ◌≢◌, ◌+◌, ◌<◌, ◌≤◌, ◌⊎◌, ◌++◌, ◌∷◌, [], false, true, length, vec_len, IfOk, IfErr, OnOk};
+ghost use Rattle.std.specs.Prelude.{◌≡◌, ◌≢◌, ◌+◌, ◌<◌, ◌≤◌, ◌++◌, ◌∷◌, [], false, true, vec_len, length, IfOk, IfErr, OnOk};
 ghost use Rattle.modprobe.specs.declared.lines.LineFault.TheVariants.{Memory};
 ghost use Rattle.std.specs.Io.KnownBytes.{Keeps};
 
@@ -54,7 +54,8 @@ pub struct Lines<'a, R> {
 impl<'a, R: Source> Lines<'a, R> {
     ghost use Rattle.std.specs.Str.Lines.{strip_carriage_return};
     ghost use Rattle.dep_index.specs.Text.{ended};
-    ghost use Rattle.modprobe.specs.Lines.{bytes_left, text_left, ending_bytes, HasNoFeed, EndsLine, IsPaid, steps_left, is_read_fault, Fetched, SameSource, StoppedTaking, GaveLine, FoundEnd, StoppedReading};
+    ghost use Rattle.modprobe.specs.Lines.{bytes_left, text_left, ending_bytes, HasNoFeed, EndsLine, steps_left, is_read_fault};
+    ghost use Rattle.modprobe.specs.Lines.{Fetched, SameSource, StoppedTaking, GaveLine, FoundEnd, StoppedReading};
 
     /// The lines of what `reader` has left, over at most `turns` reads.
     pub fn new(alloc: Global, reader: &'a mut R, turns: u64) -> Result<Lines<'a, R>, AllocError>

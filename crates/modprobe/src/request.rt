@@ -64,17 +64,11 @@ fn plan_of<'a>(
     words: &[&'a [u8]],
     target: &Name,
 ) -> Result<Vec<Item<'a>>, PlanError>
-    ensures items { Answers (λ items. items.items) result (plan_of setup.now.catalogue setup.now.dependencies setup.now.configuration target.now (texts_of words.now)) }
+    ensures items { Answers (λ items. items.items) result
+        (plan_of setup.now.catalogue setup.now.dependencies setup.now.configuration target.now (texts_of words.now)) }
     ensures within { IfOk result (λ items. All (λ item. item.slot < length setup.now.catalogue) items.items) }
 {
-    plan(
-        alloc,
-        target.as_bytes(),
-        words,
-        setup.catalogue(),
-        setup.dependencies(),
-        setup.configuration(),
-    )
+    plan(alloc, target.as_bytes(), words, &setup.sources())
 }
 
 /// The items of the plans of these modules, in order, each with the words.
@@ -112,13 +106,7 @@ fn removal_plan_of(alloc: Global, setup: &Setup, target: &Name) -> Result<Remova
     ensures plan { Answers (λ plan. plan) result (removal_plan_of setup.now.catalogue setup.now.dependencies setup.now.configuration target.now) }
     ensures within { IfOk result (λ plan. All (λ slot. slot < length setup.now.catalogue) plan) }
 {
-    let order = removal_plan(
-        alloc,
-        target.as_bytes(),
-        setup.catalogue(),
-        setup.dependencies(),
-        setup.configuration(),
-    )?;
+    let order = removal_plan(alloc, target.as_bytes(), &setup.sources())?;
     Ok(RemovalPlan::new(order))
 }
 

@@ -11,6 +11,7 @@ use crate::lines::Lines;
 use crate::section::read_texts;
 use alias_match::{Aliases, read_aliases};
 use dep_index::{Catalogue, DepIndex, read_catalogue, read_dep};
+use load_plan::Sources;
 use modprobe_conf::{Conf, read_conf};
 use std::alloc::Global;
 use std::marker::Model;
@@ -43,11 +44,17 @@ impl Setup {
         &self.catalogue
     }
 
-    /// What modules.dep says.
-    pub(crate) fn dependencies(&self) -> &DepIndex
-        ensures { result.now ≡ self.now.dependencies }
+    /// What plans are made from.
+    pub(crate) fn sources(&self) -> Sources<'_>
+        ensures catalogue { result.catalogue.now ≡ self.now.catalogue }
+        ensures dependencies { result.dependencies.now ≡ self.now.dependencies }
+        ensures configuration { result.configuration.now ≡ self.now.configuration }
     {
-        &self.dependencies
+        Sources {
+            catalogue: &self.catalogue,
+            dependencies: &self.dependencies,
+            configuration: &self.configuration,
+        }
     }
 
     /// What modules.alias says.
