@@ -60,13 +60,6 @@ impl<T: Drop> From<AllocFailed<T>> for PlanError {
     }
 }
 
-fn module_name(alloc: Global, catalogue: &Catalogue, slot: usize) -> Result<Name, AllocError>
-    requires { slot < length catalogue.now }
-    ensures { IfOk result (λ name. name ≡ normal_form (name_at catalogue.now slot)) }
-{
-    Name::new(alloc, catalogue.name(slot))
-}
-
 /// The refusal with the name of its module.
 fn error_of(
     alloc: Global,
@@ -77,8 +70,11 @@ fn error_of(
     ensures { IfOk result (λ e. e ≡ error_of catalogue.now refusal) }
 {
     match refusal {
-        PlanRefusal::Cycle(slot) => Ok(PlanError::Cycle(module_name(alloc, catalogue, slot)?)),
-        PlanRefusal::Install(slot) => Ok(PlanError::Install(module_name(alloc, catalogue, slot)?)),
+        PlanRefusal::Cycle(slot) => Ok(PlanError::Cycle(Name::new(alloc, catalogue.name(slot))?)),
+        PlanRefusal::Install(slot) => Ok(PlanError::Install(Name::new(
+            alloc,
+            catalogue.name(slot),
+        )?)),
         PlanRefusal::Unknown(name) => Ok(PlanError::Unknown(name)),
     }
 }

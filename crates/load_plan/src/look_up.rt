@@ -50,12 +50,7 @@ fn is_match(pattern: &Pattern, text: &[u8]) -> bool
 fn has_name(names: &[Name], name: &[u8]) -> bool
     ensures { result ≡ list_any (bytes_eq name.now) names.now }
 {
-    for own in names {
-        if name == own.as_bytes() {
-            return true;
-        }
-    }
-    false
+    names.iter().any(|own| name == own.as_bytes())
 }
 
 /// Adds a name, unless it is there already.

@@ -14,27 +14,14 @@ use crate::sources::{Sources, add_node};
 use modprobe_conf::Word;
 use std::alloc::{AllocError, Global};
 
-/// So many modules that name nothing.
-fn no_rows(alloc: Global, count: usize) -> Result<Vec<Row>, AllocError>
-    ensures { IfOk result (λ rows. rows.items ≡ replicate count no_row) }
-{
-    let none = Row {
-        hard_from: 0,
-        pre_from: 0,
-        post_from: 0,
-        end: 0,
-        installs: false,
-    };
-    vec![in alloc; none; count]
-}
-
-/// So many modules that are not known.
-fn none_known(alloc: Global, count: usize) -> Result<Vec<bool>, AllocError>
-    ensures known { IfOk result (λ known. known.items ≡ replicate count false) }
-    ensures long { IfOk result (λ known. length known.items ≡ count) }
-{
-    vec![in alloc; false; count]
-}
+/// A module that names nothing.
+const NOTHING: Row = Row {
+    hard_from: 0,
+    pre_from: 0,
+    post_from: 0,
+    end: 0,
+    installs: false,
+};
 
 /// The modules that were reached, and those of them that are left to be read.
 #[derive(Drop)]
@@ -101,11 +88,11 @@ pub(crate) fn part_from<'a>(
     ensures options { IfOk result (λ part. AreOptions sources.now part.options.items) }
 {
     let count = sources.catalogue.len();
-    let mut rows = no_rows(alloc, count)?;
+    let mut rows = vec![in alloc; NOTHING; count]?;
     let mut targets = Vec::with_capacity(alloc, count)?;
     let mut options = no_options(alloc, count)?;
     let mut reach = Reach {
-        known: none_known(alloc, count)?,
+        known: vec![in alloc; false; count]?,
         left: Vec::new(alloc),
     };
     reach.add(start)?;

@@ -5,7 +5,7 @@ ghost use Rattle.load_plan.specs.declared.walk.Mark.TheVariants.{New};
 ghost use Rattle.load_plan.specs.declared.graph.Target.TheVariants.{Slot};
 ghost use Rattle.load_plan.specs.ForProofs.{mark_at, InVisit};
 ghost use Rattle.load_plan.specs.declared.walk.Mark.{Mark};
-ghost use Rattle.load_plan.specs.VisitSteps.{IsMove, IsTaken, IsUnmet, IsUnmetFirst, is_taken, left_of, Leads, next_stage};
+ghost use Rattle.load_plan.specs.VisitSteps.{IsMove, IsTaken, IsUnmet, IsUnmetFirst, is_taken, left_of, Leads, first_stage, next_stage};
 ghost use Rattle.load_plan.specs.Graph.{is_within, Node};
 ghost use Rattle.load_plan.specs.Plan.{is_clean, visit};
 ghost use Rattle.load_plan.specs.Walk.{hard_walk};
@@ -21,6 +21,18 @@ struct Stage {
     slot: usize,
     phase: Phase,
     visited: usize,
+}
+
+impl Stage {
+    fn first(slot: usize, phase: Phase) -> Stage
+        ensures { result ≡ first_stage phase slot }
+    {
+        Stage {
+            slot,
+            phase,
+            visited: 0,
+        }
+    }
 }
 
 /// What a visit does next.
@@ -90,14 +102,10 @@ fn first_left(graph: &DependencyGraph, stage: Stage) -> Option<(&Target, Stage)>
     ensures next { IfSome result (λ x. x.1 ≡ next_stage stage) }
 {
     match target_at(graph.targets(stage.slot, stage.phase), stage.visited) {
-        Some(target) => Some((
-            target,
-            Stage {
-                slot: stage.slot,
-                phase: stage.phase,
-                visited: stage.visited + 1,
-            },
-        )),
+        Some(target) => {
+            let visited = stage.visited + 1;
+            Some((target, Stage { visited, ..stage }))
+        }
         None => None,
     }
 }
@@ -107,18 +115,9 @@ fn behind(stage: Stage) -> Move
     ensures moves { (graph : List Node) (marks : List Mark) → left_of graph stage ≡ [] → IsMove graph marks stage result }
     ensures taken { (graph : List Node) (progress done : List ℕ) → IsTaken graph progress done stage result }
 {
-    let slot = stage.slot;
     match stage.phase {
-        Phase::Pre => Move::Turn(Stage {
-            slot,
-            phase: Phase::Hard,
-            visited: 0,
-        }),
-        Phase::Hard => Move::Append(Stage {
-            slot,
-            phase: Phase::Post,
-            visited: 0,
-        }),
+        Phase::Pre => Move::Turn(Stage::first(stage.slot, Phase::Hard)),
+        Phase::Hard => Move::Append(Stage::first(stage.slot, Phase::Post)),
         Phase::Post => Move::Leave,
     }
 }
@@ -163,11 +162,7 @@ pub(crate) fn visit(
     marks[start] = Mark::Open;
     let mut order = Vec::new(alloc);
     let mut waiting = Vec::new(alloc);
-    let mut stage = Stage {
-        slot: start,
-        phase: Phase::Pre,
-        visited: 0,
-    };
+    let mut stage = Stage::first(start, Phase::Pre);
     'visit: loop {
         match next_move(alloc, graph, &marks, stage)? {
             Move::Turn(next) => stage = next,
@@ -184,11 +179,7 @@ pub(crate) fn visit(
             Move::Enter(slot, next) => {
                 marks[slot] = Mark::Open;
                 waiting.push(next)?;
-                stage = Stage {
-                    slot,
-                    phase: Phase::Pre,
-                    visited: 0,
-                };
+                stage = Stage::first(slot, Phase::Pre);
             }
         }
     }

@@ -63,13 +63,10 @@ fn first_left(graph: &DependencyGraph, frame: Frame) -> Option<(&Target, Frame)>
     ensures next { IfSome result (λ x. x.1 ≡ next_frame frame) }
 {
     match target_at(graph.targets(frame.slot, Phase::Hard), frame.walked) {
-        Some(target) => Some((
-            target,
-            Frame {
-                slot: frame.slot,
-                walked: frame.walked + 1,
-            },
-        )),
+        Some(target) => {
+            let walked = frame.walked + 1;
+            Some((target, Frame { walked, ..frame }))
+        }
         None => None,
     }
 }

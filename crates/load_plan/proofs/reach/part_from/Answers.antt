@@ -18,11 +18,11 @@ pub modules-init : goal.modules-init
 modules-init c =
     let long = length-graph_from c.args.sources.now in
     record {
-      reaching = Reaching-begin (graph_from c.args.sources.now) c.args.start (nodes_in c.in_ok-targets.targets.items c.in_ok-rows.rows.items) c.in_ok-none_known.field-0.items c.add.new.self.known.items c.new.result.items c.add.new.self.left.items
-          (ap (nodes_in c.in_ok-targets.targets.items) (c.in_ok-rows.ensures ∙ ap (λ n. replicate n no_row) (c.len-count.ensures.result_is ∙ sym long)) ∙ nodes_in-none c.in_ok-targets.targets.items (length (graph_from c.args.sources.now)))
-          (c.in_ok-none_known.ensures.known ∙ ap (λ n. replicate n false) (c.len-count.ensures.result_is ∙ sym long))
+      reaching = Reaching-begin (graph_from c.args.sources.now) c.args.start (nodes_in c.in_ok-targets.targets.items c.in_ok-rows.rows.items) c.in_ok-vec.field-0.items c.add.new.self.known.items c.new.result.items c.add.new.self.left.items
+          (ap (nodes_in c.in_ok-targets.targets.items) (c.in_ok-rows.ensures.items_if_clones_equal (λ y same. same) ∙ ap (λ n. replicate n no_row) (c.len-count.ensures.result_is ∙ sym long)) ∙ nodes_in-none c.in_ok-targets.targets.items (length (graph_from c.args.sources.now)))
+          (c.in_ok-vec.ensures.items_if_clones_equal (λ y same. same) ∙ ap (λ n. replicate n false) (c.len-count.ensures.result_is ∙ sym long))
           c.new.ensures.items c.in_ok-add.ensures.adds c.in_ok-add.ensures.here;
-      fit = rw (c.in_ok-rows.ensures) (none_fit (length c.in_ok-targets.targets.items) c.len-count.result);
+      fit = rw (c.in_ok-rows.ensures.items_if_clones_equal (λ y same. same)) (none_fit (length c.in_ok-targets.targets.items) c.len-count.result);
       options = rw (c.in_ok-options.ensures.options) (no_options c.args.sources.now c.len-count.result);
       options_long = c.in_ok-options.ensures.long ∙ c.len-count.ensures.result_is;
     }

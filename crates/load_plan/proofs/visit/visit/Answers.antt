@@ -8,14 +8,14 @@ use Rattle.load_plan.specs.VisitSteps.{first_stage}
 use Rattle.load_plan.proofs.Lists.{all_below}
 use Rattle.load_plan.proofs.Walking.{marks-new}
 use Rattle.load_plan.proofs.Visiting.{Visits-begin, Visits-slot, Visits-by_pass, Visits-by_append, Visits-leave, Visits-by_enter}
-use Rattle.load_plan.proofs.Effort.{effort-append, stack_of, stack-pop, stack-push}
+use Rattle.load_plan.proofs.Effort.{effort-append, effort-enter, stack_of, stack-pop, stack-push}
 use Rattle.load_plan.proofs.visit.visit.Goals as goal
 
 pub visit-init : goal.visit-init
 visit-init c =
     let count : length c.in_ok-marks.marks.items ≡ length c.args.graph.now = ap length (c.in_ok-marks.ensures ∙ ap (λ n. replicate n New) c.len.ensures.len) ∙ length-replicate {A = Mark} (length c.args.graph.now) New in
     let new : AreMarks (length c.args.graph.now) c.in_ok-marks.marks.items [] [] = subst (λ l. AreMarks (length c.args.graph.now) l [] []) (sym (c.in_ok-marks.ensures ∙ ap (λ n. replicate n New) c.len.ensures.len)) (marks-new (length c.args.graph.now)) in
-    Visits-begin c.args.graph.now c.args.start c.in_ok-marks.marks.items c.new-order.result.items (first_stage Pre c.args.start ∷ stack_of c.new-waiting.result.items) c.requires.walked.0 c.len.ensures.bounded c.requires.walked.1 c.requires.start count new c.new-order.ensures.items (ap (λ l. first_stage Pre c.args.start ∷ stack_of l) c.new-waiting.ensures.items)
+    rw c.first-stage.ensures (Visits-begin c.args.graph.now c.args.start c.in_ok-marks.marks.items c.new-order.result.items (first_stage Pre c.args.start ∷ stack_of c.new-waiting.result.items) c.requires.walked.0 c.len.ensures.bounded c.requires.walked.1 c.requires.start count new c.new-order.ensures.items (ap (λ l. first_stage Pre c.args.start ∷ stack_of l) c.new-waiting.ensures.items))
 
 pub visit-preserved-in-Pass : goal.visit-preserved-in-Pass
 visit-preserved-in-Pass c = Visits-by_pass c.visit.invariant (rw (c.deref.ensures.value, c.in-Pass.is) at c.in_ok-next.ensures.moves) (rw (c.deref.ensures.value, c.in-Pass.is) at c.in_ok-next.ensures.taken)
@@ -36,8 +36,15 @@ visit-preserved-in-Some c =
 
 pub visit-preserved : goal.visit-preserved
 visit-preserved c =
-    rw (stack-push c.visit.waiting.items c.in_ok-push-in-Enter.ensures.items)
+    rw (stack-push c.visit.waiting.items c.in_ok-push-in-Enter.ensures.items, c.first-stage-in-Enter.ensures)
     (Visits-by_enter c.in-Enter.slot c.visit.invariant (rw (c.deref.ensures.value, c.in-Enter.is) at c.in_ok-next.ensures.moves) (rw (c.deref.ensures.value, c.in-Enter.is) at c.in_ok-next.ensures.taken))
 
 pub returns-in-None-clause-within : goal.returns-in-None-clause-within
 returns-in-None-clause-within c = all_below (length c.args.graph.now) c.visit.order.items (λ q h. (c.visit.invariant.kept.entered q h).0)
+
+pub visit-smaller : goal.visit-smaller
+visit-smaller c =
+    let move = rw (c.deref.ensures.value, c.in-Enter.is) at c.in_ok-next.ensures.moves in
+    let inside : c.in-Enter.slot < length c.visit.marks.items = omega (arith, move.1, c.visit.invariant.long) in
+    rw (stack-push c.visit.waiting.items c.in_ok-push-in-Enter.ensures.items, c.first-stage-in-Enter.ensures, move.3)
+    (effort-enter c.args.graph.now c.visit.marks.items c.visit.stage (stack_of c.visit.waiting.items) c.in-Enter.slot move.0 move.2 move.1 inside)
