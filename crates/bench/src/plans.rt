@@ -6,7 +6,7 @@ use crate::figure::{print_figure, print_time};
 use alias_match::Aliases;
 use anyhow::{Result, bail};
 use dep_index::{Catalogue, DepIndex, read_dep};
-use load_plan::{PlanError, find, plan, removal_plan};
+use load_plan::{PlanError, Sources, find, plan, removal_plan};
 use modprobe_conf::{Conf, read_conf};
 use std::alloc::{AllocError, Global};
 use std::rt::Clock;
@@ -21,8 +21,9 @@ const PLANS: u64 = 500;
 
 const LOOKUPS: u64 = 50;
 
+/// What a plan is made from, as it was read.
 #[derive(Drop)]
-struct Sources {
+struct Inputs {
     catalogue: Catalogue,
     dependencies: DepIndex,
     configuration: Conf,
@@ -44,11 +45,20 @@ pub fn measure<R: Print + Clock + AllocGlobal>(rt: &R) -> Result<()> {
 
 fn measure_part<R: Print + Clock + AllocGlobal>(rt: &R, part: Part) -> Result<()> {
     let has_symbols = !matches!(part, Part::ByPaths);
-    let sources = read_sources(rt.alloc(), has_symbols)?;
-    measure_over(rt, part, &sources)
+    let inputs = read_inputs(rt.alloc(), has_symbols)?;
+    measure_over(rt, part, &inputs)
 }
 
-fn measure_over<R: Print + Clock + AllocGlobal>(
+fn measure_over<R: Print + Clock + AllocGlobal>(rt: &R, part: Part, inputs: &Inputs) -> Result<()> {
+    let sources = Sources {
+        catalogue: &inputs.catalogue,
+        dependencies: &inputs.dependencies,
+        configuration: &inputs.configuration,
+    };
+    measure_from(rt, part, &sources)
+}
+
+fn measure_from<R: Print + Clock + AllocGlobal>(
     rt: &R,
     part: Part,
     sources: &Sources,
@@ -136,33 +146,18 @@ fn plan_often(alloc: Global, sources: &Sources, asked: &Asked) -> Result<u64> {
 
 /// How many modules the plan that is asked for has.
 fn len_of(alloc: Global, sources: &Sources, asked: &Asked) -> Result<usize> {
-    let len = if asked.is_removal {
-        removal_len(alloc, sources, asked.module)
-    } else {
-        plan_len(alloc, sources, asked.module)
-    };
-    match len {
+    match try_len_of(alloc, sources, asked) {
         Ok(len) => Ok(len),
         Err(_) => bail!("no plan"),
     }
 }
 
-fn plan_len(alloc: Global, sources: &Sources, module: &[u8]) -> Result<usize, PlanError> {
-    let Sources {
-        catalogue,
-        dependencies,
-        configuration,
-    } = sources;
-    Ok(plan(alloc, module, &[], catalogue, dependencies, configuration)?.len())
-}
-
-fn removal_len(alloc: Global, sources: &Sources, module: &[u8]) -> Result<usize, PlanError> {
-    let Sources {
-        catalogue,
-        dependencies,
-        configuration,
-    } = sources;
-    Ok(removal_plan(alloc, module, catalogue, dependencies, configuration)?.len())
+fn try_len_of(alloc: Global, sources: &Sources, asked: &Asked) -> Result<usize, PlanError> {
+    if asked.is_removal {
+        Ok(removal_plan(alloc, asked.module, sources)?.len())
+    } else {
+        Ok(plan(alloc, asked.module, &[], sources)?.len())
+    }
 }
 
 fn measure_find<R: Print + Clock + AllocGlobal>(rt: &R, sources: &Sources) -> Result<()> {
@@ -195,16 +190,16 @@ fn is_found(alloc: Global, sources: &Sources, aliases: &Aliases) -> bool {
     find(
         alloc,
         DEVICE,
-        &sources.catalogue,
-        &sources.configuration,
+        sources.catalogue,
+        sources.configuration,
         aliases,
     )
     .is_ok()
 }
 
 /// The hard dependencies stand in the catalogue, as symbols, or else in modules.dep.
-fn read_sources(alloc: Global, has_symbols: bool) -> Result<Sources> {
-    Ok(Sources {
+fn read_inputs(alloc: Global, has_symbols: bool) -> Result<Inputs> {
+    Ok(Inputs {
         catalogue: catalogue(alloc, has_symbols)?,
         dependencies: dependencies(alloc, !has_symbols)?,
         configuration: configuration(alloc)?,
@@ -235,26 +230,26 @@ fn configuration(alloc: Global) -> Result<Conf> {
 
 fn catalogue_text(alloc: Global, has_symbols: bool) -> Result<String, AllocError> {
     let mut text = String::from_str(alloc, "version 2\n")?;
-    for m in 0..MODULES {
-        writeln!(text, "module module_{m}")?;
+    for slot in 0..MODULES {
+        writeln!(text, "module module_{slot}")?;
         if has_symbols {
-            push_symbols(&mut text, m)?;
+            push_symbols(&mut text, slot)?;
         }
     }
     Ok(text)
 }
 
-fn push_symbols(text: &mut String, m: usize) -> Result<(), AllocError> {
-    writeln!(text, "exports symbol_{m}")?;
+fn push_symbols(text: &mut String, slot: usize) -> Result<(), AllocError> {
+    writeln!(text, "exports symbol_{slot}")?;
     for step in &STEPS {
-        push_need(text, m, *step)?;
+        push_need(text, slot, *step)?;
     }
     Ok(())
 }
 
-fn push_need(text: &mut String, m: usize, step: usize) -> Result<(), AllocError> {
-    if step < MODULES && m < MODULES - step {
-        writeln!(text, "needs symbol_{}", m + step)?;
+fn push_need(text: &mut String, slot: usize, step: usize) -> Result<(), AllocError> {
+    if step < MODULES && slot < MODULES - step {
+        writeln!(text, "needs symbol_{}", slot + step)?;
     }
     Ok(())
 }
@@ -263,24 +258,24 @@ fn push_need(text: &mut String, m: usize, step: usize) -> Result<(), AllocError>
 fn dependencies_text(alloc: Global, has_paths: bool) -> Result<String, AllocError> {
     let mut text = String::new(alloc);
     if has_paths {
-        for m in 0..MODULES {
-            push_paths(&mut text, m)?;
+        for slot in 0..MODULES {
+            push_paths(&mut text, slot)?;
         }
     }
     Ok(text)
 }
 
-fn push_paths(text: &mut String, m: usize) -> Result<(), AllocError> {
-    write!(text, "kernel/drivers/module_{m}.ko:")?;
+fn push_paths(text: &mut String, slot: usize) -> Result<(), AllocError> {
+    write!(text, "kernel/drivers/module_{slot}.ko:")?;
     for step in &STEPS {
-        push_path(text, m, *step)?;
+        push_path(text, slot, *step)?;
     }
     text.push_str("\n")
 }
 
-fn push_path(text: &mut String, m: usize, step: usize) -> Result<(), AllocError> {
-    if step < MODULES && m < MODULES - step {
-        write!(text, " kernel/drivers/module_{}.ko", m + step)?;
+fn push_path(text: &mut String, slot: usize, step: usize) -> Result<(), AllocError> {
+    if step < MODULES && slot < MODULES - step {
+        write!(text, " kernel/drivers/module_{}.ko", slot + step)?;
     }
     Ok(())
 }
@@ -288,18 +283,18 @@ fn push_path(text: &mut String, m: usize, step: usize) -> Result<(), AllocError>
 /// An options line for every eighth module, and a softdep line for every sixteenth.
 fn configuration_text(alloc: Global) -> Result<String, AllocError> {
     let mut text = String::new(alloc);
-    for m in 0..MODULES {
-        push_settings(&mut text, m)?;
+    for slot in 0..MODULES {
+        push_settings(&mut text, slot)?;
     }
     Ok(text)
 }
 
-fn push_settings(text: &mut String, m: usize) -> Result<(), AllocError> {
-    if m % 8 == 0 {
-        writeln!(text, "options module_{m} debug=1 level=3")?;
+fn push_settings(text: &mut String, slot: usize) -> Result<(), AllocError> {
+    if slot % 8 == 0 {
+        writeln!(text, "options module_{slot} debug=1 level=3")?;
     }
-    if m % 16 == 0 {
-        writeln!(text, "softdep module_{m} pre: other_{m}")?;
+    if slot % 16 == 0 {
+        writeln!(text, "softdep module_{slot} pre: other_{slot}")?;
     }
     Ok(())
 }
