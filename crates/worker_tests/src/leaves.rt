@@ -1,3 +1,4 @@
+//! Leaves, readers and the book at one row.
 ghost use Rattle.std.specs.Prelude.{◌≡◌, true, length, All, IfOk};
 ghost use Rattle.dep_index.specs.Catalogue.{modules_of};
 ghost use Rattle.dep_index.specs.Table.{module_at, no_module};

@@ -17,6 +17,7 @@ pub(crate) enum Play {
 type Course = (usize, Option<(usize, Reply)>, Option<usize>);
 
 /// What the threads are told behind the load of snd, and the calls from number 2 on.
+#[derive(Clone, Copy)]
 pub(crate) struct Schedule {
     pub(crate) name: &'static str,
     pub(crate) threads: usize,

@@ -120,15 +120,15 @@ fn reply_to(table: &mut Table, call: Call) -> Option<Reply> {
         return None;
     }
     let reply = match call {
-        Call::Get(w, _) | Call::Put(w, _) if w >= table.workers() => return None,
-        Call::Get(w, m) => of_get(table.get(w, m)),
-        Call::Put(w, m) => of_put(table.put(w, m)),
-        Call::InUse(m) => of_query(table.in_use(m)),
-        Call::BeginLoad(m) => of_begin_load(table.begin_load(m)),
-        Call::EndLoad(m, ok) => of_end_load(table.end_load(m, ok)),
-        Call::BeginDrain(m) => of_begin_drain(table.begin_drain(m)),
-        Call::BeginRemove(m) => of_begin_remove(table.begin_remove(m)),
-        Call::EndRemove(m) => of_end_remove(table.end_remove(m)),
+        Call::Get(worker, _) | Call::Put(worker, _) if worker >= table.workers() => return None,
+        Call::Get(worker, slot) => of_get(table.get(worker, slot)),
+        Call::Put(worker, slot) => of_put(table.put(worker, slot)),
+        Call::InUse(slot) => of_query(table.in_use(slot)),
+        Call::BeginLoad(slot) => of_begin_load(table.begin_load(slot)),
+        Call::EndLoad(slot, ok) => of_end_load(table.end_load(slot, ok)),
+        Call::BeginDrain(slot) => of_begin_drain(table.begin_drain(slot)),
+        Call::BeginRemove(slot) => of_begin_remove(table.begin_remove(slot)),
+        Call::EndRemove(slot) => of_end_remove(table.end_remove(slot)),
     };
     Some(reply)
 }

@@ -58,7 +58,10 @@ const OPEN: [(&[Mark], bool); 6] = [
     (&[(2, 12, Done), (3, 15, NotLive)], true),
     (&[(3, 15, NotLive)], false),
     (&[(2, 12, Done), (3, 15, NotLive), (4, 20, Done)], true),
-    (&[(2, 12, Done), (3, 15, NotLive), (4, 20, NotUnloading)], false),
+    (
+        &[(2, 12, Done), (3, 15, NotLive), (4, 20, NotUnloading)],
+        false,
+    ),
     (&[(2, 12, Done), (3, 15, NotLive), (4, 22, Done)], true),
     (&[(2, 12, Done), (3, 15, NotLive), (4, 23, Done)], false),
 ];
