@@ -40,7 +40,8 @@ const PUT: [Row; 6] = [
 ];
 
 /// The removal ends, and nothing is left.
-const END: [Row; 4] = [
+const END: [Row; 5] = [
+    (Call::Put(0, 0), Some(Reply::NotHeld)),
     (Call::EndRemove(0), Some(Reply::Done)),
     (Call::BeginRemove(0), Some(Reply::NoEntry)),
     (Call::Get(2, 0), None),
@@ -61,85 +62,6 @@ fn reply_to<R: Wait>(rt: &R, manager: &Manager, call: Call) -> Option<Reply> {
     };
     Some(reply)
 }
-
-/// Makes the calls in order, and says whether each answers as it ought to.
-fn answers<R: Wait>(rt: &R, manager: &Manager, rows: &[Row]) -> bool {
-    for (call, want) in rows {
-        if reply_to(rt, manager, *call) != *want {
-            return false;
-        }
-    }
-    true
-}
-
-/// The first module is live, and alone in the table.
-fn is_alone<R: Wait>(rt: &R, manager: &Manager) -> bool {
-    manager.state(rt, 0) == Some(ModuleState::Live)
-        && manager.loaded(rt) == 1
-        && manager.loaded_at(rt, 0) == Some(0)
-        && manager.loaded_at(rt, 1).is_none()
-}
-
-fn loads<R: Wait>(rt: &R, manager: &Manager) -> bool {
-    answers(rt, manager, &LOAD) && is_alone(rt, manager)
-}
-
-/// Each worker holds one reference once both have got one.
-fn both_get<R: Wait>(rt: &R, manager: &Manager) -> bool {
-    answers(rt, manager, &GET)
-        && manager.held(rt, 0, 0) == Some(1)
-        && manager.held(rt, 1, 0) == Some(1)
-}
-
-/// A module is used and removed, and a query says whether it is in use.
-fn is_used_and_removed<R: Wait>(rt: &R, manager: &Manager, reader: &mut Reader) -> bool
-    requires { IsOf manager.now reader.old }
-{
-    manager.slots() == 2
-        && loads(rt, manager)
-        && both_get(rt, manager)
-        && manager.query(reader, 0)
-        && answers(rt, manager, &PUT)
-        && !manager.query(reader, 0)
-        && answers(rt, manager, &END)
-}
-
-#[test]
-fn a_module_is_used_and_removed(rt: HostRuntime) -> Result<(), Fail> {
-    let (manager, mut readers) = Manager::new(rt.alloc(), &sound(rt.alloc())?, 2)?;
-    let mut reader = readers.pop().ok_or("no reader")?;
-    assert!(rt; is_used_and_removed(&rt, &manager, &mut reader));
-    Ok(())
-}
-
-/// What a call is made on.
-#[derive(Clone, Copy)]
-enum On {
-    Manager,
-    Guard,
-}
-
-/// Both workers use the module, every second call on a guard.
-const USED: [(On, Call, Option<Reply>); 4] = [
-    (On::Manager, Call::BeginLoad(0), Some(Reply::Done)),
-    (On::Guard, Call::EndLoad(0, true), Some(Reply::Done)),
-    (On::Manager, Call::Get(0, 0), Some(Reply::Done)),
-    (On::Guard, Call::Get(1, 0), Some(Reply::Done)),
-];
-
-/// Both put their references, and the module leaves.
-const LEFT: [(On, Call, Option<Reply>); 10] = [
-    (On::Guard, Call::BeginRemove(0), Some(Reply::InUse)),
-    (On::Manager, Call::Put(0, 0), Some(Reply::Done)),
-    (On::Guard, Call::BeginRemove(0), Some(Reply::InUse)),
-    (On::Manager, Call::Put(1, 0), Some(Reply::Done)),
-    (On::Guard, Call::BeginRemove(0), Some(Reply::Done)),
-    (On::Manager, Call::Get(0, 0), Some(Reply::NotLive)),
-    (On::Guard, Call::Put(0, 0), Some(Reply::NotHeld)),
-    (On::Manager, Call::EndRemove(0), Some(Reply::Done)),
-    (On::Guard, Call::BeginRemove(0), Some(Reply::NoEntry)),
-    (On::Guard, Call::Get(2, 0), None),
-];
 
 fn lock_and_get<R: Wait>(rt: &R, leaf: &Mutex<OwnLeaf>, slot: usize) -> Option<Reply> {
     let answer = leaf.lock(rt).get(rt, slot);
@@ -166,15 +88,22 @@ fn lock_and_remove<R: Wait>(rt: &R, book: &Mutex<OwnBook>, slot: usize) -> Optio
     Some(of_begin_remove(answer?))
 }
 
-/// What a guard answers to a call. Of a worker out of range there is none.
+/// What a guard answers to a call that it has, and else the manager. Of a worker out of range there is no guard.
 fn guard_reply<R: Wait>(rt: &R, manager: &Manager, call: Call) -> Option<Reply> {
     match call {
         Call::Get(worker, slot) => lock_and_get(rt, manager.leaf(worker)?, slot),
         Call::Put(worker, slot) => lock_and_put(rt, manager.leaf(worker)?, slot),
         Call::EndLoad(slot, ok) => lock_and_end_load(rt, manager.book(), slot, ok),
         Call::BeginRemove(slot) => lock_and_remove(rt, manager.book(), slot),
-        _ => None,
+        _ => reply_to(rt, manager, call),
     }
+}
+
+/// What a call is made on.
+#[derive(Clone, Copy)]
+enum On {
+    Manager,
+    Guard,
 }
 
 fn reply_on<R: Wait>(rt: &R, manager: &Manager, on: On, call: Call) -> Option<Reply> {
@@ -185,22 +114,62 @@ fn reply_on<R: Wait>(rt: &R, manager: &Manager, on: On, call: Call) -> Option<Re
 }
 
 /// Makes the calls in order, and says whether each answers as it ought to.
-fn all_answer<R: Wait>(rt: &R, manager: &Manager, rows: &[(On, Call, Option<Reply>)]) -> bool {
-    for (on, call, want) in rows {
-        if reply_on(rt, manager, *on, *call) != *want {
+fn answers<R: Wait>(rt: &R, manager: &Manager, on: On, rows: &[Row]) -> bool {
+    for (call, want) in rows {
+        if reply_on(rt, manager, on, *call) != *want {
             return false;
         }
     }
     true
 }
 
+/// The first module is live, and alone in the table.
+fn is_alone<R: Wait>(rt: &R, manager: &Manager) -> bool {
+    manager.state(rt, 0) == Some(ModuleState::Live)
+        && manager.loaded(rt) == 1
+        && manager.loaded_at(rt, 0) == Some(0)
+        && manager.loaded_at(rt, 1).is_none()
+}
+
+fn loads<R: Wait>(rt: &R, manager: &Manager, on: On) -> bool {
+    answers(rt, manager, on, &LOAD) && is_alone(rt, manager)
+}
+
+/// Each worker holds one reference once both have got one.
+fn both_get<R: Wait>(rt: &R, manager: &Manager, on: On) -> bool {
+    answers(rt, manager, on, &GET)
+        && manager.held(rt, 0, 0) == Some(1)
+        && manager.held(rt, 1, 0) == Some(1)
+}
+
+/// A module is used and removed, and a query says whether it is in use.
+fn is_used_and_removed<R: Wait>(rt: &R, manager: &Manager, reader: &mut Reader, on: On) -> bool
+    requires { IsOf manager.now reader.old }
+{
+    manager.slots() == 2
+        && loads(rt, manager, on)
+        && both_get(rt, manager, on)
+        && manager.query(reader, 0)
+        && answers(rt, manager, on, &PUT)
+        && !manager.query(reader, 0)
+        && answers(rt, manager, on, &END)
+}
+
+/// What comes of it on a manager of its own.
+fn use_and_remove<R: AllocGlobal + Wait>(rt: &R, on: On) -> Result<bool, Fail> {
+    let (manager, mut readers) = Manager::new(rt.alloc(), &sound(rt.alloc())?, 2)?;
+    let mut reader = readers.pop().ok_or("no reader")?;
+    Ok(is_used_and_removed(rt, &manager, &mut reader, on))
+}
+
+#[test]
+fn a_module_is_used_and_removed(rt: HostRuntime) -> Result<(), Fail> {
+    assert!(rt; use_and_remove(&rt, On::Manager)?);
+    Ok(())
+}
+
 #[test]
 fn guards_answer_as_the_manager_does(rt: HostRuntime) -> Result<(), Fail> {
-    let (manager, _readers) = Manager::new(rt.alloc(), &sound(rt.alloc())?, 2)?;
-    assert!(rt;
-        all_answer(&rt, &manager, &USED)
-            && manager.held(&rt, 0, 0) == Some(1)
-            && all_answer(&rt, &manager, &LEFT)
-    );
+    assert!(rt; use_and_remove(&rt, On::Guard)?);
     Ok(())
 }

@@ -122,7 +122,7 @@ fn is_left_open(found: &[Interval]) -> bool {
     found.len() == 6 && found[3] == LEFT_OPEN && found[4] == ASKED
 }
 
-// Thread 0 stops with the lock of leaf 0: thread 1 waits for it, and no other thread does.
+/// Thread 0 stops with the lock of leaf 0: thread 1 waits for it, and no other thread does.
 #[test]
 fn intervals_are_left_open(rt: HostRuntime) -> Result<(), Fail> {
     let found = stopped_intervals(rt.alloc())?;

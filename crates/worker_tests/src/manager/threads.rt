@@ -3,7 +3,7 @@ ghost use Rattle.std.specs.Prelude.{◌<◌};
 ghost use Rattle.root_row.specs.World.{slots};
 ghost use Rattle.root_row.specs.Seats.{IsOf};
 
-use super::{loads, reply_to};
+use super::{On, loads, reply_to};
 use crate::sound::sound;
 use dep_index::{Call, Reply};
 use module_table::Manager;
@@ -125,7 +125,7 @@ fn on_scoped_threads<R: Threads + Wait + Sync>(rt: &R, manager: &Manager) {
 #[test]
 fn workers_on_scoped_threads(rt: HostRuntime) -> Result<(), Fail> {
     let (manager, _readers) = Manager::new(rt.alloc(), &sound(rt.alloc())?, 2)?;
-    assert!(rt; loads(&rt, &manager));
+    assert!(rt; loads(&rt, &manager, On::Manager));
     on_scoped_threads(&rt, &manager);
     assert!(rt; reply_to(&rt, &manager, Call::BeginRemove(0)) == Some(Reply::Done));
     Ok(())
