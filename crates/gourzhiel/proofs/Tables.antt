@@ -1,7 +1,6 @@
 -- The seats of a new row are a table.
 use Rattle.std.proofs.Common.{◌≡◌, ℕ, List, refl, sym, subst}
 use Rattle.dep_index.specs.Table.{Module}
-use Rattle.root_row.specs.declared.view.World.{World}
 use Rattle.root_row.specs.Seats.{RowIs, Seated}
 use Rattle.root_row.specs.Made.{AreNew, new_leaf, new_reader, new_book}
 use Rattle.gourzhiel.specs.Making.{IsTable}

@@ -1,7 +1,6 @@
 -- A new table: its book, its leaves and its readers.
 use Rattle.std.specs.Prelude.{◌≡◌, ◌⊎◌, ℕ, ◌==◌, true, List, length, map, All, MatchBool}
 use Rattle.dep_index.specs.Table.{Module}
-use Rattle.root_row.specs.declared.view.World.{World}
 use Rattle.root_row.specs.Seats.{Seated}
 use Rattle.root_row.specs.Made as made
 use Rattle.root_row.specs.Made.{AreNew}

@@ -1,6 +1,6 @@
 -- What the calls on a catalogue tell.
 use Rattle.std.specs.Prelude.{◌≡◌, ℕ, ◌<◌, ◌≤◌, ◌==◌, Bool, true, List, length, take, drop, Result, Ok, Err, Option, MatchOption, MatchBool}
-use Rattle.dep_index.specs.Catalogue.{Description, Refusal, description_at, slot_named}
+use Rattle.dep_index.specs.Catalogue.{Description, Refusal, description_at}
 use Rattle.gourzhiel.specs.Numbers.{fault_at, out_of_memory, out_of_range, unknown_name, too_short}
 
 -- why a text was not read: there was no memory, or the text has this fault first, at this line
