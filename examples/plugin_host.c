@@ -15,11 +15,8 @@
 enum { WORKERS = 3, ROUNDS = 200 };
 
 static const char text[] =
-    "module stream\n"
-    "exports stream_open\n"
-    "module codec\n"
-    "exports codec_run\n"
-    "needs stream_open\n";
+    "module stream\nexports stream_open\n"
+    "module codec\nneeds stream_open\n";
 
 /* What a plugin has while it is loaded. */
 struct plugin {
@@ -33,8 +30,6 @@ static atomic_bool is_over;
 
 static unsigned long add(struct plugin *self, unsigned long x) { return x + self->salt; }
 static unsigned long mix(struct plugin *self, unsigned long x) { return x * 31 + self->salt; }
-
-/* ---- Workers ---- */
 
 struct worker {
     gz_leaf leaf;
@@ -60,8 +55,6 @@ static void *work(void *argument)
         use(worker, turn % 2);
     return NULL;
 }
-
-/* ---- The host ---- */
 
 /* Loads a plugin: its memory is there before the first get succeeds. */
 static gz_number load(gz_book *book, size_t slot, const char *name)
