@@ -24,11 +24,11 @@ fn push_params(text: &mut Vec<u8>, params: &[Param]) -> Result<(), AllocError> {
     text.extend_from_slice(b"\n")
 }
 
-fn push_marks(text: &mut Vec<u8>, catalogue: &Catalogue, m: usize) -> Result<(), AllocError> {
-    if m < catalogue.len() && catalogue.unknown_symbol(m) {
+fn push_marks(text: &mut Vec<u8>, catalogue: &Catalogue, slot: usize) -> Result<(), AllocError> {
+    if slot < catalogue.len() && catalogue.unknown_symbol(slot) {
         text.extend_from_slice(b", unknown symbol")?;
     }
-    if m < catalogue.len() && catalogue.permanent(m) {
+    if slot < catalogue.len() && catalogue.permanent(slot) {
         text.extend_from_slice(b", permanent")?;
     }
     Ok(())
@@ -39,25 +39,25 @@ fn push_module(
     alloc: Global,
     text: &mut Vec<u8>,
     catalogue: &Catalogue,
-    m: usize,
+    slot: usize,
 ) -> Result<(), AllocError> {
-    if m >= catalogue.len() {
+    if slot >= catalogue.len() {
         return Ok(());
     }
-    let (size, needs) = (catalogue.size(m), catalogue.needs(m));
+    let (size, needs) = (catalogue.size(slot), catalogue.needs(slot));
     let numbers = format!(in alloc; ": size {size}, needs {needs:?}")?;
-    text.extend_from_slice(catalogue.name(m))?;
+    text.extend_from_slice(catalogue.name(slot))?;
     text.extend_from_slice(numbers.as_bytes())?;
-    push_names(text, b", softneeds", catalogue.softneeds(m))?;
-    push_marks(text, catalogue, m)?;
-    push_params(text, catalogue.params(m))
+    push_names(text, b", softneeds", catalogue.softneeds(slot))?;
+    push_marks(text, catalogue, slot)?;
+    push_params(text, catalogue.params(slot))
 }
 
 /// All modules of a catalogue, one a line.
 fn modules_text(alloc: Global, catalogue: &Catalogue) -> Result<Vec<u8>, AllocError> {
     let mut text = Vec::new(alloc);
-    for m in 0..catalogue.len() {
-        push_module(alloc, &mut text, catalogue, m)?;
+    for slot in 0..catalogue.len() {
+        push_module(alloc, &mut text, catalogue, slot)?;
     }
     Ok(text)
 }

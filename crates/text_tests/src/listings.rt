@@ -114,18 +114,18 @@ fn tells_the_parts_of_a_line(rt: HostRuntime) -> Result<(), Fail> {
 }
 
 /// Makes a call that changes states, where it is one.
-fn make_change(table: &mut Table, m: usize, call: Call)
-    requires { m < length table.old.catalogue }
+fn make_change(table: &mut Table, slot: usize, call: Call)
+    requires { slot < length table.old.catalogue }
     ensures { table.new.catalogue ≡ table.old.catalogue }
 {
     if let Call::BeginLoad(_) = call {
-        let _ = table.begin_load(m);
+        let _ = table.begin_load(slot);
     } else if let Call::EndLoad(_, ok) = call {
-        let _ = table.end_load(m, ok);
+        let _ = table.end_load(slot, ok);
     } else if let Call::BeginDrain(_) = call {
-        let _ = table.begin_drain(m);
+        let _ = table.begin_drain(slot);
     } else if let Call::BeginRemove(_) = call {
-        let _ = table.begin_remove(m);
+        let _ = table.begin_remove(slot);
     }
 }
 
@@ -136,9 +136,9 @@ fn make(table: &mut Table, call: Call)
     if call.slot() >= table.slots() {
         return;
     }
-    if let Call::Get(w, m) = call {
-        if w < table.workers() {
-            let _ = table.get(w, m);
+    if let Call::Get(worker, slot) = call {
+        if worker < table.workers() {
+            let _ = table.get(worker, slot);
         }
     } else {
         make_change(table, call.slot(), call);
@@ -302,7 +302,7 @@ fn lists_tables(rt: HostRuntime) -> Result<(), Fail> {
 /// What is told of the module of the name.
 fn told_of(alloc: Global, catalogue: &Catalogue, name: &[u8]) -> Result<Vec<u8>, AllocError> {
     match catalogue.slot(name) {
-        Some(m) if m < catalogue.len() => modinfo_text(alloc, catalogue, m),
+        Some(slot) if slot < catalogue.len() => modinfo_text(alloc, catalogue, slot),
         _ => Ok(Vec::new(alloc)),
     }
 }

@@ -1,4 +1,5 @@
-//! Look-ups, plans and removal plans: a row is a text, and the mark of each line says what the line is.
+//! Look-ups, plans and removal plans: a row has texts and questions about them, and the mark of each line says what
+//! the line is.
 
 mod chains;
 mod look_ups;
@@ -12,7 +13,7 @@ use crate::texts::{names_text, push_word};
 use alias_match::{Aliases, read_aliases};
 use dep_index::text::{number_within, whole_lines, words};
 use dep_index::{CatError, Catalogue, DepError, DepIndex, Name, read_catalogue, read_dep};
-use load_plan::{FindError, Item, PlanError, find, plan, removal_plan};
+use load_plan::{FindError, Item, PlanError, Sources, find, plan, removal_plan};
 use modprobe_conf::{Conf, read_conf};
 use std::alloc::{AllocError, Global};
 use std::process::Abort;
@@ -68,15 +69,19 @@ fn is_since(line: &[u8], length: usize, or: bool) -> bool {
     }
 }
 
-/// The answer that the row wants at the length.
+/// The answers that the row wants at the length, to its questions in order.
 fn wanted_at(alloc: Global, row: &[u8], length: usize) -> Result<Vec<u8>, AllocError> {
     let mut text = Vec::new(alloc);
+    let mut answered = 0;
     let mut holds = true;
     for line in whole_lines(row) {
-        let begins = behind_mark(line, b'@').is_some();
-        holds = is_since(line, length, holds);
-        if begins && holds {
-            text.clear();
+        let asks = behind_mark(line, b'?').is_some();
+        if asks {
+            answered = text.len();
+        }
+        holds = is_since(line, length, holds || asks);
+        if holds && behind_mark(line, b'@').is_some() {
+            text.truncate(answered);
         }
         if let (true, Some(rest)) = (holds, behind_mark(line, b'>')) {
             text.extend_from_slice(rest)?;
@@ -124,15 +129,6 @@ fn configuration_at(alloc: Global, cut: Cut) -> Result<Conf, AllocError> {
 fn aliases_at(alloc: Global, cut: Cut) -> Result<Aliases, AllocError> {
     let text = text_at(alloc, cut, b'A')?;
     Ok(read_aliases(alloc, &text)?)
-}
-
-/// What an answer is made from.
-#[derive(Clone, Copy)]
-struct Sources<'a> {
-    cut: Cut<'a>,
-    catalogue: &'a Catalogue,
-    dependencies: &'a DepIndex,
-    configuration: &'a Conf,
 }
 
 fn catalogue_fault(alloc: Global, error: CatError) -> Result<Vec<u8>, Fail> {
@@ -192,19 +188,11 @@ fn items_text(alloc: Global, catalogue: &Catalogue, items: &[Item]) -> Result<Ve
 /// The plan, an item a line, or why there is none.
 fn plan_text(
     alloc: Global,
-    sources: Sources,
+    sources: &Sources,
     name: &[u8],
     words: &[&[u8]],
 ) -> Result<Vec<u8>, AllocError> {
-    let made = plan(
-        alloc,
-        name,
-        words,
-        sources.catalogue,
-        sources.dependencies,
-        sources.configuration,
-    );
-    match made {
+    match plan(alloc, name, words, sources) {
         Ok(items) => items_text(alloc, sources.catalogue, &items),
         Err(error) => refusal_text(alloc, error),
     }
@@ -232,23 +220,21 @@ fn slots_text(
 }
 
 /// The removal plan, a module a line, or why there is none.
-fn removal_text(alloc: Global, sources: Sources, name: &[u8]) -> Result<Vec<u8>, AllocError> {
-    let made = removal_plan(
-        alloc,
-        name,
-        sources.catalogue,
-        sources.dependencies,
-        sources.configuration,
-    );
-    match made {
+fn removal_text(alloc: Global, sources: &Sources, name: &[u8]) -> Result<Vec<u8>, AllocError> {
+    match removal_plan(alloc, name, sources) {
         Ok(order) => slots_text(alloc, sources.catalogue, &order),
         Err(error) => refusal_text(alloc, error),
     }
 }
 
 /// The modules that are found, one a line, or that there are none.
-fn found_text(alloc: Global, sources: Sources, name: &[u8]) -> Result<Vec<u8>, AllocError> {
-    let aliases = aliases_at(alloc, sources.cut)?;
+fn found_text(
+    alloc: Global,
+    cut: Cut,
+    sources: &Sources,
+    name: &[u8],
+) -> Result<Vec<u8>, AllocError> {
+    let aliases = aliases_at(alloc, cut)?;
     let found = find(
         alloc,
         name,
@@ -264,7 +250,12 @@ fn found_text(alloc: Global, sources: Sources, name: &[u8]) -> Result<Vec<u8>, A
 }
 
 /// The answer to a line of words: what is asked, a name, the words of the command.
-fn answer_to(alloc: Global, sources: Sources, asked: &[&[u8]]) -> Result<Vec<u8>, AllocError> {
+fn answer_to(
+    alloc: Global,
+    cut: Cut,
+    sources: &Sources,
+    asked: &[&[u8]],
+) -> Result<Vec<u8>, AllocError> {
     let Some((kind, asked)) = asked.split_first() else {
         return Vec::from_slice(alloc, b"nothing is asked\n");
     };
@@ -276,17 +267,32 @@ fn answer_to(alloc: Global, sources: Sources, asked: &[&[u8]]) -> Result<Vec<u8>
     } else if *kind == b"removal".as_slice() {
         removal_text(alloc, sources, name)
     } else if *kind == b"look-up".as_slice() {
-        found_text(alloc, sources, name)
+        found_text(alloc, cut, sources, name)
     } else {
         Vec::from_slice(alloc, b"no such question\n")
     }
 }
 
-/// The answer to the question of a row.
-fn row_answer(alloc: Global, sources: Sources) -> Result<Vec<u8>, AllocError> {
-    let question = first_with(sources.cut.row, b'?').unwrap_or(b"");
+fn answer_to_line(
+    alloc: Global,
+    cut: Cut,
+    sources: &Sources,
+    question: &[u8],
+) -> Result<Vec<u8>, AllocError> {
     let asked = words(alloc, question)?;
-    Ok(answer_to(alloc, sources, &asked)?)
+    Ok(answer_to(alloc, cut, sources, &asked)?)
+}
+
+/// The answers to the questions of a row, in order.
+fn row_answer(alloc: Global, cut: Cut, sources: &Sources) -> Result<Vec<u8>, AllocError> {
+    let mut text = Vec::new(alloc);
+    for line in whole_lines(cut.row) {
+        if let Some(question) = behind_mark(line, b'?') {
+            let answer = answer_to_line(alloc, cut, sources, question)?;
+            text.extend_from_slice(&answer)?;
+        }
+    }
+    Ok(text)
 }
 
 /// The answer over a configuration that is still to be read.
@@ -298,12 +304,11 @@ fn answer_over(
 ) -> Result<Vec<u8>, AllocError> {
     let configuration = configuration_at(alloc, cut)?;
     let sources = Sources {
-        cut,
         catalogue,
         dependencies,
         configuration: &configuration,
     };
-    Ok(row_answer(alloc, sources)?)
+    Ok(row_answer(alloc, cut, &sources)?)
 }
 
 /// The answer over a catalogue, or why the text of modules.dep is refused.

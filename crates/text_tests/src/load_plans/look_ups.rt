@@ -1,29 +1,22 @@
 //! Which modules are found for a name.
 
-pub(super) const ROWS: [&str; 11] = [
-    "# an alias leads to its module
-C module usbx
+pub(super) const ROWS: [&str; 8] = [
+    "C module usbx
 A alias usb:v[0-9A-F]*p?? usbx
+# an alias leads to its module
 ? look-up usb:v0pp12
 > usbx
-",
-    "# no alias matches another device
-C module usbx
-A alias usb:v[0-9A-F]*p?? usbx
+# no alias matches another device
 ? look-up usb:vGp12
 > not found
 ",
-    "# an alias does not lead to a blacklisted module
-C module usbx
+    "C module usbx
 M blacklist usbx
 A alias usb:v[0-9A-F]*p?? usbx
+# an alias does not lead to a blacklisted module
 ? look-up usb:v0pp12
 > not found
-",
-    "# a blacklisted module is found by its own name
-C module usbx
-M blacklist usbx
-A alias usb:v[0-9A-F]*p?? usbx
+# a blacklisted module is found by its own name
 ? look-up usbx
 > usbx
 ",
@@ -33,14 +26,17 @@ M blacklist usbx
 ? plan usbx
 > usbx hard
 ",
-    "# each target stands once, also one that no module has
-C module usbx
+    "C module usbx
 A alias usb:v[0-9A-F]*p?? usbx
 A alias usb* other-1
 A alias usb:* usbx
+# each target stands once, also one that no module has
 ? look-up usb:v0pp12
 > usbx
 > other_1
+# the module itself comes before modules.alias
+? look-up usbx
+> usbx
 ",
     "# of the targets the blacklisted one is left out
 C module usbx
@@ -60,14 +56,6 @@ A alias usb* other-1
 A alias usb:* usbx
 ? look-up usb:v0pp12
 > not found
-",
-    "# the module itself comes before modules.alias
-C module usbx
-A alias usb:v[0-9A-F]*p?? usbx
-A alias usb* other-1
-A alias usb:* usbx
-? look-up usbx
-> usbx
 ",
     "# the configuration's aliases come first: each target once, blacklisted or not, and no alias of a target
 C module usbx

@@ -13,10 +13,10 @@ const LEVELS: &[u8] =
 const DASHES: &[u8] = b"module q\nparam card-id charp\nparam fast_io bool\n";
 
 /// Whether the module in the slot takes the words. There is none where the catalogue is refused or has no such slot.
-fn takes(alloc: Global, catalogue: &[u8], m: usize, words: &[&[u8]]) -> Option<bool> {
+fn takes(alloc: Global, catalogue: &[u8], slot: usize, words: &[&[u8]]) -> Option<bool> {
     let catalogue = read_catalogue(alloc, catalogue).ok()?;
-    if m < catalogue.len() {
-        Some(params_valid(&catalogue, m, words))
+    if slot < catalogue.len() {
+        Some(params_valid(&catalogue, slot, words))
     } else {
         None
     }
@@ -102,8 +102,8 @@ const LISTS: [(&str, usize, &[&[u8]], bool); 4] = [
 
 #[test]
 fn every_word_is_checked(rt: HostRuntime) {
-    for (shows, m, words, valid) in &LISTS {
-        let found = takes(rt.alloc(), LEVELS, *m, words);
+    for (shows, slot, words, valid) in &LISTS {
+        let found = takes(rt.alloc(), LEVELS, *slot, words);
         holds(&rt, shows, found == Some(*valid));
     }
 }

@@ -1,8 +1,7 @@
 //! Plans: hard dependencies, install lines, options.
 
-pub(super) const ROWS: [&str; 15] = [
-    "# an install line refuses
-C module x
+pub(super) const ROWS: [&str; 9] = [
+    "C module x
 C module y
 C param debug bool
 C param level int
@@ -14,87 +13,23 @@ M install x /bin/true
 M softdep z pre: y
 M install z /bin/true
 M blacklist w \\
+# an install line refuses
 ? plan x
 > install x
-",
-    "# a module is loaded with the words of its options line
-C module x
-C module y
-C param debug bool
-C param level int
-C module z
-C module w
-M options y debug=1 \\
-M  level=3
-M install x /bin/true
-M softdep z pre: y
-M install z /bin/true
-M blacklist w \\
+# a module is loaded with the words of its options line
 ? plan y
 > y hard debug=1 level=3
-",
-    "# a softdep line lifts an install line, and its item has options of its own
-C module x
-C module y
-C param debug bool
-C param level int
-C module z
-C module w
-M options y debug=1 \\
-M  level=3
-M install x /bin/true
-M softdep z pre: y
-M install z /bin/true
-M blacklist w \\
+# a softdep line lifts an install line, and its item has options of its own
 ? plan z
 > y soft debug=1 level=3
 > z hard
-",
-    "# a name that no module has is told in normal form
-C module x
-C module y
-C param debug bool
-C param level int
-C module z
-C module w
-M options y debug=1 \\
-M  level=3
-M install x /bin/true
-M softdep z pre: y
-M install z /bin/true
-M blacklist w \\
+# a name that no module has is told in normal form
 ? plan no-such
 > unknown no_such
-",
-    "# the words of the command come last
-C module x
-C module y
-C param debug bool
-C param level int
-C module z
-C module w
-M options y debug=1 \\
-M  level=3
-M install x /bin/true
-M softdep z pre: y
-M install z /bin/true
-M blacklist w \\
+# the words of the command come last
 ? plan y level=4
 > y hard debug=1 level=3 level=4
-",
-    "# the words of the command are those of the module itself
-C module x
-C module y
-C param debug bool
-C param level int
-C module z
-C module w
-M options y debug=1 \\
-M  level=3
-M install x /bin/true
-M softdep z pre: y
-M install z /bin/true
-M blacklist w \\
+# the words of the command are those of the module itself
 ? plan z level=4
 > y soft debug=1 level=3
 > z hard level=4
@@ -148,17 +83,13 @@ M install c /bin/true
 ? plan a
 > install d
 ",
-    "# a missing dependency comes before its install line
-C module a
+    "C module a
 D a.ko: gone-1.ko
 M install gone_1 /bin/true
+# a missing dependency comes before its install line
 ? plan a
 > unknown gone_1
-",
-    "# a missing module comes before its install line
-C module a
-D a.ko: gone-1.ko
-M install gone_1 /bin/true
+# a missing module comes before its install line
 ? plan gone-1
 > unknown gone_1
 ",

@@ -1,6 +1,6 @@
 //! Rows of which one text is cut at each length: the answer is what the part of the text says that is there.
 
-pub(super) const ROWS: [&str; 14] = [
+pub(super) const ROWS: [&str; 11] = [
     "# the catalogue of one module
 C module usbx
 ? plan usbx
@@ -177,8 +177,7 @@ A alias usb:v[0-9A-F]*p?? usbx
 @ 14
 > not found
 ",
-    "# an install line
-C module x
+    "C module x
 C module y
 C param debug bool
 C param level int
@@ -190,49 +189,22 @@ M install x /bin/true
 M softdep z pre: y
 M install z /bin/true
 M blacklist w \\
-? plan x
 % M
+# an install line
+? plan x
 @ 0
 > x hard
 @ 40
 > install x
-",
-    "# a softdep line behind options lines
-C module x
-C module y
-C param debug bool
-C param level int
-C module z
-C module w
-M options y debug=1 \\
-M  level=3
-M install x /bin/true
-M softdep z pre: y
-M install z /bin/true
-M blacklist w \\
+# a softdep line behind options lines
 ? plan z
-% M
 @ 0
 > z hard
 @ 65
 > y soft debug=1 level=3
 > z hard
-",
-    "# options lines
-C module x
-C module y
-C param debug bool
-C param level int
-C module z
-C module w
-M options y debug=1 \\
-M  level=3
-M install x /bin/true
-M softdep z pre: y
-M install z /bin/true
-M blacklist w \\
+# options lines
 ? plan y
-% M
 @ 0
 > y hard
 @ 11
@@ -310,29 +282,21 @@ M softdep c post: d
 > c hard
 > d soft
 ",
-    "# a remove line of the module
-C module snd
+    "C module snd
 C exports snd_card_new
 C module snd-pcm
 C needs snd_card_new
 C param debug bool
 M remove snd /bin/true
-? removal snd
 % M
+# a remove line of the module
+? removal snd
 @ 0
 > snd
 @ 12
 > remove snd
-",
-    "# a remove line of a dependency
-C module snd
-C exports snd_card_new
-C module snd-pcm
-C needs snd_card_new
-C param debug bool
-M remove snd /bin/true
+# a remove line of a dependency
 ? removal snd-pcm
-% M
 @ 0
 > snd_pcm
 > snd

@@ -1,67 +1,37 @@
 //! Removal plans.
 
-pub(super) const ROWS: [&str; 10] = [
-    "# a user comes before its dependencies
-C module snd
+pub(super) const ROWS: [&str; 6] = [
+    "C module snd
 C exports snd_card_new
 C module snd-pcm
 C needs snd_card_new
 C param debug bool
+# a user comes before its dependencies
 ? removal snd-pcm
 > snd_pcm
 > snd
-",
-    "# a removal takes no users
-C module snd
-C exports snd_card_new
-C module snd-pcm
-C needs snd_card_new
-C param debug bool
+# a removal takes no users
 ? removal snd
 > snd
 ",
-    "# a remove line refuses
-C module snd
+    "C module snd
 C exports snd_card_new
 C module snd-pcm
 C needs snd_card_new
 C param debug bool
 M remove snd /bin/true
 M remove gone x
+# a remove line refuses
 ? removal snd
 > remove snd
-",
-    "# a remove line of a dependency has no part
-C module snd
-C exports snd_card_new
-C module snd-pcm
-C needs snd_card_new
-C param debug bool
-M remove snd /bin/true
-M remove gone x
+# a remove line of a dependency has no part
 ? removal snd-pcm
 > snd_pcm
 > snd
-",
-    "# a remove line of a missing module refuses
-C module snd
-C exports snd_card_new
-C module snd-pcm
-C needs snd_card_new
-C param debug bool
-M remove snd /bin/true
-M remove gone x
+# a remove line of a missing module refuses
 ? removal gone
 > remove gone
-",
-    "# a name that no module has is told in normal form
-C module snd
-C exports snd_card_new
-C module snd-pcm
-C needs snd_card_new
-C param debug bool
-M remove snd /bin/true
-M remove gone x
+# a name that no module has is told in normal form
 ? removal no-such
 > unknown no_such
 ",
