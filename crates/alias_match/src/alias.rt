@@ -1,3 +1,4 @@
+//! An alias: a pattern, and the module that it stands for.
 ghost use Rattle.std.specs.Prelude.{◌≡◌, IfOk, MatchOption, None};
 ghost use Rattle.std.specs.Result.{result_ok};
 ghost use Rattle.std.specs.Str.{bytes_eq};

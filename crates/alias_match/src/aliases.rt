@@ -1,3 +1,4 @@
+//! The aliases of a modules.alias text.
 ghost use Rattle.std.specs.Prelude.{◌≡◌, ◌<◌, length, IfOk, OnOk, slice_get, option_map, Some};
 ghost use Rattle.alias_match.specs.Aliases.{aliases_of, alias_of, line_before, words_before};
 ghost use Rattle.alias_match.specs.ForProofs.{nothing_read, followed_by};

@@ -1,3 +1,4 @@
+//! The laws of patterns.
 ghost use Rattle.std.specs.Prelude.{◌≡◌, ◌↔◌, ℕ, List, Result, true};
 ghost use Rattle.alias_match.specs.Pattern.{Matches, Piece, is_match};
 ghost use Rattle.alias_match.specs.Reading.{Reads, pattern_of};

@@ -1,3 +1,4 @@
+//! Shell patterns, and whether they match a text.
 ghost use Rattle.std.specs.Prelude.{List, ◌≡◌, ◌↔◌, [], IsTrue, MatchOption};
 ghost use Rattle.std.specs.List.{list_any};
 ghost use Rattle.alias_match.specs.Pattern.{Piece, Matches, holds, in_set, in_range, piece, pieces};

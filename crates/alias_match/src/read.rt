@@ -1,3 +1,4 @@
+//! How a pattern is read from its text.
 ghost use Rattle.std.specs.Prelude.{◌≡◌, ◌≤◌, ◌∷◌, length, false, Ok, Err, IfOk, MatchOption, MatchResult};
 ghost use Rattle.alias_match.specs.Reading.{Gives, HasItem, HasMembers, Reads, closes, class_mark, letter, member};
 ghost use Rattle.alias_match.specs.Reading.{negates, after_sign, range, plain_item, undashed};

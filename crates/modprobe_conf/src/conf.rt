@@ -1,3 +1,4 @@
+//! A whole configuration.
 ghost use Rattle.std.specs.Prelude.{◌≡◌, ◌<◌, ◌∷◌, [], length, IfOk, MatchOption, OnOk, Some, slice_get, option_map, option_copied};
 ghost use Rattle.dep_index.specs.Text.{texts_of};
 ghost use Rattle.alias_match.specs.Aliases.{line_before, words_before};

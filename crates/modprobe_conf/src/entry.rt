@@ -1,3 +1,4 @@
+//! What one line of a configuration says.
 ghost use Rattle.std.specs.Prelude.{◌≡◌, ◌∷◌, ◌++◌, [], Bool, map, option_map, IfOk, OnOk, MatchOption, None};
 ghost use Rattle.std.specs.Str.{bytes_eq};
 ghost use Rattle.alias_match.specs.Aliases.{alias_of};

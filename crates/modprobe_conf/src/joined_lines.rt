@@ -1,3 +1,4 @@
+//! Lines of a text, joined where a backslash ends one.
 ghost use Rattle.std.specs.Prelude.{◌≡◌, ◌∷◌, ◌-◌, [], length, take, IfOk, MatchOption, true, false};
 ghost use Rattle.std.specs.Str.Lines.{lines};
 ghost use Rattle.modprobe_conf.specs.Configuration.{ends_with_backslash, joined_lines};

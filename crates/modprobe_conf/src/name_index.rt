@@ -1,3 +1,4 @@
+//! The settings of modules, found by name.
 ghost use Rattle.std.specs.Prelude.{◌≡◌, [], OnOk, MatchOption};
 ghost use Rattle.modprobe_conf.specs.Configuration.{settings_by, settings_in, with_named};
 ghost use Rattle.modprobe_conf.specs.ForProofs.{line_of};

@@ -1,3 +1,4 @@
+//! What a configuration says of one module.
 use crate::softdep::Softdep;
 use crate::word::Word;
 use std::alloc::{AllocError, Global};

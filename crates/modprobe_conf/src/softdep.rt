@@ -1,3 +1,4 @@
+//! The soft items of a softdep line.
 ghost use Rattle.std.specs.Prelude.{◌≡◌, if◌then◌else◌, IfOk, true, false, Some, None};
 ghost use Rattle.std.specs.Str.{bytes_eq};
 ghost use Rattle.dep_index.specs.Text.{texts_of};

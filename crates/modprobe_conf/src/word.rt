@@ -1,3 +1,4 @@
+//! Words of options lines.
 ghost use Rattle.std.specs.Prelude.{◌≡◌, IfOk};
 
 use std::alloc::{AllocError, Global};
