@@ -64,12 +64,12 @@ fn try_names(alloc: Global) -> Result<(), Stop> {
     agree(names.as_slice().len() == 1)
 }
 
-fn load(table: &mut Table, m: usize)
+fn load(table: &mut Table, slot: usize)
     ensures { table.new.catalogue ≡ table.old.catalogue }
 {
-    if m < table.slots() {
-        let _ = table.begin_load(m);
-        let _ = table.end_load(m, true);
+    if slot < table.slots() {
+        let _ = table.begin_load(slot);
+        let _ = table.end_load(slot, true);
     }
 }
 

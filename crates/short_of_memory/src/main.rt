@@ -3,7 +3,6 @@
 //! answer ends the program with status 1.
 #![tactic(auto)]
 
-mod graphs;
 mod listings;
 mod outcome;
 mod plans;
@@ -21,7 +20,6 @@ fn main(rt: HostRuntime) -> Result<()> {
     texts::try_calls(&rt)?;
     settings::try_calls(&rt)?;
     plans::try_calls(&rt)?;
-    graphs::try_calls(&rt)?;
     tables::try_calls(&rt)?;
     listings::try_calls(&rt)?;
     schedules::try_calls(&rt)?;

@@ -2,9 +2,10 @@
 
 use crate::outcome::{Stop, agree, are_names, needed, stop_at, tell};
 use crate::settings::CONFIGURATION;
+use crate::sound::SOUND;
 use alias_match::{Aliases, read_aliases};
 use dep_index::{Catalogue, DepIndex, read_catalogue, read_dep};
-use load_plan::{FindError, Item, PlanError, find, plan, removal_plan};
+use load_plan::{FindError, Item, PlanError, Sources, find, plan, removal_plan};
 use modprobe_conf::{Conf, read_conf};
 use std::alloc::Global;
 
@@ -20,15 +21,15 @@ impl From<PlanError> for Stop {
     }
 }
 
-/// What a plan is made of.
+/// What a plan is made from, as it was read.
 #[derive(Drop)]
-struct Sources {
+struct Inputs {
     catalogue: Catalogue,
     dependencies: DepIndex,
-    conf: Conf,
+    configuration: Conf,
 }
 
-/// The texts that a plan is made of.
+/// The texts that a plan is made from.
 #[derive(Clone, Copy)]
 struct Texts {
     catalogue: &'static [u8],
@@ -67,9 +68,16 @@ const UNKNOWN: Texts = Texts {
     conf: b"",
 };
 
+/// A module and its user, which asks for more than there are modules.
+const USER: Texts = Texts {
+    catalogue: b"module a\nexports fa\nmodule b\nneeds fa\n",
+    dependencies: b"",
+    conf: b"softdep b pre: x y z\n",
+};
+
 /// A module and its user, of which the first has a remove line.
 const PAIR: Texts = Texts {
-    catalogue: b"module snd\nexports s\nmodule snd-pcm\nneeds s\n",
+    catalogue: SOUND,
     dependencies: b"",
     conf: b"remove snd /bin/true\n",
 };
@@ -82,44 +90,56 @@ enum Call {
     Cycle,
     InstallLine,
     Unknown,
-    RemovalPlan,
+    Removal(&'static [u8]),
     RemoveLine,
+    PlanOfUser,
 }
 
-fn texts_of(call: Call) -> Texts {
-    match call {
-        Call::Find => ALIASED,
-        Call::Plan => SOFT,
-        Call::Cycle => CIRCLE,
-        Call::InstallLine => INSTALLED,
-        Call::Unknown => UNKNOWN,
-        Call::RemovalPlan | Call::RemoveLine => PAIR,
-    }
-}
+const CALLS: [(&str, Texts, Call); 9] = [
+    ("find", ALIASED, Call::Find),
+    ("plan", SOFT, Call::Plan),
+    ("plan of a cycle", CIRCLE, Call::Cycle),
+    ("plan at an install line", INSTALLED, Call::InstallLine),
+    ("plan without a module", UNKNOWN, Call::Unknown),
+    ("removal_plan", PAIR, Call::Removal(b"snd-pcm")),
+    ("removal_plan at a remove line", PAIR, Call::RemoveLine),
+    ("plan of a user", USER, Call::PlanOfUser),
+    ("removal_plan of a user", USER, Call::Removal(b"b")),
+];
 
-fn read_sources(alloc: Global, texts: &Texts) -> Result<Sources, Stop> {
-    Ok(Sources {
+fn read_inputs(alloc: Global, texts: &Texts) -> Result<Inputs, Stop> {
+    Ok(Inputs {
         catalogue: needed(read_catalogue(alloc, texts.catalogue))?,
         dependencies: needed(read_dep(alloc, texts.dependencies))?,
-        conf: needed(read_conf(alloc, texts.conf))?,
+        configuration: needed(read_conf(alloc, texts.conf))?,
     })
 }
 
 /// Makes what the call needs, and then the call.
-fn try_call(alloc: Global, call: Call) -> Result<(), Stop> {
-    let sources = read_sources(alloc, &texts_of(call))?;
-    try_over(alloc, call, &sources)
+fn try_call(alloc: Global, texts: &Texts, call: Call) -> Result<(), Stop> {
+    let inputs = read_inputs(alloc, texts)?;
+    try_over(alloc, call, &inputs)
 }
 
-fn try_over(alloc: Global, call: Call, sources: &Sources) -> Result<(), Stop> {
+fn try_over(alloc: Global, call: Call, inputs: &Inputs) -> Result<(), Stop> {
+    let sources = Sources {
+        catalogue: &inputs.catalogue,
+        dependencies: &inputs.dependencies,
+        configuration: &inputs.configuration,
+    };
+    try_from(alloc, call, &sources)
+}
+
+fn try_from(alloc: Global, call: Call, sources: &Sources) -> Result<(), Stop> {
     match call {
         Call::Find => try_find(alloc, sources),
         Call::Plan => try_plan(alloc, sources),
         Call::Cycle => try_cycle(alloc, sources),
         Call::InstallLine => try_install_line(alloc, sources),
         Call::Unknown => try_unknown(alloc, sources),
-        Call::RemovalPlan => try_removal_plan(alloc, sources),
+        Call::Removal(user) => try_removal(alloc, user, sources),
         Call::RemoveLine => try_remove_line(alloc, sources),
+        Call::PlanOfUser => try_plan_of_user(alloc, sources),
     }
 }
 
@@ -132,8 +152,8 @@ fn try_find_in(alloc: Global, sources: &Sources, aliases: &Aliases) -> Result<()
     let found = find(
         alloc,
         b"usb:v0pp12",
-        &sources.catalogue,
-        &sources.conf,
+        sources.catalogue,
+        sources.configuration,
         aliases,
     )?;
     agree(are_names(&found, &[b"usbx"]))
@@ -149,15 +169,18 @@ fn is_item(item: Option<&Item<'_>>, slot: usize, soft: bool, words: &[&[u8]]) ->
 const WORDS: [&[u8]; 1] = [b"level=4"];
 
 fn try_plan(alloc: Global, sources: &Sources) -> Result<(), Stop> {
-    let items = plan(
-        alloc,
-        b"c",
-        &WORDS,
-        &sources.catalogue,
-        &sources.dependencies,
-        &sources.conf,
-    )?;
+    let items = plan(alloc, b"c", &WORDS, sources)?;
     agree(are_items(&items))
+}
+
+/// The user behind what it needs; soft items that are not there are passed over.
+fn try_plan_of_user(alloc: Global, sources: &Sources) -> Result<(), Stop> {
+    let items = plan(alloc, b"b", &WORDS, sources)?;
+    agree(
+        items.len() == 2
+            && is_item(items.get(0), 0, false, &[])
+            && is_item(items.get(1), 1, false, &WORDS),
+    )
 }
 
 fn are_items(items: &[Item<'_>]) -> bool {
@@ -170,14 +193,7 @@ fn are_items(items: &[Item<'_>]) -> bool {
 
 /// The refusal of a plan.
 fn refusal(alloc: Global, name: &[u8], sources: &Sources) -> Result<PlanError, Stop> {
-    match plan(
-        alloc,
-        name,
-        &[],
-        &sources.catalogue,
-        &sources.dependencies,
-        &sources.conf,
-    ) {
+    match plan(alloc, name, &[], sources) {
         Err(PlanError::Memory) => Err(Stop::NoMemory),
         Err(refusal) => Ok(refusal),
         Ok(_) => Err(Stop::Wrong),
@@ -205,23 +221,14 @@ fn try_unknown(alloc: Global, sources: &Sources) -> Result<(), Stop> {
     }
 }
 
-fn removed(alloc: Global, name: &[u8], sources: &Sources) -> Result<Vec<usize>, PlanError> {
-    removal_plan(
-        alloc,
-        name,
-        &sources.catalogue,
-        &sources.dependencies,
-        &sources.conf,
-    )
-}
-
-fn try_removal_plan(alloc: Global, sources: &Sources) -> Result<(), Stop> {
-    let order = removed(alloc, b"snd-pcm", sources)?;
+/// The user is in slot 1, and needs slot 0.
+fn try_removal(alloc: Global, user: &[u8], sources: &Sources) -> Result<(), Stop> {
+    let order = removal_plan(alloc, user, sources)?;
     agree(order.as_slice() == [1, 0].as_slice())
 }
 
 fn try_remove_line(alloc: Global, sources: &Sources) -> Result<(), Stop> {
-    match removed(alloc, b"snd", sources) {
+    match removal_plan(alloc, b"snd", sources) {
         Err(PlanError::Memory) => Err(Stop::NoMemory),
         Err(PlanError::Remove(name)) => agree(name.as_bytes() == b"snd".as_slice()),
         _ => Err(Stop::Wrong),
@@ -229,25 +236,8 @@ fn try_remove_line(alloc: Global, sources: &Sources) -> Result<(), Stop> {
 }
 
 pub fn try_calls<R: Print + AllocGlobal>(rt: &R) -> anyhow::Result<()> {
-    let alloc = rt.alloc();
-    tell(rt, "find", try_call(alloc, Call::Find))?;
-    tell(rt, "plan", try_call(alloc, Call::Plan))?;
-    tell(rt, "plan of a cycle", try_call(alloc, Call::Cycle))?;
-    try_refused_calls(rt)
-}
-
-fn try_refused_calls<R: Print + AllocGlobal>(rt: &R) -> anyhow::Result<()> {
-    let alloc = rt.alloc();
-    tell(
-        rt,
-        "plan at an install line",
-        try_call(alloc, Call::InstallLine),
-    )?;
-    tell(rt, "plan without a module", try_call(alloc, Call::Unknown))?;
-    tell(rt, "removal_plan", try_call(alloc, Call::RemovalPlan))?;
-    tell(
-        rt,
-        "removal_plan at a remove line",
-        try_call(alloc, Call::RemoveLine),
-    )
+    for (name, texts, call) in &CALLS {
+        tell(rt, name, try_call(rt.alloc(), texts, *call))?;
+    }
+    Ok(())
 }
