@@ -13,6 +13,7 @@ use std::alloc::Global;
 use std::test::Fail;
 
 mod one_thread;
+mod owned;
 pub(crate) mod steps;
 pub(crate) mod threads;
 mod words;
