@@ -3,7 +3,7 @@ ghost use Rattle.std.specs.Prelude.{◌≡◌, Bool, true};
 ghost use Rattle.root_row.specs.Seats.{Seated};
 ghost use Rattle.gourzhiel.specs.HeldBook.{book_owns, book_coded};
 
-use crate::parts::Parts;
+use crate::parts::{Parts, hand_out};
 use module_table::OwnBook;
 use std::alloc::Global;
 use std::marker::Model;
@@ -28,7 +28,7 @@ impl GzBook {
         ensures full { result.full ≡ true }
         ensures held { result.held ≡ book.value }
     {
-        GzBook::of_parts(Parts::of(book))
+        hand_out(GzBook::of_parts(Parts::of(book)))
     }
 
     pub fn into_box(self) -> Box<OwnBook>

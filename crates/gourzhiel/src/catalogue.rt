@@ -3,7 +3,7 @@ ghost use Rattle.std.specs.Prelude.{◌≡◌, Bool, true, List};
 ghost use Rattle.dep_index.specs.Catalogue.{Description};
 ghost use Rattle.gourzhiel.specs.HeldCatalogue.{catalogue_owns, catalogue_coded};
 
-use crate::parts::Parts;
+use crate::parts::{Parts, hand_out};
 use dep_index::Catalogue;
 use std::alloc::Global;
 use std::marker::Model;
@@ -28,7 +28,7 @@ impl GzCatalogue {
         ensures full { result.full ≡ true }
         ensures held { result.held ≡ catalogue.value }
     {
-        GzCatalogue::of_parts(Parts::of(catalogue))
+        hand_out(GzCatalogue::of_parts(Parts::of(catalogue)))
     }
 
     pub fn into_box(self) -> Box<Catalogue>

@@ -3,7 +3,7 @@ ghost use Rattle.std.specs.Prelude.{◌≡◌, Bool, true};
 ghost use Rattle.root_row.specs.Seats.{Seated};
 ghost use Rattle.gourzhiel.specs.HeldLeaf.{leaf_owns, leaf_coded};
 
-use crate::parts::Parts;
+use crate::parts::{Parts, hand_out};
 use module_table::OwnLeaf;
 use std::alloc::Global;
 use std::marker::Model;
@@ -28,7 +28,7 @@ impl GzLeaf {
         ensures full { result.full ≡ true }
         ensures held { result.held ≡ leaf.value }
     {
-        GzLeaf::of_parts(Parts::of(leaf))
+        hand_out(GzLeaf::of_parts(Parts::of(leaf)))
     }
 
     pub fn into_box(self) -> Box<OwnLeaf>

@@ -33,3 +33,10 @@ impl<T, A: Allocator> Parts<T, A> {
         unsafe { Box::from_raw(alloc, at) }
     }
 }
+
+/// Hands a handle out to its caller, who may give it to another thread.
+pub fn hand_out<T: Send>(handle: T) -> T
+    ensures { result ≡ handle }
+{
+    handle
+}

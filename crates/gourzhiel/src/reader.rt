@@ -3,7 +3,7 @@ ghost use Rattle.std.specs.Prelude.{◌≡◌, Bool, true};
 ghost use Rattle.root_row.specs.Seats.{Seated};
 ghost use Rattle.gourzhiel.specs.HeldReader.{reader_owns, reader_coded};
 
-use crate::parts::Parts;
+use crate::parts::{Parts, hand_out};
 use module_table::OwnReader;
 use std::alloc::Global;
 use std::marker::Model;
@@ -28,7 +28,7 @@ impl GzReader {
         ensures full { result.full ≡ true }
         ensures held { result.held ≡ reader.value }
     {
-        GzReader::of_parts(Parts::of(reader))
+        hand_out(GzReader::of_parts(Parts::of(reader)))
     }
 
     pub fn into_box(self) -> Box<OwnReader>
