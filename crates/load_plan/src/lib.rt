@@ -6,7 +6,6 @@ mod items;
 mod kept;
 pub mod laws;
 mod look_up;
-mod names;
 mod options;
 mod parameters;
 mod plans;

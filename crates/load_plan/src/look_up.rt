@@ -6,7 +6,6 @@ ghost use Rattle.alias_match.specs.Pattern.{is_match};
 ghost use Rattle.load_plan.specs.declared.look_up.FindError.TheVariants.{NotFound};
 ghost use Rattle.load_plan.specs.LookUp.{found, free_targets, targets_of, with_name, with_names};
 
-use crate::names::copy_name;
 use alias_match::{Aliases, Pattern};
 use dep_index::{Catalogue, Name};
 use modprobe_conf::Conf;
@@ -58,7 +57,7 @@ fn add_name(alloc: Global, names: &mut Vec<Name>, name: &Name) -> Result<(), All
     ensures { OnOk result (names.new.items ≡ with_name names.old.items name.now) }
 {
     if !has_name(names, name.as_bytes()) {
-        names.push(copy_name(alloc, name)?)?;
+        names.push(name.copy(alloc)?)?;
     }
     Ok(())
 }

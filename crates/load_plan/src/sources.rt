@@ -9,7 +9,6 @@ ghost use Rattle.modprobe_conf.specs.Configuration.{options_of, softdep_of};
 ghost use Rattle.std.specs.Option.{option_copied};
 
 use crate::graph::{Row, Target};
-use crate::names::copy_name;
 use dep_index::{Catalogue, DepIndex, Name};
 use modprobe_conf::{Conf, Softdep, Word};
 use std::alloc::{AllocError, Global};
@@ -36,7 +35,7 @@ fn target_of(alloc: Global, catalogue: &Catalogue, name: &Name) -> Result<Target
 {
     match slot_of(catalogue, name) {
         Some(slot) => Ok(Target::Slot(slot)),
-        None => Ok(Target::Missing(copy_name(alloc, name)?)),
+        None => Ok(Target::Missing(name.copy(alloc)?)),
     }
 }
 

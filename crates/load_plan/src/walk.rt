@@ -9,7 +9,6 @@ ghost use Rattle.load_plan.specs.Results.{Gives, IsRefusalWithin};
 ghost use Rattle.load_plan.specs.Walk.{hard_walk, walk};
 
 use crate::graph::{DependencyGraph, Phase, Target, target_at};
-use crate::names::copy_name;
 use crate::refusal::{PlanRefusal, WalkError};
 use dep_index::Name;
 use std::alloc::{AllocError, Global};
@@ -143,7 +142,7 @@ pub(crate) fn walk(
             Step::Again(slot) => return Err(WalkError::Refused(PlanRefusal::Cycle(slot))),
             Step::Blocked(slot) => return Err(WalkError::Refused(PlanRefusal::Install(slot))),
             Step::Nowhere(name) => {
-                let name = copy_name(alloc, name)?;
+                let name = name.copy(alloc)?;
                 return Err(WalkError::Refused(PlanRefusal::Unknown(name)));
             }
         }

@@ -32,13 +32,6 @@ impl Aim {
     }
 }
 
-fn copy_name(alloc: Global, name: &Name) -> Result<Name, AllocError>
-    ensures { IfOk result (λ copy. copy ≡ name.now) }
-{
-    name.is_normal();
-    Name::new(alloc, name.as_bytes())
-}
-
 /// The modules that are found for a name; a name for which none is found is unknown.
 fn targets_of(alloc: Global, setup: &Setup, name: Name) -> Result<Vec<Name>, PlanError>
     ensures { Answers (λ names. names.items) result (targets_of setup.now name) }
@@ -150,7 +143,7 @@ impl<'s, 't, M: Modules> Session<'s, 't, M> {
         let mut left = Vec::new(alloc);
         for name in names {
             if !self.is_there(name, aim) {
-                left.push(copy_name(alloc, name)?)?;
+                left.push(name.copy(alloc)?)?;
             }
         }
         Ok(left)

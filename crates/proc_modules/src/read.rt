@@ -7,8 +7,9 @@ ghost use Rattle.proc_modules.specs.Fields.{texts_in};
 
 use crate::line::{Line, LineError, LineState};
 use crate::names::Names;
-use crate::words::{is_address, is_line_name, is_same, is_taint, line_number, shown_state};
+use crate::words::{is_address, is_line_name, is_taint, line_number, shown_state};
 use dep_index::Name;
+use dep_index::text::is_same;
 use std::alloc::{AllocError, Global};
 
 /// The parts of a text, which the byte divides.

@@ -1,12 +1,11 @@
 //! The fields of a line of /proc/modules, each by itself.
 ghost use Rattle.std.specs.Prelude.{◌≡◌, ◌==◌};
 ghost use Rattle.std.specs.List.{list_all, list_any};
-ghost use Rattle.std.specs.Str.{bytes_eq};
 ghost use Rattle.dep_index.specs.Text.{texts_of};
 ghost use Rattle.proc_modules.specs.Reading.{is_line_name, line_number, state_of, is_address, is_hex_digit, is_taint};
 
 use crate::line::LineState;
-use dep_index::text::{is_name, number_within};
+use dep_index::text::{is_name, is_same, number_within};
 
 fn has_dash(word: &[u8]) -> bool
     ensures { result ≡ list_any (λ byte. byte == 45) word.now }
@@ -32,13 +31,6 @@ pub(crate) fn line_number(word: &[u8]) -> Option<u32>
         Some(n) => Some(n as u32),
         None => None,
     }
-}
-
-/// Whether the two texts are the same.
-pub(crate) fn is_same(word: &[u8], text: &[u8]) -> bool
-    ensures { result ≡ bytes_eq word.now text.now }
-{
-    word == text
 }
 
 /// The state that the word is.

@@ -12,7 +12,6 @@ mod plays;
 #[cfg(test)]
 mod points;
 #[cfg(test)]
-mod replies;
 #[cfg(test)]
 mod schedule;
 #[cfg(test)]

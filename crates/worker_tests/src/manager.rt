@@ -4,9 +4,6 @@ ghost use Rattle.root_row.specs.Seats.{IsOf};
 mod lent;
 mod threads;
 
-use crate::replies::{
-    of_begin_drain, of_begin_load, of_begin_remove, of_end_load, of_end_remove, of_get, of_put,
-};
 use crate::sound::sound;
 use dep_index::{Call, ModuleState, Reply};
 use module_table::{Manager, OwnBook, OwnLeaf};
@@ -51,26 +48,26 @@ const END: [Row; 5] = [
 /// What the manager answers to a call; a query takes a reader, and is none here.
 fn reply_to<R: Wait>(rt: &R, manager: &Manager, call: Call) -> Option<Reply> {
     let reply = match call {
-        Call::Get(worker, slot) => of_get(manager.get(rt, worker, slot)?),
-        Call::Put(worker, slot) => of_put(manager.put(rt, worker, slot)?),
+        Call::Get(worker, slot) => Reply::of(manager.get(rt, worker, slot)?),
+        Call::Put(worker, slot) => Reply::of(manager.put(rt, worker, slot)?),
         Call::InUse(_) => return None,
-        Call::BeginLoad(slot) => of_begin_load(manager.begin_load(rt, slot)?),
-        Call::EndLoad(slot, ok) => of_end_load(manager.end_load(rt, slot, ok)?),
-        Call::BeginDrain(slot) => of_begin_drain(manager.begin_drain(rt, slot)?),
-        Call::BeginRemove(slot) => of_begin_remove(manager.begin_remove(rt, slot)?),
-        Call::EndRemove(slot) => of_end_remove(manager.end_remove(rt, slot)?),
+        Call::BeginLoad(slot) => Reply::of(manager.begin_load(rt, slot)?),
+        Call::EndLoad(slot, ok) => Reply::of(manager.end_load(rt, slot, ok)?),
+        Call::BeginDrain(slot) => Reply::of(manager.begin_drain(rt, slot)?),
+        Call::BeginRemove(slot) => Reply::of(manager.begin_remove(rt, slot)?),
+        Call::EndRemove(slot) => Reply::of(manager.end_remove(rt, slot)?),
     };
     Some(reply)
 }
 
 fn lock_and_get<R: Wait>(rt: &R, leaf: &Mutex<OwnLeaf>, slot: usize) -> Option<Reply> {
     let answer = leaf.lock(rt).get(rt, slot);
-    Some(of_get(answer?))
+    Some(Reply::of(answer?))
 }
 
 fn lock_and_put<R: Wait>(rt: &R, leaf: &Mutex<OwnLeaf>, slot: usize) -> Option<Reply> {
     let answer = leaf.lock(rt).put(slot);
-    Some(of_put(answer?))
+    Some(Reply::of(answer?))
 }
 
 fn lock_and_end_load<R: Wait>(
@@ -80,12 +77,12 @@ fn lock_and_end_load<R: Wait>(
     ok: bool,
 ) -> Option<Reply> {
     let answer = book.lock(rt).end_load(slot, ok);
-    Some(of_end_load(answer?))
+    Some(Reply::of(answer?))
 }
 
 fn lock_and_remove<R: Wait>(rt: &R, book: &Mutex<OwnBook>, slot: usize) -> Option<Reply> {
     let answer = book.lock(rt).begin_remove(slot);
-    Some(of_begin_remove(answer?))
+    Some(Reply::of(answer?))
 }
 
 /// What a guard answers to a call that it has, and else the manager. Of a worker out of range there is no guard.

@@ -3,10 +3,6 @@
 
 ghost use Rattle.std.specs.Prelude.{◌≤◌};
 
-use crate::replies::{
-    of_begin_drain, of_begin_load, of_begin_remove, of_end_load, of_end_remove, of_get, of_put,
-    of_query,
-};
 use dep_index::{Call, ModuleState, Reply, Slots};
 use seq_table::{Modules, Table};
 use std::alloc::{AllocError, Global};
@@ -121,14 +117,14 @@ fn reply_to(table: &mut Table, call: Call) -> Option<Reply> {
     }
     let reply = match call {
         Call::Get(worker, _) | Call::Put(worker, _) if worker >= table.workers() => return None,
-        Call::Get(worker, slot) => of_get(table.get(worker, slot)),
-        Call::Put(worker, slot) => of_put(table.put(worker, slot)),
-        Call::InUse(slot) => of_query(table.in_use(slot)),
-        Call::BeginLoad(slot) => of_begin_load(table.begin_load(slot)),
-        Call::EndLoad(slot, ok) => of_end_load(table.end_load(slot, ok)),
-        Call::BeginDrain(slot) => of_begin_drain(table.begin_drain(slot)),
-        Call::BeginRemove(slot) => of_begin_remove(table.begin_remove(slot)),
-        Call::EndRemove(slot) => of_end_remove(table.end_remove(slot)),
+        Call::Get(worker, slot) => Reply::of(table.get(worker, slot)),
+        Call::Put(worker, slot) => Reply::of(table.put(worker, slot)),
+        Call::InUse(slot) => Reply::of_query(table.in_use(slot)),
+        Call::BeginLoad(slot) => Reply::of(table.begin_load(slot)),
+        Call::EndLoad(slot, ok) => Reply::of(table.end_load(slot, ok)),
+        Call::BeginDrain(slot) => Reply::of(table.begin_drain(slot)),
+        Call::BeginRemove(slot) => Reply::of(table.begin_remove(slot)),
+        Call::EndRemove(slot) => Reply::of(table.end_remove(slot)),
     };
     Some(reply)
 }

@@ -1,13 +1,12 @@
 //! The parts of an input: its catalogue, and the lines behind it that say something.
 ghost use Rattle.std.specs.Prelude.{◌≡◌, ◌≤◌, IfOk, IfSome, Option};
-ghost use Rattle.std.specs.Str.{bytes_eq};
 ghost use Rattle.workload_drive.specs.Statements.{behind_head, text_before, lines_behind, statements, parts_of, from_one, marked, setting_in, setting};
 ghost use Rattle.workload_drive.specs.ForProofs.{Reads, lines_in, statements_in, parts_in};
 ghost use Rattle.dep_index.specs.Text.{texts_of};
 
 use crate::fault::{LineCode, ScheduleFault};
 use crate::lines::{Line, cut_lines, is_ignored};
-use dep_index::text::{number_within, words};
+use dep_index::text::{is_same, number_within, words};
 use dep_index::{Catalogue, read_catalogue};
 use std::alloc::{AllocError, Global};
 
@@ -30,13 +29,6 @@ pub(crate) struct Parts<'a> {
     pub(crate) catalogue: Catalogue,
     pub(crate) statements: Vec<Statement<'a>>,
     pub(crate) end: usize,
-}
-
-/// Whether the two texts are the same.
-pub(crate) fn is_same(word: &[u8], text: &[u8]) -> bool
-    ensures { result ≡ bytes_eq word.now text.now }
-{
-    word == text
 }
 
 /// The lines behind `%catalogue`, before which ignored lines alone may stand.

@@ -5,9 +5,9 @@ ghost use Rattle.dep_index.specs.Text.{texts_of};
 ghost use Rattle.workload_drive.specs.Schedule.Orders.{call_on, verb_of, worker_verb_of, with_worker, load_end, on_name, order_of};
 ghost use Rattle.workload_drive.specs.Schedule.ForProofs.{order_in};
 
-use crate::statement::{LARGEST, from_one, is_same};
+use crate::statement::{LARGEST, from_one};
 use dep_index::Call;
-use dep_index::text::number_within;
+use dep_index::text::{is_same, number_within};
 
 /// The most steps of a schedule.
 pub(crate) const MOST_STEPS: u64 = 1_000_000;

@@ -2,7 +2,8 @@
 ghost use Rattle.std.specs.Prelude.{◌≤◌};
 
 use crate::fault::{LineCode, ScheduleFault};
-use crate::statement::{Parts, Statement, is_same, marked, read_parts, setting};
+use crate::statement::{Parts, Statement, marked, read_parts, setting};
+use dep_index::text::is_same;
 use dep_index::{Catalogue, Name};
 use std::alloc::{AllocError, Global};
 

@@ -1,10 +1,7 @@
 //! A worker of a script, and what it does to a module.
 
 use super::tasks::{Change, Deed, Task};
-use dep_index::{
-    BeginDrainError, BeginLoadError, BeginRemoveError, EndLoadError, EndRemoveError, GetError,
-    PutError, Reply,
-};
+use dep_index::{Refusal, Reply};
 use module_table::Manager;
 use std::marker::Model;
 use std::sync::Wait;
@@ -29,48 +26,25 @@ impl<'a> Model for Worker<'a> {
 }
 
 fn load<R: Wait>(rt: &R, manager: &Manager, slot: usize) -> Option<Reply> {
-    let reply = match manager.begin_load(rt, slot)? {
-        Ok(()) => match manager.end_load(rt, slot, true)? {
-            Ok(()) => Reply::Done,
-            Err(EndLoadError::NotLoading) => Reply::NotLoading,
-        },
-        Err(BeginLoadError::Exists) => Reply::Exists,
-        Err(BeginLoadError::UnknownSymbol) => Reply::UnknownSymbol,
-        Err(BeginLoadError::NeedNotLive(need)) => Reply::NeedNotLive(need),
-    };
-    Some(reply)
+    match manager.begin_load(rt, slot)? {
+        Ok(()) => Some(Reply::of(manager.end_load(rt, slot, true)?)),
+        Err(refusal) => Some(refusal.reply()),
+    }
 }
 
 fn finish<R: Wait>(rt: &R, manager: &Manager, slot: usize) -> Option<Reply> {
-    let reply = match manager.end_remove(rt, slot)? {
-        Ok(()) => Reply::Done,
-        Err(EndRemoveError::NotUnloading) => Reply::NotUnloading,
-        Err(EndRemoveError::InUse) => Reply::InUse,
-    };
-    Some(reply)
+    Some(Reply::of(manager.end_remove(rt, slot)?))
 }
 
 fn remove<R: Wait>(rt: &R, manager: &Manager, slot: usize) -> Option<Reply> {
-    let reply = match manager.begin_remove(rt, slot)? {
-        Ok(()) => return finish(rt, manager, slot),
-        Err(BeginRemoveError::NoEntry) => Reply::NoEntry,
-        Err(BeginRemoveError::NeededBy) => Reply::NeededBy,
-        Err(BeginRemoveError::NotLive) => Reply::NotLive,
-        Err(BeginRemoveError::Permanent) => Reply::Permanent,
-        Err(BeginRemoveError::InUse) => Reply::InUse,
-    };
-    Some(reply)
+    match manager.begin_remove(rt, slot)? {
+        Ok(()) => finish(rt, manager, slot),
+        Err(refusal) => Some(refusal.reply()),
+    }
 }
 
 fn drain<R: Wait>(rt: &R, manager: &Manager, slot: usize) -> Option<Reply> {
-    let reply = match manager.begin_drain(rt, slot)? {
-        Ok(()) => Reply::Done,
-        Err(BeginDrainError::NoEntry) => Reply::NoEntry,
-        Err(BeginDrainError::NeededBy) => Reply::NeededBy,
-        Err(BeginDrainError::NotLive) => Reply::NotLive,
-        Err(BeginDrainError::Permanent) => Reply::Permanent,
-    };
-    Some(reply)
+    Some(Reply::of(manager.begin_drain(rt, slot)?))
 }
 
 /// Makes a change, and answers the reply of the first of its calls that was refused, or else Done. It is None where the
@@ -107,31 +81,18 @@ impl<'a> Worker<'a> {
     }
 
     fn get<R: Wait>(&self, rt: &R, slot: usize) -> Option<Reply> {
-        let reply = match self.manager.get(rt, self.number, slot)? {
-            Ok(()) => Reply::Done,
-            Err(GetError::NotLive) => Reply::NotLive,
-            Err(GetError::TooMany) => Reply::TooMany,
-        };
-        Some(reply)
+        Some(Reply::of(self.manager.get(rt, self.number, slot)?))
     }
 
     fn put<R: Wait>(&self, rt: &R, slot: usize) -> Option<Reply> {
-        let reply = match self.manager.put(rt, self.number, slot)? {
-            Ok(()) => Reply::Done,
-            Err(PutError::NotHeld) => Reply::NotHeld,
-        };
-        Some(reply)
+        Some(Reply::of(self.manager.put(rt, self.number, slot)?))
     }
 
     fn query(&mut self, slot: usize) -> Option<Reply> {
         if slot >= self.manager.slots() {
             return None;
         }
-        if self.manager.query(&mut self.reader, slot) {
-            Some(Reply::Yes)
-        } else {
-            Some(Reply::No)
-        }
+        Some(Reply::of_query(self.manager.query(&mut self.reader, slot)))
     }
 
     /// Does a task, and answers its reply. It is None where the worker or the slot is out of range.
