@@ -3,33 +3,43 @@ ghost use Rattle.std.specs.Prelude.{◌≡◌};
 ghost use Rattle.dep_index.specs.Faults.{fault_at, dep_fault_at};
 
 use std::alloc::{AllocError, AllocFailed};
+use thiserror::Error;
 
 /// Why a text is no catalogue: its first fault, with the number of its line, from 1.
-#[derive(Clone, Copy, Debug, PartialEq, Eq, Drop)]
+#[derive(Clone, Copy, Debug, PartialEq, Eq, Drop, Error)]
 pub enum CatError {
     /// The line has no form of a catalogue line, or stands where it may not: before the first module, a second
     /// size, a parameter twice, `softneeds` in version 1, `version` behind another line.
+    #[error("line {line} is no line of a catalogue, or stands where it may not")]
     Bad { line: usize },
     /// A module of the name stands already.
+    #[error("line {line}: a module of the name stands already")]
     Duplicate { line: usize },
     /// The symbol is exported already, by whichever module.
+    #[error("line {line}: the symbol is exported already")]
     TwiceExported { line: usize },
     /// One module more than the version's limit of 256 or 1,024.
+    #[error("line {line}: one module more than a catalogue of its version holds")]
     TooMany { line: usize },
     /// There was no memory.
+    #[error("out of memory")]
     Memory,
 }
 
 /// Why a text is no modules.dep text: its first fault, with the number of its line, from 1.
-#[derive(Clone, Copy, Debug, PartialEq, Eq, Drop)]
+#[derive(Clone, Copy, Debug, PartialEq, Eq, Drop, Error)]
 pub enum DepError {
     /// The line has no colon.
+    #[error("line {line} has no colon")]
     NoColon { line: usize },
     /// A path on either side of the colon has an empty name.
+    #[error("line {line} has a path with an empty name")]
     EmptyName { line: usize },
     /// The name before the colon has a line already.
+    #[error("line {line}: the name has a line already")]
     SecondLine { line: usize },
     /// There was no memory.
+    #[error("out of memory")]
     Memory,
 }
 

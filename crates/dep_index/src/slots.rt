@@ -1,5 +1,5 @@
 //! What a table asks of a catalogue: needs and marks by slot.
-ghost use Rattle.std.specs.Prelude.{◌≡◌, ◌<◌, ◌≤◌, [], ◌∷◌, ◌++◌, length, IfOk};
+ghost use Rattle.std.specs.Prelude.{◌≡◌, ◌<◌, ◌≤◌, [], ◌∷◌, ◌++◌, length, IfOk, OnErr};
 ghost use Rattle.dep_index.specs.Table.{module_at};
 
 use std::alloc::{AllocError, Global};
@@ -50,7 +50,8 @@ impl Slots {
         permanent: bool,
     ) -> Result<(), AllocError>
         requires room { length self.old < 1024 }
-        ensures { IfOk result (λ _. self.new ≡ self.old ++ record { needs = needs.items; unknown_symbol = unknown_symbol; permanent = permanent } ∷ []) }
+        ensures added { IfOk result (λ _. self.new ≡ self.old ++ record { needs = needs.items; unknown_symbol = unknown_symbol; permanent = permanent } ∷ []) }
+        ensures kept { OnErr result (self.new ≡ self.old) }
     {
         self.slots.push(Slot {
             needs,

@@ -22,7 +22,7 @@ loop-slot-preserved c =
     let below : c.loop-slot.slot < length c.args.modules.now.entries = omega arith in
     record {
       slots =
-          c.in_ok-push.ensures
+          c.in_ok-push.ensures.added
           ∙ next_slot c.args.modules.now.entries c.args.exporters.now c.loop-slot.slot entry c.loop-slot.slots c.deref.result.now c.in_ok-needs.needs.items c.has_unknown.result
           c.requires.links here below c.deref.ensures.value c.loop-slot.invariant.slots c.in_ok-needs.ensures.needs
           (c.has_unknown.ensures ∙ ap (list_any (λ (s : Vec ℕ Global). is_none (slot_at c.args.exporters.now s.items))) (c.deref-in-loop-slot.ensures.value ∙ sym c.deref.ensures.value));
