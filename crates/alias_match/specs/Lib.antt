@@ -1,4 +1,5 @@
 pub mod Pattern
 pub mod Reading
 pub mod Aliases
+pub mod Idle
 pub mod ForProofs

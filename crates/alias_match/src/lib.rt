@@ -3,12 +3,14 @@
 
 mod alias;
 mod aliases;
+mod idle;
 mod laws;
 mod pattern;
 mod read;
 
 pub use alias::Alias;
 pub use aliases::{Aliases, read_aliases};
+pub use idle::{IdleLine, NoEffect, idle_aliases};
 pub use laws::{match_is_decided, one_reading, reading_is_total};
 pub use pattern::Pattern;
 pub use read::PatternError;

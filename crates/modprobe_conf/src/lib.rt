@@ -3,6 +3,7 @@
 
 mod conf;
 mod entry;
+mod idle;
 mod joined_lines;
 mod laws;
 mod name_index;
@@ -11,6 +12,7 @@ mod softdep;
 mod word;
 
 pub use conf::{Conf, read_conf};
+pub use idle::idle_settings;
 pub use laws::settings_are_of_lines;
 pub use settings::Settings;
 pub use softdep::Softdep;
