@@ -1,0 +1,2 @@
+pub mod ReportLemmas
+pub mod ReadBack

@@ -1,0 +1,5 @@
+pub mod Words
+pub mod Entries
+pub mod Reports
+pub mod Escapes
+pub mod Texts

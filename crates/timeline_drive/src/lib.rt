@@ -1,0 +1,25 @@
+//! The program of pictures: a report of a schedule in, its picture out.
+#![tactic(auto)]
+
+mod bars;
+mod captions;
+mod columns;
+mod entries;
+mod escapes;
+mod labels;
+mod lanes;
+pub mod laws;
+mod layout;
+mod numbers;
+mod program;
+mod replies;
+mod reports;
+mod svg;
+mod terminal;
+mod verbs;
+
+pub use entries::{Effect, Entry};
+pub use program::drive;
+pub use replies::Reply;
+pub use reports::{ReportFault, read_report};
+pub use verbs::Verb;

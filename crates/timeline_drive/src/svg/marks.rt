@@ -1,0 +1,167 @@
+//! The bars of an SVG, with their texts and their points.
+
+use super::bands::{BAR, ROW, middle};
+use super::{LEFT, SCALE};
+use crate::bars::{Bar, Label};
+use crate::captions::reply_text;
+use crate::entries::Entry;
+use crate::escapes::push_escaped;
+use std::alloc::AllocError;
+
+/// The class of a call: what its reply is.
+fn class(entry: &Entry<'_>) -> &'static str {
+    match entry.effect {
+        Some(effect) if effect.reply.is_refusal() => "refused",
+        Some(_) => "done",
+        None => "pending",
+    }
+}
+
+/// Adds the hair line from the axis to a point.
+pub(crate) fn push_hair(
+    page: &mut String,
+    bar: &Bar,
+    axis: u32,
+    top: u32,
+) -> Result<(), AllocError> {
+    let Some(point) = bar.point else {
+        return Ok(());
+    };
+    let (x, bottom) = (middle(point), top.saturating_add(BAR));
+    write!(page, "<path class=\"hair\" d=\"M{x} {axis}V{bottom}\"/>\n")
+}
+
+/// Adds what a pointer is shown.
+fn push_title(page: &mut String, entry: &Entry<'_>, caption: &[u8]) -> Result<(), AllocError> {
+    let (number, thread, first) = (entry.number, entry.thread, entry.first);
+    write!(page, "<title>call {number}, t{thread}: ")?;
+    push_escaped(page, caption)?;
+    match entry.last {
+        Some(last) => write!(page, ", steps {first} to {last}")?,
+        None => write!(page, ", from step {first} on")?,
+    }
+    if let Some(effect) = entry.effect {
+        let (point, reply) = (effect.point, effect.reply.text());
+        write!(page, ", point {point}, {reply}")?;
+    }
+    page.push_str("</title>")
+}
+
+/// Adds the shape of a bar: with round corners, or with sharp ones where the call was refused.
+fn push_shape(page: &mut String, bar: &Bar, entry: &Entry<'_>, top: u32) -> Result<(), AllocError> {
+    let begin = SCALE
+        .width(bar.from)
+        .saturating_add(if bar.has_first { LEFT + 2 } else { LEFT - 6 });
+    let end = SCALE
+        .width(bar.to.saturating_add(1))
+        .saturating_add(if bar.has_end { LEFT - 2 } else { LEFT + 6 });
+    let width = end.saturating_sub(begin);
+    let shape = if bar.has_end && entry.last.is_none() {
+        "bar open"
+    } else {
+        "bar"
+    };
+    let corner = match entry.effect {
+        Some(effect) if effect.reply.is_refusal() => 0,
+        _ => 6,
+    };
+    write!(
+        page,
+        "<rect class=\"{shape}\" x=\"{begin}\" y=\"{top}\" width=\"{width}\" height=\"{BAR}\" rx=\"{corner}\"/>"
+    )
+}
+
+/// Adds a text, cut to so many letters.
+fn push_cut(page: &mut String, text: &[u8], letters: u32) -> Result<(), AllocError> {
+    let letters = letters as usize;
+    if text.len() <= letters {
+        return push_escaped(page, text);
+    }
+    push_escaped(page, &text[..letters.saturating_sub(1)])?;
+    page.push_str("…")
+}
+
+/// Adds the text of a bar in two lines.
+fn push_inside(
+    page: &mut String,
+    bar: &Bar,
+    letters: u32,
+    texts: (&[u8], &[u8]),
+    top: u32,
+) -> Result<(), AllocError> {
+    let x = SCALE.width(bar.from).saturating_add(LEFT + SCALE.gap);
+    let (upper, lower) = (top.saturating_add(13), top.saturating_add(26));
+    write!(page, "<text x=\"{x}\" y=\"{upper}\">")?;
+    push_cut(page, texts.0, letters)?;
+    write!(
+        page,
+        "</text><text class=\"reply\" x=\"{x}\" y=\"{lower}\">"
+    )?;
+    push_cut(page, texts.1, letters)?;
+    page.push_str("</text>")
+}
+
+/// Adds the text of a bar above it, and a line that leads to it.
+fn push_above(
+    page: &mut String,
+    bar: &Bar,
+    row: u32,
+    at: u32,
+    texts: (&[u8], &[u8]),
+    top: u32,
+) -> Result<(), AllocError> {
+    let (x, lead) = (
+        at.saturating_add(LEFT + 6),
+        SCALE.width(bar.from).saturating_add(LEFT + 3),
+    );
+    let base = top.saturating_sub(row.saturating_mul(ROW).saturating_add(5));
+    let upper = base.saturating_sub(8);
+    write!(
+        page,
+        "<path class=\"lead\" d=\"M{lead} {top}V{upper}\"/><text class=\"label\" x=\"{x}\" y=\"{base}\">"
+    )?;
+    push_escaped(page, texts.0)?;
+    page.push_str(": <tspan class=\"reply\">")?;
+    push_escaped(page, texts.1)?;
+    page.push_str("</tspan></text>")
+}
+
+/// Adds the mark of a point: a disc, or a diamond where the call was refused.
+fn push_mark(page: &mut String, bar: &Bar, entry: &Entry<'_>, top: u32) -> Result<(), AllocError> {
+    let Some(point) = bar.point else {
+        return Ok(());
+    };
+    let (x, y) = (middle(point), top.saturating_add(BAR));
+    match entry.effect {
+        Some(effect) if effect.reply.is_refusal() => {
+            let tip = y.saturating_sub(6);
+            write!(page, "<path class=\"mark\" d=\"M{x} {tip}l6 6-6 6-6-6z\"/>")
+        }
+        _ => write!(
+            page,
+            "<circle class=\"mark\" cx=\"{x}\" cy=\"{y}\" r=\"4.5\"/>"
+        ),
+    }
+}
+
+/// Adds a bar, whose top stands at this height.
+pub(crate) fn push_bar(
+    page: &mut String,
+    bar: &Bar,
+    entry: &Entry<'_>,
+    caption: &[u8],
+    top: u32,
+) -> Result<(), AllocError> {
+    let class = class(entry);
+    let texts = (caption, reply_text(entry.effect).as_bytes());
+    write!(page, "<g class=\"{class}\">")?;
+    push_title(page, entry, caption)?;
+    push_shape(page, bar, entry, top)?;
+    match bar.label {
+        Label::Hidden => {}
+        Label::Inside { letters } => push_inside(page, bar, letters, texts, top)?,
+        Label::Above { row, at, .. } => push_above(page, bar, row, at, texts, top)?,
+    }
+    push_mark(page, bar, entry, top)?;
+    page.push_str("</g>\n")
+}
