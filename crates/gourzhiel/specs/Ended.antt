@@ -8,6 +8,7 @@ use Rattle.root_row.specs.World.{slots}
 use Rattle.root_row.specs.Views.{state_in, count_of, book_of}
 use Rattle.root_row.specs.Seats.{Seated}
 use Rattle.root_row.specs.Steps.{LeafAnswered, ReaderAnswered}
+use Rattle.root_row.specs.StepsMade.{SameView}
 use Rattle.root_row.specs.BookSteps.{BookAnswered}
 use Rattle.gourzhiel.specs.Numbers.{reply_at, state_at, busy, out_of_range}
 
@@ -30,10 +31,10 @@ IsEnded Answers before slot number need after =
 abbrev pub LeafEnded : Seated → ℕ → LeafCall → ℕ → Seated → Type 0
 LeafEnded before slot call number after = IsEnded (λ reply. LeafAnswered before.view slot call reply after.view) before slot number 0 after
 
--- a get of so many tries: each was missed and nothing changed, or it ended
+-- a get of so many tries: each was missed, and the view stays, or it ended
 abbrev pub GetEnded : Seated → ℕ → ℕ → Seated → Type 0
 GetEnded before slot number after =
-    MatchBool (number == busy) ((slot < slots before.view.world) × (after ≡ before)) (LeafEnded before slot Get number after)
+    MatchBool (number == busy) ((slot < slots before.view.world) × SameView before after) (LeafEnded before slot Get number after)
 
 -- a reader's query
 abbrev pub QueryEnded : Seated → ℕ → ℕ → Seated → Type 0

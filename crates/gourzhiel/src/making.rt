@@ -1,6 +1,7 @@
 //! A new table in boxes, before handles have them.
 ghost use Rattle.std.specs.Prelude.{◌≡◌, ◌<◌, map, All, IfOk};
 ghost use Rattle.std.specs.Arc.{arc_value};
+ghost use Rattle.std_alloc.specs.Box.{box_value};
 ghost use Rattle.dep_index.specs.Catalogue.{modules_of};
 ghost use Rattle.dep_index.specs.Words.{closed};
 ghost use Rattle.root_row.specs.Made.{new_leaf, new_reader};
@@ -30,7 +31,7 @@ pub fn make(
     readers: usize,
 ) -> Result<Made, AllocError>
     requires few { leaves < closed }
-    ensures { IfOk result (λ t. IsTable (modules_of catalogue.now) leaves readers t.book.value (map (λ b. b.value) t.leaves.items) (map (λ b. b.value) t.readers.items)) }
+    ensures { IfOk result (λ t. IsTable (modules_of catalogue.now) leaves readers t.book.value (map box_value t.leaves.items) (map box_value t.readers.items)) }
 {
     let (row, leaf_seats, book_seat, read_seats) = Row::new(alloc, catalogue, leaves, readers)?;
     let book = Book::new(alloc, book_seat, catalogue)?;

@@ -1,7 +1,5 @@
 -- New readers are of their row.
-use Rattle.std.proofs.Common.{◌≡◌, ◌⊎◌, inl, inr, ℕ, ◌<◌, ◌≤◌, List, length, get_or, refl, sym, ap, subst, arith, ◌∙◌}
-use mathlib.Core.Option.{some}
-use lib.ListN.{get_elem?}
+use Rattle.std.proofs.Common.{◌≡◌, inl, inr, ℕ, List, get_or, refl, sym, subst, arith, ◌∙◌}
 use Rattle.std.specs.List.{All}
 use Rattle.root_row.specs.Seats.{RowIs, Seated, IsOf}
 use Rattle.root_row.specs.Made.{new_reader, AreNew}

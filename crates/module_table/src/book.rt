@@ -37,6 +37,7 @@ impl Book {
     ghost use Rattle.root_row.specs.Seats.{IsOf, KnowsTable};
     ghost use Rattle.root_row.specs.Views.{state_in, book_of};
     ghost use Rattle.root_row.specs.BookSteps.{BookAnswered};
+    ghost use Rattle.module_table.specs.CallSteps.{CallSteps};
 
     /// The book of a new row, over the row's catalogue. It reserves the order: no later call takes memory.
     ///
@@ -92,6 +93,7 @@ impl Book {
         requires inside { slot < slots row.now.world }
         ensures own { IsOf row.now self.new }
         ensures call { BookAnswered self.old.view slot BookCall.BeginLoad (reply_of begin_load_refusal result) self.new.view }
+        ensures steps { CallSteps BookCall.BeginLoad slot (reply_of begin_load_refusal result) self.old self.new }
     {
         let refusal = self.book.load_refusal(&self.catalogue, slot);
         row.look_book(&mut self.seat, slot, BookCall::BeginLoad);
@@ -108,6 +110,7 @@ impl Book {
         requires inside { slot < slots row.now.world }
         ensures own { IsOf row.now self.new }
         ensures call { BookAnswered self.old.view slot (BookCall.EndLoad ok) (reply_of end_load_refusal result) self.new.view }
+        ensures steps { CallSteps (BookCall.EndLoad ok) slot (reply_of end_load_refusal result) self.old self.new }
     {
         if let Some(refusal) = self.book.end_load_refusal(slot) {
             row.look_book(&mut self.seat, slot, BookCall::EndLoad(ok));
@@ -129,6 +132,7 @@ impl Book {
         requires inside { slot < slots row.now.world }
         ensures own { IsOf row.now self.new }
         ensures call { BookAnswered self.old.view slot BookCall.BeginDrain (reply_of begin_drain_refusal result) self.new.view }
+        ensures steps { CallSteps BookCall.BeginDrain slot (reply_of begin_drain_refusal result) self.old self.new }
     {
         if let Some(refusal) = self.book.drain_refusal(&self.catalogue, slot) {
             row.look_book(&mut self.seat, slot, BookCall::BeginDrain);
@@ -145,6 +149,7 @@ impl Book {
         requires inside { slot < slots row.now.world }
         ensures own { IsOf row.now self.new }
         ensures call { BookAnswered self.old.view slot BookCall.BeginRemove (reply_of begin_remove_refusal result) self.new.view }
+        ensures steps { CallSteps BookCall.BeginRemove slot (reply_of begin_remove_refusal result) self.old self.new }
     {
         if let Some(refusal) = self.book.remove_refusal(&self.catalogue, slot) {
             row.look_book(&mut self.seat, slot, BookCall::BeginRemove);
@@ -163,6 +168,7 @@ impl Book {
         requires inside { slot < slots row.now.world }
         ensures own { IsOf row.now self.new }
         ensures call { BookAnswered self.old.view slot BookCall.EndRemove (reply_of end_remove_refusal result) self.new.view }
+        ensures steps { CallSteps BookCall.EndRemove slot (reply_of end_remove_refusal result) self.old self.new }
     {
         if let Some(refusal) = self.book.end_remove_refusal(slot) {
             row.look_book(&mut self.seat, slot, BookCall::EndRemove);

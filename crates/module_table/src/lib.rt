@@ -2,6 +2,7 @@
 #![tactic(auto)]
 
 mod book;
+mod making;
 mod manager;
 mod own_book;
 mod own_leaf;

@@ -1,9 +1,5 @@
-ghost use Rattle.std.specs.Prelude.{◌≡◌, All, IfOk, length};
-ghost use Rattle.std.specs.Arc.{arc_value};
-ghost use Rattle.root_row.specs.Made.{new_leaf};
-ghost use Rattle.root_row.specs.Views.{worker_of};
-
 use crate::book::Book;
+use crate::making::{own_leaves, readers_of};
 use crate::own_book::OwnBook;
 use crate::own_leaf::OwnLeaf;
 use crossbeam_utils::CachePadded;
@@ -11,16 +7,16 @@ use dep_index::{
     BeginDrainError, BeginLoadError, BeginRemoveError, Catalogue, EndLoadError, EndRemoveError,
     GetError, ModuleState, PutError,
 };
-use root_row::{LeafSeat, ReadSeat, Row};
+use root_row::Row;
 use std::alloc::{AllocError, Global};
 use std::marker::Model;
 use std::sync::{Arc, Mutex, Wait};
-use use_indicator::{Leaf, Reader};
+use use_indicator::Reader;
 
 /// A row of root words, a lock for each worker's leaf and one for the book. Contracts see its row.
 ///
-/// A call that locks takes one lock, makes one call and lets go; it answers None where the worker, the slot or
-/// the place is out of range, and nothing is changed then. What it did under the lock no contract can say: a
+/// A call that locks takes one lock, makes one call and lets go. It answers None where the worker, the slot or the place
+/// is out of range, and nothing is changed then. What it did under the lock no contract says, nor how often it locked: a
 /// caller who wants to know takes the lock by `leaf` or `book`, and reads the contracts of `OwnLeaf` and `OwnBook`.
 ///
 /// Each lock has cache lines of its own, so workers who hold a module don't slow each other.
@@ -113,27 +109,44 @@ impl Manager {
 
     /// How often the worker holds the module.
     pub fn held<R: Wait>(&self, rt: &R, worker: usize, slot: usize) -> Option<u32>
-        ensures { self.now.world.workers ≤ worker → IsNone result }
+        ensures worker { self.now.world.workers ≤ worker → IsNone result }
+        ensures slot { slots self.now.world ≤ slot → IsNone result }
     {
+        if slot >= self.slots() {
+            return None;
+        }
         self.leaf(worker)?.lock(rt).held(slot)
     }
 
     /// Takes one reference for the worker.
     pub fn get<R: Wait>(&self, rt: &R, worker: usize, slot: usize) -> Option<Result<(), GetError>>
-        ensures { self.now.world.workers ≤ worker → IsNone result }
+        ensures worker { self.now.world.workers ≤ worker → IsNone result }
+        ensures slot { slots self.now.world ≤ slot → IsNone result }
     {
+        if slot >= self.slots() {
+            return None;
+        }
         self.leaf(worker)?.lock(rt).get(rt, slot)
     }
 
     /// Gives one reference of the worker back.
     pub fn put<R: Wait>(&self, rt: &R, worker: usize, slot: usize) -> Option<Result<(), PutError>>
-        ensures { self.now.world.workers ≤ worker → IsNone result }
+        ensures worker { self.now.world.workers ≤ worker → IsNone result }
+        ensures slot { slots self.now.world ≤ slot → IsNone result }
     {
+        if slot >= self.slots() {
+            return None;
+        }
         self.leaf(worker)?.lock(rt).put(slot)
     }
 
     /// Begins a load.
-    pub fn begin_load<R: Wait>(&self, rt: &R, slot: usize) -> Option<Result<(), BeginLoadError>> {
+    pub fn begin_load<R: Wait>(&self, rt: &R, slot: usize) -> Option<Result<(), BeginLoadError>>
+        ensures { slots self.now.world ≤ slot → IsNone result }
+    {
+        if slot >= self.slots() {
+            return None;
+        }
         self.book.lock(rt).begin_load(slot)
     }
 
@@ -143,31 +156,52 @@ impl Manager {
         rt: &R,
         slot: usize,
         ok: bool,
-    ) -> Option<Result<(), EndLoadError>> {
+    ) -> Option<Result<(), EndLoadError>>
+        ensures { slots self.now.world ≤ slot → IsNone result }
+    {
+        if slot >= self.slots() {
+            return None;
+        }
         self.book.lock(rt).end_load(slot, ok)
     }
 
     /// Begins a drain.
-    pub fn begin_drain<R: Wait>(&self, rt: &R, slot: usize) -> Option<Result<(), BeginDrainError>> {
+    pub fn begin_drain<R: Wait>(&self, rt: &R, slot: usize) -> Option<Result<(), BeginDrainError>>
+        ensures { slots self.now.world ≤ slot → IsNone result }
+    {
+        if slot >= self.slots() {
+            return None;
+        }
         self.book.lock(rt).begin_drain(slot)
     }
 
     /// Begins a removal.
-    pub fn begin_remove<R: Wait>(
-        &self,
-        rt: &R,
-        slot: usize,
-    ) -> Option<Result<(), BeginRemoveError>> {
+    pub fn begin_remove<R: Wait>(&self, rt: &R, slot: usize) -> Option<Result<(), BeginRemoveError>>
+        ensures { slots self.now.world ≤ slot → IsNone result }
+    {
+        if slot >= self.slots() {
+            return None;
+        }
         self.book.lock(rt).begin_remove(slot)
     }
 
     /// Ends a removal or a drain.
-    pub fn end_remove<R: Wait>(&self, rt: &R, slot: usize) -> Option<Result<(), EndRemoveError>> {
+    pub fn end_remove<R: Wait>(&self, rt: &R, slot: usize) -> Option<Result<(), EndRemoveError>>
+        ensures { slots self.now.world ≤ slot → IsNone result }
+    {
+        if slot >= self.slots() {
+            return None;
+        }
         self.book.lock(rt).end_remove(slot)
     }
 
     /// The state of the module.
-    pub fn state<R: Wait>(&self, rt: &R, slot: usize) -> Option<ModuleState> {
+    pub fn state<R: Wait>(&self, rt: &R, slot: usize) -> Option<ModuleState>
+        ensures { slots self.now.world ≤ slot → IsNone result }
+    {
+        if slot >= self.slots() {
+            return None;
+        }
         self.book.lock(rt).state(slot)
     }
 
@@ -177,46 +211,12 @@ impl Manager {
     }
 
     /// The loaded module at this place, the oldest first.
-    pub fn loaded_at<R: Wait>(&self, rt: &R, place: usize) -> Option<usize> {
+    pub fn loaded_at<R: Wait>(&self, rt: &R, place: usize) -> Option<usize>
+        ensures { slots self.now.world ≤ place → IsNone result }
+    {
+        if place >= self.slots() {
+            return None;
+        }
         self.book.lock(rt).loaded_at(place)
     }
-}
-
-// A lock for each new seat of the row.
-fn own_leaves(
-    alloc: Global,
-    row: &Arc<Row, Global>,
-    seats: Vec<LeafSeat>,
-) -> Result<Vec<CachePadded<Mutex<OwnLeaf>>>, AllocError>
-    requires { All (λ s. s ≡ new_leaf (arc_value row.now).id (arc_value row.now).world (worker_of s.view)) seats.items }
-    ensures { IfOk result (λ locks. length locks.items ≡ length seats.items) }
-{
-    let mut locks = Vec::new(alloc);
-    for seat in seats {
-        let lock = own_leaf(alloc, row, seat)?;
-        locks.push(CachePadded::new(lock))?;
-    }
-    Ok(locks)
-}
-
-fn own_leaf(
-    alloc: Global,
-    row: &Arc<Row, Global>,
-    seat: LeafSeat,
-) -> Result<Mutex<OwnLeaf>, AllocError>
-    requires { seat ≡ new_leaf (arc_value row.now).id (arc_value row.now).world (worker_of seat.view) }
-{
-    let leaf = Leaf::new(alloc, seat, row.slots())?;
-    let row = Arc::try_clone(row)?;
-    Ok(Mutex::new(OwnLeaf::new(leaf, row)))
-}
-
-fn readers_of(alloc: Global, seats: Vec<ReadSeat>) -> Result<Vec<Reader>, AllocError>
-    ensures { IfOk result (λ readers. readers.items ≡ seats.items) }
-{
-    let mut readers = Vec::with_capacity(alloc, seats.len())?;
-    for seat in seats {
-        readers.push(Reader::new(seat))?;
-    }
-    Ok(readers)
 }

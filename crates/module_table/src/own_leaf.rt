@@ -25,13 +25,15 @@ impl Model for OwnLeaf {
 }
 
 impl OwnLeaf {
-    ghost use Rattle.std.specs.Prelude.{◌≡◌, ◌<◌, ◌≤◌, MatchOption};
+    ghost use Rattle.std.specs.Prelude.{◌≡◌, ◌<◌, ◌≤◌, ◌↔◌, IfSome, IfNone, IsNone, MatchOption};
     ghost use Rattle.std.specs.Arc.{arc_value};
     ghost use Rattle.dep_index.specs.Refusals.{reply_of, get_refusal, put_refusal};
     ghost use Rattle.root_row.specs.World.{slots};
-    ghost use Rattle.root_row.specs.Seats.{IsOf};
+    ghost use Rattle.root_row.specs.Seats.{IsOf, KnowsTable};
     ghost use Rattle.root_row.specs.Views.{count_of};
     ghost use Rattle.root_row.specs.Steps.{LeafAnswered};
+    ghost use Rattle.root_row.specs.StepsMade.{SameView};
+    ghost use Rattle.use_indicator.specs.Counted.{GetSteps, TrySteps, GivenUp, PutSteps};
 
     pub fn new(leaf: Leaf, row: Arc<Row, Global>) -> OwnLeaf
         requires { IsOf (arc_value row) leaf }
@@ -40,9 +42,25 @@ impl OwnLeaf {
         OwnLeaf { leaf, row }
     }
 
+    /// What the leaf has seen is a legal history, so removals are safe in it, and its counts are the table's after it. A
+    /// guard's holder knows it before the first call.
+    pub fn laws(&self)
+        ensures { KnowsTable self.now.view }
+    {
+        self.leaf.laws()
+    }
+
+    /// How many modules the catalogue has.
+    pub fn slots(&self) -> usize
+        ensures { result ≡ slots self.now.view.world }
+    {
+        self.row.slots()
+    }
+
     /// How often the worker holds the module. It is None where the slot is out of range, as for each call.
     pub fn held(&self, slot: usize) -> Option<u32>
-        ensures { MatchOption result (slots self.now.view.world ≤ slot) (λ count. (slot < slots self.now.view.world) × (count ≡ count_of self.now.view slot)) }
+        ensures range { IsNone result ↔ (slots self.now.view.world ≤ slot) }
+        ensures count { IfSome result (λ count. count ≡ count_of self.now.view slot) }
     {
         if slot >= self.row.slots() {
             return None;
@@ -54,6 +72,7 @@ impl OwnLeaf {
     pub fn get<R: Wait>(&mut self, rt: &R, slot: usize) -> Option<Result<(), GetError>>
         ensures range { MatchOption result ((slots self.old.view.world ≤ slot) × (self.new ≡ self.old)) (λ _. slot < slots self.old.view.world) }
         ensures call { MatchOption result (self.new ≡ self.old) (λ r. LeafAnswered self.old.view slot LeafCall.Get (reply_of get_refusal r) self.new.view) }
+        ensures steps { IfSome result (λ r. GetSteps slot (count_of self.old.view slot) (reply_of get_refusal r) self.old self.new) }
         ensures row { self.new.row ≡ self.old.row }
     {
         if slot >= self.row.slots() {
@@ -62,10 +81,13 @@ impl OwnLeaf {
         Some(self.leaf.get(rt, &self.row, slot))
     }
 
-    /// As `get`, but it tries at most this many times. The inner None: each try was missed, and nothing is changed.
+    /// As `get`, but it tries at most this many times. The inner None: each try was missed, and no word and no count is
+    /// changed.
     pub fn try_get(&mut self, slot: usize, tries: u32) -> Option<Option<Result<(), GetError>>>
         ensures range { MatchOption result ((slots self.old.view.world ≤ slot) × (self.new ≡ self.old)) (λ _. slot < slots self.old.view.world) }
-        ensures call { MatchOption result (self.new ≡ self.old) (λ o. MatchOption o (self.new ≡ self.old) (λ r. LeafAnswered self.old.view slot LeafCall.Get (reply_of get_refusal r) self.new.view)) }
+        ensures call { IfSome result (λ o. IfSome o (λ r. LeafAnswered self.old.view slot LeafCall.Get (reply_of get_refusal r) self.new.view)) }
+        ensures missed { IfSome result (λ o. IfNone o (SameView self.old self.new × GivenUp tries slot self.old self.new)) }
+        ensures steps { IfSome result (λ o. IfSome o (λ r. TrySteps tries slot (count_of self.old.view slot) (reply_of get_refusal r) self.old self.new)) }
         ensures row { self.new.row ≡ self.old.row }
     {
         if slot >= self.row.slots() {
@@ -78,6 +100,7 @@ impl OwnLeaf {
     pub fn put(&mut self, slot: usize) -> Option<Result<(), PutError>>
         ensures range { MatchOption result ((slots self.old.view.world ≤ slot) × (self.new ≡ self.old)) (λ _. slot < slots self.old.view.world) }
         ensures call { MatchOption result (self.new ≡ self.old) (λ r. LeafAnswered self.old.view slot LeafCall.Put (reply_of put_refusal r) self.new.view) }
+        ensures steps { IfSome result (λ _. PutSteps slot (count_of self.old.view slot) self.old self.new) }
         ensures row { self.new.row ≡ self.old.row }
     {
         if slot >= self.row.slots() {

@@ -24,12 +24,13 @@ impl Model for OwnReader {
 }
 
 impl OwnReader {
-    ghost use Rattle.std.specs.Prelude.{◌≡◌, ◌<◌, ◌≤◌, MatchOption, if◌then◌else◌};
+    ghost use Rattle.std.specs.Prelude.{◌≡◌, ◌<◌, ◌≤◌, IfSome, MatchOption, if◌then◌else◌};
     ghost use Rattle.std.specs.Arc.{arc_value};
     ghost use Rattle.dep_index.specs.declared.calls.Reply.TheVariants.{Yes, No};
     ghost use Rattle.root_row.specs.World.{slots};
     ghost use Rattle.root_row.specs.Seats.{IsOf};
     ghost use Rattle.root_row.specs.Steps.{ReaderAnswered};
+    ghost use Rattle.root_row.specs.StepsMade.{OneLoad};
 
     pub fn new(reader: Reader, row: Arc<Row, Global>) -> OwnReader
         requires { IsOf (arc_value row) reader }
@@ -42,6 +43,7 @@ impl OwnReader {
     pub fn in_use(&mut self, slot: usize) -> Option<bool>
         ensures range { MatchOption result ((slots self.old.view.world ≤ slot) × (self.new ≡ self.old)) (λ _. slot < slots self.old.view.world) }
         ensures call { MatchOption result (self.new ≡ self.old) (λ used. ReaderAnswered self.old.view slot (if used then Yes else No) self.new.view) }
+        ensures steps { IfSome result (λ _. OneLoad slot self.old self.new) }
         ensures row { self.new.row ≡ self.old.row }
     {
         if slot >= self.row.slots() {

@@ -236,6 +236,9 @@ module _ (s : move.St) (id : ℕ) (v : View) (kept : RowRule v.world s) (at : ge
       whole k small = omega arith
 
 -- what the steps of the book tell
+abbrev pub opened : Step (Unit {0}) → SeatState → ℕ → SeatState → Type 0
+opened = AtSlot (λ expected m v found w. BookAnswered v m (book_is.EndLoad true) Done w × (found ≡ expected))
+
 abbrev pub looked_book : BookCall → Step (Unit {0}) → SeatState → ℕ → SeatState → Type 0
 looked_book kind = AtSlot (λ _ m v found w. LookedBook kind m v found w)
 
@@ -285,11 +288,11 @@ module _ (world : World) (slots' id : ℕ) (me : Me (Unit {0}) View) (is : IsBoo
       let t = both s kept at inside' in
       exchanged (get_or s.words (place_of m) 0) old new (λ n'. Owes s (λ _. n') then me.0.world) t.0 t.1)
 
-  pub opens : state_in me.0 m ≡ state_is.Loading → Allows (RowRule world) slots' id me (place_of m) (λ n. either (eqb n closed) 0 n) (made (book_is.EndLoad true) (step slots' (place_of m) closed 0 none) me)
-  opens loading = exchanges closed 0 (made (book_is.EndLoad true) (step slots' (place_of m) closed 0 none) me) (λ s kept at inside'. (
+  pub opens : state_in me.0 m ≡ state_is.Loading → Allows (RowRule world) slots' id me (place_of m) (λ n. either (eqb n closed) 0 n) (opened (step slots' (place_of m) closed 0 none) me)
+  opens loading = exchanges closed 0 (opened (step slots' (place_of m) closed 0 none) me) (λ s kept at inside'. (
     (λ hit.
         let r = opens_at s id me.0 kept at is m inside' me.1 loading in
-        (r.0, keeps, tt, r.1, (refl, λ j e. subst (λ i. BookAnswered me.0 i (book_is.EndLoad true) Done r.0) (move.same_slot m j e) r.2))),
+        (r.0, keeps, tt, r.1, (refl, λ j e. (subst (λ i. BookAnswered me.0 i (book_is.EndLoad true) Done r.0) (move.same_slot m j e) r.2, hit)))),
     (λ miss. absurd (miss (loading_found s id me.0 kept at is m inside' me.1 loading))),
   ))
 

@@ -16,11 +16,13 @@ use Rattle.root_row.specs.declared.view.Member.{Member}
 use Rattle.root_row.specs.declared.view.View.{View}
 use Rattle.root_row.specs.World.{slots, opened, place_of}
 use Rattle.root_row.specs.Views.{Part, name_of}
-use Rattle.root_row.specs.Rule.{Agrees, Owner, FitsMember, Fits, HasAll, RowRule}
+use Rattle.root_row.specs.Rule.{Agrees, Owner, FitsMember, Fits, HasAll}
 use Rattle.root_row.specs.Setting.{world_of, leaf_parts, reader_parts, book_part, new_member, new_view, first_view}
 use Rattle.root_row.specs.Seats.{Seated}
 use Rattle.root_row.specs.Made.{AreNew}
 use Rattle.root_row.specs.Seating.{first_member, other_members}
+use Rattle.root_row.specs.declared.view.Trail.{Trail}
+use Rattle.root_row.specs.Trails.{trail, TrailState, TrailRule, first_trail, other_trail}
 use Rattle.root_row.proofs.Replay.{at_or_past, get_or_at, legal_none, callers_none}
 use Rattle.root_row.proofs.Seating.{at_snoc}
 
@@ -131,7 +133,7 @@ module _ (setting : Setting) where
     refl,
   )
 
-  pub opens : (words : List ℕ) → words ≡ replicate (place_of (slots (world_of setting))) closed → setting.workers < closed → RowRule (world_of setting) (table.opening words [] (first_view setting))
+  pub opens : (words : List ℕ) → words ≡ replicate (place_of (slots (world_of setting))) closed → setting.workers < closed → TrailRule (world_of setting) (table.opening words [] (trail (first_view setting) []))
   opens words is few = record {
     history = [];
     owner = owner;
@@ -164,19 +166,19 @@ pub next_reader : (world : World) (n i : ℕ) (tail : List Part) → i < n
 next_reader world n i tail lt = reader_cut world (n - i) (n - (i + 1)) i tail (omega arith)
 
 -- what is known of a cut, where the rest has the parts of the loop
-pub cut_leaf : (world : World) (n i : ℕ) (tail : List Part) (me rest seat : table.Me (Unit {0}) View) → i < n → me ≡ (new_view world (leaf_parts world (n - i) i ++ tail), [])
-    → seat ≡ (first_member me.0, []) → rest ≡ (other_members me.0, me.1)
-    → (seat ≡ (new_view world (part_is.Leaf i (replicate (slots world) 0) ∷ []), [])) × (rest ≡ (new_view world (leaf_parts world (n - (i + 1)) (i + 1) ++ tail), []))
+pub cut_leaf : (world : World) (n i : ℕ) (tail : List Part) (me rest seat : TrailState) → i < n → me ≡ (trail (new_view world (leaf_parts world (n - i) i ++ tail)) [], [])
+    → seat ≡ (first_trail me.0, []) → rest ≡ (other_trail me.0, me.1)
+    → (seat ≡ (trail (new_view world (part_is.Leaf i (replicate (slots world) 0) ∷ [])) [], [])) × (rest ≡ (trail (new_view world (leaf_parts world (n - (i + 1)) (i + 1) ++ tail)) [], []))
 cut_leaf world n i tail me rest seat lt is first other =
     let p = next_leaf world n i tail lt in
-    (first ∙ ap (λ (m : table.Me (Unit {0}) View). (first_member m.0, [])) is ∙ ap (λ (v : View). (v, [])) p.0, other ∙ ap (λ (m : table.Me (Unit {0}) View). (other_members m.0, m.1)) is ∙ ap (λ (v : View). (v, [])) p.1)
+    (first ∙ ap (λ (m : TrailState). (first_trail m.0, [])) is ∙ ap (λ (v : View). (trail v [], [])) p.0, other ∙ ap (λ (m : TrailState). (other_trail m.0, m.1)) is ∙ ap (λ (v : View). (trail v [], [])) p.1)
 
-pub cut_reader : (world : World) (n i : ℕ) (tail : List Part) (me rest seat : table.Me (Unit {0}) View) → i < n → me ≡ (new_view world (reader_parts (n - i) i ++ tail), [])
-    → seat ≡ (first_member me.0, []) → rest ≡ (other_members me.0, me.1)
-    → (seat ≡ (new_view world (part_is.Reader i ∷ []), [])) × (rest ≡ (new_view world (reader_parts (n - (i + 1)) (i + 1) ++ tail), []))
+pub cut_reader : (world : World) (n i : ℕ) (tail : List Part) (me rest seat : TrailState) → i < n → me ≡ (trail (new_view world (reader_parts (n - i) i ++ tail)) [], [])
+    → seat ≡ (first_trail me.0, []) → rest ≡ (other_trail me.0, me.1)
+    → (seat ≡ (trail (new_view world (part_is.Reader i ∷ [])) [], [])) × (rest ≡ (trail (new_view world (reader_parts (n - (i + 1)) (i + 1) ++ tail)) [], []))
 cut_reader world n i tail me rest seat lt is first other =
     let p = next_reader world n i tail lt in
-    (first ∙ ap (λ (m : table.Me (Unit {0}) View). (first_member m.0, [])) is ∙ ap (λ (v : View). (v, [])) p.0, other ∙ ap (λ (m : table.Me (Unit {0}) View). (other_members m.0, m.1)) is ∙ ap (λ (v : View). (v, [])) p.1)
+    (first ∙ ap (λ (m : TrailState). (first_trail m.0, [])) is ∙ ap (λ (v : View). (trail v [], [])) p.0, other ∙ ap (λ (m : TrailState). (other_trail m.0, m.1)) is ∙ ap (λ (v : View). (trail v [], [])) p.1)
 
 -- one more new seat
 pub one_more : (new : ℕ → Seated) (count : ℕ) (seats : List Seated) (x : Seated) → AreNew new count seats → new count ≡ x → AreNew new (count + 1) (seats ++ x ∷ [])
@@ -185,11 +187,11 @@ one_more new count seats x are is = (
   λ k y e. ⊎_elim (λ (t : get_elem? seats k ≡ some y). are.1 k y t) (λ (t : (k ≡ length seats) × (x ≡ y)). ap new (t.0 ∙ are.0) ∙ is ∙ t.1) (at_snoc seats x y k e),
 )
 
-abbrev seat_at : TableId → View → Seated
-seat_at row view = record { row = row; view = view }
+abbrev seat_at : TableId → Trail → Seated
+seat_at row t = record { row = row; view = t.view; steps = t.steps }
 
-pub is_seated : (id row : TableId) (v w : View) → row ≡ id → w ≡ v → seat_at id v ≡ seat_at row w
-is_seated id row v w a b = λ i. seat_at (sym a i) (sym b i)
+pub is_seated : (id row : TableId) (t u : Trail) → row ≡ id → u ≡ t → seat_at id t ≡ seat_at row u
+is_seated id row t u a b = λ i. seat_at (sym a i) (sym b i)
 
 -- a line for each slot, and the spare line
 pub room : (setting : Setting) (catalogue : List Module) (n : ℕ) → setting.catalogue.value ≡ catalogue → n ≡ length catalogue → n ≡ slots (world_of setting)

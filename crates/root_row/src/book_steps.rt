@@ -1,10 +1,13 @@
 //! The steps of the book.
-ghost use Rattle.std.specs.Prelude.{◌≡◌, ◌<◌, ◌⊎◌, true};
+ghost use Rattle.std.specs.Prelude.{◌≡◌, ◌<◌, ◌⊎◌, [], ◌∷◌, true};
 ghost use Rattle.dep_index.specs.Laws.{OrderIsExact};
+ghost use Rattle.dep_index.specs.Words.{closed, drained};
 ghost use Rattle.root_row.specs.World.{slots};
 ghost use Rattle.root_row.specs.Seats.{IsOf};
 ghost use Rattle.root_row.specs.Views.{book_of, state_in};
 ghost use Rattle.root_row.specs.BookSteps.{LookedBook, BookAnswered, MayLeave, TriedClose, closing};
+ghost use Rattle.root_row.specs.StepsMade.{StepsMade, unheld_word};
+ghost use Rattle.root_row.specs.declared.view.AtomicStep.TheVariants.{Load, Exchange, Add};
 
 use crate::book_seat::BookSeat;
 use crate::calls::BookCall;
@@ -27,6 +30,7 @@ impl Row {
         ensures own { IsOf self.now seat.new }
         ensures point { LookedBook call slot seat.old.view result seat.new.view }
         ensures exact { OrderIsExact (book_of seat.new.view) }
+        ensures step { StepsMade seat.old (Load slot result ∷ []) seat.new }
     {
         match call {
             BookCall::BeginLoad => self.look_for::<AskBeginLoad>(seat, slot),
@@ -44,6 +48,7 @@ impl Row {
         ensures own { IsOf self.now seat.new }
         ensures point { LookedBook C.kind slot seat.old.view result seat.new.view }
         ensures exact { OrderIsExact (book_of seat.new.view) }
+        ensures step { StepsMade seat.old (Load slot result ∷ []) seat.new }
     {
         let shared = &self.table.shared;
         shared.load::<LookBook<C>>(&mut seat.seat, (slot + 1) * WORDS_PER_LINE)
@@ -56,6 +61,7 @@ impl Row {
         requires loading { state_in seat.old.view slot ≡ ModuleState.Loading }
         ensures own { IsOf self.now seat.new }
         ensures point { BookAnswered seat.old.view slot (BookCall.EndLoad true) Reply.Done seat.new.view }
+        ensures step { StepsMade seat.old (Exchange slot closed 0 true ∷ []) seat.new }
     {
         let shared = &self.table.shared;
         shared.compare_exchange::<Open>(&mut seat.seat, (slot + 1) * WORDS_PER_LINE, CLOSED, 0);
@@ -68,6 +74,7 @@ impl Row {
         requires may { MayLeave seat.old.view slot }
         ensures own { IsOf self.now seat.new }
         ensures point { BookAnswered seat.old.view slot BookCall.BeginDrain Reply.Done seat.new.view }
+        ensures step { StepsMade seat.old (Add slot drained ∷ []) seat.new }
     {
         let shared = &self.table.shared;
         shared.fetch_add::<Drain>(&mut seat.seat, (slot + 1) * WORDS_PER_LINE, DRAINED);
@@ -84,6 +91,7 @@ impl Row {
         requires may { MayLeave seat.old.view slot ⊎ (state_in seat.old.view slot ≡ ModuleState.Draining) }
         ensures own { IsOf self.now seat.new }
         ensures point { TriedClose (closing (state_in seat.old.view slot)) slot seat.old.view result seat.new.view }
+        ensures step { StepsMade seat.old (Exchange slot (unheld_word (state_in seat.old.view slot)) closed result ∷ []) seat.new }
     {
         if seat.is_draining(slot) {
             self.close_drained(seat, slot)
@@ -98,6 +106,7 @@ impl Row {
         requires may { MayLeave seat.old.view slot }
         ensures own { IsOf self.now seat.new }
         ensures point { TriedClose BookCall.BeginRemove slot seat.old.view result seat.new.view }
+        ensures step { StepsMade seat.old (Exchange slot 0 closed result ∷ []) seat.new }
     {
         let shared = &self.table.shared;
         let word = (slot + 1) * WORDS_PER_LINE;
@@ -110,6 +119,7 @@ impl Row {
         requires drains { state_in seat.old.view slot ≡ ModuleState.Draining }
         ensures own { IsOf self.now seat.new }
         ensures point { TriedClose BookCall.EndRemove slot seat.old.view result seat.new.view }
+        ensures step { StepsMade seat.old (Exchange slot drained closed result ∷ []) seat.new }
     {
         let shared = &self.table.shared;
         let found = shared.compare_exchange::<CloseDrained>(

@@ -1,10 +1,12 @@
 //! The steps of leaves and readers.
-ghost use Rattle.std.specs.Prelude.{◌≡◌, ◌<◌};
+ghost use Rattle.std.specs.Prelude.{◌≡◌, ◌+◌, ◌<◌, [], ◌∷◌};
 ghost use Rattle.dep_index.specs.Words.{closed};
 ghost use Rattle.root_row.specs.World.{slots};
 ghost use Rattle.root_row.specs.Seats.{IsOf};
 ghost use Rattle.root_row.specs.Views.{count_of};
 ghost use Rattle.root_row.specs.Steps.{Looked, TriedArrive, LeafAnswered, LookedRead};
+ghost use Rattle.root_row.specs.StepsMade.{StepsMade};
+ghost use Rattle.root_row.specs.declared.view.AtomicStep.TheVariants.{Load, Exchange, Subtract};
 
 use crate::calls::LeafCall;
 use crate::leaf_seat::LeafSeat;
@@ -23,6 +25,7 @@ impl Row {
         requires inside { slot < slots self.now.world }
         ensures own { IsOf self.now seat.new }
         ensures point { Looked call slot seat.old.view result seat.new.view }
+        ensures step { StepsMade seat.old (Load slot result ∷ []) seat.new }
     {
         let shared = &self.table.shared;
         let word = (slot + 1) * WORDS_PER_LINE;
@@ -42,6 +45,7 @@ impl Row {
         requires open { expected < closed }
         ensures own { IsOf self.now seat.new }
         ensures point { TriedArrive slot seat.old.view result seat.new.view }
+        ensures step { StepsMade seat.old (Exchange slot expected (expected + 1) result ∷ []) seat.new }
     {
         let shared = &self.table.shared;
         let found = shared.compare_exchange::<Arrive>(
@@ -60,6 +64,7 @@ impl Row {
         requires last_held { count_of seat.old.view slot ≡ 1 }
         ensures own { IsOf self.now seat.new }
         ensures point { LeafAnswered seat.old.view slot LeafCall.Put Reply.Done seat.new.view }
+        ensures step { StepsMade seat.old (Subtract slot 1 ∷ []) seat.new }
     {
         let shared = &self.table.shared;
         shared.fetch_sub::<Depart>(&mut seat.seat, (slot + 1) * WORDS_PER_LINE, 1);
@@ -71,6 +76,7 @@ impl Row {
         requires inside { slot < slots self.now.world }
         ensures own { IsOf self.now seat.new }
         ensures point { LookedRead slot seat.old.view result seat.new.view }
+        ensures step { StepsMade seat.old (Load slot result ∷ []) seat.new }
     {
         let shared = &self.table.shared;
         shared.load::<LookRead>(&mut seat.seat, (slot + 1) * WORDS_PER_LINE)

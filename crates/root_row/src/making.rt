@@ -3,8 +3,8 @@ ghost use Rattle.std.specs.Prelude.{◌≡◌, ◌<◌, List, [], ◌++◌, leng
 ghost use Rattle.dep_index.specs.Catalogue.{modules_of};
 ghost use Rattle.dep_index.specs.Words.{closed};
 ghost use Rattle.root_row.specs.Views.{Part, worker_of, reader_of};
-ghost use Rattle.root_row.specs.Seating.{first_member, other_members};
-ghost use Rattle.root_row.specs.Setting.{world_of, leaf_parts, reader_parts, new_view};
+ghost use Rattle.root_row.specs.Trails.{new_trail, first_trail, other_trail};
+ghost use Rattle.root_row.specs.Setting.{world_of, leaf_parts, reader_parts};
 ghost use Rattle.root_row.specs.Made.{AreNew, new_leaf, new_reader, new_book};
 
 use crate::book_seat::BookSeat;
@@ -13,7 +13,7 @@ use crate::plays::FirstMember;
 use crate::read_seat::ReadSeat;
 use crate::row::{Row, WORDS_PER_LINE};
 use crate::rule::{OneHistory, Setting};
-use crate::view::View;
+use crate::view::Trail;
 use atomic_table::{Seat, Table};
 use dep_index::words::CLOSED;
 use dep_index::{Catalogue, Slots};
@@ -80,30 +80,30 @@ impl Row {
 }
 
 fn cut(
-    table: &Table<(), View, Setting, OneHistory, Global>,
-    rest: &mut Seat<(), View>,
-) -> Seat<(), View>
+    table: &Table<(), Trail, Setting, OneHistory, Global>,
+    rest: &mut Seat<(), Trail>,
+) -> Seat<(), Trail>
     requires own { rest.old.table_id ≡ table.now.shared.table_id }
     requires words { 0 < table.now.shared.table_id.words }
-    ensures first { (result.table_id ≡ rest.old.table_id) × (result.me ≡ (first_member rest.old.me.0, [])) }
-    ensures rest { (rest.new.table_id ≡ rest.old.table_id) × (rest.new.me ≡ (other_members rest.old.me.0, rest.old.me.1)) }
+    ensures first { (result.table_id ≡ rest.old.table_id) × (result.me ≡ (first_trail rest.old.me.0, [])) }
+    ensures rest { (rest.new.table_id ≡ rest.old.table_id) × (rest.new.me ≡ (other_trail rest.old.me.0, rest.old.me.1)) }
 {
     table.shared.split_seat::<FirstMember>(rest)
 }
 
 fn cut_leaves(
     alloc: Global,
-    table: &Table<(), View, Setting, OneHistory, Global>,
-    rest: &mut Seat<(), View>,
+    table: &Table<(), Trail, Setting, OneHistory, Global>,
+    rest: &mut Seat<(), Trail>,
     workers: usize,
 ) -> Result<Vec<LeafSeat>, AllocError>
     ghost tail: { List Part }
     requires own { rest.old.table_id ≡ table.now.shared.table_id }
     requires words { 0 < table.now.shared.table_id.words }
     requires all { workers ≡ table.now.shared.key.workers }
-    requires view { rest.old.me ≡ (new_view (world_of table.now.shared.key) (leaf_parts (world_of table.now.shared.key) workers 0 ++ tail), []) }
+    requires view { rest.old.me ≡ (new_trail (world_of table.now.shared.key) (leaf_parts (world_of table.now.shared.key) workers 0 ++ tail), []) }
     ensures leaves { IfOk result (λ v. AreNew (new_leaf table.now.shared.table_id (world_of table.now.shared.key)) workers v.items) }
-    ensures rest { IfOk result (λ _. (rest.new.table_id ≡ table.now.shared.table_id) × (rest.new.me ≡ (new_view (world_of table.now.shared.key) tail, []))) }
+    ensures rest { IfOk result (λ _. (rest.new.table_id ≡ table.now.shared.table_id) × (rest.new.me ≡ (new_trail (world_of table.now.shared.key) tail, []))) }
 {
     let mut leaves = Vec::new(alloc);
     for _worker in 0..workers {
@@ -115,16 +115,16 @@ fn cut_leaves(
 
 fn cut_readers(
     alloc: Global,
-    table: &Table<(), View, Setting, OneHistory, Global>,
-    rest: &mut Seat<(), View>,
+    table: &Table<(), Trail, Setting, OneHistory, Global>,
+    rest: &mut Seat<(), Trail>,
     readers: usize,
 ) -> Result<Vec<ReadSeat>, AllocError>
     ghost tail: { List Part }
     requires own { rest.old.table_id ≡ table.now.shared.table_id }
     requires words { 0 < table.now.shared.table_id.words }
-    requires view { rest.old.me ≡ (new_view (world_of table.now.shared.key) (reader_parts readers 0 ++ tail), []) }
+    requires view { rest.old.me ≡ (new_trail (world_of table.now.shared.key) (reader_parts readers 0 ++ tail), []) }
     ensures readers { IfOk result (λ v. AreNew (new_reader table.now.shared.table_id (world_of table.now.shared.key)) readers v.items) }
-    ensures rest { IfOk result (λ _. (rest.new.table_id ≡ table.now.shared.table_id) × (rest.new.me ≡ (new_view (world_of table.now.shared.key) tail, []))) }
+    ensures rest { IfOk result (λ _. (rest.new.table_id ≡ table.now.shared.table_id) × (rest.new.me ≡ (new_trail (world_of table.now.shared.key) tail, []))) }
 {
     let mut seats = Vec::new(alloc);
     for _reader in 0..readers {

@@ -1,81 +1,86 @@
 //! What each step on a word tells, and how seats are cut and put together.
-use crate::view::View;
+use crate::view::Trail;
 use atomic_table::{Join, Play, Split};
 use std::marker::PhantomData;
 
 pub(crate) struct LookGet;
 
-impl Play<(), View> for LookGet {
+impl Play<(), Trail> for LookGet {
     ghost use Rattle.root_row.specs.Steps.{AtSlot, Looked};
     ghost use Rattle.root_row.specs.declared.calls.LeafCall.TheVariants.{Get};
+    ghost use Rattle.root_row.specs.Trails.{Recorded, load_step};
 
-    ghost then = { AtSlot (λ _ m v found w. Looked Get m v found w) };
+    ghost then = { Recorded (AtSlot (λ _ m v found w. Looked Get m v found w)) load_step };
 }
 
 pub(crate) struct LookPut;
 
-impl Play<(), View> for LookPut {
+impl Play<(), Trail> for LookPut {
     ghost use Rattle.root_row.specs.Steps.{AtSlot, Looked};
     ghost use Rattle.root_row.specs.declared.calls.LeafCall.TheVariants.{Put};
+    ghost use Rattle.root_row.specs.Trails.{Recorded, load_step};
 
-    ghost then = { AtSlot (λ _ m v found w. Looked Put m v found w) };
+    ghost then = { Recorded (AtSlot (λ _ m v found w. Looked Put m v found w)) load_step };
 }
 
 pub(crate) struct Arrive;
 
-impl Play<(), View> for Arrive {
+impl Play<(), Trail> for Arrive {
     ghost use Rattle.std.specs.Prelude.{◌==◌};
     ghost use Rattle.root_row.specs.Steps.{AtSlot, TriedArrive};
+    ghost use Rattle.root_row.specs.Trails.{Recorded, exchange_step};
 
-    ghost then = { AtSlot (λ expected m v found w. TriedArrive m v (found == expected) w) };
+    ghost then = { Recorded (AtSlot (λ expected m v found w. TriedArrive m v (found == expected) w)) exchange_step };
 }
 
 pub(crate) struct Depart;
 
-impl Play<(), View> for Depart {
+impl Play<(), Trail> for Depart {
     ghost use Rattle.root_row.specs.Steps.{AtSlot, LeafAnswered};
     ghost use Rattle.dep_index.specs.declared.calls.Reply.TheVariants.{Done};
     ghost use Rattle.root_row.specs.declared.calls.LeafCall.TheVariants.{Put};
+    ghost use Rattle.root_row.specs.Trails.{Recorded, subtract_step};
 
-    ghost then = { AtSlot (λ _ m v _ w. LeafAnswered v m Put Done w) };
+    ghost then = { Recorded (AtSlot (λ _ m v _ w. LeafAnswered v m Put Done w)) subtract_step };
 }
 
 pub(crate) struct LookRead;
 
-impl Play<(), View> for LookRead {
+impl Play<(), Trail> for LookRead {
     ghost use Rattle.root_row.specs.Steps.{AtSlot, LookedRead};
+    ghost use Rattle.root_row.specs.Trails.{Recorded, load_step};
 
-    ghost then = { AtSlot (λ _ m v found w. LookedRead m v found w) };
+    ghost then = { Recorded (AtSlot (λ _ m v found w. LookedRead m v found w)) load_step };
 }
 
 /// The first member of a view goes to a new seat.
 pub(crate) struct FirstMember;
 
-impl Split<View> for FirstMember {
-    ghost use Rattle.root_row.specs.Seating.{first_member, other_members};
+impl Split<Trail> for FirstMember {
+    ghost use Rattle.root_row.specs.Trails.{first_trail, other_trail};
 
-    ghost left = { other_members };
+    ghost left = { other_trail };
 
-    ghost right = { first_member };
+    ghost right = { first_trail };
 }
 
 /// Two views are put together, and the second seat is spent.
 pub(crate) struct Together;
 
-impl Join<View> for Together {
-    ghost use Rattle.root_row.specs.Seating.{joined, spent};
+impl Join<Trail> for Together {
+    ghost use Rattle.root_row.specs.Trails.{joined_trail, spent_trail};
 
-    ghost both = { joined };
+    ghost both = { joined_trail };
 
-    ghost spent = { spent };
+    ghost spent = { spent_trail };
 }
 
 pub(crate) struct Hear;
 
-impl Play<(), View> for Hear {
-    ghost use Rattle.root_row.specs.Seating.{told};
+impl Play<(), Trail> for Hear {
+    ghost use Rattle.root_row.specs.Trails.{told_trail};
 
-    ghost then = { told };
+    ghost then = { told_trail };
 }
 
 /// A call of the book, as a type.
@@ -89,11 +94,12 @@ pub(crate) struct LookBook<C> {
     call: PhantomData<C>,
 }
 
-impl<C: Asked> Play<(), View> for LookBook<C> {
+impl<C: Asked> Play<(), Trail> for LookBook<C> {
     ghost use Rattle.root_row.specs.Steps.{AtSlot};
     ghost use Rattle.root_row.specs.BookSteps.{LookedBook};
+    ghost use Rattle.root_row.specs.Trails.{Recorded, load_step};
 
-    ghost then = { AtSlot (λ _ m v found w. LookedBook C.kind m v found w) };
+    ghost then = { Recorded (AtSlot (λ _ m v found w. LookedBook C.kind m v found w)) load_step };
 }
 
 pub(crate) struct AskBeginLoad;
@@ -148,45 +154,49 @@ impl Asked for AskBeginDrain {
 
 pub(crate) struct Open;
 
-impl Play<(), View> for Open {
-    ghost use Rattle.std.specs.Prelude.{true};
+impl Play<(), Trail> for Open {
+    ghost use Rattle.std.specs.Prelude.{◌≡◌, true};
     ghost use Rattle.root_row.specs.Steps.{AtSlot};
     ghost use Rattle.root_row.specs.BookSteps.{BookAnswered};
     ghost use Rattle.dep_index.specs.declared.calls.Reply.TheVariants.{Done};
     ghost use Rattle.root_row.specs.declared.calls.BookCall.TheVariants.{EndLoad};
+    ghost use Rattle.root_row.specs.Trails.{Recorded, exchange_step};
 
-    ghost then = { AtSlot (λ _ m v _ w. BookAnswered v m (EndLoad true) Done w) };
+    ghost then = { Recorded (AtSlot (λ expected m v found w. BookAnswered v m (EndLoad true) Done w × (found ≡ expected))) exchange_step };
 }
 
 pub(crate) struct Drain;
 
-impl Play<(), View> for Drain {
+impl Play<(), Trail> for Drain {
     ghost use Rattle.root_row.specs.Steps.{AtSlot};
     ghost use Rattle.root_row.specs.BookSteps.{BookAnswered};
     ghost use Rattle.dep_index.specs.declared.calls.Reply.TheVariants.{Done};
     ghost use Rattle.root_row.specs.declared.calls.BookCall.TheVariants.{BeginDrain};
+    ghost use Rattle.root_row.specs.Trails.{Recorded, add_step};
 
-    ghost then = { AtSlot (λ _ m v _ w. BookAnswered v m BeginDrain Done w) };
+    ghost then = { Recorded (AtSlot (λ _ m v _ w. BookAnswered v m BeginDrain Done w)) add_step };
 }
 
 pub(crate) struct CloseOpen;
 
-impl Play<(), View> for CloseOpen {
+impl Play<(), Trail> for CloseOpen {
     ghost use Rattle.std.specs.Prelude.{◌==◌};
     ghost use Rattle.root_row.specs.Steps.{AtSlot};
     ghost use Rattle.root_row.specs.BookSteps.{TriedClose};
     ghost use Rattle.root_row.specs.declared.calls.BookCall.TheVariants.{BeginRemove};
+    ghost use Rattle.root_row.specs.Trails.{Recorded, exchange_step};
 
-    ghost then = { AtSlot (λ expected m v found w. TriedClose BeginRemove m v (found == expected) w) };
+    ghost then = { Recorded (AtSlot (λ expected m v found w. TriedClose BeginRemove m v (found == expected) w)) exchange_step };
 }
 
 pub(crate) struct CloseDrained;
 
-impl Play<(), View> for CloseDrained {
+impl Play<(), Trail> for CloseDrained {
     ghost use Rattle.std.specs.Prelude.{◌==◌};
     ghost use Rattle.root_row.specs.Steps.{AtSlot};
     ghost use Rattle.root_row.specs.BookSteps.{TriedClose};
     ghost use Rattle.root_row.specs.declared.calls.BookCall.TheVariants.{EndRemove};
+    ghost use Rattle.root_row.specs.Trails.{Recorded, exchange_step};
 
-    ghost then = { AtSlot (λ expected m v found w. TriedClose EndRemove m v (found == expected) w) };
+    ghost then = { Recorded (AtSlot (λ expected m v found w. TriedClose EndRemove m v (found == expected) w)) exchange_step };
 }

@@ -1,6 +1,6 @@
 //! The row of root words.
 use crate::rule::{OneHistory, Setting};
-use crate::view::View;
+use crate::view::Trail;
 use atomic_table::Table;
 use std::alloc::Global;
 use std::marker::Model;
@@ -14,7 +14,7 @@ pub(crate) const WORDS_PER_LINE: usize = 8;
 /// Each of its steps is one atomic step with one seat of this row, takes no memory and does not wait.
 #[derive(Drop)]
 pub struct Row {
-    pub(crate) table: Table<(), View, Setting, OneHistory, Global>,
+    pub(crate) table: Table<(), Trail, Setting, OneHistory, Global>,
     pub(crate) slot_count: usize,
 }
 

@@ -1,5 +1,5 @@
 //! The rule as the base asks for it.
-use crate::view::View;
+use crate::view::Trail;
 use atomic_table::TableRule;
 use dep_index::Slots;
 use std::snapshot::Snapshot;
@@ -15,11 +15,12 @@ pub struct Setting {
 /// One legal history for all seats, and words that show the table after it.
 pub struct OneHistory;
 
-impl TableRule<(), View, Setting> for OneHistory {
-    ghost use Rattle.root_row.specs.Rule.{RowRule};
+impl TableRule<(), Trail, Setting> for OneHistory {
+    ghost use Rattle.std.specs.Prelude.{[]};
     ghost use Rattle.root_row.specs.Setting.{world_of, first_view};
+    ghost use Rattle.root_row.specs.Trails.{trail, TrailRule};
 
-    ghost holds = { λ setting. RowRule (world_of setting) };
+    ghost holds = { λ setting. TrailRule (world_of setting) };
 
-    ghost first = { first_view };
+    ghost first = { λ setting. trail (first_view setting) [] };
 }

@@ -57,3 +57,22 @@ pub struct View {
     pub world: World,
     pub members: LinkedList<Member>,
 }
+
+/// One atomic step on the root word of a slot, or on the spare word, which is only ever loaded.
+pub enum AtomicStep {
+    /// The word of a slot was loaded, and this was found.
+    Load(usize, u64),
+    /// An exchange of the first of these words by the second, and whether it was made.
+    Exchange(usize, u64, u64, bool),
+    /// So much was added to the word of a slot.
+    Add(usize, u64),
+    /// So much was subtracted from the word of a slot.
+    Subtract(usize, u64),
+    LoadSpare,
+}
+
+/// A seat's view, with the steps that the seat has made, the oldest first.
+pub struct Trail {
+    pub view: View,
+    pub steps: LinkedList<AtomicStep>,
+}

@@ -1,6 +1,8 @@
 //! The manager's calls on one thread, and the same calls on its guards.
 ghost use Rattle.root_row.specs.Seats.{IsOf};
 
+mod both;
+mod each_call;
 mod lent;
 mod threads;
 
@@ -70,6 +72,11 @@ fn lock_and_put<R: Wait>(rt: &R, leaf: &Mutex<OwnLeaf>, slot: usize) -> Option<R
     Some(Reply::of(answer?))
 }
 
+fn lock_and_begin_load<R: Wait>(rt: &R, book: &Mutex<OwnBook>, slot: usize) -> Option<Reply> {
+    let answer = book.lock(rt).begin_load(slot);
+    Some(Reply::of(answer?))
+}
+
 fn lock_and_end_load<R: Wait>(
     rt: &R,
     book: &Mutex<OwnBook>,
@@ -85,14 +92,27 @@ fn lock_and_remove<R: Wait>(rt: &R, book: &Mutex<OwnBook>, slot: usize) -> Optio
     Some(Reply::of(answer?))
 }
 
-/// What a guard answers to a call that it has, and else the manager. Of a worker out of range there is no guard.
+fn lock_and_drain<R: Wait>(rt: &R, book: &Mutex<OwnBook>, slot: usize) -> Option<Reply> {
+    let answer = book.lock(rt).begin_drain(slot);
+    Some(Reply::of(answer?))
+}
+
+fn lock_and_end_removal<R: Wait>(rt: &R, book: &Mutex<OwnBook>, slot: usize) -> Option<Reply> {
+    let answer = book.lock(rt).end_remove(slot);
+    Some(Reply::of(answer?))
+}
+
+/// What a guard answers. Of a worker out of range there is no guard, and a query takes a reader.
 fn guard_reply<R: Wait>(rt: &R, manager: &Manager, call: Call) -> Option<Reply> {
     match call {
         Call::Get(worker, slot) => lock_and_get(rt, manager.leaf(worker)?, slot),
         Call::Put(worker, slot) => lock_and_put(rt, manager.leaf(worker)?, slot),
+        Call::InUse(_) => None,
+        Call::BeginLoad(slot) => lock_and_begin_load(rt, manager.book(), slot),
         Call::EndLoad(slot, ok) => lock_and_end_load(rt, manager.book(), slot, ok),
+        Call::BeginDrain(slot) => lock_and_drain(rt, manager.book(), slot),
         Call::BeginRemove(slot) => lock_and_remove(rt, manager.book(), slot),
-        _ => reply_to(rt, manager, call),
+        Call::EndRemove(slot) => lock_and_end_removal(rt, manager.book(), slot),
     }
 }
 

@@ -8,5 +8,5 @@ use Rattle.root_row.proofs.read_seat.ReadSeat.laws.Goals as goal
 
 pub returns : goal.returns
 returns c =
-    let v : View = c.self.inside.seat.me.0 in
+    let v : View = c.self.inside.seat.me.0.view in
     subst (λ (s : Seated). KnowsTable s.view) c.self.view_is (knows c.legal_is_safe.ensures v (part_is.Reader (reader_of v)) c.self.invariant.0 c.self.invariant.2)

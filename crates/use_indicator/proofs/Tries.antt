@@ -1,0 +1,37 @@
+-- The tries of a get, one after another.
+use Rattle.std.proofs.Common.{◌≡◌, ℕ, ◌+◌, List, [], ◌∷◌, ◌++◌, refl, sym, ap, ◌∙◌, arith, append_assoc, append-nil, length-append, Bool, false}
+use Rattle.dep_index.specs.declared.calls.Reply.{Reply}
+use Rattle.root_row.specs.declared.view.AtomicStep.TheVariants.{Load, Exchange}
+use Rattle.root_row.specs.Seats.{Seated}
+use Rattle.root_row.specs.StepsMade.{StepsMade}
+use Rattle.use_indicator.specs.Counted.{missed, last_try, FirstSteps, GivenUp}
+
+missed_more : (m : ℕ) (ns ms : List ℕ) → missed m (ns ++ ms) ≡ missed m ns ++ missed m ms
+missed_more m [] ms = refl
+missed_more m (n ∷ ns) ms = ap (λ l. Load m n ∷ Exchange m n (n + 1) false ∷ l) (missed_more m ns ms)
+
+-- one more try was missed
+pub given_up_more : (tries m : ℕ) (old mid new : Seated) → GivenUp tries m old mid → GivenUp 1 m mid new → GivenUp (tries + 1) m old new
+given_up_more tries m old mid new t u = (
+  t.0 ++ u.0,
+  (let a = t.1 in let b = u.1 in omega (arith, length-append t.0 u.0)),
+  u.2 ∙ ap (λ l. l ++ missed m u.0) t.2 ∙ append_assoc old.steps (missed m t.0) (missed m u.0) ∙ ap (λ l. old.steps ++ l) (sym (missed_more m t.0 u.0)),
+)
+
+-- the last try after those that were missed
+pub answered_last : (m : ℕ) (found : List ℕ) (answer : Reply) (old mid new : Seated) → StepsMade old (missed m found) mid → FirstSteps m [] answer mid new → FirstSteps m found answer old new
+answered_last m found answer old mid new before t = (
+  t.0,
+  t.1 ∙ ap (λ l. l ++ last_try m t.0 answer) before ∙ append_assoc old.steps (missed m found) (last_try m t.0 answer),
+)
+
+pub given_up_none : (m : ℕ) (old : Seated) → GivenUp 0 m old old
+given_up_none m old = ([], refl, sym (append-nil old.steps))
+
+-- a look, and an exchange that was missed
+pub missed_once : (m n : ℕ) (made : Bool) (old mid new : Seated) → made ≡ false → StepsMade old (Load m n ∷ []) mid → StepsMade mid (Exchange m n (n + 1) made ∷ []) new → GivenUp 1 m old new
+missed_once m n made old mid new miss look t = (
+  n ∷ [],
+  refl,
+  t ∙ ap (λ b. mid.steps ++ Exchange m n (n + 1) b ∷ []) miss ∙ ap (λ l. l ++ Exchange m n (n + 1) false ∷ []) look ∙ append_assoc old.steps (Load m n ∷ []) (Exchange m n (n + 1) false ∷ []),
+)
