@@ -1,5 +1,5 @@
 -- The test for a match says what the relation says.
-use Rattle.std.proofs.Common.{◌≡◌, ℕ, Bool, true, false, ◌&&◌, ◌||◌, ◌⊎◌, inl, inr, List, [], ◌∷◌, refl, ◌∙◌, ap}
+use Rattle.std.proofs.Common.{◌≡◌, ℕ, Bool, true, false, ◌&&◌, ◌||◌, ◌⊎◌, inl, inr, List, [], ◌∷◌, ◌↔◌, refl, sym, ◌∙◌, ap}
 use Rattle.alias_match.specs.Pattern.{Piece, byte, any_byte, run, one_of, Matches, holds, any_end, takes_byte, is_end, is_match}
 use Rattle.alias_match.proofs.Matching.{IsEnd, whole, later, IsShort, Matches-run, run-Matches, Matches-short, short-Matches}
 
@@ -54,3 +54,12 @@ yes_match (run ∷ ps) s m = let e : (u : List ℕ) × IsEnd u s × Matches ps u
 yes_match (byte own ∷ ps) s m = short_no (byte own) ps s tt (yes_match ps) m
 yes_match (any_byte ∷ ps) s m = short_no any_byte ps s tt (yes_match ps) m
 yes_match (one_of negated members ∷ ps) s m = short_no (one_of negated members) ps s tt (yes_match ps) m
+
+-- the answer of a match is the test's
+pub decided : (b : Bool) (ps : List Piece) (s : List ℕ) → (b ≡ true) ↔ Matches ps s → b ≡ is_match ps s
+decided true ps s h = sym (yes_match ps s (h.0 refl))
+decided false ps s h = elim (either_way (is_match ps s)) [ inl t ↦ (let found : false ≡ true = h.1 (match_yes ps s t) in absurd (cc)) | inr t ↦ sym t ]
+  where
+    either_way : (b : Bool) → (b ≡ true) ⊎ (b ≡ false)
+    either_way true = inl refl
+    either_way false = inr refl

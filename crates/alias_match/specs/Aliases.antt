@@ -1,11 +1,12 @@
 -- Which aliases a modules.alias text has: its lines `alias PATTERN TARGET`, as in modprobe.d(5).
-use Rattle.std.specs.Prelude.{ℕ, if◌then◌else◌, List, [], ◌∷◌, codes, Option, Some, None, option_map}
+use Rattle.std.specs.Prelude.{ℕ, if◌then◌else◌, List, [], ◌∷◌, codes, filter, Option, Some, None, option_map}
 use Rattle.std.specs.Result.{result_ok}
 use Rattle.std.specs.List.{enumerate_from}
 use Rattle.std.specs.Str.{bytes_eq}
 use Rattle.std.specs.Str.Lines.{lines}
 use Rattle.dep_index.specs.Text.{words, is_comment, normal_form}
 use Rattle.alias_match.specs.declared.alias.Alias.{Alias}
+use Rattle.alias_match.specs.Pattern.{is_match}
 use Rattle.alias_match.specs.Reading.{pattern_of}
 
 -- what the lines of a text say: entries in the order of their lines, and the numbers of the lines without effect
@@ -47,3 +48,7 @@ alias_of _ = None
 -- the meaning of a modules.alias text
 abbrev pub aliases_of : List ℕ → Entries Alias
 aliases_of text = entries_of alias_of (enumerate_from 1 (lines text))
+
+-- the aliases whose pattern matches a text, in their order
+abbrev pub matching : List Alias → List ℕ → List Alias
+matching aliases text = filter (λ alias. is_match alias.pattern text) aliases

@@ -1,10 +1,11 @@
 //! The aliases of a modules.alias text.
-ghost use Rattle.std.specs.Prelude.{◌≡◌, ◌<◌, length, IfOk, OnOk, slice_get, option_map, Some};
-ghost use Rattle.alias_match.specs.Aliases.{aliases_of, alias_of, line_before, words_before};
+ghost use Rattle.std.specs.Prelude.{◌≡◌, ◌<◌, length, map, IfOk, OnOk, slice_get, option_map, Some};
+ghost use Rattle.alias_match.specs.Aliases.{aliases_of, alias_of, line_before, matching, words_before};
 ghost use Rattle.alias_match.specs.ForProofs.{nothing_read, followed_by};
 ghost use Rattle.dep_index.specs.Text.{texts_of};
 
 use crate::alias::Alias;
+use crate::alias_list::AliasList;
 use crate::pattern::Pattern;
 use dep_index::Name;
 use dep_index::text::{is_comment, whole_lines, words};
@@ -14,7 +15,7 @@ use std::marker::Model;
 /// The aliases of a modules.alias text, in the order of its lines, and the numbers of the lines that are skipped.
 #[derive(Drop)]
 pub struct Aliases {
-    entries: Vec<Alias>,
+    entries: AliasList,
     skipped: Vec<usize>,
 }
 
@@ -24,7 +25,7 @@ impl Model for Aliases {
 
     ghost Value = { Entries Alias };
 
-    ghost view = { λ a. record { entries = a.entries.items; skipped = a.skipped.items } };
+    ghost view = { λ a. record { entries = a.entries; skipped = a.skipped.items } };
 }
 
 impl Aliases {
@@ -32,7 +33,7 @@ impl Aliases {
         ensures { result ≡ nothing_read }
     {
         Aliases {
-            entries: Vec::new(alloc),
+            entries: AliasList::new(alloc),
             skipped: Vec::new(alloc),
         }
     }
@@ -45,7 +46,7 @@ impl Aliases {
             return Ok(());
         }
         match Alias::read(alloc, words)? {
-            Some(alias) => self.entries.push(alias)?,
+            Some(alias) => self.entries.push(alloc, alias)?,
             None => self.skipped.push(number)?,
         }
         Ok(())
@@ -75,7 +76,7 @@ impl Aliases {
         ensures { option_map (λ alias. alias.pattern) (slice_get self.now.entries i)
             ≡ Some result.now }
     {
-        &self.entries[i].pattern
+        &self.entries.at(i).pattern
     }
 
     /// The target of an alias, in normal form, by its place in the order of the lines, from 0.
@@ -84,7 +85,15 @@ impl Aliases {
         ensures { option_map (λ alias. alias.target) (slice_get self.now.entries i)
             ≡ Some result.now }
     {
-        &self.entries[i].target
+        &self.entries.at(i).target
+    }
+
+    /// The aliases whose patterns match a text in normal form, in the order of the lines. Only want of memory refuses.
+    pub fn matching(&self, alloc: Global, text: &[u8]) -> Result<Vec<&Alias>, AllocError>
+        ensures { IfOk result (λ found. map (λ alias. alias.now) found.items
+            ≡ matching self.now.entries text.now) }
+    {
+        self.entries.matching(alloc, text)
     }
 
     /// The numbers, from 1, of the lines that have a word and are no comment and no alias.

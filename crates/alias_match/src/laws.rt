@@ -1,6 +1,6 @@
 //! The laws of patterns.
 ghost use Rattle.std.specs.Prelude.{◌≡◌, ◌↔◌, ℕ, List, Result, true};
-ghost use Rattle.alias_match.specs.Pattern.{Matches, Piece, is_match};
+ghost use Rattle.alias_match.specs.Pattern.{BeginsLiterally, Matches, Piece, is_match};
 ghost use Rattle.alias_match.specs.Reading.{Reads, pattern_of};
 ghost use Rattle.alias_match.specs.declared.read.PatternError.{PatternError};
 
@@ -18,4 +18,10 @@ pub fn match_is_decided()
 /// Each text has a reading, the one that the function gives.
 pub fn reading_is_total()
     ensures { (text : List ℕ) → Reads text (pattern_of text) }
+{}
+
+/// A text that a pattern matches begins with the pattern's literal beginning. So a pattern is left out of a look-up
+/// where the text begins otherwise.
+pub fn matches_begin_literally()
+    ensures { BeginsLiterally }
 {}

@@ -2,15 +2,18 @@
 #![tactic(auto)]
 
 mod alias;
+mod alias_list;
 mod aliases;
+mod beginnings;
 mod idle;
 mod laws;
 mod pattern;
 mod read;
 
 pub use alias::Alias;
+pub use alias_list::AliasList;
 pub use aliases::{Aliases, read_aliases};
 pub use idle::{IdleLine, NoEffect, idle_aliases};
-pub use laws::{match_is_decided, one_reading, reading_is_total};
+pub use laws::{match_is_decided, matches_begin_literally, one_reading, reading_is_total};
 pub use pattern::Pattern;
 pub use read::PatternError;
