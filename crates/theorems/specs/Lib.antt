@@ -1,0 +1,7 @@
+pub mod Safety
+pub mod Linear
+pub mod Catalogues
+pub mod Plans
+pub mod Sessions
+pub mod Meetings
+pub mod Rungs
