@@ -7,9 +7,9 @@ use Rattle.dep_index.specs.Table.{pairs, users}
 use Rattle.dep_index.specs.History.{Answer, IsLegal}
 use Rattle.root_row.specs.declared.view.View.{View}
 use Rattle.root_row.specs.declared.view.SeatAnswer.{SeatAnswer}
-use Rattle.root_row.specs.declared.view.SeatName.TheVariants.{Leaf}
-use Rattle.root_row.specs.History.{answers_in, own_answers}
-use Rattle.root_row.specs.Views.{seen_of}
+use Rattle.root_row.specs.declared.view.SeatName.TheVariants.{Leaf, Book}
+use Rattle.root_row.specs.History.{SeatName, seat_answer, answers_in, own_answers}
+use Rattle.root_row.specs.Views.{seen_of, worker_of}
 use Rattle.theorems.specs.Safety.{RemovesUnheld, GetsNoneAfter, table_at}
 
 abbrev pub history_of : View → List Answer
@@ -19,14 +19,21 @@ history_of v = answers_in (seen_of v)
 abbrev pub calls_by : ℕ → View → List SeatAnswer
 calls_by w v = own_answers (Leaf w) (seen_of v)
 
--- a call was answered: what the seat has seen grew by calls of others and ends with this one; it is legal, so removals are
--- safe in it
-pub record IsAnswered (old : View) (call : Call) (reply : Reply) (new : View) : Type 0 where
+-- A seat's call was answered. What the seat has seen grew by calls of others, and ends with this one. It is legal, so
+-- removals are safe in it.
+pub record IsAnswered (old : View) (by : SeatName) (call : Call) (reply : Reply) (new : View) : Type 0 where
   pub others : List SeatAnswer
-  pub ends : history_of new ≡ (history_of old ++ answers_in others) ++ record { call = call; reply = reply } ∷ []
+  pub ends : seen_of new ≡ (seen_of old ++ others) ++ seat_answer by call reply ∷ []
+  pub own : own_answers by (seen_of new) ≡ own_answers by (seen_of old) ++ seat_answer by call reply ∷ []
   pub legal : IsLegal new.world.catalogue new.world.workers (history_of new)
   pub unheld : RemovesUnheld new.world.catalogue new.world.workers (history_of new)
   pub none_after : GetsNoneAfter (history_of new)
+
+abbrev pub LeafIsAnswered : View → Call → Reply → View → Type 0
+LeafIsAnswered old call reply new = IsAnswered old (Leaf (worker_of old)) call reply new
+
+abbrev pub BookIsAnswered : View → Call → Reply → View → Type 0
+BookIsAnswered old call reply new = IsAnswered old Book call reply new
 
 -- a removal that was answered Ok found no reference and no user in all that was seen before it
 pub record FoundUnused (call : Call) (m : ℕ) (new : View) : Type 0 where

@@ -6,7 +6,7 @@ ghost use Rattle.root_row.specs.World.{slots};
 ghost use Rattle.root_row.specs.Seats.{IsOf};
 ghost use Rattle.root_row.specs.Views.{worker_of, seen_of};
 ghost use Rattle.root_row.specs.History.{StartsWith};
-ghost use Rattle.theorems.specs.Meetings.{IsAnswered, FoundUnused, history_of, calls_by};
+ghost use Rattle.theorems.specs.Meetings.{LeafIsAnswered, BookIsAnswered, FoundUnused, history_of, calls_by};
 
 use dep_index::{BeginRemoveError, Call, EndRemoveError, GetError};
 use module_table::Book;
@@ -28,7 +28,7 @@ pub fn gets_are_answered_in_one_history<R: Wait>(
     requires own { IsOf row.now leaf.old }
     requires inside { slot < slots row.now.world }
     ensures own { IsOf row.now leaf.new }
-    ensures answered { IsAnswered leaf.old.view (Call.Get (worker_of leaf.old.view) slot) (reply_of get_refusal result) leaf.new.view }
+    ensures answered { LeafIsAnswered leaf.old.view (Call.Get (worker_of leaf.old.view) slot) (reply_of get_refusal result) leaf.new.view }
 {
     let result = leaf.get(rt, row, slot);
     leaf.laws();
@@ -45,7 +45,7 @@ pub fn removals_find_no_user(
     requires own { IsOf row.now book.old }
     requires inside { slot < slots row.now.world }
     ensures own { IsOf row.now book.new }
-    ensures answered { IsAnswered book.old.view (Call.BeginRemove slot) (reply_of begin_remove_refusal result) book.new.view }
+    ensures answered { BookIsAnswered book.old.view (Call.BeginRemove slot) (reply_of begin_remove_refusal result) book.new.view }
     ensures unused { OnOk result (FoundUnused (Call.BeginRemove slot) slot book.new.view) }
 {
     let result = book.begin_remove(row, slot);
@@ -58,7 +58,7 @@ pub fn removals_end_unused(book: &mut Book, row: &Row, slot: usize) -> Result<()
     requires own { IsOf row.now book.old }
     requires inside { slot < slots row.now.world }
     ensures own { IsOf row.now book.new }
-    ensures answered { IsAnswered book.old.view (Call.EndRemove slot) (reply_of end_remove_refusal result) book.new.view }
+    ensures answered { BookIsAnswered book.old.view (Call.EndRemove slot) (reply_of end_remove_refusal result) book.new.view }
     ensures unused { OnOk result (FoundUnused (Call.EndRemove slot) slot book.new.view) }
 {
     let result = book.end_remove(row, slot);
