@@ -1,16 +1,12 @@
 //! Steps of the machine: 8 threads that get, put, query, remove and load over 64 modules.
 
-use crate::figure::{print_figure, print_rate};
+use crate::figure::{measure_rate, print_figure};
+use crate::points::{MODULES, THREADS, loads};
 use anyhow::{Result, bail};
 use dep_index::Slots;
 use std::alloc::{AllocError, Global};
 use std::rt::Clock;
-use std::time::Instant;
 use step_core::{Call, Event, Machine, Step};
-
-const THREADS: usize = 8;
-
-const MODULES: usize = 64;
 
 const STEPS: usize = 10_000_000;
 
@@ -20,11 +16,11 @@ pub fn measure<R: Print + Clock + AllocGlobal>(rt: &R) -> Result<()> {
     measure_machine(rt, &mut machine)
 }
 
-fn measure_machine<R: Print + Clock>(rt: &R, machine: &mut Machine) -> Result<()> {
-    load(machine)?;
-    let start = Instant::now(rt)?;
-    let points = run(machine)?;
-    print_rate(rt, "machine_steps", STEPS as u64, start, "steps/s")?;
+fn measure_machine<R: Print + Clock + AllocGlobal>(rt: &R, machine: &mut Machine) -> Result<()> {
+    for loading in &loads(rt.alloc(), 0)? {
+        step(machine, *loading)?;
+    }
+    let points = measure_rate(rt, "machine_steps", STEPS, "steps/s", || run(machine))?;
     print_figure(rt, "machine_points", points as u128, "points")
 }
 
@@ -34,24 +30,6 @@ fn modules(alloc: Global) -> Result<Slots, AllocError> {
         slots.push(Vec::new(alloc), false, false)?;
     }
     Ok(slots)
-}
-
-/// Makes all modules live.
-fn load(machine: &mut Machine) -> Result<()> {
-    for module in 0..MODULES {
-        make(machine, Call::BeginLoad(module))?;
-        make(machine, Call::EndLoad(module, true))?;
-    }
-    Ok(())
-}
-
-/// Makes a whole call of thread 0.
-fn make(machine: &mut Machine, call: Call) -> Result<()> {
-    step(machine, Step::Invoke(0, call))?;
-    for _ in 0..4 {
-        step(machine, Step::Go(0))?;
-    }
-    Ok(())
 }
 
 fn step(machine: &mut Machine, step: Step) -> Result<Event> {
@@ -66,15 +44,15 @@ fn run(machine: &mut Machine) -> Result<usize> {
     let mut idle = [true; THREADS];
     let mut points: usize = 0;
     for i in 0..STEPS {
-        let t = i % THREADS;
-        let next = if idle[t] {
-            Step::Invoke(t, call(t, i / THREADS))
+        let thread = i % THREADS;
+        let next = if idle[thread] {
+            Step::Invoke(thread, call(thread, i / THREADS))
         } else {
-            Step::Go(t)
+            Step::Go(thread)
         };
         match step(machine, next)? {
-            Event::Invoked(_) => idle[t] = false,
-            Event::Returned(_, _) => idle[t] = true,
+            Event::Invoked(_) => idle[thread] = false,
+            Event::Returned(_, _) => idle[thread] = true,
             Event::Point(_, _) => points = points.wrapping_add(1),
             Event::Nothing | Event::Moved => {}
         }

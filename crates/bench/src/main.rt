@@ -13,6 +13,7 @@ mod manager;
 mod patterns;
 mod plans;
 mod points;
+mod texts;
 mod workers;
 
 use anyhow::Result;
@@ -36,33 +37,19 @@ enum Benchmark {
     Points,
 }
 
-const ALL: [Benchmark; 9] = [
-    Benchmark::Catalogue,
-    Benchmark::Configuration,
-    Benchmark::Leaves,
-    Benchmark::Listing,
-    Benchmark::Machine,
-    Benchmark::Manager,
-    Benchmark::Patterns,
-    Benchmark::Plans,
-    Benchmark::Points,
+const ALL: [(&str, Benchmark); 9] = [
+    ("catalogue", Benchmark::Catalogue),
+    ("configuration", Benchmark::Configuration),
+    ("leaves", Benchmark::Leaves),
+    ("listing", Benchmark::Listing),
+    ("machine", Benchmark::Machine),
+    ("manager", Benchmark::Manager),
+    ("patterns", Benchmark::Patterns),
+    ("plans", Benchmark::Plans),
+    ("points", Benchmark::Points),
 ];
 
 impl Benchmark {
-    fn name(self) -> &'static str {
-        match self {
-            Benchmark::Catalogue => "catalogue",
-            Benchmark::Configuration => "configuration",
-            Benchmark::Leaves => "leaves",
-            Benchmark::Listing => "listing",
-            Benchmark::Machine => "machine",
-            Benchmark::Manager => "manager",
-            Benchmark::Patterns => "patterns",
-            Benchmark::Plans => "plans",
-            Benchmark::Points => "points",
-        }
-    }
-
     fn measure<R: Runtime + AllocGlobal + Threads + Wait + Sync>(self, rt: &R) -> Result<()> {
         match self {
             Benchmark::Catalogue => catalogue::measure(rt),
@@ -78,35 +65,21 @@ impl Benchmark {
     }
 }
 
-fn list<R: Runtime + AllocGlobal>(rt: &R) -> Result<()> {
-    for benchmark in &ALL {
-        let name = benchmark.name();
+fn list<R: Print>(rt: &R) -> Result<()> {
+    for (name, _) in &ALL {
         println!(rt; "{name}")?;
     }
     Ok(())
 }
 
 fn run<R: Runtime + AllocGlobal + Threads + Wait + Sync>(rt: &R, name: &str) -> Result<ExitCode> {
-    match named(name) {
-        Some(benchmark) => {
-            load::print_load(rt)?;
-            benchmark.measure(rt)?;
-            Ok(ExitCode::SUCCESS)
-        }
-        None => {
-            eprintln!(rt; "bench: no benchmark {name}")?;
-            Ok(ExitCode::from(2))
-        }
-    }
-}
-
-fn named(name: &str) -> Option<Benchmark> {
-    for benchmark in &ALL {
-        if benchmark.name() == name {
-            return Some(*benchmark);
-        }
-    }
-    None
+    let Some((_, benchmark)) = ALL.iter().find(|(own, _)| *own == name) else {
+        eprintln!(rt; "bench: no benchmark {name}")?;
+        return Ok(ExitCode::from(2));
+    };
+    load::print_load(rt)?;
+    benchmark.measure(rt)?;
+    Ok(ExitCode::SUCCESS)
 }
 
 fn main(rt: HostRuntime) -> Result<ExitCode> {

@@ -1,35 +1,43 @@
-//! What `leaves` and `manager` have in common: the modules that each worker takes in turn, and how long a round lasts.
+//! Pairs of a get and a put by workers, each in a thread of its own: from and to zero, and of modules that each worker
+//! holds throughout. What `leaves` and `manager` have in common.
 ghost use Rattle.std.specs.Prelude.{◌<◌, ◌≤◌};
 
-use crate::figure::print_figure;
-use anyhow::Result;
+use crate::figure::print_rate;
+use crate::texts::catalogue_of;
+use anyhow::{Result, bail};
+use dep_index::Catalogue;
+use std::alloc::Global;
+use std::fmt::Display;
 use std::rt::Clock;
-use std::thread::{Threads, available_parallelism};
-use std::time::Duration;
+use std::sync::Wait;
+use std::thread::{Threads, available_parallelism, for_each_mut};
+use std::time::Instant;
 
-/// The catalogue's modules. Workers that share one module take the first.
-pub const CATALOGUE: &[u8] =
-    b"module a\nmodule b\nmodule c\nmodule d\nmodule e\nmodule f\nmodule g\nmodule h\n";
-
-/// How many modules the catalogue has.
+/// How many modules there are. Workers that share one module take the first.
 pub const COUNT: usize = 8;
 
 /// The numbers of workers that are measured, as far as there are processors.
-pub const WORKERS: [usize; 3] = [1, 2, 4];
+const WORKERS: [u8; 3] = [1, 2, 4];
 
 /// How often the modules are taken in turn at first, and how often that is doubled until a round is long enough.
-pub const ROUNDS: u64 = 100_000;
+const ROUNDS: u64 = 100_000;
 
-pub const DOUBLINGS: u32 = 20;
+const DOUBLINGS: u32 = 20;
 
-/// Whether so much time is long enough for a round.
-pub fn is_long(time: Duration) -> bool {
-    time.as_millis() >= 300
+const LONG_MILLIS: u128 = 300;
+
+/// A worker who takes and gives references.
+pub trait Worker: Send {
+    fn get<R: Wait>(&mut self, rt: &R, slot: usize)
+        requires { slot < COUNT };
+
+    fn put<R: Wait>(&mut self, rt: &R, slot: usize)
+        requires { slot < COUNT };
 }
 
 /// Which modules the workers take.
 #[derive(Clone, Copy)]
-pub enum Modules {
+enum Modules {
     /// All workers take one module.
     One,
     /// All workers take eight modules in turn.
@@ -38,28 +46,24 @@ pub enum Modules {
     Own,
 }
 
-pub const MODULES: [Modules; 3] = [Modules::One, Modules::Eight, Modules::Own];
+/// These, with their names in figures.
+const MODULES: [(&str, Modules); 3] = [
+    ("one_module", Modules::One),
+    ("eight_modules", Modules::Eight),
+    ("own_module", Modules::Own),
+];
 
 /// The slots that a worker takes in turn.
 #[derive(Clone, Copy)]
-pub struct SlotRange {
-    pub from: usize,
-    pub to: usize,
+struct SlotRange {
+    from: usize,
+    to: usize,
+    ghost ordered: { from ≤ to },
+    ghost inside: { to ≤ 8 },
 }
 
 impl Modules {
-    fn name(self) -> &'static str {
-        match self {
-            Modules::One => "one_module",
-            Modules::Eight => "eight_modules",
-            Modules::Own => "own_module",
-        }
-    }
-
-    /// The slots of a worker.
-    pub fn slots(self, worker: usize) -> SlotRange
-        ensures { result.to ≤ 8 }
-    {
+    fn slots(self, worker: usize) -> SlotRange {
         match self {
             Modules::One => SlotRange { from: 0, to: 1 },
             Modules::Eight => SlotRange { from: 0, to: COUNT },
@@ -69,43 +73,122 @@ impl Modules {
             }
         }
     }
+}
 
-    /// How many slots each worker takes in turn.
-    fn slot_count(self) -> u64 {
-        match self {
-            Modules::Eight => COUNT as u64,
-            Modules::One | Modules::Own => 1,
+impl SlotRange {
+    fn len(self) -> usize {
+        self.to - self.from
+    }
+}
+
+/// The catalogue of these modules.
+pub fn catalogue(alloc: Global) -> Result<Catalogue> {
+    catalogue_of(
+        alloc,
+        b"module a\nmodule b\nmodule c\nmodule d\nmodule e\nmodule f\nmodule g\nmodule h\n",
+    )
+}
+
+/// The numbers of workers for whom there are processors.
+pub fn worker_counts<R: Threads>(rt: &R) -> Result<&'static [u8]> {
+    let processors = available_parallelism(rt)?.get();
+    let count = WORKERS
+        .iter()
+        .filter(|&&workers| usize::from(workers) <= processors)
+        .count();
+    Ok(&WORKERS[..count])
+}
+
+/// Prints the pairs of these workers, as `NAME_from_zero/MODULES/WORKERS` and `NAME_held/MODULES/WORKERS`.
+pub fn measure_workers<R: Print + Clock + Threads + Wait + Sync, W: Worker>(
+    rt: &R,
+    name: &str,
+    workers: &mut [W],
+) -> Result<()> {
+    let count = workers.len();
+    for (place, modules) in &MODULES {
+        time_pairs(
+            rt,
+            format_args!("{name}_from_zero/{place}/{count}"),
+            *modules,
+            workers,
+        )?;
+        hold(rt, *modules, workers, true);
+        time_pairs(
+            rt,
+            format_args!("{name}_held/{place}/{count}"),
+            *modules,
+            workers,
+        )?;
+        hold(rt, *modules, workers, false);
+    }
+    Ok(())
+}
+
+/// Prints how many pairs all workers together make in a second, in a round that is long enough.
+fn time_pairs<R: Print + Clock + Threads + Wait + Sync, N: Display + Drop, W: Worker>(
+    rt: &R,
+    name: N,
+    modules: Modules,
+    workers: &mut [W],
+) -> Result<()> {
+    let mut rounds = ROUNDS;
+    for _ in 0..DOUBLINGS {
+        let start = Instant::now(rt)?;
+        make_all_pairs(rt, modules, workers, rounds);
+        let time = start.elapsed(rt)?;
+        if time.as_millis() >= LONG_MILLIS {
+            let pairs = (rounds as u128).saturating_mul(modules.slots(0).len() as u128);
+            let pairs = pairs.saturating_mul(workers.len() as u128);
+            return print_rate(rt, name, pairs, time, "pairs/s");
+        }
+        rounds = rounds.saturating_mul(2);
+    }
+    bail!("the clock stands still")
+}
+
+fn make_all_pairs<R: Threads + Wait + Sync, W: Worker>(
+    rt: &R,
+    modules: Modules,
+    workers: &mut [W],
+    rounds: u64,
+) {
+    let threads = workers.len().max(1);
+    for_each_mut(
+        rt,
+        workers,
+        threads,
+        &|number, worker| { make_pairs(rt, modules.slots(number), worker, rounds) },
+    );
+}
+
+fn make_pairs<R: Wait, W: Worker>(rt: &R, range: SlotRange, worker: &mut W, rounds: u64) {
+    for _ in 0..rounds {
+        make_round(rt, range, worker);
+    }
+}
+
+/// A reference to each is taken and given back.
+fn make_round<R: Wait, W: Worker>(rt: &R, range: SlotRange, worker: &mut W) {
+    for slot in range.from..range.to {
+        worker.get(rt, slot);
+        worker.put(rt, slot);
+    }
+}
+
+/// Each worker takes a reference to each of its modules, or gives them back.
+fn hold<R: Wait, W: Worker>(rt: &R, modules: Modules, workers: &mut [W], takes: bool) {
+    for (number, worker) in workers.iter_mut().enumerate() {
+        hold_each(rt, modules.slots(number), worker, takes);
+    }
+}
+
+fn hold_each<R: Wait, W: Worker>(rt: &R, range: SlotRange, worker: &mut W, takes: bool) {
+    for slot in range.from..range.to {
+        if takes {
+            worker.get(rt, slot);
+        } else {
+            worker.put(rt, slot);
         }
     }
-}
-
-/// What a round does, and how many workers do it.
-#[derive(Clone, Copy)]
-pub struct Round {
-    pub modules: Modules,
-    pub workers: usize,
-    pub rounds: u64,
-}
-
-impl Round {
-    /// Prints how many pairs of a get and a put all workers together made in a second, as `NAME/MODULES/WORKERS`.
-    pub fn print_pairs<R: Print + Clock + AllocGlobal>(
-        self,
-        rt: &R,
-        name: &str,
-        time: Duration,
-    ) -> Result<()> {
-        let each = (self.rounds as u128).saturating_mul(self.modules.slot_count() as u128);
-        let pairs = each.saturating_mul(self.workers as u128);
-        let rate = pairs.saturating_mul(1_000_000_000) / time.as_nanos().max(1);
-        let modules = self.modules.name();
-        let workers = self.workers;
-        let name = format!(in rt.alloc(); "{name}/{modules}/{workers}")?;
-        print_figure(rt, name.as_str(), rate, "pairs/s")
-    }
-}
-
-/// Whether there is a processor for each of so many workers.
-pub fn has_processors<R: Threads>(rt: &R, workers: usize) -> Result<bool> {
-    Ok(workers <= available_parallelism(rt)?.get())
 }
