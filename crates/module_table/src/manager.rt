@@ -97,6 +97,27 @@ impl Manager {
         &self.book
     }
 
+    // The lock of a worker's leaf, for a call on this slot.
+    fn leaf_for(&self, worker: usize, slot: usize) -> Option<&Mutex<OwnLeaf>>
+        ensures worker { self.now.world.workers ≤ worker → IsNone result }
+        ensures slot { slots self.now.world ≤ slot → IsNone result }
+    {
+        if slot >= self.slots() {
+            return None;
+        }
+        self.leaf(worker)
+    }
+
+    // The lock of the book, for a call on this slot, or on this place in the order, which has no more places than slots.
+    fn book_for(&self, slot: usize) -> Option<&Mutex<OwnBook>>
+        ensures { slots self.now.world ≤ slot → IsNone result }
+    {
+        if slot >= self.slots() {
+            return None;
+        }
+        Some(&self.book)
+    }
+
     /// Whether some worker holds the module. It locks nothing.
     pub fn query(&self, reader: &mut Reader, slot: usize) -> bool
         requires own { IsOf self.now reader.old }
@@ -112,10 +133,7 @@ impl Manager {
         ensures worker { self.now.world.workers ≤ worker → IsNone result }
         ensures slot { slots self.now.world ≤ slot → IsNone result }
     {
-        if slot >= self.slots() {
-            return None;
-        }
-        self.leaf(worker)?.lock(rt).held(slot)
+        self.leaf_for(worker, slot)?.lock(rt).held(slot)
     }
 
     /// Takes one reference for the worker.
@@ -123,10 +141,7 @@ impl Manager {
         ensures worker { self.now.world.workers ≤ worker → IsNone result }
         ensures slot { slots self.now.world ≤ slot → IsNone result }
     {
-        if slot >= self.slots() {
-            return None;
-        }
-        self.leaf(worker)?.lock(rt).get(rt, slot)
+        self.leaf_for(worker, slot)?.lock(rt).get(rt, slot)
     }
 
     /// Gives one reference of the worker back.
@@ -134,20 +149,14 @@ impl Manager {
         ensures worker { self.now.world.workers ≤ worker → IsNone result }
         ensures slot { slots self.now.world ≤ slot → IsNone result }
     {
-        if slot >= self.slots() {
-            return None;
-        }
-        self.leaf(worker)?.lock(rt).put(slot)
+        self.leaf_for(worker, slot)?.lock(rt).put(slot)
     }
 
     /// Begins a load.
     pub fn begin_load<R: Wait>(&self, rt: &R, slot: usize) -> Option<Result<(), BeginLoadError>>
         ensures { slots self.now.world ≤ slot → IsNone result }
     {
-        if slot >= self.slots() {
-            return None;
-        }
-        self.book.lock(rt).begin_load(slot)
+        self.book_for(slot)?.lock(rt).begin_load(slot)
     }
 
     /// Ends a load, well or not.
@@ -159,50 +168,35 @@ impl Manager {
     ) -> Option<Result<(), EndLoadError>>
         ensures { slots self.now.world ≤ slot → IsNone result }
     {
-        if slot >= self.slots() {
-            return None;
-        }
-        self.book.lock(rt).end_load(slot, ok)
+        self.book_for(slot)?.lock(rt).end_load(slot, ok)
     }
 
     /// Begins a drain.
     pub fn begin_drain<R: Wait>(&self, rt: &R, slot: usize) -> Option<Result<(), BeginDrainError>>
         ensures { slots self.now.world ≤ slot → IsNone result }
     {
-        if slot >= self.slots() {
-            return None;
-        }
-        self.book.lock(rt).begin_drain(slot)
+        self.book_for(slot)?.lock(rt).begin_drain(slot)
     }
 
     /// Begins a removal.
     pub fn begin_remove<R: Wait>(&self, rt: &R, slot: usize) -> Option<Result<(), BeginRemoveError>>
         ensures { slots self.now.world ≤ slot → IsNone result }
     {
-        if slot >= self.slots() {
-            return None;
-        }
-        self.book.lock(rt).begin_remove(slot)
+        self.book_for(slot)?.lock(rt).begin_remove(slot)
     }
 
     /// Ends a removal or a drain.
     pub fn end_remove<R: Wait>(&self, rt: &R, slot: usize) -> Option<Result<(), EndRemoveError>>
         ensures { slots self.now.world ≤ slot → IsNone result }
     {
-        if slot >= self.slots() {
-            return None;
-        }
-        self.book.lock(rt).end_remove(slot)
+        self.book_for(slot)?.lock(rt).end_remove(slot)
     }
 
     /// The state of the module.
     pub fn state<R: Wait>(&self, rt: &R, slot: usize) -> Option<ModuleState>
         ensures { slots self.now.world ≤ slot → IsNone result }
     {
-        if slot >= self.slots() {
-            return None;
-        }
-        self.book.lock(rt).state(slot)
+        self.book_for(slot)?.lock(rt).state(slot)
     }
 
     /// How many modules are loaded, in any state.
@@ -214,9 +208,6 @@ impl Manager {
     pub fn loaded_at<R: Wait>(&self, rt: &R, place: usize) -> Option<usize>
         ensures { slots self.now.world ≤ place → IsNone result }
     {
-        if place >= self.slots() {
-            return None;
-        }
-        self.book.lock(rt).loaded_at(place)
+        self.book_for(place)?.lock(rt).loaded_at(place)
     }
 }
