@@ -1,12 +1,12 @@
 //! Which modules are found for a name.
-ghost use Rattle.std.specs.Prelude.{◌≡◌, ◌≢◌, ◌<◌, [], length, IfOk, IfErr, OnOk};
+ghost use Rattle.std.specs.Prelude.{◌≡◌, ◌≢◌, [], filter, map, not, IfOk, IfErr, OnOk};
 ghost use Rattle.std.specs.List.{list_any};
 ghost use Rattle.std.specs.Str.{bytes_eq};
-ghost use Rattle.alias_match.specs.Pattern.{is_match};
+ghost use Rattle.modprobe_conf.specs.Configuration.{is_blacklisted};
 ghost use Rattle.load_plan.specs.declared.look_up.FindError.TheVariants.{NotFound};
 ghost use Rattle.load_plan.specs.LookUp.{found, free_targets, targets_of, with_name, with_names};
 
-use alias_match::{Aliases, Pattern};
+use alias_match::{Alias, Aliases};
 use dep_index::{Catalogue, Name};
 use modprobe_conf::Conf;
 use std::alloc::{AllocError, AllocFailed, Global};
@@ -40,12 +40,6 @@ impl<T: Drop> From<AllocFailed<T>> for FindError {
     }
 }
 
-fn is_match(pattern: &Pattern, text: &[u8]) -> bool
-    ensures { result ≡ is_match pattern.now text.now }
-{
-    pattern.matches(text)
-}
-
 fn has_name(names: &[Name], name: &[u8]) -> bool
     ensures { result ≡ list_any (bytes_eq name.now) names.now }
 {
@@ -62,17 +56,41 @@ fn add_name(alloc: Global, names: &mut Vec<Name>, name: &Name) -> Result<(), All
     Ok(())
 }
 
+/// The targets of the aliases, each once.
+fn names_of(alloc: Global, aliases: &[&Alias]) -> Result<Vec<Name>, AllocError>
+    ensures { IfOk result (λ names. names.items ≡ with_names [] (map (λ alias. alias.now.target) aliases.now)) }
+{
+    let mut names = Vec::new(alloc);
+    for alias in aliases {
+        add_name(alloc, &mut names, &alias.target)?;
+    }
+    Ok(names)
+}
+
+/// The targets that are not blacklisted, each once.
+fn free_names(
+    alloc: Global,
+    configuration: &Conf,
+    aliases: &[&Alias],
+) -> Result<Vec<Name>, AllocError>
+    ensures { IfOk result (λ names. names.items ≡ with_names []
+        (filter (λ target. not (is_blacklisted configuration.now target)) (map (λ alias. alias.now.target) aliases.now))) }
+{
+    let mut names = Vec::new(alloc);
+    for alias in aliases {
+        if !configuration.blacklisted(alias.target.as_bytes()) {
+            add_name(alloc, &mut names, &alias.target)?;
+        }
+    }
+    Ok(names)
+}
+
 /// The targets of the configuration's aliases that match, each once.
 fn configured(alloc: Global, configuration: &Conf, name: &[u8]) -> Result<Vec<Name>, AllocError>
     ensures { IfOk result (λ names. names.items ≡ with_names [] (targets_of configuration.now.aliases name.now)) }
 {
-    let mut names = Vec::new(alloc);
-    for i in 0..configuration.alias_len() {
-        if is_match(configuration.alias_pattern(i), name) {
-            add_name(alloc, &mut names, configuration.alias_target(i))?;
-        }
-    }
-    Ok(names)
+    let aliases = configuration.matching_aliases(alloc, name)?;
+    names_of(alloc, &aliases)
 }
 
 /// The targets of modules.alias that match and are not blacklisted, each once.
@@ -84,16 +102,8 @@ fn free(
 ) -> Result<Vec<Name>, AllocError>
     ensures { IfOk result (λ names. names.items ≡ with_names [] (free_targets configuration.now aliases.now.entries name.now)) }
 {
-    let mut names = Vec::new(alloc);
-    for i in 0..aliases.len() {
-        if is_match(aliases.pattern(i), name) {
-            let target = aliases.target(i);
-            if !configuration.blacklisted(target.as_bytes()) {
-                add_name(alloc, &mut names, target)?;
-            }
-        }
-    }
-    Ok(names)
+    let aliases = aliases.matching(alloc, name)?;
+    free_names(alloc, configuration, &aliases)
 }
 
 /// The modules of a name, in normal form: the targets of the configuration's aliases that match it; if there are

@@ -1,7 +1,7 @@
 //! A whole configuration.
-ghost use Rattle.std.specs.Prelude.{◌≡◌, ◌<◌, ◌∷◌, [], length, IfOk, MatchOption, OnOk, Some, slice_get, option_map, option_copied};
+ghost use Rattle.std.specs.Prelude.{◌≡◌, ◌<◌, ◌∷◌, [], length, map, IfOk, MatchOption, OnOk, Some, slice_get, option_map, option_copied};
 ghost use Rattle.dep_index.specs.Text.{texts_of};
-ghost use Rattle.alias_match.specs.Aliases.{line_before, words_before};
+ghost use Rattle.alias_match.specs.Aliases.{line_before, matching, words_before};
 ghost use Rattle.alias_match.specs.ForProofs.{nothing_read};
 ghost use Rattle.modprobe_conf.specs.Configuration.{configuration_of, entry_of, options_of, settings_by, settings_of, softdep_of};
 ghost use Rattle.modprobe_conf.specs.Configuration.{has_install_line, has_remove_line, is_blacklisted};
@@ -13,7 +13,7 @@ use crate::name_index::NameIndex;
 use crate::settings::Settings;
 use crate::softdep::Softdep;
 use crate::word::Word;
-use alias_match::{Alias, Pattern};
+use alias_match::{Alias, AliasList, Pattern};
 use dep_index::Name;
 use dep_index::text::{is_comment, words};
 use std::alloc::{AllocError, Global};
@@ -23,7 +23,7 @@ use std::marker::Model;
 /// lines that are skipped. Names are compared as they stand, so give them in normal form.
 #[derive(Drop)]
 pub struct Conf {
-    aliases: Vec<Alias>,
+    aliases: AliasList,
     index: NameIndex,
     skipped: Vec<usize>,
 }
@@ -33,7 +33,7 @@ impl Model for Conf {
 
     ghost Value = { Configuration };
 
-    ghost view = { λ c. record { aliases = c.aliases.items; modules = c.index; skipped = c.skipped.items } };
+    ghost view = { λ c. record { aliases = c.aliases; modules = c.index; skipped = c.skipped.items } };
 }
 
 impl Conf {
@@ -41,7 +41,7 @@ impl Conf {
         ensures { result ≡ no_configuration }
     {
         Conf {
-            aliases: Vec::new(alloc),
+            aliases: AliasList::new(alloc),
             index: NameIndex::new(alloc),
             skipped: Vec::new(alloc),
         }
@@ -51,7 +51,7 @@ impl Conf {
         ensures { OnOk result (self.new ≡ with_entry self.old (entry_seen entry)) }
     {
         match entry {
-            Entry::Aliased(alias) => self.aliases.push(alias)?,
+            Entry::Aliased(alias) => self.aliases.push(alloc, alias)?,
             Entry::Named(name, line) => self.index.add(alloc, &name, line)?,
         }
         Ok(())
@@ -95,7 +95,7 @@ impl Conf {
         ensures { option_map (λ alias. alias.pattern) (slice_get self.now.aliases i)
             ≡ Some result.now }
     {
-        &self.aliases[i].pattern
+        &self.aliases.at(i).pattern
     }
 
     /// The target of an alias, in normal form, by its place in file order, from 0.
@@ -104,7 +104,15 @@ impl Conf {
         ensures { option_map (λ alias. alias.target) (slice_get self.now.aliases i)
             ≡ Some result.now }
     {
-        &self.aliases[i].target
+        &self.aliases.at(i).target
+    }
+
+    /// The aliases whose patterns match a text in normal form, in file order. Only want of memory refuses.
+    pub fn matching_aliases(&self, alloc: Global, text: &[u8]) -> Result<Vec<&Alias>, AllocError>
+        ensures { IfOk result (λ found. map (λ alias. alias.now) found.items
+            ≡ matching self.now.aliases text.now) }
+    {
+        self.aliases.matching(alloc, text)
     }
 
     /// All that is said of the name, None where no line names it: one look-up for what the calls below tell one by
