@@ -57,8 +57,9 @@ keeps_trans (Some x) (Some y) None ab bc = absurd bc
 keeps_trans (Some x) (Some y) (Some z) ab bc = bc ∙ ab
 
 -- A line is too long.
-pub stopped_at_long_line : {R : Type 0} (remaining : R → Option (List ℕ)) (old new : Lines R) → IfTold (bytes_left remaining old) BeginsWithLongLine → StoppedReading LongLine remaining old new
-stopped_at_long_line remaining old new long = record {
+pub stopped_at_long_line : {R : Type 0} (remaining : R → Option (List ℕ)) (old new : Lines R) → old.at_end ≡ false → IfTold (bytes_left remaining old) BeginsWithLongLine → StoppedReading LongLine remaining old new
+stopped_at_long_line remaining old new going long = record {
+  going = going;
   in_hand = λ other. absurd (other refl);
   read = λ e. absurd (cc);
   turns = λ e. absurd (cc);

@@ -1,4 +1,5 @@
 pub mod LineLemmas
+pub mod CutLemmas
 pub mod LeftLemmas
 pub mod SetupLemmas
 pub mod SlotLemmas

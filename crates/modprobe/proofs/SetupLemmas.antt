@@ -1,12 +1,13 @@
 -- The sections of an input, one line on.
-use Rattle.std.proofs.Common.{arith, ◌≡◌, ℕ, ◌≤◌, Bool, true, false, List, [], ◌∷◌, length, map, refl, sym, ap, subst, ◌∙◌, Option, Some, None, Ok, Err}
+use Rattle.std.proofs.Common.{arith, ◌≡◌, ℕ, ◌≤◌, true, false, List, [], ◌∷◌, ◌++◌, length, map, refl, sym, ap, subst, ◌∙◌, Option, Some, None, Ok, Err}
 use Rattle.std.specs.Prelude.{◌≢◌, slice_index_or, ⊤}
 use Rattle.std.specs.Io.KnownBytes.{IsAtEnd, Keeps}
 use Rattle.dep_index.specs.Text.{Line, cut_lines}
-use Rattle.modprobe.specs.Lines.{IfTold, GivesCut, IsPartOfLine, BeginsWithLongLine}
+use Rattle.modprobe.specs.Lines.{IfTold, GivesCut, GivesCuts, AllEnded, IsPartOfLine, BeginsWithLongLine}
+use Rattle.modprobe.proofs.CutLemmas.{is_long_line, cuts_in_hand}
 use Rattle.modprobe.specs.declared.section.Section.{Section}
 use Rattle.modprobe.specs.declared.section.Section.TheVariants.{Catalogue, Dep, Alias, Conf, Session}
-use Rattle.modprobe.specs.Sections.{Parts, no_parts, section_of, SectionStep, Stopped, early, too_long, stop, begin, go, text_step, section_step, step_of, after_step, is_long, sections, GoesOn}
+use Rattle.modprobe.specs.Sections.{Parts, no_parts, section_of, SectionStep, Stopped, early, too_long, stop, begin, go, text_step, section_step, step_of, after_step, is_long, sections, next_step, steps_of}
 use Rattle.modprobe.specs.ForProofs.{is_session, GivesSections, StopsAs, setup_code_of}
 use Rattle.modprobe.specs.declared.lines.LineFault.{LineFault}
 use Rattle.modprobe.specs.declared.lines.LineFault.TheVariants.{Read, Memory, Turns, LongLine}
@@ -19,6 +20,12 @@ use Rattle.modprobe.specs.SetupInput.{of_sections, with_session, with_catalogue,
 use Rattle.dep_index.proofs.LineLemmas.{lines_have_texts}
 use Rattle.std.proofs.lemmas.Bool.{false≢true, true≢false, cond-true, cond-false, lt-ltb, le-ltb}
 
+-- the sections of the old text are those that the new text gives from here
+abbrev pub SectionsGoOn : Option (List ℕ) → Option (List ℕ) → Option Section → Parts → Type 0
+SectionsGoOn None new current parts = ⊤
+SectionsGoOn (Some old) None current parts = ⊥
+SectionsGoOn (Some old) (Some new) current parts = sections None no_parts (cut_lines old) ≡ sections current parts (cut_lines new)
+
 sections-line : (current : Option Section) (parts : Parts) (line : Line) (more : List Line) (step : SectionStep) → step_of current parts line ≡ step
     → sections current parts (line ∷ more) ≡ after_step step parts more (λ c p. sections c p more)
 unfolding sections
@@ -29,7 +36,7 @@ unfolding sections
 sections-end current parts = refl
 
 pub goes_on : (old middle new : Option (List ℕ)) (current : Option Section) (parts : Parts) (line : Line) (current' : Option Section) (parts' : Parts)
-    → GoesOn old middle current parts → GivesCut middle new line → step_of current parts line ≡ go current' parts' → GoesOn old new current' parts'
+    → SectionsGoOn old middle current parts → GivesCut middle new line → step_of current parts line ≡ go current' parts' → SectionsGoOn old new current' parts'
 goes_on None middle new current parts line current' parts' before gives is = tt
 goes_on (Some old) None new current parts line current' parts' before gives is = absurd before
 goes_on (Some old) (Some middle) None current parts line current' parts' before gives is = absurd gives
@@ -37,7 +44,7 @@ goes_on (Some old) (Some middle) (Some new) current parts line current' parts' b
     before ∙ ap (sections current parts) gives ∙ sections-line current parts line (cut_lines new) (go current' parts') is
 
 pub begins : (old middle new : Option (List ℕ)) (current : Option Section) (parts : Parts) (line : Line)
-    → GoesOn old middle current parts → GivesCut middle new line → step_of current parts line ≡ begin → GivesSections old new parts
+    → SectionsGoOn old middle current parts → GivesCut middle new line → step_of current parts line ≡ begin → GivesSections old new parts
 begins None middle new current parts line before gives is = tt
 begins (Some old) None new current parts line before gives is = absurd before
 begins (Some old) (Some middle) None current parts line before gives is = absurd gives
@@ -46,7 +53,7 @@ begins (Some old) (Some middle) (Some new) current parts line before gives is =
 
 -- The sections stop at the line.
 stops : (old middle new : Option (List ℕ)) (current : Option Section) (parts : Parts) (line : Line) (why : Stopped)
-    → GoesOn old middle current parts → GivesCut middle new line → step_of current parts line ≡ stop why → IfTold old (λ text. sections None no_parts (cut_lines text) ≡ Err why)
+    → SectionsGoOn old middle current parts → GivesCut middle new line → step_of current parts line ≡ stop why → IfTold old (λ text. sections None no_parts (cut_lines text) ≡ Err why)
 stops None middle new current parts line why before gives is = tt
 stops (Some old) None new current parts line why before gives is = absurd before
 stops (Some old) (Some middle) None current parts line why before gives is = absurd gives
@@ -54,7 +61,7 @@ stops (Some old) (Some middle) (Some new) current parts line why before gives is
     before ∙ ap (sections current parts) gives ∙ sections-line current parts line (cut_lines new) (stop why) is
 
 pub early_stops : (old middle new : Option (List ℕ)) (current : Option Section) (parts : Parts) (line : Line)
-    → GoesOn old middle current parts → GivesCut middle new line → step_of current parts line ≡ stop early → IfTold old (λ text. sections None no_parts (cut_lines text) ≡ Err early)
+    → SectionsGoOn old middle current parts → GivesCut middle new line → step_of current parts line ≡ stop early → IfTold old (λ text. sections None no_parts (cut_lines text) ≡ Err early)
 early_stops old middle new current parts line before gives is = stops old middle new current parts line early before gives is
 
 -- A text that begins with a line of this text has a first line with its end.
@@ -63,7 +70,7 @@ first_cut [] line more is = absurd (omega (arith, ap length is))
 first_cut (first ∷ later) line more is = (first, later, refl, ap (λ l. slice_index_or l 0 []) is)
 
 pub long_stops : (old middle : Option (List ℕ)) (current : Option Section) (parts : Parts)
-    → GoesOn old middle current parts → IfTold middle BeginsWithLongLine → IfTold old (λ text. sections None no_parts (cut_lines text) ≡ Err too_long)
+    → SectionsGoOn old middle current parts → IfTold middle BeginsWithLongLine → IfTold old (λ text. sections None no_parts (cut_lines text) ≡ Err too_long)
 long_stops None middle current parts before long = tt
 long_stops (Some old) None current parts before long = absurd before
 long_stops (Some old) (Some middle) current parts before long =
@@ -72,7 +79,7 @@ long_stops (Some old) (Some middle) current parts before long =
     let is : step_of current parts cut.0 ≡ stop too_long = cond-true _ _ _ is_too_long in
     before ∙ ap (sections current parts) cut.2 ∙ sections-line current parts cut.0 cut.1 (stop too_long) is
 
-pub at_end : (old middle new : Option (List ℕ)) (current : Option Section) (parts : Parts) → GoesOn old middle current parts → IsAtEnd middle → IsAtEnd new → Keeps middle new → GivesSections old new parts
+pub at_end : (old middle new : Option (List ℕ)) (current : Option Section) (parts : Parts) → SectionsGoOn old middle current parts → IsAtEnd middle → IsAtEnd new → Keeps middle new → GivesSections old new parts
 at_end None middle new current parts before end end' kept = tt
 at_end (Some old) None new current parts before end end' kept = absurd before
 at_end (Some old) (Some middle) None current parts before end end' kept = absurd kept
@@ -113,7 +120,7 @@ stops_somehow (Some text) = tt
 
 -- A fault of the lines says why the sections stop, where it is a long line.
 pub stops_as : (old middle : Option (List ℕ)) (current : Option Section) (parts : Parts) (fault : LineFault)
-    → GoesOn old middle current parts → (fault ≡ LongLine → IfTold middle BeginsWithLongLine) → IfTold old (λ text. StopsAs (setup_code_of fault) text)
+    → SectionsGoOn old middle current parts → (fault ≡ LongLine → IfTold middle BeginsWithLongLine) → IfTold old (λ text. StopsAs (setup_code_of fault) text)
 stops_as old middle current parts Read before long = stops_somehow old
 stops_as old middle current parts Memory before long = stops_somehow old
 stops_as old middle current parts Turns before long = stops_somehow old
@@ -130,17 +137,33 @@ gives_setup (Some old) (Some new) parts s gives is pairs aliases configuration =
     ∙ ap (with_dependencies parts s.catalogue) pairs
     ∙ ap (λ a. Ok (record { catalogue = s.catalogue; dependencies = s.dependencies; aliases = a; configuration = configuration_of parts.conf_text })) (sym aliases)
     ∙ ap (λ c. Ok (record { catalogue = s.catalogue; dependencies = s.dependencies; aliases = s.aliases; configuration = c })) (sym configuration) in
-    ap of_sections gives ∙ ap (with_session (cut_lines new)) here ∙ ap (λ ls. Ok (s, ls)) (lines_have_texts new)
-
-abbrev is_long_line : LineFault → Bool
-is_long_line LongLine = true
-is_long_line _ = false
+    ap of_sections gives ∙ ap (with_session (cut_lines new)) here
 
 -- Where the lines stop at the source, the sections go on in the line in hand.
-pub setup_stops : (old middle left ungiven : Option (List ℕ)) (current : Option Section) (parts : Parts) (fault : LineFault) (line : List ℕ)
-    → GoesOn old middle current parts → (fault ≢ LongLine → IsPartOfLine middle left line) → (fault ≡ Read → left ≡ ungiven) → (fault ≡ Turns → left ≡ ungiven)
+pub setup_stops : (old middle left ungiven : Option (List ℕ)) (done : List Line) (current : Option Section) (parts : Parts) (fault : LineFault) (line : List ℕ)
+    → GivesCuts old middle done → steps_of None no_parts done ≡ go current parts → AllEnded done → (fault ≢ LongLine → IsPartOfLine middle left line) → (fault ≡ Read → left ≡ ungiven) → (fault ≡ Turns → left ≡ ungiven)
     → SetupStops (setup_code_of fault) old ungiven line
-setup_stops old middle left ungiven current parts Read line before part read turns = (middle, (current, parts, before), subst (λ l. IsPartOfLine middle l line) (read refl) (part (λ e. false≢true (ap is_long_line e))))
-setup_stops old middle left ungiven current parts Memory line before part read turns = tt
-setup_stops old middle left ungiven current parts Turns line before part read turns = (middle, (current, parts, before), subst (λ l. IsPartOfLine middle l line) (turns refl) (part (λ e. false≢true (ap is_long_line e))))
-setup_stops old middle left ungiven current parts LongLine line before part read turns = tt
+setup_stops old middle left ungiven done current parts Read line gives is ended part read turns =
+    let here = subst (λ l. IsPartOfLine middle l line) (read refl) (part (λ e. false≢true (ap is_long_line e))) in
+    (done, cuts_in_hand old middle ungiven done line gives here.0, ended, (current, parts, is), here.1)
+setup_stops old middle left ungiven done current parts Memory line gives is ended part read turns = tt
+setup_stops old middle left ungiven done current parts Turns line gives is ended part read turns =
+    let here = subst (λ l. IsPartOfLine middle l line) (turns refl) (part (λ e. false≢true (ap is_long_line e))) in
+    (done, cuts_in_hand old middle ungiven done line gives here.0, ended, (current, parts, is), here.1)
+setup_stops old middle left ungiven done current parts LongLine line gives is ended part read turns = tt
+
+-- The lines before go on, and so does one more.
+steps_through : (step : SectionStep) (more : List Line) (line : Line) (current current' : Option Section) (parts parts' : Parts)
+    → ((c : Option Section) (p : Parts) → steps_of c p more ≡ go current parts → steps_of c p (more ++ line ∷ []) ≡ go current' parts')
+    → next_step step (λ c p. steps_of c p more) ≡ go current parts → next_step step (λ c p. steps_of c p (more ++ line ∷ [])) ≡ go current' parts'
+steps_through (stop why) more line current current' parts parts' later is = absurd (cc)
+steps_through begin more line current current' parts parts' later is = absurd (cc)
+steps_through (go c p) more line current current' parts parts' later is = later c p is
+
+pub steps_more : (first : Option Section) (at : Parts) (done : List Line) (line : Line) (current current' : Option Section) (parts parts' : Parts)
+    → steps_of first at done ≡ go current parts → step_of current parts line ≡ go current' parts' → steps_of first at (done ++ line ∷ []) ≡ go current' parts'
+steps_more first at [] line current current' parts parts' before is =
+    let here : step_of first at line ≡ go current' parts' = ap (λ s. next_step s (λ c p. step_of c p line)) before ∙ is in
+    ap (λ s. next_step s (λ c p. go c p)) here
+steps_more first at (next ∷ more) line current current' parts parts' before is =
+    steps_through (step_of first at next) more line current current' parts parts' (λ c p b. steps_more c p more line current current' parts parts' b is) before

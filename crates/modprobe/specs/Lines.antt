@@ -1,5 +1,5 @@
 -- What the lines that are read leave.
-use Rattle.std.specs.Prelude.{◌≡◌, ◌≢◌, ℕ, ◌+◌, ◌*◌, ◌<◌, ◌≤◌, ◌⊎◌, Bool, true, false, ◌==◌, if◌then◌else◌, List, [], ◌∷◌, ◌++◌, All, length, IfErr, OnOk, Option, Some, None, ⊤, Result, Ok, Err}
+use Rattle.std.specs.Prelude.{◌≡◌, ◌≢◌, ℕ, ◌+◌, ◌*◌, ◌<◌, ◌≤◌, ◌⊎◌, Bool, true, false, ◌==◌, if◌then◌else◌, List, [], ◌∷◌, ◌++◌, All, length, map, IfErr, OnOk, Option, Some, None, ⊤, Result, Ok, Err}
 use Rattle.std.specs.Option.{option_map}
 use Rattle.std.specs.Io.KnownBytes.{Consumes, Keeps, IsAtEnd}
 use Rattle.std.specs.Str.Lines.{lines}
@@ -55,6 +55,28 @@ GivesCut None new line = ⊤
 GivesCut (Some old) None line = ⊥
 GivesCut (Some old) (Some new) line = cut_lines old ≡ line ∷ cut_lines new
 
+-- the lines of the old text, each with its end, are these and those of the new text
+abbrev pub GivesCuts : Option (List ℕ) → Option (List ℕ) → List Line → Type 0
+GivesCuts None new done = ⊤
+GivesCuts (Some old) None done = ⊥
+GivesCuts (Some old) (Some new) done = cut_lines old ≡ done ++ cut_lines new
+
+-- each line has its end: none is the last of a text without a line feed
+abbrev pub AllEnded : List Line → Type 0
+AllEnded done = All (λ (line : Line). 0 < length line.ending) done
+
+-- the texts of lines, without their ends
+abbrev pub texts : List Line → List (List ℕ)
+texts cut = map (λ (line : Line). line.text) cut
+
+-- each turn that was spent was one read, and each read took one turn
+abbrev pub SpendsTurns : {R : Type 0} → (R → ℕ) → Lines R → Lines R → Type 0
+SpendsTurns read_count old new = read_count new.reader.now + new.turns ≡ read_count old.reader.now + old.turns
+
+-- where the lines are known to be at their end, the source is at its own
+abbrev pub HasTrueEnd : {R : Type 0} → (R → Option (List ℕ)) → Lines R → Type 0
+HasTrueEnd remaining s = s.at_end ≡ true → IsAtEnd (remaining s.reader.now)
+
 -- the turns that were spent between two states of a source are no more than the bytes that it gave
 abbrev pub PaysTurns : ℕ → ℕ → Option (List ℕ) → Option (List ℕ) → Type 0
 PaysTurns before after None new = ⊤
@@ -76,11 +98,12 @@ StopsForTurns remaining old new =
     (new.turns ≡ 0) × (old.at_end ≡ false) × GaveAtLeast old.turns (remaining old.reader.now) (remaining new.reader.now)
 
 -- What is at hand where reading stops: the bytes that are left of the input, those of them that the source has not
--- given yet, and what was read of a line.
+-- given yet, what was read of a line, and the end of that line, where it was read.
 pub record AtHand : Type 0 where
   pub left : Option (List ℕ)
   pub ungiven : Option (List ℕ)
   pub line : List ℕ
+  pub ending : List ℕ
 
 -- the old text is the line, its line feed and the new text
 abbrev pub EndsLine : Option (List ℕ) → Option (List ℕ) → List ℕ → Type 0
@@ -95,6 +118,16 @@ abbrev pub ending_bytes : Ending → List ℕ
 ending_bytes Absent = []
 ending_bytes Feed = 10 ∷ []
 ending_bytes ReturnFeed = 13 ∷ 10 ∷ []
+
+-- what is at hand in lines
+abbrev pub hand_of : {R : Type 0} → (R → Option (List ℕ)) → Lines R → AtHand
+hand_of remaining s =
+    record {
+      left = bytes_left remaining s;
+      ungiven = remaining s.reader.now;
+      line = s.line.items;
+      ending = ending_bytes s.ending;
+    }
 
 -- the answer is that the source failed
 abbrev pub is_read_fault : {X : Type 0} → Result X LineFault → Bool
@@ -121,6 +154,7 @@ pub record Fetched {R : Type 0} (remaining : R → Option (List ℕ)) (old new :
   pub paid : OnOk result (IsPaid remaining old new)
   pub stopped : IfErr result (λ fault. (fault ≡ Read) ⊎ (fault ≡ Turns))
   pub drained : IfErr result (λ fault. IsDrained new)
+  pub going : IfErr result (λ fault. old.at_end ≡ false)
   pub spent : result ≡ Err Turns → (new.turns ≡ 0) × IsPaid remaining old new
   pub falls : OnOk result (steps_left new ≤ steps_left old)
 
@@ -129,12 +163,15 @@ pub record StoppedTaking (fault : LineFault) (text : Option (List ℕ)) : Type 0
   pub why : (fault ≡ Memory) ⊎ (fault ≡ LongLine)
   pub long : fault ≡ LongLine → IfTold text BeginsWithLongLine
 
--- a line was given, which is not too long: it is the first of what was left, and the others are left
+-- A line was given, which is not too long: it is the first of what was left, and the others are left. Only the last line
+-- of a source that is at its end may be without its end.
 pub record GaveLine {R : Type 0} (remaining : R → Option (List ℕ)) (old new : Lines R) : Type 0 where
   pub line : GivesLine (bytes_left remaining old) (bytes_left remaining new) new.line.items
   pub cut : GivesCut (bytes_left remaining old) (bytes_left remaining new) (record { text = new.line.items; ending = ending_bytes new.ending })
   pub raw : Consumes (bytes_left remaining old) (bytes_left remaining new) (new.line.items ++ ending_bytes new.ending)
   pub short : length new.line.items ≤ 65535
+  pub going : old.at_end ≡ false
+  pub ended : new.at_end ≡ false → 0 < length (ending_bytes new.ending)
   pub paid : IsPaid remaining old new
   pub falls : steps_left new < steps_left old
 
@@ -148,6 +185,7 @@ pub record FoundEnd {R : Type 0} (remaining : R → Option (List ℕ)) (old new 
 -- No line was given, for a fault. What was read of it is in hand and has no end, unless it is too long. Where the source
 -- failed, or may not be read again, that is all that it gave.
 pub record StoppedReading {R : Type 0} (fault : LineFault) (remaining : R → Option (List ℕ)) (old new : Lines R) : Type 0 where
+  pub going : old.at_end ≡ false
   pub in_hand : fault ≢ LongLine → IsPartOfLine (bytes_left remaining old) (bytes_left remaining new) new.line.items
   pub read : fault ≡ Read → bytes_left remaining new ≡ remaining new.reader.now
   pub turns : fault ≡ Turns → bytes_left remaining new ≡ remaining new.reader.now

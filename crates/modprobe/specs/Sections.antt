@@ -1,7 +1,7 @@
 -- The sections of an input.
-use Rattle.std.specs.Prelude.{◌≡◌, ℕ, nat_lt, Bool, if◌then◌else◌, List, [], ◌∷◌, ◌++◌, length, codes, Option, Some, None, ⊤, Result, Ok, Err}
+use Rattle.std.specs.Prelude.{◌≡◌, ℕ, nat_lt, Bool, if◌then◌else◌, List, [], ◌∷◌, ◌++◌, length, codes, Option, Some, None, Result, Ok, Err}
 use Rattle.std.specs.Str.{bytes_eq}
-use Rattle.dep_index.specs.Text.{Line, cut_lines}
+use Rattle.dep_index.specs.Text.{Line}
 use Rattle.modprobe.specs.declared.section.Section.{Section}
 use Rattle.modprobe.specs.declared.section.Section.TheVariants.{Catalogue, Dep, Alias, Conf, Session}
 
@@ -70,8 +70,18 @@ unfoldable pub sections : Option Section → Parts → List Line → Result (Par
 sections current parts [] = Ok (parts, [])
 sections current parts (line ∷ more) = after_step (step_of current parts line) parts more (λ c p. sections c p more)
 
--- the sections of the old text are those that the new text gives from here
-abbrev pub GoesOn : Option (List ℕ) → Option (List ℕ) → Option Section → Parts → Type 0
-GoesOn None new current parts = ⊤
-GoesOn (Some old) None current parts = ⊥
-GoesOn (Some old) (Some new) current parts = sections None no_parts (cut_lines old) ≡ sections current parts (cut_lines new)
+-- what the next lines make of the section in force and the texts, unless this step stopped the sections, or began the
+-- session
+abbrev pub next_step : SectionStep → (Option Section → Parts → SectionStep) → SectionStep
+next_step (stop why) later = stop why
+next_step begin later = begin
+next_step (go current parts) later = later current parts
+
+-- what lines make of the section in force and the texts, one after another
+abbrev pub steps_of : Option Section → Parts → List Line → SectionStep
+steps_of current parts [] = go current parts
+steps_of current parts (line ∷ more) = next_step (step_of current parts line) (λ c p. steps_of c p more)
+
+-- reading the sections over these lines goes on: no line stopped them, and none began the session
+abbrev pub GoesOn : List Line → Type 0
+GoesOn done = (current : Option Section) × (parts : Parts) × (steps_of None no_parts done ≡ go current parts)

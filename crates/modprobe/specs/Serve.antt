@@ -1,14 +1,14 @@
 -- What a whole session answers.
 use Rattle.std.specs.Prelude.{◌≡◌, ℕ, Bool, false, List, Option, Some, Result, Ok, Err}
-use Rattle.std.specs.Str.Lines.{lines}
 use Rattle.std.specs.Io.KnownBytes.{Appends, Keeps}
+use Rattle.dep_index.specs.Text.{Line, cut_lines}
 use Rattle.dep_index.specs.Table.{Table}
 use Rattle.dep_index.specs.Catalogue.{modules_of}
 use Rattle.dep_index.specs.Calls.{opening}
 use Rattle.modprobe.specs.declared.fault.ServeFault.{ServeFault}
 use Rattle.modprobe.specs.declared.fault.ServeFault.TheVariants as serve_fault
 use Rattle.modprobe.specs.declared.fault.RunFault.{RunFault}
-use Rattle.modprobe.specs.Lines.{IfTold}
+use Rattle.modprobe.specs.Lines.{IfTold, AtHand, texts}
 use Rattle.modprobe.specs.Setup.{Setup}
 use Rattle.modprobe.specs.Session.{answer}
 use Rattle.modprobe.specs.SetupInput.{setup_of, Refuses, SetupStops}
@@ -22,15 +22,15 @@ opening_of s workers = opening (modules_of s.catalogue) workers
 -- the input has a setup, all lines of its session are short, and what was written grew by the answer to them
 abbrev pub AnswersInput : ℕ → List ℕ → Option (List ℕ) → Option (List ℕ) → Type 0
 AnswersInput workers input held written =
-    (s : Setup) × (session : List (List ℕ)) × (setup_of input ≡ Ok (s, session)) × AllShort session
-    × Appends held written (answer s (opening_of s workers) session).0
+    (s : Setup) × (session : List Line) × (setup_of input ≡ Ok (s, session)) × AllShort (texts session)
+    × Appends held written (answer s (opening_of s workers) (texts session)).0
 
 -- the input has a setup, and its session stopped as a run does
 abbrev pub StopsInSession : ℕ → RunFault → List ℕ → Option (List ℕ) → Option (List ℕ) → Option (List ℕ) → Type 0
 StopsInSession workers fault input ungiven held written =
-    (s : Setup) × (session : List ℕ) × (setup_of input ≡ Ok (s, lines session))
-    × ((left : Option (List ℕ)) × (line : List ℕ) × (table : Table)
-    × StandsAfter fault s (opening_of s workers) (Some session) (record { left = left; ungiven = ungiven; line = line }) held written table)
+    (s : Setup) × (session : List ℕ) × (setup_of input ≡ Ok (s, cut_lines session))
+    × ((hand : AtHand) × (table : Table) × (hand.ungiven ≡ ungiven)
+    × StandsAfter fault s (opening_of s workers) (Some session) hand held written table)
 
 -- what stands after each fault: where the session has not begun, nothing was written
 abbrev pub ServeStands : ℕ → ServeFault → Option (List ℕ) → Option (List ℕ) → Option (List ℕ) → Option (List ℕ) → Type 0

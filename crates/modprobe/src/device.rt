@@ -1,5 +1,5 @@
 //! What a session reads from and writes to.
-ghost use Rattle.std.specs.Prelude.{◌≡◌, ℕ, ◌≤◌, Bool, false, true, List, length, IfOk, is_err, Option};
+ghost use Rattle.std.specs.Prelude.{◌≡◌, ℕ, ◌+◌, ◌≤◌, Bool, false, true, if◌then◌else◌, List, length, IfOk, is_err, Option};
 ghost use Rattle.std.specs.Io.{ReadsAtMost, WritesAtMost};
 ghost use Rattle.std.specs.Io.KnownBytes.{ReadConsumes, WriteAppends};
 ghost use Rattle.modprobe.specs.Device.{write_failed};
@@ -15,6 +15,9 @@ pub trait Source {
     // The bytes that it has left to give, or `None` where it does not tell them.
     ghost remaining: { Self → Option (List ℕ) };
 
+    // How often it was read.
+    ghost read_count: { Self → ℕ };
+
     // A read has failed.
     ghost has_failed: { Self → Bool };
 
@@ -24,6 +27,7 @@ pub trait Source {
         requires { has_failed self.old ≡ false }
         ensures bound { ReadsAtMost result buffer.new }
         ensures bytes { ReadConsumes (remaining self.old) (remaining self.new) result buffer.new }
+        ensures counted { read_count self.new ≡ read_count self.old + 1 }
         ensures failed { has_failed self.new ≡ is_err result };
 
     /// Whether a read has failed.
@@ -51,19 +55,22 @@ pub trait Sink {
         ensures { result ≡ has_failed self.now };
 }
 
-/// A reader of std's. It tells what the reader tells, and each error of the reader is a failure.
+/// A reader of std's. It tells what the reader tells, and each error of the reader is a failure. It counts its reads, and
+/// fails once it has answered 2^64 - 1 of them.
 #[derive(Drop)]
 pub struct FromRead<R> {
     reader: R,
+    answered: u64,
     failed: bool,
 }
 
 impl<R: Read> FromRead<R> {
     pub fn new(reader: R) -> FromRead<R>
-        ensures { (result.reader ≡ reader) × (result.failed ≡ false) }
+        ensures { (result.reader ≡ reader) × (result.answered ≡ 0) × (result.failed ≡ false) }
     {
         FromRead {
             reader,
+            answered: 0,
             failed: false,
         }
     }
@@ -72,11 +79,20 @@ impl<R: Read> FromRead<R> {
 impl<R: Read> Source for FromRead<R> {
     ghost remaining = { λ s. R.remaining s.reader };
 
+    ghost read_count = { λ s. s.answered + (if s.failed then 1 else 0) };
+
     ghost has_failed = { λ s. s.failed };
 
     fn read(&mut self, buffer: &mut [u8]) -> Result<usize, Failed> {
+        let Some(answered) = self.answered.checked_add(1) else {
+            self.failed = true;
+            return Err(Failed);
+        };
         match self.reader.read(buffer) {
-            Ok(count) => Ok(count),
+            Ok(count) => {
+                self.answered = answered;
+                Ok(count)
+            }
             Err(_) => {
                 self.failed = true;
                 Err(Failed)

@@ -55,14 +55,17 @@ impl<'a, R: Source> Lines<'a, R> {
     ghost use Rattle.std.specs.Str.Lines.{strip_carriage_return};
     ghost use Rattle.dep_index.specs.Text.{ended};
     ghost use Rattle.modprobe.specs.Lines.{bytes_left, text_left, ending_bytes, HasNoFeed, EndsLine, steps_left, is_read_fault};
+    ghost use Rattle.modprobe.specs.Lines.{SpendsTurns, HasTrueEnd};
     ghost use Rattle.modprobe.specs.Lines.{Fetched, SameSource, StoppedTaking, GaveLine, FoundEnd, StoppedReading};
 
-    /// The lines of what `reader` has left, over at most `turns` reads.
+    /// The lines of what `reader` has left, over at most `turns` reads. It reads nothing. It fails for want of memory alone.
     pub fn new(alloc: Global, reader: &'a mut R, turns: u64) -> Result<Lines<'a, R>, AllocError>
         requires { R.has_failed reader.old ≡ false }
         ensures same_reader { IfOk result (λ s. s.reader.ghost_name ≡ reader.entry.ghost_name) }
         ensures works { IfOk result (λ s. R.has_failed s.reader.now ≡ false) }
         ensures bytes { IfOk result (λ s. bytes_left R.remaining s ≡ R.remaining reader.old) }
+        ensures value { IfOk result (λ s. s.reader.now ≡ reader.old) }
+        ensures going { IfOk result (λ s. s.at_end ≡ false) }
         ensures turns { IfOk result (λ s. s.turns ≡ turns) }
     {
         Ok(Lines::over(alloc, Piece::new(alloc)?, reader, turns))
@@ -76,6 +79,7 @@ impl<'a, R: Source> Lines<'a, R> {
         ensures works { R.has_failed result.reader.now ≡ false }
         ensures bytes { bytes_left R.remaining result ≡ R.remaining reader.old }
         ensures value { result.reader.now ≡ reader.old }
+        ensures going { result.at_end ≡ false }
         ensures turns { result.turns ≡ turns }
     {
         Lines {
@@ -128,6 +132,8 @@ impl<'a, R: Source> Lines<'a, R> {
         ensures same_reader { self.new.reader.ghost_name ≡ self.old.reader.ghost_name }
         ensures failed { R.has_failed self.new.reader.now ≡ is_read_fault result }
         ensures fetched { Fetched R.remaining self.old self.new result }
+        ensures counted { SpendsTurns R.read_count self.old self.new }
+        ensures end { HasTrueEnd R.remaining self.old → HasTrueEnd R.remaining self.new }
     {
         if self.at_end || !self.piece.unused().is_empty() {
             return Ok(!self.at_end);
@@ -177,6 +183,7 @@ impl<'a, R: Source> Lines<'a, R> {
         ensures line { self.new.line.items ≡ strip_carriage_return self.old.line.items }
         ensures cut { record { text = self.new.line.items; ending = ending_bytes self.new.ending } ≡ ended self.old.line.items }
         ensures whole { self.new.line.items ++ ending_bytes self.new.ending ≡ self.old.line.items ++ 10 ∷ [] }
+        ensures some { 0 < length (ending_bytes self.new.ending) }
         ensures source { (self.new.reader ≡ self.old.reader) × (self.new.turns ≡ self.old.turns) }
         ensures left { (self.new.piece ≡ self.old.piece) × (self.new.at_end ≡ self.old.at_end) }
     {
@@ -188,7 +195,8 @@ impl<'a, R: Source> Lines<'a, R> {
         }
     }
 
-    /// Reads the next line, and answers whether there is one; `line` and `ending` then lend it. Read: the source failed.
+    /// Reads the next line, and answers whether there is one; `line` and `ending` then lend it. Each read of the source takes
+    /// one turn. Read: the source failed.
     /// Turns: a further read is needed, and none is left. LongLine: the line has more than 65,535 bytes without its end.
     /// Memory: there is none for the line. After a fault the lines are not to be used again.
     pub fn next_line(&mut self) -> Result<bool, LineFault>
@@ -198,6 +206,8 @@ impl<'a, R: Source> Lines<'a, R> {
         ensures gave { result ≡ Ok true → GaveLine R.remaining self.old self.new }
         ensures ended { result ≡ Ok false → FoundEnd R.remaining self.old self.new }
         ensures stopped { IfErr result (λ fault. StoppedReading fault R.remaining self.old self.new) }
+        ensures counted { SpendsTurns R.read_count self.old self.new }
+        ensures end { HasTrueEnd R.remaining self.old → HasTrueEnd R.remaining self.new }
     {
         self.line.clear();
         self.ending = Ending::Absent;

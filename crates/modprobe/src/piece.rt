@@ -1,5 +1,5 @@
 //! The bytes of a source that were read last.
-ghost use Rattle.std.specs.Prelude.{◌≡◌, ◌<◌, ◌≤◌, ◌==◌, true, false, [], take, drop, length, slice_index, not, is_err, IfOk, OnOk, OnErr};
+ghost use Rattle.std.specs.Prelude.{◌≡◌, ◌+◌, ◌<◌, ◌≤◌, ◌==◌, true, false, [], take, drop, length, slice_index, not, is_err, IfOk, OnOk, OnErr};
 ghost use Rattle.std.specs.Io.KnownBytes.{Consumes, Keeps, IsAtEnd};
 
 use crate::device::{Failed, Source};
@@ -73,6 +73,7 @@ impl Piece {
         ensures kept { OnErr result (Keeps (R.remaining reader.old) (R.remaining reader.new)) }
         ensures empty { OnErr result (self.new ≡ []) }
         ensures bound { length self.new ≤ 4096 }
+        ensures counted { R.read_count reader.new ≡ R.read_count reader.old + 1 }
         ensures failed { R.has_failed reader.new ≡ is_err result }
     {
         self.start = 0;

@@ -3,7 +3,7 @@ ghost use Rattle.std.specs.Prelude.{◌≡◌, false, IfOk, IfErr, OnOk, OnErr, 
 ghost use Rattle.std.specs.Io.KnownBytes.{Appends, IsAtEnd};
 ghost use Rattle.std.specs.Str.Lines.{lines as lines_of};
 ghost use Rattle.dep_index.specs.Catalogue.{modules_of};
-ghost use Rattle.modprobe.specs.Lines.{bytes_left, IfTold, StopsForTurns};
+ghost use Rattle.modprobe.specs.Lines.{bytes_left, hand_of, IfTold, StopsForTurns, SpendsTurns, HasTrueEnd};
 ghost use Rattle.modprobe.specs.Session.{answer};
 ghost use Rattle.modprobe.specs.Run.{AllShort, WritesPart, StandsAfter, is_read, is_write};
 
@@ -37,7 +37,7 @@ fn write_all<W: Sink>(writer: &mut W, bytes: &[u8]) -> Result<(), Failed>
 /// fails in this call, `Turns` where the source was read as often as `lines` may, `LongLine` at a line of more than
 /// 65,535 bytes, `Memory` where there is none. After a fault all lines before the one in hand are answered, and of the
 /// reply to that one a front part is written after `Write`, and nothing after the others. The table has the effect of
-/// the line in hand after `Write` alone.
+/// the line in hand after `Write` alone. Each read of the source takes one turn of `lines`.
 pub fn run<R: Source, W: Sink, M: Modules>(
     alloc: Global,
     setup: &Setup,
@@ -56,16 +56,19 @@ pub fn run<R: Source, W: Sink, M: Modules>(
         M.table table.new ≡ (answer setup.now (M.table table.old) (lines_of text)).1)) }
     ensures short { OnOk result (IfTold (bytes_left R.remaining lines.old) (λ text. AllShort (lines_of text))) }
     ensures all_read { OnOk result (IsAtEnd (bytes_left R.remaining lines.new)) }
+    ensures end { HasTrueEnd R.remaining lines.old → HasTrueEnd R.remaining lines.new }
 
     // What stands after each fault.
     ensures stands { IfErr result (λ fault. StandsAfter fault setup.now (M.table table.old) (bytes_left R.remaining lines.old)
-        (record { left = bytes_left R.remaining lines.new; ungiven = R.remaining lines.new.reader.now; line = lines.new.line.items })
-        (W.contents writer.old) (W.contents writer.new) (M.table table.new)) }
+        (hand_of R.remaining lines.new) (W.contents writer.old) (W.contents writer.new) (M.table table.new)) }
 
     // When each fault comes.
     ensures read { R.has_failed lines.new.reader.now ≡ is_read result }
     ensures write { W.has_failed writer.new ≡ is_write result }
     ensures turns { result ≡ Err RunFault.Turns → StopsForTurns R.remaining lines.old lines.new }
+
+    // Each turn is one read.
+    ensures counted { SpendsTurns R.read_count lines.old lines.new }
 
     ensures same_reader { lines.new.reader.ghost_name ≡ lines.old.reader.ghost_name }
     ensures over { M.catalogue table.new ≡ M.catalogue table.old }

@@ -1,6 +1,6 @@
 //! The sections of an input before its session.
 ghost use Rattle.std.specs.Prelude.{◌≡◌, ◌++◌, false, OnOk, IfOk, IfErr, None};
-ghost use Rattle.modprobe.specs.Lines.{bytes_left, IfTold, IsPaid, StopsForTurns};
+ghost use Rattle.modprobe.specs.Lines.{bytes_left, IfTold, IsPaid, StopsForTurns, SpendsTurns, HasTrueEnd};
 ghost use Rattle.modprobe.specs.Sections.{section_of, no_parts, add_bytes, sections};
 ghost use Rattle.modprobe.specs.SetupInput.{SetupStops};
 ghost use Rattle.modprobe.specs.ForProofs.{is_session, parts_of, GivesSections, StopsAs, HasLine, is_setup_read};
@@ -100,6 +100,8 @@ pub(crate) fn read_texts<R: Source>(
     ensures read { R.has_failed lines.new.reader.now ≡ is_setup_read result }
     ensures turns { IfErr result (λ fault. fault.code ≡ SetupCode.Turns → StopsForTurns R.remaining lines.old lines.new) }
     ensures paid { OnOk result (IsPaid R.remaining lines.old lines.new) }
+    ensures counted { SpendsTurns R.read_count lines.old lines.new }
+    ensures end { HasTrueEnd R.remaining lines.old → HasTrueEnd R.remaining lines.new }
 {
     let mut texts = Texts::new(alloc);
     let mut current = None;

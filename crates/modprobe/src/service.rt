@@ -1,6 +1,7 @@
 //! A whole session: the sections of the input, and the session over an opening table.
-ghost use Rattle.std.specs.Prelude.{◌≡◌, ◌≤◌, false, true, OnOk, IfErr};
-ghost use Rattle.modprobe.specs.Lines.{bytes_left, IfTold, GaveAtLeast};
+ghost use Rattle.std.specs.Prelude.{◌≡◌, ◌+◌, ◌≤◌, false, true, OnOk, IfErr};
+ghost use Rattle.std.specs.Io.KnownBytes.{IsAtEnd};
+ghost use Rattle.modprobe.specs.Lines.{bytes_left, IfTold, GaveAtLeast, SpendsTurns, HasTrueEnd};
 ghost use Rattle.modprobe.specs.Serve.{AnswersInput, ServeStands, failed_reading, failed_writing, ran_out_of_turns};
 
 use crate::device::{Sink, Source};
@@ -27,12 +28,14 @@ fn serve_lines<R: Source, W: Sink>(
     requires writer_works { W.has_failed writer.old ≡ false }
     ensures answered { OnOk result (IfTold (bytes_left R.remaining lines.old) (λ input.
         AnswersInput workers input (W.contents writer.old) (W.contents writer.new))) }
+    ensures all_read { OnOk result (HasTrueEnd R.remaining lines.old → IsAtEnd (R.remaining lines.new.reader.now)) }
     ensures stands { IfErr result (λ fault. ServeStands workers fault (bytes_left R.remaining lines.old)
         (R.remaining lines.new.reader.now) (W.contents writer.old) (W.contents writer.new)) }
     ensures read { R.has_failed lines.new.reader.now ≡ failed_reading result }
     ensures write { W.has_failed writer.new ≡ failed_writing result }
     ensures turns { ran_out_of_turns result ≡ true →
-        GaveAtLeast lines.old.turns (R.remaining lines.old.reader.now) (R.remaining lines.new.reader.now) }
+        (lines.new.turns ≡ 0) × GaveAtLeast lines.old.turns (R.remaining lines.old.reader.now) (R.remaining lines.new.reader.now) }
+    ensures counted { SpendsTurns R.read_count lines.old lines.new }
     ensures same_reader { lines.new.reader.ghost_name ≡ lines.old.reader.ghost_name }
 {
     let setup = read_setup(alloc, lines)?;
@@ -44,7 +47,7 @@ fn serve_lines<R: Source, W: Sink>(
 /// Answers a whole input: reads its sections, makes a table of so many workers in which every module is absent, and
 /// answers the lines of its session. `Setup`: the input has no setup, or could not be read up to its session; nothing
 /// is written then. `Run`: the session stopped, as `run` says. `Memory`: there is none for the lines or the table, and
-/// nothing is written. It reads 16,777,216 times at most.
+/// nothing is written. It reads 16,777,216 times at most, and as often where it answers a fault of turns.
 pub fn serve<R: Source, W: Sink>(
     alloc: Global,
     workers: usize,
@@ -55,9 +58,10 @@ pub fn serve<R: Source, W: Sink>(
     requires reader_works { R.has_failed reader.old ≡ false }
     requires writer_works { W.has_failed writer.old ≡ false }
 
-    // At the end of the input: the answer to its session, and nothing else.
+    // At the end of the input: the answer to its session, and nothing else. The source is at its end.
     ensures answered { OnOk result (IfTold (R.remaining reader.old) (λ input.
         AnswersInput workers input (W.contents writer.old) (W.contents writer.new))) }
+    ensures all_read { OnOk result (IsAtEnd (R.remaining reader.new)) }
 
     // What stands after each fault.
     ensures stands { IfErr result (λ fault. ServeStands workers fault (R.remaining reader.old) (R.remaining reader.new)
@@ -67,7 +71,11 @@ pub fn serve<R: Source, W: Sink>(
     ensures read { R.has_failed reader.new ≡ failed_reading result }
     ensures write { W.has_failed writer.new ≡ failed_writing result }
     ensures turns { ran_out_of_turns result ≡ true →
-        GaveAtLeast 16777216 (R.remaining reader.old) (R.remaining reader.new) }
+        (R.read_count reader.new ≡ R.read_count reader.old + 16777216)
+        × GaveAtLeast 16777216 (R.remaining reader.old) (R.remaining reader.new) }
+
+    // How often it reads.
+    ensures counted { R.read_count reader.new ≤ R.read_count reader.old + 16777216 }
 {
     let piece = Piece::new(alloc)?;
     let mut lines = Lines::over(alloc, piece, reader, TURNS);

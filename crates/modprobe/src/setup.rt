@@ -1,6 +1,6 @@
 //! What a session knows besides its table.
 ghost use Rattle.std.specs.Prelude.{◌≡◌, ◌≤◌, false, length, IfOk, IfErr, OnOk};
-ghost use Rattle.modprobe.specs.Lines.{bytes_left, IfTold, IsPaid, StopsForTurns};
+ghost use Rattle.modprobe.specs.Lines.{bytes_left, IfTold, IsPaid, StopsForTurns, SpendsTurns, HasTrueEnd};
 ghost use Rattle.modprobe.specs.Setup.{name_at};
 ghost use Rattle.modprobe.specs.SetupInput.{setup_of, GivesSetup, Refuses, SetupStops};
 ghost use Rattle.modprobe.specs.ForProofs.{HasLine, is_setup_read};
@@ -87,8 +87,8 @@ impl Setup {
 /// Reads the sections of an input, up to the first `%session` line or the end, and what they say: `lines` then gives the
 /// lines of the session. B1: a line stands before the first section line, which is told as it is read. C1 to C4: the
 /// first fault of the catalogue, at its line of the joined text. M1 to M3: the catalogue has none, and this is the first of
-/// modules.dep. LongLine: a line of more than 65,535 bytes. Read: the
-/// source failed. Turns: it was read as often as `lines` may. Memory: there is none.
+/// modules.dep. LongLine: a line of more than 65,535 bytes. Read: the source failed. Turns: it was read as often as
+/// `lines` may. Memory: there is none. Each read of the source takes one turn of `lines`.
 pub fn read_setup<R: Source>(alloc: Global, lines: &mut Lines<'_, R>) -> Result<Setup, SetupFault>
     requires { R.has_failed lines.old.reader.now ≡ false }
     ensures setup { IfOk result (λ s.
@@ -101,6 +101,8 @@ pub fn read_setup<R: Source>(alloc: Global, lines: &mut Lines<'_, R>) -> Result<
     ensures turns { IfErr result (λ fault.
         fault.code ≡ SetupCode.Turns → StopsForTurns R.remaining lines.old lines.new) }
     ensures paid { OnOk result (IsPaid R.remaining lines.old lines.new) }
+    ensures counted { SpendsTurns R.read_count lines.old lines.new }
+    ensures end { HasTrueEnd R.remaining lines.old → HasTrueEnd R.remaining lines.new }
     ensures same_reader { lines.new.reader.ghost_name ≡ lines.old.reader.ghost_name }
 {
     let texts = read_texts(alloc, lines)?;

@@ -1,5 +1,5 @@
 //! Devices that fail, take one byte at a time, or never end.
-ghost use Rattle.std.specs.Prelude.{◌≡◌, false, Some, None, Option};
+ghost use Rattle.std.specs.Prelude.{◌≡◌, ◌+◌, false, if◌then◌else◌, Some, None, Option};
 
 use modprobe::{Failed, Sink, Source};
 use std::io;
@@ -30,6 +30,7 @@ impl Write for Broken {
 pub(crate) struct Scripted<'a> {
     bytes: &'a [u8],
     fails: bool,
+    answered: u64,
     failed: bool,
 }
 
@@ -40,6 +41,7 @@ impl<'a> Scripted<'a> {
         Scripted {
             bytes,
             fails,
+            answered: 0,
             failed: false,
         }
     }
@@ -48,15 +50,24 @@ impl<'a> Scripted<'a> {
 impl Source for Scripted<'_> {
     ghost remaining = { λ s. Some s.bytes.now };
 
+    ghost read_count = { λ s. s.answered + (if s.failed then 1 else 0) };
+
     ghost has_failed = { λ s. s.failed };
 
     fn read(&mut self, buffer: &mut [u8]) -> Result<usize, Failed> {
+        let Some(answered) = self.answered.checked_add(1) else {
+            self.failed = true;
+            return Err(Failed);
+        };
         if self.bytes.is_empty() && self.fails {
             self.failed = true;
             return Err(Failed);
         }
         match self.bytes.read(buffer) {
-            Ok(count) => Ok(count),
+            Ok(count) => {
+                self.answered = answered;
+                Ok(count)
+            }
             Err(_) => {
                 self.failed = true;
                 Err(Failed)
@@ -69,18 +80,24 @@ impl Source for Scripted<'_> {
     }
 }
 
-/// Gives a section line first and then a line feed a call, for ever. It tells nothing, and counts its calls.
+/// Gives a section line first and then a line feed a call, as long as it can count its calls. It tells no bytes.
 #[derive(Drop)]
 pub(crate) struct Dripping {
-    calls: u32,
+    calls: u64,
+    failed: bool,
 }
 
 impl Dripping {
-    pub(crate) fn new() -> Dripping {
-        Dripping { calls: 0 }
+    pub(crate) fn new() -> Dripping
+        ensures { result.failed ≡ false }
+    {
+        Dripping {
+            calls: 0,
+            failed: false,
+        }
     }
 
-    pub(crate) fn calls(&self) -> u32 {
+    pub(crate) fn calls(&self) -> u64 {
         self.calls
     }
 }
@@ -88,15 +105,17 @@ impl Dripping {
 impl Source for Dripping {
     ghost remaining = { λ s. None };
 
-    ghost has_failed = { λ s. false };
+    ghost read_count = { λ s. s.calls + (if s.failed then 1 else 0) };
+
+    ghost has_failed = { λ s. s.failed };
 
     fn read(&mut self, buffer: &mut [u8]) -> Result<usize, Failed> {
-        self.calls = self.calls.saturating_add(1);
-        let text: &[u8] = if self.calls == 1 {
-            b"%catalogue\n"
-        } else {
-            b"\n"
+        let Some(calls) = self.calls.checked_add(1) else {
+            self.failed = true;
+            return Err(Failed);
         };
+        self.calls = calls;
+        let text: &[u8] = if calls == 1 { b"%catalogue\n" } else { b"\n" };
         if buffer.len() < text.len() {
             return Ok(0);
         }
@@ -105,7 +124,7 @@ impl Source for Dripping {
     }
 
     fn failed(&self) -> bool {
-        false
+        self.failed
     }
 }
 

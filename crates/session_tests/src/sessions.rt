@@ -69,7 +69,9 @@ fn a_writer_that_takes_nothing(rt: HostRuntime) -> Result<(), Fail> {
 }
 
 /// The code of the setup that is read in so many turns.
-fn code_after(alloc: Global, reader: &mut Dripping, turns: u64) -> Option<SetupCode> {
+fn code_after(alloc: Global, reader: &mut Dripping, turns: u64) -> Option<SetupCode>
+    requires { reader.old.failed ≡ false }
+{
     let mut lines = Lines::new(alloc, reader, turns).ok()?;
     match read_setup(alloc, &mut lines) {
         Ok(_) => None,

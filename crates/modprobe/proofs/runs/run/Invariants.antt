@@ -1,5 +1,6 @@
-use Rattle.std.proofs.Common.{◌≡◌, ℕ, List, false}
-use Rattle.modprobe.specs.Lines.{bytes_left, IsPaid, steps_left}
+use Rattle.std.proofs.Common.{◌≡◌, List, false}
+use Rattle.dep_index.specs.Text.{Line}
+use Rattle.modprobe.specs.Lines.{bytes_left, AllEnded, IsPaid, SpendsTurns, HasTrueEnd, steps_left}
 use Rattle.modprobe.specs.Run.{Answered}
 use Rattle.modprobe.proofs.runs.run.Given as goal
 
@@ -12,8 +13,11 @@ invariant-loop-session g l = record {
   same_setup : l.session.setup ≡ l.initial.session.setup;
   same_table : l.session.table.ghost_name ≡ l.initial.session.table.ghost_name;
   paid : IsPaid g.R.Source.remaining l.fn.lines l.lines;
-  answered : (done : List (List ℕ)) × Answered l.session.setup.now (g.M.Modules.table l.fn.table) (bytes_left g.R.Source.remaining l.fn.lines) (bytes_left g.R.Source.remaining l.lines)
-      (g.W.Sink.contents l.fn.writer) (g.W.Sink.contents l.writer) (g.M.Modules.table l.session.table.now) done;
+  counted : SpendsTurns g.R.Source.read_count l.fn.lines l.lines;
+  end : HasTrueEnd g.R.Source.remaining l.fn.lines → HasTrueEnd g.R.Source.remaining l.lines;
+  answered : (done : List Line) × Answered l.session.setup.now (g.M.Modules.table l.fn.table) (bytes_left g.R.Source.remaining l.fn.lines) (bytes_left g.R.Source.remaining l.lines)
+      (g.W.Sink.contents l.fn.writer) (g.W.Sink.contents l.writer) (g.M.Modules.table l.session.table.now) done
+      × (l.lines.at_end ≡ false → AllEnded done);
 }
 
 abbrev pub decreases-loop-session : goal.decreases-loop-session

@@ -2,9 +2,9 @@ use Rattle.std.proofs.Common.{◌≡◌, ◌∙◌, ap, true, Err}
 use Rattle.std.proofs.lemmas.Result.{err_from_is_err_and}
 use Rattle.dep_index.specs.Catalogue.{modules_of}
 use Rattle.dep_index.specs.Calls.{opening}
-use Rattle.modprobe.specs.Lines.{bytes_left}
+use Rattle.modprobe.specs.Lines.{bytes_left, hand_of}
 use Rattle.modprobe.specs.Serve.{opening_of}
-use Rattle.modprobe.proofs.ServeLemmas.{answers_input, stops_in_session}
+use Rattle.modprobe.proofs.ServeLemmas.{answers_input, stops_in_session, source_end}
 use Rattle.modprobe.specs.Run.{is_turns}
 use Rattle.modprobe.proofs.TurnLemmas.{turns_in_all, turns_fault}
 use Rattle.modprobe.proofs.service.serve_lines.Goals as goal
@@ -17,7 +17,7 @@ returns-in_err-run-clause-stands g c =
     let s = c.in_ok-setup.setup in
     let opens : c.in_ok-table.table.table ≡ opening_of s c.args.workers = c.in_ok-table.ensures.opens ∙ ap (λ ds. opening (modules_of ds) c.args.workers) c.catalogue.ensures in
     rw (p.1, p.2)
-    (stops_in_session c.args.workers c.in_err-run.field-0.0 (left c.args.lines.now) (left c.read_setup.new.lines) s c.in_ok-table.table.table (left after) (g.R.Source.remaining after.reader.now) after.line.items
+    (stops_in_session c.args.workers c.in_err-run.field-0.0 (left c.args.lines.now) (left c.read_setup.new.lines) s c.in_ok-table.table.table (hand_of g.R.Source.remaining after)
     (g.W.Sink.contents c.args.writer.now) (g.W.Sink.contents c.run.new.writer) _ c.in_ok-setup.ensures.setup opens c.in_err-run.ensures.stands)
 
 pub returns-in_err-run-clause-turns : goal.returns-in_err-run-clause-turns
@@ -26,7 +26,8 @@ returns-in_err-run-clause-turns g c =
     let fault = c.in_err-run.field-0.0 in
     λ ran_out.
     let is : is_turns fault ≡ true = rw (p.1, p.2) at ran_out in
-    turns_in_all g.R.Source.remaining c.args.lines.now c.read_setup.new.lines c.run.new.lines c.in_ok-setup.ensures.paid (c.in_err-run.ensures.turns (ap Err (turns_fault fault is)))
+    let stops = c.in_err-run.ensures.turns (ap Err (turns_fault fault is)) in
+    (stops.0, turns_in_all g.R.Source.remaining c.args.lines.now c.read_setup.new.lines c.run.new.lines c.in_ok-setup.ensures.paid stops)
 
 pub returns-clause-answered : goal.returns-clause-answered
 returns-clause-answered g c =
@@ -35,3 +36,9 @@ returns-clause-answered g c =
     let opens : c.in_ok-table.table.table ≡ opening_of s c.args.workers = c.in_ok-table.ensures.opens ∙ ap (λ ds. opening (modules_of ds) c.args.workers) c.catalogue.ensures in
     answers_input c.args.workers (left c.args.lines.now) (left c.read_setup.new.lines) s c.in_ok-table.table.table (g.W.Sink.contents c.args.writer.now) (g.W.Sink.contents c.run.new.writer)
     c.in_ok-setup.ensures.setup opens c.in_ok-run.ensures.answered c.in_ok-run.ensures.short
+
+pub returns-clause-all_read : goal.returns-clause-all_read
+returns-clause-all_read g c =
+    let after = c.run.new.lines in
+    λ at_start.
+    source_end after.at_end after.piece (g.R.Source.remaining after.reader.now) (c.in_ok-run.ensures.end (c.in_ok-setup.ensures.end at_start)) c.in_ok-run.ensures.all_read

@@ -1,4 +1,5 @@
-use Rattle.std.proofs.Common.{arith, rules, ◌<◌, length, refl, ◌∙◌}
+use Rattle.std.proofs.Common.{arith, rules, ◌≡◌, ◌<◌, false, length, refl, sym, ◌∙◌}
+use Rattle.std.proofs.lemmas.Bool.{true≢false}
 use Rattle.std.proofs.lemmas.Grind.{common_steps}
 use Rattle.std.specs.Str.Lines.{strip_carriage_return}
 use Rattle.modprobe.specs.Lines.{text_left, bytes_left, HasNoFeed}
@@ -11,7 +12,9 @@ returns-then-len-gt-LONGEST_LINE-clause-stopped g c =
     let text = text_left g.R.Source.remaining in
     let kept = keeps_trans (left c.args.self.now) (text c.loop-self.self) (text c.fetch.new.self) c.loop-self.invariant.text c.in_ok-fetch.ensures.fetched.text in
     let too_long : 65535 < length (strip_carriage_return c.take.new.self.line.items) = rw (← c.end_line.ensures.line) (omega arith) in
+    let still : c.fetch.new.self.at_end ≡ false = (c.in_ok-fetch.ensures.fetched.some (rw c.if-branch.true refl)).0 in
     stopped_at_long_line g.R.Source.remaining _ _
+    (c.loop-self.invariant.paid (c.in_ok-fetch.ensures.fetched.paid still).0).0
     (long_line (left c.args.self.now) (text c.fetch.new.self) (left c.take.new.self) c.take.new.self.line.items kept (c.in_ok-take.ensures.ended (rw c.if-branch-2.true refl)) c.in_ok-take.ensures.no_feed too_long)
 
 pub returns-else-len-gt-LONGEST_LINE-clause-gave : goal.returns-else-len-gt-LONGEST_LINE-clause-gave
@@ -21,6 +24,7 @@ returns-else-len-gt-LONGEST_LINE-clause-gave g c =
     let line = c.take.new.self.line.items in
     let kept = keeps_trans (left c.args.self.now) (text c.loop-self.self) (text c.fetch.new.self) c.loop-self.invariant.text c.in_ok-fetch.ensures.fetched.text in
     let ended = c.in_ok-take.ensures.ended (rw c.if-branch-2.true refl) in
+    let still : c.fetch.new.self.at_end ≡ false = (c.in_ok-fetch.ensures.fetched.some (rw c.if-branch.true refl)).0 in
     λ _. record {
       line = rw (c.end_line.ensures.line, c.end_line.ensures.left.0, c.end_line.ensures.left.1, c.end_line.ensures.source.0)
           (gives_line (left c.args.self.now) (text c.fetch.new.self) (left c.take.new.self) line kept ended c.in_ok-take.ensures.no_feed);
@@ -28,6 +32,8 @@ returns-else-len-gt-LONGEST_LINE-clause-gave g c =
           (gives_cut (left c.args.self.now) (text c.fetch.new.self) (left c.take.new.self) line kept ended c.in_ok-take.ensures.no_feed);
       raw = search rules;
       short = search rules;
+      going = (c.loop-self.invariant.paid (c.in_ok-fetch.ensures.fetched.paid still).0).0;
+      ended = λ _. c.end_line.ensures.some;
       paid = search rules;
       falls = search rules;
     }
@@ -40,7 +46,9 @@ returns-then-len-gt-LONGEST_LINE-2-clause-stopped g c =
     let fetched = c.in_ok-fetch.ensures.fetched in
     let kept = keeps_trans (left c.args.self.now) (text c.loop-self.self) (text s) c.loop-self.invariant.text fetched.text in
     let none : HasNoFeed s.line.items = rw fetched.line c.loop-self.invariant.no_feed in
+    let some : 0 < length s.line.items = omega arith in
     stopped_at_long_line g.R.Source.remaining _ _
+    (c.loop-self.invariant.paid (c.loop-self.invariant.some (rw fetched.line at some))).0
     (last_long_line (left c.args.self.now) (g.R.Source.remaining s.reader.now) s.line.items s.piece s.at_end (fetched.none (rw c.if-branch.false refl)) kept none (omega arith))
 
 pub returns-clause-gave : goal.returns-clause-gave
@@ -61,6 +69,8 @@ returns-clause-gave g c =
       cut = last_cut (left c.args.self.now) told s.line.items s.piece s.at_end s.ending ended absent kept none some;
       raw = raw_last (left c.args.self.now) told s.line.items s.piece s.at_end s.ending ended absent kept;
       short = search rules;
+      going = (c.loop-self.invariant.paid (c.loop-self.invariant.some (rw fetched.line at some))).0;
+      ended = λ still. absurd (true≢false (sym ended ∙ still));
       paid = search rules;
       falls = search rules;
     }
