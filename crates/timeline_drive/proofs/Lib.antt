@@ -1,2 +1,3 @@
 pub mod ReportLemmas
 pub mod ReadBack
+pub mod EscapeLemmas

@@ -1,5 +1,6 @@
 -- How bytes are shown in a picture.
-use Rattle.std.specs.Prelude.{◌≢◌, ℕ, nat_le, ◌&&◌, ◌==◌, if◌then◌else◌, List, [], ◌∷◌, flat_map, codes, All}
+use Rattle.std.specs.Prelude.{◌≡◌, ℕ, nat_le, Bool, true, not, ◌&&◌, ◌==◌, if◌then◌else◌, List, [], ◌∷◌, flat_map, codes}
+use Rattle.std.specs.List.{list_all}
 
 -- U+FFFD in UTF-8, which stands for what is no printed character of ASCII
 abbrev pub unknown : List ℕ
@@ -17,3 +18,11 @@ shown byte =
 
 abbrev pub escaped : List ℕ → List ℕ
 escaped text = flat_map shown text
+
+-- a byte that begins or ends no tag and no value of an attribute
+abbrev pub is_text : ℕ → Bool
+is_text byte = not (byte == 60) && not (byte == 62) && not (byte == 34) && not (byte == 39)
+
+-- whatever a text is, escaped it has no `<`, `>` or quote
+abbrev pub EscapesMarks : Type 0
+EscapesMarks = (text : List ℕ) → list_all is_text (escaped text) ≡ true

@@ -1,6 +1,6 @@
 //! The bands of an SVG.
 
-use super::marks::{push_bar, push_hair};
+use super::marks::{push_bar, push_hair, push_lead};
 use super::{LEFT, SCALE};
 use crate::bars::{Band, Tick};
 use crate::entries::Entry;
@@ -122,7 +122,9 @@ pub(crate) fn push_band(
     push_axis(page, band, axis, right)?;
     push_lanes(page, layout.lanes.threads(), &tops, right)?;
     for bar in &band.bars {
-        push_hair(page, bar, axis, tops.get(bar.lane).copied().unwrap_or(top))?;
+        let bar_top = tops.get(bar.lane).copied().unwrap_or(top);
+        push_hair(page, bar, axis, bar_top)?;
+        push_lead(page, bar, bar_top)?;
     }
     for bar in &band.bars {
         if let (Some(entry), Some(caption)) = (

@@ -101,25 +101,33 @@ fn push_inside(
     page.push_str("</text>")
 }
 
-/// Adds the text of a bar above it, and a line that leads to it.
+/// Where the text of a bar stands above it in a row.
+fn base(top: u32, row: u32) -> u32 {
+    top.saturating_sub(row.saturating_mul(ROW).saturating_add(5))
+}
+
+/// Adds the line that leads from a bar to its text above it. It is drawn before all texts, and passes behind them.
+pub(crate) fn push_lead(page: &mut String, bar: &Bar, top: u32) -> Result<(), AllocError> {
+    let Label::Above { row, .. } = bar.label else {
+        return Ok(());
+    };
+    let (x, upper) = (
+        SCALE.width(bar.from).saturating_add(LEFT + 3),
+        base(top, row).saturating_sub(8),
+    );
+    write!(page, "<path class=\"lead\" d=\"M{x} {top}V{upper}\"/>\n")
+}
+
+/// Adds the text of a bar above it.
 fn push_above(
     page: &mut String,
-    bar: &Bar,
     row: u32,
     at: u32,
     texts: (&[u8], &[u8]),
     top: u32,
 ) -> Result<(), AllocError> {
-    let (x, lead) = (
-        at.saturating_add(LEFT + 6),
-        SCALE.width(bar.from).saturating_add(LEFT + 3),
-    );
-    let base = top.saturating_sub(row.saturating_mul(ROW).saturating_add(5));
-    let upper = base.saturating_sub(8);
-    write!(
-        page,
-        "<path class=\"lead\" d=\"M{lead} {top}V{upper}\"/><text class=\"label\" x=\"{x}\" y=\"{base}\">"
-    )?;
+    let (x, base) = (at.saturating_add(LEFT + 6), base(top, row));
+    write!(page, "<text class=\"label\" x=\"{x}\" y=\"{base}\">")?;
     push_escaped(page, texts.0)?;
     page.push_str(": <tspan class=\"reply\">")?;
     push_escaped(page, texts.1)?;
@@ -160,7 +168,7 @@ pub(crate) fn push_bar(
     match bar.label {
         Label::Hidden => {}
         Label::Inside { letters } => push_inside(page, bar, letters, texts, top)?,
-        Label::Above { row, at, .. } => push_above(page, bar, row, at, texts, top)?,
+        Label::Above { row, at, .. } => push_above(page, row, at, texts, top)?,
     }
     push_mark(page, bar, entry, top)?;
     page.push_str("</g>\n")
