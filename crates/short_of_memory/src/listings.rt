@@ -2,14 +2,14 @@
 ghost use Rattle.std.specs.Prelude.{◌≡◌, IfOk};
 ghost use Rattle.dep_index.specs.Catalogue.{modules_of};
 
-use crate::outcome::{Stop, agree, needed, stop_at, tell};
-use crate::sound::{OverSound, try_over_sound};
+use crate::outcome::{Stop, needed, over, stop_at, tell};
+use crate::sound::sound;
 use dep_index::{Catalogue, Name};
 use proc_modules::{
     Line, LineError, LineState, Names, lsmod_text, modinfo_text, proc_text, read_line, write_line,
 };
 use seq_table::{Modules, Table};
-use std::alloc::{AllocError, Global};
+use std::alloc::Global;
 
 impl From<LineError> for Stop {
     fn from(fault: LineError) -> Stop {
@@ -34,34 +34,25 @@ depends:        snd
 parm:           debug:bool
 ";
 
-fn try_read_line(alloc: Global) -> Result<(), Stop> {
-    let (line, used) = read_line(alloc, LINE)?;
-    agree(used == 46 && is_sound(&line))
-}
-
-fn is_sound(line: &Line) -> bool {
-    line.name.as_bytes() == b"snd".as_slice()
+fn is_sound((line, used): (Line, usize)) -> bool {
+    used == 46
+        && line.name.as_bytes() == b"snd".as_slice()
         && line.size == 114_688
         && line.count == 1
         && line.users.as_slice().len() == 1
         && line.state == LineState::Live
 }
 
-fn try_write_line(alloc: Global) -> Result<(), Stop> {
+fn write_sound(alloc: Global) -> Result<Vec<u8>, Stop> {
     let (line, _) = needed(read_line(alloc, LINE))?;
-    try_write(alloc, &line)
+    Ok(write_line(alloc, &line)?)
 }
 
-fn try_write(alloc: Global, line: &Line) -> Result<(), Stop> {
-    let text = write_line(alloc, line)?;
-    agree(text.as_slice() == LINE)
-}
-
-fn try_names(alloc: Global) -> Result<(), Stop> {
+fn push_name(alloc: Global) -> Result<Names, Stop> {
     let name = needed(Name::new(alloc, b"snd"))?;
     let mut names = Names::new(alloc);
     names.push(name)?;
-    agree(names.as_slice().len() == 1)
+    Ok(names)
 }
 
 fn load(table: &mut Table, slot: usize)
@@ -74,65 +65,47 @@ fn load(table: &mut Table, slot: usize)
 }
 
 /// A table in which both modules are live.
-fn loaded(alloc: Global, catalogue: &Catalogue) -> Result<Table, AllocError>
+fn loaded(alloc: Global, catalogue: &Catalogue) -> Result<Table, Stop>
     ensures { IfOk result (λ table. table.catalogue ≡ modules_of catalogue.now) }
 {
-    let mut table = Table::new(alloc, catalogue, 1)?;
+    let mut table = needed(Table::new(alloc, catalogue, 1))?;
     load(&mut table, 0);
     load(&mut table, 1);
     Ok(table)
 }
 
-pub fn try_proc(alloc: Global, catalogue: &Catalogue) -> Result<(), Stop> {
-    let Ok(table) = loaded(alloc, catalogue) else {
-        return Err(Stop::NotMade);
-    };
-    is_proc(alloc, catalogue, &table)
+fn lines_of(alloc: Global, catalogue: &Catalogue) -> Result<Vec<u8>, Stop> {
+    let table = loaded(alloc, catalogue)?;
+    Ok(proc_text(alloc, catalogue, &table)?)
 }
 
-fn is_proc(alloc: Global, catalogue: &Catalogue, table: &Table) -> Result<(), Stop>
-    requires { table.now.catalogue ≡ modules_of catalogue.now }
-{
-    let text = proc_text(alloc, catalogue, table)?;
-    agree(text.as_slice() == LISTING)
+fn columns_of(alloc: Global, catalogue: &Catalogue) -> Result<Vec<u8>, Stop> {
+    let table = loaded(alloc, catalogue)?;
+    Ok(lsmod_text(alloc, catalogue, &table)?)
 }
 
-pub fn try_lsmod(alloc: Global, catalogue: &Catalogue) -> Result<(), Stop> {
-    let Ok(table) = loaded(alloc, catalogue) else {
-        return Err(Stop::NotMade);
-    };
-    is_lsmod(alloc, catalogue, &table)
-}
-
-fn is_lsmod(alloc: Global, catalogue: &Catalogue, table: &Table) -> Result<(), Stop>
-    requires { table.now.catalogue ≡ modules_of catalogue.now }
-{
-    let text = lsmod_text(alloc, catalogue, table)?;
-    agree(text.as_slice() == COLUMNS)
-}
-
-pub fn try_modinfo(alloc: Global, catalogue: &Catalogue) -> Result<(), Stop> {
+fn details_of(alloc: Global, catalogue: &Catalogue) -> Result<Vec<u8>, Stop> {
     if catalogue.len() != 2 {
         return Err(Stop::Wrong);
     }
-    let text = modinfo_text(alloc, catalogue, 1)?;
-    agree(text.as_slice() == DETAILS)
+    Ok(modinfo_text(alloc, catalogue, 1)?)
 }
 
 pub fn try_calls<R: Print + AllocGlobal>(rt: &R) -> anyhow::Result<()> {
     let alloc = rt.alloc();
-    tell(rt, "read_line", try_read_line(alloc))?;
-    tell(rt, "write_line", try_write_line(alloc))?;
-    tell(rt, "Names::push", try_names(alloc))?;
-    tell(rt, "proc_text", try_over_sound(alloc, OverSound::ProcText))?;
-    tell(
-        rt,
-        "lsmod_text",
-        try_over_sound(alloc, OverSound::LsmodText),
-    )?;
-    tell(
-        rt,
-        "modinfo_text",
-        try_over_sound(alloc, OverSound::ModinfoText),
-    )
+    tell(rt, "read_line", read_line(alloc, LINE).map(is_sound))?;
+    let line = write_sound(alloc);
+    tell(rt, "write_line", line.map(|line| line.as_slice() == LINE))?;
+    let names = push_name(alloc);
+    let is_right = names.map(|names| names.as_slice().len() == 1);
+    tell(rt, "Names::push", is_right)?;
+    let lines = over(sound(alloc), |catalogue| lines_of(alloc, catalogue));
+    let is_right = lines.map(|text| text.as_slice() == LISTING);
+    tell(rt, "proc_text", is_right)?;
+    let columns = over(sound(alloc), |catalogue| columns_of(alloc, catalogue));
+    let is_right = columns.map(|text| text.as_slice() == COLUMNS);
+    tell(rt, "lsmod_text", is_right)?;
+    let details = over(sound(alloc), |catalogue| details_of(alloc, catalogue));
+    let is_right = details.map(|text| text.as_slice() == DETAILS);
+    tell(rt, "modinfo_text", is_right)
 }

@@ -1,5 +1,5 @@
 //! What came of a call.
-ghost use Rattle.std.specs.Prelude.{◌↔◌, IsTrue, is_ok};
+ghost use Rattle.std.specs.Prelude.{◌≡◌, IfOk, Ok};
 
 use anyhow::bail;
 use dep_index::Name;
@@ -32,15 +32,27 @@ pub fn stop_at(is_memory: bool) -> Stop {
 }
 
 /// What a call needs, made before it.
-pub fn needed<T, E: Drop>(made: Result<T, E>) -> Result<T, Stop> {
-    made.map_err(|_| Stop::NotMade)
+pub fn needed<T, E: Drop>(made: Result<T, E>) -> Result<T, Stop>
+    ensures { IfOk result (λ value. made ≡ Ok value) }
+{
+    match made {
+        Ok(value) => Ok(value),
+        Err(_) => Err(Stop::NotMade),
+    }
 }
 
-/// Ok exactly where the answer is the example's.
-pub fn agree(is_same: bool) -> Result<(), Stop>
-    ensures { IsTrue (is_ok result) ↔ IsTrue is_same }
+/// The answer of a call over what it needs.
+pub fn over<N: Drop, T, E: Into<Stop>, F: FnOnce(&N) -> Result<T, E>>(
+    needed: Result<N, Stop>,
+    call: F,
+) -> Result<T, Stop>
+    requires { F.IsAlwaysCallable call }
 {
-    if is_same { Ok(()) } else { Err(Stop::Wrong) }
+    let needed = needed?;
+    match call(&needed) {
+        Ok(answer) => Ok(answer),
+        Err(error) => Err(error.into()),
+    }
 }
 
 /// Whether these are the names, in order.
@@ -56,13 +68,22 @@ pub fn are_names(names: &[Name], wanted: &[&[u8]]) -> bool {
     true
 }
 
-/// Prints what came of the call.
-pub fn tell<R: Print>(rt: &R, call: &str, outcome: Result<(), Stop>) -> anyhow::Result<()> {
-    match outcome {
-        Ok(()) => println!(rt; "{call}: ok")?,
-        Err(Stop::NoMemory) => println!(rt; "{call}: no memory")?,
-        Err(Stop::NotMade) => println!(rt; "{call}: not made")?,
-        Err(Stop::Wrong) => bail!("{call}: another answer"),
+/// Prints what came of the call: whether its answer is its example's.
+pub fn tell<R: Print, E: Into<Stop>>(
+    rt: &R,
+    call: &str,
+    answer: Result<bool, E>,
+) -> anyhow::Result<()> {
+    let stop = match answer {
+        Ok(true) => None,
+        Ok(false) => Some(Stop::Wrong),
+        Err(error) => Some(error.into()),
+    };
+    match stop {
+        None => println!(rt; "{call}: ok")?,
+        Some(Stop::NoMemory) => println!(rt; "{call}: no memory")?,
+        Some(Stop::NotMade) => println!(rt; "{call}: not made")?,
+        Some(Stop::Wrong) => bail!("{call}: another answer"),
     }
     Ok(())
 }

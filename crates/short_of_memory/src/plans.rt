@@ -1,6 +1,6 @@
 //! Look-ups of names, plans and removal plans, and their refusals.
 
-use crate::outcome::{Stop, agree, are_names, needed, stop_at, tell};
+use crate::outcome::{Stop, are_names, needed, stop_at, tell};
 use crate::settings::CONFIGURATION;
 use crate::sound::SOUND;
 use alias_match::{Aliases, read_aliases};
@@ -82,30 +82,7 @@ const PAIR: Texts = Texts {
     conf: b"remove snd /bin/true\n",
 };
 
-/// A call over such texts.
-#[derive(Clone, Copy)]
-enum Call {
-    Find,
-    Plan,
-    Cycle,
-    InstallLine,
-    Unknown,
-    Removal(&'static [u8]),
-    RemoveLine,
-    PlanOfUser,
-}
-
-const CALLS: [(&str, Texts, Call); 9] = [
-    ("find", ALIASED, Call::Find),
-    ("plan", SOFT, Call::Plan),
-    ("plan of a cycle", CIRCLE, Call::Cycle),
-    ("plan at an install line", INSTALLED, Call::InstallLine),
-    ("plan without a module", UNKNOWN, Call::Unknown),
-    ("removal_plan", PAIR, Call::Removal(b"snd-pcm")),
-    ("removal_plan at a remove line", PAIR, Call::RemoveLine),
-    ("plan of a user", USER, Call::PlanOfUser),
-    ("removal_plan of a user", USER, Call::Removal(b"b")),
-];
+const WORDS: [&[u8]; 1] = [b"level=4"];
 
 fn read_inputs(alloc: Global, texts: &Texts) -> Result<Inputs, Stop> {
     Ok(Inputs {
@@ -115,129 +92,124 @@ fn read_inputs(alloc: Global, texts: &Texts) -> Result<Inputs, Stop> {
     })
 }
 
-/// Makes what the call needs, and then the call.
-fn try_call(alloc: Global, texts: &Texts, call: Call) -> Result<(), Stop> {
+/// Makes what the call needs, and then the call. Whether it answers what it is to.
+fn over_texts<F: FnOnce(&Sources<'_>) -> Result<bool, Stop>>(
+    alloc: Global,
+    texts: &Texts,
+    call: F,
+) -> Result<bool, Stop>
+    requires { F.IsAlwaysCallable call }
+{
     let inputs = read_inputs(alloc, texts)?;
-    try_over(alloc, call, &inputs)
-}
-
-fn try_over(alloc: Global, call: Call, inputs: &Inputs) -> Result<(), Stop> {
-    let sources = Sources {
+    call(&Sources {
         catalogue: &inputs.catalogue,
         dependencies: &inputs.dependencies,
         configuration: &inputs.configuration,
-    };
-    try_from(alloc, call, &sources)
+    })
 }
 
-fn try_from(alloc: Global, call: Call, sources: &Sources) -> Result<(), Stop> {
-    match call {
-        Call::Find => try_find(alloc, sources),
-        Call::Plan => try_plan(alloc, sources),
-        Call::Cycle => try_cycle(alloc, sources),
-        Call::InstallLine => try_install_line(alloc, sources),
-        Call::Unknown => try_unknown(alloc, sources),
-        Call::Removal(user) => try_removal(alloc, user, sources),
-        Call::RemoveLine => try_remove_line(alloc, sources),
-        Call::PlanOfUser => try_plan_of_user(alloc, sources),
-    }
-}
-
-fn try_find(alloc: Global, sources: &Sources) -> Result<(), Stop> {
+fn try_find(alloc: Global, sources: &Sources) -> Result<bool, Stop> {
     let aliases = needed(read_aliases(alloc, b"alias usb:v[0-9A-F]*p?? usbx\n"))?;
-    try_find_in(alloc, sources, &aliases)
-}
-
-fn try_find_in(alloc: Global, sources: &Sources, aliases: &Aliases) -> Result<(), Stop> {
     let found = find(
         alloc,
         b"usb:v0pp12",
         sources.catalogue,
         sources.configuration,
-        aliases,
+        &aliases,
     )?;
-    agree(are_names(&found, &[b"usbx"]))
+    Ok(are_names(&found, &[b"usbx"]))
 }
 
-fn is_item(item: Option<&Item<'_>>, slot: usize, soft: bool, words: &[&[u8]]) -> bool {
-    match item {
-        None => false,
-        Some(item) => item.slot == slot && item.soft == soft && item.options.words() == words,
-    }
+fn is_item(item: &Item<'_>, slot: usize, soft: bool, words: &[&[u8]]) -> bool {
+    item.slot == slot && item.soft == soft && item.options.words() == words
 }
 
-const WORDS: [&[u8]; 1] = [b"level=4"];
-
-fn try_plan(alloc: Global, sources: &Sources) -> Result<(), Stop> {
+fn try_plan(alloc: Global, sources: &Sources) -> Result<bool, Stop> {
     let items = plan(alloc, b"c", &WORDS, sources)?;
-    agree(are_items(&items))
+    Ok(match items.as_slice() {
+        [before, module, first, second] => {
+            is_item(before, 0, true, &[])
+                && is_item(module, 1, false, &[b"debug=1", b"level=4"])
+                && is_item(first, 2, true, &[])
+                && is_item(second, 3, true, &[])
+        }
+        _ => false,
+    })
 }
 
 /// The user behind what it needs; soft items that are not there are passed over.
-fn try_plan_of_user(alloc: Global, sources: &Sources) -> Result<(), Stop> {
+fn try_plan_of_user(alloc: Global, sources: &Sources) -> Result<bool, Stop> {
     let items = plan(alloc, b"b", &WORDS, sources)?;
-    agree(
-        items.len() == 2
-            && is_item(items.get(0), 0, false, &[])
-            && is_item(items.get(1), 1, false, &WORDS),
-    )
-}
-
-fn are_items(items: &[Item<'_>]) -> bool {
-    items.len() == 4
-        && is_item(items.get(0), 0, true, &[])
-        && is_item(items.get(1), 1, false, &[b"debug=1", b"level=4"])
-        && is_item(items.get(2), 2, true, &[])
-        && is_item(items.get(3), 3, true, &[])
-}
-
-/// The refusal of a plan.
-fn refusal(alloc: Global, name: &[u8], sources: &Sources) -> Result<PlanError, Stop> {
-    match plan(alloc, name, &[], sources) {
-        Err(PlanError::Memory) => Err(Stop::NoMemory),
-        Err(refusal) => Ok(refusal),
-        Ok(_) => Err(Stop::Wrong),
-    }
-}
-
-fn try_cycle(alloc: Global, sources: &Sources) -> Result<(), Stop> {
-    match refusal(alloc, b"a", sources)? {
-        PlanError::Cycle(name) => agree(name.as_bytes() == b"a".as_slice()),
-        _ => Err(Stop::Wrong),
-    }
-}
-
-fn try_install_line(alloc: Global, sources: &Sources) -> Result<(), Stop> {
-    match refusal(alloc, b"x", sources)? {
-        PlanError::Install(name) => agree(name.as_bytes() == b"x".as_slice()),
-        _ => Err(Stop::Wrong),
-    }
-}
-
-fn try_unknown(alloc: Global, sources: &Sources) -> Result<(), Stop> {
-    match refusal(alloc, b"a", sources)? {
-        PlanError::Unknown(name) => agree(name.as_bytes() == b"no_such".as_slice()),
-        _ => Err(Stop::Wrong),
-    }
+    Ok(match items.as_slice() {
+        [need, user] => is_item(need, 0, false, &[]) && is_item(user, 1, false, &WORDS),
+        _ => false,
+    })
 }
 
 /// The user is in slot 1, and needs slot 0.
-fn try_removal(alloc: Global, user: &[u8], sources: &Sources) -> Result<(), Stop> {
+fn try_removal(alloc: Global, user: &[u8], sources: &Sources) -> Result<bool, Stop> {
     let order = removal_plan(alloc, user, sources)?;
-    agree(order.as_slice() == [1, 0].as_slice())
+    Ok(order.as_slice() == [1, 0].as_slice())
 }
 
-fn try_remove_line(alloc: Global, sources: &Sources) -> Result<(), Stop> {
-    match removal_plan(alloc, b"snd", sources) {
-        Err(PlanError::Memory) => Err(Stop::NoMemory),
-        Err(PlanError::Remove(name)) => agree(name.as_bytes() == b"snd".as_slice()),
-        _ => Err(Stop::Wrong),
-    }
+/// Whether there is no plan for this cause, at the module of this name.
+fn is_refused(error: Option<PlanError>, cause: &str, name: &[u8]) -> Result<bool, Stop> {
+    let Some(error) = error else {
+        return Ok(false);
+    };
+    let (own_cause, own_name) = match &error {
+        PlanError::Memory => return Err(Stop::NoMemory),
+        PlanError::Cycle(name) => ("cycle", name),
+        PlanError::Install(name) => ("install line", name),
+        PlanError::Unknown(name) => ("unknown", name),
+        PlanError::Remove(name) => ("remove line", name),
+    };
+    Ok(own_cause == cause && own_name.as_bytes() == name)
+}
+
+fn try_plans<R: Print + AllocGlobal>(rt: &R) -> anyhow::Result<()> {
+    let alloc = rt.alloc();
+    let found = over_texts(alloc, &ALIASED, |sources| try_find(alloc, sources));
+    tell(rt, "find", found)?;
+    let planned = over_texts(alloc, &SOFT, |sources| try_plan(alloc, sources));
+    tell(rt, "plan", planned)?;
+    let refused = over_texts(alloc, &CIRCLE, |sources| {
+        is_refused(plan(alloc, b"a", &[], sources).err(), "cycle", b"a")
+    });
+    tell(rt, "plan of a cycle", refused)?;
+    let refused = over_texts(alloc, &INSTALLED, |sources| {
+        is_refused(plan(alloc, b"x", &[], sources).err(), "install line", b"x")
+    });
+    tell(rt, "plan at an install line", refused)?;
+    let refused = over_texts(alloc, &UNKNOWN, |sources| {
+        is_refused(plan(alloc, b"a", &[], sources).err(), "unknown", b"no_such")
+    });
+    tell(rt, "plan without a module", refused)
+}
+
+fn try_removals<R: Print + AllocGlobal>(rt: &R) -> anyhow::Result<()> {
+    let alloc = rt.alloc();
+    let planned = over_texts(
+        alloc,
+        &PAIR,
+        |sources| try_removal(alloc, b"snd-pcm", sources),
+    );
+    tell(rt, "removal_plan", planned)?;
+    let refused = over_texts(alloc, &PAIR, |sources| {
+        is_refused(
+            removal_plan(alloc, b"snd", sources).err(),
+            "remove line",
+            b"snd",
+        )
+    });
+    tell(rt, "removal_plan at a remove line", refused)?;
+    let planned = over_texts(alloc, &USER, |sources| try_plan_of_user(alloc, sources));
+    tell(rt, "plan of a user", planned)?;
+    let planned = over_texts(alloc, &USER, |sources| try_removal(alloc, b"b", sources));
+    tell(rt, "removal_plan of a user", planned)
 }
 
 pub fn try_calls<R: Print + AllocGlobal>(rt: &R) -> anyhow::Result<()> {
-    for (name, texts, call) in &CALLS {
-        tell(rt, name, try_call(rt.alloc(), texts, *call))?;
-    }
-    Ok(())
+    try_plans(rt)?;
+    try_removals(rt)
 }

@@ -1,10 +1,9 @@
 //! The points of a schedule, their checker, and the intervals of its calls.
 
-use crate::outcome::{Stop, agree, stop_at, tell};
-use crate::sound::{OverSound, try_over_sound};
-use dep_index::{Call, Catalogue, Reply};
+use crate::outcome::{Stop, over, stop_at, tell};
+use crate::sound::sound;
+use dep_index::{Call, Reply};
 use linear_points::{End, Interval, Point, PointsError, call_intervals, check_points, points};
-use std::alloc::Global;
 use step_core::Step;
 
 impl From<PointsError> for Stop {
@@ -71,41 +70,21 @@ const GET: Interval = Interval {
     }),
 };
 
-pub fn try_points(alloc: Global, catalogue: &Catalogue) -> Result<(), Stop> {
-    let found = points(alloc, catalogue, 2, 2, &STEPS)?;
-    agree(found.as_slice() == POINTS.as_slice())
-}
-
-pub fn try_check(alloc: Global, catalogue: &Catalogue) -> Result<(), Stop> {
-    agree(check_points(alloc, catalogue, 2, 2, &STEPS, &POINTS)?)
-}
-
-pub fn try_check_of_three(alloc: Global, catalogue: &Catalogue) -> Result<(), Stop> {
-    let is_linear = check_points(alloc, catalogue, 2, 2, &STEPS, &POINTS[..3])?;
-    agree(!is_linear)
-}
-
-pub fn try_intervals(alloc: Global, catalogue: &Catalogue) -> Result<(), Stop> {
-    let calls = call_intervals(alloc, catalogue, 2, 2, &STEPS)?;
-    agree(calls.len() == 4 && calls.get(2) == Some(&GET))
-}
-
 pub fn try_calls<R: Print + AllocGlobal>(rt: &R) -> anyhow::Result<()> {
     let alloc = rt.alloc();
-    tell(rt, "points", try_over_sound(alloc, OverSound::Points))?;
-    tell(
-        rt,
-        "check_points",
-        try_over_sound(alloc, OverSound::CheckPoints),
-    )?;
-    tell(
-        rt,
-        "check_points of too few",
-        try_over_sound(alloc, OverSound::CheckOfThree),
-    )?;
-    tell(
-        rt,
-        "call_intervals",
-        try_over_sound(alloc, OverSound::CallIntervals),
-    )
+    let found = over(sound(alloc), |it| points(alloc, it, 2, 2, &STEPS));
+    let is_right = found.map(|found| found.as_slice() == POINTS.as_slice());
+    tell(rt, "points", is_right)?;
+    let is_linear = over(sound(alloc), |it| {
+        check_points(alloc, it, 2, 2, &STEPS, &POINTS)
+    });
+    tell(rt, "check_points", is_linear)?;
+    let is_linear = over(sound(alloc), |it| {
+        check_points(alloc, it, 2, 2, &STEPS, &POINTS[..3])
+    });
+    let is_right = is_linear.map(|is_linear| !is_linear);
+    tell(rt, "check_points of too few", is_right)?;
+    let calls = over(sound(alloc), |it| call_intervals(alloc, it, 2, 2, &STEPS));
+    let is_right = calls.map(|calls| calls.len() == 4 && calls.get(2) == Some(&GET));
+    tell(rt, "call_intervals", is_right)
 }

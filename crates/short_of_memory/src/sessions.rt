@@ -1,7 +1,7 @@
 //! Lines, sections and sessions: where memory is wanting, what was written is the beginning of the answer.
 ghost use Rattle.std.specs.Prelude.{◌≡◌, false, None};
 
-use crate::outcome::{Stop, agree, stop_at, tell};
+use crate::outcome::{Stop, needed, stop_at, tell};
 use modprobe::{
     Failed, FromRead, LineFault, Lines, RunFault, ServeFault, Setup, SetupCode, SetupFault, Sink,
     Source, read_setup, run, serve,
@@ -153,19 +153,19 @@ parm:           debug:bool
 ok
 ";
 
-/// What a session came to that wrote this.
-fn judge(stopped: Option<Stop>, written: &[u8]) -> Result<(), Stop> {
-    match stopped {
-        None => agree(written == ANSWER),
-        Some(stop) if ANSWER.starts_with(written) => Err(stop),
-        Some(_) => Err(Stop::Wrong),
+/// Whether a session wrote its answer; where it stopped, it wrote the beginning of it.
+fn judge<E: Into<Stop> + Drop>(ended: Result<(), E>, written: &[u8]) -> Result<bool, Stop> {
+    match ended {
+        Ok(()) => Ok(written == ANSWER),
+        Err(fault) if ANSWER.starts_with(written) => Err(fault.into()),
+        Err(_) => Ok(false),
     }
 }
 
-fn try_lines(alloc: Global) -> Result<(), Stop> {
+fn try_lines(alloc: Global) -> Result<bool, Stop> {
     let mut reader = FromRead::new(b"insmod snd\nquery".as_slice());
     let mut lines = Lines::new(alloc, &mut reader, 9)?;
-    agree(are_both(&mut lines)?)
+    Ok(are_both(&mut lines)?)
 }
 
 /// Whether these are the two lines and no other.
@@ -177,30 +177,20 @@ fn are_both<R: Source>(lines: &mut Lines<'_, R>) -> Result<bool, LineFault>
     Ok(is_first && is_last && !lines.next_line()?)
 }
 
-fn try_setup(alloc: Global) -> Result<(), Stop> {
+fn try_setup(alloc: Global) -> Result<bool, Stop> {
     let mut reader = FromRead::new(INPUT);
-    let Ok(mut lines) = Lines::new(alloc, &mut reader, 9) else {
-        return Err(Stop::NotMade);
-    };
-    try_setup_of(alloc, &mut lines)
+    let mut lines = needed(Lines::new(alloc, &mut reader, 9))?;
+    let setup = read_setup(alloc, &mut lines)?;
+    Ok(setup.catalogue().len() == 2)
 }
 
-fn try_setup_of<R: Source>(alloc: Global, lines: &mut Lines<'_, R>) -> Result<(), Stop>
-    requires { R.has_failed lines.old.reader.now ≡ false }
-{
-    let setup = read_setup(alloc, lines)?;
-    agree(setup.catalogue().len() == 2)
-}
-
-fn try_run(alloc: Global) -> Result<(), Stop> {
+fn try_run(alloc: Global) -> Result<bool, Stop> {
     let mut reader = FromRead::new(INPUT);
-    let Ok(mut lines) = Lines::new(alloc, &mut reader, 9) else {
-        return Err(Stop::NotMade);
-    };
+    let mut lines = needed(Lines::new(alloc, &mut reader, 9))?;
     try_run_of(alloc, &mut lines)
 }
 
-fn try_run_of<R: Source>(alloc: Global, lines: &mut Lines<'_, R>) -> Result<(), Stop>
+fn try_run_of<R: Source>(alloc: Global, lines: &mut Lines<'_, R>) -> Result<bool, Stop>
     requires { R.has_failed lines.old.reader.now ≡ false }
 {
     let Ok(setup) = read_setup(alloc, lines) else {
@@ -213,26 +203,20 @@ fn try_session<R: Source>(
     alloc: Global,
     setup: &Setup,
     lines: &mut Lines<'_, R>,
-) -> Result<(), Stop>
+) -> Result<bool, Stop>
     requires { R.has_failed lines.old.reader.now ≡ false }
 {
-    let Ok(mut table) = Table::new(alloc, setup.catalogue(), 1) else {
-        return Err(Stop::NotMade);
-    };
+    let mut table = needed(Table::new(alloc, setup.catalogue(), 1))?;
     let mut writer = Paper::new();
-    let stopped = run(alloc, setup, lines, &mut writer, &mut table)
-        .err()
-        .map(Stop::from);
-    judge(stopped, writer.text())
+    let ended = run(alloc, setup, lines, &mut writer, &mut table);
+    judge(ended, writer.text())
 }
 
-fn try_serve(alloc: Global) -> Result<(), Stop> {
+fn try_serve(alloc: Global) -> Result<bool, Stop> {
     let mut reader = FromRead::new(INPUT);
     let mut writer = Paper::new();
-    let stopped = serve(alloc, 1, &mut reader, &mut writer)
-        .err()
-        .map(Stop::from);
-    judge(stopped, writer.text())
+    let ended = serve(alloc, 1, &mut reader, &mut writer);
+    judge(ended, writer.text())
 }
 
 pub fn try_calls<R: Print + AllocGlobal>(rt: &R) -> anyhow::Result<()> {

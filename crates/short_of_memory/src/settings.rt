@@ -1,10 +1,13 @@
 //! Names, words, patterns, aliases and configurations.
 
-use crate::outcome::{Stop, agree, are_names, stop_at, tell};
+use crate::outcome::{Stop, are_names, stop_at, tell};
 use alias_match::{Alias, Aliases, Pattern, PatternError, read_aliases};
 use dep_index::{Name, text};
 use modprobe_conf::{Conf, Word, read_conf};
-use std::alloc::Global;
+
+const WORDS: [&[u8]; 2] = [b"a", b"bc"];
+
+const ALIAS: [&[u8]; 3] = [b"alias", b"usb:v*", b"snd-pcm"];
 
 const ALIASES: &[u8] = b"alias usb:v[0-9A-F]*p?? usbx
 options q r
@@ -25,37 +28,13 @@ impl From<PatternError> for Stop {
     }
 }
 
-fn try_name(alloc: Global) -> Result<(), Stop> {
-    let name = Name::new(alloc, b"snd-pcm")?;
-    agree(name.as_bytes() == b"snd_pcm".as_slice())
-}
-
-fn try_words(alloc: Global) -> Result<(), Stop> {
-    let words = text::words(alloc, b" a\tbc ")?;
-    agree(words.as_slice() == [b"a".as_slice(), b"bc".as_slice()].as_slice())
-}
-
-fn try_pattern(alloc: Global) -> Result<(), Stop> {
-    let pattern = Pattern::read(alloc, b"usb:v[0-9A-F]*p??")?;
-    agree(pattern.matches(b"usb:v0Ap12") && !pattern.matches(b"usb:vGp12"))
-}
-
-const ALIAS: [&[u8]; 3] = [b"alias", b"usb:v*", b"snd-pcm"];
-
-fn try_alias(alloc: Global) -> Result<(), Stop> {
-    match Alias::read(alloc, &ALIAS)? {
-        None => Err(Stop::Wrong),
-        Some(alias) => agree(is_alias(&alias)),
+fn is_alias(alias: Option<Alias>) -> bool {
+    match alias {
+        None => false,
+        Some(alias) => {
+            alias.pattern.matches(b"usb:v0") && alias.target.as_bytes() == b"snd_pcm".as_slice()
+        }
     }
-}
-
-fn is_alias(alias: &Alias) -> bool {
-    alias.pattern.matches(b"usb:v0") && alias.target.as_bytes() == b"snd_pcm".as_slice()
-}
-
-fn try_read_aliases(alloc: Global) -> Result<(), Stop> {
-    let aliases = read_aliases(alloc, ALIASES)?;
-    agree(are_aliases(&aliases))
 }
 
 fn are_aliases(aliases: &Aliases) -> bool {
@@ -66,21 +45,14 @@ fn are_aliases(aliases: &Aliases) -> bool {
         && aliases.skipped() == [2].as_slice()
 }
 
-fn try_word(alloc: Global) -> Result<(), Stop> {
-    let word = Word::new(alloc, b"debug=1")?;
-    agree(word.as_bytes() == b"debug=1".as_slice())
-}
-
-fn are_words(words: &[Word], wanted: &[&[u8]]) -> bool {
-    if words.len() != wanted.len() {
-        return false;
-    }
-    for (word, own) in words.iter().zip(wanted) {
-        if word.as_bytes() != *own {
-            return false;
+/// Whether these are the two words that the configuration has for the module.
+fn are_options(words: &[Word]) -> bool {
+    match words {
+        [debug, level] => {
+            debug.as_bytes() == b"debug=1".as_slice() && level.as_bytes() == b"level=3".as_slice()
         }
+        _ => false,
     }
-    true
 }
 
 fn has_softdep(conf: &Conf) -> bool {
@@ -90,13 +62,8 @@ fn has_softdep(conf: &Conf) -> bool {
     }
 }
 
-fn try_read_conf(alloc: Global) -> Result<(), Stop> {
-    let conf = read_conf(alloc, CONFIGURATION)?;
-    agree(is_conf(&conf))
-}
-
 fn is_conf(conf: &Conf) -> bool {
-    are_words(conf.options(b"y"), &[b"debug=1", b"level=3"])
+    are_options(conf.options(b"y"))
         && has_softdep(conf)
         && conf.install_line(b"x")
         && conf.blacklisted(b"w")
@@ -107,11 +74,22 @@ fn is_conf(conf: &Conf) -> bool {
 
 pub fn try_calls<R: Print + AllocGlobal>(rt: &R) -> anyhow::Result<()> {
     let alloc = rt.alloc();
-    tell(rt, "Name::new", try_name(alloc))?;
-    tell(rt, "words", try_words(alloc))?;
-    tell(rt, "Pattern::read", try_pattern(alloc))?;
-    tell(rt, "Alias::read", try_alias(alloc))?;
-    tell(rt, "read_aliases", try_read_aliases(alloc))?;
-    tell(rt, "Word::new", try_word(alloc))?;
-    tell(rt, "read_conf", try_read_conf(alloc))
+    let name = Name::new(alloc, b"snd-pcm");
+    let is_right = name.map(|name| name.as_bytes() == b"snd_pcm".as_slice());
+    tell(rt, "Name::new", is_right)?;
+    let words = text::words(alloc, b" a\tbc ");
+    let is_right = words.map(|words| words.as_slice() == WORDS.as_slice());
+    tell(rt, "words", is_right)?;
+    let pattern = Pattern::read(alloc, b"usb:v[0-9A-F]*p??");
+    let is_right = pattern.map(|it| it.matches(b"usb:v0Ap12") && !it.matches(b"usb:vGp12"));
+    tell(rt, "Pattern::read", is_right)?;
+    tell(rt, "Alias::read", Alias::read(alloc, &ALIAS).map(is_alias))?;
+    let aliases = read_aliases(alloc, ALIASES);
+    let is_right = aliases.map(|aliases| are_aliases(&aliases));
+    tell(rt, "read_aliases", is_right)?;
+    let word = Word::new(alloc, b"debug=1");
+    let is_right = word.map(|word| word.as_bytes() == b"debug=1".as_slice());
+    tell(rt, "Word::new", is_right)?;
+    let conf = read_conf(alloc, CONFIGURATION);
+    tell(rt, "read_conf", conf.map(|conf| is_conf(&conf)))
 }

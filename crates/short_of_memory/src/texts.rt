@@ -1,7 +1,7 @@
 //! Catalogues and modules.dep.
 
-use crate::outcome::{Stop, agree, are_names, needed, stop_at, tell};
-use crate::sound::{OverSound, SOUND, sound_slots, try_over_sound};
+use crate::outcome::{Stop, are_names, needed, over, stop_at, tell};
+use crate::sound::{SOUND, sound, sound_slots};
 use dep_index::{CatError, Catalogue, DepError, DepIndex, Slots, read_catalogue, read_dep};
 use std::alloc::Global;
 
@@ -30,11 +30,6 @@ impl From<DepError> for Stop {
     }
 }
 
-fn try_read_catalogue(alloc: Global) -> Result<(), Stop> {
-    let catalogue = read_catalogue(alloc, SOUND)?;
-    agree(is_of_sound(&catalogue))
-}
-
 fn is_of_sound(catalogue: &Catalogue) -> bool {
     catalogue.len() == 2
         && catalogue.slot(b"snd_pcm") == Some(1)
@@ -42,11 +37,6 @@ fn is_of_sound(catalogue: &Catalogue) -> bool {
         && catalogue.size(0) == 114_688
         && catalogue.needs(1) == [0u16].as_slice()
         && catalogue.params(1).len() == 1
-}
-
-fn try_soft_needs(alloc: Global) -> Result<(), Stop> {
-    let catalogue = read_catalogue(alloc, SOFT)?;
-    agree(is_of_soft(&catalogue))
 }
 
 fn is_of_soft(catalogue: &Catalogue) -> bool {
@@ -60,32 +50,12 @@ fn is_sound(slots: &Slots) -> bool {
     slots.len() == 2 && slots.needs(0).is_empty() && slots.needs(1) == [0u16].as_slice()
 }
 
-pub fn try_slots(alloc: Global, catalogue: &Catalogue) -> Result<(), Stop> {
-    let slots = catalogue.slots(alloc)?;
-    agree(is_sound(&slots))
-}
-
-fn try_copy(alloc: Global) -> Result<(), Stop> {
-    let slots = sound_slots(alloc)?;
-    try_copy_of(alloc, &slots)
-}
-
-fn try_copy_of(alloc: Global, slots: &Slots) -> Result<(), Stop> {
-    let copy = slots.copy(alloc)?;
-    agree(is_sound(&copy))
-}
-
-fn try_push(alloc: Global) -> Result<(), Stop> {
+fn push_slots(alloc: Global) -> Result<Slots, Stop> {
     let needs = needed(vec![in alloc; 0u16])?;
     let mut slots = Slots::new(alloc);
     slots.push(Vec::new(alloc), false, true)?;
     slots.push(needs, false, false)?;
-    agree(is_sound(&slots))
-}
-
-fn try_read_dep(alloc: Global) -> Result<(), Stop> {
-    let index = read_dep(alloc, DEPENDENCIES)?;
-    agree(has_deps(&index, b"a", b"b") && has_deps(&index, b"b", b"a"))
+    Ok(slots)
 }
 
 /// Whether the module has this dependency alone.
@@ -98,14 +68,17 @@ fn has_deps(index: &DepIndex, module: &[u8], dependency: &[u8]) -> bool {
 
 pub fn try_calls<R: Print + AllocGlobal>(rt: &R) -> anyhow::Result<()> {
     let alloc = rt.alloc();
-    tell(rt, "read_catalogue", try_read_catalogue(alloc))?;
-    tell(rt, "read_catalogue of soft needs", try_soft_needs(alloc))?;
-    tell(
-        rt,
-        "Catalogue::slots",
-        try_over_sound(alloc, OverSound::Slots),
-    )?;
-    tell(rt, "Slots::copy", try_copy(alloc))?;
-    tell(rt, "Slots::push", try_push(alloc))?;
-    tell(rt, "read_dep", try_read_dep(alloc))
+    let read = read_catalogue(alloc, SOUND).map(|catalogue| is_of_sound(&catalogue));
+    tell(rt, "read_catalogue", read)?;
+    let read = read_catalogue(alloc, SOFT).map(|catalogue| is_of_soft(&catalogue));
+    tell(rt, "read_catalogue of soft needs", read)?;
+    let slots = over(sound(alloc), |catalogue| catalogue.slots(alloc));
+    tell(rt, "Catalogue::slots", slots.map(|slots| is_sound(&slots)))?;
+    let copy = over(sound_slots(alloc), |slots| slots.copy(alloc));
+    tell(rt, "Slots::copy", copy.map(|slots| is_sound(&slots)))?;
+    let pushed = push_slots(alloc).map(|slots| is_sound(&slots));
+    tell(rt, "Slots::push", pushed)?;
+    let read = read_dep(alloc, DEPENDENCIES).map(|index| has_deps(&index, b"a", b"b")
+        && has_deps(&index, b"b", b"a"));
+    tell(rt, "read_dep", read)
 }

@@ -4,31 +4,20 @@ ghost use Rattle.root_row.specs.Views.{worker_of};
 ghost use Rattle.root_row.specs.Made.{new_book, new_leaf};
 ghost use Rattle.dep_index.specs.Catalogue.{modules_of};
 
-use crate::outcome::{Stop, agree, tell};
-use crate::sound::{OverSound, sound_slots, try_over_sound};
-use dep_index::{Catalogue, ModuleState, Slots};
+use crate::outcome::{Stop, needed, over, tell};
+use crate::sound::{sound, sound_slots};
+use dep_index::{Catalogue, ModuleState};
 use module_table::{Book, Manager};
 use root_row::{BookSeat, LeafSeat, ReadSeat, Row};
 use std::alloc::{AllocError, Global};
-use use_indicator::Leaf;
+use use_indicator::{Leaf, Reader};
 
-pub fn try_row(alloc: Global, catalogue: &Catalogue) -> Result<(), Stop> {
-    let (row, leaves, _, readers) = Row::new(alloc, catalogue, 2, 1)?;
-    agree(is_row(&row, &leaves, &readers))
-}
-
-fn try_row_over(alloc: Global) -> Result<(), Stop> {
-    let slots = sound_slots(alloc)?;
-    try_row_over_slots(alloc, &slots)
-}
-
-fn try_row_over_slots(alloc: Global, slots: &Slots) -> Result<(), Stop> {
-    let (row, leaves, _, readers) = Row::over(alloc, slots, 2, 1)?;
-    agree(is_row(&row, &leaves, &readers))
-}
-
-fn is_row(row: &Row, leaves: &[LeafSeat], readers: &[ReadSeat]) -> bool {
+fn is_row((row, leaves, _, readers): (Row, Vec<LeafSeat>, BookSeat, Vec<ReadSeat>)) -> bool {
     row.slots() == 2 && leaves.len() == 2 && readers.len() == 1
+}
+
+fn is_manager((manager, readers): (Manager, Vec<Reader>)) -> bool {
+    manager.workers() == 2 && manager.slots() == 2 && readers.len() == 2
 }
 
 /// Whether the leaf of the last seat holds nothing.
@@ -43,18 +32,14 @@ fn holds_nothing(alloc: Global, row: &Row, mut seats: Vec<LeafSeat>) -> Result<b
     Ok(slots == 2 && leaf.held(0) == 0 && leaf.held(1) == 0)
 }
 
-pub fn try_leaf(alloc: Global, catalogue: &Catalogue) -> Result<(), Stop> {
-    let Ok((row, seats, _, _)) = Row::new(alloc, catalogue, 2, 0) else {
-        return Err(Stop::NotMade);
-    };
-    agree(holds_nothing(alloc, &row, seats)?)
+fn try_leaf(alloc: Global, catalogue: &Catalogue) -> Result<bool, Stop> {
+    let (row, seats, _, _) = needed(Row::new(alloc, catalogue, 2, 0))?;
+    Ok(holds_nothing(alloc, &row, seats)?)
 }
 
-pub fn try_book(alloc: Global, catalogue: &Catalogue) -> Result<(), Stop> {
-    let Ok((row, _, seat, _)) = Row::new(alloc, catalogue, 2, 0) else {
-        return Err(Stop::NotMade);
-    };
-    agree(is_empty(alloc, catalogue, &row, seat)?)
+fn try_book(alloc: Global, catalogue: &Catalogue) -> Result<bool, Stop> {
+    let (row, _, seat, _) = needed(Row::new(alloc, catalogue, 2, 0))?;
+    Ok(is_empty(alloc, catalogue, &row, seat)?)
 }
 
 /// Whether the book of this seat has two modules, of which none is loaded.
@@ -71,20 +56,16 @@ fn is_empty(
     Ok(row.slots() == 2 && book.loaded() == 0 && book.state(1) == ModuleState::Absent)
 }
 
-pub fn try_manager(alloc: Global, catalogue: &Catalogue) -> Result<(), Stop> {
-    let (manager, readers) = Manager::new(alloc, catalogue, 2)?;
-    agree(manager.workers() == 2 && manager.slots() == 2 && readers.len() == 2)
-}
-
 pub fn try_calls<R: Print + AllocGlobal>(rt: &R) -> anyhow::Result<()> {
     let alloc = rt.alloc();
-    tell(rt, "Row::new", try_over_sound(alloc, OverSound::RowNew))?;
-    tell(rt, "Row::over", try_row_over(alloc))?;
-    tell(rt, "Leaf::new", try_over_sound(alloc, OverSound::LeafNew))?;
-    tell(rt, "Book::new", try_over_sound(alloc, OverSound::BookNew))?;
-    tell(
-        rt,
-        "Manager::new",
-        try_over_sound(alloc, OverSound::ManagerNew),
-    )
+    let row = over(sound(alloc), |catalogue| Row::new(alloc, catalogue, 2, 1));
+    tell(rt, "Row::new", row.map(is_row))?;
+    let row = over(sound_slots(alloc), |slots| Row::over(alloc, slots, 2, 1));
+    tell(rt, "Row::over", row.map(is_row))?;
+    let leaf = over(sound(alloc), |catalogue| try_leaf(alloc, catalogue));
+    tell(rt, "Leaf::new", leaf)?;
+    let book = over(sound(alloc), |catalogue| try_book(alloc, catalogue));
+    tell(rt, "Book::new", book)?;
+    let manager = over(sound(alloc), |catalogue| Manager::new(alloc, catalogue, 2));
+    tell(rt, "Manager::new", manager.map(is_manager))
 }
