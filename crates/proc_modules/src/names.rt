@@ -1,5 +1,5 @@
 //! Names in a row.
-ghost use Rattle.std.specs.Prelude.{◌≡◌, [], ◌∷◌, ◌++◌, OnOk};
+ghost use Rattle.std.specs.Prelude.{◌≡◌, [], ◌∷◌, ◌++◌, OnOk, OnErr};
 
 use dep_index::Name;
 use std::alloc::{AllocError, Global};
@@ -28,9 +28,10 @@ impl Names {
         }
     }
 
-    /// Adds a name after the others.
+    /// Adds a name after the others. It fails for want of memory alone, and is then as before.
     pub fn push(&mut self, name: Name) -> Result<(), AllocError>
-        ensures { OnOk result (self.new ≡ self.old ++ name ∷ []) }
+        ensures added { OnOk result (self.new ≡ self.old ++ name ∷ []) }
+        ensures kept { OnErr result (self.new ≡ self.old) }
     {
         self.names.push(name)?;
         Ok(())

@@ -10,4 +10,4 @@ loop-i-preserved c =
     (sym c.is_empty.ensures ∙ c.if-is_empty.false)
     (sym c.is_last_mark.ensures ∙ c.if-is_last_mark.false)
     (sym c.is_line_name.ensures ∙ c.if-not-is_line_name.false)
-    c.in_ok-name.ensures c.in_ok-push.ensures
+    c.in_ok-name.ensures c.in_ok-push.ensures.added
