@@ -1,7 +1,7 @@
 //! The session program: standard input in, replies out.
 #![tactic(auto)]
 
-use modsh_drive::drive;
+use modsh_drive::{Output, drive};
 use std::alloc::AllocError;
 use std::process::ExitCode;
 use std::{env, io};
@@ -17,6 +17,7 @@ fn main(rt: HostRuntime) -> ExitCode {
         return ExitCode::from(3);
     };
     let mut errors = rt.stderr();
-    let status = drive(&rt, words.as_slice(), rt.stdin(), rt.stdout(), &mut errors);
+    let mut output = Output::new(rt.stdout());
+    let status = drive(&rt, words.as_slice(), rt.stdin(), &mut output, &mut errors);
     ExitCode::from(status)
 }

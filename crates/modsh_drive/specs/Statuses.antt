@@ -1,14 +1,17 @@
 -- How the program ends.
-use Rattle.std.specs.Prelude.{ℕ}
+use Rattle.std.specs.Prelude.{◌≡◌, ◌≢◌, ℕ, Bool, List, Option, if◌then◌else◌, Result, Ok, Err}
 use Rattle.modprobe.specs.declared.fault.ServeFault.{ServeFault}
 use Rattle.modprobe.specs.declared.fault.ServeFault.TheVariants as serve_fault
 use Rattle.modprobe.specs.declared.fault.SetupCode.{SetupCode}
 use Rattle.modprobe.specs.declared.fault.SetupCode.TheVariants.{C1, C2, C3, C4, M1, M2, M3, B1, Read, Memory, Turns, LongLine}
+use Rattle.modprobe.specs.Lines.{IfTold}
+use Rattle.modprobe.specs.Serve.{AnswersInput}
 use Rattle.modsh_drive.specs.declared.status.Status.{Status}
-use Rattle.modsh_drive.specs.declared.status.Status.TheVariants.{Done, Refused, Fault}
+use Rattle.modsh_drive.specs.declared.status.Status.TheVariants.{Done, ErrorReply, Refused, Fault}
 
 abbrev pub number_of : Status → ℕ
 number_of Done = 0
+number_of ErrorReply = 1
 number_of Refused = 2
 number_of Fault = 3
 
@@ -32,3 +35,19 @@ abbrev pub status_of : ServeFault → Status
 status_of (serve_fault.Setup fault) = setup_status fault.code
 status_of (serve_fault.Run fault) = Fault
 status_of serve_fault.Memory = Fault
+
+-- the status after a session, of which a reply may have been an error that is to count
+abbrev pub status_after : Result (Unit {0}) ServeFault → Bool → Status
+status_after (Ok _) has_error = if has_error then ErrorReply else Done
+status_after (Err fault) has_error = status_of fault
+
+-- how a program without arguments ends: where all is done, what was written grew by the answer of one worker's session; and no
+-- error counts
+abbrev pub AnswersPlainly : Option (List ℕ) → Option (List ℕ) → Option (List ℕ) → Status → Type 0
+AnswersPlainly told held written status =
+    (status ≡ Done → IfTold told (λ input. AnswersInput 1 input held written)) × (status ≢ ErrorReply)
+
+-- the same by the status that it answers
+abbrev pub EndsPlainly : Option (List ℕ) → Option (List ℕ) → Option (List ℕ) → ℕ → Type 0
+EndsPlainly told held written number =
+    (number ≡ 0 → IfTold told (λ input. AnswersInput 1 input held written)) × (number ≢ 1)

@@ -1,8 +1,18 @@
 //! The session program over any words and streams.
 #![tactic(auto)]
 
+mod asked;
+mod explain;
+mod files;
+mod hints;
+mod kept;
+mod notes;
+mod output;
+mod places;
 mod program;
+mod shown;
 mod status;
 mod words;
 
+pub use output::Output;
 pub use program::drive;

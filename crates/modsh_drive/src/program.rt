@@ -1,47 +1,33 @@
 //! The program over any input and output.
-ghost use Rattle.std.specs.Prelude.{◌≤◌};
+ghost use Rattle.std.specs.Prelude.{◌≡◌, ◌≢◌, ◌≤◌, ◌++◌, false, length, IfOk, OnOk};
+ghost use Rattle.modprobe.specs.Lines.{IfTold};
+ghost use Rattle.modprobe.specs.Serve.{AnswersInput};
+ghost use Rattle.modsh_drive.specs.Statuses.{AnswersPlainly, EndsPlainly};
 
+use crate::asked::{Asked, command};
+use crate::explain::{explain, explain_path, explain_word};
+use crate::files::JoinedFiles;
+use crate::kept::{Keeping, Kept};
+use crate::notes::note_idle;
+use crate::output::Output;
+use crate::places::placed_lines;
 use crate::status::Status;
-use crate::words::{add_section, section_and_path};
+use crate::words::section_and_path;
 use clap::error::ErrorKind;
-use clap::{Arg, ArgAction, ArgMatches, Command, value_parser};
-use modprobe::{FromRead, FromWrite, serve};
+use modprobe::{FromRead, ServeFault, serve};
 use std::alloc::{AllocError, Global};
 use std::io::{Read, Write};
 use std::rt::Files;
 use std::{fs, io};
 
-/// What the program takes: how many workers a session has, and files that stand before its input.
-fn command<'a>(alloc: Global) -> Result<Command<'a>, AllocError> {
-    let workers = Arg::new(alloc, "workers")
-        .long("workers")
-        .value_name("N")
-        .value_parser(value_parser!(u16).range(1..=64))
-        .default_value("1")
-        .help("How many workers there are");
-    let words = Arg::new(alloc, "words")
-        .value_name("WORD")
-        .num_args(0..)
-        .action(ArgAction::Append)
-        .help("catalogue=PATH, dep=PATH, alias=PATH or conf=PATH");
-    Command::new(alloc, "modsh").arg(workers)?.arg(words)
-}
-
-/// The number of workers, which clap has found in its range.
-fn workers_of(matches: &ArgMatches<'_>) -> usize
-    ensures { result ≤ 64 }
-{
-    match matches.get_one::<u16>("workers") {
-        Some(workers) => workers.clamp(1, 64) as usize,
-        None => 1,
-    }
-}
-
 /// Whether all words have their form. The first that has not is told.
-fn have_form<E: Write>(words: &[&str], errors: &mut E) -> bool {
+fn have_form<E: Write>(words: &[&str], asked: Asked, errors: &mut E) -> bool {
     for word in words {
         if section_and_path(*word).is_none() {
             let _ = writeln!(errors, "modsh: bad word {word}");
+            if asked.explain {
+                explain_word(*word, errors);
+            }
             return false;
         }
     }
@@ -49,10 +35,11 @@ fn have_form<E: Write>(words: &[&str], errors: &mut E) -> bool {
 }
 
 /// Adds the file that a word names. One that cannot be read is told.
-fn add_file<R: Files + AllocGlobal, E: Write>(
+fn add_file<'a, R: Files + AllocGlobal, E: Write>(
     rt: &R,
-    word: &str,
-    input: &mut Vec<u8>,
+    word: &'a str,
+    asked: Asked,
+    files: &mut JoinedFiles<'a>,
     errors: &mut E,
 ) -> Result<Status, AllocError> {
     let Some((section, path)) = section_and_path(word) else {
@@ -60,29 +47,33 @@ fn add_file<R: Files + AllocGlobal, E: Write>(
     };
     match fs::read(rt, path) {
         Ok(bytes) => {
-            add_section(input, section, bytes.as_slice())?;
+            files.add(section, path, bytes.as_slice())?;
             Ok(Status::Done)
         }
         Err(error) if error.kind() == io::ErrorKind::OutOfMemory => Err(AllocError),
         Err(_) => {
             let _ = writeln!(errors, "modsh: cannot read {path}");
+            if asked.explain {
+                explain_path(path, errors);
+            }
             Ok(Status::Refused)
         }
     }
 }
 
 /// Adds the files that the words name, in order.
-fn add_files<R: Files + AllocGlobal, E: Write>(
+fn add_files<'a, R: Files + AllocGlobal, E: Write>(
     rt: &R,
-    words: &[&str],
-    input: &mut Vec<u8>,
+    words: &[&'a str],
+    asked: Asked,
+    files: &mut JoinedFiles<'a>,
     errors: &mut E,
 ) -> Result<Status, AllocError> {
-    if !have_form(words, errors) {
+    if !have_form(words, asked, errors) {
         return Ok(Status::Refused);
     }
     for word in words {
-        let status = add_file(rt, *word, input, errors)?;
+        let status = add_file(rt, *word, asked, files, errors)?;
         if !matches!(status, Status::Done) {
             return Ok(status);
         }
@@ -91,33 +82,109 @@ fn add_files<R: Files + AllocGlobal, E: Write>(
 }
 
 /// Serves the session of this input.
-fn serve_input<I: Read + Drop, O: Write + Drop, E: Write>(
+fn serve_input<I: Read + Drop, O: Write>(
     alloc: Global,
     workers: usize,
     reader: I,
-    writer: O,
-    errors: &mut E,
-) -> Status
-    requires { workers ≤ 64 }
+    writer: &mut Output<O>,
+) -> Result<(), ServeFault>
+    requires few { workers ≤ 64 }
+    requires works { writer.old.failed ≡ false }
+    ensures { OnOk result (IfTold (I.remaining reader) (λ input.
+        AnswersInput workers input (O.contents writer.old.writer) (O.contents writer.new.writer))) }
 {
     let mut source = FromRead::new(reader);
-    let mut sink = FromWrite::new(writer);
-    match serve(alloc, workers, &mut source, &mut sink) {
-        Ok(()) => Status::Done,
-        Err(fault) => {
-            let _ = writeln!(errors, "modsh: {fault}");
-            Status::of(&fault)
-        }
+    serve(alloc, workers, &mut source, writer)
+}
+
+/// Tells what happened, once more for people: of a fault, and of lines without effect.
+fn explain_input<E: Write>(
+    alloc: Global,
+    files: &JoinedFiles<'_>,
+    kept: &Kept,
+    answer: &Result<(), ServeFault>,
+    errors: &mut E,
+) -> Result<(), AllocError> {
+    let lines = placed_lines(alloc, files, kept.bytes())?;
+    if let Err(fault) = answer {
+        explain(alloc, fault, &lines, errors)?;
+    }
+    if !kept.is_whole() {
+        let _ = writeln!(
+            errors,
+            "modsh: note: not all of standard input was kept for this"
+        );
+    }
+    note_idle(alloc, &lines, errors)
+}
+
+/// Serves the session of the files and the reader, and keeps what is read where faults are to be explained. What is
+/// written is the same in both cases.
+fn serve_files<I: Read + Drop, O: Write, E: Write>(
+    alloc: Global,
+    asked: Asked,
+    files: &JoinedFiles<'_>,
+    reader: I,
+    writer: &mut Output<O>,
+    errors: &mut E,
+) -> Result<(), ServeFault>
+    requires { writer.old.failed ≡ false }
+    ensures { OnOk result (IfTold (I.remaining reader) (λ input.
+        AnswersInput asked.workers (files.now.text.items ++ input) (O.contents writer.old.writer) (O.contents writer.new.writer))) }
+{
+    if !asked.explain {
+        let result = serve_input(alloc, asked.workers, files.text().chain(reader), writer);
+        tell(&result, errors);
+        return result;
+    }
+    let mut kept = Kept::new(alloc);
+    let keeping = Keeping {
+        reader,
+        kept: &mut kept,
+    };
+    let result = serve_input(alloc, asked.workers, files.text().chain(keeping), writer);
+    tell(&result, errors);
+    if explain_input(alloc, files, &kept, &result, errors).is_err() {
+        let _ = writeln!(errors, "modsh: note: there was no memory to explain more");
+    }
+    result
+}
+
+/// Tells a fault in one line.
+fn tell<E: Write>(answer: &Result<(), ServeFault>, errors: &mut E) {
+    if let Err(fault) = answer {
+        let _ = writeln!(errors, "modsh: {fault}");
     }
 }
 
-fn drive_or_fail<R: Files + AllocGlobal, I: Read + Drop, O: Write + Drop, E: Write>(
+/// Answers the files and the reader.
+fn answer<I: Read + Drop, O: Write, E: Write>(
+    alloc: Global,
+    asked: Asked,
+    files: &JoinedFiles<'_>,
+    reader: I,
+    writer: &mut Output<O>,
+    errors: &mut E,
+) -> Status
+    requires { writer.old.failed ≡ false }
+    ensures answered { result ≡ Status.Done → IfTold (I.remaining reader) (λ input.
+        AnswersInput asked.workers (files.now.text.items ++ input) (O.contents writer.old.writer) (O.contents writer.new.writer)) }
+    ensures error { asked.fail ≡ false → result ≢ Status.ErrorReply }
+{
+    let result = serve_files(alloc, asked, files, reader, writer, errors);
+    Status::after(&result, asked.fail && writer.has_error())
+}
+
+/// Answers what the words ask for, of which there is one besides the program's own name.
+fn answer_words<R: Files + AllocGlobal, I: Read + Drop, O: Write, E: Write>(
     rt: &R,
     words: &[String],
     reader: I,
-    mut writer: O,
+    writer: &mut Output<O>,
     errors: &mut E,
-) -> Result<Status, AllocError> {
+) -> Result<Status, AllocError>
+    requires { writer.old.failed ≡ false }
+{
     let matches = match command(rt.alloc())?.try_get_matches_from(words) {
         Ok(matches) => matches,
         Err(error) if error.kind() == ErrorKind::OutOfMemory => return Err(AllocError),
@@ -126,31 +193,52 @@ fn drive_or_fail<R: Files + AllocGlobal, I: Read + Drop, O: Write + Drop, E: Wri
             return Ok(Status::Refused);
         }
         Err(help) => {
-            let _ = write!(writer, "{help}");
+            let _ = write!(writer.writer(), "{help}");
             return Ok(Status::Done);
         }
     };
-    let mut input = Vec::new(rt.alloc());
+    let asked = Asked::of(&matches);
+    let mut files = JoinedFiles::new(rt.alloc());
     if let Some(words) = matches.get_strs("words") {
-        let status = add_files(rt, words, &mut input, errors)?;
+        let status = add_files(rt, words, asked, &mut files, errors)?;
         if !matches!(status, Status::Done) {
             return Ok(status);
         }
     }
-    let reader = input.as_slice().chain(reader);
-    Ok(serve_input(rt.alloc(), workers_of(&matches), reader, writer, errors))
+    Ok(answer(rt.alloc(), asked, &files, reader, writer, errors))
 }
 
-/// Runs the program on these words, the first of which is its own name, and answers its status: 0 at the end of the
-/// input, 2 where an argument, a file or the setup is refused, 3 for a fault. What is refused, and what failed, is said
-/// on `errors`; help goes to `writer`.
-pub fn drive<R: Files + AllocGlobal, I: Read + Drop, O: Write + Drop, E: Write>(
+fn drive_or_fail<R: Files + AllocGlobal, I: Read + Drop, O: Write, E: Write>(
     rt: &R,
     words: &[String],
     reader: I,
-    writer: O,
+    writer: &mut Output<O>,
     errors: &mut E,
-) -> u8 {
+) -> Result<Status, AllocError>
+    requires { writer.old.failed ≡ false }
+    ensures { length words.now ≤ 1 → IfOk result (AnswersPlainly (I.remaining reader) (O.contents writer.old.writer) (O.contents writer.new.writer)) }
+{
+    if words.len() > 1 {
+        return answer_words(rt, words, reader, writer, errors);
+    }
+    let files = JoinedFiles::new(rt.alloc());
+    Ok(answer(rt.alloc(), Asked::plain(), &files, reader, writer, errors))
+}
+
+/// Runs the program on these words, the first of which is its own name, and answers its status: 0 at the end of the
+/// input, 1 there where a reply was an error and `--fail` is asked for, 2 where an argument, a file or the setup is
+/// refused, 3 for a fault. What is refused, and what failed, is said on `errors`; help goes to `writer`.
+pub fn drive<R: Files + AllocGlobal, I: Read + Drop, O: Write, E: Write>(
+    rt: &R,
+    words: &[String],
+    reader: I,
+    writer: &mut Output<O>,
+    errors: &mut E,
+) -> u8
+    requires { writer.old.failed ≡ false }
+    ensures status { result ≤ 3 }
+    ensures plain { length words.now ≤ 1 → EndsPlainly (I.remaining reader) (O.contents writer.old.writer) (O.contents writer.new.writer) result }
+{
     let status = match drive_or_fail(rt, words, reader, writer, errors) {
         Ok(status) => status,
         Err(_) => {

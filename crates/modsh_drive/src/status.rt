@@ -1,6 +1,6 @@
 //! How the program ends.
 ghost use Rattle.std.specs.Prelude.{◌≡◌};
-ghost use Rattle.modsh_drive.specs.Statuses.{number_of, status_of};
+ghost use Rattle.modsh_drive.specs.Statuses.{number_of, status_of, status_after};
 
 use modprobe::{ServeFault, SetupCode, SetupFault};
 
@@ -8,6 +8,8 @@ use modprobe::{ServeFault, SetupCode, SetupFault};
 #[derive(Clone, Copy, Drop)]
 pub(crate) enum Status {
     Done,
+    /// A reply was an error, and the status is to say so.
+    ErrorReply,
     /// An argument, a file or the setup is refused.
     Refused,
     /// A device failed, memory ran out, or a limit was reached.
@@ -20,6 +22,7 @@ impl Status {
     {
         match self {
             Status::Done => 0,
+            Status::ErrorReply => 1,
             Status::Refused => 2,
             Status::Fault => 3,
         }
@@ -41,6 +44,17 @@ impl Status {
             ) => Status::Fault,
             ServeFault::Setup(_) => Status::Refused,
             ServeFault::Run(_) | ServeFault::Memory => Status::Fault,
+        }
+    }
+
+    /// The status after a session, of which a reply may have been an error that is to count.
+    pub(crate) fn after(answer: &Result<(), ServeFault>, has_error: bool) -> Status
+        ensures { result ≡ status_after answer.now has_error }
+    {
+        match answer {
+            Ok(()) if has_error => Status::ErrorReply,
+            Ok(()) => Status::Done,
+            Err(fault) => Status::of(fault),
         }
     }
 }

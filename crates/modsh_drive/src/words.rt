@@ -5,7 +5,7 @@ ghost use Rattle.modsh_drive.specs.Inputs.{section_named, section_line, section_
 use std::alloc::AllocError;
 
 /// A section that a file may be.
-#[derive(Clone, Copy, Drop)]
+#[derive(Clone, Copy, Debug, PartialEq, Eq, Drop)]
 pub(crate) enum Section {
     Catalogue,
     Dependencies,

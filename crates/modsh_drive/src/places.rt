@@ -1,0 +1,159 @@
+//! The lines of an input before its session, and where each of them stands.
+
+use crate::files::JoinedFiles;
+use crate::shown::Shown;
+use crate::words::Section;
+use dep_index::text::{is_same, whole_lines};
+use std::alloc::{AllocError, Global};
+use std::fmt;
+
+/// A line of a section, or one before the first section line.
+#[derive(Clone, Copy, Drop)]
+pub(crate) struct PlacedLine<'a> {
+    /// The file that it stands in; none is standard input.
+    path: Option<&'a str>,
+    /// Its number there, from 1.
+    number: usize,
+    section: Option<Section>,
+    /// Its bytes without the end.
+    pub(crate) text: &'a [u8],
+}
+
+impl PlacedLine<'_> {
+    /// Whether it is a line of this section, or with none, one before all sections.
+    pub(crate) fn is_in(&self, section: Option<Section>) -> bool {
+        self.section == section
+    }
+}
+
+impl fmt::Display for PlacedLine<'_> {
+    fn fmt<W: fmt::Write>(&self, f: &mut fmt::Formatter<W>) -> fmt::Result {
+        let path = Shown(self.path.unwrap_or("standard input").as_bytes());
+        let number = self.number;
+        write!(f, "{path}, line {number}")
+    }
+}
+
+/// What a section line begins.
+#[derive(Clone, Copy, Drop)]
+enum Head {
+    Section(Section),
+    Session,
+}
+
+fn head_of(line: &[u8]) -> Option<Head> {
+    if is_same(line, b"%catalogue") {
+        Some(Head::Section(Section::Catalogue))
+    } else if is_same(line, b"%dep") {
+        Some(Head::Section(Section::Dependencies))
+    } else if is_same(line, b"%alias") {
+        Some(Head::Section(Section::Aliases))
+    } else if is_same(line, b"%conf") {
+        Some(Head::Section(Section::Configuration))
+    } else if is_same(line, b"%session") {
+        Some(Head::Session)
+    } else {
+        None
+    }
+}
+
+/// Lines as they are placed one by one.
+#[derive(Drop)]
+struct Placing<'a> {
+    lines: Vec<PlacedLine<'a>>,
+    section: Option<Section>,
+    has_session: bool,
+}
+
+impl<'a> Placing<'a> {
+    fn add(
+        &mut self,
+        path: Option<&'a str>,
+        number: usize,
+        text: &'a [u8],
+    ) -> Result<(), AllocError> {
+        if self.has_session {
+            return Ok(());
+        }
+        match head_of(text) {
+            Some(Head::Session) => self.has_session = true,
+            Some(Head::Section(section)) => self.section = Some(section),
+            None => self.lines.push(PlacedLine {
+                path,
+                number,
+                section: self.section,
+                text,
+            })?,
+        }
+        Ok(())
+    }
+
+    /// Adds the lines of a text, of which the first has this number.
+    fn add_all(
+        &mut self,
+        path: Option<&'a str>,
+        first: usize,
+        text: &'a [u8],
+    ) -> Result<(), AllocError> {
+        for (i, line) in whole_lines(text).enumerate() {
+            self.add(path, first.saturating_add(i), line)?;
+        }
+        Ok(())
+    }
+}
+
+/// The lines before the session of the input that the files and these bytes of standard input are, in order, without
+/// section lines.
+pub(crate) fn placed_lines<'a>(
+    alloc: Global,
+    files: &'a JoinedFiles<'a>,
+    kept: &'a [u8],
+) -> Result<Vec<PlacedLine<'a>>, AllocError> {
+    let mut placing = Placing {
+        lines: Vec::new(alloc),
+        section: None,
+        has_session: false,
+    };
+    for i in 0..files.len() {
+        // The section line of a file is its line 0.
+        if let Some((path, text)) = files.file(i) {
+            placing.add_all(Some(path), 0, text)?;
+        }
+    }
+    placing.add_all(None, 1, kept)?;
+    Ok(placing.lines)
+}
+
+/// The place among the lines of that of this number, from 1, of a section.
+pub(crate) fn place_of(
+    lines: &[PlacedLine<'_>],
+    section: Option<Section>,
+    number: usize,
+) -> Option<usize> {
+    let mut left = number;
+    for (i, line) in lines.iter().enumerate() {
+        if line.is_in(section) {
+            if left <= 1 {
+                return Some(i);
+            }
+            left -= 1;
+        }
+    }
+    None
+}
+
+/// The text of a section, as the lines say it. Each gets both bytes of a line's end, so that its own last byte stays.
+pub(crate) fn text_of(
+    alloc: Global,
+    lines: &[PlacedLine<'_>],
+    section: Section,
+) -> Result<Vec<u8>, AllocError> {
+    let mut text = Vec::new(alloc);
+    for line in lines {
+        if line.is_in(Some(section)) {
+            text.extend_from_slice(line.text)?;
+            text.extend_from_slice(b"\r\n")?;
+        }
+    }
+    Ok(text)
+}
