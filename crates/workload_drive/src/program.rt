@@ -2,11 +2,12 @@
 ghost use Rattle.std.specs.Prelude.{◌≡◌};
 ghost use Rattle.workload_drive.specs.declared.program.Fault.TheVariants as faults;
 
+use crate::asked::{Asked, asked_by};
+use crate::explain::{explain, explain_work};
 use crate::fault::ScheduleFault;
 use crate::schedule::report;
-use crate::script::{OpenGate, WorkFault, read_script, run_threads};
+use crate::script::{OpenGate, Replies, WorkFault, read_script, run_threads};
 use clap::error::ErrorKind;
-use clap::{Arg, ArgAction, Command, Error as ClapError};
 use module_table::Manager;
 use std::alloc::{AllocError, Global};
 use std::io;
@@ -81,36 +82,36 @@ fn read_input<I: Read>(alloc: Global, reader: &mut I) -> Result<Vec<u8>, Fault> 
     }
 }
 
-/// What the workers of a script come to, on a manager of its own.
+/// What the workers of a script come to, on a manager of its own, after their replies where these are asked for.
 fn script_text<R: AllocGlobal + Threads + Wait + Sync>(
     rt: &R,
+    asked: Asked,
     input: &[u8],
 ) -> Result<Vec<u8>, Fault> {
     let script = read_script(rt.alloc(), input)?;
-    let (manager, readers) = Manager::new(rt.alloc(), script.catalogue(), script.workers())?;
-    let text = run_threads(
-        rt,
-        script.catalogue(),
-        &manager,
-        readers,
-        &script,
-        &OpenGate,
-    )?;
+    let catalogue = script.catalogue();
+    let (manager, readers) = Manager::new(rt.alloc(), catalogue, script.workers())?;
+    if !asked.replies {
+        return Ok(run_threads(rt, catalogue, &manager, readers, &script, &OpenGate)?);
+    }
+    let replies = Replies::new(rt.alloc(), &script)?;
+    let table = run_threads(rt, catalogue, &manager, readers, &script, &replies)?;
+    let mut text = replies.text(rt.alloc(), &script)?;
+    text.extend_from_slice(&table)?;
     Ok(text)
 }
 
 /// Writes the report of the input, or what its script comes to on threads.
-fn write_text<R: AllocGlobal + Threads + Wait + Sync, I: Read, O: Write>(
+fn write_text<R: AllocGlobal + Threads + Wait + Sync, O: Write>(
     rt: &R,
-    on_threads: bool,
-    reader: &mut I,
+    asked: Asked,
+    input: &[u8],
     writer: &mut O,
 ) -> Result<(), Fault> {
-    let input = read_input(rt.alloc(), reader)?;
-    let text = if on_threads {
-        script_text(rt, &input)?
+    let text = if asked.threads {
+        script_text(rt, asked, input)?
     } else {
-        report(rt.alloc(), &input)?
+        report(rt.alloc(), input)?
     };
     match writer.write_all(&text) {
         Ok(()) => Ok(()),
@@ -118,15 +119,47 @@ fn write_text<R: AllocGlobal + Threads + Wait + Sync, I: Read, O: Write>(
     }
 }
 
-/// Whether the words ask for threads.
-fn asks_for_threads(alloc: Global, words: &[String]) -> Result<bool, ClapError> {
-    let threads = Arg::new(alloc, "threads")
-        .long("threads")
-        .action(ArgAction::SetTrue)
-        .help("Runs a script on threads");
-    let command = Command::new(alloc, "workload").arg(threads)?;
-    let matches = command.try_get_matches_from(words)?;
-    Ok(matches.get_flag("threads"))
+/// Tells a fault in one line, and then for people, where that is asked for.
+fn tell<E: Write>(alloc: Global, asked: Asked, fault: Fault, input: &[u8], errors: &mut E) {
+    let _ = writeln!(errors, "workload: {fault}");
+    if !asked.explain {
+        return;
+    }
+    let told = match fault {
+        Fault::Input(fault) => explain(alloc, asked.threads, fault, input, errors),
+        Fault::Work(fault) => {
+            explain_work(fault, errors);
+            Ok(())
+        }
+        _ => Ok(()),
+    };
+    if told.is_err() {
+        let _ = writeln!(errors, "  There was no memory to explain more.");
+    }
+}
+
+/// Reads the input and writes what it comes to. A fault is told.
+fn answer<R: AllocGlobal + Threads + Wait + Sync, I: Read, O: Write, E: Write>(
+    rt: &R,
+    asked: Asked,
+    reader: &mut I,
+    writer: &mut O,
+    errors: &mut E,
+) -> Status {
+    let input = match read_input(rt.alloc(), reader) {
+        Ok(input) => input,
+        Err(fault) => {
+            tell(rt.alloc(), asked, fault, b"", errors);
+            return status_of(fault);
+        }
+    };
+    match write_text(rt, asked, &input, writer) {
+        Ok(()) => Status::Done,
+        Err(fault) => {
+            tell(rt.alloc(), asked, fault, &input, errors);
+            status_of(fault)
+        }
+    }
 }
 
 fn drive_or_fail<R: AllocGlobal + Threads + Wait + Sync, I: Read, O: Write, E: Write>(
@@ -136,8 +169,8 @@ fn drive_or_fail<R: AllocGlobal + Threads + Wait + Sync, I: Read, O: Write, E: W
     writer: &mut O,
     errors: &mut E,
 ) -> Result<Status, AllocError> {
-    let on_threads = match asks_for_threads(rt.alloc(), words) {
-        Ok(on_threads) => on_threads,
+    let asked = match asked_by(rt.alloc(), words) {
+        Ok(asked) => asked,
         Err(error) if error.kind() == ErrorKind::OutOfMemory => return Err(AllocError),
         Err(error) if error.use_stderr() => {
             let _ = write!(errors, "{error}");
@@ -148,13 +181,7 @@ fn drive_or_fail<R: AllocGlobal + Threads + Wait + Sync, I: Read, O: Write, E: W
             return Ok(Status::Done);
         }
     };
-    match write_text(rt, on_threads, reader, writer) {
-        Ok(()) => Ok(Status::Done),
-        Err(fault) => {
-            let _ = writeln!(errors, "workload: {fault}");
-            Ok(status_of(fault))
-        }
-    }
+    Ok(answer(rt, asked, reader, writer, errors))
 }
 
 /// Runs the program on these words, the first of which is its own name, and answers its status: 0 where the report, or

@@ -5,4 +5,6 @@ mod reports;
 mod steps;
 mod text;
 
+pub(crate) use order::{Order, order_of};
 pub use reports::report;
+pub(crate) use text::{name_at, reply_text};

@@ -1,9 +1,11 @@
 //! A script: lines of workers, each worker on a thread of its own.
 
 mod listing;
+mod replies;
 mod tasks;
 mod threads;
 mod worker;
 
+pub use replies::Replies;
 pub use tasks::{Script, read_script};
 pub use threads::{Gate, OpenGate, WorkFault, run_threads};

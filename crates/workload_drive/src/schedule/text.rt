@@ -18,7 +18,7 @@ pub(crate) fn push_optional(text: &mut Vec<u8>, n: Option<usize>) -> Result<(), 
 }
 
 /// The name of the module in a slot; of a slot past the end it is empty.
-fn name_at(catalogue: &Catalogue, slot: usize) -> &[u8]
+pub(crate) fn name_at(catalogue: &Catalogue, slot: usize) -> &[u8]
     ensures { result.now ≡ name_at catalogue.now slot }
 {
     if slot < catalogue.len() {

@@ -17,10 +17,13 @@ use std::thread::Threads;
 use thiserror::Error;
 use use_indicator::Reader;
 
-/// Who is asked before each line of a worker, and told after it. Lines are counted from 0, each worker's by itself.
+/// Who is asked before each line of a worker, and told after it, and after each change that comes before the workers. Lines are counted from 0, each worker's by itself.
 pub trait Gate {
     /// Whether the worker may make this line. Where it may not, it makes no further one.
     fn before(&self, worker: usize, line: usize) -> bool;
+
+    /// The change of this number, from 0, which comes before the workers, was made with this reply.
+    fn opened(&self, _line: usize, _reply: Reply) {}
 
     /// The worker has made this line, with this reply.
     fn after(&self, worker: usize, line: usize, reply: Reply);
@@ -153,10 +156,11 @@ fn workers_of<'a, R: AllocGlobal>(
 }
 
 /// Makes the changes of a script that come before its workers.
-fn open<R: Wait>(rt: &R, manager: &Manager, script: &Script, course: &Course) {
-    for opening in script.opening() {
-        if make(rt, manager, opening.change, opening.slot).is_some() {
+fn open<R: Wait, G: Gate>(rt: &R, manager: &Manager, script: &Script, gate: &G, course: &Course) {
+    for (line, opening) in script.opening().iter().enumerate() {
+        if let Some(reply) = make(rt, manager, opening.change, opening.slot) {
             course.count();
+            gate.opened(line, reply);
         }
     }
 }
@@ -180,7 +184,7 @@ pub fn run_threads<R: AllocGlobal + Threads + Wait + Sync, G: Gate + Sync>(
 {
     let course = Course::new();
     let workers = workers_of(rt, manager, readers)?;
-    open(rt, manager, script, &course);
+    open(rt, manager, script, gate, &course);
     work_all(rt, workers, script, gate, &course);
     let calls = course.calls()?;
     let mut text = listing(rt, catalogue, manager)?;

@@ -1,0 +1,206 @@
+//! What people are told of a fault, in lines that begin with two spaces.
+
+use crate::fault::{LineCode, LineFault, ScheduleFault};
+use crate::lines::{Line, cut_lines};
+use crate::schedule::{Order, order_of};
+use crate::script::WorkFault;
+use crate::shown::Shown;
+use crate::statement::{Statement, marked, read_parts};
+use dep_index::text::{is_same, words};
+use std::alloc::{AllocError, Global};
+use std::io::Write;
+use step_core::StepError;
+
+fn line_sentence(code: LineCode) -> &'static str {
+    match code {
+        LineCode::C1 => "A line has no form of a catalogue line, or stands where it may not.",
+        LineCode::C2 => "A module of this name stands already.",
+        LineCode::C3 => "A symbol is exported already, by this module or another one.",
+        LineCode::C4 => "There is one module more than the limit of 256, or 1,024 in version 2.",
+        LineCode::H1 =>
+            "A line has no form, or another line should stand there, or a number is out of its range.",
+        LineCode::H2 => "The module is not in the catalogue.",
+        LineCode::H3 => "There are more than 1,000,000 steps.",
+    }
+}
+
+fn step_sentence(cause: StepError) -> &'static str {
+    match cause {
+        StepError::Thread => "The thread is out of range. The first thread is 0.",
+        StepError::Worker => "The worker is out of range. The first worker is 0.",
+        StepError::Slot => "The slot is out of range.",
+        StepError::Calls => "There are too many calls.",
+    }
+}
+
+/// Whether the code counts lines in the text of the catalogue.
+fn is_of_catalogue(code: LineCode) -> bool {
+    matches!(
+        code,
+        LineCode::C1 | LineCode::C2 | LineCode::C3 | LineCode::C4
+    )
+}
+
+/// The number in the input of the line `%catalogue`; 0 where there is none.
+fn head_number(lines: &[Line<'_>]) -> usize {
+    match lines.iter().find(|line| is_same(line.text, b"%catalogue")) {
+        Some(line) => line.number,
+        None => 0,
+    }
+}
+
+/// The text of the line of this number, from 1.
+fn text_at<'a>(lines: &[Line<'a>], number: usize) -> Option<&'a [u8]> {
+    match lines.get(number.checked_sub(1)?) {
+        Some(line) => Some(line.text),
+        None => None,
+    }
+}
+
+/// Whether a word begins a line of a script.
+fn is_of_script(word: &[u8]) -> bool {
+    let words: [&[u8]; 4] = [b"load", b"remove", b"drain", b"finish"];
+    marked(b'w', word).is_some() || words.iter().any(|own| is_same(word, own))
+}
+
+/// Whether a word begins a setting.
+fn is_setting(word: &[u8]) -> bool {
+    is_same(word, b"workers") || is_same(word, b"threads")
+}
+
+fn schedule_hint(word: &[u8]) -> &'static str {
+    if is_of_script(word) {
+        "this is a line of a script: is --threads missing?"
+    } else if marked(b't', word).is_some() {
+        "a line of a thread is go, go N with N from 1 to 1000000, or a call, as begin_load NAME, end_load NAME ok or get W NAME"
+    } else {
+        "a schedule is %catalogue, a catalogue, %schedule, workers N, threads N, both from 1 to 64, and lines of threads, as t0 go"
+    }
+}
+
+fn script_hint(word: &[u8]) -> &'static str {
+    if marked(b't', word).is_some() {
+        "this is a line of a schedule: is --threads too much?"
+    } else if is_of_script(word) {
+        "load, remove, drain and finish have one name, and stand alone before all lines of workers; W is below N; w0 may also get, put and query"
+    } else {
+        "a script is %catalogue, a catalogue, %script, workers N, from 1 to 64, and lines, as load NAME or w0 get NAME"
+    }
+}
+
+/// What is likely wrong with a line that is refused with this code.
+fn hint_of(threads: bool, code: LineCode, word: &[u8]) -> Option<&'static str> {
+    match code {
+        LineCode::C1 if is_setting(word) || is_of_script(word) || marked(b't', word).is_some() => {
+            Some("is the line %schedule, or %script with --threads, missing before it?")
+        }
+        LineCode::C1 if word.first() == Some(&b'%') => {
+            Some("a section line is %schedule, or %script with --threads, and nothing else")
+        }
+        LineCode::C4 => Some("a catalogue that begins with version 2 holds 1,024 modules"),
+        LineCode::H1 if threads => Some(script_hint(word)),
+        LineCode::H1 => Some(schedule_hint(word)),
+        _ => None,
+    }
+}
+
+fn explain_line<E: Write>(
+    alloc: Global,
+    threads: bool,
+    fault: LineFault,
+    input: &[u8],
+    errors: &mut E,
+) -> Result<(), AllocError> {
+    let lines = cut_lines(alloc, input)?;
+    let head = if is_of_catalogue(fault.code) {
+        head_number(&lines)
+    } else {
+        0
+    };
+    let number = head.saturating_add(fault.line);
+    let line = text_at(&lines, number);
+    match line {
+        Some(text) => {
+            let text = Shown(text);
+            let _ = writeln!(errors, "  line {number}: {text}");
+        }
+        None => {
+            let _ = writeln!(errors, "  line {number}: the input ends before it");
+        }
+    }
+    let sentence = line_sentence(fault.code);
+    let _ = writeln!(errors, "  {sentence}");
+    let words = words(alloc, line.unwrap_or(b""))?;
+    let word = words.first().copied().unwrap_or(b"");
+    if let Some(hint) = hint_of(threads, fault.code, word) {
+        let _ = writeln!(errors, "  hint: {hint}");
+    }
+    Ok(())
+}
+
+/// How many steps the words of a statement are.
+fn steps_in(words: &[&[u8]]) -> usize {
+    match order_of(words.get(1..).unwrap_or(&[])) {
+        Some(Order::Go(count)) => count,
+        _ => 1,
+    }
+}
+
+/// The number of the line of the step of this index, among statements that are steps.
+fn line_of_step(statements: &[Statement<'_>], index: usize) -> Option<usize> {
+    let mut left = index;
+    for said in statements {
+        let count = steps_in(&said.words);
+        if left < count {
+            return Some(said.number);
+        }
+        left -= count;
+    }
+    None
+}
+
+fn explain_step<E: Write>(
+    alloc: Global,
+    index: usize,
+    cause: StepError,
+    input: &[u8],
+    errors: &mut E,
+) -> Result<(), AllocError> {
+    if let Ok(parts) = read_parts(alloc, b"%schedule", input) {
+        // The first two statements are the settings.
+        let steps = parts.statements.get(2..).unwrap_or(&[]);
+        let lines = cut_lines(alloc, input)?;
+        if let Some(number) = line_of_step(steps, index) {
+            let text = Shown(text_at(&lines, number).unwrap_or(b""));
+            let _ = writeln!(errors, "  line {number}: {text}");
+        }
+    }
+    let sentence = step_sentence(cause);
+    let _ = writeln!(errors, "  {sentence}");
+    Ok(())
+}
+
+/// Explains why an input has no report, or no script: the line, what is wrong with it, and what may have been meant.
+pub(crate) fn explain<E: Write>(
+    alloc: Global,
+    threads: bool,
+    fault: ScheduleFault,
+    input: &[u8],
+    errors: &mut E,
+) -> Result<(), AllocError> {
+    match fault {
+        ScheduleFault::Line(fault) => explain_line(alloc, threads, fault, input, errors),
+        ScheduleFault::Step { index, cause } => explain_step(alloc, index, cause, input, errors),
+        ScheduleFault::Memory => Ok(()),
+    }
+}
+
+/// Explains why a script was not run to its end.
+pub(crate) fn explain_work<E: Write>(fault: WorkFault, errors: &mut E) {
+    let sentence = match fault {
+        WorkFault::Memory => "There was no memory.",
+        WorkFault::Spawn => "A thread of a script could not be started.",
+        WorkFault::Gate => "A line of a worker was not let begin.",
+    };
+    let _ = writeln!(errors, "  {sentence}");
+}

@@ -1,0 +1,146 @@
+//! The replies of a script, line by line.
+
+use super::tasks::{Change, Deed, Script};
+use super::threads::Gate;
+use crate::schedule::{name_at, reply_text};
+use dep_index::Reply;
+use proc_modules::push_number;
+use std::alloc::{AllocError, Global};
+use std::sync::OnceLock;
+
+/// The reply of each line of a script, once it was made: those before the workers, and those of each worker. As a gate it
+/// lets every line begin, and notes its reply.
+#[derive(Drop)]
+pub struct Replies {
+    opening: Vec<OnceLock<Reply>>,
+    workers: Vec<Vec<OnceLock<Reply>>>,
+}
+
+/// Room for so many replies.
+fn room(alloc: Global, lines: usize) -> Result<Vec<OnceLock<Reply>>, AllocError> {
+    let mut room = Vec::new(alloc);
+    for _ in 0..lines {
+        room.push(OnceLock::new())?;
+    }
+    Ok(room)
+}
+
+impl Replies {
+    /// Room for the replies of a script. Only want of memory refuses.
+    pub fn new(alloc: Global, script: &Script) -> Result<Replies, AllocError> {
+        let opening = room(alloc, script.opening().len())?;
+        let mut workers = Vec::new(alloc);
+        for worker in 0..script.workers() {
+            workers.push(room(alloc, script.tasks(worker).len())?)?;
+        }
+        Ok(Replies { opening, workers })
+    }
+
+    /// The reply of a line before the workers, by its number from 0.
+    fn of_opening(&self, line: usize) -> Option<Reply> {
+        self.opening.get(line)?.get().copied()
+    }
+
+    /// The reply of a line of a worker, by its number from 0.
+    fn of_worker(&self, worker: usize, line: usize) -> Option<Reply> {
+        self.workers.get(worker)?.get(line)?.get().copied()
+    }
+
+    /// A line for each line of the script that was made: those before the workers, and then those of each worker, in their
+    /// order. Each has who made it, its number, from 0, what it is, and its reply.
+    pub fn text(&self, alloc: Global, script: &Script) -> Result<Vec<u8>, AllocError> {
+        let mut text = Vec::new(alloc);
+        push_opening(&mut text, script, self)?;
+        for worker in 0..script.workers() {
+            push_worker(&mut text, script, self, worker)?;
+        }
+        Ok(text)
+    }
+}
+
+impl Gate for Replies {
+    fn before(&self, _worker: usize, _line: usize) -> bool {
+        true
+    }
+
+    fn opened(&self, line: usize, reply: Reply) {
+        if let Some(place) = self.opening.get(line) {
+            let _ = place.try_set(reply);
+        }
+    }
+
+    fn after(&self, worker: usize, line: usize, reply: Reply) {
+        if let Some(places) = self.workers.get(worker) {
+            if let Some(place) = places.get(line) {
+                let _ = place.try_set(reply);
+            }
+        }
+    }
+}
+
+fn change_text(change: Change) -> &'static [u8] {
+    match change {
+        Change::Load => b"load",
+        Change::Remove => b"remove",
+        Change::Drain => b"drain",
+        Change::Finish => b"finish",
+    }
+}
+
+fn deed_text(deed: Deed) -> &'static [u8] {
+    match deed {
+        Deed::Get => b"get",
+        Deed::Put => b"put",
+        Deed::Query => b"query",
+        Deed::Change(change) => change_text(change),
+    }
+}
+
+/// Adds what a line is, and its reply.
+fn push_reply(
+    text: &mut Vec<u8>,
+    line: usize,
+    verb: &[u8],
+    name: &[u8],
+    reply: Reply,
+) -> Result<(), AllocError> {
+    text.extend_from_slice(b" line ")?;
+    push_number(text, line)?;
+    text.extend_from_slice(b" ")?;
+    text.extend_from_slice(verb)?;
+    text.extend_from_slice(b" ")?;
+    text.extend_from_slice(name)?;
+    text.extend_from_slice(b" reply ")?;
+    text.extend_from_slice(reply_text(reply))?;
+    text.extend_from_slice(b"\n")
+}
+
+/// Adds the lines before the workers.
+fn push_opening(text: &mut Vec<u8>, script: &Script, replies: &Replies) -> Result<(), AllocError> {
+    for (line, opening) in script.opening().iter().enumerate() {
+        if let Some(reply) = replies.of_opening(line) {
+            let name = name_at(script.catalogue(), opening.slot);
+            text.extend_from_slice(b"opening")?;
+            push_reply(text, line, change_text(opening.change), name, reply)?;
+        }
+    }
+    Ok(())
+}
+
+/// Adds the lines of a worker.
+fn push_worker(
+    text: &mut Vec<u8>,
+    script: &Script,
+    replies: &Replies,
+    worker: usize,
+) -> Result<(), AllocError> {
+    for (line, task) in script.tasks(worker).iter().enumerate() {
+        if let Some(reply) = replies.of_worker(worker, line) {
+            let name = name_at(script.catalogue(), task.slot);
+            text.extend_from_slice(b"w")?;
+            push_number(text, worker)?;
+            push_reply(text, line, deed_text(task.deed), name, reply)?;
+        }
+    }
+    Ok(())
+}
