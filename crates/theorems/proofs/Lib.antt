@@ -4,5 +4,6 @@ pub mod Bounding
 pub mod Reaching
 pub mod Naming
 pub mod Finding
+pub mod Loading
 pub mod Refusing
 pub mod Resting

@@ -4,4 +4,5 @@ pub mod Catalogues
 pub mod Plans
 pub mod Sessions
 pub mod Meetings
+pub mod Loads
 pub mod Rungs

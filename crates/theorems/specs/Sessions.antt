@@ -5,13 +5,15 @@ use Rattle.dep_index.specs.Table.{Table}
 use Rattle.dep_index.specs.Catalogue.{modules_of}
 use Rattle.dep_index.specs.Calls.{after}
 use Rattle.dep_index.specs.Laws.{AllInRange, IsLawful}
+use Rattle.dep_index.specs.Text.{Line}
+use Rattle.modprobe.specs.Lines.{texts}
 use Rattle.modprobe.specs.Setup.{Setup}
 use Rattle.modprobe.specs.Session.{answer}
 use Rattle.modprobe.specs.Serve.{opening_of}
 use Rattle.modprobe.specs.SetupInput.{SetupRefusal, setup_of}
 
-abbrev pub output_of : ℕ → Result (Setup × List (List ℕ)) SetupRefusal → Option (List ℕ)
-output_of workers (Ok p) = Some (answer p.0 (opening_of p.0 workers) p.1).0
+abbrev pub output_of : ℕ → Result (Setup × List Line) SetupRefusal → Option (List ℕ)
+output_of workers (Ok p) = Some (answer p.0 (opening_of p.0 workers) (texts p.1)).0
 output_of workers (Err e) = None
 
 -- what a session writes, a function of its input and the number of workers; None, where the input has no setup

@@ -1,5 +1,5 @@
 //! Sessions.
-ghost use Rattle.std.specs.Prelude.{◌≡◌, ◌≤◌, false, Some, OnOk, IfErr, List, ℕ};
+ghost use Rattle.std.specs.Prelude.{◌≡◌, ◌+◌, ◌≤◌, false, Some, OnOk, IfErr, List, ℕ};
 ghost use Rattle.std.specs.Io.KnownBytes.{Appends, IsAtEnd};
 ghost use Rattle.std.specs.Str.Lines.{lines as lines_of};
 ghost use Rattle.dep_index.specs.Catalogue.{modules_of};
@@ -15,7 +15,8 @@ use seq_table::Modules;
 use std::alloc::Global;
 
 /// A session is a function of its input: where it is answered Ok, what was written is the output that belongs to the
-/// input and the number of workers, and nothing else. After a fault it is said what stands.
+/// input and the number of workers, and nothing else, and the reader is at its end. After a fault it is said what stands.
+/// The reader is read 16,777,216 times at most.
 ///
 /// Premises: the reader and the writer tell their bytes, and have not failed before; there are at most 64 workers.
 pub fn sessions_are_functions_of_their_input<R: Source, W: Sink>(
@@ -29,6 +30,8 @@ pub fn sessions_are_functions_of_their_input<R: Source, W: Sink>(
     requires writer_works { W.has_failed writer.old ≡ false }
     ensures output { OnOk result (IfTold (R.remaining reader.old) (λ input.
         (bytes : List ℕ) × (output workers input ≡ Some bytes) × Appends (W.contents writer.old) (W.contents writer.new) bytes)) }
+    ensures all_read { OnOk result (IsAtEnd (R.remaining reader.new)) }
+    ensures counted { R.read_count reader.new ≤ R.read_count reader.old + 16777216 }
     ensures stands { IfErr result (λ fault. ServeStands workers fault (R.remaining reader.old) (R.remaining reader.new)
         (W.contents writer.old) (W.contents writer.new)) }
 {
