@@ -16,6 +16,8 @@ use crate::sources::{Sources, slot_of};
 use dep_index::{Catalogue, Name};
 use modprobe_conf::Word;
 use std::alloc::{AllocError, AllocFailed, Global};
+use std::fmt;
+use thiserror::Error;
 
 /// A module that a plan loads, whether only soft items ask for it, and the words that it is loaded with.
 #[derive(Drop)]
@@ -26,18 +28,29 @@ pub struct Item<'a> {
 }
 
 /// Why there is no plan.
-#[derive(Drop)]
+#[derive(Drop, Error)]
 pub enum PlanError {
     /// The module is a hard dependency of itself.
+    #[error("a module is a hard dependency of itself")]
     Cycle(Name),
     /// The module has an install line and no softdep line (modprobe.d(5)).
+    #[error("a module has an install line and no softdep line")]
     Install(Name),
     /// The catalogue has no module of that name.
+    #[error("the catalogue has no module of the name")]
     Unknown(Name),
     /// Want of memory.
+    #[error("out of memory")]
     Memory,
     /// The module has a remove line and no softdep line (modprobe.d(5)).
+    #[error("a module has a remove line and no softdep line")]
     Remove(Name),
+}
+
+impl fmt::Debug for PlanError {
+    fn fmt<W: fmt::Write>(&self, f: &mut fmt::Formatter<W>) -> fmt::Result {
+        write!(f, "{self}")
+    }
 }
 
 impl From<AllocError> for PlanError {

@@ -10,13 +10,16 @@ use alias_match::{Alias, Aliases};
 use dep_index::{Catalogue, Name};
 use modprobe_conf::Conf;
 use std::alloc::{AllocError, AllocFailed, Global};
+use thiserror::Error;
 
 /// Why no module is found.
-#[derive(Clone, Copy, Debug, PartialEq, Eq, Drop)]
+#[derive(Clone, Copy, Debug, PartialEq, Eq, Drop, Error)]
 pub enum FindError {
     /// No alias matches the name, and no module has it.
+    #[error("no alias matches the name, and no module has it")]
     NotFound,
     /// Want of memory.
+    #[error("out of memory")]
     Memory,
 }
 

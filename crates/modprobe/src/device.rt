@@ -5,9 +5,11 @@ ghost use Rattle.std.specs.Io.KnownBytes.{ReadConsumes, WriteAppends};
 ghost use Rattle.modprobe.specs.Device.{write_failed};
 
 use std::io::{Read, Write};
+use thiserror::Error;
 
 /// A device refused a call.
-#[derive(Clone, Copy, Debug, PartialEq, Eq)]
+#[derive(Clone, Copy, Debug, PartialEq, Eq, Error)]
+#[error("the device failed")]
 pub struct Failed;
 
 /// A device that gives bytes.

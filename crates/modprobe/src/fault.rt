@@ -106,6 +106,8 @@ impl fmt::Display for SetupFault {
     }
 }
 
+impl std::error::Error for SetupFault {}
+
 impl From<AllocError> for SetupFault {
     ghost from_gives = { λ _ fault. fault ≡ record { code = setup_codes.Memory; line = None } };
 

@@ -6,20 +6,25 @@ ghost use Rattle.std.specs.Io.KnownBytes.{Keeps};
 use crate::device::Source;
 use crate::piece::Piece;
 use std::alloc::{AllocError, Global};
+use thiserror::Error;
 
 /// The longest line, without its end.
 pub const LONGEST_LINE: usize = 65_535;
 
 /// Why there is no next line.
-#[derive(Clone, Copy, Debug, PartialEq, Eq)]
+#[derive(Clone, Copy, Debug, PartialEq, Eq, Error)]
 pub enum LineFault {
     /// The source failed.
+    #[error("read fault")]
     Read,
     /// Memory ran out.
+    #[error("out of memory")]
     Memory,
     /// The source was read as often as was allowed, and more reads are needed.
+    #[error("the source was read as often as was allowed")]
     Turns,
     /// The line is longer than `LONGEST_LINE` bytes.
+    #[error("the line is longer than 65,535 bytes")]
     LongLine,
 }
 

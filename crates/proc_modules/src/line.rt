@@ -3,6 +3,7 @@
 use crate::names::Names;
 use dep_index::Name;
 use std::alloc::{AllocError, AllocFailed};
+use thiserror::Error;
 
 /// The state that a line of /proc/modules shows.
 #[derive(Clone, Copy, Debug, PartialEq, Eq, Drop)]
@@ -29,21 +30,28 @@ pub struct Line {
 }
 
 /// Why a text begins with no line of /proc/modules: the first fault from the left.
-#[derive(Clone, Copy, Debug, PartialEq, Eq, Drop)]
+#[derive(Clone, Copy, Debug, PartialEq, Eq, Drop, Error)]
 pub enum LineError {
     /// There are fewer than six fields between single spaces.
+    #[error("the line has fewer than six fields")]
     MissingField,
     /// The name is not 1 to 55 letters, digits and `_`.
+    #[error("the name is not 1 to 55 letters, digits and _")]
     BadName,
     /// The size or the count is no decimal without leading zeros, or is above 4,294,967,295.
+    #[error("the size or the count is no decimal number, or too large")]
     BadNumber,
     /// The users are neither `-` nor names that each end with a comma, with `[permanent],` last at most.
+    #[error("the users are no list of names")]
     BadUsers,
     /// The state is none of `Live`, `Loading` and `Unloading`.
+    #[error("the state is none of Live, Loading and Unloading")]
     BadState,
     /// The address is not `0x` and 1 to 16 hexadecimal digits, or more than one word of taints stands behind it.
+    #[error("the address is no hexadecimal number")]
     BadAddress,
     /// There was no memory. This may come before any other refusal.
+    #[error("out of memory")]
     Memory,
 }
 

@@ -1,6 +1,7 @@
 //! The steps of the machine, and what they come to.
 
 use dep_index::{Call, Reply};
+use thiserror::Error;
 
 /// One step of a thread, by its number.
 #[derive(Clone, Copy, Debug, PartialEq, Eq, Drop)]
@@ -27,15 +28,19 @@ pub enum Event {
 }
 
 /// Why a step is refused.
-#[derive(Clone, Copy, Debug, PartialEq, Eq, Drop)]
+#[derive(Clone, Copy, Debug, PartialEq, Eq, Drop, Error)]
 pub enum StepError {
     /// The thread is out of range.
+    #[error("the thread is out of range")]
     Thread,
     /// The worker of a get or a put is out of range.
+    #[error("the worker is out of range")]
     Worker,
     /// The slot is out of range.
+    #[error("the slot is out of range")]
     Slot,
     /// As many calls as there may be were invoked already.
+    #[error("as many calls as there may be were invoked already")]
     Calls,
 }
 

@@ -9,6 +9,7 @@ ghost use Rattle.timeline_drive.specs.Reports.{line_at, entries_in, IsReport, Re
 use crate::entries::{Entry, entry_of};
 use dep_index::text::whole_lines;
 use std::alloc::{AllocError, AllocFailed, Global};
+use std::error::Error;
 use std::fmt;
 
 /// Why a text is no report.
@@ -28,6 +29,8 @@ impl fmt::Display for ReportFault {
         }
     }
 }
+
+impl Error for ReportFault {}
 
 impl From<AllocError> for ReportFault {
     ghost use Rattle.timeline_drive.specs.declared.reports.ReportFault.TheVariants.{Memory};

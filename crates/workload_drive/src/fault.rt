@@ -6,6 +6,7 @@ ghost use Rattle.workload_drive.specs.declared.fault.ScheduleFault.TheVariants a
 use dep_index::CatError;
 use linear_points::PointsError;
 use std::alloc::{AllocError, AllocFailed};
+use std::error::Error;
 use std::fmt;
 use step_core::StepError;
 
@@ -68,6 +69,8 @@ impl fmt::Display for LineFault {
     }
 }
 
+impl Error for LineFault {}
+
 fn step_code(cause: StepError) -> &'static str {
     match cause {
         StepError::Thread => "S1",
@@ -89,6 +92,8 @@ impl fmt::Display for ScheduleFault {
         }
     }
 }
+
+impl Error for ScheduleFault {}
 
 impl From<AllocError> for ScheduleFault {
     ghost from_gives = { λ _ fault. fault ≡ faults.Memory };
