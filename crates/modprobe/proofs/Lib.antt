@@ -9,3 +9,4 @@ pub mod ServeLemmas
 pub mod TurnLemmas
 pub mod PlanLemmas
 pub mod ChangeLemmas
+pub mod MemoryLemmas

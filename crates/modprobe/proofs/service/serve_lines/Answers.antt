@@ -1,4 +1,5 @@
 use Rattle.std.proofs.Common.{◌≡◌, ◌∙◌, ap, true, Err}
+use Rattle.std.proofs.lemmas.Bool.{false≢true}
 use Rattle.std.proofs.lemmas.Result.{err_from_is_err_and}
 use Rattle.dep_index.specs.Catalogue.{modules_of}
 use Rattle.dep_index.specs.Calls.{opening}
@@ -6,6 +7,7 @@ use Rattle.modprobe.specs.Lines.{bytes_left, hand_of}
 use Rattle.modprobe.specs.Serve.{opening_of}
 use Rattle.modprobe.proofs.ServeLemmas.{answers_input, stops_in_session, source_end}
 use Rattle.modprobe.specs.Run.{is_turns}
+use Rattle.std.proofs.KnownBytes.{Keeps-refl}
 use Rattle.modprobe.proofs.TurnLemmas.{turns_in_all, turns_fault}
 use Rattle.modprobe.proofs.service.serve_lines.Goals as goal
 
@@ -28,6 +30,36 @@ returns-in_err-run-clause-turns g c =
     let is : is_turns fault ≡ true = rw (p.1, p.2) at ran_out in
     let stops = c.in_err-run.ensures.turns (ap Err (turns_fault fault is)) in
     (stops.0, turns_in_all g.R.Source.remaining c.args.lines.now c.read_setup.new.lines c.run.new.lines c.in_ok-setup.ensures.paid stops)
+
+pub returns-in_err-table-clause-stands : goal.returns-in_err-table-clause-stands
+returns-in_err-table-clause-stands g c =
+    let p = err_from_is_err_and c.from_residual-in_err-table.result c.from_residual-in_err-table.ensures.1 in
+    rw (p.1, p.2) (Keeps-refl (g.W.Sink.contents c.args.writer.now))
+
+pub returns-in_err-table-clause-read : goal.returns-in_err-table-clause-read
+returns-in_err-table-clause-read g c =
+    let p = err_from_is_err_and c.from_residual-in_err-table.result c.from_residual-in_err-table.ensures.1 in
+    rw (p.1, p.2) c.in_ok-setup.ensures.read
+
+pub returns-in_err-table-clause-write : goal.returns-in_err-table-clause-write
+returns-in_err-table-clause-write g c =
+    let p = err_from_is_err_and c.from_residual-in_err-table.result c.from_residual-in_err-table.ensures.1 in
+    rw (p.1, p.2) c.requires.writer_works
+
+pub returns-in_err-table-clause-turns : goal.returns-in_err-table-clause-turns
+returns-in_err-table-clause-turns g c =
+    let p = err_from_is_err_and c.from_residual-in_err-table.result c.from_residual-in_err-table.ensures.1 in
+    rw (p.1, p.2) (λ is. absurd (false≢true is))
+
+pub returns-in_err-run-clause-read : goal.returns-in_err-run-clause-read
+returns-in_err-run-clause-read g c =
+    let p = err_from_is_err_and c.from_residual-in_err-run.result c.from_residual-in_err-run.ensures.1 in
+    rw (p.1, p.2) c.in_err-run.ensures.read
+
+pub returns-in_err-run-clause-write : goal.returns-in_err-run-clause-write
+returns-in_err-run-clause-write g c =
+    let p = err_from_is_err_and c.from_residual-in_err-run.result c.from_residual-in_err-run.ensures.1 in
+    rw (p.1, p.2) c.in_err-run.ensures.write
 
 pub returns-clause-answered : goal.returns-clause-answered
 returns-clause-answered g c =

@@ -1,6 +1,8 @@
+use Rattle.std.proofs.lemmas.Result.{err_from_is_err_and}
 use Rattle.modprobe.specs.Lines.{bytes_left}
 use Rattle.modprobe.specs.Setup.{Setup}
 use Rattle.modprobe.specs.ForProofs.{parts_of}
+use Rattle.modprobe.proofs.MemoryLemmas.{memory_refuses}
 use Rattle.modprobe.proofs.NameLemmas.{short_names}
 use Rattle.modprobe.proofs.SetupLemmas.{gives_setup}
 use Rattle.modprobe.proofs.setup.read_setup.Goals as goal
@@ -22,3 +24,23 @@ returns-clause-setup g c =
 
 pub invariant_of-result : goal.invariant_of-result
 invariant_of-result g c = short_names c.deref.result.now c.in_ok-read_catalogue.field-0 c.in_ok-read_catalogue.ensures
+
+pub returns-in_err-read_conf-clause-refused : goal.returns-in_err-read_conf-clause-refused
+returns-in_err-read_conf-clause-refused g c =
+    let p = err_from_is_err_and c.from_residual-in_err-read_conf.result c.from_residual-in_err-read_conf.ensures.1 in
+    rw (p.1, p.2) (memory_refuses (bytes_left g.R.Source.remaining c.args.lines.now))
+
+pub returns-in_err-read_conf-clause-stops : goal.returns-in_err-read_conf-clause-stops
+returns-in_err-read_conf-clause-stops g c =
+    let p = err_from_is_err_and c.from_residual-in_err-read_conf.result c.from_residual-in_err-read_conf.ensures.1 in
+    rw (p.1, p.2) tt
+
+pub returns-in_err-read_conf-clause-read : goal.returns-in_err-read_conf-clause-read
+returns-in_err-read_conf-clause-read g c =
+    let p = err_from_is_err_and c.from_residual-in_err-read_conf.result c.from_residual-in_err-read_conf.ensures.1 in
+    rw (p.1, p.2) c.in_ok-texts.ensures.read
+
+pub returns-in_err-read_conf-clause-turns : goal.returns-in_err-read_conf-clause-turns
+returns-in_err-read_conf-clause-turns g c =
+    let p = err_from_is_err_and c.from_residual-in_err-read_conf.result c.from_residual-in_err-read_conf.ensures.1 in
+    rw (p.1, p.2) (λ is. absurd (cc))
