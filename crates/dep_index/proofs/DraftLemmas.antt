@@ -1,5 +1,5 @@
 -- What a line makes of a draft, by the definitions and by the program.
-use Rattle.std.proofs.Common.{◌≡◌, ℕ, ◌+◌, ◌<◌, ◌≤◌, List, [], ◌∷◌, ◌++◌, Bool, true, false, cond, ◌||◌, map, length, Option, Some, None, is_some, Result, Ok, Err, Vec, refl, sym, ◌∙◌, ap, subst, arith}
+use Rattle.std.proofs.Common.{◌≡◌, ℕ, ◌+◌, ◌<◌, ◌≤◌, List, [], ◌∷◌, ◌++◌, Bool, true, false, cond, not, ◌||◌, map, length, Option, Some, None, is_some, Result, Ok, Err, Vec, refl, sym, ◌∙◌, ap, subst, arith}
 use Rattle.std.specs.declared.alloc.Global.{Global}
 use Rattle.std.specs.List.{list_any}
 use Rattle.std.specs.Map.{lookup}
@@ -11,7 +11,9 @@ use Rattle.std.proofs.lemmas.Map.Made.{is_some-lookup}
 use Rattle.indexmap.specs.IndexMap.{insert_entry}
 use Rattle.indexmap.proofs.CallerLemmas.{insert_entry-new}
 use Rattle.dep_index.specs.Catalogue as spec
-use Rattle.dep_index.specs.Catalogue.{Description, Refusal, Directive, bad, duplicate, twice_exported, too_many, version, begin, size, exports, needs, softneeds, param, permanent, has_name, is_exported, exports_symbol, change, change_last, export_each, sized, with_last, with_modules, described, limit, apply}
+use Rattle.dep_index.specs.Catalogue.{Description, Refusal, Directive, bad, duplicate, twice_exported, too_many, version, begin, size, exports, needs, softneeds, param, permanent, has_name, is_exported, exports_symbol, change, change_last, export_each, sized, with_last, with_modules, described, most_modules, has_kind, limit, apply}
+use Rattle.dep_index.specs.declared.versions.Version.{Version}
+use Rattle.dep_index.specs.declared.versions.Version.TheVariants as text
 use Rattle.dep_index.specs.declared.details.Details.{Details}
 use Rattle.dep_index.specs.declared.details.Open.{Open}
 use Rattle.dep_index.specs.declared.draft.Draft.{Draft}
@@ -47,7 +49,7 @@ refused_also line.TooMany x y go h = go too_many h
 refused_also line.Memory x y go h = tt
 
 -- the last module is the one that changes
-pub change_at_last : (v : Bool) (es front : List Description) (last : Description) (d : Directive) → change_last v es (front ++ last ∷ []) d ≡ with_last (es ++ front) (change v (es ++ front) last d)
+pub change_at_last : (v : Version) (es front : List Description) (last : Description) (d : Directive) → change_last v es (front ++ last ∷ []) d ≡ with_last (es ++ front) (change v (es ++ front) last d)
 change_at_last v es [] last d = ap (λ l. with_last l (change v l last d)) (sym (append-nil es))
 change_at_last v es (m ∷ []) last d = refl
 change_at_last v es (m ∷ n ∷ ms) last d =
@@ -81,15 +83,16 @@ size_keeps_name : (last : Description) (o : Option ℕ) (n : ℕ) (d : Descripti
 size_keeps_name last None n d h = named last (record last { size = Some n }) d refl h
 size_keeps_name last (Some k) n d h = absurd (cc)
 
-pub keeps_name : (v : Bool) (es : List Description) (last : Description) (x : Directive) (d : Description) → change v es last x ≡ Ok d → d.name ≡ last.name
-keeps_name v es last version d h = absurd (cc)
+pub keeps_name : (v : Version) (es : List Description) (last : Description) (x : Directive) (d : Description) → change v es last x ≡ Ok d → d.name ≡ last.name
+keeps_name v es last (version new) d h = absurd (cc)
 keeps_name v es last (begin name) d h = absurd (cc)
 keeps_name v es last (size n) d h = size_keeps_name last last.size n d h
 keeps_name v es last (exports ss) d h = export_keeps_name last es ss d h
 keeps_name v es last (needs ss) d h = named last (record last { needed_symbols = last.needed_symbols ++ ss }) d refl h
-keeps_name true es last (softneeds ns) d h = named last (record last { softneeds = last.softneeds ++ ns }) d refl h
-keeps_name false es last (softneeds ns) d h = absurd (cc)
-keeps_name v es last (param name kind) d h = at (list_any (λ p. bytes_eq name p.name) last.params) h where
+keeps_name text.One es last (softneeds ns) d h = absurd (cc)
+keeps_name text.Two es last (softneeds ns) d h = named last (record last { softneeds = last.softneeds ++ ns }) d refl h
+keeps_name text.Three es last (softneeds ns) d h = named last (record last { softneeds = last.softneeds ++ ns }) d refl h
+keeps_name v es last (param name kind) d h = at (not (has_kind v kind) || list_any (λ p. bytes_eq name p.name) last.params) h where
   more : Description
   more = record last { params = last.params ++ (record { name = name; kind = kind } ∷ []) }
 
@@ -100,7 +103,7 @@ keeps_name v es last permanent d h = named last (record last { permanent = true 
 
 -- the draft with its open module changed
 abbrev pub changed : Draft → Open → List Link → Draft
-changed draft o ls = record { begun = true; is_version_2 = draft.is_version_2; earlier = draft.earlier; last = Some o; exporters = ls }
+changed draft o ls = record { begun = true; version = draft.version; earlier = draft.earlier; last = Some o; exporters = ls }
 
 module _ (draft : Draft) (o : Open) (m : ℕ) (x : Directive) (is : draft.last ≡ Some o) (sound : IsSound draft) (here : m ≡ length draft.earlier.entries) where
   abbrev earlier : List Description
@@ -109,26 +112,26 @@ module _ (draft : Draft) (o : Open) (m : ℕ) (x : Directive) (is : draft.last �
   all : modules_read draft ≡ earlier ++ open_in o ∷ []
   all = ap (λ l. earlier ++ last_in l) is
 
-  by_links : change_links draft.is_version_2 draft.exporters m (open_in o) x ≡ linked earlier (change draft.is_version_2 earlier (open_in o) x)
+  by_links : change_links draft.version draft.exporters m (open_in o) x ≡ linked earlier (change draft.version earlier (open_in o) x)
   by_links =
-      ap (λ ls. change_links draft.is_version_2 ls m (open_in o) x) (sound.links ∙ ap links_of all)
-      ∙ ap (λ n. change_links draft.is_version_2 (links_of (earlier ++ open_in o ∷ [])) n (open_in o) x) (here ∙ sym (length-map draft.earlier.entries description_of))
-      ∙ change_linked draft.is_version_2 earlier (open_in o) x
+      ap (λ ls. change_links draft.version ls m (open_in o) x) (sound.links ∙ ap links_of all)
+      ∙ ap (λ n. change_links draft.version (links_of (earlier ++ open_in o ∷ [])) n (open_in o) x) (here ∙ sym (length-map draft.earlier.entries description_of))
+      ∙ change_linked draft.version earlier (open_in o) x
 
-  by_last : change_last draft.is_version_2 [] (modules_read draft) x ≡ with_last earlier (change draft.is_version_2 earlier (open_in o) x)
-  by_last = ap (λ l. change_last draft.is_version_2 [] l x) all ∙ change_at_last draft.is_version_2 [] earlier (open_in o) x
+  by_last : change_last draft.version [] (modules_read draft) x ≡ with_last earlier (change draft.version earlier (open_in o) x)
+  by_last = ap (λ l. change_last draft.version [] l x) all ∙ change_at_last draft.version [] earlier (open_in o) x
 
-  pub change_refused : (r : Refusal) → change_links draft.is_version_2 draft.exporters m (open_in o) x ≡ Err r → with_modules (draft_in draft) (change_last draft.is_version_2 [] (modules_read draft) x) ≡ Err r
+  pub change_refused : (r : Refusal) → change_links draft.version draft.exporters m (open_in o) x ≡ Err r → with_modules (draft_in draft) (change_last draft.version [] (modules_read draft) x) ≡ Err r
   change_refused r h =
-      let no : change draft.is_version_2 earlier (open_in o) x ≡ Err r = linked_err earlier _ r (sym by_links ∙ h) in
+      let no : change draft.version earlier (open_in o) x ≡ Err r = linked_err earlier _ r (sym by_links ∙ h) in
       ap (with_modules (draft_in draft)) (by_last ∙ ap (with_last earlier) no)
 
-  pub change_done : (o' : Open) (ls : List Link) → change_links draft.is_version_2 draft.exporters m (open_in o) x ≡ Ok (open_in o', ls)
-      → (with_modules (draft_in draft) (change_last draft.is_version_2 [] (modules_read draft) x) ≡ Ok (draft_in (changed draft o' ls))) × IsSound (changed draft o' ls)
+  pub change_done : (o' : Open) (ls : List Link) → change_links draft.version draft.exporters m (open_in o) x ≡ Ok (open_in o', ls)
+      → (with_modules (draft_in draft) (change_last draft.version [] (modules_read draft) x) ≡ Ok (draft_in (changed draft o' ls))) × IsSound (changed draft o' ls)
   change_done o' ls h =
       let done = linked_ok earlier _ (open_in o') ls (sym by_links ∙ h) in
       let fresh : has_name earlier o.name.items ≡ false = subst (λ l. IsNew earlier l) is sound.is_new in
-      let name : (open_in o').name ≡ (open_in o).name = keeps_name draft.is_version_2 earlier (open_in o) x (open_in o') done.0 in
+      let name : (open_in o').name ≡ (open_in o).name = keeps_name draft.version earlier (open_in o) x (open_in o') done.0 in
       let len : length (modules_read draft) ≡ length earlier + 1 = ap length all ∙ length-append earlier (open_in o ∷ []) in (
         ap (with_modules (draft_in draft)) (by_last ∙ ap (with_last earlier) done.0),
         record {
@@ -139,9 +142,9 @@ module _ (draft : Draft) (o : Open) (m : ℕ) (x : Directive) (is : draft.last �
       )
 
   pub change_meets : {T : Type 0} (r : Result T Refused) (o' : Open) (ls : List Link)
-      → MatchResult r (λ _. change_links draft.is_version_2 draft.exporters m (open_in o) x ≡ Ok (open_in o', ls)) (λ e. IsRefused e (change_links draft.is_version_2 draft.exporters m (open_in o) x))
-      → MatchResult r (λ _. (with_modules (draft_in draft) (change_last draft.is_version_2 [] (modules_read draft) x) ≡ Ok (draft_in (changed draft o' ls))) × IsSound (changed draft o' ls))
-      (λ e. IsRefused e (with_modules (draft_in draft) (change_last draft.is_version_2 [] (modules_read draft) x)))
+      → MatchResult r (λ _. change_links draft.version draft.exporters m (open_in o) x ≡ Ok (open_in o', ls)) (λ e. IsRefused e (change_links draft.version draft.exporters m (open_in o) x))
+      → MatchResult r (λ _. (with_modules (draft_in draft) (change_last draft.version [] (modules_read draft) x) ≡ Ok (draft_in (changed draft o' ls))) × IsSound (changed draft o' ls))
+      (λ e. IsRefused e (with_modules (draft_in draft) (change_last draft.version [] (modules_read draft) x)))
   change_meets (Ok t) o' ls h = change_done o' ls h
   change_meets (Err e) o' ls h = refused_also e _ _ change_refused h
 
@@ -166,20 +169,20 @@ module _ (draft new : Draft) (o : Open) (name : List ℕ) (sound : IsSound draft
   earlier_modules = sym (append-nil (descriptions_in new.earlier.entries)) ∙ ap (λ l. descriptions_in new.earlier.entries ++ last_in l) (sym closed) ∙ modules
 
   abbrev opened : Draft
-  opened = record { begun = true; is_version_2 = new.is_version_2; earlier = new.earlier; last = Some o; exporters = new.exporters }
+  opened = record { begun = true; version = new.version; earlier = new.earlier; last = Some o; exporters = new.exporters }
 
   behind : modules_read opened ≡ modules_read draft ++ described name ∷ []
   behind = ap (λ l. l ++ open_in o ∷ []) earlier_modules ∙ ap (λ d. modules_read draft ++ d ∷ []) is
 
-  within : limit (draft_in draft) ≤ 1024
-  within = elim draft.is_version_2 as (λ v. cond v 1024 256 ≤ 1024) [ true ↦ omega arith | false ↦ omega arith ]
+  within : limit (draft_in draft) ≤ 65535
+  within = elim draft.version as (λ v. most_modules v ≤ 65535) [ text.One ↦ omega arith | text.Two ↦ omega arith | text.Three ↦ omega arith ]
 
   full : nat_le (limit (draft_in draft)) (length (modules_read draft)) ≡ false
   full = lt-leb (limit (draft_in draft)) (length (modules_read draft)) room
 
   pub begin_done : (apply (draft_in draft) (begin name) ≡ Ok (draft_in opened)) × IsSound opened
   begin_done = (
-    rw (other, full) (ap Ok (λ i. record { begun = true; is_version_2 = (sym same i).is_version_2; modules = sym behind i })),
+    rw (other, full) (ap Ok (λ i. record { begun = true; version = (sym same i).version; modules = sym behind i })),
     record {
       links = exporters ∙ sound.links ∙ sym (ap links_of behind ∙ links_of-last (modules_read draft) (described name) ∙ append-nil (links_of (modules_read draft)));
       is_new = ap (λ l. has_name l o.name.items) earlier_modules ∙ ap (has_name (modules_read draft)) (ap (λ (d : Description). d.name) is) ∙ other;

@@ -1,11 +1,13 @@
 -- The links of a catalogue answer as a walk over its modules does.
-use Rattle.std.proofs.Common.{◌≡◌, ℕ, suc, ◌+◌, List, [], ◌∷◌, ◌++◌, Bool, true, false, cond, ◌||◌, map, length, Option, Some, None, is_some, nat_lt, Result, Ok, Err, refl, sym, ◌∙◌, ap, arith}
+use Rattle.std.proofs.Common.{◌≡◌, ℕ, suc, ◌+◌, List, [], ◌∷◌, ◌++◌, Bool, true, false, cond, not, ◌||◌, map, length, Option, Some, None, is_some, nat_lt, Result, Ok, Err, refl, sym, ◌∙◌, ap, arith}
 use Rattle.std.specs.List.{list_any, position_or_len}
 use Rattle.std.specs.Str.{bytes_eq}
 use Rattle.std.proofs.lemmas.Bool.Decides.{nat_tests}
 use Rattle.std.proofs.lemmas.List.{append_assoc, append-nil, map-append}
 use Rattle.std.proofs.lemmas.List.Folds.{list_any-append}
-use Rattle.dep_index.specs.Catalogue.{Description, Refusal, Directive, twice_exported, bad, version, begin, size, exports, needs, softneeds, param, permanent, exports_symbol, is_exported, exporter, change, export_each, sized}
+use Rattle.dep_index.specs.Catalogue.{Description, Refusal, Directive, twice_exported, bad, version, begin, size, exports, needs, softneeds, param, permanent, exports_symbol, is_exported, exporter, has_kind, change, export_each, sized}
+use Rattle.dep_index.specs.declared.versions.Version.{Version}
+use Rattle.dep_index.specs.declared.versions.Version.TheVariants as text
 use Rattle.dep_index.specs.Exports.{Link, slot_at, links_from, links_of, export_links, with_links, change_links}
 
 -- the slot of the first module from k on that passes
@@ -109,16 +111,17 @@ size_linked earlier last None n = kept earlier last (record last { size = Some n
 size_linked earlier last (Some k) n = refl
 
 -- a line does the same by the links as by the modules
-pub change_linked : (v : Bool) (earlier : List Description) (last : Description) (d : Directive) → change_links v (links_of (earlier ++ last ∷ [])) (length earlier) last d ≡ linked earlier (change v earlier last d)
-change_linked v earlier last version = refl
+pub change_linked : (v : Version) (earlier : List Description) (last : Description) (d : Directive) → change_links v (links_of (earlier ++ last ∷ [])) (length earlier) last d ≡ linked earlier (change v earlier last d)
+change_linked v earlier last (version new) = refl
 change_linked v earlier last (begin name) = refl
 change_linked v earlier last (size n) = size_linked earlier last last.size n
 change_linked v earlier last (exports ss) = export_linked earlier last ss
 change_linked v earlier last (needs ss) = kept earlier last (record last { needed_symbols = last.needed_symbols ++ ss }) refl
-change_linked true earlier last (softneeds ns) = kept earlier last (record last { softneeds = last.softneeds ++ ns }) refl
-change_linked false earlier last (softneeds ns) = refl
+change_linked text.One earlier last (softneeds ns) = refl
+change_linked text.Two earlier last (softneeds ns) = kept earlier last (record last { softneeds = last.softneeds ++ ns }) refl
+change_linked text.Three earlier last (softneeds ns) = kept earlier last (record last { softneeds = last.softneeds ++ ns }) refl
 change_linked v earlier last (param name kind) =
-    elim (list_any (λ p. bytes_eq name p.name) last.params) as (λ t. with_links (links_of (earlier ++ last ∷ [])) (cond t (Err bad) (Ok (record last { params = last.params ++ (record { name = name; kind = kind } ∷ []) })))
+    elim (not (has_kind v kind) || list_any (λ p. bytes_eq name p.name) last.params) as (λ t. with_links (links_of (earlier ++ last ∷ [])) (cond t (Err bad) (Ok (record last { params = last.params ++ (record { name = name; kind = kind } ∷ []) })))
     ≡ linked earlier (cond t (Err bad) (Ok (record last { params = last.params ++ (record { name = name; kind = kind } ∷ []) })))) [
       | true ↦ refl
       | false ↦ kept earlier last (record last { params = last.params ++ (record { name = name; kind = kind } ∷ []) }) refl

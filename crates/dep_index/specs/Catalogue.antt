@@ -1,11 +1,16 @@
 -- Which catalogue a text is.
-use Rattle.std.specs.Prelude.{ℕ, suc, Bool, true, false, not, if◌then◌else◌, ◌||◌, ◌==◌, nat_eq, nat_le, List, [], ◌∷◌, ◌++◌, map, length, position, codes, Option, Some, None, Result, Ok, Err, slice_index_or}
+use Rattle.std.specs.Prelude.{ℕ, suc, ◌-◌, Bool, true, false, not, if◌then◌else◌, ◌||◌, ◌==◌, nat_eq, nat_le, List, [], ◌∷◌, ◌++◌, map, length, position, codes, take, drop, Option, Some, None, Result, Ok, Err, slice_index_or}
 use Rattle.std.specs.List.{list_all, list_any}
+use Rattle.std.specs.Option.{option_map}
 use Rattle.std.specs.Str.{bytes_eq}
 use Rattle.std.specs.Str.Lines.{lines}
 use Rattle.dep_index.specs.declared.params.ParamKind.{ParamKind}
-use Rattle.dep_index.specs.declared.params.ParamKind.TheVariants as kind_is
+use Rattle.dep_index.specs.declared.params.ParamKind.TheVariants.{Charp, One, Array}
+use Rattle.dep_index.specs.declared.params.Scalar.{Scalar}
+use Rattle.dep_index.specs.declared.params.Scalar.TheVariants as scalar
 use Rattle.dep_index.specs.declared.params.Param.{Param}
+use Rattle.dep_index.specs.declared.versions.Version.{Version}
+use Rattle.dep_index.specs.declared.versions.Version.TheVariants as text
 use Rattle.dep_index.specs.Table.{Module}
 use Rattle.dep_index.specs.Text.{words, is_comment, normal_form, is_name, number_within}
 
@@ -38,7 +43,7 @@ description_at modules m = slice_index_or modules m (described [])
 
 -- what the words of a line say, by their form alone
 pub data Directive : Type 0 where
-  version : Directive
+  version : Version → Directive
   begin : List ℕ → Directive
   size : ℕ → Directive
   exports : List (List ℕ) → Directive
@@ -54,12 +59,30 @@ pub data Refusal : Type 0 where
   twice_exported : Refusal
   too_many : Refusal
 
--- the kind of parameter that a word names
+-- the words of the kernel's standard types of one value (include/linux/moduleparam.h)
+abbrev pub scalar_of : List ℕ → Option Scalar
+scalar_of word =
+    if bytes_eq word (codes "byte") then Some scalar.Byte
+    else (if bytes_eq word (codes "short") then Some scalar.Short
+    else (if bytes_eq word (codes "ushort") then Some scalar.Ushort
+    else (if bytes_eq word (codes "int") then Some scalar.Int
+    else (if bytes_eq word (codes "uint") then Some scalar.Uint
+    else (if bytes_eq word (codes "long") then Some scalar.Long
+    else (if bytes_eq word (codes "ulong") then Some scalar.Ulong
+    else (if bytes_eq word (codes "hexint") then Some scalar.Hexint
+    else (if bytes_eq word (codes "bool") then Some scalar.Bool
+    else (if bytes_eq word (codes "invbool") then Some scalar.Invbool else None)))))))))
+
+-- the word has `[]` at its end
+abbrev pub is_array : List ℕ → Bool
+is_array word = bytes_eq (drop (length word - 2) word) (codes "[]")
+
+-- the kind of parameter that a word names: a text, one value, or with `[]` behind it an array
 abbrev pub kind_of : List ℕ → Option ParamKind
 kind_of word =
-    if bytes_eq word (codes "int") then Some kind_is.Int
-    else (if bytes_eq word (codes "bool") then Some kind_is.Bool
-    else (if bytes_eq word (codes "charp") then Some kind_is.Charp else None))
+    if bytes_eq word (codes "charp") then Some Charp
+    else (if is_array word then option_map Array (scalar_of (take (length word - 2) word))
+    else option_map One (scalar_of word))
 
 -- a size, where the word is one
 abbrev pub with_size : Option ℕ → Option Directive
@@ -101,9 +124,11 @@ abbrev pub alone : Directive → List (List ℕ) → Option Directive
 alone directive [] = Some directive
 alone directive (w ∷ ws) = None
 
--- the version 2, and no other
+-- the versions 2 and 3, and no other
 abbrev pub version_of : List (List ℕ) → Option Directive
-version_of (word ∷ []) = if bytes_eq word (codes "2") then Some version else None
+version_of (word ∷ []) =
+    if bytes_eq word (codes "2") then Some (version text.Two)
+    else (if bytes_eq word (codes "3") then Some (version text.Three) else None)
 version_of _ = None
 
 -- what a first word and the words behind it say; None where they have no form of a catalogue line
@@ -118,20 +143,45 @@ directive_of word rest =
     else (if bytes_eq word (codes "version") then version_of rest
     else (if bytes_eq word (codes "softneeds") then some_names rest else None)))))))
 
--- what was read so far: whether a line that is not ignored came, whether the text is of version 2, and the
--- descriptions in order, the last one open
+-- how many modules a text may have
+abbrev pub most_modules : Version → ℕ
+most_modules text.One = 256
+most_modules text.Two = 1024
+most_modules text.Three = 65535
+
+-- a text may have soft needs
+abbrev pub has_softneeds : Version → Bool
+has_softneeds text.One = false
+has_softneeds text.Two = true
+has_softneeds text.Three = true
+
+-- a kind of parameter that every version has
+abbrev pub is_first_kind : ParamKind → Bool
+is_first_kind Charp = true
+is_first_kind (One scalar.Int) = true
+is_first_kind (One scalar.Bool) = true
+is_first_kind _ = false
+
+-- a text may have parameters of the kind
+abbrev pub has_kind : Version → ParamKind → Bool
+has_kind text.One kind = is_first_kind kind
+has_kind text.Two kind = is_first_kind kind
+has_kind text.Three kind = true
+
+-- what was read so far: whether a line that is not ignored came, the version of the text, and the descriptions in
+-- order, the last one open
 pub record Draft : Type 0 where
   pub begun : Bool
-  pub is_version_2 : Bool
+  pub version : Version
   pub modules : List Description
 
 -- before the first line
 abbrev pub no_draft : Draft
-no_draft = record { begun = false; is_version_2 = false; modules = [] }
+no_draft = record { begun = false; version = text.One; modules = [] }
 
 -- how many modules the text may have
 abbrev pub limit : Draft → ℕ
-limit draft = if draft.is_version_2 then 1024 else 256
+limit draft = most_modules draft.version
 
 -- a module has the name
 abbrev pub has_name : List Description → List ℕ → Bool
@@ -172,25 +222,25 @@ export_each last earlier (s ∷ ss) =
     else export_each (record last { exports = last.exports ++ (s ∷ []) }) earlier ss
 
 -- what a line that changes the last description makes of it
-abbrev pub change : Bool → List Description → Description → Directive → Result Description Refusal
-change is_version_2 earlier last version = Err bad
-change is_version_2 earlier last (begin name) = Err bad
-change is_version_2 earlier last (size n) = sized last last.size n
-change is_version_2 earlier last (exports ss) = export_each last earlier ss
-change is_version_2 earlier last (needs ss) = Ok (record last { needed_symbols = last.needed_symbols ++ ss })
-change is_version_2 earlier last (softneeds ns) =
-    if is_version_2 then Ok (record last { softneeds = last.softneeds ++ ns }) else Err bad
-change is_version_2 earlier last (param name kind) =
-    if list_any (λ p. bytes_eq name p.name) last.params
+abbrev pub change : Version → List Description → Description → Directive → Result Description Refusal
+change v earlier last (version new) = Err bad
+change v earlier last (begin name) = Err bad
+change v earlier last (size n) = sized last last.size n
+change v earlier last (exports ss) = export_each last earlier ss
+change v earlier last (needs ss) = Ok (record last { needed_symbols = last.needed_symbols ++ ss })
+change v earlier last (softneeds ns) =
+    if has_softneeds v then Ok (record last { softneeds = last.softneeds ++ ns }) else Err bad
+change v earlier last (param name kind) =
+    if not (has_kind v kind) || list_any (λ p. bytes_eq name p.name) last.params
     then Err bad
     else Ok (record last { params = last.params ++ (record { name = name; kind = kind } ∷ []) })
-change is_version_2 earlier last permanent = Ok (record last { permanent = true })
+change v earlier last permanent = Ok (record last { permanent = true })
 
 -- the last of the modules changes; where there is none the line is bad
-abbrev pub change_last : Bool → List Description → List Description → Directive → Result (List Description) Refusal
-change_last is_version_2 earlier [] directive = Err bad
-change_last is_version_2 earlier (m ∷ []) directive = with_last earlier (change is_version_2 earlier m directive)
-change_last is_version_2 earlier (m ∷ n ∷ ms) directive = change_last is_version_2 (earlier ++ (m ∷ [])) (n ∷ ms) directive
+abbrev pub change_last : Version → List Description → List Description → Directive → Result (List Description) Refusal
+change_last v earlier [] directive = Err bad
+change_last v earlier (m ∷ []) directive = with_last earlier (change v earlier m directive)
+change_last v earlier (m ∷ n ∷ ms) directive = change_last v (earlier ++ (m ∷ [])) (n ∷ ms) directive
 
 -- the draft with these modules
 abbrev pub with_modules : Draft → Result (List Description) Refusal → Result Draft Refusal
@@ -199,13 +249,13 @@ with_modules draft (Err e) = Err e
 
 -- the effect of a directive
 abbrev pub apply : Draft → Directive → Result Draft Refusal
-apply draft version =
-    if draft.begun then Err bad else Ok (record draft { begun = true; is_version_2 = true })
+apply draft (version new) =
+    if draft.begun then Err bad else Ok (record draft { begun = true; version = new })
 apply draft (begin name) =
     if has_name draft.modules name then Err duplicate
     else (if nat_le (limit draft) (length draft.modules) then Err too_many
     else Ok (record draft { begun = true; modules = draft.modules ++ (described name ∷ []) }))
-apply draft directive = with_modules draft (change_last draft.is_version_2 [] draft.modules directive)
+apply draft directive = with_modules draft (change_last draft.version [] draft.modules directive)
 
 -- a line of no form is bad
 abbrev pub apply_some : Draft → Option Directive → Result Draft Refusal

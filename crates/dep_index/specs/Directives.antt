@@ -6,7 +6,7 @@ use Rattle.dep_index.specs.declared.directives.Directive.TheVariants.{Version, M
 
 -- a directive of the program, as one of the definitions
 abbrev pub directive_in : Directive → spec.Directive
-directive_in Version = spec.version
+directive_in (Version version) = spec.version version
 directive_in (Module name) = spec.begin name
 directive_in (Size n) = spec.size n
 directive_in (Exports symbols) = spec.exports (texts_of symbols.now)

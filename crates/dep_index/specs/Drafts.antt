@@ -24,7 +24,7 @@ abbrev pub draft_in : Draft → spec.Draft
 draft_in draft =
     record {
       begun = draft.begun;
-      is_version_2 = draft.is_version_2;
+      version = draft.version;
       modules = modules_read draft;
     }
 
@@ -37,7 +37,7 @@ IsNew earlier (Some o) = has_name earlier o.name.items ≡ false
 pub record IsSound (draft : Draft) : Type 0 where
   pub links : draft.exporters ≡ links_of (modules_read draft)
   pub is_new : IsNew (descriptions_in draft.earlier.entries) draft.last
-  pub few : length (modules_read draft) ≤ 1024
+  pub few : length (modules_read draft) ≤ 65535
 
 -- the draft is now what the definition makes, and sound, or the line is refused for the definition's fault
 abbrev pub DraftIsMade : {T : Type 0} → Result T Refused → Result spec.Draft spec.Refusal → Draft → Type 0

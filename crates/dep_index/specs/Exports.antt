@@ -1,7 +1,8 @@
 -- The symbols of a catalogue, each with the slot of its module. These words serve proofs alone.
-use Rattle.std.specs.Prelude.{ℕ, suc, Bool, is_some, List, [], ◌∷◌, ◌++◌, map, Option, Some, None, Result, Ok, Err, if◌then◌else◌}
+use Rattle.std.specs.Prelude.{ℕ, suc, is_some, List, [], ◌∷◌, ◌++◌, map, Option, Some, None, Result, Ok, Err, if◌then◌else◌}
 use Rattle.std.specs.Str.{bytes_eq}
 use Rattle.dep_index.specs.Catalogue.{Description, Refusal, Directive, twice_exported, exports, change, with_need}
+use Rattle.dep_index.specs.declared.versions.Version.{Version}
 
 -- a symbol and the slot of its module
 abbrev pub Link : Type 0
@@ -35,9 +36,9 @@ with_links links (Ok last) = Ok (last, links)
 with_links links (Err e) = Err e
 
 -- what a line makes of the last module and of the links
-abbrev pub change_links : Bool → List Link → ℕ → Description → Directive → Result (Description × List Link) Refusal
-change_links is_version_2 links m last (exports ss) = export_links links m last ss
-change_links is_version_2 links m last directive = with_links links (change is_version_2 [] last directive)
+abbrev pub change_links : Version → List Link → ℕ → Description → Directive → Result (Description × List Link) Refusal
+change_links v links m last (exports ss) = export_links links m last ss
+change_links v links m last directive = with_links links (change v [] last directive)
 
 -- the needs of a slot, by the links
 abbrev pub needs_by : List Link → ℕ → List ℕ → List (List ℕ) → List ℕ

@@ -6,5 +6,5 @@ use Rattle.dep_index.specs.declared.states.ModuleState.{ModuleState}
 
 -- the order has room for every slot, and a slot's number is short
 pub record HasRoom (states : Vec ModuleState) (order : Vec ℕ) : Type 0 where
-  pub few : length states.items ≤ 1024
+  pub few : length states.items ≤ 65535
   pub room : length states.items ≤ vec_capacity order

@@ -29,23 +29,23 @@ impl Model for Catalogue {
 
     ghost view = { λ c. descriptions_in c.modules.entries };
 
-    ghost invariant = { λ c. record { slots : c.slots ≡ modules_of (descriptions_in c.modules.entries); few : length c.modules.entries ≤ 1024 } };
+    ghost invariant = { λ c. record { slots : c.slots ≡ modules_of (descriptions_in c.modules.entries); few : length c.modules.entries ≤ 65535 } };
 }
 
 impl Catalogue {
     /// The modules, with what is known of them by slot.
     pub(crate) fn new(modules: IndexMap<Vec<u8>, Details>, slots: Slots) -> Catalogue
         requires slots { slots ≡ modules_of (descriptions_in modules.entries) }
-        requires few { length modules.entries ≤ 1024 }
+        requires few { length modules.entries ≤ 65535 }
         ensures { result ≡ descriptions_in modules.entries }
     {
         Catalogue { modules, slots }
     }
 
-    /// How many modules there are, at most 1,024.
+    /// How many modules there are, at most 65,535.
     pub fn len(&self) -> usize
         ensures result_is { result ≡ length self.now }
-        ensures bound { length self.now ≤ 1024 }
+        ensures bound { length self.now ≤ 65535 }
     {
         self.modules.len()
     }

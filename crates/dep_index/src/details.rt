@@ -1,5 +1,5 @@
 //! What the lines behind a `module` line say of it.
-ghost use Rattle.std.specs.Prelude.{◌≡◌, false, [], ◌∷◌, ◌++◌, Some, Ok, OnOk, MatchResult};
+ghost use Rattle.std.specs.Prelude.{◌≡◌, [], ◌∷◌, ◌++◌, Some, Ok, OnOk, MatchResult};
 ghost use Rattle.std.specs.List.{list_any};
 ghost use Rattle.std.specs.Str.{bytes_eq};
 ghost use Rattle.dep_index.specs.Text.{texts_of};
@@ -16,6 +16,7 @@ use crate::faults::Refused;
 use crate::names::Name;
 use crate::params::{Param, ParamKind};
 use crate::text::is_same;
+use crate::versions::Version;
 use std::alloc::{AllocError, Global};
 
 /// What a catalogue says of a module beside its name.
@@ -94,10 +95,10 @@ impl Open {
         self.details.softneeds.append(&mut names)
     }
 
-    fn define(&mut self, name: Name, kind: ParamKind) -> Result<(), Refused>
-        ensures { IsMade result (change false [] (open_in self.old) (spec.param name kind)) (open_in self.new) }
+    fn define(&mut self, version: Version, name: Name, kind: ParamKind) -> Result<(), Refused>
+        ensures { IsMade result (change version [] (open_in self.old) (spec.param name kind)) (open_in self.new) }
     {
-        if has_param(&self.details.params, name.as_bytes()) {
+        if !version.has_kind(kind) || has_param(&self.details.params, name.as_bytes()) {
             return Err(Refused::Bad);
         }
         self.details.params.push(Param { name, kind })?;
@@ -126,26 +127,26 @@ impl Open {
     pub(crate) fn change<'a>(
         &mut self,
         alloc: Global,
-        is_version_2: bool,
+        version: Version,
         exporters: &mut Exporters<'a>,
         slot: u16,
         directive: Directive<'_, 'a>,
     ) -> Result<(), Refused>
-        ensures { let meant = change_links is_version_2 exporters.old slot (open_in self.old) (directive_in directive.entry) in
+        ensures { let meant = change_links version exporters.old slot (open_in self.old) (directive_in directive.entry) in
             IsMade result meant (open_in self.new, exporters.new) }
     {
         match directive {
-            Directive::Version | Directive::Module(_) => return Err(Refused::Bad),
+            Directive::Version(_) | Directive::Module(_) => return Err(Refused::Bad),
             Directive::Size(n) => self.set_size(n)?,
             Directive::Exports(symbols) => self.export(alloc, exporters, slot, symbols)?,
             Directive::Needs(symbols) => self.need(alloc, symbols)?,
             Directive::Softneeds(names) => {
-                if !is_version_2 {
+                if !version.has_softneeds() {
                     return Err(Refused::Bad);
                 }
                 self.soften(names)?
             }
-            Directive::Param(name, kind) => self.define(name, kind)?,
+            Directive::Param(name, kind) => self.define(version, name, kind)?,
             Directive::Permanent => self.details.permanent = true,
         }
         Ok(())

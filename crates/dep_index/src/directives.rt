@@ -3,19 +3,20 @@ ghost use Rattle.std.specs.Prelude.{◌≡◌, IfOk, codes, map};
 ghost use Rattle.std.specs.List.{list_all};
 ghost use Rattle.std.specs.Option.{option_map};
 ghost use Rattle.dep_index.specs.Text.{texts_of, is_name, normal_form};
-ghost use Rattle.dep_index.specs.Catalogue.{directive_of, begin_of, size_of, some_symbols, some_names, param_of, kind_of, alone, version_of};
+ghost use Rattle.dep_index.specs.Catalogue.{directive_of, begin_of, size_of, some_symbols, some_names, param_of, scalar_of, kind_of, alone, version_of};
 ghost use Rattle.dep_index.specs.Catalogue as spec;
 ghost use Rattle.dep_index.specs.Directives.{directive_in};
 
 use crate::names::Name;
-use crate::params::ParamKind;
+use crate::params::{ParamKind, Scalar};
 use crate::text::{is_name, is_same, number_within};
+use crate::versions::Version;
 use std::alloc::{AllocError, Global};
 
 /// What the words of a line say.
 #[derive(Drop)]
 pub(crate) enum Directive<'w, 'a> {
-    Version,
+    Version(Version),
     Module(Name),
     Size(u32),
     Exports(&'w [&'a [u8]]),
@@ -102,17 +103,47 @@ fn softneeds<'w, 'a>(
     Ok(Some(Directive::Softneeds(names(alloc, rest)?)))
 }
 
+fn scalar(word: &[u8]) -> Option<Scalar>
+    ensures { result ≡ scalar_of word.now }
+{
+    if is_same(word, b"byte") {
+        Some(Scalar::Byte)
+    } else if is_same(word, b"short") {
+        Some(Scalar::Short)
+    } else if is_same(word, b"ushort") {
+        Some(Scalar::Ushort)
+    } else if is_same(word, b"int") {
+        Some(Scalar::Int)
+    } else if is_same(word, b"uint") {
+        Some(Scalar::Uint)
+    } else if is_same(word, b"long") {
+        Some(Scalar::Long)
+    } else if is_same(word, b"ulong") {
+        Some(Scalar::Ulong)
+    } else if is_same(word, b"hexint") {
+        Some(Scalar::Hexint)
+    } else if is_same(word, b"bool") {
+        Some(Scalar::Bool)
+    } else if is_same(word, b"invbool") {
+        Some(Scalar::Invbool)
+    } else {
+        None
+    }
+}
+
 fn kind(word: &[u8]) -> Option<ParamKind>
     ensures { result ≡ kind_of word.now }
 {
-    if is_same(word, b"int") {
-        Some(ParamKind::Int)
-    } else if is_same(word, b"bool") {
-        Some(ParamKind::Bool)
-    } else if is_same(word, b"charp") {
-        Some(ParamKind::Charp)
+    if is_same(word, b"charp") {
+        return Some(ParamKind::Charp);
+    }
+    let (front, back) = word.split_at(word.len().saturating_sub(2));
+    if is_same(back, b"[]") {
+        let scalar = scalar(front)?;
+        Some(ParamKind::Array(scalar))
     } else {
-        None
+        let scalar = scalar(word)?;
+        Some(ParamKind::One(scalar))
     }
 }
 
@@ -150,10 +181,13 @@ fn version<'w, 'a>(rest: &'w [&'a [u8]]) -> Option<Directive<'w, 'a>>
     let [word] = rest else {
         return None;
     };
-    if !is_same(word, b"2") {
-        return None;
+    if is_same(word, b"2") {
+        Some(Directive::Version(Version::Two))
+    } else if is_same(word, b"3") {
+        Some(Directive::Version(Version::Three))
+    } else {
+        None
     }
-    Some(Directive::Version)
 }
 
 /// What the first word and those behind it say, or `None` where they have no form of a catalogue line.

@@ -13,6 +13,7 @@ use crate::exporters::Exporters;
 use crate::faults::Refused;
 use crate::names::Name;
 use crate::text::{is_comment, is_same, words};
+use crate::versions::Version;
 use indexmap::IndexMap;
 use std::alloc::{AllocError, Global};
 
@@ -20,7 +21,7 @@ use std::alloc::{AllocError, Global};
 #[derive(Drop)]
 pub(crate) struct Draft<'a> {
     pub(crate) begun: bool,
-    pub(crate) is_version_2: bool,
+    pub(crate) version: Version,
     pub(crate) earlier: IndexMap<Vec<u8>, Details>,
     pub(crate) last: Option<Open>,
     pub(crate) exporters: Exporters<'a>,
@@ -39,7 +40,7 @@ impl<'a> Draft<'a> {
     {
         Draft {
             begun: false,
-            is_version_2: false,
+            version: Version::One,
             earlier: IndexMap::new(alloc),
             last: None,
             exporters: Exporters::new(alloc),
@@ -71,7 +72,7 @@ impl<'a> Draft<'a> {
     fn limit(&self) -> usize
         ensures { result ≡ limit (draft_in self.now) }
     {
-        if self.is_version_2 { 1024 } else { 256 }
+        self.version.most_modules()
     }
 
     /// The open module joins the earlier ones.
@@ -87,15 +88,15 @@ impl<'a> Draft<'a> {
         Ok(())
     }
 
-    fn version(&mut self) -> Result<(), Refused>
+    fn set_version(&mut self, version: Version) -> Result<(), Refused>
         requires sound { IsSound self.old }
-        ensures { DraftIsMade result (apply (draft_in self.old) spec.version) self.new }
+        ensures { DraftIsMade result (apply (draft_in self.old) (spec.version version)) self.new }
     {
         if self.begun {
             return Err(Refused::Bad);
         }
         self.begun = true;
-        self.is_version_2 = true;
+        self.version = version;
         Ok(())
     }
 
@@ -118,7 +119,7 @@ impl<'a> Draft<'a> {
 
     fn change(&mut self, alloc: Global, directive: Directive<'_, 'a>) -> Result<(), Refused>
         requires sound { IsSound self.old }
-        ensures { let changed = change_last self.old.is_version_2 [] (modules_read self.old) (directive_in directive.entry) in
+        ensures { let changed = change_last self.old.version [] (modules_read self.old) (directive_in directive.entry) in
             DraftIsMade result (with_modules (draft_in self.old) changed) self.new }
     {
         let Some(open) = &mut self.last else {
@@ -126,13 +127,7 @@ impl<'a> Draft<'a> {
         };
         self.begun = true;
         let slot = self.earlier.len() as u16;
-        open.change(
-            alloc,
-            self.is_version_2,
-            &mut self.exporters,
-            slot,
-            directive,
-        )
+        open.change(alloc, self.version, &mut self.exporters, slot, directive)
     }
 
     fn apply(&mut self, alloc: Global, directive: Directive<'_, 'a>) -> Result<(), Refused>
@@ -140,7 +135,7 @@ impl<'a> Draft<'a> {
         ensures { DraftIsMade result (apply (draft_in self.old) (directive_in directive.entry)) self.new }
     {
         match directive {
-            Directive::Version => self.version(),
+            Directive::Version(version) => self.set_version(version),
             Directive::Module(name) => self.begin(alloc, name),
             other => self.change(alloc, other),
         }

@@ -18,7 +18,7 @@ pub enum CatError {
     /// The symbol is exported already, by whichever module.
     #[error("line {line}: the symbol is exported already")]
     TwiceExported { line: usize },
-    /// One module more than the version's limit of 256 or 1,024.
+    /// One module more than the version's limit of 256, 1,024 or 65,535.
     #[error("line {line}: one module more than a catalogue of its version holds")]
     TooMany { line: usize },
     /// There was no memory.

@@ -22,6 +22,7 @@ mod refusals;
 mod slots;
 mod states;
 pub mod text;
+mod versions;
 pub mod words;
 
 pub use book::Book;
@@ -32,7 +33,7 @@ pub use dep_text::read_dep;
 pub use dependencies::DepIndex;
 pub use faults::{CatError, DepError};
 pub use names::Name;
-pub use params::{Param, ParamKind};
+pub use params::{Param, ParamKind, Scalar};
 pub use refusals::{
     BeginDrainError, BeginLoadError, BeginRemoveError, EndLoadError, EndRemoveError, GetError,
     PutError, Refusal,

@@ -41,7 +41,7 @@ fn needs_of(
     slot: u16,
     symbols: &[Vec<u8>],
 ) -> Result<Vec<u16>, AllocError>
-    requires small { slot < 1024 }
+    requires small { slot < 65535 }
     requires slots { (s : List ℕ) → IfSome (slot_at exporters.now s) (λ k. k < length marks.old) }
     requires marks { (k : ℕ) → slice_index marks.old k ≤ slot }
     ensures needs { IfOk result (λ needs. needs.items ≡ needs_by exporters.now slot [] (owned symbols.now)) }
@@ -72,7 +72,7 @@ pub(crate) fn slots_of(
     exporters: &Exporters<'_>,
 ) -> Result<Slots, AllocError>
     requires links { exporters.now ≡ links_of (descriptions_in modules.now.entries) }
-    requires few { length modules.now.entries ≤ 1024 }
+    requires few { length modules.now.entries ≤ 65535 }
     ensures { IfOk result (λ slots. slots ≡ modules_of (descriptions_in modules.now.entries)) }
 {
     let mut marks = vec![in alloc; 0u16; modules.len()]?;

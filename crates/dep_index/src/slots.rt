@@ -29,7 +29,7 @@ impl Model for Slots {
 
     ghost view = { λ a. modules_in a.slots.items };
 
-    ghost invariant = { λ a. length a.slots.items ≤ 1024 };
+    ghost invariant = { λ a. length a.slots.items ≤ 65535 };
 }
 
 impl Slots {
@@ -42,14 +42,14 @@ impl Slots {
         }
     }
 
-    /// Adds a module behind the others, of which there are at most 1,023. For want of memory it is not added.
+    /// Adds a module behind the others, of which there are at most 65,534. For want of memory it is not added.
     pub fn push(
         &mut self,
         needs: Vec<u16>,
         unknown_symbol: bool,
         permanent: bool,
     ) -> Result<(), AllocError>
-        requires room { length self.old < 1024 }
+        requires room { length self.old < 65535 }
         ensures added { IfOk result (λ _. self.new ≡ self.old ++ record { needs = needs.items; unknown_symbol = unknown_symbol; permanent = permanent } ∷ []) }
         ensures kept { OnErr result (self.new ≡ self.old) }
     {
@@ -61,10 +61,10 @@ impl Slots {
         Ok(())
     }
 
-    /// How many modules there are, at most 1,024.
+    /// How many modules there are, at most 65,535.
     pub fn len(&self) -> usize
         ensures result_is { result ≡ length self.now }
-        ensures bound { length self.now ≤ 1024 }
+        ensures bound { length self.now ≤ 65535 }
     {
         self.slots.len()
     }
