@@ -14,7 +14,7 @@ table_of book rows = record { book = book; rows = rows_of rows }
 
 -- the table has its limits, its shape and its laws
 pub record IsKept (catalogue : List Module) (book : Book) (rows : Vec (Vec ℕ)) : Type 0 where
-  pub slots : length catalogue ≤ 1024
+  pub slots : length catalogue ≤ 65535
   pub workers : length rows.items ≤ 64
   pub shape : IsShaped (length catalogue) (length rows.items) (table_of book rows.items)
   pub lawful : IsLawful catalogue (table_of book rows.items)

@@ -26,10 +26,10 @@ pub trait Modules {
         ensures all { result ≡ length (table self.now).rows }
         ensures bound { result ≤ 64 };
 
-    /// How many modules the catalogue has, 1,024 at most.
+    /// How many modules the catalogue has, 65,535 at most.
     fn slots(&self) -> usize
         ensures all { result ≡ length (catalogue self.now) }
-        ensures bound { result ≤ 1024 };
+        ensures bound { result ≤ 65535 };
 
     /// The state of a module.
     fn state(&self, slot: usize) -> ModuleState
@@ -52,13 +52,13 @@ pub trait Modules {
     fn references(&self, slot: usize) -> u32
         requires { slot < length (catalogue self.now) }
         ensures number { result ≡ references (catalogue self.now) (table self.now) slot }
-        ensures bound { result ≤ 4195264 };
+        ensures bound { result ≤ 4259775 };
 
     /// How many modules the table has, in any state but Absent; no more than the catalogue.
     fn loaded(&self) -> usize
         ensures all { result ≡ length (table self.now).book.order }
         ensures bound { result ≤ length (catalogue self.now) }
-        ensures limit { result ≤ 1024 };
+        ensures limit { result ≤ 65535 };
 
     /// A module of the table by its age, the oldest at 0.
     fn loaded_at(&self, place: usize) -> usize

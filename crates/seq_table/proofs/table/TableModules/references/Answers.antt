@@ -2,7 +2,7 @@ use Rattle.std.proofs.Common.{◌≤◌, arith}
 use Rattle.seq_table.proofs.Users.{users_fit}
 use Rattle.seq_table.proofs.table.TableModules.references.Goals as goal
 
-few_users : (c : goal.After-user_count) → c.user_count.result ≤ 1024
+few_users : (c : goal.After-user_count) → c.user_count.result ≤ 65535
 few_users c =
     let kept = c.self.invariant in
     omega (arith, users_fit c.self.inside.slots c.self.inside.book c.args.slot kept.lawful.order, kept.shape.states, kept.slots, c.user_count.ensures)
