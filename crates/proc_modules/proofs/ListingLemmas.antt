@@ -110,7 +110,7 @@ filter-reverse p (x ∷ xs) =
 
 -- all users are found
 pub all_listed : (catalogue : List Description) (table : Table) (modules : List ℕ) (rows : List (List ℕ))
-    → modules ≡ newest_first table → All (λ slot. slot < length catalogue) modules → length modules ≤ 1024 → length rows ≡ length catalogue
+    → modules ≡ newest_first table → All (λ slot. slot < length catalogue) modules → length modules ≤ 65535 → length rows ≡ length catalogue
     → HaveUsers catalogue modules rows
     → AllListed catalogue table modules rows
 all_listed catalogue table modules rows newest slots few len users i below =

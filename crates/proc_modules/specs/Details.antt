@@ -2,7 +2,9 @@
 use Rattle.std.specs.Prelude.{ℕ, List, ◌++◌, flat_map, codes, decimal}
 use Rattle.std.specs.List.{join_with_byte}
 use Rattle.dep_index.specs.declared.params.ParamKind.{ParamKind}
-use Rattle.dep_index.specs.declared.params.ParamKind.TheVariants.{Int, Bool, Charp}
+use Rattle.dep_index.specs.declared.params.ParamKind.TheVariants.{Charp, One, Array}
+use Rattle.dep_index.specs.declared.params.Scalar.{Scalar}
+use Rattle.dep_index.specs.declared.params.Scalar.TheVariants.{Byte, Short, Ushort, Int, Uint, Long, Ulong, Hexint, Bool, Invbool}
 use Rattle.dep_index.specs.declared.params.Param.{Param}
 use Rattle.dep_index.specs.Catalogue.{Description, description_at, needs_of}
 use Rattle.proc_modules.specs.Listings.{left_in, name_of, names_of, size_of}
@@ -11,10 +13,24 @@ use Rattle.proc_modules.specs.Listings.{left_in, name_of, names_of, size_of}
 abbrev pub field : List ℕ → List ℕ → List ℕ
 field label value = left_in 16 label ++ (value ++ codes "\n")
 
+-- a type of one value as a catalogue writes it
+abbrev pub scalar_text : Scalar → List ℕ
+scalar_text Byte = codes "byte"
+scalar_text Short = codes "short"
+scalar_text Ushort = codes "ushort"
+scalar_text Int = codes "int"
+scalar_text Uint = codes "uint"
+scalar_text Long = codes "long"
+scalar_text Ulong = codes "ulong"
+scalar_text Hexint = codes "hexint"
+scalar_text Bool = codes "bool"
+scalar_text Invbool = codes "invbool"
+
+-- a kind of parameter as a catalogue writes it
 abbrev pub kind_text : ParamKind → List ℕ
-kind_text Int = codes "int"
-kind_text Bool = codes "bool"
 kind_text Charp = codes "charp"
+kind_text (One scalar) = scalar_text scalar
+kind_text (Array scalar) = scalar_text scalar ++ codes "[]"
 
 abbrev pub param_line : Param → List ℕ
 param_line param = field (codes "parm:") (param.name ++ (codes ":" ++ kind_text param.kind))

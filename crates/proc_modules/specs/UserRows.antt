@@ -34,7 +34,7 @@ pub record IsListed (catalogue : List Description) (table : Table) (slot : ℕ) 
   pub known : slot < length (modules_of catalogue)
   pub newest : users ≡ newest_users catalogue table slot
   pub slots : All (λ u. u < length catalogue) users
-  pub few : length users ≤ 1024
+  pub few : length users ≤ 65535
 
 -- the rows have the users of each of these modules
 abbrev pub AllListed : List Description → Table → List ℕ → List (List ℕ) → Type 0

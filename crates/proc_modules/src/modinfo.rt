@@ -3,21 +3,42 @@ ghost use Rattle.std.specs.Prelude.{◌≡◌, ◌<◌, ◌++◌, length, decima
 ghost use Rattle.std.specs.List.{join_with_byte};
 ghost use Rattle.dep_index.specs.Catalogue.{needs_of};
 ghost use Rattle.proc_modules.specs.Listings.{names_of};
-ghost use Rattle.proc_modules.specs.Details.{field, kind_text, depends_line, param_line, modinfo_text};
+ghost use Rattle.proc_modules.specs.Details.{field, scalar_text, kind_text, depends_line, param_line, modinfo_text};
 
 use crate::columns::{push_left, push_names};
 use crate::write::push_number;
-use dep_index::{Catalogue, Param, ParamKind};
+use dep_index::{Catalogue, Param, ParamKind, Scalar};
 use std::alloc::{AllocError, Global};
 
-fn kind_text(kind: ParamKind) -> &'static [u8]
-    ensures { result.now ≡ kind_text kind }
+fn scalar_text(scalar: Scalar) -> &'static [u8]
+    ensures { result.now ≡ scalar_text scalar }
+{
+    match scalar {
+        Scalar::Byte => b"byte",
+        Scalar::Short => b"short",
+        Scalar::Ushort => b"ushort",
+        Scalar::Int => b"int",
+        Scalar::Uint => b"uint",
+        Scalar::Long => b"long",
+        Scalar::Ulong => b"ulong",
+        Scalar::Hexint => b"hexint",
+        Scalar::Bool => b"bool",
+        Scalar::Invbool => b"invbool",
+    }
+}
+
+fn push_kind(text: &mut Vec<u8>, kind: ParamKind) -> Result<(), AllocError>
+    ensures { OnOk result (text.new.items ≡ text.old.items ++ kind_text kind) }
 {
     match kind {
-        ParamKind::Int => b"int",
-        ParamKind::Bool => b"bool",
-        ParamKind::Charp => b"charp",
+        ParamKind::Charp => text.extend_from_slice(b"charp")?,
+        ParamKind::One(scalar) => text.extend_from_slice(scalar_text(scalar))?,
+        ParamKind::Array(scalar) => {
+            text.extend_from_slice(scalar_text(scalar))?;
+            text.extend_from_slice(b"[]")?;
+        }
     }
+    Ok(())
 }
 
 /// Adds the line of a field whose value is a text.
@@ -55,7 +76,7 @@ fn push_param(text: &mut Vec<u8>, param: &Param) -> Result<(), AllocError>
     push_left(text, 16, b"parm:")?;
     text.extend_from_slice(param.name.as_bytes())?;
     text.push(b':')?;
-    text.extend_from_slice(kind_text(param.kind))?;
+    push_kind(text, param.kind)?;
     text.push(b'\n')?;
     Ok(())
 }

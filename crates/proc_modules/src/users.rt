@@ -14,7 +14,7 @@ use std::alloc::{AllocError, Global};
 fn newest_first<M: Modules>(alloc: Global, table: &M) -> Result<Vec<u16>, AllocError>
     ensures order { IfOk result (λ found. found.items ≡ newest_first (M.table table.now)) }
     ensures slots { IfOk result (λ found. All (λ slot. slot < length (M.catalogue table.now)) found.items) }
-    ensures few { IfOk result (λ found. length found.items ≤ 1024) }
+    ensures few { IfOk result (λ found. length found.items ≤ 65535) }
 {
     let loaded = table.loaded();
     let mut found = Vec::new(alloc);
