@@ -1,6 +1,6 @@
 -- The names of a catalogue are at most 55 bytes long.
 use Rattle.std.proofs.Common.{arith, ◌≡◌, ℕ, zero, suc, ◌≤◌, ◌<◌, Bool, true, false, List, [], ◌∷◌, ◌++◌, length, map, refl, subst, Option, Some, None, Result, Ok, Err}
-use Rattle.std.specs.Prelude.{◌&&◌, ◌||◌, if◌then◌else◌, slice_index_or, nat_le, codes}
+use Rattle.std.specs.Prelude.{◌&&◌, ◌||◌, not, if◌then◌else◌, slice_index_or, nat_le, codes}
 use Rattle.std.specs.List.{list_all, list_any}
 use Rattle.std.specs.Str.{bytes_eq}
 use Rattle.std.specs.Str.Lines.{lines}
@@ -8,7 +8,7 @@ use Rattle.std.proofs.lemmas.List.{length-map}
 use Rattle.std.proofs.lemmas.Bool.{false≢true, leb-true}
 use Rattle.dep_index.specs.declared.params.ParamKind.{ParamKind}
 use Rattle.dep_index.specs.Text.{is_name, normal_form, number_within, is_comment, words}
-use Rattle.dep_index.specs.Catalogue.{Description, described, Directive, version, begin, size, exports, needs, softneeds, param, permanent, Refusal, bad, duplicate, twice_exported, too_many, has_name, limit, is_exported, exports_symbol, kind_of, with_size, with_kind, begin_of, size_of, some_symbols, some_names, param_of, alone, version_of, directive_of, Draft, no_draft, sized, with_last, export_each, change, change_last, with_modules, apply, apply_some, read_words, read_line, then_lines, read_lines, modules_read, catalogue_of}
+use Rattle.dep_index.specs.Catalogue.{Description, described, Directive, version, begin, size, exports, needs, softneeds, param, permanent, Refusal, bad, duplicate, twice_exported, too_many, has_name, has_softneeds, has_kind, limit, is_exported, exports_symbol, kind_of, with_size, with_kind, begin_of, size_of, some_symbols, some_names, param_of, alone, version_of, directive_of, Draft, no_draft, sized, with_last, export_each, change, change_last, with_modules, apply, apply_some, read_words, read_line, then_lines, read_lines, modules_read, catalogue_of}
 
 -- each name is short
 abbrev Names : List Description → Type 0
@@ -85,7 +85,7 @@ good-alone (w ∷ ws) = tt
 
 good-version : (rest : List (List ℕ)) → GoodName (version_of rest)
 good-version [] = tt
-good-version (word ∷ []) = pick GoodName (bytes_eq word (codes "2")) (Some version) None tt tt
+good-version (word ∷ []) = pick GoodName (bytes_eq word (codes "2")) _ _ tt (pick GoodName (bytes_eq word (codes "3")) _ None tt tt)
 good-version (a ∷ b ∷ more) = tt
 
 good-directive : (word : List ℕ) (rest : List (List ℕ)) → GoodName (directive_of word rest)
@@ -130,35 +130,35 @@ sized-name : (last : Description) (o : Option ℕ) (n : ℕ) → KeepsName last.
 sized-name last None n = refl
 sized-name last (Some k) n = tt
 
-change-name : (v : Bool) (earlier : List Description) (last : Description) (d : Directive) → KeepsName last.name (change v earlier last d)
-change-name v earlier last version = tt
-change-name v earlier last (begin name) = tt
-change-name v earlier last (size n) = sized-name last last.size n
-change-name v earlier last (exports ss) = export-name last earlier ss last.name refl
-change-name v earlier last (needs ss) = refl
-change-name v earlier last (softneeds ns) = pick (KeepsName last.name) v (Ok (record last { softneeds = last.softneeds ++ ns })) (Err bad) refl tt
-change-name v earlier last (param name kind) = pick (KeepsName last.name) (list_any (λ p. bytes_eq name p.name) last.params) (Err bad) (Ok (record last { params = last.params ++ (record { name = name; kind = kind } ∷ []) })) tt refl
-change-name v earlier last permanent = refl
+change-name : (draft : Draft) (earlier : List Description) (last : Description) (d : Directive) → KeepsName last.name (change draft.version earlier last d)
+change-name draft earlier last (version new) = tt
+change-name draft earlier last (begin name) = tt
+change-name draft earlier last (size n) = sized-name last last.size n
+change-name draft earlier last (exports ss) = export-name last earlier ss last.name refl
+change-name draft earlier last (needs ss) = refl
+change-name draft earlier last (softneeds ns) = pick (KeepsName last.name) (has_softneeds draft.version) (Ok (record last { softneeds = last.softneeds ++ ns })) (Err bad) refl tt
+change-name draft earlier last (param name kind) = pick (KeepsName last.name) (not (has_kind draft.version kind) || list_any (λ p. bytes_eq name p.name) last.params) (Err bad) (Ok (record last { params = last.params ++ (record { name = name; kind = kind } ∷ []) })) tt refl
+change-name draft earlier last permanent = refl
 
 with_last-names : (earlier : List Description) (name : List ℕ) (r : Result Description Refusal) → Names earlier → length name ≤ 55 → KeepsName name r → GoodList (with_last earlier r)
 with_last-names earlier name (Ok m) names short keeps = names-append earlier (m ∷ []) names (rw keeps short, tt)
 with_last-names earlier name (Err e) names short keeps = tt
 
-change_last-names : (v : Bool) (earlier ms : List Description) (d : Directive) → Names earlier → Names ms → GoodList (change_last v earlier ms d)
-change_last-names v earlier [] d before names = tt
-change_last-names v earlier (m ∷ []) d before names = with_last-names earlier m.name (change v earlier m d) before names.0 (change-name v earlier m d)
-change_last-names v earlier (m ∷ n ∷ ms) d before names =
-    change_last-names v (earlier ++ (m ∷ [])) (n ∷ ms) d (names-append earlier (m ∷ []) before (names.0, tt)) names.1
+change_last-names : (draft : Draft) (earlier ms : List Description) (d : Directive) → Names earlier → Names ms → GoodList (change_last draft.version earlier ms d)
+change_last-names draft earlier [] d before names = tt
+change_last-names draft earlier (m ∷ []) d before names = with_last-names earlier m.name (change draft.version earlier m d) before names.0 (change-name draft earlier m d)
+change_last-names draft earlier (m ∷ n ∷ ms) d before names =
+    change_last-names draft (earlier ++ (m ∷ [])) (n ∷ ms) d (names-append earlier (m ∷ []) before (names.0, tt)) names.1
 
 with_modules-names : (draft : Draft) (r : Result (List Description) Refusal) → GoodList r → GoodDraft (with_modules draft r)
 with_modules-names draft (Ok ms) good = good
 with_modules-names draft (Err e) good = good
 
-changed-names : (draft : Draft) (d : Directive) → Names draft.modules → GoodDraft (with_modules draft (change_last draft.is_version_2 [] draft.modules d))
-changed-names draft d names = with_modules-names draft (change_last draft.is_version_2 [] draft.modules d) (change_last-names draft.is_version_2 [] draft.modules d tt names)
+changed-names : (draft : Draft) (d : Directive) → Names draft.modules → GoodDraft (with_modules draft (change_last draft.version [] draft.modules d))
+changed-names draft d names = with_modules-names draft (change_last draft.version [] draft.modules d) (change_last-names draft [] draft.modules d tt names)
 
 apply-names : (draft : Draft) (d : Directive) → GoodName (Some d) → Names draft.modules → GoodDraft (apply draft d)
-apply-names draft version good names = pick GoodDraft draft.begun (Err bad) (Ok (record draft { begun = true; is_version_2 = true })) tt names
+apply-names draft (version new) good names = pick GoodDraft draft.begun (Err bad) (Ok (record draft { begun = true; version = new })) tt names
 apply-names draft (begin name) good names =
     let longer : Draft = record draft { begun = true; modules = draft.modules ++ (described name ∷ []) } in
     pick GoodDraft (has_name draft.modules name) (Err duplicate) _ tt
