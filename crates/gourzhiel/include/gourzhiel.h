@@ -57,7 +57,7 @@ typedef enum gz_number {
     GZ_BAD_LINE = 24,       /* the line is none of a catalogue, or stands where it may not */
     GZ_DUPLICATE = 25,      /* a module of the name stands already */
     GZ_TWICE_EXPORTED = 26, /* the symbol is exported already */
-    GZ_TOO_MANY_MODULES = 27, /* more than 256 modules, or 1,024 in version 2 */
+    GZ_TOO_MANY_MODULES = 27, /* more than 256 modules, 1,024 in version 2 or 65,535 in version 3 */
     GZ_OUT_OF_MEMORY = 28,  /* malloc answered NULL, and nothing is kept */
     GZ_BUSY = 32,           /* each try was missed, since other leaves took or gave the module between */
     GZ_OUT_OF_RANGE = 33,   /* the slot or the place is none of the table */

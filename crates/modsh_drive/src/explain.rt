@@ -23,7 +23,7 @@ fn setup_sentence(code: SetupCode) -> &'static str {
         SetupCode::C1 => "A line has no form of a catalogue line, or stands where it may not.",
         SetupCode::C2 => "A module of this name stands already.",
         SetupCode::C3 => "A symbol is exported already, by this module or another one.",
-        SetupCode::C4 => "There is one module more than the limit of 256, or 1,024 in version 2.",
+        SetupCode::C4 => "There is one module more than the limit of 256, 1,024 or 65,535.",
         SetupCode::M1 => "A line of modules.dep has no colon.",
         SetupCode::M2 => "A path of modules.dep has an empty name.",
         SetupCode::M3 => "A name has a line in modules.dep already.",

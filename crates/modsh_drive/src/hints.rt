@@ -114,13 +114,13 @@ fn form_hint(word: &[u8]) -> &'static str {
     } else if is_same(word, b"size") {
         "size has one number, at most 4294967295, and stands once per module"
     } else if is_same(word, b"param") {
-        "param has a name and int, bool or charp, and each name stands once per module"
+        "param has a name and a type, each name once per module; types beyond int, bool and charp want version 3"
     } else if is_same(word, b"permanent") {
         "permanent stands alone"
     } else if is_same(word, b"softneeds") {
-        "softneeds has one or more names, in a catalogue that begins with version 2"
+        "softneeds has one or more names, in a catalogue that begins with version 2 or 3"
     } else if is_same(word, b"version") {
-        "version 2 is the first line of a catalogue, and there is no other version"
+        "version 2 or version 3 is the first line of a catalogue, and there is no other version"
     } else {
         "exports and needs have one or more symbols"
     }
@@ -173,7 +173,7 @@ pub(crate) fn hint_of(
     match code {
         SetupCode::C1 => catalogue_hint(alloc, before, line),
         SetupCode::C2 => Ok(Some("- and _ are the same in names")),
-        SetupCode::C4 => Ok(Some("a catalogue that begins with version 2 holds 1,024 modules")),
+        SetupCode::C4 => Ok(Some("a catalogue that begins with version 3 holds 65,535 modules")),
         SetupCode::M1 => Ok(section_hint(looks_of(&words(alloc, line)?, line))),
         SetupCode::B1 => {
             let likely = section_hint(looks_of(&words(alloc, line)?, line));

@@ -16,7 +16,7 @@ fn line_sentence(code: LineCode) -> &'static str {
         LineCode::C1 => "A line has no form of a catalogue line, or stands where it may not.",
         LineCode::C2 => "A module of this name stands already.",
         LineCode::C3 => "A symbol is exported already, by this module or another one.",
-        LineCode::C4 => "There is one module more than the limit of 256, or 1,024 in version 2.",
+        LineCode::C4 => "There is one module more than the limit of 256, 1,024 or 65,535.",
         LineCode::H1 =>
             "A line has no form, or another line should stand there, or a number is out of its range.",
         LineCode::H2 => "The module is not in the catalogue.",
@@ -97,7 +97,7 @@ fn hint_of(threads: bool, code: LineCode, word: &[u8]) -> Option<&'static str> {
         LineCode::C1 if word.first() == Some(&b'%') => {
             Some("a section line is %schedule, or %script with --threads, and nothing else")
         }
-        LineCode::C4 => Some("a catalogue that begins with version 2 holds 1,024 modules"),
+        LineCode::C4 => Some("a catalogue that begins with version 3 holds 65,535 modules"),
         LineCode::H1 if threads => Some(script_hint(word)),
         LineCode::H1 => Some(schedule_hint(word)),
         _ => None,
