@@ -1,5 +1,6 @@
 -- The definitions, computed on texts.
 use Rattle.std.proofs.Common.{◌≡◌, ℕ, List, [], ◌∷◌, map, Bool, true, false, Ok, Err, Result, refl}
+use Rattle.std.specs.List.{list_all, list_any}
 use Rattle.std.specs.Prelude.{codes}
 use Rattle.dep_index.specs.Catalogue.{Description, Refusal, read_lines, no_draft, modules_read, description_at}
 use Rattle.dep_index.specs.Dependencies.{Pair, dep_lines, DepRefusal}
@@ -72,6 +73,25 @@ no_module = refl
 
 values : map (are_valid (description_at with_params 1)) ((codes "debug=maybe" ∷ []) ∷ (codes "debug" ∷ codes "other=9" ∷ []) ∷ (codes "level=-0x80000000" ∷ []) ∷ (codes "level=2147483648" ∷ []) ∷ (codes "level=-0" ∷ []) ∷ (codes "level" ∷ []) ∷ []) ≡ false ∷ true ∷ true ∷ false ∷ true ∷ false ∷ []
 values = refl
+
+abbrev third_version : List Description
+third_version =
+    catalogue (
+    codes "version 3" ∷ codes "module a" ∷ codes "param b byte" ∷ codes "param s short[]" ∷ codes "param l long" ∷ codes "param u ulong"
+    ∷ codes "param h hexint" ∷ codes "param i invbool" ∷ codes "param f bool[]" ∷ []
+    )
+
+good_values : list_all (λ word. are_valid (description_at third_version 0) (word ∷ [])) (
+    codes "b=0xff" ∷ codes "s=-32768,32767,0" ∷ codes "s=007" ∷ codes "l=-9223372036854775808" ∷ codes "u=0XFFFFFFFFFFFFFFFF" ∷ codes "h=4294967295"
+    ∷ codes "i" ∷ codes "i=n" ∷ codes "f=Y,0" ∷ []
+    ) ≡ true
+good_values = refl
+
+bad_values : list_any (λ word. are_valid (description_at third_version 0) (word ∷ [])) (
+    codes "b=256" ∷ codes "b=-1" ∷ codes "b" ∷ codes "s=1,,2" ∷ codes "s=1,2," ∷ codes "s=" ∷ codes "s" ∷ codes "s=32768" ∷ codes "l=9223372036854775808"
+    ∷ codes "u=18446744073709551616" ∷ codes "u=+1" ∷ codes "h=0x100000000" ∷ codes "h=0x" ∷ codes "i=maybe" ∷ codes "f" ∷ codes "f=y, n" ∷ []
+    ) ≡ false
+bad_values = refl
 
 circle : plan_of (catalogue (codes "module a" ∷ codes "exports fa" ∷ codes "needs fb" ∷ codes "module b" ∷ codes "exports fb" ∷ codes "needs fa" ∷ [])) (dependencies (codes "kernel/a.ko: kernel/b.ko" ∷ codes "kernel/b.ko.xz: kernel/a.ko" ∷ [])) (configuration []) (codes "a") [] ≡ Err (error.Cycle (codes "a"))
 circle = refl

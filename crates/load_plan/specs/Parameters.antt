@@ -1,12 +1,14 @@
 -- Which words of a command are good values of a module's parameters, as init_module(2) takes them.
 use Rattle.std.specs.Prelude.{ℕ, ◌+◌, ◌-◌, ◌*◌, Bool, true, false, if◌then◌else◌, ◌&&◌, ◌||◌, ◌==◌, nat_le, List, [], ◌∷◌, drop, position, Option, Some, None}
-use Rattle.std.specs.List.{list_all, before_first}
+use Rattle.std.specs.List.{list_all, before_first, slice_split}
 use Rattle.std.specs.Option.{option_map}
 use Rattle.std.specs.Str.{bytes_eq}
 use Rattle.dep_index.specs.Text.{normal_form, is_digit}
 use Rattle.dep_index.specs.Catalogue.{Description}
 use Rattle.dep_index.specs.declared.params.ParamKind.{ParamKind}
-use Rattle.dep_index.specs.declared.params.ParamKind.TheVariants.{Int, Bool as Boolean, Charp}
+use Rattle.dep_index.specs.declared.params.ParamKind.TheVariants.{Charp, One, Array}
+use Rattle.dep_index.specs.declared.params.Scalar.{Scalar}
+use Rattle.dep_index.specs.declared.params.Scalar.TheVariants.{Byte, Short, Ushort, Int, Uint, Long, Ulong, Hexint, Bool as Boolean, Invbool}
 use Rattle.dep_index.specs.declared.params.Param.{Param}
 use Rattle.load_plan.specs.declared.values.Base.{Base}
 use Rattle.load_plan.specs.declared.values.Base.TheVariants.{Decimal, Hexadecimal}
@@ -59,24 +61,50 @@ abbrev pub at_most : ℕ → Option ℕ → Bool
 at_most limit None = false
 at_most limit (Some n) = nat_le n limit
 
--- a number of 32 bits with a sign
-abbrev pub is_int : List ℕ → Bool
-is_int [] = false
-is_int (byte ∷ bytes) = if byte == 45 then at_most 2147483648 (magnitude bytes) else at_most 2147483647 (magnitude (byte ∷ bytes))
+-- a number without a sign, at most the limit
+abbrev pub is_unsigned : ℕ → List ℕ → Bool
+is_unsigned limit value = at_most limit (magnitude value)
+
+-- a number at most the limit, and behind `-` at most one more
+abbrev pub is_signed : ℕ → List ℕ → Bool
+is_signed limit [] = false
+is_signed limit (byte ∷ bytes) = if byte == 45 then at_most (limit + 1) (magnitude bytes) else at_most limit (magnitude (byte ∷ bytes))
 
 -- one of `y Y 1 n N 0`
 abbrev pub is_bool : List ℕ → Bool
 is_bool (byte ∷ []) = byte == 121 || byte == 89 || byte == 49 || byte == 110 || byte == 78 || byte == 48
 is_bool _ = false
 
--- whether a parameter of a kind takes the value, or no value
+-- whether a type of one value takes it: a number of its bits, or a truth value
+abbrev pub takes_one : Scalar → List ℕ → Bool
+takes_one Byte value = is_unsigned 255 value
+takes_one Short value = is_signed 32767 value
+takes_one Ushort value = is_unsigned 65535 value
+takes_one Int value = is_signed 2147483647 value
+takes_one Uint value = is_unsigned 4294967295 value
+takes_one Long value = is_signed 9223372036854775807 value
+takes_one Ulong value = is_unsigned 18446744073709551615 value
+takes_one Hexint value = is_unsigned 4294967295 value
+takes_one Boolean value = is_bool value
+takes_one Invbool value = is_bool value
+
+-- whether a parameter of the type may stand without a value, which is then true
+abbrev pub may_stand_alone : Scalar → Bool
+may_stand_alone Boolean = true
+may_stand_alone Invbool = true
+may_stand_alone _ = false
+
+abbrev pub is_comma : ℕ → Bool
+is_comma byte = byte == 44
+
+-- whether a parameter of a kind takes the value, or no value; the values of an array stand between commas
 abbrev pub takes : ParamKind → Option (List ℕ) → Bool
-takes Int None = false
-takes Int (Some value) = is_int value
-takes Boolean None = true
-takes Boolean (Some value) = is_bool value
 takes Charp None = false
 takes Charp (Some value) = true
+takes (One scalar) None = may_stand_alone scalar
+takes (One scalar) (Some value) = takes_one scalar value
+takes (Array scalar) None = false
+takes (Array scalar) (Some value) = list_all (takes_one scalar) (slice_split is_comma value)
 
 -- a parameter that the module does not define is ignored
 abbrev pub takes_named : List Param → List ℕ → Option (List ℕ) → Bool
