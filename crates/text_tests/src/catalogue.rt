@@ -2,16 +2,33 @@
 
 use crate::texts::{CIRCLE, holds, holds_at, is_answer, names_text, push_line, push_names};
 use dep_index::{
-    CatError, Catalogue, DepError, DepIndex, Param, ParamKind, Slots, read_catalogue, read_dep,
+    CatError, Catalogue, DepError, DepIndex, Param, ParamKind, Scalar, Slots, read_catalogue,
+    read_dep,
 };
 use std::alloc::{AllocError, Global};
 use std::test::Fail;
 
-fn kind_text(kind: ParamKind) -> &'static [u8] {
+fn scalar_text(scalar: Scalar) -> &'static [u8] {
+    match scalar {
+        Scalar::Byte => b" byte",
+        Scalar::Short => b" short",
+        Scalar::Ushort => b" ushort",
+        Scalar::Int => b" int",
+        Scalar::Uint => b" uint",
+        Scalar::Long => b" long",
+        Scalar::Ulong => b" ulong",
+        Scalar::Hexint => b" hexint",
+        Scalar::Bool => b" bool",
+        Scalar::Invbool => b" invbool",
+    }
+}
+
+/// The words of a kind, and what stands behind them.
+fn kind_texts(kind: ParamKind) -> (&'static [u8], &'static [u8]) {
     match kind {
-        ParamKind::Int => b" int",
-        ParamKind::Bool => b" bool",
-        ParamKind::Charp => b" charp",
+        ParamKind::Charp => (b" charp", b""),
+        ParamKind::One(scalar) => (scalar_text(scalar), b""),
+        ParamKind::Array(scalar) => (scalar_text(scalar), b" array"),
     }
 }
 
@@ -19,7 +36,9 @@ fn push_params(text: &mut Vec<u8>, params: &[Param]) -> Result<(), AllocError> {
     for param in params {
         text.extend_from_slice(b", param ")?;
         text.extend_from_slice(param.name.as_bytes())?;
-        text.extend_from_slice(kind_text(param.kind))?;
+        let (kind, behind) = kind_texts(param.kind);
+        text.extend_from_slice(kind)?;
+        text.extend_from_slice(behind)?;
     }
     text.extend_from_slice(b"\n")
 }
@@ -66,7 +85,7 @@ const SOUND: &[u8] =
     b"module snd\nsize 114688\nexports snd_card_new\nmodule snd-pcm\nsize 143360\nexports snd_pcm_new\nneeds snd_card_new\nparam debug bool\n";
 
 /// What a row shows, a text, and what is read of it.
-const MODULES: [(&str, &[u8], &[u8]); 5] = [
+const MODULES: [(&str, &[u8], &[u8]); 7] = [
     (
         "a module with a parameter needs another, whose names have `_` for each `-`",
         SOUND,
@@ -91,6 +110,16 @@ const MODULES: [(&str, &[u8], &[u8]); 5] = [
         "softneeds keep their order, also of names that no module has; comments and empty lines stand before the version",
         b"# soft\n\nversion 2\nmodule a\nsoftneeds d b\nmodule c\nsoftneeds a\nmodule d\n",
         b"a: size 0, needs [], softneeds d b\nc: size 0, needs [], softneeds a\nd: size 0, needs [], softneeds\n",
+    ),
+    (
+        "version 3 has softneeds, and all kinds of parameters",
+        b"version 3\nmodule a\nsoftneeds b\nparam c charp\nparam b byte\nparam s short\nparam t ushort\nparam i int\nparam u uint\nparam l long\nparam m ulong\nparam h hexint\nparam f bool\nparam g invbool\n",
+        b"a: size 0, needs [], softneeds b, param c charp, param b byte, param s short, param t ushort, param i int, param u uint, param l long, param m ulong, param h hexint, param f bool, param g invbool\n",
+    ),
+    (
+        "version 3 has arrays of all kinds but texts",
+        b"version 3\nmodule a\nparam b byte[]\nparam s short[]\nparam t ushort[]\nparam i int[]\nparam u uint[]\nparam l long[]\nparam m ulong[]\nparam h hexint[]\nparam f bool[]\nparam g invbool[]\n",
+        b"a: size 0, needs [], softneeds, param b byte array, param s short array, param t ushort array, param i int array, param u uint array, param l long array, param m ulong array, param h hexint array, param f bool array, param g invbool array\n",
     ),
 ];
 
@@ -137,7 +166,7 @@ fn slots_of_a_catalogue(rt: HostRuntime) -> Result<(), Fail> {
 }
 
 /// What a row shows, a text that is refused, and its first fault.
-const FAULTS: [(&str, &[u8], CatError); 16] = [
+const FAULTS: [(&str, &[u8], CatError); 27] = [
     (
         "two names are one in normal form",
         b"module q\nmodule a-b\nmodule a_b\n",
@@ -204,8 +233,63 @@ const FAULTS: [(&str, &[u8], CatError); 16] = [
         CatError::Bad { line: 3 },
     ),
     (
-        "a kind that no parameter has",
+        "a kind of version 3 in version 1",
         b"module a\nparam x long\n",
+        CatError::Bad { line: 2 },
+    ),
+    (
+        "a kind of version 3 in version 2",
+        b"version 2\nmodule a\nparam x uint\n",
+        CatError::Bad { line: 3 },
+    ),
+    (
+        "an array in version 1",
+        b"module a\nparam x int[]\n",
+        CatError::Bad { line: 2 },
+    ),
+    (
+        "an array in version 2",
+        b"version 2\nmodule a\nparam x bool[]\n",
+        CatError::Bad { line: 3 },
+    ),
+    (
+        "a kind of version 3 before any module",
+        b"version 3\nparam x uint\n",
+        CatError::Bad { line: 2 },
+    ),
+    (
+        "an array of texts",
+        b"version 3\nmodule a\nparam x charp[]\n",
+        CatError::Bad { line: 3 },
+    ),
+    (
+        "an array of arrays",
+        b"version 3\nmodule a\nparam x int[][]\n",
+        CatError::Bad { line: 3 },
+    ),
+    (
+        "an array of nothing",
+        b"version 3\nmodule a\nparam x []\n",
+        CatError::Bad { line: 3 },
+    ),
+    (
+        "an array with a blank in its word",
+        b"version 3\nmodule a\nparam x int []\n",
+        CatError::Bad { line: 3 },
+    ),
+    (
+        "a kind that no version has",
+        b"version 3\nmodule a\nparam x u64\n",
+        CatError::Bad { line: 3 },
+    ),
+    (
+        "a version that is not there",
+        b"version 4\n",
+        CatError::Bad { line: 1 },
+    ),
+    (
+        "two versions",
+        b"version 2\nversion 3\n",
         CatError::Bad { line: 2 },
     ),
     (
@@ -246,11 +330,13 @@ fn count_behind(alloc: Global, head: &[u8], count: usize) -> Result<usize, CatEr
 }
 
 /// The head of a text, how many modules stand behind it, and how many are read, or the line of the one too many.
-const LIMITS: [(&str, usize, Result<usize, CatError>); 4] = [
+const LIMITS: [(&str, usize, Result<usize, CatError>); 6] = [
     ("", 256, Ok(256)),
     ("", 257, Err(CatError::TooMany { line: 257 })),
     ("version 2\n", 1024, Ok(1024)),
     ("version 2\n", 1025, Err(CatError::TooMany { line: 1026 })),
+    ("version 3\n", 65535, Ok(65535)),
+    ("version 3\n", 65536, Err(CatError::TooMany { line: 65537 })),
 ];
 
 #[test]

@@ -60,3 +60,14 @@ fn as_many_modules_as_a_catalogue_has(rt: HostRuntime) -> Result<(), Fail> {
         1024,
     )
 }
+
+#[test]
+fn more_modules_than_version_2_has(rt: HostRuntime) -> Result<(), Fail> {
+    is_whole(
+        &rt,
+        rt.alloc(),
+        "a chain of 4,096 modules",
+        b"C version 3\n",
+        4096,
+    )
+}

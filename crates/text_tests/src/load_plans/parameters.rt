@@ -82,6 +82,99 @@ fn texts_and_names_with_a_dash(rt: HostRuntime) {
     }
 }
 
+/// Two modules: one has a parameter of each kind of version 3, by the kind's name, and the other has their arrays.
+const KINDS: &[u8] =
+    b"version 3\nmodule one\nparam byte byte\nparam short short\nparam ushort ushort\nparam int int\nparam uint uint\nparam long long\nparam ulong ulong\nparam hexint hexint\nparam bool bool\nparam invbool invbool\nmodule many\nparam byte byte[]\nparam short short[]\nparam ulong ulong[]\nparam bool bool[]\n";
+
+/// A word, and whether the first module takes it.
+const KIND_WORDS: [(&str, bool); 47] = [
+    ("byte=0", true),
+    ("byte=255", true),
+    ("byte=0xfF", true),
+    ("byte=000255", true),
+    ("byte=256", false),
+    ("byte=0x100", false),
+    ("byte=-0", false),
+    ("byte", false),
+    ("short=32767", true),
+    ("short=-32768", true),
+    ("short=-0x8000", true),
+    ("short=32768", false),
+    ("short=-32769", false),
+    ("ushort=65535", true),
+    ("ushort=65536", false),
+    ("ushort=-1", false),
+    ("int=2147483647", true),
+    ("int=-2147483648", true),
+    ("int=2147483648", false),
+    ("int=-2147483649", false),
+    ("uint=4294967295", true),
+    ("uint=0XFFFFFFFF", true),
+    ("uint=4294967296", false),
+    ("uint=-1", false),
+    ("uint=+1", false),
+    ("long=9223372036854775807", true),
+    ("long=-9223372036854775808", true),
+    ("long=9223372036854775808", false),
+    ("long=-9223372036854775809", false),
+    ("ulong=18446744073709551615", true),
+    ("ulong=0xffffffffffffffff", true),
+    ("ulong=18446744073709551616", false),
+    ("ulong=0x10000000000000000", false),
+    ("ulong=340282366920938463463374607431768211456", false),
+    ("ulong=0x", false),
+    ("ulong=", false),
+    ("ulong", false),
+    ("hexint=0xffffffff", true),
+    ("hexint=17", true),
+    ("hexint=ff", false),
+    ("hexint=0x100000000", false),
+    ("invbool", true),
+    ("invbool=N", true),
+    ("invbool=2", false),
+    ("invbool=", false),
+    ("bool", true),
+    ("byte=1,2", false),
+];
+
+#[test]
+fn kinds_of_version_3(rt: HostRuntime) {
+    for (word, valid) in &KIND_WORDS {
+        let words: [&[u8]; 1] = [word.as_bytes()];
+        let found = takes(rt.alloc(), KINDS, 0, &words);
+        holds(&rt, word, found == Some(*valid));
+    }
+}
+
+/// A word, and whether the module of the arrays takes it.
+const ARRAY_WORDS: [(&str, bool); 16] = [
+    ("byte=7", true),
+    ("byte=0,255,0x10", true),
+    ("byte=0,256,1", false),
+    ("byte=", false),
+    ("byte", false),
+    ("byte=,", false),
+    ("byte=1,", false),
+    ("byte=,1", false),
+    ("byte=1,,2", false),
+    ("byte=1, 2", false),
+    ("short=-1,1", true),
+    ("ulong=18446744073709551615,0", true),
+    ("bool=y,N,0", true),
+    ("bool", false),
+    ("bool=y,", false),
+    ("other", true),
+];
+
+#[test]
+fn arrays_of_version_3(rt: HostRuntime) {
+    for (word, valid) in &ARRAY_WORDS {
+        let words: [&[u8]; 1] = [word.as_bytes()];
+        let found = takes(rt.alloc(), KINDS, 1, &words);
+        holds(&rt, word, found == Some(*valid));
+    }
+}
+
 /// What a row shows, a slot, words, and whether the module in the slot takes them.
 const LISTS: [(&str, usize, &[&[u8]], bool); 4] = [
     ("no words", 1, &[], true),
