@@ -1,7 +1,6 @@
 -- A text that a pattern matches begins with the pattern's literal beginning.
-use Rattle.std.proofs.Common.{◌≡◌, ℕ, ◌≤◌, List, [], ◌∷◌, ◌++◌, length, take, refl, sym, ◌∙◌, ap, subst, arith, length-append}
-use Rattle.std.proofs.lemmas.List.{take_at}
-use Rattle.alias_match.specs.Pattern.{Piece, byte, any_byte, run, one_of, Matches, BeginsLiterally, literal_beginning}
+use Rattle.std.proofs.Common.{◌≡◌, ℕ, List, [], ◌∷◌, ◌++◌, refl, ◌∙◌, ap}
+use Rattle.alias_match.specs.Pattern.{byte, any_byte, run, one_of, BeginsLiterally, literal_beginning}
 
 pub begins_literally : BeginsLiterally
 begins_literally [] s m = (s, refl)
@@ -11,14 +10,3 @@ begins_literally (byte own ∷ ps) s (front, rest, split, single, later) =
 begins_literally (any_byte ∷ ps) s m = (s, refl)
 begins_literally (run ∷ ps) s m = (s, refl)
 begins_literally (one_of negated members ∷ ps) s m = (s, refl)
-
-pub within_text : (ps : List Piece) (s : List ℕ) → Matches ps s → length (literal_beginning ps) ≤ length s
-within_text ps s m =
-    let split : (rest : List ℕ) × (s ≡ literal_beginning ps ++ rest) = begins_literally ps s m in
-    let long : length s ≡ length (literal_beginning ps ++ split.0) = ap length split.1 in
-    omega (arith, long, length-append (literal_beginning ps) split.0)
-
-pub front_of_text : (ps : List Piece) (s : List ℕ) → Matches ps s → take (length (literal_beginning ps)) s ≡ literal_beginning ps
-front_of_text ps s m =
-    let split : (rest : List ℕ) × (s ≡ literal_beginning ps ++ rest) = begins_literally ps s m in
-    ap (take (length (literal_beginning ps))) split.1 ∙ take_at (literal_beginning ps) split.0 (length (literal_beginning ps)) refl

@@ -1,13 +1,13 @@
 -- Rising lists of the same numbers are one list. So the places of matches, sorted and each once, are in the order of
 -- the list.
-use Rattle.std.proofs.Common.{◌≡◌, ℕ, zero, suc, ◌+◌, ◌<◌, ◌≤◌, arith, Bool, true, false, cond, List, [], ◌∷◌, ◌++◌, length, slice_get, Option, Some, None, Contains, ◌↔◌, refl, sym, ◌∙◌, ap, subst, ◌⊎◌, inl, inr}
+use Rattle.std.proofs.Common.{◌≡◌, ℕ, zero, suc, ◌+◌, ◌<◌, ◌≤◌, arith, true, cond, List, [], ◌∷◌, slice_get, Some, Contains, ◌↔◌, refl, sym, ◌∙◌, ap, subst, inl, inr}
 use Rattle.std.specs.List.{AllPairs, filter_map}
 use Rattle.std.specs.List.Sorted.{IsStrictlyIncreasing}
 use Rattle.std.proofs.lemmas.List.Kept.{AllPairs-from_increasing}
 use Rattle.alias_match.specs.declared.alias.Alias.{Alias}
 use Rattle.alias_match.specs.Pattern.{is_match}
 use Rattle.alias_match.specs.Aliases.{matching}
-use Rattle.alias_match.specs.ForProofs.{is_match_at, is_some_match}
+use Rattle.alias_match.specs.ForProofs.{is_match_at}
 use Rattle.alias_match.proofs.Members.{told, nothing_in, is_first, is_later, first_or_later}
 
 -- each is above the one before it, and the first is not below a bound

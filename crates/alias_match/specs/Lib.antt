@@ -1,4 +1,5 @@
 pub mod Pattern
+pub mod Marks
 pub mod Reading
 pub mod Aliases
 pub mod Idle

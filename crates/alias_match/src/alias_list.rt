@@ -1,22 +1,22 @@
 //! Aliases in the order of their lines, and those that match a text.
-ghost use Rattle.std.specs.Prelude.{◌≡◌, ◌<◌, ◌↔◌, ℕ, ◌∷◌, ◌++◌, [], filter, length, map, slice_get, take, true, Contains};
+ghost use Rattle.std.specs.Prelude.{◌≡◌, ◌<◌, ◌↔◌, ℕ, suc, ◌∷◌, ◌++◌, [], filter, length, map, slice_get, take, true, Contains};
 ghost use Rattle.std.specs.Prelude.{IfOk, OnOk, OnErr, Some, None, nat_le, if◌then◌else◌, option_copied};
 ghost use Rattle.std.specs.List.{filter_map};
 ghost use Rattle.std.specs.List.Sorted.{IsStrictlyIncreasing};
 ghost use Rattle.alias_match.specs.Aliases.{matching};
-ghost use Rattle.alias_match.specs.ForProofs.{is_match_at, matches_by, matches_under};
+ghost use Rattle.alias_match.specs.ForProofs.{is_match_at, matches_below, matches_under};
 
 use crate::alias::Alias;
-use crate::beginnings::Beginnings;
+use crate::marks::{Marks, mark};
 use std::alloc::{AllocError, Global};
 use std::marker::Model;
 
-/// Aliases in the order of their lines. Those that match a text are found by how the text begins, since a pattern
-/// matches no text that does not begin with the pattern's literal beginning.
+/// Aliases in the order of their lines. Those that match a text are found by the marks of the text, since a pattern
+/// matches no text without the pattern's mark.
 #[derive(Drop)]
 pub struct AliasList {
     entries: Vec<Alias>,
-    places: Beginnings,
+    places: Marks,
 }
 
 impl Model for AliasList {
@@ -76,37 +76,38 @@ fn is_match_at(entries: &[Alias], text: &[u8], place: usize) -> bool
     }
 }
 
-/// Adds those that are kept under the first bytes of the text, as many as given, and match.
+/// Adds those that are kept under the mark of the first bytes of the text, as many as given, and match.
 fn add_under(
     entries: &[Alias],
-    places: &Beginnings,
+    places: &Marks,
     text: &[u8],
     count: usize,
     found: &mut Vec<usize>,
 ) -> Result<(), AllocError>
     ensures { OnOk result (found.new.items
-        ≡ found.old.items ++ matches_under entries.now places.now.places text.now count) }
+        ≡ found.old.items ++ matches_under entries.now places.now text.now count) }
 {
     if let Some(beginning) = front(text, count) {
-        add_matches(entries, places.at(beginning), text, found)?;
+        add_matches(entries, places.at(mark(beginning)), text, found)?;
     }
     Ok(())
 }
 
-/// The places of the aliases that match, of those that are kept under a beginning of the text.
+/// The places of the aliases that match, of those that are kept under a mark of the text.
 fn matches_by(
     alloc: Global,
     entries: &[Alias],
-    places: &Beginnings,
+    places: &Marks,
     text: &[u8],
 ) -> Result<Vec<usize>, AllocError>
     ensures { IfOk result (λ found. found.items
-        ≡ matches_by entries.now places.now.places text.now places.now.lengths) }
+        ≡ matches_below entries.now places.now text.now (suc (length text.now))) }
 {
     let mut found = Vec::new(alloc);
-    for count in places.lengths() {
-        add_under(entries, places, text, *count, &mut found)?;
+    for count in 0..text.len() {
+        add_under(entries, places, text, count, &mut found)?;
     }
+    add_under(entries, places, text, text.len(), &mut found)?;
     Ok(found)
 }
 
@@ -133,7 +134,7 @@ impl AliasList {
     {
         AliasList {
             entries: Vec::new(alloc),
-            places: Beginnings::new(alloc),
+            places: Marks::new(alloc),
         }
     }
 
@@ -142,8 +143,8 @@ impl AliasList {
         ensures ok { OnOk result (self.new ≡ self.old ++ alias ∷ []) }
         ensures err { OnErr result (self.new ≡ self.old) }
     {
-        let beginning = alias.pattern.literal_beginning(alloc)?;
-        self.places.add(alloc, beginning, self.entries.len())?;
+        let number = alias.pattern.mark(alloc)?;
+        self.places.add(alloc, number, self.entries.len())?;
         self.entries.push(alias)?;
         Ok(())
     }

@@ -4,11 +4,12 @@
 mod alias;
 mod alias_list;
 mod aliases;
-mod beginnings;
 mod idle;
 mod laws;
+mod marks;
 mod pattern;
 mod read;
+mod runs;
 
 pub use alias::Alias;
 pub use alias_list::AliasList;

@@ -1,11 +1,14 @@
 //! Shell patterns, and whether they match a text.
 ghost use Rattle.std.specs.Prelude.{List, ◌≡◌, ◌↔◌, [], IfOk, IsTrue, MatchOption};
 ghost use Rattle.std.specs.List.{list_any};
-ghost use Rattle.alias_match.specs.Pattern.{Piece, Matches, holds, in_set, in_range, literal_beginning, piece, pieces};
+ghost use Rattle.alias_match.specs.Pattern.{Piece, Matches, holds, in_set, in_range, piece, pieces};
+ghost use Rattle.alias_match.specs.Marks.{IsMarkOf};
 ghost use Rattle.alias_match.specs.ForProofs.{IsStep, IsLater};
 ghost use Rattle.alias_match.specs.Reading.{Gives, Reads};
 
+use crate::marks::mark;
 use crate::read::{PatternError, read_items};
+use crate::runs::{from_longest_run, leading_bytes};
 use std::alloc::{AllocError, Global};
 use std::marker::Model;
 
@@ -145,20 +148,12 @@ impl Pattern {
         Ok(Pattern { items })
     }
 
-    /// The bytes before the first item that is no single byte. Each text that the pattern matches begins with them.
-    pub fn literal_beginning(&self, alloc: Global) -> Result<Vec<u8>, AllocError>
-        ensures { IfOk result (λ bytes. bytes.items ≡ literal_beginning self.now) }
+    /// A mark that each text has that the pattern matches: that of its longest run of single bytes.
+    pub(crate) fn mark(&self, alloc: Global) -> Result<u64, AllocError>
+        ensures { IfOk result (λ number. IsMarkOf number self.now) }
     {
-        let mut bytes = Vec::new(alloc);
-        let mut items = self.items.as_slice();
-        'items: while let Some((item, after)) = items.split_first() {
-            let Item::Byte(byte) = item else {
-                return Ok(bytes);
-            };
-            bytes.push(*byte)?;
-            items = after;
-        }
-        Ok(bytes)
+        let run = leading_bytes(alloc, from_longest_run(&self.items))?;
+        Ok(mark(&run))
     }
 
     /// Whether the whole text, byte for byte as it stands, is a joining of one text from each item, in order.

@@ -1,4 +1,4 @@
-use Rattle.std.proofs.Common.{ap, sym, ◌∙◌}
+use Rattle.std.proofs.Common.{ap, ◌∙◌}
 use Rattle.alias_match.specs.ForProofs.{is_some_match}
 use Rattle.alias_match.proofs.Deciding.{decided}
 use Rattle.alias_match.proofs.alias_list.is_match_at.Goals as goal

@@ -1,8 +1,8 @@
-use Rattle.std.proofs.Common.{nat_eq, subst, sym, ap, ◌∙◌}
+use Rattle.std.proofs.Common.{nat_eq, suc, length, subst, sym, ap, ◌∙◌}
 use Rattle.std.specs.List.Sorted.{IsStrictlyIncreasing}
 use Rattle.std.proofs.lemmas.List.Filters.{dedup_is}
 use Rattle.std.proofs.lemmas.Map.Keys.{IsStrictlyIncreasing-dedup}
-use Rattle.alias_match.specs.ForProofs.{matches_by}
+use Rattle.alias_match.specs.ForProofs.{matches_below}
 use Rattle.alias_match.proofs.Listed.{sorted_each}
 use Rattle.alias_match.proofs.alias_list.AliasList.places_of_matches.Goals as goal
 
@@ -14,5 +14,5 @@ pub returns-clause-each : goal.returns-clause-each
 returns-clause-each c =
     rw (sym c.self.view_is)
     (sorted_each c.self.inside.places c.self.inside.entries.items c.args.text.now c.in_ok-places.places.items c.sort_unstable.new.self.items c.dedup.new.self.items c.self.invariant
-    (c.in_ok-places.ensures ∙ ap (λ l. matches_by l c.self.inside.places.places c.args.text.now c.self.inside.places.lengths) c.deref.ensures.value)
+    (c.in_ok-places.ensures ∙ ap (λ l. matches_below l c.self.inside.places c.args.text.now (suc (length c.args.text.now))) c.deref.ensures.value)
     c.sort_unstable.ensures.permutation (dedup_is nat_eq c.sort_unstable.new.self.items c.dedup.new.self.items c.dedup.ensures.filtered))
