@@ -1,13 +1,6 @@
-use Rattle.std.proofs.Common.{length, refl, ◌∙◌}
-use Rattle.use_indicator.proofs.Tries.{given_up_more}
+use Rattle.dep_index.specs.Refusals.{reply_of, get_refusal}
+use Rattle.use_indicator.proofs.Tries.{answered_again}
 use Rattle.use_indicator.proofs.leaf.Leaf.first.Goals as goal
 
-pub loop-preserved : goal.loop-preserved
-loop-preserved g c =
-    let before = c.loop.invariant.steps in
-    let more = given_up_more (length before.0) c.args.slot c.args.self.now c.loop.self c.attempt.new.self (before.0, refl, before.1) c.in_default.ensures.missed.1 in
-    record {
-      turns = (tt, tt);
-      same = (c.in_default.ensures.missed.0.0 ∙ c.loop.invariant.same.0, c.in_default.ensures.missed.0.1 ∙ c.loop.invariant.same.1);
-      steps = (more.0, more.2);
-    }
+pub returns-in-None-clause-steps : goal.returns-in-None-clause-steps
+returns-in-None-clause-steps g c = answered_again c.args.slot (reply_of get_refusal c.again.result) c.args.self.now c.attempt.new.self c.again.new.self c.in-None.ensures.missed.1 c.again.ensures.steps
