@@ -6,7 +6,7 @@ from collections.abc import Iterable, Iterator
 from fnmatch import fnmatchcase
 
 from .elf import TEXT
-from .format import FORMAT, is_name, normal
+from .format import Format, is_name, normal
 from .modules import Module
 from .report import Notes, Refusal
 
@@ -64,30 +64,30 @@ class Tree:
         return [self.modules[it] for it in sorted(wanted)]
 
 
-def selected(tree: Tree, names: list[str]) -> list[Module]:
-    """The modules of these names and what they need; all modules where there are no names."""
+def selected(tree: Tree, names: list[str], form: Format) -> list[Module]:
+    """The modules of these names and what they need; all modules where there are no names. A catalogue has to hold them."""
     unknown = [it for it in names if normal(it) not in tree.modules]
     if unknown:
         raise Refusal(*(f"{it}: no module of this name" for it in unknown))
     found = tree.closure(map(normal, names)) if names else list(tree.modules.values())
-    if len(found) > FORMAT.modules:
+    if len(found) > form.modules:
         advice = "name fewer" if names else "name those that are wanted"
-        raise Refusal(f"{len(found)} modules, and a catalogue holds {FORMAT.modules}: {advice}")
+        raise Refusal(f"{len(found)} modules, and a catalogue of version {form.version} holds {form.modules}: {advice}")
     return found
 
 
-def params_of(module: Module, notes: Notes) -> Iterator[str]:
+def params_of(module: Module, form: Format, notes: Notes) -> Iterator[str]:
     """The parameters that a catalogue can hold, each as a name and a kind. The others are noted."""
     kinds: dict[str, str] = {}
     for name, kind in module.params:
         kinds.setdefault(normal(name), kind)
     for name, kind in kinds.items():
-        if kind not in FORMAT.kinds:
+        if kind not in form.kinds:
             notes.add(f"parameters of type {kind!r}", f"{module.name}: {name}")
         elif not is_name(name):
             notes.add("parameters with a name that a catalogue cannot hold", f"{module.name}: {name!r}")
         else:
-            yield f"{name} {FORMAT.kinds[kind]}"
+            yield f"{name} {form.kinds[kind]}"
 
 
 def note_left_out(tree: Tree, module: Module, notes: Notes) -> None:
@@ -108,22 +108,22 @@ def lines_of(directive: str, words: list[str]) -> Iterator[str]:
     return (f"{directive} {it}" for it in wrapped)
 
 
-def description(tree: Tree, module: Module, notes: Notes) -> Iterator[str]:
+def description(tree: Tree, module: Module, form: Format, notes: Notes) -> Iterator[str]:
     """The lines of a module."""
     yield f"module {module.name}"
     yield f"size {module.size}"
     yield from lines_of("exports", tree.exports(module))
     yield from lines_of("needs", tree.needs(module))
     yield from lines_of("softneeds", tree.soft_needs(module, module.soft_before))
-    yield from (f"param {it}" for it in params_of(module, notes))
+    yield from (f"param {it}" for it in params_of(module, form, notes))
     if module.is_permanent:
         yield "permanent"
 
 
-def catalogue(tree: Tree, modules: list[Module], notes: Notes) -> bytes:
+def catalogue(tree: Tree, modules: list[Module], form: Format, notes: Notes) -> bytes:
     """The text of a catalogue of these modules. What it cannot hold is noted."""
-    lines = [f"version {FORMAT.version}"]
+    lines = [f"version {form.version}"]
     for module in modules:
-        lines += description(tree, module, notes)
+        lines += description(tree, module, form, notes)
         note_left_out(tree, module, notes)
     return "".join(f"{it}\n" for it in lines).encode(*TEXT)

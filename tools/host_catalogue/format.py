@@ -4,17 +4,26 @@ import re
 from dataclasses import dataclass
 
 
+SIZES = 2**32 - 1
+
+
 @dataclass(frozen=True)
 class Format:
-    """A version of the catalogue: how many modules it holds, up to which size, and its word for each type of the kernel's."""
+    """A version of the catalogue: how many modules it holds, and its word for each type of the kernel's."""
 
     version: int
     modules: int
-    sizes: int
     kinds: dict[str, str]
 
 
-FORMAT = Format(version=2, modules=1024, sizes=2**32 - 1, kinds={"int": "int", "bool": "bool", "charp": "charp"})
+# The standard types of include/linux/moduleparam.h. There are arrays of all but charp.
+SCALARS = ["byte", "short", "ushort", "int", "uint", "long", "ulong", "hexint", "bool", "invbool"]
+WORDS = {it: it for it in [*SCALARS, "charp"]} | {f"array of {it}": f"{it}[]" for it in SCALARS}
+FORMATS = {
+    2: Format(version=2, modules=1024, kinds={it: it for it in ("int", "bool", "charp")}),
+    3: Format(version=3, modules=65535, kinds=WORDS),
+}
+NEWEST = FORMATS[3]
 
 
 def is_name(name: str) -> bool:

@@ -14,7 +14,7 @@ from dataclasses import dataclass, field
 from pathlib import Path
 
 from .elf import TEXT, Elf, Unreadable
-from .format import FORMAT, is_name, is_symbol, normal
+from .format import SIZES, is_name, is_symbol, normal
 from .report import Notes, Progress, Refusal
 
 
@@ -37,8 +37,8 @@ def module_of(name: str, content: bytes) -> Module:
     """The module that an ELF file is."""
     elf = Elf(content)
     module = Module(name, elf.loaded_size())
-    if module.size > FORMAT.sizes:
-        raise Unreadable(f"{module.size} bytes, and sizes in a catalogue end at {FORMAT.sizes}")
+    if module.size > SIZES:
+        raise Unreadable(f"{module.size} bytes, and sizes in a catalogue end at {SIZES}")
     add_symbols(module, elf)
     for entry in elf.strings(".modinfo"):
         key, _, value = entry.partition("=")
@@ -195,7 +195,7 @@ def set_loaded_sizes(modules: dict[str, Module], path: Path) -> None:
         raise Refusal(f"{path}: {cause.strerror}") from cause
     for number, line in enumerate(lines, 1):
         said = re.match(r"(\S+) ([0-9]{1,10}) ", line)
-        if not said or int(said[2]) > FORMAT.sizes:
+        if not said or int(said[2]) > SIZES:
             raise Refusal(f"{path}: line {number} describes no module")
         if said[1] in modules:
             modules[said[1]].size = int(said[2])
