@@ -18,17 +18,17 @@ use Rattle.load_plan.proofs.Walking.{mark_new}
 pub lt-makes : (a b : ℕ) → a < b → nat_lt a b ≡ true
 lt-makes a b h = lt-ltb a b h
 
-none_in_progress : (progress reached : List ℕ) (q : ℕ) → is_free progress (Ok reached) ≡ true → has progress q ≡ true → has reached q ≡ false
+pub none_in_progress : (progress reached : List ℕ) (q : ℕ) → is_free progress (Ok reached) ≡ true → has progress q ≡ true → has reached q ≡ false
 none_in_progress progress reached q free on =
     elim (either_way (has reached q)) [
       | inl t ↦ (let no : has progress q ≡ false = none_passes (has progress) reached q (not_true (list_any (has progress) reached) free) t in absurd (cc))
       | inr t ↦ t
     ]
 
-free_from_apart : (progress reached : List ℕ) → ((q : ℕ) → has reached q ≡ true → has progress q ≡ false) → is_free progress (Ok reached) ≡ true
+pub free_from_apart : (progress reached : List ℕ) → ((q : ℕ) → has reached q ≡ true → has progress q ≡ false) → is_free progress (Ok reached) ≡ true
 free_from_apart progress reached h = not_makes (list_any (has progress) reached) (none_from (has progress) reached h)
 
-turned : (progress ms : List ℕ) → IsApart progress ms → (q : ℕ) → has ms q ≡ true → has progress q ≡ false
+pub turned : (progress ms : List ℕ) → IsApart progress ms → (q : ℕ) → has ms q ≡ true → has progress q ≡ false
 turned progress ms apart q h = elim (either_way (has progress q)) [ inl t ↦ (let no : has ms q ≡ false = apart q t in absurd (cc)) | inr t ↦ t ]
 
 -- what a whole walk from a module gives
@@ -78,7 +78,7 @@ clean-stops w progress done m e kept below h =
       | inr t ↦ t
     ]
 
-free_new : (w : List Node) (progress : List ℕ) (m : ℕ) (r : Result (List ℕ) PlanRefusal) → is_bounded w ≡ true → m < length w → hard_walk w true (Slot m) ≡ r → is_free progress r ≡ true → has progress m ≡ false
+pub free_new : (w : List Node) (progress : List ℕ) (m : ℕ) (r : Result (List ℕ) PlanRefusal) → is_bounded w ≡ true → m < length w → hard_walk w true (Slot m) ≡ r → is_free progress r ≡ true → has progress m ≡ false
 free_new w progress m (Err e) bounded below h free = absurd (cc)
 free_new w progress m (Ok reached) bounded below h free =
     let x : Whole w m reached = whole_walk w m reached bounded below h in

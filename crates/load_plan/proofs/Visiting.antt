@@ -11,13 +11,15 @@ use Rattle.load_plan.specs.declared.graph.Phase.{Phase}
 use Rattle.load_plan.specs.declared.graph.Phase.TheVariants.{Pre, Hard, Post}
 use Rattle.load_plan.specs.declared.visit.Stage.{Stage}
 use Rattle.load_plan.specs.declared.visit.Move.{Move}
-use Rattle.load_plan.specs.declared.visit.Move.TheVariants.{Pass, Append, Enter}
+use Rattle.load_plan.specs.declared.visit.Move.TheVariants.{Turn, Pass, Append, Leave, Enter}
 use Rattle.load_plan.specs.Graph.{targets_of, Node, node_at, is_bounded}
 use Rattle.load_plan.specs.Walk.{has, hard_walk}
 use Rattle.load_plan.specs.Plan.{is_free, visit}
 use Rattle.load_plan.specs.Laws.{is_in, start, more}
 use Rattle.load_plan.specs.ForProofs.{mark_at, AreMarks, IsKept}
 use Rattle.load_plan.specs.VisitSteps.{left_of, next_stage, first_stage, Leads, is_taken, IsUnmet, IsUnmetFirst, IsMove, IsTaken}
+use Rattle.load_plan.specs.Trials.{IsTrial, StaysKnown}
+use Rattle.load_plan.proofs.Trials.{Trial-begin}
 use Rattle.load_plan.proofs.Lists.{and_makes, or_false, or_comes, has-same, has-other, has-last_same, has-last_other, apart_from, below_cons, nothing_apart, room_for, has-from_apart, passes_at, not_false, all-append, take-first, take-all}
 use Rattle.load_plan.proofs.Orders.{IsWithin, grows_last, all_in-grows}
 use Rattle.load_plan.proofs.Walking.{mark_new, marks-open, marks-done}
@@ -263,20 +265,57 @@ pub Visits-over : {w : List Node} {begun : ℕ} {marks : List Mark} {order : Lis
 Visits-over v = v.same
 
 -- what the code knows of what is taken
-abbrev pub TakenAt : List Node → List Mark → Stage → Move → Type 0
-TakenAt w marks s move = (progress done : List ℕ) → AreMarks (length w) marks progress done → IsKept w progress done → IsUnmetFirst w progress s → IsTaken w progress done s move
+abbrev pub TakenAt : List Node → List Mark → List Mark → Stage → Move → Type 0
+TakenAt w marks trial s move = (progress done : List ℕ) → AreMarks (length w) marks progress done → IsKept w progress done → IsTrial w progress trial → IsUnmetFirst w progress s → IsTaken w progress done s move
 
-taken_here : {w : List Node} {begun : ℕ} {marks : List Mark} {order : List ℕ} {s : Stage} {ss : List Stage} → Visits w begun marks order (s ∷ ss) → (move : Move) → TakenAt w marks s move → IsTaken w (progress_of (s ∷ ss)) order s move
-taken_here {w} {begun} {marks} {order} {s} {ss} v move taken = taken (progress_of (s ∷ ss)) order v.marked v.kept (unmet_first w order [] s ss v.holds)
+taken_here : {w : List Node} {begun : ℕ} {marks trial : List Mark} {order : List ℕ} {s : Stage} {ss : List Stage} → Visits w begun marks order (s ∷ ss) → IsTrial w (progress_of (s ∷ ss)) trial → (move : Move) → TakenAt w marks trial s move → IsTaken w (progress_of (s ∷ ss)) order s move
+taken_here {w} {begun} {marks} {trial} {order} {s} {ss} v known move taken = taken (progress_of (s ∷ ss)) order v.marked v.kept known (unmet_first w order [] s ss v.holds)
 
-pub Visits-by_pass : {w : List Node} {begun : ℕ} {marks : List Mark} {order : List ℕ} {s next : Stage} {ss : List Stage} → Visits w begun marks order (s ∷ ss) → IsMove w marks s (Pass next) → TakenAt w marks s (Pass next) → Visits w begun marks order (next ∷ ss)
-Visits-by_pass {w} {begun} {marks} {order} {s} {next} {ss} v move taken =
-    subst (λ x. Visits w begun marks order (x ∷ ss)) (sym move.2) (Visits-pass v move.0 move.1 (taken_here v (Pass next) taken move.0 move.1))
+pub Visits-by_pass : {w : List Node} {begun : ℕ} {marks trial : List Mark} {order : List ℕ} {s next : Stage} {ss : List Stage} → Visits w begun marks order (s ∷ ss) → IsTrial w (progress_of (s ∷ ss)) trial → IsMove w marks s (Pass next) → TakenAt w marks trial s (Pass next) → Visits w begun marks order (next ∷ ss)
+Visits-by_pass {w} {begun} {marks} {trial} {order} {s} {next} {ss} v known move taken =
+    subst (λ x. Visits w begun marks order (x ∷ ss)) (sym move.2) (Visits-pass v move.0 move.1 (taken_here v known (Pass next) taken move.0 move.1))
 
 pub Visits-by_append : {w : List Node} {begun : ℕ} {marks : List Mark} {order : List ℕ} {s next : Stage} {ss : List Stage} → Visits w begun marks order (s ∷ ss) → IsMove w marks s (Append next) → Visits w begun (set marks s.slot Done) (order ++ s.slot ∷ []) (next ∷ ss)
 Visits-by_append {w} {begun} {marks} {order} {s} {next} {ss} v move =
     subst (λ x. Visits w begun (set marks s.slot Done) (order ++ s.slot ∷ []) (x ∷ ss)) (sym move.2) (Visits-append v move.0 move.1)
 
-pub Visits-by_enter : {w : List Node} {begun : ℕ} {marks : List Mark} {order : List ℕ} {s next : Stage} {ss : List Stage} (m : ℕ) → Visits w begun marks order (s ∷ ss) → IsMove w marks s (Enter m next) → TakenAt w marks s (Enter m next) → Visits w begun (set marks m Open) order (first_stage Pre m ∷ next ∷ ss)
-Visits-by_enter {w} {begun} {marks} {order} {s} {next} {ss} m v move taken =
-    subst (λ x. Visits w begun (set marks m Open) order (first_stage Pre m ∷ x ∷ ss)) (sym move.3) (Visits-enter v m move.0 move.1 move.2 (taken_here v (Enter m next) taken))
+pub Visits-by_enter : {w : List Node} {begun : ℕ} {marks trial : List Mark} {order : List ℕ} {s next : Stage} {ss : List Stage} (m : ℕ) → Visits w begun marks order (s ∷ ss) → IsTrial w (progress_of (s ∷ ss)) trial → IsMove w marks s (Enter m next) → TakenAt w marks trial s (Enter m next) → Visits w begun (set marks m Open) order (first_stage Pre m ∷ next ∷ ss)
+Visits-by_enter {w} {begun} {marks} {trial} {order} {s} {next} {ss} m v known move taken =
+    subst (λ x. Visits w begun (set marks m Open) order (first_stage Pre m ∷ x ∷ ss)) (sym move.3) (Visits-enter v m move.0 move.1 move.2 (taken_here v known (Enter m next) taken))
+
+-- What the loop keeps, with what was learnt.
+pub record Learns (w : List Node) (begun : ℕ) (marks trial : List Mark) (order : List ℕ) (ss : List Stage) : Type 0 where
+  pub visits : Visits w begun marks order ss
+  pub long : length trial ≡ length w
+  pub known : IsTrial w (progress_of ss) trial
+
+pub Learns-forget : {w : List Node} {begun : ℕ} {marks trial : List Mark} {order : List ℕ} {ss : List Stage} → trial ≡ marks → Visits w begun marks order ss → Learns w begun marks trial order ss
+Learns-forget {w} {begun} {marks} {trial} {order} {ss} same v = record {
+  visits = v;
+  long = ap length same ∙ v.long;
+  known = subst (λ l. IsTrial w (progress_of ss) l) (sym same) (Trial-begin w marks (progress_of ss) order v.marked v.kept);
+}
+
+pub Learns-pass : {w : List Node} {begun : ℕ} {marks trial after : List Mark} {order : List ℕ} {s next : Stage} {ss : List Stage} → Learns w begun marks trial order (s ∷ ss) → length after ≡ length w → StaysKnown w trial after → IsMove w marks s (Pass next) → TakenAt w marks trial s (Pass next) → Learns w begun marks after order (next ∷ ss)
+Learns-pass {w} {begun} {marks} {trial} {after} {order} {s} {next} {ss} k long stays move taken = record {
+  visits = Visits-by_pass k.visits k.known move taken;
+  long = long;
+  known = subst (λ x. IsTrial w (progress_of (x ∷ ss)) after) (sym move.2) (stays (progress_of (s ∷ ss)) k.known);
+}
+
+pub Learns-turn : {w : List Node} {begun : ℕ} {marks trial after : List Mark} {order : List ℕ} {s next : Stage} {ss : List Stage} → Learns w begun marks trial order (s ∷ ss) → length after ≡ length w → StaysKnown w trial after → IsMove w marks s (Turn next) → Learns w begun marks after order (next ∷ ss)
+Learns-turn {w} {begun} {marks} {trial} {after} {order} {s} {next} {ss} k long stays move =
+    let same : progress_of (s ∷ ss) ≡ progress_of (first_stage Hard s.slot ∷ ss) = ap (λ p. with_phase p s.slot (progress_of ss)) move.0 in
+    subst (λ x. Learns w begun marks after order (x ∷ ss)) (sym move.2)
+    (record {
+      visits = Visits-turn k.visits move.0 move.1;
+      long = long;
+      known = subst (λ l. IsTrial w l after) same (stays (progress_of (s ∷ ss)) k.known);
+    })
+
+pub Learns-leave : {w : List Node} {begun : ℕ} {marks trial after : List Mark} {order : List ℕ} {s : Stage} {ss : List Stage} → Learns w begun marks trial order (s ∷ ss) → length after ≡ length w → StaysKnown w trial after → IsMove w marks s Leave → Learns w begun marks after order ss
+Learns-leave {w} {begun} {marks} {trial} {after} {order} {s} {ss} k long stays move = record {
+  visits = Visits-leave k.visits move.0 move.1;
+  long = long;
+  known = subst (λ l. IsTrial w l after) (ap (λ p. with_phase p s.slot (progress_of ss)) move.0) (stays (progress_of (s ∷ ss)) k.known);
+}

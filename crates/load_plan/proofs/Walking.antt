@@ -157,10 +157,10 @@ Walks-blocked {w} {tests} {start} {way} {done} {marks} {now} {f} {fs} i k m lead
     ∙ ap (λ r. r >>= next) (walk-install w tests (length w - suc (suc (length fs))) (f.slot ∷ way_of way fs) now m facts.0 facts.1 blocked)
 
 -- a write of one mark
-mark-same : (marks : List Mark) (m : ℕ) (x : Mark) → m < length marks → mark_at (set marks m x) m ≡ x
+pub mark-same : (marks : List Mark) (m : ℕ) (x : Mark) → m < length marks → mark_at (set marks m x) m ≡ x
 mark-same marks m x within = get_or-set_same marks m x Done within
 
-mark-other : (marks : List Mark) (m q : ℕ) (x : Mark) → (q ≡ m → ⊥) → mark_at (set marks m x) q ≡ mark_at marks q
+pub mark-other : (marks : List Mark) (m q : ℕ) (x : Mark) → (q ≡ m → ⊥) → mark_at (set marks m x) q ≡ mark_at marks q
 mark-other marks m q x other = get_or-set_other marks m q x Done other
 
 -- a module that comes onto the way is Open

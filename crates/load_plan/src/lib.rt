@@ -12,6 +12,7 @@ mod plans;
 mod reach;
 mod refusal;
 mod sources;
+mod trial;
 mod values;
 mod visit;
 mod walk;

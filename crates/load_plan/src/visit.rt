@@ -1,5 +1,5 @@
 //! The visit: a module, what it stands on and the soft items that are clean, by marks and a stack of its own.
-ghost use Rattle.std.specs.Prelude.{◌≡◌, ◌<◌, ℕ, List, [], length, true, All, MatchOption, IfSome, IfOk};
+ghost use Rattle.std.specs.Prelude.{◌≡◌, ◌<◌, ℕ, List, [], length, true, All, MatchOption, IfSome, IfOk, OnOk};
 ghost use Rattle.std.specs.List.{list_all};
 ghost use Rattle.load_plan.specs.declared.walk.Mark.TheVariants.{New};
 ghost use Rattle.load_plan.specs.declared.graph.Target.TheVariants.{Slot};
@@ -7,11 +7,13 @@ ghost use Rattle.load_plan.specs.ForProofs.{mark_at, InVisit};
 ghost use Rattle.load_plan.specs.declared.walk.Mark.{Mark};
 ghost use Rattle.load_plan.specs.VisitSteps.{IsMove, IsTaken, IsUnmet, IsUnmetFirst, is_taken, left_of, Leads, first_stage, next_stage};
 ghost use Rattle.load_plan.specs.Graph.{is_within, Node};
+ghost use Rattle.load_plan.specs.Trials.{IsTrial, StaysKnown};
 ghost use Rattle.load_plan.specs.Plan.{is_clean, visit};
 ghost use Rattle.load_plan.specs.Walk.{hard_walk};
 
 use crate::graph::{DependencyGraph, Phase, Target, target_at};
 use crate::refusal::WalkError;
+use crate::trial::learn_from;
 use crate::walk::{Mark, new_marks, walk};
 use std::alloc::{AllocError, Global};
 
@@ -45,8 +47,9 @@ enum Move {
     Enter(usize, Stage),
 }
 
-/// Whether a soft item is clean: it is new, and its hard walk has no fault and meets no module in progress.
-fn is_clean(
+/// Whether a soft item is clean: it is new, and its hard walk, which is made, has no fault and meets no module in
+/// progress.
+fn walks_clean(
     alloc: Global,
     graph: &DependencyGraph,
     marks: &[Mark],
@@ -71,22 +74,57 @@ fn is_clean(
     }
 }
 
+/// Whether a soft item is clean, by what was learnt while the same modules are in progress. A walk is made only where
+/// nothing can be learnt.
+fn is_clean(
+    alloc: Global,
+    graph: &DependencyGraph,
+    marks: &[Mark],
+    trial: &mut Vec<Mark>,
+    slot: usize,
+) -> Result<bool, AllocError>
+    requires slot { slot < length graph.now }
+    requires marks { length marks.now ≡ length graph.now }
+    requires trial { length trial.old.items ≡ length graph.now }
+    ensures clean { InVisit graph.now marks.now (λ progress done. IsTrial graph.now progress trial.old.items
+        → IfOk result (λ clean. clean ≡ is_clean graph.now progress done (Slot slot))) }
+    ensures new { IfOk result (λ clean. clean ≡ true → mark_at marks.now slot ≡ New) }
+    ensures long { OnOk result (length trial.new.items ≡ length graph.now) }
+    ensures known { OnOk result (StaysKnown graph.now trial.old.items trial.new.items) }
+{
+    match marks[slot] {
+        Mark::Open | Mark::Done => Ok(false),
+        Mark::New => {
+            learn_from(alloc, graph, trial, slot)?;
+            match trial[slot] {
+                Mark::Done => Ok(true),
+                Mark::Open => Ok(false),
+                Mark::New => walks_clean(alloc, graph, marks, slot),
+            }
+        }
+    }
+}
+
 /// Whether a visit enters a module: a hard dependency that is new, or a soft item that is clean.
 fn enters(
     alloc: Global,
     graph: &DependencyGraph,
     marks: &[Mark],
+    trial: &mut Vec<Mark>,
     phase: Phase,
     slot: usize,
 ) -> Result<bool, AllocError>
     requires slot { slot < length graph.now }
     requires marks { length marks.now ≡ length graph.now }
-    ensures taken { InVisit graph.now marks.now (λ progress done. IsUnmet progress phase (Slot slot)
+    requires trial { length trial.old.items ≡ length graph.now }
+    ensures taken { InVisit graph.now marks.now (λ progress done. IsTrial graph.now progress trial.old.items → IsUnmet progress phase (Slot slot)
         → IfOk result (λ taken. taken ≡ is_taken graph.now progress done phase (Slot slot))) }
     ensures new { IfOk result (λ taken. taken ≡ true → mark_at marks.now slot ≡ New) }
+    ensures long { OnOk result (length trial.new.items ≡ length graph.now) }
+    ensures known { OnOk result (StaysKnown graph.now trial.old.items trial.new.items) }
 {
     match phase {
-        Phase::Pre | Phase::Post => is_clean(alloc, graph, marks, slot),
+        Phase::Pre | Phase::Post => is_clean(alloc, graph, marks, trial, slot),
         Phase::Hard => match marks[slot] {
             Mark::New => Ok(true),
             Mark::Open | Mark::Done => Ok(false),
@@ -126,25 +164,37 @@ fn next_move(
     alloc: Global,
     graph: &DependencyGraph,
     marks: &[Mark],
+    trial: &mut Vec<Mark>,
     stage: Stage,
 ) -> Result<Move, AllocError>
     requires slot { stage.slot < length graph.now }
     requires marks { length marks.now ≡ length graph.now }
+    requires trial { length trial.old.items ≡ length graph.now }
     ensures moves { IfOk result (IsMove graph.now marks.now stage) }
-    ensures taken { InVisit graph.now marks.now (λ progress done. IsUnmetFirst graph.now progress stage
+    ensures taken { InVisit graph.now marks.now (λ progress done. IsTrial graph.now progress trial.old.items → IsUnmetFirst graph.now progress stage
         → IfOk result (IsTaken graph.now progress done stage)) }
+    ensures long { OnOk result (length trial.new.items ≡ length graph.now) }
+    ensures known { OnOk result (StaysKnown graph.now trial.old.items trial.new.items) }
 {
     match first_left(graph, stage) {
         None => Ok(behind(stage)),
         Some((Target::Missing(_), next)) => Ok(Move::Pass(next)),
         Some((Target::Slot(slot), next)) => {
-            if enters(alloc, graph, marks, stage.phase, *slot)? {
+            if enters(alloc, graph, marks, trial, stage.phase, *slot)? {
                 Ok(Move::Enter(*slot, next))
             } else {
                 Ok(Move::Pass(next))
             }
         }
     }
+}
+
+/// Forgets what was learnt: what is known is what the marks tell.
+fn forget(trial: &mut Vec<Mark>, marks: &[Mark])
+    requires { length trial.old.items ≡ length marks.now }
+    ensures { trial.new.items ≡ marks.now }
+{
+    trial.copy_from_slice(marks);
 }
 
 /// The visit of a module whose hard walk has no fault: all that is loaded for it, in order.
@@ -160,15 +210,17 @@ pub(crate) fn visit(
 {
     let mut marks = new_marks(alloc, graph.len())?;
     marks[start] = Mark::Open;
+    let mut trial = Vec::from_slice(alloc, &marks)?;
     let mut order = Vec::new(alloc);
     let mut waiting = Vec::new(alloc);
     let mut stage = Stage::first(start, Phase::Pre);
     'visit: loop {
-        match next_move(alloc, graph, &marks, stage)? {
+        match next_move(alloc, graph, &marks, &mut trial, stage)? {
             Move::Turn(next) => stage = next,
             Move::Pass(next) => stage = next,
             Move::Append(next) => {
                 marks[stage.slot] = Mark::Done;
+                forget(&mut trial, &marks);
                 order.push(stage.slot)?;
                 stage = next;
             }
@@ -178,6 +230,7 @@ pub(crate) fn visit(
             },
             Move::Enter(slot, next) => {
                 marks[slot] = Mark::Open;
+                forget(&mut trial, &marks);
                 waiting.push(next)?;
                 stage = Stage::first(slot, Phase::Pre);
             }

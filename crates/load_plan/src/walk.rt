@@ -23,9 +23,9 @@ pub(crate) enum Mark {
 
 /// A module on the way, and how many of its hard dependencies were walked.
 #[derive(Clone, Copy)]
-struct Frame {
-    slot: usize,
-    walked: usize,
+pub(crate) struct Frame {
+    pub(crate) slot: usize,
+    pub(crate) walked: usize,
 }
 
 /// What the first dependency that is left asks of a walk.
@@ -55,7 +55,7 @@ fn is_blocked(graph: &DependencyGraph, tests: bool, slot: usize) -> bool
 }
 
 /// The first hard dependency that is left, and the frame behind it.
-fn first_left(graph: &DependencyGraph, frame: Frame) -> Option<(&Target, Frame)>
+pub(crate) fn first_left(graph: &DependencyGraph, frame: Frame) -> Option<(&Target, Frame)>
     requires { frame.slot < length graph.now }
     ensures first { MatchOption result (left_of graph.entry.now frame ≡ []) (λ x. Leads graph.entry.now frame x.0.now) }
     ensures within { IfSome result (λ x. is_within (length graph.entry.now) x.0.now ≡ true) }

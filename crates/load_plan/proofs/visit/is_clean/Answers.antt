@@ -1,21 +1,16 @@
-use Rattle.std.proofs.Common.{◌<◌, ◌∙◌, sym, subst, ◌++◌, length, arith}
+use Rattle.std.proofs.Common.{◌∙◌, arith, sym}
 use Rattle.load_plan.specs.declared.walk.Mark.TheVariants.{New}
-use Rattle.load_plan.specs.ForProofs.{AreMarks}
-use Rattle.load_plan.proofs.Clean.{clean-passes, clean-stops, clean-late, mark_with}
+use Rattle.load_plan.proofs.Clean.{mark_with}
+use Rattle.load_plan.proofs.Trials.{clean-known, stained-known}
 use Rattle.load_plan.proofs.visit.is_clean.Goals as goal
 
-pub returns-in-Open-clause-clean : goal.returns-in-Open-clause-clean
-returns-in-Open-clause-clean c progress done marked kept =
-    sym (clean-late c.args.graph.now c.args.marks.now progress done c.args.slot marked c.requires.marks c.in-Open.is kept c.requires.slot)
+pub returns-in-Done-clause-clean : goal.returns-in-Done-clause-clean
+returns-in-Done-clause-clean c progress done marked kept known =
+    let new = mark_with c.args.marks.now c.args.slot New (omega (arith, c.requires.slot, c.requires.marks)) ∙ c.in-New.is in
+    let learnt = mark_with c.learn_from.new.trial.items c.args.slot c.index.result.now (omega (arith, c.requires.slot, c.in_ok-learn_from-in-New.ensures.long)) ∙ sym c.index.ensures ∙ c.in-Done.is in
+    sym (clean-known c.args.graph.now c.args.marks.now c.learn_from.new.trial.items progress done c.args.slot marked new c.requires.slot learnt (c.in_ok-learn_from-in-New.ensures.known progress known))
 
-pub returns-in-Ok-clause-clean : goal.returns-in-Ok-clause-clean
-returns-in-Ok-clause-clean c progress done marked kept =
-    let same : AreMarks (length c.args.graph.now) c.in_ok-marks-in-New.marks.items progress done = subst (λ l. AreMarks (length c.args.graph.now) l progress done) (sym c.in_ok-marks-in-New.ensures.items) marked in
-    let inside : c.args.slot < length c.args.marks.now = omega (arith, c.requires.slot, c.requires.marks) in
-    sym (clean-passes c.args.graph.now c.args.marks.now progress done c.args.slot (done ++ c.in-Ok.field-0.order.items) marked (mark_with c.args.marks.now c.args.slot New inside ∙ c.in-New.is) kept c.requires.slot (c.in-Ok.ensures.order progress done same))
-
-pub returns-in-Err-Refused-clause-clean : goal.returns-in-Err-Refused-clause-clean
-returns-in-Err-Refused-clause-clean c progress done marked kept =
-    let same : AreMarks (length c.args.graph.now) c.in_ok-marks-in-New.marks.items progress done = subst (λ l. AreMarks (length c.args.graph.now) l progress done) (sym c.in_ok-marks-in-New.ensures.items) marked in
-    let stops = rw c.in-Err-Refused.field-0-is at (c.in-Err-Refused.ensures.order progress done same) in
-    sym (clean-stops c.args.graph.now progress done c.args.slot c.in-Err-Refused.field-0-0 kept c.requires.slot stops)
+pub returns-in-Open-index-clause-clean : goal.returns-in-Open-index-clause-clean
+returns-in-Open-index-clause-clean c progress done marked kept known =
+    let learnt = mark_with c.learn_from.new.trial.items c.args.slot c.index.result.now (omega (arith, c.requires.slot, c.in_ok-learn_from-in-New.ensures.long)) ∙ sym c.index.ensures ∙ c.in-Open-index.is in
+    sym (stained-known c.args.graph.now c.learn_from.new.trial.items progress done c.args.slot c.requires.slot learnt (c.in_ok-learn_from-in-New.ensures.known progress known))
