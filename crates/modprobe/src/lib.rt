@@ -22,6 +22,7 @@ mod setup;
 pub use device::{Failed, FromRead, FromWrite, Sink, Source};
 pub use fault::{RunFault, ServeFault, SetupCode, SetupFault};
 pub use lines::{LONGEST_LINE, LineFault, Lines};
+pub use piece::Buffer;
 pub use runs::run;
 pub use service::{TURNS, serve};
 pub use setup::{Setup, read_setup};

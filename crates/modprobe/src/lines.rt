@@ -1,10 +1,10 @@
 //! The lines of a source, one at a time.
-ghost use Rattle.std.specs.Prelude.{◌≡◌, ◌≢◌, ◌+◌, ◌<◌, ◌≤◌, ◌++◌, ◌∷◌, [], false, true, vec_len, length, IfOk, IfErr, OnOk};
+ghost use Rattle.std.specs.Prelude.{◌≡◌, ◌≢◌, ◌+◌, ◌<◌, ◌≤◌, ◌++◌, ◌∷◌, [], false, true, vec_len, length, IfErr, OnOk};
 ghost use Rattle.modprobe.specs.declared.lines.LineFault.TheVariants.{Memory};
 ghost use Rattle.std.specs.Io.KnownBytes.{Keeps};
 
 use crate::device::Source;
-use crate::piece::Piece;
+use crate::piece::{Buffer, Piece};
 use std::alloc::{AllocError, Global};
 use thiserror::Error;
 
@@ -63,23 +63,10 @@ impl<'a, R: Source> Lines<'a, R> {
     ghost use Rattle.modprobe.specs.Lines.{SpendsTurns, HasTrueEnd};
     ghost use Rattle.modprobe.specs.Lines.{Fetched, SameSource, StoppedTaking, GaveLine, FoundEnd, StoppedReading};
 
-    /// The lines of what `reader` has left, over at most `turns` reads. It reads nothing. It fails for want of memory alone.
-    pub fn new(alloc: Global, reader: &'a mut R, turns: u64) -> Result<Lines<'a, R>, AllocError>
+    /// The lines of what `reader` has left, over at most `turns` reads. It reads nothing, and can't fail: the buffer was
+    /// made before.
+    pub fn new(alloc: Global, buffer: Buffer, reader: &'a mut R, turns: u64) -> Lines<'a, R>
         requires { R.has_failed reader.old ≡ false }
-        ensures same_reader { IfOk result (λ s. s.reader.ghost_name ≡ reader.entry.ghost_name) }
-        ensures works { IfOk result (λ s. R.has_failed s.reader.now ≡ false) }
-        ensures bytes { IfOk result (λ s. bytes_left R.remaining s ≡ R.remaining reader.old) }
-        ensures value { IfOk result (λ s. s.reader.now ≡ reader.old) }
-        ensures going { IfOk result (λ s. s.at_end ≡ false) }
-        ensures turns { IfOk result (λ s. s.turns ≡ turns) }
-    {
-        Ok(Lines::over(alloc, Piece::new(alloc)?, reader, turns))
-    }
-
-    /// The same, over a piece that was made before.
-    pub(crate) fn over(alloc: Global, piece: Piece, reader: &'a mut R, turns: u64) -> Lines<'a, R>
-        requires works { R.has_failed reader.old ≡ false }
-        requires empty { piece ≡ [] }
         ensures same_reader { result.reader.ghost_name ≡ reader.entry.ghost_name }
         ensures works { R.has_failed result.reader.now ≡ false }
         ensures bytes { bytes_left R.remaining result ≡ R.remaining reader.old }
@@ -90,7 +77,7 @@ impl<'a, R: Source> Lines<'a, R> {
         Lines {
             reader,
             turns,
-            piece,
+            piece: Piece::new(buffer),
             at_end: false,
             line: Vec::new(alloc),
             ending: Ending::Absent,

@@ -10,6 +10,32 @@ use std::marker::Model;
 /// How many bytes are read at a time, at most.
 const PIECE: usize = 4096;
 
+/// The memory that a source is read into. Contracts see it as the number of bytes that it has room for.
+#[derive(Drop)]
+pub struct Buffer {
+    bytes: Vec<u8>,
+}
+
+impl Model for Buffer {
+    ghost use Rattle.std.specs.Prelude.{◌≡◌, ℕ, vec_len};
+
+    ghost Value = { ℕ };
+
+    ghost view = { λ b. vec_len b.bytes };
+
+    ghost invariant = { λ b. vec_len b.bytes ≡ 4096 };
+}
+
+impl Buffer {
+    /// Takes the memory. It fails for want of it alone.
+    pub fn new(alloc: Global) -> Result<Buffer, AllocError>
+        ensures { IfOk result (λ room. room ≡ 4096) }
+    {
+        let bytes = vec![in alloc; 0; PIECE]?;
+        Ok(Buffer { bytes })
+    }
+}
+
 /// The bytes that were read last and are not used yet. Contracts see it as their list.
 #[derive(Drop)]
 pub(crate) struct Piece {
@@ -31,15 +57,15 @@ impl Model for Piece {
 impl Piece {
     ghost use Rattle.modprobe.specs.Lines.{HasNoFeed};
 
-    pub(crate) fn new(alloc: Global) -> Result<Piece, AllocError>
-        ensures { IfOk result (λ piece. piece ≡ []) }
+    pub(crate) fn new(buffer: Buffer) -> Piece
+        ensures { result ≡ [] }
     {
-        let bytes = vec![in alloc; 0; PIECE]?;
-        Ok(Piece {
+        let Buffer { bytes } = buffer;
+        Piece {
             bytes,
             start: 0,
             end: 0,
-        })
+        }
     }
 
     /// The bytes that are not used yet.

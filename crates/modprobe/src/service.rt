@@ -7,7 +7,7 @@ ghost use Rattle.modprobe.specs.Serve.{AnswersInput, ServeStands, failed_reading
 use crate::device::{Sink, Source};
 use crate::fault::ServeFault;
 use crate::lines::Lines;
-use crate::piece::Piece;
+use crate::piece::Buffer;
 use crate::runs::run;
 use crate::setup::read_setup;
 use seq_table::Table;
@@ -77,8 +77,8 @@ pub fn serve<R: Source, W: Sink>(
     // How often it reads.
     ensures counted { R.read_count reader.new ≤ R.read_count reader.old + 16777216 }
 {
-    let piece = Piece::new(alloc)?;
-    let mut lines = Lines::over(alloc, piece, reader, TURNS);
+    let buffer = Buffer::new(alloc)?;
+    let mut lines = Lines::new(alloc, buffer, reader, TURNS);
     let result = serve_lines(alloc, workers, &mut lines, writer);
     let reader = lines.into_reader();
     // No effect at run time. The proof reads what the reader is left as from this use.

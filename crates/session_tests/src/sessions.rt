@@ -4,7 +4,8 @@ ghost use Rattle.std.specs.Prelude.{◌≡◌, false};
 use crate::devices::{Dripping, Narrow, Scripted};
 use dep_index::ModuleState;
 use modprobe::{
-    FromRead, FromWrite, Lines, RunFault, ServeFault, Setup, SetupCode, read_setup, run, serve,
+    Buffer, FromRead, FromWrite, Lines, RunFault, ServeFault, Setup, SetupCode, read_setup, run,
+    serve,
 };
 use seq_table::{Modules, Table};
 use std::alloc::{AllocError, Global};
@@ -49,7 +50,8 @@ fn stops_after_a_byte(
 /// The same of the first run, from its input.
 fn first_run_stops(alloc: Global, fails: bool) -> Result<bool, ServeFault> {
     let mut reader = Scripted::new(FIRST_RUN, false);
-    let mut lines = Lines::new(alloc, &mut reader, 100)?;
+    let buffer = Buffer::new(alloc)?;
+    let mut lines = Lines::new(alloc, buffer, &mut reader, 100);
     let setup = read_setup(alloc, &mut lines)?;
     Ok(stops_after_a_byte(alloc, &setup, &mut lines, fails)?)
 }
@@ -72,7 +74,8 @@ fn a_writer_that_takes_nothing(rt: HostRuntime) -> Result<(), Fail> {
 fn code_after(alloc: Global, reader: &mut Dripping, turns: u64) -> Option<SetupCode>
     requires { reader.old.failed ≡ false }
 {
-    let mut lines = Lines::new(alloc, reader, turns).ok()?;
+    let buffer = Buffer::new(alloc).ok()?;
+    let mut lines = Lines::new(alloc, buffer, reader, turns);
     match read_setup(alloc, &mut lines) {
         Ok(_) => None,
         Err(fault) => Some(fault.code),

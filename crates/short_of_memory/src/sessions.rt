@@ -3,8 +3,8 @@ ghost use Rattle.std.specs.Prelude.{◌≡◌, false, None};
 
 use crate::outcome::{Stop, needed, stop_at, tell};
 use modprobe::{
-    Failed, FromRead, LineFault, Lines, RunFault, ServeFault, Setup, SetupCode, SetupFault, Sink,
-    Source, read_setup, run, serve,
+    Buffer, Failed, FromRead, LineFault, Lines, RunFault, ServeFault, Setup, SetupCode, SetupFault,
+    Sink, Source, read_setup, run, serve,
 };
 use seq_table::{Modules, Table};
 use std::alloc::Global;
@@ -162,9 +162,15 @@ fn judge<E: Into<Stop> + Drop>(ended: Result<(), E>, written: &[u8]) -> Result<b
     }
 }
 
+fn try_buffer(alloc: Global) -> Result<bool, Stop> {
+    let _buffer = Buffer::new(alloc)?;
+    Ok(true)
+}
+
 fn try_lines(alloc: Global) -> Result<bool, Stop> {
     let mut reader = FromRead::new(b"insmod snd\nquery".as_slice());
-    let mut lines = Lines::new(alloc, &mut reader, 9)?;
+    let buffer = needed(Buffer::new(alloc))?;
+    let mut lines = Lines::new(alloc, buffer, &mut reader, 9);
     Ok(are_both(&mut lines)?)
 }
 
@@ -179,14 +185,16 @@ fn are_both<R: Source>(lines: &mut Lines<'_, R>) -> Result<bool, LineFault>
 
 fn try_setup(alloc: Global) -> Result<bool, Stop> {
     let mut reader = FromRead::new(INPUT);
-    let mut lines = needed(Lines::new(alloc, &mut reader, 9))?;
+    let buffer = needed(Buffer::new(alloc))?;
+    let mut lines = Lines::new(alloc, buffer, &mut reader, 9);
     let setup = read_setup(alloc, &mut lines)?;
     Ok(setup.catalogue().len() == 2)
 }
 
 fn try_run(alloc: Global) -> Result<bool, Stop> {
     let mut reader = FromRead::new(INPUT);
-    let mut lines = needed(Lines::new(alloc, &mut reader, 9))?;
+    let buffer = needed(Buffer::new(alloc))?;
+    let mut lines = Lines::new(alloc, buffer, &mut reader, 9);
     try_run_of(alloc, &mut lines)
 }
 
@@ -221,6 +229,7 @@ fn try_serve(alloc: Global) -> Result<bool, Stop> {
 
 pub fn try_calls<R: Print + AllocGlobal>(rt: &R) -> anyhow::Result<()> {
     let alloc = rt.alloc();
+    tell(rt, "Buffer::new", try_buffer(alloc))?;
     tell(rt, "Lines", try_lines(alloc))?;
     tell(rt, "read_setup", try_setup(alloc))?;
     tell(rt, "run", try_run(alloc))?;
