@@ -128,6 +128,59 @@ impl Source for Dripping {
     }
 }
 
+/// Gives its bytes, one a call, as long as it can count its calls. It tells no bytes.
+#[derive(Drop)]
+pub(crate) struct Trickling<'a> {
+    bytes: &'a [u8],
+    calls: u64,
+    failed: bool,
+}
+
+impl<'a> Trickling<'a> {
+    pub(crate) fn new(bytes: &'a [u8]) -> Trickling<'a>
+        ensures { result.failed ≡ false }
+    {
+        Trickling {
+            bytes,
+            calls: 0,
+            failed: false,
+        }
+    }
+
+    pub(crate) fn calls(&self) -> u64 {
+        self.calls
+    }
+}
+
+impl Source for Trickling<'_> {
+    ghost remaining = { λ s. None };
+
+    ghost read_count = { λ s. s.calls + (if s.failed then 1 else 0) };
+
+    ghost has_failed = { λ s. s.failed };
+
+    fn read(&mut self, buffer: &mut [u8]) -> Result<usize, Failed> {
+        let Some(calls) = self.calls.checked_add(1) else {
+            self.failed = true;
+            return Err(Failed);
+        };
+        self.calls = calls;
+        let Some((first, rest)) = self.bytes.split_first() else {
+            return Ok(0);
+        };
+        if buffer.is_empty() {
+            return Ok(0);
+        }
+        buffer[0] = *first;
+        self.bytes = rest;
+        Ok(1)
+    }
+
+    fn failed(&self) -> bool {
+        self.failed
+    }
+}
+
 /// Takes one byte a call, as long as it has room, and then fails, or takes none. It tells nothing.
 #[derive(Drop)]
 pub(crate) struct Narrow {

@@ -1,7 +1,7 @@
 //! Sessions over devices that fail, the longest line, and sessions that run out of memory.
 ghost use Rattle.std.specs.Prelude.{◌≡◌, false};
 
-use crate::devices::{Dripping, Narrow, Scripted};
+use crate::devices::{Dripping, Narrow, Scripted, Trickling};
 use dep_index::ModuleState;
 use modprobe::{
     Buffer, FromRead, FromWrite, Lines, RunFault, ServeFault, Setup, SetupCode, read_setup, run,
@@ -87,6 +87,52 @@ fn a_reader_that_never_ends(rt: HostRuntime) {
     let mut reader = Dripping::new();
     let code = code_after(rt.alloc(), &mut reader, 3);
     assert!(rt; code == Some(SetupCode::Turns) && reader.calls() == 3);
+}
+
+/// Answers a session in so many turns, those of its sections included.
+fn run_in_turns(
+    alloc: Global,
+    reader: &mut Trickling<'_>,
+    writer: &mut Narrow,
+    turns: u64,
+) -> Result<(), ServeFault>
+    requires reader_works { reader.old.failed ≡ false }
+    requires writer_works { writer.old.failed ≡ false }
+{
+    let buffer = Buffer::new(alloc)?;
+    let mut lines = Lines::new(alloc, buffer, reader, turns);
+    let setup = read_setup(alloc, &mut lines)?;
+    let mut table = Table::new(alloc, setup.catalogue(), 1)?;
+    run(alloc, &setup, &mut lines, writer, &mut table)?;
+    Ok(())
+}
+
+/// How a session of two lines ends in so many turns, over a reader that gives a byte a read, and whether it wrote this and
+/// spent all of them.
+fn two_lines_end(alloc: Global, turns: u64, wanted: &[u8]) -> (Result<(), ServeFault>, bool) {
+    let mut reader = Trickling::new(b"%session\nquery a\nquery b\n");
+    let mut writer = Narrow::new(256, false);
+    let result = run_in_turns(alloc, &mut reader, &mut writer, turns);
+    (result, writer.text() == wanted && reader.calls() == turns)
+}
+
+// The section line takes 9 turns and each further line 8. The end of the input takes one.
+#[test]
+fn turns_end_in_the_second_line(rt: HostRuntime) {
+    let (result, holds) = two_lines_end(rt.alloc(), 24, b"error ENOENT a\n");
+    assert!(rt; holds && matches!(result, Err(ServeFault::Run(RunFault::Turns))));
+}
+
+#[test]
+fn turns_end_behind_the_second_line(rt: HostRuntime) {
+    let (result, holds) = two_lines_end(rt.alloc(), 25, b"error ENOENT a\nerror ENOENT b\n");
+    assert!(rt; holds && matches!(result, Err(ServeFault::Run(RunFault::Turns))));
+}
+
+#[test]
+fn turns_suffice_for_two_lines(rt: HostRuntime) {
+    let (result, holds) = two_lines_end(rt.alloc(), 26, b"error ENOENT a\nerror ENOENT b\n");
+    assert!(rt; holds && result.is_ok());
 }
 
 /// A session with a short line, and a line with a name of so many letters.
