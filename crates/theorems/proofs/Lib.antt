@@ -2,6 +2,7 @@ pub mod Linear
 pub mod Ordering
 pub mod Bounding
 pub mod Reaching
+pub mod Beginning
 pub mod Naming
 pub mod Finding
 pub mod Loading

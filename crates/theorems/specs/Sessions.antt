@@ -1,5 +1,6 @@
 -- What a session writes, and which calls its table has had.
-use Rattle.std.specs.Prelude.{◌≡◌, ℕ, List, Result, Ok, Err, Option, Some, None}
+use Rattle.std.specs.Prelude.{◌≡◌, ℕ, List, [], ◌++◌, Result, Ok, Err, Option, Some, None}
+use Rattle.std.specs.Io.KnownBytes.{Appends}
 use Rattle.dep_index.specs.declared.calls.Call.{Call}
 use Rattle.dep_index.specs.Table.{Table}
 use Rattle.dep_index.specs.Catalogue.{modules_of}
@@ -19,6 +20,16 @@ output_of workers (Err e) = None
 -- what a session writes, a function of its input and the number of workers; None, where the input has no setup
 abbrev pub output : ℕ → List ℕ → Option (List ℕ)
 output workers input = output_of workers (setup_of input)
+
+-- the bytes are a beginning of the output; where there is none, there are no bytes
+abbrev pub IsBeginning : List ℕ → Option (List ℕ) → Type 0
+IsBeginning bytes None = bytes ≡ []
+IsBeginning bytes (Some whole) = (rest : List ℕ) × (whole ≡ bytes ++ rest)
+
+-- what was written is a beginning of the output that belongs to the input
+abbrev pub WritesBeginning : ℕ → List ℕ → Option (List ℕ) → Option (List ℕ) → Type 0
+WritesBeginning workers input held written =
+    (bytes : List ℕ) × Appends held written bytes × IsBeginning bytes (output workers input)
 
 -- the table was reached from the opening one by calls in range
 pub record IsReached (s : Setup) (workers : ℕ) (t : Table) : Type 0 where

@@ -1,13 +1,13 @@
 //! Sessions.
-ghost use Rattle.std.specs.Prelude.{◌≡◌, ◌+◌, ◌≤◌, false, Some, OnOk, IfErr, List, ℕ};
+ghost use Rattle.std.specs.Prelude.{◌≡◌, ◌+◌, ◌≤◌, false, true, Some, OnOk, IfErr, List, ℕ};
 ghost use Rattle.std.specs.Io.KnownBytes.{Appends, IsAtEnd};
 ghost use Rattle.std.specs.Str.Lines.{lines as lines_of};
 ghost use Rattle.dep_index.specs.Catalogue.{modules_of};
 ghost use Rattle.dep_index.specs.Laws.{IsLawful};
 ghost use Rattle.modprobe.specs.Lines.{bytes_left, IfTold};
-ghost use Rattle.modprobe.specs.Serve.{ServeStands};
+ghost use Rattle.modprobe.specs.Serve.{ServeStands, failed_reading, failed_writing, ran_out_of_turns};
 ghost use Rattle.modprobe.specs.Session.{answer};
-ghost use Rattle.theorems.specs.Sessions.{output, SessionsMakeCalls, SessionsAreLawful};
+ghost use Rattle.theorems.specs.Sessions.{output, WritesBeginning, SessionsMakeCalls, SessionsAreLawful};
 
 use dep_index::laws::always_lawful;
 use modprobe::{Lines, RunFault, ServeFault, Setup, Sink, Source, run, serve};
@@ -16,7 +16,8 @@ use std::alloc::Global;
 
 /// A session is a function of its input: where it is answered Ok, what was written is the output that belongs to the
 /// input and the number of workers, and nothing else, and the reader is at its end. After a fault it is said what stands.
-/// The reader is read 16,777,216 times at most.
+/// A fault of the reader or of the writer comes exactly where that one failed. The reader is read 16,777,216 times at
+/// most, and as often where a fault of turns comes.
 ///
 /// Premises: the reader and the writer tell their bytes, and have not failed before; there are at most 64 workers.
 pub fn sessions_are_functions_of_their_input<R: Source, W: Sink>(
@@ -34,8 +35,30 @@ pub fn sessions_are_functions_of_their_input<R: Source, W: Sink>(
     ensures counted { R.read_count reader.new ≤ R.read_count reader.old + 16777216 }
     ensures stands { IfErr result (λ fault. ServeStands workers fault (R.remaining reader.old) (R.remaining reader.new)
         (W.contents writer.old) (W.contents writer.new)) }
+    ensures read { R.has_failed reader.new ≡ failed_reading result }
+    ensures write { W.has_failed writer.new ≡ failed_writing result }
+    ensures turns { ran_out_of_turns result ≡ true → R.read_count reader.new ≡ R.read_count reader.old + 16777216 }
 {
     serve(alloc, workers, reader, writer)
+}
+
+/// However a session stops before the end of its input, what was written is a beginning of the output that belongs to the
+/// input. So no fault has it write anything else, and where the input has no setup nothing is written.
+///
+/// Premises: those of the sentence above.
+pub fn stopped_sessions_wrote_a_beginning<R: Source, W: Sink>(
+    alloc: Global,
+    workers: usize,
+    reader: &mut R,
+    writer: &mut W,
+) -> Result<(), ServeFault>
+    requires workers { workers ≤ 64 }
+    requires reader_works { R.has_failed reader.old ≡ false }
+    requires writer_works { W.has_failed writer.old ≡ false }
+    ensures { IfErr result (λ fault. IfTold (R.remaining reader.old) (λ input.
+        WritesBeginning workers input (W.contents writer.old) (W.contents writer.new))) }
+{
+    sessions_are_functions_of_their_input(alloc, workers, reader, writer)
 }
 
 /// Over whatever table, a session that is answered Ok has read all lines that were left, written the answer to them and
