@@ -1,3 +1,4 @@
 pub mod LineLemmas
 pub mod PartLemmas
+pub mod ScriptLemmas
 pub mod ReportLemmas

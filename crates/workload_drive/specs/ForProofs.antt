@@ -1,5 +1,6 @@
 -- What the program holds while it reads, as the definitions have it.
 use Rattle.std.specs.Prelude.{◌≡◌, List, map, Ok, Result, MatchResult}
+use Rattle.std.specs.Global.{Vec}
 use Rattle.dep_index.specs.Text.{texts_of}
 use Rattle.workload_drive.specs.declared.fault.LineFault.{LineFault}
 use Rattle.workload_drive.specs.declared.fault.ScheduleFault.{ScheduleFault}
@@ -8,6 +9,9 @@ use Rattle.workload_drive.specs.declared.statement.Statement.{Statement}
 use Rattle.workload_drive.specs.declared.statement.Parts.{Parts}
 use Rattle.workload_drive.specs.Faults.{IsFirstFault}
 use Rattle.workload_drive.specs.Statements as spec
+use Rattle.workload_drive.specs.declared.script.acts.Request.{Request}
+use Rattle.workload_drive.specs.declared.script.entries.Task.{Task}
+use Rattle.workload_drive.specs.Script as scripts
 
 -- what was read is seen as the value that is wanted, or the reading ends with its first faulty line
 abbrev pub Reads : {A B : Type 0} → Result A LineFault → (B → A) → Result B ScheduleFault → Type 0
@@ -27,3 +31,9 @@ statements_in said = map statement_in said
 
 abbrev pub parts_in : Parts → spec.Parts
 parts_in p = record { catalogue = p.catalogue; statements = statements_in p.statements.items; end = p.end }
+
+abbrev pub request_in : Request → scripts.Request
+request_in asked = record { act = asked.act; name = asked.name.now }
+
+abbrev pub tasks_in : List (Vec Task) → List (List Task)
+tasks_in tasks = map (λ (t : Vec Task). t.items) tasks

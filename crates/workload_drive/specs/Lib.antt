@@ -1,4 +1,5 @@
 pub mod Faults
 pub mod Statements
 pub mod Schedule
+pub mod Script
 pub mod ForProofs

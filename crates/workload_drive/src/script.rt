@@ -1,5 +1,7 @@
 //! A script: lines of workers, each worker on a thread of its own.
 
+mod acts;
+mod entries;
 mod listing;
 mod replies;
 mod tasks;

@@ -1,6 +1,7 @@
 //! The replies of a script, line by line.
 
-use super::tasks::{Change, Deed, Script};
+use super::acts::{Change, Deed};
+use super::tasks::Script;
 use super::threads::Gate;
 use crate::schedule::{name_at, reply_text};
 use dep_index::Reply;
@@ -92,7 +93,7 @@ fn deed_text(deed: Deed) -> &'static [u8] {
         Deed::Get => b"get",
         Deed::Put => b"put",
         Deed::Query => b"query",
-        Deed::Change(change) => change_text(change),
+        Deed::Make(change) => change_text(change),
     }
 }
 

@@ -1,6 +1,7 @@
 //! A worker of a script, and what it does to a module.
 
-use super::tasks::{Change, Deed, Task};
+use super::acts::{Change, Deed};
+use super::entries::Task;
 use dep_index::{Refusal, Reply};
 use module_table::Manager;
 use std::marker::Model;
@@ -102,7 +103,7 @@ impl<'a> Worker<'a> {
             Deed::Get => self.get(rt, slot),
             Deed::Put => self.put(rt, slot),
             Deed::Query => self.query(slot),
-            Deed::Change(change) => make(rt, self.manager, change, slot),
+            Deed::Make(change) => make(rt, self.manager, change, slot),
         }
     }
 }

@@ -1,0 +1,138 @@
+-- Which script an input is: its catalogue, the changes before its workers, and the lines of each worker.
+use Rattle.std.specs.Prelude.{ℕ, ◌==◌, Bool, true, false, not, nat_lt, if◌then◌else◌, List, [], ◌∷◌, ◌++◌, map, codes}
+use Rattle.std.specs.Prelude.{filter_map, option_map, Option, Some, None, Result, Ok, Err}
+use Rattle.std.specs.List.{list_any, range_with_len}
+use Rattle.std.specs.Str.{bytes_eq}
+use Rattle.dep_index.specs.Text.{normal_form}
+use Rattle.dep_index.specs.Catalogue.{Description, slot_named}
+use Rattle.workload_drive.specs.declared.fault.LineCode.TheVariants.{H2}
+use Rattle.workload_drive.specs.declared.fault.LineFault.{LineFault}
+use Rattle.workload_drive.specs.declared.script.acts.Change.{Change}
+use Rattle.workload_drive.specs.declared.script.acts.Change.TheVariants.{Load, Remove, Drain, Finish}
+use Rattle.workload_drive.specs.declared.script.acts.Deed.{Deed}
+use Rattle.workload_drive.specs.declared.script.acts.Deed.TheVariants.{Get, Put, Query, Make}
+use Rattle.workload_drive.specs.declared.script.acts.Act.{Act}
+use Rattle.workload_drive.specs.declared.script.acts.Act.TheVariants.{Opens, Works}
+use Rattle.workload_drive.specs.declared.script.entries.Opening.{Opening}
+use Rattle.workload_drive.specs.declared.script.entries.Task.{Task}
+use Rattle.workload_drive.specs.declared.script.entries.Entry.{Entry}
+use Rattle.workload_drive.specs.Faults.{fault_at, bad_line}
+use Rattle.workload_drive.specs.Statements.{Statement, Parts, parts_of, setting, marked}
+
+-- the change of a word
+abbrev pub change_of : List ℕ → Option Change
+change_of verb =
+    if bytes_eq verb (codes "load") then Some Load
+    else (if bytes_eq verb (codes "remove") then Some Remove
+    else (if bytes_eq verb (codes "drain") then Some Drain
+    else (if bytes_eq verb (codes "finish") then Some Finish else None)))
+
+-- the deed of a word: what a worker can do to a module
+abbrev pub deed_of : List ℕ → Option Deed
+deed_of verb =
+    if bytes_eq verb (codes "get") then Some Get
+    else (if bytes_eq verb (codes "put") then Some Put
+    else (if bytes_eq verb (codes "query") then Some Query else option_map Make (change_of verb)))
+
+-- what a line asks: an act on the module of a name
+pub record Request : Type 0 where
+  pub act : Act
+  pub name : List ℕ
+
+abbrev pub on_name : List ℕ → Option Act → Option Request
+on_name name None = None
+on_name name (Some act) = Some (record { act = act; name = name })
+
+abbrev pub worked : Option ℕ → Option Deed → Option Act
+worked (Some worker) (Some deed) = Some (Works worker deed)
+worked _ _ = None
+
+-- the form of a line: `load NAME` and the like, or a worker, as `w0`, and what it does. None: it has no form
+abbrev pub request_of : List (List ℕ) → Option Request
+request_of [] = None
+request_of (_ ∷ []) = None
+request_of (verb ∷ name ∷ []) = on_name name (option_map Opens (change_of verb))
+request_of (worker ∷ verb ∷ name ∷ []) = on_name name (worked (marked 119 worker) (deed_of verb))
+request_of (_ ∷ _ ∷ _ ∷ _ ∷ _) = None
+
+abbrev pub is_works : Act → Bool
+is_works (Opens change) = false
+is_works (Works worker deed) = true
+
+-- whether a worker's line is among these
+abbrev pub has_works : List Entry → Bool
+has_works entries = list_any (λ (e : Entry). is_works e.act) entries
+
+-- a line without a worker has its place before all workers' lines; a worker's number is below that of the workers
+abbrev pub has_place : ℕ → Bool → Act → Bool
+has_place workers after_works (Opens change) = not after_works
+has_place workers after_works (Works worker deed) = nat_lt worker workers
+
+abbrev pub entry_at : ℕ → Act → Option ℕ → Result Entry LineFault
+entry_at line act None = Err (fault_at H2 line)
+entry_at line act (Some slot) = Ok (record { act = act; slot = slot })
+
+-- what this line asks; a line of no form, or at no place of its own, comes before a name outside the catalogue
+abbrev pub entry_of : List Description → ℕ → Bool → ℕ → Option Request → Result Entry LineFault
+entry_of modules workers after_works line None = Err (bad_line line)
+entry_of modules workers after_works line (Some asked) =
+    if has_place workers after_works asked.act then entry_at line asked.act (slot_named modules (normal_form asked.name))
+    else Err (bad_line line)
+
+abbrev pub then_entry : Result Entry LineFault → (Entry → Result (List Entry) LineFault) → Result (List Entry) LineFault
+then_entry (Err e) later = Err e
+then_entry (Ok entry) later = later entry
+
+-- the lines of statements, after earlier ones
+abbrev pub entries_of : List Description → ℕ → List Entry → List Statement → Result (List Entry) LineFault
+entries_of modules workers earlier [] = Ok earlier
+entries_of modules workers earlier (said ∷ later) =
+    then_entry (entry_of modules workers (has_works earlier) said.number (request_of said.words))
+    (λ entry. entries_of modules workers (earlier ++ entry ∷ []) later)
+
+-- the change that a line is
+abbrev pub opening_in : ℕ → Act → Option Opening
+opening_in slot (Opens change) = Some (record { change = change; slot = slot })
+opening_in slot (Works worker deed) = None
+
+-- what this worker does by a line
+abbrev pub task_in : ℕ → ℕ → Act → Option Task
+task_in worker slot (Opens change) = None
+task_in worker slot (Works other deed) = if other == worker then Some (record { deed = deed; slot = slot }) else None
+
+-- the changes before the workers, in order
+abbrev pub opening_of : List Entry → List Opening
+opening_of entries = filter_map (λ (e : Entry). opening_in e.slot e.act) entries
+
+-- the lines of a worker, in order
+abbrev pub tasks_of : ℕ → List Entry → List Task
+tasks_of worker entries = filter_map (λ (e : Entry). task_in worker e.slot e.act) entries
+
+-- a script: its catalogue, its workers, the changes before them, and the lines of each worker
+pub record Script : Type 0 where
+  pub catalogue : List Description
+  pub workers : ℕ
+  pub opening : List Opening
+  pub tasks : List (List Task)
+
+abbrev pub with_entries : List Description → ℕ → Result (List Entry) LineFault → Result Script LineFault
+with_entries modules workers (Err e) = Err e
+with_entries modules workers (Ok entries) =
+    Ok (record {
+      catalogue = modules;
+      workers = workers;
+      opening = opening_of entries;
+      tasks = map (λ worker. tasks_of worker entries) (range_with_len 0 workers);
+    })
+
+abbrev pub with_workers : List Description → Result (ℕ × List Statement) LineFault → Result Script LineFault
+with_workers modules (Err e) = Err e
+with_workers modules (Ok found) = with_entries modules found.0 (entries_of modules found.0 [] found.1)
+
+abbrev pub with_parts : Result Parts LineFault → Result Script LineFault
+with_parts (Err e) = Err e
+with_parts (Ok p) = with_workers p.catalogue (setting (codes "workers") p.end p.statements)
+
+-- the script that an input is, or its first faulty line
+unfoldable pub script_of : List ℕ → Result Script LineFault
+script_of input = with_parts (parts_of (codes "%script") input)

@@ -1,0 +1,177 @@
+//! The lines of a script, each with the slot of its module.
+ghost use Rattle.std.specs.Prelude.{◌≡◌, [], map, IfOk};
+ghost use Rattle.std.specs.List.{range_with_len};
+ghost use Rattle.workload_drive.specs.Script.{has_works, has_place, entry_at, entry_of, entries_of, opening_in, task_in, opening_of, tasks_of, request_of};
+ghost use Rattle.dep_index.specs.Text.{texts_of, normal_form};
+ghost use Rattle.dep_index.specs.Catalogue.{slot_named};
+ghost use Rattle.workload_drive.specs.ForProofs.{Reads, statements_in, request_in, tasks_in};
+
+use super::acts::{Act, Change, Deed, Request, request_of};
+use crate::fault::{LineCode, ScheduleFault};
+use crate::statement::Statement;
+use dep_index::{Catalogue, Name};
+use std::alloc::{AllocError, Global};
+
+/// A change that is made before any worker begins, and the slot of its module.
+#[derive(Clone, Copy, Drop)]
+pub(crate) struct Opening {
+    pub(crate) change: Change,
+    pub(crate) slot: usize,
+}
+
+/// A worker's line: what is done, and the slot of its module.
+#[derive(Clone, Copy, Drop)]
+pub(crate) struct Task {
+    pub(crate) deed: Deed,
+    pub(crate) slot: usize,
+}
+
+/// A line: what it does, and the slot of its module.
+#[derive(Clone, Copy, Drop)]
+pub(crate) struct Entry {
+    pub(crate) act: Act,
+    pub(crate) slot: usize,
+}
+
+impl Entry {
+    /// The change before the workers that the line is.
+    fn opening(self) -> Option<Opening>
+        ensures { result ≡ opening_in self.slot self.act }
+    {
+        match self.act {
+            Act::Opens(change) => Some(Opening {
+                change,
+                slot: self.slot,
+            }),
+            Act::Works(_, _) => None,
+        }
+    }
+
+    /// What a worker does by the line.
+    fn task(self, worker: usize) -> Option<Task>
+        ensures { result ≡ task_in worker self.slot self.act }
+    {
+        match self.act {
+            Act::Works(other, deed) if other == worker => Some(Task {
+                deed,
+                slot: self.slot,
+            }),
+            _ => None,
+        }
+    }
+}
+
+/// Whether a line that does this may stand here.
+fn has_place(workers: usize, after_works: bool, act: Act) -> bool
+    ensures { result ≡ has_place workers after_works act }
+{
+    match act {
+        Act::Opens(_) => !after_works,
+        Act::Works(worker, _) => worker < workers,
+    }
+}
+
+/// A line that does this to the module of a name.
+fn entry_at(
+    alloc: Global,
+    catalogue: &Catalogue,
+    line: usize,
+    asked: Request<'_>,
+) -> Result<Entry, ScheduleFault>
+    ensures { Reads (entry_at line asked.entry.act (slot_named catalogue.now (normal_form asked.entry.name.now))) (λ entry. entry) result }
+{
+    let name = Name::new(alloc, asked.name)?;
+    match catalogue.slot(name.as_bytes()) {
+        Some(slot) => Ok(Entry {
+            act: asked.act,
+            slot,
+        }),
+        None => Err(ScheduleFault::at(LineCode::H2, line)),
+    }
+}
+
+/// What a line of these words asks, where workers' lines stand before it or not.
+fn entry_of(
+    alloc: Global,
+    catalogue: &Catalogue,
+    workers: usize,
+    after_works: bool,
+    line: usize,
+    words: &[&[u8]],
+) -> Result<Entry, ScheduleFault>
+    ensures { Reads (entry_of catalogue.now workers after_works line (request_of (texts_of words.now))) (λ entry. entry) result }
+{
+    match request_of(words) {
+        Some(asked) if has_place(workers, after_works, asked.act) => {
+            entry_at(alloc, catalogue, line, asked)
+        }
+        _ => Err(ScheduleFault::at(LineCode::H1, line)),
+    }
+}
+
+/// What the lines of statements ask.
+pub(crate) fn entries_of(
+    alloc: Global,
+    catalogue: &Catalogue,
+    workers: usize,
+    statements: &[Statement<'_>],
+) -> Result<Vec<Entry>, ScheduleFault>
+    ensures { Reads (entries_of catalogue.now workers [] (statements_in statements.now)) (λ entries. entries.items) result }
+{
+    let mut entries = Vec::new(alloc);
+    let mut after_works = false;
+    for said in statements {
+        let entry = entry_of(
+            alloc,
+            catalogue,
+            workers,
+            after_works,
+            said.number,
+            &said.words,
+        )?;
+        after_works = after_works || entry.act.is_works();
+        entries.push(entry)?;
+    }
+    Ok(entries)
+}
+
+/// The changes before the workers, in order.
+pub(crate) fn opening_of(alloc: Global, entries: &[Entry]) -> Result<Vec<Opening>, AllocError>
+    ensures { IfOk result (λ opening. opening.items ≡ opening_of entries.now) }
+{
+    let mut opening = Vec::new(alloc);
+    for entry in entries {
+        if let Some(change) = entry.opening() {
+            opening.push(change)?;
+        }
+    }
+    Ok(opening)
+}
+
+/// The lines of a worker, in order.
+fn tasks_of(alloc: Global, worker: usize, entries: &[Entry]) -> Result<Vec<Task>, AllocError>
+    ensures { IfOk result (λ tasks. tasks.items ≡ tasks_of worker entries.now) }
+{
+    let mut tasks = Vec::new(alloc);
+    for entry in entries {
+        if let Some(task) = entry.task(worker) {
+            tasks.push(task)?;
+        }
+    }
+    Ok(tasks)
+}
+
+/// The lines of each worker.
+pub(crate) fn all_tasks(
+    alloc: Global,
+    workers: usize,
+    entries: &[Entry],
+) -> Result<Vec<Vec<Task>>, AllocError>
+    ensures { IfOk result (λ tasks. tasks_in tasks.items ≡ map (λ worker. tasks_of worker entries.now) (range_with_len 0 workers)) }
+{
+    let mut tasks = Vec::new(alloc);
+    for worker in 0..workers {
+        tasks.push(tasks_of(alloc, worker, entries)?)?;
+    }
+    Ok(tasks)
+}
