@@ -15,7 +15,7 @@ use crate::plays::{
     AskBeginDrain, AskBeginLoad, AskBeginRemove, AskEndLoad, AskEndRemove, AskFailLoad, Asked,
     CloseDrained, CloseOpen, Drain, LookBook, Open,
 };
-use crate::row::{Row, WORDS_PER_LINE};
+use crate::row::{Row, WORDS_APART};
 use dep_index::words::{CLOSED, DRAINED};
 use dep_index::{ModuleState, Reply};
 
@@ -51,7 +51,7 @@ impl Row {
         ensures step { StepsMade seat.old (Load slot result ∷ []) seat.new }
     {
         let shared = &self.table.shared;
-        shared.load::<LookBook<C>>(&mut seat.seat, (slot + 1) * WORDS_PER_LINE)
+        shared.load::<LookBook<C>>(&mut seat.seat, (slot + 1) * WORDS_APART)
     }
 
     /// The exchange that opens the word of a slot whose load ends well. It is the point of `end_load`.
@@ -64,7 +64,7 @@ impl Row {
         ensures step { StepsMade seat.old (Exchange slot closed 0 true ∷ []) seat.new }
     {
         let shared = &self.table.shared;
-        shared.compare_exchange::<Open>(&mut seat.seat, (slot + 1) * WORDS_PER_LINE, CLOSED, 0);
+        shared.compare_exchange::<Open>(&mut seat.seat, (slot + 1) * WORDS_APART, CLOSED, 0);
     }
 
     /// The addition that lets no further get in, while the references stay. It is the point of `begin_drain`.
@@ -77,7 +77,7 @@ impl Row {
         ensures step { StepsMade seat.old (Add slot drained ∷ []) seat.new }
     {
         let shared = &self.table.shared;
-        shared.fetch_add::<Drain>(&mut seat.seat, (slot + 1) * WORDS_PER_LINE, DRAINED);
+        shared.fetch_add::<Drain>(&mut seat.seat, (slot + 1) * WORDS_APART, DRAINED);
         seat.draining[slot] = true;
     }
 
@@ -109,7 +109,7 @@ impl Row {
         ensures step { StepsMade seat.old (Exchange slot 0 closed result ∷ []) seat.new }
     {
         let shared = &self.table.shared;
-        let word = (slot + 1) * WORDS_PER_LINE;
+        let word = (slot + 1) * WORDS_APART;
         shared.compare_exchange::<CloseOpen>(&mut seat.seat, word, 0, CLOSED) == 0
     }
 
@@ -124,7 +124,7 @@ impl Row {
         let shared = &self.table.shared;
         let found = shared.compare_exchange::<CloseDrained>(
             &mut seat.seat,
-            (slot + 1) * WORDS_PER_LINE,
+            (slot + 1) * WORDS_APART,
             DRAINED,
             CLOSED,
         );

@@ -12,7 +12,7 @@ use crate::calls::LeafCall;
 use crate::leaf_seat::LeafSeat;
 use crate::plays::{Arrive, Depart, LookGet, LookPut, LookRead};
 use crate::read_seat::ReadSeat;
-use crate::row::{Row, WORDS_PER_LINE};
+use crate::row::{Row, WORDS_APART};
 use dep_index::Reply;
 
 impl Row {
@@ -28,7 +28,7 @@ impl Row {
         ensures step { StepsMade seat.old (Load slot result ∷ []) seat.new }
     {
         let shared = &self.table.shared;
-        let word = (slot + 1) * WORDS_PER_LINE;
+        let word = (slot + 1) * WORDS_APART;
         match call {
             LeafCall::Get => shared.load::<LookGet>(&mut seat.seat, word),
             LeafCall::Put => shared.load::<LookPut>(&mut seat.seat, word),
@@ -50,7 +50,7 @@ impl Row {
         let shared = &self.table.shared;
         let found = shared.compare_exchange::<Arrive>(
             &mut seat.seat,
-            (slot + 1) * WORDS_PER_LINE,
+            (slot + 1) * WORDS_APART,
             expected,
             expected + 1,
         );
@@ -67,7 +67,7 @@ impl Row {
         ensures step { StepsMade seat.old (Subtract slot 1 ∷ []) seat.new }
     {
         let shared = &self.table.shared;
-        shared.fetch_sub::<Depart>(&mut seat.seat, (slot + 1) * WORDS_PER_LINE, 1);
+        shared.fetch_sub::<Depart>(&mut seat.seat, (slot + 1) * WORDS_APART, 1);
     }
 
     /// One load for a query, which answers the word. It is the query's point.
@@ -79,6 +79,6 @@ impl Row {
         ensures step { StepsMade seat.old (Load slot result ∷ []) seat.new }
     {
         let shared = &self.table.shared;
-        shared.load::<LookRead>(&mut seat.seat, (slot + 1) * WORDS_PER_LINE)
+        shared.load::<LookRead>(&mut seat.seat, (slot + 1) * WORDS_APART)
     }
 }

@@ -5,11 +5,11 @@ use atomic_table::Table;
 use std::alloc::Global;
 use std::marker::Model;
 
-/// How many words a cache line has. The word of a slot is the first of the line `slot + 1`.
-pub(crate) const WORDS_PER_LINE: usize = 8;
+/// How far a slot's word stands from the next slot's: two cache lines, which processors fetch together.
+pub(crate) const WORDS_APART: usize = 16;
 
-/// A root word for each slot of a catalogue, each on a cache line of its own, so that workers of different modules don't
-/// disturb each other. A spare line stands before them.
+/// A root word for each slot of a catalogue, each on two cache lines of its own, so that workers of different modules
+/// don't disturb each other. Two spare lines stand before them.
 ///
 /// Each of its steps is one atomic step with one seat of this row, takes no memory and does not wait.
 #[derive(Drop)]
