@@ -8,6 +8,7 @@ ghost use Rattle.dep_index.specs.Catalogue.{modules_of};
 
 use crate::workers::{COUNT, Worker, catalogue, measure_workers, worker_counts};
 use anyhow::{Result, bail};
+use crossbeam_utils::CachePadded;
 use dep_index::Catalogue;
 use module_table::Book;
 use root_row::{BookSeat, LeafSeat, Row};
@@ -26,13 +27,15 @@ struct RowLeaf<'a> {
     ghost own: { IsOf row.now leaf },
 }
 
-impl Worker for RowLeaf<'_> {
+impl Worker for CachePadded<RowLeaf<'_>> {
     fn get<R: Wait>(&mut self, rt: &R, slot: usize) {
-        let _ = self.leaf.get(rt, self.row, slot);
+        let own: &mut RowLeaf<'_> = self;
+        let _ = own.leaf.get(rt, own.row, slot);
     }
 
     fn put<R: Wait>(&mut self, _: &R, slot: usize) {
-        let _ = self.leaf.put(self.row, slot);
+        let own: &mut RowLeaf<'_> = self;
+        let _ = own.leaf.put(own.row, slot);
     }
 }
 
@@ -86,17 +89,19 @@ fn load_all(row: &Row, book: &mut Book) -> Result<()>
     Ok(())
 }
 
+/// The leaves, each on cache lines of its own: counts of another leaf may lie beside it.
 fn leaves_of<'a>(
     alloc: Global,
     row: &'a Row,
     seats: Vec<LeafSeat>,
-) -> Result<Vec<RowLeaf<'a>>, AllocError>
+) -> Result<Vec<CachePadded<RowLeaf<'a>>>, AllocError>
     requires eight { 8 ≤ slots row.now.world }
     requires new { All (λ s. s ≡ new_leaf row.now.id row.now.world (worker_of s.view)) seats.items }
 {
     let mut leaves = Vec::with_capacity(alloc, seats.len())?;
     for seat in seats {
-        leaves.push(leaf_of(alloc, row, seat)?)?;
+        let leaf = leaf_of(alloc, row, seat)?;
+        leaves.push(CachePadded::new(leaf))?;
     }
     Ok(leaves)
 }
