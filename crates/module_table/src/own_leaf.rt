@@ -8,9 +8,12 @@ use use_indicator::Leaf;
 /// A worker's leaf with its row. What a lock gives out is known by its type alone, so the type says that the
 /// leaf is of this row. Contracts see the leaf.
 #[derive(Drop)]
+#[repr(C)]
 pub struct OwnLeaf {
     leaf: Leaf,
     row: Arc<Row, Global>,
+    /// Two cache lines, so that another leaf's counts, which may lie behind it, share none with it.
+    room: [u64; 16],
 }
 
 impl Model for OwnLeaf {
@@ -39,7 +42,11 @@ impl OwnLeaf {
         requires { IsOf (arc_value row) leaf }
         ensures { result ≡ leaf }
     {
-        OwnLeaf { leaf, row }
+        OwnLeaf {
+            leaf,
+            row,
+            room: [0; 16],
+        }
     }
 
     /// What the leaf has seen is a legal history, so removals are safe in it, and its counts are the table's after it. A
