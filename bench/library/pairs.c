@@ -54,12 +54,14 @@ static void pair_of_mutex(void)
 /* A hundred pairs between two looks at the time. */
 static void some_pairs(struct worker *worker)
 {
-    for (int i = 0; i < 100; i++)
-        if (worker->kind == ATOMIC)
+    if (worker->kind == ATOMIC)
+        for (int i = 0; i < 100; i++)
             pair_of_atomic();
-        else if (worker->kind == MUTEX)
+    else if (worker->kind == MUTEX)
+        for (int i = 0; i < 100; i++)
             pair_of_mutex();
-        else
+    else
+        for (int i = 0; i < 100; i++)
             pair_of_leaf(worker);
     worker->pairs += 100;
 }
