@@ -1,18 +1,18 @@
 -- The tries of a get, one after another.
-use Rattle.std.proofs.Common.{◌≡◌, ℕ, ◌+◌, List, [], ◌∷◌, ◌++◌, refl, sym, ap, ◌∙◌, arith, append_assoc, append-nil, length-append, Bool, false}
+use Rattle.std.proofs.Common.{◌≡◌, ℕ, ◌+◌, List, [], ◌∷◌, ◌++◌, refl, sym, ap, ◌∙◌, arith, append_assoc, append-nil, length-append, Bool, false, Option, Some, None, IfSome, IfNone}
 use Rattle.dep_index.specs.declared.calls.Reply.{Reply}
 use Rattle.root_row.specs.declared.view.AtomicStep.TheVariants.{Load, Exchange}
 use Rattle.root_row.specs.Seats.{Seated}
 use Rattle.root_row.specs.StepsMade.{StepsMade}
-use Rattle.use_indicator.specs.Counted.{missed, last_try, FirstSteps, GivenUp}
+use Rattle.use_indicator.specs.Counted.{missed, last_try, FirstSteps, GivenUp, TrySteps}
 
 missed_more : (m : ℕ) (ns ms : List ℕ) → missed m (ns ++ ms) ≡ missed m ns ++ missed m ms
 missed_more m [] ms = refl
 missed_more m (n ∷ ns) ms = ap (λ l. Load m n ∷ Exchange m n (n + 1) false ∷ l) (missed_more m ns ms)
 
--- one more try was missed
-pub given_up_more : (tries m : ℕ) (old mid new : Seated) → GivenUp tries m old mid → GivenUp 1 m mid new → GivenUp (tries + 1) m old new
-given_up_more tries m old mid new t u = (
+-- tries were missed, and more behind them
+pub given_up_more : (tries more m : ℕ) (old mid new : Seated) → GivenUp tries m old mid → GivenUp more m mid new → GivenUp (tries + more) m old new
+given_up_more tries more m old mid new t u = (
   t.0 ++ u.0,
   (let a = t.1 in let b = u.1 in omega (arith, length-append t.0 u.0)),
   u.2 ∙ ap (λ l. l ++ missed m u.0) t.2 ∙ append_assoc old.steps (missed m t.0) (missed m u.0) ∙ ap (λ l. old.steps ++ l) (sym (missed_more m t.0 u.0)),
@@ -45,3 +45,19 @@ answered_again m answer old mid new u t = (
       ∙ append_assoc old.steps (missed m u.0) (missed m t.0 ++ last_try m t.1.0 answer)
       ∙ ap (λ l. old.steps ++ l) (sym (append_assoc (missed m u.0) (missed m t.0) (last_try m t.1.0 answer)) ∙ ap (λ l. l ++ last_try m t.1.0 answer) (sym (missed_more m u.0 t.0)))),
 )
+
+pub tried_again : (tries m : ℕ) (answer : Reply) (old mid new : Seated) → GivenUp 1 m old mid → TrySteps tries m 0 answer mid new → TrySteps (1 + tries) m 0 answer old new
+unfolding answered_again
+tried_again tries m answer old mid new u t = (
+  u.0 ++ t.0,
+  (let once = u.1 in let few = t.1 in omega (arith, length-append u.0 t.0)),
+  (answered_again m answer old mid new u (t.0, t.2)).1,
+)
+
+pub none_more : {T : Type 0} (o : Option T) (P Q : Type 0) → (P → Q) → IfNone o P → IfNone o Q
+none_more None P Q f p = f p
+none_more (Some x) P Q f p = tt
+
+pub some_more : {T : Type 0} (o : Option T) (P Q : T → Type 0) → ((x : T) → P x → Q x) → IfSome o P → IfSome o Q
+some_more None P Q f p = tt
+some_more (Some x) P Q f p = f x p
