@@ -40,10 +40,12 @@ missed_once m n made old mid new miss look t = (
 pub answered_again : (m : ℕ) (answer : Reply) (old mid new : Seated) → GivenUp 1 m old mid → ((found : List ℕ) × FirstSteps m found answer mid new) → (found : List ℕ) × FirstSteps m found answer old new
 answered_again m answer old mid new u t = (
   u.0 ++ t.0,
-  (t.1.0,
+  (
+    t.1.0,
     t.1.1 ∙ ap (λ l. l ++ (missed m t.0 ++ last_try m t.1.0 answer)) u.2
-      ∙ append_assoc old.steps (missed m u.0) (missed m t.0 ++ last_try m t.1.0 answer)
-      ∙ ap (λ l. old.steps ++ l) (sym (append_assoc (missed m u.0) (missed m t.0) (last_try m t.1.0 answer)) ∙ ap (λ l. l ++ last_try m t.1.0 answer) (sym (missed_more m u.0 t.0)))),
+        ∙ append_assoc old.steps (missed m u.0) (missed m t.0 ++ last_try m t.1.0 answer)
+        ∙ ap (λ l. old.steps ++ l) (sym (append_assoc (missed m u.0) (missed m t.0) (last_try m t.1.0 answer)) ∙ ap (λ l. l ++ last_try m t.1.0 answer) (sym (missed_more m u.0 t.0))),
+  ),
 )
 
 pub tried_again : (tries m : ℕ) (answer : Reply) (old mid new : Seated) → GivenUp 1 m old mid → TrySteps tries m 0 answer mid new → TrySteps (1 + tries) m 0 answer old new
