@@ -1,1 +1,1 @@
-pub mod Tries
+pub mod Missed

@@ -1,5 +1,5 @@
 use Rattle.std.proofs.Common.{length, refl, ◌∙◌}
-use Rattle.use_indicator.proofs.Tries.{given_up_more}
+use Rattle.use_indicator.proofs.Missed.{given_up_more}
 use Rattle.use_indicator.proofs.leaf.Leaf.again.Goals as goal
 
 pub loop-preserved : goal.loop-preserved

@@ -2,7 +2,7 @@ use Rattle.std.proofs.Common.{rules, subst}
 use Rattle.root_row.specs.Seats.{Seated}
 use Rattle.root_row.specs.StepsMade.{SameView}
 use Rattle.use_indicator.specs.Counted.{GivenUp}
-use Rattle.use_indicator.proofs.Tries.{missed_once}
+use Rattle.use_indicator.proofs.Missed.{missed_once}
 use Rattle.use_indicator.proofs.leaf.Leaf.attempt.Goals as goal
 
 pub returns-then-not-try_arrive-clause-missed : goal.returns-then-not-try_arrive-clause-missed

@@ -1,5 +1,5 @@
 use Rattle.dep_index.specs.Refusals.{reply_of, get_refusal}
-use Rattle.use_indicator.proofs.Tries.{answered_again}
+use Rattle.use_indicator.proofs.Missed.{answered_again}
 use Rattle.use_indicator.proofs.leaf.Leaf.first.Goals as goal
 
 pub returns-in-None-clause-steps : goal.returns-in-None-clause-steps

@@ -1,5 +1,5 @@
 use Rattle.std.proofs.Common.{◌∙◌}
-use Rattle.use_indicator.proofs.Tries.{given_up_more}
+use Rattle.use_indicator.proofs.Missed.{given_up_more}
 use Rattle.use_indicator.proofs.leaf.Leaf.try_again.Goals as goal
 
 pub loop-tried-preserved : goal.loop-tried-preserved

@@ -2,7 +2,7 @@ use Rattle.std.proofs.Common.{ℕ, ◌-◌, ◌∙◌, arith, subst}
 use Rattle.dep_index.specs.Refusals.{reply_of, get_refusal}
 use Rattle.root_row.specs.StepsMade.{SameView}
 use Rattle.use_indicator.specs.Counted.{GivenUp, TrySteps}
-use Rattle.use_indicator.proofs.Tries.{given_up_more, tried_again, none_more, some_more}
+use Rattle.use_indicator.proofs.Missed.{given_up_more, tried_again, none_more, some_more}
 use Rattle.use_indicator.proofs.leaf.Leaf.try_first.Goals as goal
 
 pub returns-in-None-clause-missed : goal.returns-in-None-clause-missed
