@@ -1,18 +1,19 @@
 -- A hashed index of names answers as a walk over its pairs does.
-use Rattle.std.proofs.Common.{◌≡◌, ℕ, List, [], ◌∷◌, ◌++◌, Some, None, Ok, cond, is_some, map, length, Vec, Bor, refl, sym, ap, ◌∙◌}
+use Rattle.std.proofs.Common.{◌≡◌, ℕ, suc, List, [], ◌∷◌, ◌++◌, Some, None, Result, Ok, cond, is_some, map, length, nat_lt, Vec, refl, sym, ap, ◌∙◌, arith}
+use Rattle.std.proofs.lemmas.Bool.{ltb-false}
 use Rattle.std.specs.declared.alloc.Global.{Global}
 use Rattle.std.specs.Map.{lookup}
 use Rattle.std.specs.Option.{option_map}
-use Rattle.std.specs.Prelude.{Bool, true, false, Option, ◌==◌}
+use Rattle.std.specs.Prelude.{Bool, true, false, Option}
 use Rattle.std.specs.List.{list_any}
 use Rattle.std.proofs.lemmas.List.{map-append}
 use Rattle.std.proofs.lemmas.Map.Made.{is_some-lookup}
 use Rattle.std.specs.HashMap.{HashMap}
 use Rattle.indexmap.specs.IndexMap.{insert_entry}
 use Rattle.indexmap.proofs.CallerLemmas.{insert_entry-new}
-use Rattle.dep_index.specs.Text.{words, texts_of, is_comment}
+use Rattle.dep_index.specs.Text.{words, has_word, is_comment}
 use Rattle.std.specs.Str.{bytes_eq}
-use Rattle.dep_index.specs.Dependencies.{Pair, deps, is_empty, with_pair, dep_line, dep_words, dep_split, at_colon, name_of, trim}
+use Rattle.dep_index.specs.Dependencies.{Pair, deps, is_empty, with_pair, dep_line, dep_words, dep_split, DepRefusal, at_colon, name_of, trim}
 use Rattle.dep_index.specs.Pairs.{pair_of, pairs_in}
 use Rattle.dep_index.proofs.DraftLemmas.{list_any-map, none_from}
 
@@ -49,17 +50,25 @@ pair_added index key names entries filled all_filled other after =
     ap pairs_in (after ∙ insert_entry-new IsSame index key names absent) ∙ map-append pair_of index.entries ((key, names) ∷ []) in
     rw (filled, all_filled, other) (ap Ok (sym last))
 
-some_words : (pairs : List Pair) (line : List ℕ) (found : List (Bor (List ℕ))) → (length found == 0) ≡ false → dep_words pairs line (texts_of found) ≡ dep_split pairs (at_colon line)
-some_words pairs line [] none = absurd (cc)
-some_words pairs line (w ∷ ws) none = refl
+some_words : (pairs : List Pair) (line : List ℕ) (found : List (List ℕ)) → nat_lt 0 (length found) ≡ true → dep_words pairs line found ≡ dep_split pairs (at_colon line)
+some_words pairs line [] some = absurd (cc)
+some_words pairs line (w ∷ ws) some = refl
+
+no_words : (pairs : List Pair) (line : List ℕ) (found : List (List ℕ)) → nat_lt 0 (length found) ≡ false → dep_words pairs line found ≡ Ok pairs
+no_words pairs line [] none = refl
+no_words pairs line (w ∷ ws) none = absurd (omega (arith, ltb-false 0 (suc (length ws)) none))
+
+-- a line that says nothing
+pub line_empty : (pairs : List Pair) (line : List ℕ) → has_word line ≡ false → dep_line pairs line ≡ Ok pairs
+line_empty pairs line none =
+    ap (λ r. cond (is_comment line) (Ok pairs) r) (no_words pairs line (words line) none)
+    ∙ elim (is_comment line) as (λ t. (let read : Result (List Pair) DepRefusal = cond t (Ok pairs) (Ok pairs) in read) ≡ Ok pairs) [ true ↦ refl | false ↦ refl ]
 
 -- what a line with words and a colon says
-pub line_paired : (pairs : List Pair) (line path rest name : List ℕ) (names : List (List ℕ)) (found : List (Bor (List ℕ))) → is_comment line ≡ false → texts_of found ≡ words line
-    → (length found == 0) ≡ false → at_colon line ≡ Some (path, rest) → name ≡ name_of (trim path) → names ≡ map name_of (words rest) → dep_line pairs line ≡ with_pair pairs (name, names)
-line_paired pairs line path rest name names found plain is some cut own others =
+pub line_paired : (pairs : List Pair) (line path rest name : List ℕ) (names : List (List ℕ)) → is_comment line ≡ false → has_word line ≡ true → at_colon line ≡ Some (path, rest) → name ≡ name_of (trim path) → names ≡ map name_of (words rest) → dep_line pairs line ≡ with_pair pairs (name, names)
+line_paired pairs line path rest name names plain some cut own others =
     ap (λ t. cond t (Ok pairs) (dep_words pairs line (words line))) plain
-    ∙ ap (dep_words pairs line) (sym is)
-    ∙ some_words pairs line found some
+    ∙ some_words pairs line (words line) some
     ∙ ap (dep_split pairs) cut
     ∙ ap (λ n. with_pair pairs (n, map name_of (words rest))) (sym own)
     ∙ ap (λ ns. with_pair pairs (name, ns)) (sym others)

@@ -12,10 +12,10 @@ use Rattle.std.proofs.Common.{inl, inr}
 later : (test : ℕ → Bool) (b : ℕ) (s : List ℕ) (i j : ℕ) → Nowhere (Passes test (b ∷ s)) (suc i) (suc j) → Nowhere (Passes test s) i j
 later test b s i j none k low high is = none (suc k) (omega arith) (omega arith) is
 
-from_zero : (test : ℕ → Bool) (b : ℕ) (s : List ℕ) (j : ℕ) → Nowhere (Passes test (b ∷ s)) 0 (suc j) → Nowhere (Passes test s) 0 j
+pub from_zero : (test : ℕ → Bool) (b : ℕ) (s : List ℕ) (j : ℕ) → Nowhere (Passes test (b ∷ s)) 0 (suc j) → Nowhere (Passes test s) 0 j
 from_zero test b s j none k low high is = none (suc k) (omega arith) (omega arith) is
 
-here_not : (test : ℕ → Bool) (b : ℕ) (s : List ℕ) (j : ℕ) → Nowhere (Passes test (b ∷ s)) 0 (suc j) → test b ≡ false
+pub here_not : (test : ℕ → Bool) (b : ℕ) (s : List ℕ) (j : ℕ) → Nowhere (Passes test (b ∷ s)) 0 (suc j) → test b ≡ false
 here_not test b s j none = false_from_ne_true (test b) (λ is. none 0 (omega arith) (omega arith) is)
 
 pub colon_at : (s : List ℕ) (k : ℕ) → k < length s → Nowhere (Passes (is_byte 58) s) 0 k → Passes (is_byte 58) s k → at_colon s ≡ Some (take k s, drop (suc k) s)

@@ -1,12 +1,12 @@
 -- The words of a line, part by part.
-use Rattle.std.proofs.Common.{◌≡◌, ℕ, ◌+◌, ◌-◌, ◌<◌, ◌≤◌, true, false, cond, List, [], ◌∷◌, ◌++◌, length, take, drop, get_or, refl, sym, ap, ◌∙◌, arith, drop-cons, add-one}
-use Rattle.std.specs.Prelude.{filter}
-use Rattle.std.specs.List.{All}
+use Rattle.std.proofs.Common.{◌≡◌, ℕ, ◌+◌, ◌-◌, ◌<◌, ◌≤◌, Bool, true, false, not, suc, cond, nat_lt, List, [], ◌∷◌, ◌++◌, length, take, drop, get_or, refl, sym, ap, ◌∙◌, arith, drop-cons, add-one}
+use Rattle.std.specs.Prelude.{filter, ◌&&◌}
+use Rattle.std.specs.List.{All, list_all, onto_first, slice_split}
 use Rattle.std.proofs.lemmas.List.{append_assoc, get_or-take, get_or_default, take_rest, drop-drop, length-take, take-append-drop}
 use Rattle.std.proofs.lemmas.List.Splits.{slice_split_at, slice_split_none}
-use Rattle.std.proofs.lemmas.Bool.{false_from_ne_true}
+use Rattle.std.proofs.lemmas.Bool.{false_from_ne_true, lt-ltb}
 use Rattle.memchr.specs.Find.{Nowhere, Passes}
-use Rattle.dep_index.specs.Text.{words, is_blank, is_filled}
+use Rattle.dep_index.specs.Text.{words, has_word, is_blank, is_filled}
 
 -- the part alone, where it is a word
 abbrev pub as_words : List ℕ → List (List ℕ)
@@ -54,3 +54,18 @@ words_more found found' all line rest end below nowhere is before is' is'' =
 
 pub rest_after : (line : List ℕ) (end : ℕ) → take (length (drop end line) - 1) (drop 1 (drop end line)) ≡ drop (end + 1) line
 rest_after line end = take_rest (drop end line) 1 ∙ drop-drop 1 end line
+
+first_filled : (b : ℕ) (parts : List (List ℕ)) → nat_lt 0 (length (filter is_filled (onto_first b parts))) ≡ true
+first_filled b [] = lt-ltb 0 1 (omega arith)
+first_filled b (part ∷ parts) =
+    ap (λ t. nat_lt 0 (length (cond t ((b ∷ part) ∷ filter is_filled parts) (filter is_filled parts)))) (lt-ltb 0 (suc (length part)) (omega arith))
+    ∙ lt-ltb 0 (suc (length (filter is_filled parts))) (omega arith)
+
+-- a line has a word where not every byte divides words
+pub word_found : (line : List ℕ) → not (list_all is_blank line) ≡ has_word line
+word_found [] = refl
+word_found (b ∷ s) =
+    elim (is_blank b) as (λ t. not (t && list_all is_blank s) ≡ nat_lt 0 (length (filter is_filled (cond t ([] ∷ slice_split is_blank s) (onto_first b (slice_split is_blank s)))))) [
+      | true ↦ word_found s
+      | false ↦ sym (first_filled b (slice_split is_blank s))
+    ]

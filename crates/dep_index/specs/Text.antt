@@ -39,6 +39,10 @@ is_filled part = nat_lt 0 (length part)
 abbrev pub words : List ℕ → List (List ℕ)
 words line = filter is_filled (slice_split is_blank line)
 
+-- the line has a word
+abbrev pub has_word : List ℕ → Bool
+has_word line = nat_lt 0 (length (words line))
+
 -- what a list of references points to
 abbrev pub texts_of : List (Bor (List ℕ)) → List (List ℕ)
 texts_of found = map (λ text. text.now) found

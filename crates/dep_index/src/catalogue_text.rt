@@ -17,10 +17,11 @@ fn read_draft<'a>(alloc: Global, text: &'a [u8]) -> Result<Draft<'a>, CatError>
     ensures { DraftIsRead result (read_lines 1 no_draft (lines text.now)) }
 {
     let mut draft = Draft::new(alloc);
+    let mut words = Vec::new(alloc);
     let mut lines = whole_lines(text);
     let mut number: usize = 1;
     while let Some(line) = lines.next() {
-        if let Err(refused) = draft.read_line(alloc, line) {
+        if let Err(refused) = draft.read_line(alloc, &mut words, line) {
             return Err(refused.at(number));
         }
         number += 1;

@@ -11,7 +11,7 @@ use crate::dependencies::DepIndex;
 use crate::faults::{DepError, DepRefused};
 use crate::names::Name;
 use crate::paths::{name_of, names_of, split_at_colon, trimmed};
-use crate::text::{is_comment, whole_lines, words};
+use crate::text::{find_words, has_word, is_comment, whole_lines};
 use indexmap::IndexMap;
 use std::alloc::Global;
 
@@ -51,23 +51,24 @@ fn add(
     Ok(())
 }
 
-/// Takes one line.
-fn read_line(
+/// Takes one line. The paths behind its colon are put into `paths`, in place of those of an earlier line.
+fn read_line<'a>(
     index: &mut IndexMap<Vec<u8>, Vec<Name>>,
     alloc: Global,
-    line: &[u8],
+    paths: &mut Vec<&'a [u8]>,
+    line: &'a [u8],
 ) -> Result<(), DepRefused>
     ensures { IsDepMade result (dep_line (pairs_in index.old.entries) line.now) (pairs_in index.new.entries) }
 {
-    if is_comment(line) || words(alloc, line)?.is_empty() {
+    if is_comment(line) || !has_word(line) {
         return Ok(());
     }
     let Some((path, rest)) = split_at_colon(line) else {
         return Err(DepRefused::NoColon);
     };
-    let paths = words(alloc, rest)?;
+    find_words(paths, rest)?;
     let name = name_of(alloc, trimmed(path))?;
-    let names = names_of(alloc, &paths)?;
+    let names = names_of(alloc, paths)?;
     add(index, name, names)
 }
 
@@ -79,10 +80,11 @@ pub fn read_dep(alloc: Global, text: &[u8]) -> Result<DepIndex, DepError>
     ensures { MatchResult result (λ index. dependencies_of text.now ≡ Ok index) (λ e. IsFirstDepFault e (dependencies_of text.now)) }
 {
     let mut index = IndexMap::new(alloc);
+    let mut paths = Vec::new(alloc);
     let mut lines = whole_lines(text);
     let mut number: usize = 1;
     while let Some(line) = lines.next() {
-        if let Err(refused) = read_line(&mut index, alloc, line) {
+        if let Err(refused) = read_line(&mut index, alloc, &mut paths, line) {
             return Err(refused.at(number));
         }
         number += 1;

@@ -12,7 +12,7 @@ use crate::directives::{Directive, read_directive};
 use crate::exporters::Exporters;
 use crate::faults::Refused;
 use crate::names::Name;
-use crate::text::{is_comment, is_same, words};
+use crate::text::{find_words, is_comment, is_same};
 use crate::versions::Version;
 use indexmap::IndexMap;
 use std::alloc::{AllocError, Global};
@@ -154,15 +154,20 @@ impl<'a> Draft<'a> {
         }
     }
 
-    /// Takes one line.
-    pub(crate) fn read_line(&mut self, alloc: Global, line: &'a [u8]) -> Result<(), Refused>
+    /// Takes one line. Its words are put into `found`, in place of those of an earlier line.
+    pub(crate) fn read_line(
+        &mut self,
+        alloc: Global,
+        found: &mut Vec<&'a [u8]>,
+        line: &'a [u8],
+    ) -> Result<(), Refused>
         requires sound { IsSound self.old }
         ensures { DraftIsMade result (read_line (draft_in self.old) line.now) self.new }
     {
         if is_comment(line) {
             return Ok(());
         }
-        let found = words(alloc, line)?;
-        self.read_words(alloc, &found)
+        find_words(found, line)?;
+        self.read_words(alloc, found)
     }
 }

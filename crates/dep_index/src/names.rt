@@ -2,6 +2,7 @@
 ghost use Rattle.std.specs.Prelude.{◌≡◌, IfOk};
 ghost use Rattle.dep_index.specs.Text.{normal_form};
 
+use memchr::memchr;
 use std::alloc::{AllocError, Global};
 use std::marker::Model;
 
@@ -26,9 +27,14 @@ impl Model for Name {
 fn normal(alloc: Global, word: &[u8]) -> Result<Vec<u8>, AllocError>
     ensures { IfOk result (λ bytes. bytes.items ≡ normal_form word.now) }
 {
-    word.iter()
-        .map(|byte| if *byte == b'-' { b'_' } else { *byte })
-        .collect(alloc)
+    match memchr(b'-', word) {
+        // It is in normal form as it stands, as most words are.
+        None => Vec::from_slice(alloc, word),
+        Some(_) => word
+            .iter()
+            .map(|byte| if *byte == b'-' { b'_' } else { *byte })
+            .collect(alloc),
+    }
 }
 
 impl Name {

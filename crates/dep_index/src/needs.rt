@@ -33,36 +33,41 @@ fn add_need(
     Ok(())
 }
 
-/// The slots of the exporters of the symbols, each once and without the slot itself.
+/// What the symbols that a module needs come to.
+#[derive(Drop)]
+struct Needs {
+    slots: Vec<u16>,
+    unknown_symbol: bool,
+}
+
+/// The slots of the exporters of the symbols, each once and without the slot itself, and whether no module exports one
+/// of the symbols. Each symbol is looked up once.
 fn needs_of(
     alloc: Global,
     exporters: &Exporters<'_>,
     marks: &mut [u16],
     slot: u16,
     symbols: &[Vec<u8>],
-) -> Result<Vec<u16>, AllocError>
+) -> Result<Needs, AllocError>
     requires small { slot < 65535 }
     requires slots { (s : List ℕ) → IfSome (slot_at exporters.now s) (λ k. k < length marks.old) }
     requires marks { (k : ℕ) → slice_index marks.old k ≤ slot }
-    ensures needs { IfOk result (λ needs. needs.items ≡ needs_by exporters.now slot [] (owned symbols.now)) }
+    ensures needs { IfOk result (λ needs. needs.slots.items ≡ needs_by exporters.now slot [] (owned symbols.now)) }
+    ensures unknown { IfOk result (λ needs. needs.unknown_symbol ≡ list_any (λ s. is_none (slot_at exporters.now s.items)) symbols.now) }
     ensures marks { OnOk result ((k : ℕ) → slice_index marks.new k ≤ slot + 1) }
 {
-    let mut needs = Vec::new(alloc);
+    let mut slots = Vec::new(alloc);
+    let mut unknown_symbol = false;
     for symbol in symbols {
-        if let Some(k) = exporters.slot(symbol) {
-            add_need(&mut needs, marks, slot, slot + 1, k)?;
+        match exporters.slot(symbol) {
+            Some(k) => add_need(&mut slots, marks, slot, slot + 1, k)?,
+            None => unknown_symbol = true,
         }
     }
-    Ok(needs)
-}
-
-/// Whether no module exports one of the symbols.
-fn has_unknown(exporters: &Exporters<'_>, symbols: &[Vec<u8>]) -> bool
-    ensures { result ≡ list_any (λ s. is_none (slot_at exporters.now s.items)) symbols.now }
-{
-    symbols
-        .iter()
-        .any(|symbol| exporters.slot(symbol).is_none())
+    Ok(Needs {
+        slots,
+        unknown_symbol,
+    })
 }
 
 /// Needs and marks of all modules, by slot.
@@ -82,7 +87,7 @@ pub(crate) fn slots_of(
         let (_, details) = modules.get_index(slot).unwrap();
         let symbols = &details.needed_symbols;
         let needs = needs_of(alloc, exporters, marks, slot as u16, symbols)?;
-        slots.push(needs, has_unknown(exporters, symbols), details.permanent)?;
+        slots.push(needs.slots, needs.unknown_symbol, details.permanent)?;
     }
     Ok(slots)
 }

@@ -1,9 +1,10 @@
 //! The paths of modules.dep texts and their names.
 ghost use Rattle.std.specs.Prelude.{◌≡◌, ◌==◌, Some, None, not, reverse, map, take_while, position, IfOk, MatchOption};
-ghost use Rattle.dep_index.specs.Text.{texts_of, is_blank, normal_form};
+ghost use Rattle.dep_index.specs.Text.{texts_of, normal_form};
 ghost use Rattle.dep_index.specs.Dependencies.{at_colon, last_part, name_of, skip_blanks, trim};
 
 use crate::names::Name;
+use crate::text::is_blank;
 use memchr::{memchr, memrchr};
 use std::alloc::{AllocError, Global};
 
@@ -13,12 +14,6 @@ pub(crate) fn split_at_colon(line: &[u8]) -> Option<(&[u8], &[u8])>
 {
     let end = memchr(b':', line)?;
     Some((&line[..end], &line[end + 1..]))
-}
-
-fn is_blank(byte: u8) -> bool
-    ensures { result ≡ is_blank byte }
-{
-    byte == b' ' || byte == b'\t'
 }
 
 fn trim_front(text: &[u8]) -> &[u8]
@@ -90,7 +85,7 @@ pub(crate) fn name_of(alloc: Global, path: &[u8]) -> Result<Name, AllocError>
 pub(crate) fn names_of(alloc: Global, paths: &[&[u8]]) -> Result<Vec<Name>, AllocError>
     ensures { IfOk result (λ names. names.items ≡ map name_of (texts_of paths.now)) }
 {
-    let mut names = Vec::new(alloc);
+    let mut names = Vec::with_capacity(alloc, paths.len())?;
     for path in paths {
         names.push(name_of(alloc, path)?)?;
     }

@@ -3,7 +3,7 @@ ghost use Rattle.std.specs.Prelude.{◌≡◌, ◌++◌, ◌∷◌, [], true, fi
 ghost use Rattle.std.specs.List.{list_all};
 ghost use Rattle.std.specs.Str.{bytes_eq};
 ghost use Rattle.std.specs.Str.Lines.{lines};
-ghost use Rattle.dep_index.specs.Text.{words, texts_of, is_filled, is_comment, is_name, is_name_byte, is_digit, is_number, digits_from, number_within};
+ghost use Rattle.dep_index.specs.Text.{words, has_word, texts_of, is_blank, is_filled, is_comment, is_name, is_name_byte, is_digit, is_number, digits_from, number_within};
 
 use bstr::{ByteSlice, Lines};
 use memchr::memchr2;
@@ -16,6 +16,26 @@ pub fn is_same(word: &[u8], text: &[u8]) -> bool
     word == text
 }
 
+/// Whether the byte divides words.
+pub(crate) fn is_blank(byte: u8) -> bool
+    ensures { result ≡ is_blank byte }
+{
+    byte == b' ' || byte == b'\t'
+}
+
+fn is_all_blank(line: &[u8]) -> bool
+    ensures { result ≡ list_all is_blank line.now }
+{
+    line.iter().all(|byte| is_blank(*byte))
+}
+
+/// Whether the line has a word.
+pub fn has_word(line: &[u8]) -> bool
+    ensures { result ≡ has_word line.now }
+{
+    !is_all_blank(line)
+}
+
 /// Adds the part, where it is a word.
 fn push_word<'a>(found: &mut Vec<&'a [u8]>, part: &'a [u8]) -> Result<(), AllocError>
     ensures { OnOk result (texts_of found.new.items ≡ texts_of found.old.items ++ filter is_filled (part.now ∷ [])) }
@@ -26,18 +46,28 @@ fn push_word<'a>(found: &mut Vec<&'a [u8]>, part: &'a [u8]) -> Result<(), AllocE
     Ok(())
 }
 
+/// The words of a line, in order, in place of what `found` had: the parts of the line between spaces and tabs that are
+/// not empty. One vector serves line after line, so that few lines take memory.
+pub fn find_words<'a>(found: &mut Vec<&'a [u8]>, line: &'a [u8]) -> Result<(), AllocError>
+    ensures { OnOk result (texts_of found.new.items ≡ words line.now) }
+{
+    found.clear();
+    let mut rest = line;
+    while let Some(end) = memchr2(b' ', b'\t', rest) {
+        let (part, more) = rest.split_at(end);
+        push_word(found, part)?;
+        rest = &more[1..];
+    }
+    push_word(found, rest)?;
+    Ok(())
+}
+
 /// The words of a line, in order: its parts between spaces and tabs that are not empty.
 pub fn words<'a>(alloc: Global, line: &'a [u8]) -> Result<Vec<&'a [u8]>, AllocError>
     ensures { IfOk result (λ found. texts_of found.items ≡ words line.now) }
 {
     let mut found = Vec::new(alloc);
-    let mut rest = line;
-    while let Some(end) = memchr2(b' ', b'\t', rest) {
-        let (part, more) = rest.split_at(end);
-        push_word(&mut found, part)?;
-        rest = &more[1..];
-    }
-    push_word(&mut found, rest)?;
+    find_words(&mut found, line)?;
     Ok(found)
 }
 

@@ -23,9 +23,9 @@ loop-slot-preserved c =
     record {
       slots =
           c.in_ok-push.ensures.added
-          ∙ next_slot c.args.modules.now.entries c.args.exporters.now c.loop-slot.slot entry c.loop-slot.slots c.deref.result.now c.in_ok-needs.needs.items c.has_unknown.result
+          ∙ next_slot c.args.modules.now.entries c.args.exporters.now c.loop-slot.slot entry c.loop-slot.slots c.deref.result.now c.in_ok-needs.needs.slots.items c.in_ok-needs.needs.unknown_symbol
           c.requires.links here below c.deref.ensures.value c.loop-slot.invariant.slots c.in_ok-needs.ensures.needs
-          (c.has_unknown.ensures ∙ ap (list_any (λ (s : Vec ℕ Global). is_none (slot_at c.args.exporters.now s.items))) (c.deref-in-loop-slot.ensures.value ∙ sym c.deref.ensures.value));
+          c.in_ok-needs.ensures.unknown;
       len = omega arith;
       marks = c.in_ok-needs.ensures.marks;
     }

@@ -1,7 +1,7 @@
 use Rattle.std.proofs.Common.{◌≡◌, ◌+◌, ◌++◌, ◌∙◌, ap, sym, take, drop, length, ◌-◌}
 use Rattle.dep_index.specs.Text.{words, texts_of}
 use Rattle.dep_index.proofs.WordLemmas.{as_words, words_more, rest_after, words-none}
-use Rattle.dep_index.proofs.text.words.Goals as goal
+use Rattle.dep_index.proofs.text.find_words.Goals as goal
 
 pub loop-end-preserved : goal.loop-end-preserved
 loop-end-preserved c =

@@ -1,6 +1,6 @@
 use Rattle.std.proofs.Common.{◌≡◌, ◌++◌, length}
 use Rattle.dep_index.specs.Text.{words, texts_of}
-use Rattle.dep_index.proofs.text.words.Given as goal
+use Rattle.dep_index.proofs.text.find_words.Given as goal
 
 -- the words that were found, and those of the rest, are those of the line
 abbrev pub invariant-loop-end : goal.invariant-loop-end
