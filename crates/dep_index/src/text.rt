@@ -30,7 +30,7 @@ fn is_all_blank(line: &[u8]) -> bool
 }
 
 /// Whether the line has a word.
-pub fn has_word(line: &[u8]) -> bool
+pub(crate) fn has_word(line: &[u8]) -> bool
     ensures { result ≡ has_word line.now }
 {
     !is_all_blank(line)
@@ -48,7 +48,7 @@ fn push_word<'a>(found: &mut Vec<&'a [u8]>, part: &'a [u8]) -> Result<(), AllocE
 
 /// The words of a line, in order, in place of what `found` had: the parts of the line between spaces and tabs that are
 /// not empty. One vector serves line after line, so that few lines take memory.
-pub fn find_words<'a>(found: &mut Vec<&'a [u8]>, line: &'a [u8]) -> Result<(), AllocError>
+pub(crate) fn find_words<'a>(found: &mut Vec<&'a [u8]>, line: &'a [u8]) -> Result<(), AllocError>
     ensures { OnOk result (texts_of found.new.items ≡ words line.now) }
 {
     found.clear();
