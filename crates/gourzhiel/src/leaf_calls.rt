@@ -8,6 +8,7 @@ use dep_index::{GetError, PutError};
 use module_table::OwnLeaf;
 use root_row::LeafCall;
 
+#[inline(always)]
 fn get(leaf: &mut OwnLeaf, slot: usize, tries: u32) -> u32
     ensures { GetEnded leaf.old slot result leaf.new }
 {
@@ -42,6 +43,27 @@ fn held(leaf: &OwnLeaf, slot: usize, count: &mut u32) -> u32
     }
 }
 
+#[inline(always)]
+fn end_get(mut leaf: Box<OwnLeaf>, back: &mut GzLeaf, slot: usize, tries: u32) -> u32
+    requires empty { back.old.full ≡ false }
+    ensures full { back.new.full ≡ true }
+    ensures call { GetEnded leaf.value slot result back.new.held }
+{
+    let number = get(&mut leaf, slot, tries);
+    *back = GzLeaf::new(leaf);
+    number
+}
+
+// A first reference has a call of its own, so that a leaf that holds the module already saves no registers for it.
+#[inline(never)]
+fn end_first_get(leaf: Box<OwnLeaf>, back: &mut GzLeaf, slot: usize, tries: u32) -> u32
+    requires empty { back.old.full ≡ false }
+    ensures full { back.new.full ≡ true }
+    ensures call { GetEnded leaf.value slot result back.new.held }
+{
+    end_get(leaf, back, slot, tries)
+}
+
 /// Takes one reference, in at most so many tries.
 ///
 /// BUSY: each try was missed, and nothing changed. NOT_LIVE: the module is not live. TOO_MANY: the leaf holds it
@@ -53,10 +75,11 @@ pub extern "C" fn gz_leaf_get(leaf: GzLeaf, back: &mut GzLeaf, slot: usize, trie
     ensures full { back.new.full ≡ true }
     ensures call { GetEnded leaf.held slot result back.new.held }
 {
-    let mut leaf = leaf.into_box();
-    let number = get(&mut leaf, slot, tries);
-    *back = GzLeaf::new(leaf);
-    number
+    let leaf = leaf.into_box();
+    if leaf.held(slot) == Some(0) {
+        return end_first_get(leaf, back, slot, tries);
+    }
+    end_get(leaf, back, slot, tries)
 }
 
 /// Gives one reference back.
