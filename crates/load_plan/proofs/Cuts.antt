@@ -1,14 +1,15 @@
 -- What rows cut out of the targets of all modules.
-use Rattle.std.proofs.Common.{◌≡◌, ℕ, zero, suc, ◌+◌, ◌-◌, ◌<◌, ◌≤◌, Bool, true, ◌&&◌, List, [], ◌∷◌, ◌++◌, length, take, drop, get_or, set, replicate, length-append, length-drop, inl, inr, refl, sym, ◌∙◌, ap, subst, arith}
+use Rattle.std.proofs.Common.{◌≡◌, ℕ, zero, suc, ◌+◌, ◌-◌, ◌<◌, ◌≤◌, Bool, true, false, not, ◌&&◌, List, [], ◌∷◌, ◌++◌, length, take, drop, get_or, set, replicate, length-append, length-set, length-drop, inl, inr, refl, sym, ◌∙◌, ap, subst, arith}
 use Rattle.std.specs.List.{list_all, slice_range}
 use Rattle.std.proofs.lemmas.Bool.Decides.{eqb_tells}
-use Rattle.std.proofs.lemmas.List.{get_or_default, get_or-map, get_or-set_same, get_or-set_other, map-set, length-map, take-append-le, drop-append-le, length-take-le}
+use Rattle.std.proofs.lemmas.List.{get_or-map, get_or-set_same, get_or-set_other, map-set, length-map, take-append-le, drop-append-le, length-take-le}
 use Rattle.std.proofs.lemmas.List.Folds.{list_all-append, drop_split}
 use Rattle.std.proofs.Math.Seq.{take-append-add}
 use Rattle.load_plan.specs.declared.graph.Target.{Target}
 use Rattle.load_plan.specs.declared.graph.Row.{Row}
 use Rattle.load_plan.specs.Cuts.{no_row, node_in, nodes_in, Fits, AllFit, Appends}
-use Rattle.load_plan.specs.Graph.{Node, node_at, is_bounded, is_within}
+use Rattle.load_plan.specs.Graph.{Node, node_at, no_node, is_bounded, is_within}
+use Rattle.load_plan.specs.SoftModules.{is_missing, names_no_soft_module, HasNoSoftModules}
 use Rattle.load_plan.proofs.Bounds.{named_within}
 
 -- a range of a list is the same after an append
@@ -65,14 +66,6 @@ row_within ts cut rows w m row view bounded within is same =
     let node : node_in cut row ≡ node_at w m = ap (λ l. node_in l row) same ∙ row_is ts rows w m row view within is in
     subst (λ n. (list_all (is_within (length w)) n.hard ≡ true) × (list_all (is_within (length w)) n.pre ≡ true) × (list_all (is_within (length w)) n.post ≡ true)) (sym node) (named_within w m (ap is_bounded (sym view) ∙ bounded))
 
--- the soft items of a module stand one behind the other
-pub soft_is : (ts : List Target) (rows : List Row) (w : List Node) (m : ℕ) (row : Row) → nodes_in ts rows ≡ w → AllFit (length ts) rows → m < length w → row ≡ get_or rows m row → slice_range ts row.pre_from row.end ≡ (node_at w m).pre ++ (node_at w m).post
-soft_is ts rows w m row view fit within is =
-    let long : length rows ≡ length w = sym (length-map rows (node_in ts)) ∙ ap length view in
-    let f : Fits (length ts) row = subst (Fits (length ts)) (get_or_default rows m no_row row (omega (arith, within, long)) ∙ sym is) (fit m) in
-    range-joined ts row.pre_from row.post_from row.end f.pre f.post f.within
-    ∙ ap (λ (n : Node). n.pre ++ n.post) (row_is ts rows w m row view within is)
-
 -- what holds of all that a row cuts out holds of each part
 parts_pass : (p : Target → Bool) (ts : List Target) (row : Row) → Fits (length ts) row → list_all p (slice_range ts row.hard_from row.end) ≡ (list_all p (node_in ts row).hard && list_all p (node_in ts row).pre && list_all p (node_in ts row).post)
 parts_pass p ts row f =
@@ -121,3 +114,28 @@ fit-set {before} {after} {row} {node} rows m within fit added k = elim (eqb_tell
   where
     longer : length before ≤ length after
     longer = omega (arith, ap length added.behind, length-append before added.more)
+
+pub if_not : (b : Bool) → not b ≡ false → b ≡ true
+if_not true h = refl
+if_not false h = absurd (cc)
+
+-- no module of such rows has a soft item
+pub plain-none : (ts : List Target) (n : ℕ) → HasNoSoftModules (nodes_in ts (replicate n no_row))
+plain-none ts zero m within = absurd (omega (arith, within))
+plain-none ts (suc n) zero within = refl
+plain-none ts (suc n) (suc m) within = plain-none ts n m (omega (arith, within))
+
+-- a module whose soft items are no modules gets its row
+pub plain-set : {before after : List Target} {row : Row} {node : Node} (rows : List Row) (m : ℕ) → m < length rows → AllFit (length before) rows → Appends before after row node
+    → HasNoSoftModules (nodes_in before rows) → list_all is_missing (slice_range after row.pre_from row.end) ≡ true → HasNoSoftModules (nodes_in after (set rows m row))
+plain-set {before} {after} {row} {node} rows m inside fit added plain none =
+    subst HasNoSoftModules (sym (nodes_in-set rows m fit added)) (λ k within. elim (eqb_tells k m) [
+      | inl t ↦ ap names_no_soft_module (ap (λ j. node_at (set (nodes_in before rows) m node) j) t.1 ∙ get_or-set_same (nodes_in before rows) m node no_node (omega (arith, inside, length-map rows (node_in before)))) ∙ own
+      | inr t ↦ ap names_no_soft_module (get_or-set_other (nodes_in before rows) m k node no_node t.1) ∙ plain k (omega (arith, within, length-set (nodes_in before rows) m node))
+    ])
+  where
+    own : names_no_soft_module node ≡ true
+    own =
+        ap (λ (n : Node). list_all is_missing (n.pre ++ n.post)) (sym added.same)
+        ∙ ap (list_all is_missing) (sym (range-joined after row.pre_from row.post_from row.end added.fits.pre added.fits.post added.fits.within))
+        ∙ none

@@ -16,6 +16,7 @@ pub mod Words
 pub mod SourceLemmas
 pub mod Parts
 pub mod Cuts
+pub mod BySlot
 pub mod OptionWords
 pub mod Reaching
 pub mod LookUpLemmas

@@ -1,8 +1,9 @@
 -- Serves proofs alone: the targets of all modules in one list, and for each module where its own stand there.
-use Rattle.std.specs.Prelude.{◌≡◌, ℕ, ◌≤◌, true, false, List, ◌++◌, length, map, slice_index_or, slice_range}
+use Rattle.std.specs.Prelude.{◌≡◌, ℕ, ◌≤◌, Bool, true, false, List, ◌++◌, length, map, slice_index_or, slice_range}
 use Rattle.load_plan.specs.declared.graph.Target.{Target}
 use Rattle.load_plan.specs.declared.graph.Row.{Row}
 use Rattle.load_plan.specs.Graph.{Node, is_bounded}
+use Rattle.load_plan.specs.SoftModules.{HasNoSoftModules}
 
 -- the row of a module that names nothing
 abbrev pub no_row : Row
@@ -35,6 +36,11 @@ AllFit n rows = (m : ℕ) → Fits n (slice_index_or rows m no_row)
 pub record AreRows (targets : List Target) (rows : List Row) : Type 0 where
   pub bounded : is_bounded (nodes_in targets rows) ≡ true
   pub fit : AllFit (length targets) rows
+
+-- such rows, and whether a soft item is a module: a true flag says nothing
+pub record IsGraph (targets : List Target) (rows : List Row) (has_soft : Bool) : Type 0 where
+  pub are_rows : AreRows targets rows
+  pub plain : has_soft ≡ false → HasNoSoftModules (nodes_in targets rows)
 
 -- the targets of a node came behind the others, where its row says
 pub record Appends (before after : List Target) (row : Row) (node : Node) : Type 0 where

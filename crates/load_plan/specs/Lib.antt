@@ -1,5 +1,6 @@
 pub mod Graph
 pub mod Cuts
+pub mod BySlot
 pub mod Walk
 pub mod Plan
 pub mod Laws

@@ -1,9 +1,11 @@
 //! A dependency graph: for each module the modules that it names.
-ghost use Rattle.std.specs.Prelude.{◌≡◌, ◌+◌, ◌^◌, ◌<◌, [], ◌∷◌, ◌++◌, drop, length, true, IfSome, MatchOption};
+ghost use Rattle.std.specs.Prelude.{◌≡◌, ◌+◌, ◌^◌, ◌<◌, [], ◌∷◌, drop, length, true, IfSome, MatchOption};
 ghost use Rattle.std.specs.List.{list_all};
-ghost use Rattle.load_plan.specs.Cuts.{nodes_in, AreRows};
+ghost use Rattle.load_plan.specs.Cuts.{nodes_in, IsGraph};
+ghost use Rattle.load_plan.specs.SoftModules.{is_missing, HasNoSoftModules};
 ghost use Rattle.load_plan.specs.Graph.{is_bounded, is_within, node_at, targets_of};
 
+use crate::by_slot::BySlot;
 use dep_index::Name;
 use std::marker::Model;
 
@@ -22,6 +24,15 @@ pub(crate) fn target_at(targets: &[Target], index: usize) -> Option<&Target>
     ensures within { IfSome result (λ _. index + 1 < 2 ^ 64) }
 {
     targets.get(index)
+}
+
+/// Whether none of the targets is a module of the graph.
+pub(crate) fn are_missing(targets: &[Target]) -> bool
+    ensures { result ≡ list_all is_missing targets.now }
+{
+    targets
+        .iter()
+        .all(|target| matches!(target, Target::Missing(_)))
 }
 
 /// As what a module names others, in the order of a visit.
@@ -47,9 +58,10 @@ pub(crate) struct Row {
 /// The modules by slot; each slot that a module names is one of them. Contracts see it as the list of its nodes.
 #[derive(Drop)]
 pub(crate) struct DependencyGraph {
-    rows: Vec<Row>,
+    rows: BySlot<Row>,
     // those of all modules, so that none has an allocation of its own
     targets: Vec<Target>,
+    has_soft: bool,
 }
 
 impl Model for DependencyGraph {
@@ -58,19 +70,24 @@ impl Model for DependencyGraph {
 
     ghost Value = { List Node };
 
-    ghost use Rattle.load_plan.specs.Cuts.{nodes_in, AreRows};
+    ghost use Rattle.load_plan.specs.Cuts.{nodes_in, IsGraph};
 
-    ghost view = { λ g. nodes_in g.targets.items g.rows.items };
+    ghost view = { λ g. nodes_in g.targets.items g.rows };
 
-    ghost invariant = { λ g. AreRows g.targets.items g.rows.items };
+    ghost invariant = { λ g. IsGraph g.targets.items g.rows g.has_soft };
 }
 
 impl DependencyGraph {
-    pub(crate) fn new(rows: Vec<Row>, targets: Vec<Target>) -> DependencyGraph
-        requires { AreRows targets.items rows.items }
-        ensures { result ≡ nodes_in targets.items rows.items }
+    /// The modules of these rows. Where `has_soft` is false no soft item is a module.
+    pub(crate) fn new(rows: BySlot<Row>, targets: Vec<Target>, has_soft: bool) -> DependencyGraph
+        requires { IsGraph targets.items rows has_soft }
+        ensures { result ≡ nodes_in targets.items rows }
     {
-        DependencyGraph { rows, targets }
+        DependencyGraph {
+            rows,
+            targets,
+            has_soft,
+        }
     }
 
     /// The number of modules.
@@ -87,7 +104,7 @@ impl DependencyGraph {
         ensures targets { result.now ≡ targets_of (node_at self.now slot) phase }
         ensures within { list_all (is_within (length self.now)) result.now ≡ true }
     {
-        let row = self.rows[slot];
+        let row = self.rows.at(slot);
         match phase {
             Phase::Pre => &self.targets[row.pre_from..row.post_from],
             Phase::Hard => &self.targets[row.hard_from..row.pre_from],
@@ -95,19 +112,17 @@ impl DependencyGraph {
         }
     }
 
-    /// The pre items of a module, and its post items behind them.
-    pub(crate) fn soft(&self, slot: usize) -> &[Target]
-        requires { slot < length self.now }
-        ensures { result.now ≡ (node_at self.now slot).pre ++ (node_at self.now slot).post }
+    /// Whether no soft item is a module of the graph: a visit then finds what the hard walk found.
+    pub(crate) fn has_no_soft_module(&self) -> bool
+        ensures { result ≡ true → HasNoSoftModules self.now }
     {
-        let row = self.rows[slot];
-        &self.targets[row.pre_from..row.end]
+        !self.has_soft
     }
 
     pub(crate) fn installs(&self, slot: usize) -> bool
         requires { slot < length self.now }
         ensures { result ≡ (node_at self.now slot).installs }
     {
-        self.rows[slot].installs
+        self.rows.at(slot).installs
     }
 }

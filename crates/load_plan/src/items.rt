@@ -102,7 +102,7 @@ struct Asked<'a, 'b> {
 /// The words of the options lines of a slot: where they were read, as read.
 fn options_at<'a>(sources: &Sources<'a>, part: &Part<'a>, slot: usize) -> &'a [Word]
     requires slot { slot < length sources.now.catalogue.now }
-    requires read { AreOptions sources.now part.now.options.items }
+    requires read { AreOptions sources.now part.now.options }
     ensures { result.now ≡ options_from sources.now slot }
 {
     match part.options.get(slot) {
@@ -119,7 +119,7 @@ fn item_of<'a>(
     step: PlanStep,
 ) -> Result<Item<'a>, AllocError>
     requires slot { step.slot < length sources.now.catalogue.now }
-    requires read { AreOptions sources.now part.now.options.items }
+    requires read { AreOptions sources.now part.now.options }
     ensures { IfOk result (λ item. item ≡ item_for sources.now asked.entry step) }
 {
     let mut options = Options::new(alloc);
@@ -142,7 +142,7 @@ fn items_of<'a>(
     steps: &[PlanStep],
 ) -> Result<Vec<Item<'a>>, AllocError>
     requires within { All (λ step. step.slot < length sources.now.catalogue.now) steps.now }
-    requires read { AreOptions sources.now part.now.options.items }
+    requires read { AreOptions sources.now part.now.options }
     ensures items { IfOk result (λ items. items.items ≡ map (item_for sources.now asked.entry) steps.now) }
     ensures within { IfOk result (λ items. All (λ item. item.slot < length sources.now.catalogue.now) items.items) }
 {

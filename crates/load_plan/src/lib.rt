@@ -1,6 +1,7 @@
 //! Look-up of modules, the order in which they are loaded or removed, and their parameters.
 #![tactic(auto)]
 
+mod by_slot;
 mod graph;
 mod items;
 mod kept;

@@ -1,15 +1,12 @@
 //! The plan of a module: what is loaded for it, in order, and what is removed with it.
-ghost use Rattle.std.specs.Prelude.{◌≡◌, ◌<◌, length, not, slice_index_or, true, All, IfErr, IfOk};
+ghost use Rattle.std.specs.Prelude.{◌≡◌, ◌<◌, length, not, slice_index_or, All, IfErr, IfOk};
 ghost use Rattle.load_plan.specs.declared.graph.Target.TheVariants.{Slot};
 ghost use Rattle.load_plan.specs.declared.walk.Mark.TheVariants.{New};
 ghost use Rattle.load_plan.specs.ForProofs.{is_done_mark, steps_of};
-ghost use Rattle.load_plan.specs.Graph.{is_bounded};
-ghost use Rattle.load_plan.specs.SoftModules.{is_missing, HasNoSoftModules};
-ghost use Rattle.std.specs.List.{list_all};
 ghost use Rattle.load_plan.specs.Plan.{plan, removal_plan};
 ghost use Rattle.load_plan.specs.Results.{Gives, IsRefusalWithin};
 
-use crate::graph::{DependencyGraph, Target};
+use crate::graph::DependencyGraph;
 use crate::refusal::WalkError;
 use crate::visit::visit;
 use crate::walk::{Mark, Walked, hard_walk};
@@ -43,28 +40,6 @@ fn with_marks(alloc: Global, marks: &[Mark], order: &[usize]) -> Result<Vec<Plan
     Ok(steps)
 }
 
-/// Whether none of the targets is a module of the graph.
-fn are_missing(targets: &[Target]) -> bool
-    ensures { result ≡ list_all is_missing targets.now }
-{
-    targets
-        .iter()
-        .all(|target| matches!(target, Target::Missing(_)))
-}
-
-/// Whether no soft item is a module of the graph: a visit then finds what the hard walk found.
-fn has_no_soft_module(graph: &DependencyGraph) -> bool
-    ensures none { result ≡ true → HasNoSoftModules graph.now }
-    ensures bounded { is_bounded graph.now ≡ true }
-{
-    for slot in 0..graph.len() {
-        if !are_missing(graph.soft(slot)) {
-            return false;
-        }
-    }
-    true
-}
-
 /// The plan of a module of the graph: the modules that are loaded, in order, or why there is none.
 pub(crate) fn plan_in(
     alloc: Global,
@@ -77,7 +52,7 @@ pub(crate) fn plan_in(
     ensures refusal { IfErr result (IsRefusalWithin (length graph.now)) }
 {
     let Walked { order, marks } = hard_walk(alloc, graph, true, start)?;
-    let order = if has_no_soft_module(graph) {
+    let order = if graph.has_no_soft_module() {
         order
     } else {
         visit(alloc, graph, start)?

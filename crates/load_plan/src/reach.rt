@@ -1,5 +1,5 @@
 //! The part of the dependency graph that a plan reads: what a module reaches over hard dependencies and soft items.
-ghost use Rattle.std.specs.Prelude.{◌≡◌, ◌<◌, length, replicate, false, true, IfOk, None, OnOk};
+ghost use Rattle.std.specs.Prelude.{◌≡◌, ◌<◌, length, false, true, IfOk, OnOk};
 ghost use Rattle.std.specs.List.{list_all};
 ghost use Rattle.load_plan.specs.declared.graph.Target.TheVariants.{Slot};
 ghost use Rattle.load_plan.specs.Graph.{is_within};
@@ -9,7 +9,8 @@ ghost use Rattle.load_plan.specs.Plan.{plan, removal_plan};
 ghost use Rattle.load_plan.specs.Sources.{graph_from};
 ghost use Rattle.load_plan.specs.Parts.{Adds, is_target_in, known_at};
 
-use crate::graph::{DependencyGraph, Row, Target};
+use crate::by_slot::BySlot;
+use crate::graph::{DependencyGraph, Row, Target, are_missing};
 use crate::sources::{Sources, add_node};
 use modprobe_conf::Word;
 use std::alloc::{AllocError, Global};
@@ -60,19 +61,11 @@ impl Reach {
     }
 }
 
-/// So many modules whose settings were not read.
-fn no_options<'a>(alloc: Global, count: usize) -> Result<Vec<Option<&'a [Word]>>, AllocError>
-    ensures options { IfOk result (λ options. options.items ≡ replicate count None) }
-    ensures long { IfOk result (λ options. length options.items ≡ count) }
-{
-    vec![in alloc; None; count]
-}
-
 /// The dependency graph as far as a module reaches, and by slot the words of the options lines of what was read.
 #[derive(Drop)]
 pub(crate) struct Part<'a> {
     pub(crate) graph: DependencyGraph,
-    pub(crate) options: Vec<Option<&'a [Word]>>,
+    pub(crate) options: BySlot<Option<&'a [Word]>>,
 }
 
 /// What a module reaches; the modules that it does not reach name nothing in the graph.
@@ -85,12 +78,13 @@ pub(crate) fn part_from<'a>(
     ensures plans { IfOk result (λ part. plan part.graph (Slot start) ≡ plan (graph_from sources.now) (Slot start)) }
     ensures removals { IfOk result (λ part. removal_plan part.graph (Slot start) ≡ removal_plan (graph_from sources.now) (Slot start)) }
     ensures len { IfOk result (λ part. length part.graph ≡ length sources.now.catalogue.now) }
-    ensures options { IfOk result (λ part. AreOptions sources.now part.options.items) }
+    ensures options { IfOk result (λ part. AreOptions sources.now part.options) }
 {
     let count = sources.catalogue.len();
-    let mut rows = vec![in alloc; NOTHING; count]?;
-    let mut targets = Vec::with_capacity(alloc, count)?;
-    let mut options = no_options(alloc, count)?;
+    let mut rows = BySlot::new(alloc, NOTHING, count)?;
+    let mut targets = Vec::new(alloc);
+    let mut has_soft = false;
+    let mut options = BySlot::new(alloc, None, count)?;
     let mut reach = Reach {
         known: vec![in alloc; false; count]?,
         left: Vec::new(alloc),
@@ -99,9 +93,10 @@ pub(crate) fn part_from<'a>(
     'modules: while let Some(slot) = reach.left.pop() {
         let (row, words) = add_node(alloc, sources, slot, &mut targets)?;
         reach.add_targets(&targets[row.hard_from..row.end])?;
-        rows[slot] = row;
-        options[slot] = Some(words);
+        has_soft = has_soft || !are_missing(&targets[row.pre_from..row.end]);
+        rows.set(slot, row)?;
+        options.set(slot, Some(words))?;
     }
-    let graph = DependencyGraph::new(rows, targets);
+    let graph = DependencyGraph::new(rows, targets, has_soft);
     Ok(Part { graph, options })
 }

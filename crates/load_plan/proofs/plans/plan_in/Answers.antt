@@ -14,7 +14,7 @@ use Rattle.load_plan.proofs.plans.plan_in.Goals.{then-has_no_soft_module, else-h
 pub returns-clause-steps : goal.returns-clause-steps
 returns-clause-steps c =
     let visited : visit c.args.graph.now (length c.args.graph.now) [] [] (Slot c.args.start) ≡ c.if-has_no_soft_module.order2.items = elim c.if-has_no_soft_module.branch [
-      | then-has_no_soft_module w ↦ visit_is_walk c.args.graph.now c.args.start c.in_ok-order.field-0.order.items (c.has_no_soft_module.ensures.none w.if-has_no_soft_module.true) c.in_ok-order.ensures.order ∙ ap (λ v. v.items) (sym w.order2-is)
+      | then-has_no_soft_module w ↦ visit_is_walk c.args.graph.now c.args.start c.in_ok-order.field-0.order.items (c.has_no_soft_module.ensures w.if-has_no_soft_module.true) c.in_ok-order.ensures.order ∙ ap (λ v. v.items) (sym w.order2-is)
       | else-has_no_soft_module+in_ok-order-2 w ↦ sym w.in_ok-order-2.ensures.order ∙ ap (λ v. v.items) (sym w.order2-is)
     ] in
     let within : All (λ m. m < length c.args.graph.now) c.if-has_no_soft_module.order2.items = elim c.if-has_no_soft_module.branch [

@@ -1,30 +1,32 @@
-use Rattle.std.proofs.Common.{◌≡◌, ◌<◌, [], ◌∙◌, ap, arith, length, length-set, replicate, Some, sym, false}
-use Rattle.std.proofs.lemmas.List.{length-map}
+use Rattle.std.proofs.Common.{◌≡◌, ◌<◌, [], ◌∙◌, ap, arith, length, length-set, replicate, Some, None, sym, true, false}
+use Rattle.std.proofs.lemmas.List.{length-map, length-replicate}
 use Rattle.load_plan.specs.declared.graph.Target.TheVariants.{Slot}
 use Rattle.load_plan.specs.Cuts.{node_in, nodes_in, no_row}
 use Rattle.load_plan.specs.Graph.{is_within, names_within}
 use Rattle.load_plan.specs.Parts.{IsPart, is_target_in, known_at}
 use Rattle.load_plan.specs.Plan.{plan, removal_plan}
 use Rattle.load_plan.specs.Sources.{graph_from, node_from}
-use Rattle.load_plan.proofs.Cuts.{nodes_in-none, none_fit, nodes_in-set, fit-set, passes-whole, whole-passes}
+use Rattle.load_plan.proofs.Cuts.{nodes_in-none, none_fit, nodes_in-set, fit-set, if_not, plain-none, plain-set, passes-whole, whole-passes}
 use Rattle.load_plan.proofs.OptionWords.{no_options, options-set}
 use Rattle.load_plan.proofs.Lists.{none_of_length}
 use Rattle.load_plan.proofs.Parts.{plan-part, removal-part}
 use Rattle.load_plan.proofs.Reaching.{Reaching-begin, Reaching-slot, Reaching-read, Reaching-part, Reaching-bounded, cost-falls}
 use Rattle.load_plan.proofs.SourceLemmas.{graph_from-at, length-graph_from, node_from-within}
 use Rattle.load_plan.proofs.reach.part_from.Goals as goal
+use Rattle.load_plan.proofs.reach.part_from.Goals.{then-has_soft, else-has_soft}
 
 pub modules-init : goal.modules-init
 modules-init c =
     let long = length-graph_from c.args.sources.now in
     record {
-      reaching = Reaching-begin (graph_from c.args.sources.now) c.args.start (nodes_in c.in_ok-targets.targets.items c.in_ok-rows.rows.items) c.in_ok-vec.field-0.items c.add.new.self.known.items c.new.result.items c.add.new.self.left.items
-          (ap (nodes_in c.in_ok-targets.targets.items) (c.in_ok-rows.ensures.items_if_clones_equal (λ y same. same) ∙ ap (λ n. replicate n no_row) (c.len-count.ensures.result_is ∙ sym long)) ∙ nodes_in-none c.in_ok-targets.targets.items (length (graph_from c.args.sources.now)))
+      reaching = Reaching-begin (graph_from c.args.sources.now) c.args.start (nodes_in c.new-targets.result.items c.in_ok-rows.rows) c.in_ok-vec.field-0.items c.add.new.self.known.items c.new-3.result.items c.add.new.self.left.items
+          (ap (nodes_in c.new-targets.result.items) (c.in_ok-rows.ensures ∙ ap (λ n. replicate n no_row) (c.len-count.ensures.result_is ∙ sym long)) ∙ nodes_in-none c.new-targets.result.items (length (graph_from c.args.sources.now)))
           (c.in_ok-vec.ensures.items_if_clones_equal (λ y same. same) ∙ ap (λ n. replicate n false) (c.len-count.ensures.result_is ∙ sym long))
-          c.new.ensures.items c.in_ok-add.ensures.adds c.in_ok-add.ensures.here;
-      fit = rw (c.in_ok-rows.ensures.items_if_clones_equal (λ y same. same)) (none_fit (length c.in_ok-targets.targets.items) c.len-count.result);
-      options = rw (c.in_ok-options.ensures.options) (no_options c.args.sources.now c.len-count.result);
-      options_long = c.in_ok-options.ensures.long ∙ c.len-count.ensures.result_is;
+          c.new-3.ensures.items c.in_ok-add.ensures.adds c.in_ok-add.ensures.here;
+      fit = rw (c.in_ok-rows.ensures) (none_fit (length c.new-targets.result.items) c.len-count.result);
+      plain = λ _. rw (c.in_ok-rows.ensures) (plain-none c.new-targets.result.items c.len-count.result);
+      options = rw (c.in_ok-options.ensures) (no_options c.args.sources.now c.len-count.result);
+      options_long = ap length c.in_ok-options.ensures ∙ length-replicate c.len-count.result None ∙ c.len-count.ensures.result_is;
     }
 
 pub add_node-requires : goal.add_node-requires
@@ -38,15 +40,15 @@ add_targets-requires c =
     (ap (λ n. names_within n (node_from c.args.sources.now c.in-Some.slot)) (c.modules.invariant.reaching.known_long ∙ length-graph_from c.args.sources.now)
     ∙ node_from-within c.args.sources.now c.in-Some.slot))
 
-pub index_mut-requires : goal.index_mut-requires
-index_mut-requires c =
+pub set-requires : goal.set-requires
+set-requires c =
     let k = Reaching-slot c.pop.new.self.items c.in-Some.slot (rw c.in-Some.ensures.items at c.modules.invariant.reaching) in
-    omega (arith, k, c.modules.invariant.reaching.long, length-map c.modules.rows.items (node_in c.modules.targets.items), c.modules.rows.ok.0)
+    omega (arith, k, c.modules.invariant.reaching.long, length-map c.modules.rows (node_in c.modules.targets.items))
 
-pub index_mut-requires-in-Some : goal.index_mut-requires-in-Some
-index_mut-requires-in-Some c =
+pub set-requires-in-Some : goal.set-requires-in-Some
+set-requires-in-Some c =
     let k = Reaching-slot c.pop.new.self.items c.in-Some.slot (rw c.in-Some.ensures.items at c.modules.invariant.reaching) in
-    omega (arith, k, length-graph_from c.args.sources.now, c.modules.invariant.options_long, c.modules.options.ok.0)
+    omega (arith, k, length-graph_from c.args.sources.now, c.modules.invariant.options_long)
 
 pub modules-preserved : goal.modules-preserved
 modules-preserved c =
@@ -54,44 +56,49 @@ modules-preserved c =
     let long = length-graph_from c.args.sources.now in
     let k = Reaching-slot c.pop.new.self.items c.in-Some.slot r in
     let inside : c.in-Some.slot < length c.args.sources.now.catalogue.now = omega (arith, k, long) in
-    let rows_long = length-map c.modules.rows.items (node_in c.modules.targets.items) in
-    let of_rows : c.in-Some.slot < length c.modules.rows.items = omega (arith, k, c.modules.invariant.reaching.long, rows_long) in
-    let of_options : c.in-Some.slot < length c.modules.options.items = omega (arith, inside, c.modules.invariant.options_long) in
+    let rows_long = length-map c.modules.rows (node_in c.modules.targets.items) in
+    let of_rows : c.in-Some.slot < length c.modules.rows = omega (arith, k, c.modules.invariant.reaching.long, rows_long) in
+    let of_options : c.in-Some.slot < length c.modules.options = omega (arith, inside, c.modules.invariant.options_long) in
     let node = node_from c.args.sources.now c.in-Some.slot in
     record {
-      reaching = rw (nodes_in-set c.modules.rows.items c.in-Some.slot c.modules.invariant.fit c.in_ok-row.ensures.row)
+      reaching = rw (c.in_ok-set.ensures, nodes_in-set c.modules.rows c.in-Some.slot c.modules.invariant.fit c.in_ok-row.ensures.row)
           (Reaching-read c.pop.new.self.items c.in-Some.slot node r
           (graph_from-at c.args.sources.now c.in-Some.slot inside)
           (ap (λ n. names_within n node) long
           ∙ node_from-within c.args.sources.now c.in-Some.slot)
           c.in_ok-add_targets.ensures.adds
           (passes-whole (is_target_in (known_at c.add_targets.new.self.known.items)) c.in_ok-row.ensures.row (rw c.deref.ensures.value at c.in_ok-add_targets.ensures.all)));
-      fit = fit-set c.modules.rows.items c.in-Some.slot of_rows c.modules.invariant.fit c.in_ok-row.ensures.row;
-      options = options-set c.args.sources.now c.modules.options.items c.in-Some.slot c.in_ok-row.words of_options c.in_ok-row.ensures.options c.modules.invariant.options;
-      options_long = length-set c.modules.options.items c.in-Some.slot (Some c.in_ok-row.words) ∙ c.modules.invariant.options_long;
+      fit = rw (c.in_ok-set.ensures) (fit-set c.modules.rows c.in-Some.slot of_rows c.modules.invariant.fit c.in_ok-row.ensures.row);
+      plain = λ is. rw (c.in_ok-set.ensures) (elim c.if-has_soft.branch [
+        | then-has_soft w ↦ absurd (let t : true ≡ false = sym (w.has_soft-is ∙ w.if-has_soft.true) ∙ is in cc)
+        | else-has_soft w ↦ plain-set c.modules.rows c.in-Some.slot of_rows c.modules.invariant.fit c.in_ok-row.ensures.row (c.modules.invariant.plain w.if-has_soft.false)
+            (sym (rw w.deref-else-has_soft.ensures.value at w.are_missing.ensures) ∙ if_not w.are_missing.result (sym w.has_soft-is ∙ is))
+      ]);
+      options = rw (c.in_ok-set-2.ensures) (options-set c.args.sources.now c.modules.options c.in-Some.slot c.in_ok-row.words of_options c.in_ok-row.ensures.options c.modules.invariant.options);
+      options_long = ap length c.in_ok-set-2.ensures ∙ length-set c.modules.options c.in-Some.slot (Some c.in_ok-row.words) ∙ c.modules.invariant.options_long;
     }
 
 pub modules-smaller : goal.modules-smaller
 modules-smaller c = rw c.in-Some.ensures.items (cost-falls c.pop.new.self.items c.in-Some.slot c.in_ok-add_targets.ensures.adds)
 
 pub new-graph-requires : goal.new-graph-requires
-new-graph-requires c = record { bounded = Reaching-bounded c.modules.invariant.reaching; fit = c.modules.invariant.fit }
+new-graph-requires c = record { are_rows = record { bounded = Reaching-bounded c.modules.invariant.reaching; fit = c.modules.invariant.fit }; plain = c.modules.invariant.plain }
 
 pub returns-clause-plans : goal.returns-clause-plans
 returns-clause-plans c =
     let w = graph_from c.args.sources.now in
     let over : c.modules.reach.left.items ≡ [] = none_of_length c.modules.reach.left.items (omega (arith, c.in_default.ensures.cases.0, c.modules.reach.left.ok.0)) in
-    let part : IsPart w (nodes_in c.modules.targets.items c.modules.rows.items) (known_at c.modules.reach.known.items) = Reaching-part (rw over at c.modules.invariant.reaching) in
+    let part : IsPart w (nodes_in c.modules.targets.items c.modules.rows) (known_at c.modules.reach.known.items) = Reaching-part (rw over at c.modules.invariant.reaching) in
     ap (λ g. plan g (Slot c.args.start)) c.new-graph.ensures
-    ∙ plan-part w (nodes_in c.modules.targets.items c.modules.rows.items) (known_at c.modules.reach.known.items) c.args.start part c.modules.invariant.reaching.begun
+    ∙ plan-part w (nodes_in c.modules.targets.items c.modules.rows) (known_at c.modules.reach.known.items) c.args.start part c.modules.invariant.reaching.begun
 
 pub returns-clause-removals : goal.returns-clause-removals
 returns-clause-removals c =
     let w = graph_from c.args.sources.now in
     let over : c.modules.reach.left.items ≡ [] = none_of_length c.modules.reach.left.items (omega (arith, c.in_default.ensures.cases.0, c.modules.reach.left.ok.0)) in
-    let part : IsPart w (nodes_in c.modules.targets.items c.modules.rows.items) (known_at c.modules.reach.known.items) = Reaching-part (rw over at c.modules.invariant.reaching) in
+    let part : IsPart w (nodes_in c.modules.targets.items c.modules.rows) (known_at c.modules.reach.known.items) = Reaching-part (rw over at c.modules.invariant.reaching) in
     ap (λ g. removal_plan g (Slot c.args.start)) c.new-graph.ensures
-    ∙ removal-part w (nodes_in c.modules.targets.items c.modules.rows.items) (known_at c.modules.reach.known.items) c.args.start part c.modules.invariant.reaching.begun
+    ∙ removal-part w (nodes_in c.modules.targets.items c.modules.rows) (known_at c.modules.reach.known.items) c.args.start part c.modules.invariant.reaching.begun
 
 pub returns-clause-len : goal.returns-clause-len
 returns-clause-len c =
