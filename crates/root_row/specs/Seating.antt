@@ -41,11 +41,15 @@ IsPair v a counts_a seen_a b counts_b seen_b = v.members ≡ member (part_is.Lea
 
 -- a view of two leaves
 abbrev pub IsTwo : View → Type 0
-IsTwo v = (a : ℕ) × (counts_a : List ℕ) × (seen_a : List SeatAnswer) × (b : ℕ) × (counts_b : List ℕ) × (seen_b : List SeatAnswer) × IsPair v a counts_a seen_a b counts_b seen_b
+IsTwo v =
+    (a : ℕ) × (counts_a : List ℕ) × (seen_a : List SeatAnswer)
+    × (b : ℕ) × (counts_b : List ℕ) × (seen_b : List SeatAnswer)
+    × IsPair v a counts_a seen_a b counts_b seen_b
 
 -- Two leaves have seen one list. It begins with what each had seen, is legal, and has just those answers of each that it
 -- had; the counts of each are its worker's row in the table after it
-pub record Shares (world : World) (a : ℕ) (counts_a : List ℕ) (seen_a : List SeatAnswer) (b : ℕ) (counts_b : List ℕ) (seen_b seen : List SeatAnswer) : Type 0 where
+pub record Shares (world : World) (a : ℕ) (counts_a : List ℕ) (seen_a : List SeatAnswer)
+    (b : ℕ) (counts_b : List ℕ) (seen_b seen : List SeatAnswer) : Type 0 where
   pub legal : IsLegal world.catalogue world.workers (answers_in seen)
   pub callers : AreOfTheirSeats seen
   pub begins_a : StartsWith seen seen_a

@@ -51,7 +51,8 @@ abbrev pub subtract_step : Step (Unit {0}) → ℕ → ℕ → AtomicStep
 subtract_step st m found = Subtract m st.first
 
 -- what a step tells of the views; and the seat has then made this one step more
-abbrev pub Recorded : (Step (Unit {0}) → SeatState → ℕ → SeatState → Type 0) → (Step (Unit {0}) → ℕ → ℕ → AtomicStep) → Step (Unit {0}) → TrailState → ℕ → TrailState → Type 0
+abbrev pub Recorded : (Step (Unit {0}) → SeatState → ℕ → SeatState → Type 0) → (Step (Unit {0}) → ℕ → ℕ → AtomicStep)
+    → Step (Unit {0}) → TrailState → ℕ → TrailState → Type 0
 Recorded Tells entry st me found me' =
     Tells st (shown_seat me) found (shown_seat me')
     × ((m : ℕ) → st.word ≡ place_of m → me'.0.steps ≡ me.0.steps ++ entry st m found ∷ [])

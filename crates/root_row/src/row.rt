@@ -28,7 +28,8 @@ impl Model for Row {
 
     ghost view = { λ r. record { id = r.table.shared.table_id; world = world_of r.table.shared.key } };
 
-    ghost invariant = { λ r. (r.table.shared.table_id.words ≡ place_of (slots (world_of r.table.shared.key))) × (r.slot_count ≡ slots (world_of r.table.shared.key)) × (r.slot_count < 4294967296) };
+    ghost invariant = { λ r. (r.table.shared.table_id.words ≡ place_of (slots (world_of r.table.shared.key)))
+        × (r.slot_count ≡ slots (world_of r.table.shared.key)) × (r.slot_count < 4294967296) };
 }
 
 impl Row {

@@ -36,7 +36,8 @@ pub fn pairs(rows: &[Vec<u16>], slot: usize) -> u32
 pub fn set_count(rows: &mut Vec<Vec<u16>>, worker: usize, slot: usize, count: u16)
     requires worker { worker < length rows.old.items }
     requires slot { slot < length (slice_index_or (rows_of rows.old.items) worker []) }
-    ensures after { rows_of rows.new.items ≡ slice_set (rows_of rows.old.items) worker (slice_set (slice_index_or (rows_of rows.old.items) worker []) slot count) }
+    ensures after { rows_of rows.new.items
+        ≡ slice_set (rows_of rows.old.items) worker (slice_set (slice_index_or (rows_of rows.old.items) worker []) slot count) }
     ensures len { vec_len rows.new ≡ vec_len rows.old }
 {
     let row = &mut rows[worker];
