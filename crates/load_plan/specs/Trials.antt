@@ -1,5 +1,6 @@
 -- Serves proofs alone: what a visit has learnt of hard walks while the same modules are in progress.
-use Rattle.std.specs.Prelude.{◌≡◌, ℕ, ◌<◌, Bool, true, false, List, length, slice_index_or}
+use Rattle.std.specs.Prelude.{◌≡◌, ℕ, ◌<◌, Bool, true, false, List, length, slice_index_or, Option, None, Some}
+use Rattle.std.specs.Global.{Vec}
 use Rattle.load_plan.specs.declared.graph.Target.{Target}
 use Rattle.load_plan.specs.declared.graph.Target.TheVariants.{Slot, Missing}
 use Rattle.load_plan.specs.declared.walk.Mark.{Mark}
@@ -19,6 +20,11 @@ pub record IsTrial (graph : List Node) (progress : List ℕ) (trial : List Mark)
   pub free : (m : ℕ) → m < length graph → mark_at trial m ≡ Done → has order m ≡ true
   pub stained : (m : ℕ) → m < length graph → mark_at trial m ≡ Open → is_free progress (hard_walk graph true (Slot m)) ≡ false
   pub apart : (m : ℕ) → m < length graph → mark_at trial m ≡ New → has progress m ≡ false
+
+-- what is known where this was learnt: where nothing was learnt, what the marks tell
+abbrev pub trial_of : List Mark → Option (Vec Mark) → List Mark
+trial_of marks None = marks
+trial_of marks (Some trial) = trial.items
 
 -- whether the hard walk of a target is known to be free
 abbrev pub is_known_free : List Mark → Target → Bool

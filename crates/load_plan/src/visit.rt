@@ -7,7 +7,7 @@ ghost use Rattle.load_plan.specs.ForProofs.{mark_at, InVisit};
 ghost use Rattle.load_plan.specs.declared.walk.Mark.{Mark};
 ghost use Rattle.load_plan.specs.VisitSteps.{IsMove, IsTaken, IsUnmet, IsUnmetFirst, is_taken, left_of, Leads, first_stage, next_stage};
 ghost use Rattle.load_plan.specs.Graph.{is_within, Node};
-ghost use Rattle.load_plan.specs.Trials.{IsTrial, StaysKnown};
+ghost use Rattle.load_plan.specs.Trials.{IsTrial, StaysKnown, trial_of};
 ghost use Rattle.load_plan.specs.Plan.{is_clean, visit};
 ghost use Rattle.load_plan.specs.Walk.{hard_walk};
 
@@ -74,29 +74,46 @@ fn walks_clean(
     }
 }
 
+/// What is known: what was learnt, and where nothing was, what the marks tell.
+fn known_from(
+    alloc: Global,
+    marks: &[Mark],
+    learnt: Option<Vec<Mark>>,
+) -> Result<Vec<Mark>, AllocError>
+    ensures { IfOk result (λ trial. trial.items ≡ trial_of marks.now learnt) }
+{
+    match learnt {
+        Some(trial) => Ok(trial),
+        None => Vec::from_slice(alloc, marks),
+    }
+}
+
 /// Whether a soft item is clean, by what was learnt while the same modules are in progress. A walk is made only where
 /// nothing can be learnt.
 fn is_clean(
     alloc: Global,
     graph: &DependencyGraph,
     marks: &[Mark],
-    trial: &mut Vec<Mark>,
+    learnt: &mut Option<Vec<Mark>>,
     slot: usize,
 ) -> Result<bool, AllocError>
     requires slot { slot < length graph.now }
     requires marks { length marks.now ≡ length graph.now }
-    requires trial { length trial.old.items ≡ length graph.now }
-    ensures clean { InVisit graph.now marks.now (λ progress done. IsTrial graph.now progress trial.old.items
+    requires trial { length (trial_of marks.now learnt.old) ≡ length graph.now }
+    ensures clean { InVisit graph.now marks.now (λ progress done. IsTrial graph.now progress (trial_of marks.now learnt.old)
         → IfOk result (λ clean. clean ≡ is_clean graph.now progress done (Slot slot))) }
     ensures new { IfOk result (λ clean. clean ≡ true → mark_at marks.now slot ≡ New) }
-    ensures long { OnOk result (length trial.new.items ≡ length graph.now) }
-    ensures known { OnOk result (StaysKnown graph.now trial.old.items trial.new.items) }
+    ensures long { OnOk result (length (trial_of marks.now learnt.new) ≡ length graph.now) }
+    ensures known { OnOk result (StaysKnown graph.now (trial_of marks.now learnt.old) (trial_of marks.now learnt.new)) }
 {
     match marks[slot] {
         Mark::Open | Mark::Done => Ok(false),
         Mark::New => {
-            learn_from(alloc, graph, trial, slot)?;
-            match trial[slot] {
+            let mut trial = known_from(alloc, marks, learnt.take())?;
+            learn_from(alloc, graph, &mut trial, slot)?;
+            let told = trial[slot];
+            *learnt = Some(trial);
+            match told {
                 Mark::Done => Ok(true),
                 Mark::Open => Ok(false),
                 Mark::New => walks_clean(alloc, graph, marks, slot),
@@ -110,21 +127,22 @@ fn enters(
     alloc: Global,
     graph: &DependencyGraph,
     marks: &[Mark],
-    trial: &mut Vec<Mark>,
+    learnt: &mut Option<Vec<Mark>>,
     phase: Phase,
     slot: usize,
 ) -> Result<bool, AllocError>
     requires slot { slot < length graph.now }
     requires marks { length marks.now ≡ length graph.now }
-    requires trial { length trial.old.items ≡ length graph.now }
-    ensures taken { InVisit graph.now marks.now (λ progress done. IsTrial graph.now progress trial.old.items → IsUnmet progress phase (Slot slot)
+    requires trial { length (trial_of marks.now learnt.old) ≡ length graph.now }
+    ensures taken { InVisit graph.now marks.now (λ progress done.
+        IsTrial graph.now progress (trial_of marks.now learnt.old) → IsUnmet progress phase (Slot slot)
         → IfOk result (λ taken. taken ≡ is_taken graph.now progress done phase (Slot slot))) }
     ensures new { IfOk result (λ taken. taken ≡ true → mark_at marks.now slot ≡ New) }
-    ensures long { OnOk result (length trial.new.items ≡ length graph.now) }
-    ensures known { OnOk result (StaysKnown graph.now trial.old.items trial.new.items) }
+    ensures long { OnOk result (length (trial_of marks.now learnt.new) ≡ length graph.now) }
+    ensures known { OnOk result (StaysKnown graph.now (trial_of marks.now learnt.old) (trial_of marks.now learnt.new)) }
 {
     match phase {
-        Phase::Pre | Phase::Post => is_clean(alloc, graph, marks, trial, slot),
+        Phase::Pre | Phase::Post => is_clean(alloc, graph, marks, learnt, slot),
         Phase::Hard => match marks[slot] {
             Mark::New => Ok(true),
             Mark::Open | Mark::Done => Ok(false),
@@ -164,37 +182,30 @@ fn next_move(
     alloc: Global,
     graph: &DependencyGraph,
     marks: &[Mark],
-    trial: &mut Vec<Mark>,
+    learnt: &mut Option<Vec<Mark>>,
     stage: Stage,
 ) -> Result<Move, AllocError>
     requires slot { stage.slot < length graph.now }
     requires marks { length marks.now ≡ length graph.now }
-    requires trial { length trial.old.items ≡ length graph.now }
+    requires trial { length (trial_of marks.now learnt.old) ≡ length graph.now }
     ensures moves { IfOk result (IsMove graph.now marks.now stage) }
-    ensures taken { InVisit graph.now marks.now (λ progress done. IsTrial graph.now progress trial.old.items → IsUnmetFirst graph.now progress stage
+    ensures taken { InVisit graph.now marks.now (λ progress done.
+        IsTrial graph.now progress (trial_of marks.now learnt.old) → IsUnmetFirst graph.now progress stage
         → IfOk result (IsTaken graph.now progress done stage)) }
-    ensures long { OnOk result (length trial.new.items ≡ length graph.now) }
-    ensures known { OnOk result (StaysKnown graph.now trial.old.items trial.new.items) }
+    ensures long { OnOk result (length (trial_of marks.now learnt.new) ≡ length graph.now) }
+    ensures known { OnOk result (StaysKnown graph.now (trial_of marks.now learnt.old) (trial_of marks.now learnt.new)) }
 {
     match first_left(graph, stage) {
         None => Ok(behind(stage)),
         Some((Target::Missing(_), next)) => Ok(Move::Pass(next)),
         Some((Target::Slot(slot), next)) => {
-            if enters(alloc, graph, marks, trial, stage.phase, *slot)? {
+            if enters(alloc, graph, marks, learnt, stage.phase, *slot)? {
                 Ok(Move::Enter(*slot, next))
             } else {
                 Ok(Move::Pass(next))
             }
         }
     }
-}
-
-/// Forgets what was learnt: what is known is what the marks tell.
-fn forget(trial: &mut Vec<Mark>, marks: &[Mark])
-    requires { length trial.old.items ≡ length marks.now }
-    ensures { trial.new.items ≡ marks.now }
-{
-    trial.copy_from_slice(marks);
 }
 
 /// The visit of a module whose hard walk has no fault: all that is loaded for it, in order.
@@ -210,17 +221,18 @@ pub(crate) fn visit(
 {
     let mut marks = new_marks(alloc, graph.len())?;
     marks[start] = Mark::Open;
-    let mut trial = Vec::from_slice(alloc, &marks)?;
+    // what was learnt of soft items, until the modules in progress or those in the order change
+    let mut learnt = None;
     let mut order = Vec::new(alloc);
     let mut waiting = Vec::new(alloc);
     let mut stage = Stage::first(start, Phase::Pre);
     'visit: loop {
-        match next_move(alloc, graph, &marks, &mut trial, stage)? {
+        match next_move(alloc, graph, &marks, &mut learnt, stage)? {
             Move::Turn(next) => stage = next,
             Move::Pass(next) => stage = next,
             Move::Append(next) => {
                 marks[stage.slot] = Mark::Done;
-                forget(&mut trial, &marks);
+                learnt = None;
                 order.push(stage.slot)?;
                 stage = next;
             }
@@ -230,7 +242,7 @@ pub(crate) fn visit(
             },
             Move::Enter(slot, next) => {
                 marks[slot] = Mark::Open;
-                forget(&mut trial, &marks);
+                learnt = None;
                 waiting.push(next)?;
                 stage = Stage::first(slot, Phase::Pre);
             }

@@ -1,4 +1,4 @@
-use Rattle.std.proofs.Common.{◌≡◌, ◌<◌, ◌∙◌, [], ◌∷◌, length, sym, ap, arith, subst, replicate}
+use Rattle.std.proofs.Common.{◌≡◌, ◌<◌, ◌∙◌, [], ◌∷◌, length, refl, sym, ap, arith, subst, replicate}
 use Rattle.std.proofs.lemmas.List.{length-replicate}
 use Rattle.load_plan.specs.declared.walk.Mark.{Mark}
 use Rattle.load_plan.specs.declared.walk.Mark.TheVariants.{New}
@@ -15,39 +15,39 @@ pub visit-init : goal.visit-init
 visit-init c =
     let count : length c.in_ok-marks.marks.items ≡ length c.args.graph.now = ap length (c.in_ok-marks.ensures ∙ ap (λ n. replicate n New) c.len.ensures.len) ∙ length-replicate {A = Mark} (length c.args.graph.now) New in
     let new : AreMarks (length c.args.graph.now) c.in_ok-marks.marks.items [] [] = subst (λ l. AreMarks (length c.args.graph.now) l [] []) (sym (c.in_ok-marks.ensures ∙ ap (λ n. replicate n New) c.len.ensures.len)) (marks-new (length c.args.graph.now)) in
-    rw c.first-stage.ensures (Learns-forget (c.in_ok-trial.ensures.items ∙ c.deref.ensures.value) (Visits-begin c.args.graph.now c.args.start c.in_ok-marks.marks.items c.new-order.result.items (first_stage Pre c.args.start ∷ stack_of c.new-waiting.result.items) c.requires.walked.0 c.len.ensures.bounded c.requires.walked.1 c.requires.start count new c.new-order.ensures.items (ap (λ l. first_stage Pre c.args.start ∷ stack_of l) c.new-waiting.ensures.items)))
+    rw c.first-stage.ensures (Learns-forget refl (Visits-begin c.args.graph.now c.args.start c.in_ok-marks.marks.items c.new-order.result.items (first_stage Pre c.args.start ∷ stack_of c.new-waiting.result.items) c.requires.walked.0 c.len.ensures.bounded c.requires.walked.1 c.requires.start count new c.new-order.ensures.items (ap (λ l. first_stage Pre c.args.start ∷ stack_of l) c.new-waiting.ensures.items)))
 
 pub visit-preserved-in-Turn : goal.visit-preserved-in-Turn
-visit-preserved-in-Turn c = Learns-turn c.visit.invariant c.in_ok-next.ensures.long c.in_ok-next.ensures.known (rw (c.deref-in-visit.ensures.value, c.in-Turn.is) at c.in_ok-next.ensures.moves)
+visit-preserved-in-Turn c = Learns-turn c.visit.invariant (rw c.deref.ensures.value at c.in_ok-next.ensures.long) (rw c.deref.ensures.value at c.in_ok-next.ensures.known) (rw (c.deref.ensures.value, c.in-Turn.is) at c.in_ok-next.ensures.moves)
 
 pub visit-preserved-in-Pass : goal.visit-preserved-in-Pass
-visit-preserved-in-Pass c = Learns-pass c.visit.invariant c.in_ok-next.ensures.long c.in_ok-next.ensures.known (rw (c.deref-in-visit.ensures.value, c.in-Pass.is) at c.in_ok-next.ensures.moves) (rw (c.deref-in-visit.ensures.value, c.in-Pass.is) at c.in_ok-next.ensures.taken)
+visit-preserved-in-Pass c = Learns-pass c.visit.invariant (rw c.deref.ensures.value at c.in_ok-next.ensures.long) (rw c.deref.ensures.value at c.in_ok-next.ensures.known) (rw (c.deref.ensures.value, c.in-Pass.is) at c.in_ok-next.ensures.moves) (rw (c.deref.ensures.value, c.in-Pass.is) at c.in_ok-next.ensures.taken)
 
 pub visit-preserved-in-Append : goal.visit-preserved-in-Append
-visit-preserved-in-Append c = rw c.in_ok-push-in-Append.ensures.items (Learns-forget (c.forget.ensures ∙ c.deref-in-Append.ensures.value) (Visits-by_append c.visit.invariant.visits (rw (c.deref-in-visit.ensures.value, c.in-Append.is) at c.in_ok-next.ensures.moves)))
+visit-preserved-in-Append c = rw c.in_ok-push-in-Append.ensures.items (Learns-forget refl (Visits-by_append c.visit.invariant.visits (rw (c.deref.ensures.value, c.in-Append.is) at c.in_ok-next.ensures.moves)))
 
 pub visit-smaller-in-Append : goal.visit-smaller-in-Append
 visit-smaller-in-Append c =
-    let move = rw (c.deref-in-visit.ensures.value, c.in-Append.is) at c.in_ok-next.ensures.moves in
+    let move = rw (c.deref.ensures.value, c.in-Append.is) at c.in_ok-next.ensures.moves in
     let inside : c.visit.stage.slot < length c.visit.marks.items = omega (arith, Visits-slot c.visit.invariant.visits, c.visit.invariant.visits.long) in
     rw move.2 (effort-append c.args.graph.now c.visit.marks.items c.visit.stage (stack_of c.visit.waiting.items) move.0 inside)
 
 pub visit-preserved-in-Some : goal.visit-preserved-in-Some
 visit-preserved-in-Some c =
-    let move = rw c.in-Leave.is at c.in_ok-next.ensures.moves in
-    rw (stack-pop c.pop.new.self.items c.in-Some.ensures.items) at (Learns-leave c.visit.invariant c.in_ok-next.ensures.long c.in_ok-next.ensures.known move)
+    let move = rw (c.deref.ensures.value, c.in-Leave.is) at c.in_ok-next.ensures.moves in
+    rw (stack-pop c.pop.new.self.items c.in-Some.ensures.items) at (Learns-leave c.visit.invariant (rw c.deref.ensures.value at c.in_ok-next.ensures.long) (rw c.deref.ensures.value at c.in_ok-next.ensures.known) move)
 
 pub visit-preserved : goal.visit-preserved
 visit-preserved c =
     rw (stack-push c.visit.waiting.items c.in_ok-push-in-Enter.ensures.items, c.first-stage-in-Enter.ensures)
-    (Learns-forget (c.forget-in-Enter.ensures ∙ c.deref-in-Enter.ensures.value) (Visits-by_enter c.in-Enter.slot c.visit.invariant.visits c.visit.invariant.known (rw (c.deref-in-visit.ensures.value, c.in-Enter.is) at c.in_ok-next.ensures.moves) (rw (c.deref-in-visit.ensures.value, c.in-Enter.is) at c.in_ok-next.ensures.taken)))
+    (Learns-forget refl (Visits-by_enter c.in-Enter.slot c.visit.invariant.visits c.visit.invariant.known (rw (c.deref.ensures.value, c.in-Enter.is) at c.in_ok-next.ensures.moves) (rw (c.deref.ensures.value, c.in-Enter.is) at c.in_ok-next.ensures.taken)))
 
 pub returns-in-None-clause-within : goal.returns-in-None-clause-within
 returns-in-None-clause-within c = all_below (length c.args.graph.now) c.visit.order.items (λ q h. (c.visit.invariant.visits.kept.entered q h).0)
 
 pub visit-smaller : goal.visit-smaller
 visit-smaller c =
-    let move = rw (c.deref-in-visit.ensures.value, c.in-Enter.is) at c.in_ok-next.ensures.moves in
+    let move = rw (c.deref.ensures.value, c.in-Enter.is) at c.in_ok-next.ensures.moves in
     let inside : c.in-Enter.slot < length c.visit.marks.items = omega (arith, move.1, c.visit.invariant.visits.long) in
     rw (stack-push c.visit.waiting.items c.in_ok-push-in-Enter.ensures.items, c.first-stage-in-Enter.ensures, move.3)
     (effort-enter c.args.graph.now c.visit.marks.items c.visit.stage (stack_of c.visit.waiting.items) c.in-Enter.slot move.0 move.2 move.1 inside)
