@@ -1,10 +1,9 @@
 -- A mark of a pattern is a mark of each text that it matches.
-use Rattle.std.proofs.Common.{◌≡◌, ℕ, zero, suc, ◌+◌, ◌≤◌, ◌-◌, List, [], ◌∷◌, ◌++◌, length, take, drop, refl, sym, ◌∙◌, ap, subst, arith, length-append, length-drop, append_assoc}
+use Rattle.std.proofs.Common.{◌≡◌, ℕ, zero, suc, ◌+◌, ◌≤◌, ◌-◌, List, [], ◌∷◌, ◌++◌, length, take, drop, refl, sym, ◌∙◌, ap, subst, arith, length-append, append_assoc}
 use Rattle.std.specs.List.{fold}
-use Rattle.std.proofs.Math.Seq.{drop-append-add, drop-nil, take-length}
-use Rattle.std.proofs.lemmas.List.{drop-map, take_at}
-use Rattle.alias_match.specs.declared.pattern.Item.{Item}
-use Rattle.alias_match.specs.Pattern.{Piece, Matches, literal_beginning, piece, pieces}
+use Rattle.std.proofs.Math.Seq.{drop-append-add, drop-nil}
+use Rattle.std.proofs.lemmas.List.{take_at}
+use Rattle.alias_match.specs.Pattern.{Piece, Matches, literal_beginning}
 use Rattle.alias_match.specs.Marks.{mark, with_digit, HasMark, IsMarkOf, IsMarked}
 use Rattle.alias_match.proofs.Beginning.{begins_literally}
 
@@ -40,7 +39,7 @@ marked ps later (suc n, is, long) s h =
 abbrev pub IsTail : {X : Type 0} → List X → List X → Type 0
 IsTail whole end = (n : ℕ) × (end ≡ drop n whole)
 
-behind_first : {X : Type 0} (n : ℕ) (whole : List X) (x : X) (end : List X) → x ∷ end ≡ drop n whole → end ≡ drop (suc n) whole
+pub behind_first : {X : Type 0} (n : ℕ) (whole : List X) (x : X) (end : List X) → x ∷ end ≡ drop n whole → end ≡ drop (suc n) whole
 behind_first zero whole x end e = ap (drop 1) e
 behind_first (suc n) [] x end e = absurd (cc)
 behind_first (suc n) (y ∷ whole) x end e = behind_first n whole x end e
@@ -63,11 +62,3 @@ marked_tail ps later (n, is) long = (n, is, λ some. long)
 
 pub marked_whole : (ps : List Piece) → IsMarked ps ps
 marked_whole ps = (0, refl, λ some. absurd (some refl))
-
--- the items from a place on, as code takes them
-rest_dropped : {X : Type 0} (k : ℕ) (xs : List X) → take (length xs - k) (drop k xs) ≡ drop k xs
-rest_dropped k xs = ap (λ n. take n (drop k xs)) (sym (length-drop k xs)) ∙ take-length (drop k xs)
-
-pub left_behind : (all : List Piece) (items : List Item) (k : ℕ) → IsTail all (pieces items) → IsTail all (pieces (take (length items - k) (drop k items)))
-left_behind all items k tail =
-    subst (IsTail all) (drop-map piece k items ∙ ap pieces (sym (rest_dropped k items))) (tail_dropped all (pieces items) k tail)

@@ -1,7 +1,7 @@
 -- Reading as a function is the reading.
 use Rattle.std.proofs.Common.{◌≡◌, ℕ, zero, suc, ◌≤◌, List, [], ◌∷◌, length, drop, Bool, true, false, cond, not, ◌&&◌, ◌||◌, nat_eq, Result, Ok, Err, ◌⊎◌, inl, inr, refl, ◌∙◌, ap, subst, arith, eqb-true}
 use Rattle.std.proofs.lemmas.Bool.Decides.{eqb_tells}
-use Rattle.alias_match.specs.declared.pattern.ByteRange.{ByteRange}
+use Rattle.alias_match.specs.declared.item.ByteRange.{ByteRange}
 use Rattle.alias_match.specs.declared.read.PatternError.{PatternError}
 use Rattle.alias_match.specs.declared.read.PatternError.TheVariants.{Class}
 use Rattle.alias_match.specs.Pattern.{Piece, byte}
@@ -59,7 +59,7 @@ members_next n ih b s le (Ok x) h k = elim (told (closes x.1)) [
   | inr t ↦ rw t (more b s x.1 x.0 (members_from n x.1) h t (ih x.1 (omega arith)))
 ]
 
-members_reads : (n : ℕ) (s : List ℕ) → length s ≤ n → HasMembers s (members_from n s)
+pub members_reads : (n : ℕ) (s : List ℕ) → length s ≤ n → HasMembers s (members_from n s)
 members_reads zero [] le = unclosed
 members_reads zero (b ∷ s) le = absurd (omega arith)
 members_reads (suc n) [] le = unclosed

@@ -143,7 +143,7 @@ impl AliasList {
         ensures ok { OnOk result (self.new ≡ self.old ++ alias ∷ []) }
         ensures err { OnErr result (self.new ≡ self.old) }
     {
-        let number = alias.pattern.mark(alloc)?;
+        let number = alias.pattern.mark();
         self.places.add(alloc, number, self.entries.len())?;
         self.entries.push(alias)?;
         Ok(())

@@ -5,6 +5,7 @@ mod alias;
 mod alias_list;
 mod aliases;
 mod idle;
+mod item;
 mod laws;
 mod marks;
 mod pattern;

@@ -1,6 +1,6 @@
 //! Places, found by marks.
 ghost use Rattle.std.specs.Prelude.{◌≡◌, [], ℕ, Contains, OnOk};
-ghost use Rattle.alias_match.specs.Marks.{mark};
+ghost use Rattle.alias_match.specs.Marks.{mark, with_digit};
 ghost use Rattle.alias_match.specs.ForProofs.{bucket_of};
 
 use indexmap::IndexMap;
@@ -13,6 +13,13 @@ pub(crate) const MARK_BYTES: usize = 8;
 /// How many numbers have seven digits to the base 256.
 const SEVEN_DIGITS: u64 = 72_057_594_037_927_936;
 
+/// A number with one more digit to the base 256, of which the last eight stay.
+pub(crate) fn with_digit(number: u64, digit: u8) -> u64
+    ensures { result ≡ with_digit number digit }
+{
+    number % SEVEN_DIGITS * 256 + u64::from(digit)
+}
+
 /// The number that the last eight bytes are, or all bytes where there are fewer.
 pub(crate) fn mark(bytes: &[u8]) -> u64
     ensures { result ≡ mark bytes.now }
@@ -20,7 +27,7 @@ pub(crate) fn mark(bytes: &[u8]) -> u64
     let last = &bytes[bytes.len().saturating_sub(MARK_BYTES)..];
     let mut number = 0u64;
     for byte in last {
-        number = number % SEVEN_DIGITS * 256 + u64::from(*byte);
+        number = with_digit(number, *byte);
     }
     number
 }

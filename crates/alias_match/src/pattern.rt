@@ -1,99 +1,45 @@
 //! Shell patterns, and whether they match a text.
-ghost use Rattle.std.specs.Prelude.{List, ◌≡◌, ◌↔◌, [], IfOk, IsTrue, MatchOption};
-ghost use Rattle.std.specs.List.{list_any};
-ghost use Rattle.alias_match.specs.Pattern.{Piece, Matches, holds, in_set, in_range, piece, pieces};
+ghost use Rattle.std.specs.Prelude.{◌≡◌, ◌↔◌, [], IsTrue, MatchOption};
+ghost use Rattle.alias_match.specs.Pattern.{Matches};
 ghost use Rattle.alias_match.specs.Marks.{IsMarkOf};
 ghost use Rattle.alias_match.specs.ForProofs.{IsStep, IsLater};
 ghost use Rattle.alias_match.specs.Reading.{Gives, Reads};
 
-use crate::marks::mark;
-use crate::read::{PatternError, read_items};
-use crate::runs::{from_longest_run, leading_bytes};
-use std::alloc::{AllocError, Global};
+use crate::item::{Item, Items};
+use crate::read::{PatternError, check};
+use crate::runs::longest_run_mark;
+use std::alloc::Global;
 use std::marker::Model;
 
-/// The bytes from the first to the last, none where the first is greater.
-#[derive(Clone, Copy, Debug, PartialEq, Eq, Drop)]
-pub(crate) struct ByteRange {
-    pub first: u8,
-    pub last: u8,
-}
-
-/// A set of bytes: those of its ranges, or all others.
-#[derive(Debug, Drop)]
-pub(crate) struct Set {
-    pub negated: bool,
-    pub members: Vec<ByteRange>,
-}
-
-impl Set {
-    pub fn contains(&self, byte: u8) -> bool
-        ensures { result ≡ in_set self.now.negated self.now.members.items byte }
-    {
-        if self.negated {
-            !is_member(&self.members, byte)
-        } else {
-            is_member(&self.members, byte)
-        }
-    }
-}
-
-fn is_member(members: &[ByteRange], byte: u8) -> bool
-    ensures { result ≡ list_any (in_range byte) members.now }
-{
-    members
-        .iter()
-        .any(|range| range.first <= byte && byte <= range.last)
-}
-
-/// One item of a pattern.
-#[derive(Debug, Drop)]
-pub(crate) enum Item {
-    Byte(u8),
-    AnyByte,
-    Run,
-    OneOf(Box<Set>),
-}
-
-impl Item {
-    /// Whether the text of this byte alone is one for which the item stands. A run is asked elsewhere.
-    pub fn holds(&self, byte: u8) -> bool
-        ensures { result ≡ holds (piece self.now) byte }
-    {
-        match self {
-            Item::Byte(own) => *own == byte,
-            Item::AnyByte => true,
-            Item::Run => false,
-            Item::OneOf(set) => set.contains(byte),
-        }
-    }
-}
-
-/// A shell pattern.
+/// A shell pattern. It is kept as its text, since items of their own would take sixteen times the memory.
 #[derive(Debug, Drop)]
 pub struct Pattern {
-    items: Vec<Item>,
+    text: Vec<u8>,
 }
 
 impl Model for Pattern {
     ghost use Rattle.std.specs.Prelude.{List};
-    ghost use Rattle.alias_match.specs.Pattern.{Piece, pieces};
+    ghost use Rattle.alias_match.specs.Pattern.{Piece};
+    ghost use Rattle.alias_match.specs.Reading.{IsPattern, pieces_of};
 
     ghost Value = { List Piece };
 
-    ghost view = { λ p. pieces p.items.items };
+    ghost view = { λ p. pieces_of p.text.items };
+
+    ghost invariant = { λ p. IsPattern p.text.items };
 }
 
 /// What stands behind the last run, and the end of the text at which it was tried last.
-#[derive(Clone, Copy)]
-struct Retry<'a> {
-    items: &'a [Item],
-    text: &'a [u8],
+#[derive(Drop)]
+struct Retry<'p, 't> {
+    items: Items<'p>,
+    text: &'t [u8],
 }
 
-impl<'a> Retry<'a> {
+impl<'p, 't> Retry<'p, 't> {
     /// The same items, at the next end of the text.
-    fn later(self) -> Option<Retry<'a>>
+    #[inline(always)]
+    fn later(self) -> Option<Retry<'p, 't>>
         ensures { MatchOption result (self.entry.text.now ≡ []) (IsLater self.entry) }
     {
         let (_, text) = self.text.split_first()?;
@@ -105,12 +51,12 @@ impl<'a> Retry<'a> {
 }
 
 /// What the first item and the first byte say.
-#[derive(Clone, Copy)]
-enum Step<'a> {
+#[derive(Drop)]
+enum Step<'p, 't> {
     /// The item is a run, and these follow it.
-    Run(&'a [Item]),
+    Run(Items<'p>),
     /// The item holds the byte, and these follow them.
-    Taken(&'a [Item], &'a [u8]),
+    Taken(Items<'p>, &'t [u8]),
     /// Both are at their end.
     Over,
     /// The text ends before the items do.
@@ -119,8 +65,9 @@ enum Step<'a> {
     Stuck,
 }
 
-fn next_step<'a>(items: &'a [Item], text: &'a [u8]) -> Step<'a>
-    ensures { IsStep (pieces items.entry.now) text.entry.now result }
+#[inline(always)]
+fn next_step<'p, 't>(items: Items<'p>, text: &'t [u8]) -> Step<'p, 't>
+    ensures { IsStep items.entry text.entry.now result }
 {
     let Some((item, after)) = items.split_first() else {
         return if text.is_empty() {
@@ -144,16 +91,23 @@ impl Pattern {
     pub fn read(alloc: Global, text: &[u8]) -> Result<Pattern, PatternError>
         ensures { Gives (λ pattern. pattern) result (Reads text.now) }
     {
-        let items = read_items(alloc, text)?;
-        Ok(Pattern { items })
+        check(text)?;
+        let text = Vec::from_slice(alloc, text)?;
+        Ok(Pattern { text })
+    }
+
+    #[inline(always)]
+    fn items(&self) -> Items
+        ensures { result ≡ self.now }
+    {
+        Items::of(&self.text)
     }
 
     /// A mark that each text has that the pattern matches: that of its longest run of single bytes.
-    pub(crate) fn mark(&self, alloc: Global) -> Result<u64, AllocError>
-        ensures { IfOk result (λ number. IsMarkOf number self.now) }
+    pub(crate) fn mark(&self) -> u64
+        ensures { IsMarkOf result self.now }
     {
-        let run = leading_bytes(alloc, from_longest_run(&self.items))?;
-        Ok(mark(&run))
+        longest_run_mark(self.items())
     }
 
     /// Whether the whole text, byte for byte as it stands, is a joining of one text from each item, in order.
@@ -161,17 +115,17 @@ impl Pattern {
     pub fn matches(&self, text: &[u8]) -> bool
         ensures { IsTrue result ↔ Matches self.now text.now }
     {
-        let mut items = self.items.as_slice();
+        let mut items = self.items();
         let mut rest = text;
         let mut retry: Option<Retry> = None;
         'walk: loop {
             match next_step(items, rest) {
                 Step::Run(after) => {
+                    items = after.again();
                     retry = Some(Retry {
                         items: after,
                         text: rest,
                     });
-                    items = after;
                 }
                 Step::Taken(after, later) => {
                     items = after;
@@ -186,9 +140,9 @@ impl Pattern {
                     let Some(next) = last.later() else {
                         return false;
                     };
-                    retry = Some(next);
-                    items = next.items;
+                    items = next.items.again();
                     rest = next.text;
+                    retry = Some(next);
                 }
             }
         }

@@ -1,11 +1,11 @@
-//! How a pattern is read from its text.
-ghost use Rattle.std.specs.Prelude.{◌≡◌, ◌≤◌, ◌∷◌, length, false, Ok, Err, IfOk, MatchOption, MatchResult};
-ghost use Rattle.alias_match.specs.Reading.{Gives, HasItem, HasMembers, Reads, closes, class_mark, letter, member};
-ghost use Rattle.alias_match.specs.Reading.{negates, after_sign, range, plain_item, undashed};
-ghost use Rattle.alias_match.specs.Pattern.{piece, pieces};
+//! How a pattern is read from its text. Reading takes no memory.
+ghost use Rattle.std.specs.Prelude.{◌≡◌, ◌==◌, ◌||◌, ◌≤◌, ◌∷◌, length, false, Ok, Err, IfOk, MatchOption, MatchResult};
+ghost use Rattle.alias_match.specs.Reading.{HasItem, HasMembers, IsPattern, Reads, closes, class_mark, letter, member};
+ghost use Rattle.alias_match.specs.Reading.{members_of, negates, after_sign, range, plain_item, undashed};
+ghost use Rattle.alias_match.specs.ForProofs.{piece};
 
-use crate::pattern::{ByteRange, Item, Set};
-use std::alloc::{AllocError, AllocFailed, Global};
+use crate::item::{ByteRange, Item, Set};
+use std::alloc::{AllocError, AllocFailed};
 use thiserror::Error;
 
 /// Why a text is no pattern.
@@ -52,6 +52,7 @@ pub(crate) struct Letter {
     pub escaped: bool,
 }
 
+#[inline(always)]
 fn next_letter(first: u8, rest: &[u8]) -> Result<(Letter, &[u8]), PatternError>
     ensures value { MatchResult result
         (λ x. letter first rest.entry.now ≡ Ok (x.0, x.1.now))
@@ -77,6 +78,7 @@ fn next_letter(first: u8, rest: &[u8]) -> Result<(Letter, &[u8]), PatternError>
     }
 }
 
+#[inline(always)]
 fn begins_class(text: &[u8]) -> bool
     ensures { result ≡ class_mark text.now }
 {
@@ -87,7 +89,8 @@ fn begins_class(text: &[u8]) -> bool
 }
 
 /// What follows the end of a set, where the text begins with it.
-fn after_end(text: &[u8]) -> Option<&[u8]>
+#[inline(always)]
+pub(crate) fn after_end(text: &[u8]) -> Option<&[u8]>
     ensures { MatchOption result
         (closes text.entry.now ≡ false)
         (λ rest. text.entry.now ≡ 93 ∷ rest.now) }
@@ -98,6 +101,7 @@ fn after_end(text: &[u8]) -> Option<&[u8]>
     }
 }
 
+#[inline(always)]
 fn next_range(first: u8, rest: &[u8]) -> Result<(ByteRange, &[u8]), PatternError>
     ensures value { MatchResult result
         (λ x. range first rest.entry.now ≡ Ok (x.0, x.1.now))
@@ -124,7 +128,8 @@ fn next_range(first: u8, rest: &[u8]) -> Result<(ByteRange, &[u8]), PatternError
     ))
 }
 
-fn next_member(first: u8, rest: &[u8]) -> Result<(ByteRange, &[u8]), PatternError>
+#[inline(always)]
+pub(crate) fn next_member(first: u8, rest: &[u8]) -> Result<(ByteRange, &[u8]), PatternError>
     ensures value { MatchResult result
         (λ x. member first rest.entry.now ≡ Ok (x.0, x.1.now))
         (λ e. member first rest.entry.now ≡ Err e) }
@@ -137,28 +142,30 @@ fn next_member(first: u8, rest: &[u8]) -> Result<(ByteRange, &[u8]), PatternErro
     next_range(start.byte, rest)
 }
 
-/// The members of a set up to its end, and what follows it.
-fn read_members(alloc: Global, text: &[u8]) -> Result<(Vec<ByteRange>, &[u8]), PatternError>
-    ensures value { Gives (λ x. (x.0.items, x.1.now)) result (HasMembers text.entry.now) }
-    ensures shorter { IfOk result (λ x. length x.1.now ≤ length text.entry.now) }
+/// What follows the members of a set and its end.
+#[inline(always)]
+pub(crate) fn after_members(text: &[u8]) -> Result<&[u8], PatternError>
+    ensures value { MatchResult result
+        (λ rest. HasMembers text.entry.now (Ok (members_of text.entry.now, rest.now)))
+        (λ e. HasMembers text.entry.now (Err e)) }
+    ensures shorter { IfOk result (λ rest. length rest.now ≤ length text.entry.now) }
 {
-    let mut members = Vec::new(alloc);
     let mut rest = text;
     'members: loop {
         let Some((first, after)) = rest.split_first() else {
             return Err(PatternError::Unclosed);
         };
-        let (range, after) = next_member(*first, after)?;
-        members.push(range)?;
+        let (_, after) = next_member(*first, after)?;
         if let Some(behind) = after_end(after) {
-            return Ok((members, behind));
+            return Ok(behind);
         }
         rest = after;
     }
 }
 
 /// Whether a set is negated, and what follows the sign.
-fn split_sign(text: &[u8]) -> (bool, &[u8])
+#[inline(always)]
+pub(crate) fn split_sign(text: &[u8]) -> (bool, &[u8])
     ensures negated { result.0 ≡ negates text.entry.now }
     ensures rest { result.1.now ≡ after_sign text.entry.now }
     ensures shorter { length result.1.now ≤ length text.entry.now }
@@ -169,17 +176,8 @@ fn split_sign(text: &[u8]) -> (bool, &[u8])
     }
 }
 
-fn read_set(alloc: Global, text: &[u8]) -> Result<(Set, &[u8]), PatternError>
-    ensures value { Gives (λ x. (x.0.members.items, x.1.now)) result (HasMembers (after_sign text.entry.now)) }
-    ensures negated { IfOk result (λ x. x.0.negated ≡ negates text.entry.now) }
-    ensures shorter { IfOk result (λ x. length x.1.now ≤ length text.entry.now) }
-{
-    let (negated, text) = split_sign(text);
-    let (members, rest) = read_members(alloc, text)?;
-    Ok((Set { negated, members }, rest))
-}
-
 /// Outside sets a `-`, escaped or not, stands for `_`.
+#[inline(always)]
 fn undashed(byte: u8) -> u8
     ensures { result ≡ undashed byte }
 {
@@ -187,6 +185,7 @@ fn undashed(byte: u8) -> u8
 }
 
 /// The item that begins with a byte that begins no set.
+#[inline(always)]
 fn next_plain_item(first: u8, rest: &[u8]) -> Result<(Item, &[u8]), PatternError>
     ensures value { MatchResult result
         (λ x. plain_item first rest.entry.now ≡ Ok (piece x.0, x.1.now))
@@ -203,29 +202,40 @@ fn next_plain_item(first: u8, rest: &[u8]) -> Result<(Item, &[u8]), PatternError
     Ok((Item::Byte(undashed(letter.byte)), rest))
 }
 
+/// Whether an item of this first byte may be another than the byte. It alone decides most items.
+#[inline(always)]
+fn is_special(byte: u8) -> bool
+    ensures { result ≡ (byte == 42 || byte == 63 || byte == 91 || byte == 92 || byte == 45) }
+{
+    matches!(byte, b'*' | b'?' | b'[' | b'\\' | b'-')
+}
+
 /// The item with which a text of this first byte begins, and what follows it.
-fn next_item(alloc: Global, first: u8, rest: &[u8]) -> Result<(Item, &[u8]), PatternError>
-    ensures value { Gives (λ x. (piece x.0, x.1.now)) result (HasItem first rest.entry.now) }
+#[inline(always)]
+pub(crate) fn next_item(first: u8, rest: &[u8]) -> Result<(Item, &[u8]), PatternError>
+    ensures value { MatchResult result
+        (λ x. HasItem first rest.entry.now (Ok (piece x.0, x.1.now)))
+        (λ e. HasItem first rest.entry.now (Err e)) }
     ensures shorter { IfOk result (λ x. length x.1.now ≤ length rest.entry.now) }
 {
+    if !is_special(first) {
+        return Ok((Item::Byte(first), rest));
+    }
     if first != b'[' {
         return next_plain_item(first, rest);
     }
-    let (set, rest) = read_set(alloc, rest)?;
-    let boxed = Box::new(alloc, set)?;
-    Ok((Item::OneOf(boxed), rest))
+    let (set, rest) = Set::read(rest)?;
+    Ok((Item::OneOf(set), rest))
 }
 
-/// The items of a text that is a pattern.
-pub(crate) fn read_items(alloc: Global, text: &[u8]) -> Result<Vec<Item>, PatternError>
-    ensures { Gives (λ items. pieces items.items) result (Reads text.now) }
+/// Whether the text is a pattern, or else its first fault from the left.
+pub(crate) fn check(text: &[u8]) -> Result<(), PatternError>
+    ensures { MatchResult result (λ _. IsPattern text.now) (λ e. Reads text.now (Err e)) }
 {
-    let mut items = Vec::with_capacity(alloc, text.len())?;
     let mut rest = text;
     'items: while let Some((first, after)) = rest.split_first() {
-        let (item, after) = next_item(alloc, *first, after)?;
-        items.push(item)?;
+        let (_, after) = next_item(*first, after)?;
         rest = after;
     }
-    Ok(items)
+    Ok(())
 }

@@ -1,59 +1,57 @@
 //! The longest run of single bytes in a pattern.
-ghost use Rattle.std.specs.Prelude.{◌≡◌, ◌≤◌, length, IfOk};
-ghost use Rattle.alias_match.specs.Pattern.{literal_beginning, pieces};
-ghost use Rattle.alias_match.specs.Marks.{IsMarked};
+ghost use Rattle.std.specs.Prelude.{◌≡◌, ◌≤◌, drop, length};
+ghost use Rattle.alias_match.specs.Pattern.{literal_beginning};
+ghost use Rattle.alias_match.specs.Marks.{IsMarkOf, mark};
 
-use crate::marks::MARK_BYTES;
-use crate::pattern::Item;
-use std::alloc::{AllocError, Global};
+use crate::item::{Item, Items};
+use crate::marks::{MARK_BYTES, with_digit};
 
-/// With how many single bytes the items begin.
-fn leading_len(items: &[Item]) -> usize
-    ensures count { result ≡ length (literal_beginning (pieces items.entry.now)) }
-    ensures within { result ≤ length items.entry.now }
+/// The single bytes with which items begin.
+#[derive(Drop)]
+struct LeadingBytes<'a> {
+    /// How many they are.
+    count: usize,
+    /// Their mark.
+    mark: u64,
+    /// The items behind them, from the first that is no single byte on.
+    behind: Items<'a>,
+}
+
+fn leading_bytes<'a>(items: &Items<'a>) -> LeadingBytes<'a>
+    ensures count { result.count ≡ length (literal_beginning items.now) }
+    ensures mark { result.mark ≡ mark (literal_beginning items.now) }
+    ensures behind { result.behind ≡ drop result.count items.now }
 {
     let mut count = 0usize;
-    let mut rest = items;
-    'items: while let Some((item, after)) = rest.split_first() {
-        let Item::Byte(_) = item else {
-            return count;
-        };
+    let mut mark = 0u64;
+    let mut rest = items.again();
+    'items: while let Some((Item::Byte(byte), after)) = rest.again().split_first() {
         count += 1;
+        mark = with_digit(mark, byte);
         rest = after;
     }
-    count
-}
-
-/// The single bytes with which the items begin.
-pub(crate) fn leading_bytes(alloc: Global, items: &[Item]) -> Result<Vec<u8>, AllocError>
-    ensures { IfOk result (λ bytes. bytes.items ≡ literal_beginning (pieces items.entry.now)) }
-{
-    let mut bytes = Vec::new(alloc);
-    let mut rest = items;
-    'items: while let Some((item, after)) = rest.split_first() {
-        let Item::Byte(byte) = item else {
-            return Ok(bytes);
-        };
-        bytes.push(*byte)?;
-        rest = after;
+    LeadingBytes {
+        count,
+        mark,
+        behind: rest,
     }
-    Ok(bytes)
 }
 
-/// The items from the longest run of single bytes on. A run behind other items counts only where it fills a mark.
-pub(crate) fn from_longest_run(items: &[Item]) -> &[Item]
-    ensures { IsMarked (pieces items.entry.now) (pieces result.now) }
+/// The mark of the longest run of single bytes. A run behind other items counts only where it fills a mark.
+pub(crate) fn longest_run_mark(items: Items) -> u64
+    ensures { IsMarkOf result items.entry }
 {
-    let mut longest = leading_len(items);
-    let mut from = items;
-    let mut rest = &items[longest..];
+    let first = leading_bytes(&items);
+    let mut longest = first.count;
+    let mut mark = first.mark;
+    let mut rest = first.behind;
     'runs: while let Some((_, after)) = rest.split_first() {
-        let count = leading_len(after);
-        if count >= MARK_BYTES && count > longest {
-            longest = count;
-            from = after;
+        let run = leading_bytes(&after);
+        if run.count >= MARK_BYTES && run.count > longest {
+            longest = run.count;
+            mark = run.mark;
         }
-        rest = &after[count..];
+        rest = run.behind;
     }
-    from
+    mark
 }

@@ -1,9 +1,17 @@
-use Rattle.std.proofs.Common.{◌≡◌, ◌++◌, length}
-use Rattle.alias_match.specs.Pattern.{literal_beginning, pieces}
+use Rattle.std.proofs.Common.{◌≡◌, ◌+◌, drop, length}
+use Rattle.std.specs.List.{fold}
+use Rattle.alias_match.specs.Marks.{mark, with_digit}
+use Rattle.alias_match.specs.Pattern.{literal_beginning}
 use Rattle.alias_match.proofs.runs.leading_bytes.Given as goal
 
 abbrev pub invariant-items : goal.invariant-items
-invariant-items l = l.bytes.items ++ literal_beginning (pieces l.rest) ≡ literal_beginning (pieces l.items)
+invariant-items l =
+    record {
+      counted : l.count + length (literal_beginning l.rest) ≡ length (literal_beginning l.fn.items);
+      marked : fold with_digit l.mark (literal_beginning l.rest) ≡ fold with_digit 0 (literal_beginning l.fn.items);
+      left : l.rest ≡ drop l.count l.fn.items;
+      few : l.count + length l.rest ≡ length l.fn.items;
+    }
 
 abbrev pub decreases-items : goal.decreases-items
 decreases-items l = length l.rest

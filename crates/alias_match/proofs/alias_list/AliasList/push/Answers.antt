@@ -12,4 +12,4 @@ invariant_of-self-in_err-push c =
 
 pub invariant_of-self-2 : goal.invariant_of-self-2
 invariant_of-self-2 c =
-    each_more _ _ _ _ c.args.alias _ _ c.add.ensures.kept c.self.invariant c.in_ok-add.ensures.added c.in_ok-number.ensures (search rules) c.in_ok-push.ensures.items
+    each_more _ _ _ _ c.args.alias _ _ c.add.ensures.kept c.self.invariant c.in_ok-add.ensures.added c.mark-number.ensures (search rules) c.in_ok-push.ensures.items
