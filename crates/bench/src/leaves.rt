@@ -6,7 +6,7 @@ ghost use Rattle.root_row.specs.Views.{worker_of};
 ghost use Rattle.root_row.specs.Made.{new_book, new_leaf};
 ghost use Rattle.dep_index.specs.Catalogue.{modules_of};
 
-use crate::workers::{COUNT, Worker, catalogue, measure_workers, worker_counts};
+use crate::workers::{COUNT, SlotRange, Worker, catalogue, measure_workers, worker_counts};
 use anyhow::{Result, bail};
 use crossbeam_utils::CachePadded;
 use dep_index::Catalogue;
@@ -36,6 +36,33 @@ impl Worker for CachePadded<RowLeaf<'_>> {
     fn put<R: Wait>(&mut self, _: &R, slot: usize) {
         let own: &mut RowLeaf<'_> = self;
         let _ = own.leaf.put(own.row, slot);
+    }
+
+    fn make_pairs<R: Wait>(&mut self, rt: &R, range: SlotRange, rounds: u64) {
+        let own: &mut RowLeaf<'_> = self;
+        make_pairs(rt, own.row, &mut own.leaf, range, rounds);
+    }
+}
+
+fn make_pairs<R: Wait>(rt: &R, row: &Row, leaf: &mut Leaf, range: SlotRange, rounds: u64)
+    requires wide { 8 ≤ slots row.now.world }
+    requires own { IsOf row.now leaf.old }
+    ensures own { IsOf row.now leaf.new }
+{
+    for _ in 0..rounds {
+        make_round(rt, row, leaf, range);
+    }
+}
+
+/// A reference to each is taken and given back.
+fn make_round<R: Wait>(rt: &R, row: &Row, leaf: &mut Leaf, range: SlotRange)
+    requires wide { 8 ≤ slots row.now.world }
+    requires own { IsOf row.now leaf.old }
+    ensures own { IsOf row.now leaf.new }
+{
+    for slot in range.from..range.to {
+        let _ = leaf.get(rt, row, slot);
+        let _ = leaf.put(row, slot);
     }
 }
 

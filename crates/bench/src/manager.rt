@@ -1,6 +1,6 @@
 //! Pairs of a get and a put through a manager, each worker in a thread of its own.
 
-use crate::workers::{COUNT, Worker, catalogue, measure_workers, worker_counts};
+use crate::workers::{COUNT, SlotRange, Worker, catalogue, measure_workers, worker_counts};
 use anyhow::{Result, ensure};
 use dep_index::Catalogue;
 use module_table::Manager;
@@ -22,6 +22,22 @@ impl Worker for ManagerWorker<'_> {
 
     fn put<R: Wait>(&mut self, rt: &R, slot: usize) {
         let _ = self.manager.put(rt, self.number, slot);
+    }
+
+    fn make_pairs<R: Wait>(&mut self, rt: &R, range: SlotRange, rounds: u64) {
+        for _ in 0..rounds {
+            self.make_round(rt, range);
+        }
+    }
+}
+
+impl ManagerWorker<'_> {
+    /// A reference to each is taken and given back.
+    fn make_round<R: Wait>(&mut self, rt: &R, range: SlotRange) {
+        for slot in range.from..range.to {
+            let _ = self.manager.get(rt, self.number, slot);
+            let _ = self.manager.put(rt, self.number, slot);
+        }
     }
 }
 

@@ -33,6 +33,9 @@ pub trait Worker: Send {
 
     fn put<R: Wait>(&mut self, rt: &R, slot: usize)
         requires { slot < COUNT };
+
+    /// A reference to each slot is taken and given back, so many times in turn.
+    fn make_pairs<R: Wait>(&mut self, rt: &R, range: SlotRange, rounds: u64);
 }
 
 /// Which modules the workers take.
@@ -55,9 +58,9 @@ const MODULES: [(&str, Modules); 3] = [
 
 /// The slots that a worker takes in turn.
 #[derive(Clone, Copy)]
-struct SlotRange {
-    from: usize,
-    to: usize,
+pub struct SlotRange {
+    pub from: usize,
+    pub to: usize,
     ghost ordered: { from ≤ to },
     ghost inside: { to ≤ 8 },
 }
@@ -158,22 +161,8 @@ fn make_all_pairs<R: Threads + Wait + Sync, W: Worker>(
         rt,
         workers,
         threads,
-        &|number, worker| { make_pairs(rt, modules.slots(number), worker, rounds) },
+        &|number, worker| { worker.make_pairs(rt, modules.slots(number), rounds) },
     );
-}
-
-fn make_pairs<R: Wait, W: Worker>(rt: &R, range: SlotRange, worker: &mut W, rounds: u64) {
-    for _ in 0..rounds {
-        make_round(rt, range, worker);
-    }
-}
-
-/// A reference to each is taken and given back.
-fn make_round<R: Wait, W: Worker>(rt: &R, range: SlotRange, worker: &mut W) {
-    for slot in range.from..range.to {
-        worker.get(rt, slot);
-        worker.put(rt, slot);
-    }
 }
 
 /// Each worker takes a reference to each of its modules, or gives them back.
