@@ -172,9 +172,11 @@ static inline gz_number gz_try_get(gz_leaf *leaf, size_t slot, uint32_t tries)
 static inline gz_number gz_get(gz_leaf *leaf, size_t slot)
 {
     gz_number number;
-    do
+    do {
         number = gz_try_get(leaf, slot, 64);
-    while (number == GZ_BUSY);
+        if (number == GZ_DONE)
+            return GZ_DONE; /* the common case first, which callers test too */
+    } while (number == GZ_BUSY);
     return number;
 }
 
