@@ -1,6 +1,7 @@
 //! Values by slot, of which few differ from the usual one.
 ghost use Rattle.std.specs.Prelude.{◌≡◌, ◌<◌, length, replicate, set, slice_get, slice_index_or, IfOk, OnOk};
 
+use crate::filled::filled;
 use std::alloc::{AllocError, Global};
 use std::marker::Model;
 
@@ -33,7 +34,7 @@ impl<T: Copy + Drop> BySlot<T> {
         Ok(BySlot {
             usual,
             own: Vec::new(alloc),
-            places: vec![in alloc; 0; count]?,
+            places: filled(alloc, 0, count)?,
         })
     }
 

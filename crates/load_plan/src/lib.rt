@@ -2,6 +2,7 @@
 #![tactic(auto)]
 
 mod by_slot;
+mod filled;
 mod graph;
 mod items;
 mod kept;

@@ -10,6 +10,7 @@ ghost use Rattle.load_plan.specs.Sources.{graph_from};
 ghost use Rattle.load_plan.specs.Parts.{Adds, is_target_in, known_at};
 
 use crate::by_slot::BySlot;
+use crate::filled::filled;
 use crate::graph::{DependencyGraph, Row, Target, are_missing};
 use crate::sources::{Sources, add_node};
 use modprobe_conf::Word;
@@ -86,7 +87,7 @@ pub(crate) fn part_from<'a>(
     let mut has_soft = false;
     let mut options = BySlot::new(alloc, None, count)?;
     let mut reach = Reach {
-        known: vec![in alloc; false; count]?,
+        known: filled(alloc, false, count)?,
         left: Vec::new(alloc),
     };
     reach.add(start)?;

@@ -8,6 +8,7 @@ ghost use Rattle.load_plan.specs.Graph.{is_within, node_at};
 ghost use Rattle.load_plan.specs.Results.{Gives, IsRefusalWithin};
 ghost use Rattle.load_plan.specs.Walk.{hard_walk, walk};
 
+use crate::filled::filled;
 use crate::graph::{DependencyGraph, Phase, Target, target_at};
 use crate::refusal::{PlanRefusal, WalkError};
 use dep_index::Name;
@@ -91,7 +92,7 @@ fn next_step<'a>(graph: &'a DependencyGraph, tests: bool, marks: &[Mark], frame:
 pub(crate) fn new_marks(alloc: Global, count: usize) -> Result<Vec<Mark>, AllocError>
     ensures { IfOk result (λ marks. marks.items ≡ replicate count New) }
 {
-    vec![in alloc; Mark::New; count]
+    filled(alloc, Mark::New, count)
 }
 
 /// The walk from a new module, on from marks: the modules that it finishes, in order.

@@ -19,9 +19,9 @@ pub modules-init : goal.modules-init
 modules-init c =
     let long = length-graph_from c.args.sources.now in
     record {
-      reaching = Reaching-begin (graph_from c.args.sources.now) c.args.start (nodes_in c.new-targets.result.items c.in_ok-rows.rows) c.in_ok-vec.field-0.items c.add.new.self.known.items c.new-3.result.items c.add.new.self.left.items
+      reaching = Reaching-begin (graph_from c.args.sources.now) c.args.start (nodes_in c.new-targets.result.items c.in_ok-rows.rows) c.in_ok-filled.field-0.items c.add.new.self.known.items c.new-3.result.items c.add.new.self.left.items
           (ap (nodes_in c.new-targets.result.items) (c.in_ok-rows.ensures ∙ ap (λ n. replicate n no_row) (c.len-count.ensures.result_is ∙ sym long)) ∙ nodes_in-none c.new-targets.result.items (length (graph_from c.args.sources.now)))
-          (c.in_ok-vec.ensures.items_if_clones_equal (λ y same. same) ∙ ap (λ n. replicate n false) (c.len-count.ensures.result_is ∙ sym long))
+          (c.in_ok-filled.ensures ∙ ap (λ n. replicate n false) (c.len-count.ensures.result_is ∙ sym long))
           c.new-3.ensures.items c.in_ok-add.ensures.adds c.in_ok-add.ensures.here;
       fit = rw (c.in_ok-rows.ensures) (none_fit (length c.new-targets.result.items) c.len-count.result);
       plain = λ _. rw (c.in_ok-rows.ensures) (plain-none c.new-targets.result.items c.len-count.result);
