@@ -3,7 +3,7 @@ use Rattle.std.proofs.Common.{◌≡◌, ◌≤◌, ℕ, zero, suc, arith, lengt
 use Rattle.alias_match.specs.declared.item.ByteRange.{ByteRange}
 use Rattle.alias_match.specs.declared.read.PatternError.{PatternError}
 use Rattle.alias_match.specs.Pattern.{Piece}
-use Rattle.alias_match.specs.Reading.{HasItem, HasMembers, IsPattern, IsSet, Reads, after_item, bad_item, item, item_of, members_from, members_in, members_of, over, pieces_before, pieces_from, pieces_in, pieces_of}
+use Rattle.alias_match.specs.Reading.{HasItem, HasMembers, IsPattern, Reads, after_item, bad_item, item, item_of, members_in, members_of, over, pieces_before, pieces_from, pieces_in, pieces_of}
 use Rattle.alias_match.proofs.Once.{item_once, members_once, reads_once}
 use Rattle.alias_match.proofs.Total.{members_reads, pattern_read}
 

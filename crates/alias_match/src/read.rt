@@ -1,5 +1,5 @@
 //! How a pattern is read from its text. Reading takes no memory.
-ghost use Rattle.std.specs.Prelude.{◌≡◌, ◌==◌, ◌||◌, ◌≤◌, ◌∷◌, length, false, Ok, Err, IfOk, MatchOption, MatchResult};
+ghost use Rattle.std.specs.Prelude.{◌≡◌, ◌≢◌, true, ◌≤◌, ◌∷◌, length, false, Ok, Err, IfOk, MatchOption, MatchResult};
 ghost use Rattle.alias_match.specs.Reading.{HasItem, HasMembers, IsPattern, Reads, closes, class_mark, letter, member};
 ghost use Rattle.alias_match.specs.Reading.{members_of, negates, after_sign, range, plain_item, undashed};
 ghost use Rattle.alias_match.specs.ForProofs.{piece};
@@ -202,12 +202,12 @@ fn next_plain_item(first: u8, rest: &[u8]) -> Result<(Item, &[u8]), PatternError
     Ok((Item::Byte(undashed(letter.byte)), rest))
 }
 
-/// Whether an item of this first byte may be another than the byte. It alone decides most items.
+/// Whether a byte is one of those of which most patterns are, which stand for themselves. It is asked first, for speed.
 #[inline(always)]
-fn is_special(byte: u8) -> bool
-    ensures { result ≡ (byte == 42 || byte == 63 || byte == 91 || byte == 92 || byte == 45) }
+fn is_plain(byte: u8) -> bool
+    ensures { result ≡ true → (byte ≢ 42) × (byte ≢ 45) × (byte ≢ 63) × (byte ≢ 91) × (byte ≢ 92) }
 {
-    matches!(byte, b'*' | b'?' | b'[' | b'\\' | b'-')
+    matches!(byte, b'0'..=b':' | b'A'..=b'Z' | b'a'..=b'z')
 }
 
 /// The item with which a text of this first byte begins, and what follows it.
@@ -218,7 +218,7 @@ pub(crate) fn next_item(first: u8, rest: &[u8]) -> Result<(Item, &[u8]), Pattern
         (λ e. HasItem first rest.entry.now (Err e)) }
     ensures shorter { IfOk result (λ x. length x.1.now ≤ length rest.entry.now) }
 {
-    if !is_special(first) {
+    if is_plain(first) {
         return Ok((Item::Byte(first), rest));
     }
     if first != b'[' {

@@ -1,6 +1,4 @@
 use Rattle.std.proofs.Common.{◌≡◌, ◌∷◌, [], ◌∙◌, ap, arith, rules, sym, suc, ◌+◌, drop}
-use Rattle.std.specs.List.{fold}
-use Rattle.alias_match.specs.Marks.{with_digit}
 use Rattle.alias_match.specs.ForProofs.{piece}
 use Rattle.alias_match.specs.Pattern.{byte, literal_beginning}
 use Rattle.alias_match.proofs.Digits.{folded}

@@ -1,6 +1,6 @@
 use Rattle.std.proofs.Common.{◌≡◌, ◌+◌, drop, length}
 use Rattle.std.specs.List.{fold}
-use Rattle.alias_match.specs.Marks.{mark, with_digit}
+use Rattle.alias_match.specs.Marks.{with_digit}
 use Rattle.alias_match.specs.Pattern.{literal_beginning}
 use Rattle.alias_match.proofs.runs.leading_bytes.Given as goal
 

@@ -1,4 +1,4 @@
-use Rattle.std.proofs.Common.{◌≡◌, ◌≤◌, ◌∙◌, length, sym, subst}
+use Rattle.std.proofs.Common.{◌≤◌, length, sym, subst}
 use Rattle.alias_match.specs.Marks.{IsMarkOf}
 use Rattle.alias_match.specs.Pattern.{literal_beginning}
 use Rattle.alias_match.proofs.MarkLemmas.{IsTail, marked, marked_tail, marked_whole, tail_behind, tail_dropped}

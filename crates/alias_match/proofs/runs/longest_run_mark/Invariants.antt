@@ -1,6 +1,5 @@
-use Rattle.std.proofs.Common.{◌≡◌, List, length}
-use Rattle.alias_match.specs.Pattern.{Piece, literal_beginning}
-use Rattle.alias_match.specs.Marks.{IsMarkOf, mark}
+use Rattle.std.proofs.Common.{length}
+use Rattle.alias_match.specs.Marks.{IsMarkOf}
 use Rattle.alias_match.proofs.MarkLemmas.{IsTail}
 use Rattle.alias_match.proofs.runs.longest_run_mark.Given as goal
 
