@@ -1,11 +1,15 @@
 -- Whatever matches a text is kept under a mark of the text, and found there.
-use Rattle.std.proofs.Common.{◌≡◌, ◌≢◌, ℕ, zero, suc, ◌≤◌, nat_le, nat_eq, eqb-true, eq-eqb, arith, true, false, map, Vec, Result, Ok, Err, IfOk, List, [], ◌∷◌, ◌++◌, length, take, slice_get, Option, Some, None, Contains, ◌↔◌, refl, sym, ◌∙◌, ap, subst, ◌⊎◌, inl, inr}
+use Rattle.std.proofs.Common.{◌≡◌, ◌≢◌, ℕ, zero, suc, ◌+◌, ◌<◌, ◌≤◌, nat_le, nat_eq, eqb-true, eq-eqb, arith, true, false, map, Vec, Result, Ok, Err, IfOk, List, [], ◌∷◌, ◌++◌, length, take, slice_get, Option, Some, None, Contains, ◌↔◌, refl, sym, ◌∙◌, ap, subst, ◌⊎◌, inl, inr}
 use Rattle.std.specs.Borrow.{Bor}
 use Rattle.std.specs.Global.{Global}
 use Rattle.std.specs.declared.alloc.AllocError.{AllocError}
 use Rattle.std.specs.List.{dedup, filter_map}
 use Rattle.std.specs.List.Sorted.{IsPermutation, IsStrictlyIncreasing}
+use Rattle.std.specs.Prelude.{slice_index}
+use Rattle.std.proofs.Math.Seq.{get_or-append_seam}
 use Rattle.std.proofs.lemmas.Bool.{le-leb}
+use Rattle.std.proofs.lemmas.List.{get_or_append_left, length-append}
+use Rattle.std.proofs.lemmas.Option.{slice_get_within}
 use Rattle.std.proofs.lemmas.List.Elements.{Contains-append_left, Contains-append_right, Contains-append_cases}
 use Rattle.std.proofs.lemmas.List.Kept.{Contains-dedup_nat, Contains-from_dedup}
 use Rattle.std.proofs.lemmas.List.Sorted.{Contains-permutation, IsPermutation-sym}
@@ -13,9 +17,10 @@ use Rattle.alias_match.specs.declared.alias.Alias.{Alias}
 use Rattle.alias_match.specs.Pattern.{is_match}
 use Rattle.alias_match.specs.Marks.{HasMark, IsMarkOf, mark}
 use Rattle.alias_match.specs.Aliases.{matching}
-use Rattle.alias_match.specs.ForProofs.{KeepsEach, bucket_of, is_match_at, is_some_match, matches_below, matches_under}
+use Rattle.alias_match.specs.ForProofs.{KeepsEach, is_match_at, is_some_match, matches_below, matches_under, places_of}
 use Rattle.alias_match.proofs.Deciding.{match_yes}
 use Rattle.alias_match.proofs.Members.{told, nothing_in, kept_by_filter, passes_filter}
+use Rattle.alias_match.proofs.Walked.{has_place}
 use Rattle.alias_match.proofs.Rising.{rising_matches}
 
 less_of : (n k : ℕ) → suc n ≤ suc k → nat_eq n k ≡ false → suc n ≤ k
@@ -24,24 +29,24 @@ less_of n k le apart = omega (arith, other)
     other : n ≢ k
     other e = let same : nat_eq n k ≡ true = eq-eqb n k e in absurd (cc)
 
-below_one : (aliases : List Alias) (places : List (ℕ × List ℕ)) (text : List ℕ) (k n i : ℕ) → suc n ≤ k → Contains (matches_under aliases places text n) i → Contains (matches_below aliases places text k) i
-below_one aliases places text zero n i le h = absurd (omega arith)
-below_one aliases places text (suc k) n i le h = elim (told (nat_eq n k)) [
-  | inl same ↦ Contains-append_right (matches_below aliases places text k) (matches_under aliases places text k) i (subst (λ z. Contains (matches_under aliases places text z) i) (eqb-true n k same) h)
-  | inr apart ↦ Contains-append_left (matches_below aliases places text k) (matches_under aliases places text k) i (below_one aliases places text k n i (less_of n k le apart) h)
+below_one : (aliases : List Alias) (numbers : List ℕ) (text : List ℕ) (k n i : ℕ) → suc n ≤ k → Contains (matches_under aliases numbers text n) i → Contains (matches_below aliases numbers text k) i
+below_one aliases numbers text zero n i le h = absurd (omega arith)
+below_one aliases numbers text (suc k) n i le h = elim (told (nat_eq n k)) [
+  | inl same ↦ Contains-append_right (matches_below aliases numbers text k) (matches_under aliases numbers text k) i (subst (λ z. Contains (matches_under aliases numbers text z) i) (eqb-true n k same) h)
+  | inr apart ↦ Contains-append_left (matches_below aliases numbers text k) (matches_under aliases numbers text k) i (below_one aliases numbers text k n i (less_of n k le apart) h)
 ]
 
-under_matches : (aliases : List Alias) (places : List (ℕ × List ℕ)) (text : List ℕ) (n i : ℕ) → Contains (matches_under aliases places text n) i → is_match_at aliases text i ≡ true
-under_matches aliases places text n i h = elim (told (nat_le n (length text))) [
-  | inl t ↦ passes_filter (is_match_at aliases text) (bucket_of places (mark (take n text))) i (rw t at h)
+under_matches : (aliases : List Alias) (numbers : List ℕ) (text : List ℕ) (n i : ℕ) → Contains (matches_under aliases numbers text n) i → is_match_at aliases text i ≡ true
+under_matches aliases numbers text n i h = elim (told (nat_le n (length text))) [
+  | inl t ↦ passes_filter (is_match_at aliases text) (places_of (mark (take n text)) numbers) i (rw t at h)
   | inr t ↦ absurd (nothing_in (rw t at h))
 ]
 
-below_matches : (aliases : List Alias) (places : List (ℕ × List ℕ)) (text : List ℕ) (k i : ℕ) → Contains (matches_below aliases places text k) i → is_match_at aliases text i ≡ true
-below_matches aliases places text zero i h = absurd (nothing_in h)
-below_matches aliases places text (suc k) i h = elim (Contains-append_cases (matches_below aliases places text k) (matches_under aliases places text k) i h) [
-  | inl before ↦ below_matches aliases places text k i before
-  | inr here ↦ under_matches aliases places text k i here
+below_matches : (aliases : List Alias) (numbers : List ℕ) (text : List ℕ) (k i : ℕ) → Contains (matches_below aliases numbers text k) i → is_match_at aliases text i ≡ true
+below_matches aliases numbers text zero i h = absurd (nothing_in h)
+below_matches aliases numbers text (suc k) i h = elim (Contains-append_cases (matches_below aliases numbers text k) (matches_under aliases numbers text k) i h) [
+  | inl before ↦ below_matches aliases numbers text k i before
+  | inr here ↦ under_matches aliases numbers text k i here
 ]
 
 -- the alias that matches at a place
@@ -49,15 +54,15 @@ alias_of_match : (found : Option Alias) (text : List ℕ) → is_some_match foun
 alias_of_match None text h = absurd (cc)
 alias_of_match (Some alias) text h = (alias, refl, h)
 
-kept_below : (places : List (ℕ × List ℕ)) (aliases : List Alias) (text : List ℕ) → KeepsEach places aliases → (i : ℕ) → is_match_at aliases text i ≡ true → Contains (matches_below aliases places text (suc (length text))) i
-kept_below places aliases text keeps i h =
+kept_below : (numbers : List ℕ) (aliases : List Alias) (text : List ℕ) → KeepsEach numbers aliases → (i : ℕ) → is_match_at aliases text i ≡ true → Contains (matches_below aliases numbers text (suc (length text))) i
+kept_below numbers aliases text keeps i h =
     let own : (alias : Alias) × (slice_get aliases i ≡ Some alias) × (is_match alias.pattern text ≡ true) = alias_of_match (slice_get aliases i) text h in
-    let kept : (number : ℕ) × IsMarkOf number own.0.pattern × Contains (bucket_of places number) i = keeps i own.0 own.1 in
-    let has : HasMark text kept.0 = kept.1 text (match_yes own.0.pattern text own.2) in
+    let within : i < length aliases = slice_get_within aliases i own.0 own.1 in
+    let has : HasMark text (slice_index numbers i) = keeps.each i own.0 own.1 text (match_yes own.0.pattern text own.2) in
     let fits : nat_le has.0 (length text) ≡ true = le-leb has.0 (length text) has.1 in
-    let bucket : Contains (bucket_of places (mark (take has.0 text))) i = subst (λ b. Contains (bucket_of places b) i) (sym has.2) kept.2 in
-    below_one aliases places text (suc (length text)) has.0 i (omega (arith, has.1))
-    (rw fits (kept_by_filter (is_match_at aliases text) (bucket_of places (mark (take has.0 text))) i bucket h))
+    let place : Contains (places_of (mark (take has.0 text)) numbers) i = has_place (mark (take has.0 text)) numbers (length numbers) i (omega (arith, within, keeps.as_many)) (sym has.2) in
+    below_one aliases numbers text (suc (length text)) has.0 i (omega (arith, has.1))
+    (rw fits (kept_by_filter (is_match_at aliases text) (places_of (mark (take has.0 text)) numbers) i place h))
 
 -- an alias of a list that has grown by one is of the list before, or is the new one
 old_or_new : (aliases : List Alias) (alias : Alias) (i : ℕ) (own : Alias) → slice_get (aliases ++ alias ∷ []) i ≡ Some own → (slice_get aliases i ≡ Some own) ⊎ ((length aliases ≡ i) × (alias ≡ own))
@@ -69,31 +74,30 @@ old_or_new (a ∷ aliases) alias (suc i) own h = elim (old_or_new aliases alias 
   | inr new ↦ inr (omega (arith, new.0), new.1)
 ]
 
--- what was added before stays
-abbrev pub Stays : List (ℕ × List ℕ) → List (ℕ × List ℕ) → Type 0
-Stays before after = (number p : ℕ) → Contains (bucket_of before number) p → Contains (bucket_of after number) p
-
-pub each_stays : (before after : List (ℕ × List ℕ)) (aliases : List Alias) → Stays before after → KeepsEach before aliases → KeepsEach after aliases
-each_stays before after aliases stays keeps i alias at =
-    let kept : (number : ℕ) × IsMarkOf number alias.pattern × Contains (bucket_of before number) i = keeps i alias at in
-    (kept.0, kept.1, stays kept.0 i kept.2)
-
-pub each_more : (before after : List (ℕ × List ℕ)) (aliases grown : List Alias) (alias : Alias) (number n : ℕ) → Stays before after → KeepsEach before aliases → Contains (bucket_of after number) n → IsMarkOf number alias.pattern → n ≡ length aliases → grown ≡ aliases ++ alias ∷ [] → KeepsEach after grown
-each_more before after aliases grown alias number n stays keeps new marks last grows i own at =
-    elim (old_or_new aliases alias i own (subst (λ l. slice_get l i ≡ Some own) grows at)) [
-      | inl old ↦ each_stays before after aliases stays keeps i own old
+-- an alias is added behind the others, and a mark of its pattern behind theirs
+pub each_more : (numbers more : List ℕ) (aliases grown : List Alias) (alias : Alias) (number : ℕ) → KeepsEach numbers aliases → IsMarkOf number alias.pattern → more ≡ numbers ++ number ∷ [] → grown ≡ aliases ++ alias ∷ [] → KeepsEach more grown
+each_more numbers more aliases grown alias number keeps marks adds grows = rw (adds, grows) (record {
+  as_many = length-append numbers (number ∷ []) ∙ ap (λ n. n + 1) keeps.as_many ∙ sym (length-append aliases (alias ∷ []));
+  each = each;
+})
+  where
+    each : (i : ℕ) (own : Alias) → slice_get (aliases ++ alias ∷ []) i ≡ Some own → IsMarkOf (slice_index (numbers ++ number ∷ []) i) own.pattern
+    each i own at = elim (old_or_new aliases alias i own at) [
+      | inl old ↦
+          (let within : i < length aliases = slice_get_within aliases i own old in
+          subst (λ x. IsMarkOf x own.pattern) (sym (get_or_append_left numbers (number ∷ []) 0 i (omega (arith, within, keeps.as_many)))) (keeps.each i own old))
       | inr (end, same) ↦
-          (let place : n ≡ i = last ∙ end in
-          (number, subst (λ (a : Alias). IsMarkOf number a.pattern) same marks, subst (λ x. Contains (bucket_of after number) x) place new))
+          (let here : slice_index (numbers ++ number ∷ []) i ≡ number = subst (λ x. slice_index (numbers ++ number ∷ []) x ≡ number) (keeps.as_many ∙ end) (get_or-append_seam numbers number [] 0) in
+          subst (λ x. IsMarkOf x own.pattern) (sym here) (subst (λ (a : Alias). IsMarkOf number a.pattern) same marks))
     ]
 
 -- sorted, and each once, they are the same places
-pub sorted_each : (places : List (ℕ × List ℕ)) (aliases : List Alias) (text given sorted once : List ℕ) → KeepsEach places aliases → given ≡ matches_below aliases places text (suc (length text)) → IsPermutation given sorted → once ≡ dedup nat_eq sorted → (i : ℕ) → Contains once i ↔ (is_match_at aliases text i ≡ true)
-sorted_each places aliases text given sorted once keeps is same distinct i = (
-  (λ m. below_matches aliases places text (suc (length text)) i
+pub sorted_each : (numbers : List ℕ) (aliases : List Alias) (text given sorted once : List ℕ) → KeepsEach numbers aliases → given ≡ matches_below aliases numbers text (suc (length text)) → IsPermutation given sorted → once ≡ dedup nat_eq sorted → (i : ℕ) → Contains once i ↔ (is_match_at aliases text i ≡ true)
+sorted_each numbers aliases text given sorted once keeps is same distinct i = (
+  (λ m. below_matches aliases numbers text (suc (length text)) i
       (subst (λ l. Contains l i) is (Contains-permutation sorted given i (IsPermutation-sym given sorted same) (Contains-from_dedup nat_eq sorted i (subst (λ l. Contains l i) distinct m))))),
   (λ h. subst (λ l. Contains l i) (sym distinct) (Contains-dedup_nat sorted i (Contains-permutation given sorted i same
-      (subst (λ l. Contains l i) (sym is) (kept_below places aliases text keeps i h))))),
+      (subst (λ l. Contains l i) (sym is) (kept_below numbers aliases text keeps i h))))),
 )
 
 -- what is at the places of matches

@@ -4,7 +4,7 @@ ghost use Rattle.std.specs.Prelude.{IfOk, OnOk, OnErr, Some, None, nat_le, if◌
 ghost use Rattle.std.specs.List.{filter_map};
 ghost use Rattle.std.specs.List.Sorted.{IsStrictlyIncreasing};
 ghost use Rattle.alias_match.specs.Aliases.{matching};
-ghost use Rattle.alias_match.specs.ForProofs.{is_match_at, matches_below, matches_under};
+ghost use Rattle.alias_match.specs.ForProofs.{is_match_at, matches_below, matches_under, places_of};
 
 use crate::alias::Alias;
 use crate::marks::{Marks, mark};
@@ -16,7 +16,7 @@ use std::marker::Model;
 #[derive(Drop)]
 pub struct AliasList {
     entries: Vec<Alias>,
-    places: Marks,
+    marks: Marks,
 }
 
 impl Model for AliasList {
@@ -28,7 +28,7 @@ impl Model for AliasList {
 
     ghost view = { λ l. l.entries.items };
 
-    ghost invariant = { λ l. KeepsEach l.places l.entries.items };
+    ghost invariant = { λ l. KeepsEach l.marks l.entries.items };
 }
 
 /// The first bytes of a text, None where it has fewer.
@@ -41,23 +41,6 @@ fn front(text: &[u8], count: usize) -> Option<&[u8]>
     } else {
         None
     }
-}
-
-/// Adds those of the places whose aliases match the text.
-fn add_matches(
-    entries: &[Alias],
-    places: &[usize],
-    text: &[u8],
-    found: &mut Vec<usize>,
-) -> Result<(), AllocError>
-    ensures { OnOk result (found.new.items ≡ found.old.items ++ filter (is_match_at entries.now text.now) places.now) }
-{
-    for place in places {
-        if is_match_at(entries, text, *place) {
-            found.push(*place)?;
-        }
-    }
-    Ok(())
 }
 
 /// The alias at a place, None behind the last.
@@ -76,19 +59,39 @@ fn is_match_at(entries: &[Alias], text: &[u8], place: usize) -> bool
     }
 }
 
+/// Adds those that are kept under a mark and match the text.
+fn add_marked(
+    entries: &[Alias],
+    marks: &Marks,
+    text: &[u8],
+    number: u64,
+    found: &mut Vec<usize>,
+) -> Result<(), AllocError>
+    ensures { OnOk result (found.new.items ≡ found.old.items ++ filter (is_match_at entries.now text.now) (places_of number marks.now)) }
+{
+    let mut next = marks.last(number);
+    'places: while let Some(place) = next {
+        if is_match_at(entries, text, place) {
+            found.push(place)?;
+        }
+        next = marks.before(number, place);
+    }
+    Ok(())
+}
+
 /// Adds those that are kept under the mark of the first bytes of the text, as many as given, and match.
 fn add_under(
     entries: &[Alias],
-    places: &Marks,
+    marks: &Marks,
     text: &[u8],
     count: usize,
     found: &mut Vec<usize>,
 ) -> Result<(), AllocError>
     ensures { OnOk result (found.new.items
-        ≡ found.old.items ++ matches_under entries.now places.now text.now count) }
+        ≡ found.old.items ++ matches_under entries.now marks.now text.now count) }
 {
     if let Some(beginning) = front(text, count) {
-        add_matches(entries, places.at(mark(beginning)), text, found)?;
+        add_marked(entries, marks, text, mark(beginning), found)?;
     }
     Ok(())
 }
@@ -97,17 +100,17 @@ fn add_under(
 fn matches_by(
     alloc: Global,
     entries: &[Alias],
-    places: &Marks,
+    marks: &Marks,
     text: &[u8],
 ) -> Result<Vec<usize>, AllocError>
     ensures { IfOk result (λ found. found.items
-        ≡ matches_below entries.now places.now text.now (suc (length text.now))) }
+        ≡ matches_below entries.now marks.now text.now (suc (length text.now))) }
 {
     let mut found = Vec::new(alloc);
     for count in 0..text.len() {
-        add_under(entries, places, text, count, &mut found)?;
+        add_under(entries, marks, text, count, &mut found)?;
     }
-    add_under(entries, places, text, text.len(), &mut found)?;
+    add_under(entries, marks, text, text.len(), &mut found)?;
     Ok(found)
 }
 
@@ -134,7 +137,7 @@ impl AliasList {
     {
         AliasList {
             entries: Vec::new(alloc),
-            places: Marks::new(alloc),
+            marks: Marks::new(alloc),
         }
     }
 
@@ -144,9 +147,12 @@ impl AliasList {
         ensures err { OnErr result (self.new ≡ self.old) }
     {
         let number = alias.pattern.mark();
-        self.places.add(alloc, number, self.entries.len())?;
         self.entries.push(alias)?;
-        Ok(())
+        let added = self.marks.add(alloc, number);
+        if added.is_err() {
+            self.entries.pop();
+        }
+        added
     }
 
     /// How many aliases there are.
@@ -170,7 +176,7 @@ impl AliasList {
         ensures each { IfOk result (λ places.
             (i : ℕ) → Contains places.items i ↔ (is_match_at self.now text.now i ≡ true)) }
     {
-        let mut places = matches_by(alloc, &self.entries, &self.places, text)?;
+        let mut places = matches_by(alloc, &self.entries, &self.marks, text)?;
         places.sort_unstable();
         places.dedup();
         Ok(places)

@@ -4,6 +4,7 @@
 mod alias;
 mod alias_list;
 mod aliases;
+mod chains;
 mod idle;
 mod item;
 mod laws;

@@ -1,9 +1,9 @@
-//! Places, found by marks.
-ghost use Rattle.std.specs.Prelude.{◌≡◌, [], ℕ, Contains, OnOk};
+//! Marks in the order in which they were added, of which the places are found.
+ghost use Rattle.std.specs.Prelude.{◌≡◌, ◌<◌, ◌++◌, ◌∷◌, [], OnOk, OnErr, length, nat_eq, slice_get, Some};
 ghost use Rattle.alias_match.specs.Marks.{mark, with_digit};
-ghost use Rattle.alias_match.specs.ForProofs.{bucket_of};
+ghost use Rattle.alias_match.specs.ForProofs.{last_below};
 
-use indexmap::IndexMap;
+use crate::chains::{Link, chain, chain_all, last_in_chain, slot_of};
 use std::alloc::{AllocError, Global};
 use std::marker::Model;
 
@@ -32,46 +32,73 @@ pub(crate) fn mark(bytes: &[u8]) -> u64
     number
 }
 
-/// Places by the marks under which they were added.
+/// Marks in order. The places of a mark are found from the last to the first.
 #[derive(Drop)]
 pub(crate) struct Marks {
-    places: IndexMap<u64, Vec<usize>>,
+    ends: Vec<usize>,
+    links: Vec<Link>,
 }
 
 impl Model for Marks {
-    ghost use Rattle.std.specs.Prelude.{List, ℕ, map};
+    ghost use Rattle.std.specs.Prelude.{List, ℕ};
+    ghost use Rattle.alias_match.specs.ForProofs.{AreChained, numbers_of};
 
-    ghost Value = { List (ℕ × List ℕ) };
+    ghost Value = { List ℕ };
 
-    ghost view = { λ marks. map (λ entry. (entry.0, entry.1.items)) marks.places.entries };
+    ghost view = { λ marks. numbers_of marks.links.items };
+
+    ghost invariant = { λ marks. AreChained marks.ends.items marks.links.items };
 }
+
+/// The fewest slots.
+const SLOTS: usize = 16;
 
 impl Marks {
     pub fn new(alloc: Global) -> Marks
         ensures { result ≡ [] }
     {
         Marks {
-            places: IndexMap::new(alloc),
+            ends: Vec::new(alloc),
+            links: Vec::new(alloc),
         }
     }
 
-    /// Adds a place under a mark. All that was added before stays, also where memory runs out.
-    pub fn add(&mut self, alloc: Global, number: u64, place: usize) -> Result<(), AllocError>
-        ensures added { OnOk result (Contains (bucket_of self.new number) place) }
-        ensures kept { (other p : ℕ) → Contains (bucket_of self.old other) p → Contains (bucket_of self.new other) p }
+    /// Adds a mark behind the others. Where memory runs out they stay as they were. Half of the slots are left over, so
+    /// that chains are short.
+    pub fn add(&mut self, alloc: Global, number: u64) -> Result<(), AllocError>
+        ensures ok { OnOk result (self.new ≡ self.old ++ number ∷ []) }
+        ensures err { OnErr result (self.new ≡ self.old) }
     {
-        let bucket = self.places.entry(number)?.or_insert(Vec::new(alloc));
-        bucket.push(place)?;
+        let place = self.links.len();
+        let link = Link { number, before: 0 };
+        if place < self.ends.len() / 2 {
+            self.links.push(link)?;
+            chain(&mut self.ends, &mut self.links, place);
+        } else {
+            let mut ends = vec![in alloc; 0usize; place.saturating_mul(4).max(SLOTS)]?;
+            self.links.push(link)?;
+            chain_all(&mut ends, &mut self.links);
+            self.ends = ends;
+        }
         Ok(())
     }
 
-    /// The places that were added under a mark.
-    pub fn at(&self, number: u64) -> &[usize]
-        ensures { result.now ≡ bucket_of self.now number }
+    /// The last place of a mark.
+    pub fn last(&self, number: u64) -> Option<usize>
+        ensures { result ≡ last_below number self.now (length self.now) }
     {
-        match self.places.get(&number) {
-            Some(bucket) => bucket,
-            None => &[],
+        if self.ends.is_empty() {
+            return None;
         }
+        let slot = slot_of(number, self.ends.len());
+        last_in_chain(&self.links, number, self.ends[slot])
+    }
+
+    /// The last place of a mark before one of its places.
+    pub fn before(&self, number: u64, place: usize) -> Option<usize>
+        requires { slice_get self.now place ≡ Some number }
+        ensures { result ≡ last_below number self.now place }
+    {
+        last_in_chain(&self.links, number, self.links[place].before)
     }
 }

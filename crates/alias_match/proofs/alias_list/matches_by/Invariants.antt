@@ -3,4 +3,4 @@ use Rattle.alias_match.specs.ForProofs.{matches_below}
 use Rattle.alias_match.proofs.alias_list.matches_by.Given as goal
 
 abbrev pub invariant-loop-count : goal.invariant-loop-count
-invariant-loop-count l = l.found.items ≡ matches_below l.entries l.places l.text l.count
+invariant-loop-count l = l.found.items ≡ matches_below l.entries l.marks l.text l.count

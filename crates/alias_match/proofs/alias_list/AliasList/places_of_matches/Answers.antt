@@ -13,6 +13,6 @@ returns-clause-rising c =
 pub returns-clause-each : goal.returns-clause-each
 returns-clause-each c =
     rw (sym c.self.view_is)
-    (sorted_each c.self.inside.places c.self.inside.entries.items c.args.text.now c.in_ok-places.places.items c.sort_unstable.new.self.items c.dedup.new.self.items c.self.invariant
-    (c.in_ok-places.ensures ∙ ap (λ l. matches_below l c.self.inside.places c.args.text.now (suc (length c.args.text.now))) c.deref.ensures.value)
+    (sorted_each c.self.inside.marks c.self.inside.entries.items c.args.text.now c.in_ok-places.places.items c.sort_unstable.new.self.items c.dedup.new.self.items c.self.invariant
+    (c.in_ok-places.ensures ∙ ap (λ l. matches_below l c.self.inside.marks c.args.text.now (suc (length c.args.text.now))) c.deref.ensures.value)
     c.sort_unstable.ensures.permutation (dedup_is nat_eq c.sort_unstable.new.self.items c.dedup.new.self.items c.dedup.ensures.filtered))

@@ -1,31 +1,9 @@
-use Rattle.std.proofs.Common.{[], ◌∷◌, nat_eq, sym, rules, ◌∙◌}
-use Rattle.std.specs.Map.{lookup}
-use Rattle.std.proofs.lemmas.List.{append-nil}
-use Rattle.alias_match.proofs.Buckets.{is_kept, stays_kept, unwrapped}
+use Rattle.std.proofs.Common.{rules, ◌≡◌, length, ◌∙◌}
+use Rattle.alias_match.proofs.Linked.{appended_chained}
 use Rattle.alias_match.proofs.marks.Marks.add.Goals as goal
 
-pub returns-in_err-push-clause-kept : goal.returns-in_err-push-clause-kept
-returns-in_err-push-clause-kept c =
-    rw (sym c.self.view_is)
-    (stays_kept {entries = c.self.inside.places.entries} {number = c.args.number} {had = c.or_insert-bucket.result.now} {bucket = c.push.new.self} {more = []} (record {
-      put = search rules;
-      was = unwrapped c.or_insert-bucket.result.now c.new.result (lookup (nat_eq c.args.number) c.self.inside.places.entries) (cc (c.or_insert-bucket.ensures.value, c.in_ok-self-inside.ensures.value)) c.new.ensures.items;
-      is = c.in_err-push.ensures.items ∙ sym (append-nil c.or_insert-bucket.result.now.items);
-    }))
-
-pub returns-clause-added : goal.returns-clause-added
-returns-clause-added c =
-    (is_kept {entries = c.self.inside.places.entries} {number = c.args.number} {had = c.or_insert-bucket.result.now} {bucket = c.push.new.self} {place = c.args.place} (record {
-      put = search rules;
-      was = unwrapped c.or_insert-bucket.result.now c.new.result (lookup (nat_eq c.args.number) c.self.inside.places.entries) (cc (c.or_insert-bucket.ensures.value, c.in_ok-self-inside.ensures.value)) c.new.ensures.items;
-      is = c.in_ok-push.ensures.items;
-    }))
-
-pub returns-clause-kept : goal.returns-clause-kept
-returns-clause-kept c =
-    rw (sym c.self.view_is)
-    (stays_kept {entries = c.self.inside.places.entries} {number = c.args.number} {had = c.or_insert-bucket.result.now} {bucket = c.push.new.self} {more = c.args.place ∷ []} (record {
-      put = search rules;
-      was = unwrapped c.or_insert-bucket.result.now c.new.result (lookup (nat_eq c.args.number) c.self.inside.places.entries) (cc (c.or_insert-bucket.ensures.value, c.in_ok-self-inside.ensures.value)) c.new.ensures.items;
-      is = c.in_ok-push.ensures.items;
-    }))
+pub chain-requires-clause-chained : goal.chain-requires-clause-chained
+chain-requires-clause-chained c =
+    let all : c.len-place.result ≡ length c.self.inside.links.items = search rules in
+    appended_chained c.self.inside.ends.items c.deref_mut.result.now c.self.inside.links.items c.deref_mut-then-place-len.result.now (record { number = c.args.number; before = 0 }) c.len-place.result
+    (rw all c.self.invariant.chained) all c.deref_mut.ensures.value (c.deref_mut-then-place-len.ensures.value ∙ c.in_ok-push.ensures.items)
