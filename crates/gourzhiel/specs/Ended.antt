@@ -31,10 +31,10 @@ IsEnded Answers before slot number need after =
 abbrev pub LeafEnded : Seated → ℕ → LeafCall → ℕ → Seated → Type 0
 LeafEnded before slot call number after = IsEnded (λ reply. LeafAnswered before.view slot call reply after.view) before slot number 0 after
 
--- a get of so many tries: each was missed, and the view stays, or it ended
+-- a get of so many tries: the leaf holds no reference, each try was missed, and the view stays; or it ended
 abbrev pub GetEnded : Seated → ℕ → ℕ → Seated → Type 0
 GetEnded before slot number after =
-    MatchBool (number == busy) ((slot < slots before.view.world) × SameView before after) (LeafEnded before slot Get number after)
+    MatchBool (number == busy) ((slot < slots before.view.world) × (count_of before.view slot ≡ 0) × SameView before after) (LeafEnded before slot Get number after)
 
 -- a reader's query
 abbrev pub QueryEnded : Seated → ℕ → ℕ → Seated → Type 0

@@ -88,12 +88,13 @@ impl OwnLeaf {
         Some(self.leaf.get(rt, &self.row, slot))
     }
 
-    /// As `get`, but it tries at most this many times. The inner None: each try was missed, and no word and no count is
-    /// changed.
+    /// As `get`, but it tries at most this many times. The inner None: the worker holds no reference to the module, each try
+    /// was missed, and no word and no count is changed.
     pub fn try_get(&mut self, slot: usize, tries: u32) -> Option<Option<Result<(), GetError>>>
         ensures range { MatchOption result ((slots self.old.view.world ≤ slot) × (self.new ≡ self.old)) (λ _. slot < slots self.old.view.world) }
         ensures call { IfSome result (λ o. IfSome o (λ r. LeafAnswered self.old.view slot LeafCall.Get (reply_of get_refusal r) self.new.view)) }
         ensures missed { IfSome result (λ o. IfNone o (SameView self.old self.new × GivenUp tries slot self.old self.new)) }
+        ensures held { IfSome result (λ o. IfNone o (count_of self.old.view slot ≡ 0)) }
         ensures steps { IfSome result (λ o. IfSome o (λ r. TrySteps tries slot (count_of self.old.view slot) (reply_of get_refusal r) self.old self.new)) }
         ensures row { self.new.row ≡ self.old.row }
     {
