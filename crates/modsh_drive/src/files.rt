@@ -1,9 +1,12 @@
 //! The files that stand before standard input.
 ghost use Rattle.std.specs.Prelude.{◌≡◌, ◌++◌, [], OnOk};
+ghost use Rattle.modprobe.specs.Lines.{IfTold};
 ghost use Rattle.modsh_drive.specs.Inputs.{section_text};
 
 use crate::words::{Section, add_section};
-use std::alloc::{AllocError, Global};
+use std::alloc::Global;
+use std::io;
+use std::io::Read;
 
 /// A file that was read: its path, and where its section ends in the joined text.
 #[derive(Clone, Copy, Drop)]
@@ -29,16 +32,17 @@ impl<'a> JoinedFiles<'a> {
         }
     }
 
-    /// Adds a file as a section.
-    pub(crate) fn add(
+    /// Adds what a file has left to read as a section.
+    pub(crate) fn add<F: Read>(
         &mut self,
         section: Section,
         path: &'a str,
-        bytes: &[u8],
-    ) -> Result<(), AllocError>
-        ensures { OnOk result (self.new.text.items ≡ self.old.text.items ++ section_text section bytes.now) }
+        file: &mut F,
+    ) -> io::Result<()>
+        ensures { OnOk result (IfTold (F.remaining file.old) (λ bytes.
+            self.new.text.items ≡ self.old.text.items ++ section_text section bytes)) }
     {
-        add_section(&mut self.text, section, bytes)?;
+        add_section(&mut self.text, section, file)?;
         let end = self.text.len();
         self.files.push(File { path, end })?;
         Ok(())

@@ -16,9 +16,10 @@ use crate::words::section_and_path;
 use clap::error::ErrorKind;
 use modprobe::{FromRead, ServeFault, serve};
 use std::alloc::{AllocError, Global};
+use std::fs::File;
+use std::io;
 use std::io::{Read, Write};
 use std::rt::Files;
-use std::{fs, io};
 
 /// Whether all words have their form. The first that has not is told.
 fn have_form<E: Write>(words: &[&str], asked: Asked, errors: &mut E) -> bool {
@@ -45,11 +46,12 @@ fn add_file<'a, R: Files + AllocGlobal, E: Write>(
     let Some((section, path)) = section_and_path(word) else {
         return Ok(Status::Refused);
     };
-    match fs::read(rt, path) {
-        Ok(bytes) => {
-            files.add(section, path, bytes.as_slice())?;
-            Ok(Status::Done)
-        }
+    let added = match File::open(rt, path) {
+        Ok(mut file) => files.add(section, path, &mut file),
+        Err(error) => Err(error),
+    };
+    match added {
+        Ok(()) => Ok(Status::Done),
         Err(error) if error.kind() == io::ErrorKind::OutOfMemory => Err(AllocError),
         Err(_) => {
             let _ = writeln!(errors, "modsh: cannot read {path}");

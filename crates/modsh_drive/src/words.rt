@@ -1,8 +1,10 @@
 //! The words of the program: sections of its input that are read from files.
 ghost use Rattle.std.specs.Prelude.{◌≡◌, ◌++◌, OnOk};
+ghost use Rattle.modprobe.specs.Lines.{IfTold};
 ghost use Rattle.modsh_drive.specs.Inputs.{section_named, section_line, section_text};
 
-use std::alloc::AllocError;
+use std::io;
+use std::io::Read;
 
 /// A section that a file may be.
 #[derive(Clone, Copy, Debug, PartialEq, Eq, Drop)]
@@ -50,15 +52,18 @@ fn section_line(section: Section) -> &'static [u8]
     }
 }
 
-/// Adds a section of a file's bytes, as they are, with a line feed behind them.
-pub(crate) fn add_section(
+/// Adds a section of a file's bytes, as they are, with a line feed behind them. They are read to where they stay, since
+/// the texts of a kernel's modules have millions.
+pub(crate) fn add_section<F: Read>(
     input: &mut Vec<u8>,
     section: Section,
-    bytes: &[u8],
-) -> Result<(), AllocError>
-    ensures { OnOk result (input.new.items ≡ input.old.items ++ section_text section bytes.now) }
+    file: &mut F,
+) -> io::Result<()>
+    ensures { OnOk result (IfTold (F.remaining file.old) (λ bytes.
+        input.new.items ≡ input.old.items ++ section_text section bytes)) }
 {
     input.extend_from_slice(section_line(section))?;
-    input.extend_from_slice(bytes)?;
-    input.extend_from_slice(b"\n")
+    file.read_to_end(input)?;
+    input.extend_from_slice(b"\n")?;
+    Ok(())
 }
