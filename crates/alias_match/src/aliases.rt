@@ -8,7 +8,7 @@ use crate::alias::Alias;
 use crate::alias_list::AliasList;
 use crate::pattern::Pattern;
 use dep_index::Name;
-use dep_index::text::{is_comment, whole_lines, words};
+use dep_index::text::{find_words, is_comment, whole_lines};
 use std::alloc::{AllocError, Global};
 use std::marker::Model;
 
@@ -52,15 +52,21 @@ impl Aliases {
         Ok(())
     }
 
-    fn add_line(&mut self, alloc: Global, number: usize, line: &[u8]) -> Result<(), AllocError>
+    fn add_line<'a>(
+        &mut self,
+        alloc: Global,
+        words: &mut Vec<&'a [u8]>,
+        number: usize,
+        line: &'a [u8],
+    ) -> Result<(), AllocError>
         ensures { OnOk result (self.new
             ≡ followed_by self.old (line_before alias_of (number, line.now) nothing_read)) }
     {
         if is_comment(line) {
             return Ok(());
         }
-        let words = words(alloc, line)?;
-        self.add_words(alloc, number, &words)
+        find_words(words, line)?;
+        self.add_words(alloc, number, words)
     }
 
     /// How many aliases there are.
@@ -109,10 +115,11 @@ pub fn read_aliases(alloc: Global, text: &[u8]) -> Result<Aliases, AllocError>
     ensures { IfOk result (λ aliases. aliases ≡ aliases_of text.now) }
 {
     let mut aliases = Aliases::new(alloc);
+    let mut words = Vec::new(alloc);
     let mut lines = whole_lines(text);
     let mut number = 1usize;
     'lines: while let Some(line) = lines.next() {
-        aliases.add_line(alloc, number, line)?;
+        aliases.add_line(alloc, &mut words, number, line)?;
         number += 1;
     }
     Ok(aliases)

@@ -47,8 +47,9 @@ fn push_word<'a>(found: &mut Vec<&'a [u8]>, part: &'a [u8]) -> Result<(), AllocE
 }
 
 /// The words of a line, in order, in place of what `found` had: the parts of the line between spaces and tabs that are
-/// not empty. One vector serves line after line, so that few lines take memory.
-pub(crate) fn find_words<'a>(found: &mut Vec<&'a [u8]>, line: &'a [u8]) -> Result<(), AllocError>
+/// not empty. One vector serves line after line, so that few lines take memory. Only want of memory refuses, and what
+/// `found` has then is not said.
+pub fn find_words<'a>(found: &mut Vec<&'a [u8]>, line: &'a [u8]) -> Result<(), AllocError>
     ensures { OnOk result (texts_of found.new.items ≡ words line.now) }
 {
     found.clear();
