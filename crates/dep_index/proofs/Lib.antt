@@ -13,6 +13,7 @@ pub mod NumberLemmas
 pub mod NameLemmas
 pub mod SlotLemmas
 pub mod PairLemmas
+pub mod PieceLemmas
 pub mod LinkLemmas
 pub mod DirectiveLemmas
 pub mod ExportLemmas

@@ -1,5 +1,5 @@
 -- A hashed index of exports answers as a walk over its links does.
-use Rattle.std.proofs.Common.{◌≡◌, ℕ, List, [], ◌∷◌, ◌++◌, Bool, true, false, cond, map, Option, Some, None, is_some, Bor, refl, ap, ◌⊎◌, inl, inr}
+use Rattle.std.proofs.Common.{◌≡◌, ℕ, List, [], ◌∷◌, ◌++◌, Bool, true, false, cond, map, Option, Some, None, is_some, is_none, not, Bor, refl, ap, ◌⊎◌, inl, inr}
 use Rattle.std.specs.Map.{lookup}
 use Rattle.std.specs.Str.{bytes_eq}
 use Rattle.indexmap.specs.IndexMap.{insert_entry}
@@ -27,6 +27,12 @@ insert-links (e ∷ es) k v h = elim (chosen (bytes_eq k.now e.0.now) (Some e.1)
   | inr t ↦ rw t.0 (ap (λ l. link e ∷ l) (insert-links es k v t.1))
 ]
 
-pub none_from : (o : Option ℕ) → is_some o ≡ false → o ≡ None
+pub none_is : (o : Option ℕ) (none : Bool) → is_some o ≡ not none → none ≡ is_none o
+none_is None true h = refl
+none_is None false h = absurd (cc)
+none_is (Some x) true h = absurd (cc)
+none_is (Some x) false h = refl
+
+pub none_from : (o : Option ℕ) → is_none o ≡ true → o ≡ None
 none_from None h = refl
 none_from (Some x) h = absurd (cc)

@@ -9,7 +9,7 @@ use Rattle.std.proofs.lemmas.Option.{get_or_from_slice_get}
 use Rattle.dep_index.specs.Table.{Module, no_module}
 use Rattle.dep_index.specs.Catalogue.{Description, description_at, described, exporter, exports_symbol, is_exported, needs_from, needs_of, has_unknown_symbol, module_of, modules_of, with_need}
 use Rattle.dep_index.specs.declared.details.Details.{Details}
-use Rattle.dep_index.specs.Descriptions.{owned, description_of, descriptions_in}
+use Rattle.dep_index.specs.Descriptions.{description_of, descriptions_in}
 use Rattle.dep_index.specs.Exports.{Link, links_of, slot_at, needs_by}
 use Rattle.dep_index.proofs.ExportLemmas.{link_exporter, link_exported}
 use Rattle.dep_index.proofs.SlotLemmas.{length-modules_of, module_at-modules_of}
@@ -27,11 +27,11 @@ none_is : (o : Option ℕ) → is_none o ≡ not (is_some o)
 none_is None = refl
 none_is (Some x) = refl
 
-unknown_same : (ds : List Description) (ss : List (Vec ℕ Global)) → list_any (λ s. is_none (slot_at (links_of ds) s.items)) ss ≡ list_any (λ s. not (is_exported ds s)) (owned ss)
+unknown_same : (ds : List Description) (ss : List (List ℕ)) → list_any (λ s. is_none (slot_at (links_of ds) s)) ss ≡ list_any (λ s. not (is_exported ds s)) ss
 unknown_same ds [] = refl
 unknown_same ds (s ∷ ss) =
-    ap (λ t. t || list_any (λ (x : Vec ℕ Global). is_none (slot_at (links_of ds) x.items)) ss) (none_is (slot_at (links_of ds) s.items) ∙ ap not (link_exported ds s.items))
-    ∙ ap (λ t. not (is_exported ds s.items) || t) (unknown_same ds ss)
+    ap (λ t. t || list_any (λ x. is_none (slot_at (links_of ds) x)) ss) (none_is (slot_at (links_of ds) s) ∙ ap not (link_exported ds s))
+    ∙ ap (λ t. not (is_exported ds s) || t) (unknown_same ds ss)
 
 if_below : (k n : ℕ) (b : Bool) → nat_lt k n ≡ b → IfSome (cond b (Some k) None) (λ j. j < n)
 if_below k n true e = ltb-true k n e
@@ -44,18 +44,18 @@ slot_within ds n links is len s =
     rw (at, len) (if_below (position_or_len (exports_symbol s) ds) (length ds) (nat_lt (position_or_len (exports_symbol s) ds) (length ds)) refl)
 
 -- the module of the next slot comes behind those before it
-pub next_slot : (entries : List Entry) (links : List Link) (m : ℕ) (e : Entry) (built : List Module) (symbols : List (Vec ℕ Global)) (needs : List ℕ) (unknown : Bool)
-    → links ≡ links_of (descriptions_in entries) → slice_get entries m ≡ Some e → m < length entries → symbols ≡ e.1.needed_symbols.items
-    → built ≡ take m (modules_of (descriptions_in entries)) → needs ≡ needs_by links m [] (owned symbols) → unknown ≡ list_any (λ s. is_none (slot_at links s.items)) symbols
+pub next_slot : (entries : List Entry) (links : List Link) (m : ℕ) (e : Entry) (built : List Module) (symbols : List (List ℕ)) (needs : List ℕ) (unknown : Bool)
+    → links ≡ links_of (descriptions_in entries) → slice_get entries m ≡ Some e → m < length entries → symbols ≡ e.1.needed_symbols
+    → built ≡ take m (modules_of (descriptions_in entries)) → needs ≡ needs_by links m [] symbols → unknown ≡ list_any (λ s. is_none (slot_at links s)) symbols
     → built ++ record { needs = needs; unknown_symbol = unknown; permanent = e.1.permanent } ∷ [] ≡ take (m + 1) (modules_of (descriptions_in entries))
 next_slot entries links m e built symbols needs unknown is here below ss before ns us =
     let ds = descriptions_in entries in
     let inside : m < length ds = omega (arith, below, length-map entries description_of) in
     let at : description_at ds m ≡ description_of e =
     get_or-map description_of entries m e (described []) below ∙ ap description_of (get_or_from_slice_get entries m e e here) in
-    let needed : owned symbols ≡ (description_at ds m).needed_symbols = ap owned ss ∙ ap (λ (d : Description). d.needed_symbols) (sym at) in
-    let own_needs : needs ≡ needs_of ds m = ns ∙ ap (λ ls. needs_by ls m [] (owned symbols)) is ∙ ap (needs_by (links_of ds) m []) needed ∙ needs_same ds m [] (description_at ds m).needed_symbols in
-    let own_unknown : unknown ≡ has_unknown_symbol ds m = us ∙ ap (λ ls. list_any (λ (s : Vec ℕ Global). is_none (slot_at ls s.items)) symbols) is ∙ unknown_same ds symbols ∙ ap (list_any (λ s. not (is_exported ds s))) needed in
+    let needed : symbols ≡ (description_at ds m).needed_symbols = ss ∙ ap (λ (d : Description). d.needed_symbols) (sym at) in
+    let own_needs : needs ≡ needs_of ds m = ns ∙ ap (λ ls. needs_by ls m [] symbols) is ∙ ap (needs_by (links_of ds) m []) needed ∙ needs_same ds m [] (description_at ds m).needed_symbols in
+    let own_unknown : unknown ≡ has_unknown_symbol ds m = us ∙ ap (λ ls. list_any (λ s. is_none (slot_at ls s)) symbols) is ∙ unknown_same ds symbols ∙ ap (list_any (λ s. not (is_exported ds s))) needed in
     let own_permanent : e.1.permanent ≡ (description_at ds m).permanent = ap (λ (d : Description). d.permanent) (sym at) in
     let own : (let x : Module = record { needs = needs; unknown_symbol = unknown; permanent = e.1.permanent } in x) ≡ module_of ds m =
     (λ i. record { needs = own_needs i; unknown_symbol = own_unknown i; permanent = own_permanent i }) in

@@ -5,18 +5,14 @@ use Rattle.dep_index.specs.Catalogue.{Description}
 use Rattle.dep_index.specs.declared.details.Details.{Details}
 use Rattle.dep_index.specs.declared.details.Open.{Open}
 
--- the texts that a list owns
-abbrev pub owned : List (Vec ℕ Global) → List (List ℕ)
-owned texts = map (λ text. text.items) texts
-
 -- a name and what is kept beside it, as a description
 abbrev pub description_in : List ℕ → Details → Description
 description_in name details =
     record {
       name = name;
       size = details.size;
-      exports = owned details.exports.items;
-      needed_symbols = owned details.needed_symbols.items;
+      exports = details.exports;
+      needed_symbols = details.needed_symbols;
       params = details.params.items;
       softneeds = details.softneeds.items;
       permanent = details.permanent;

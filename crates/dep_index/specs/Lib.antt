@@ -10,6 +10,7 @@ pub mod Catalogue
 pub mod Dependencies
 pub mod TextLaws
 pub mod Descriptions
+pub mod Pieces
 pub mod Faults
 pub mod Pairs
 pub mod Exports

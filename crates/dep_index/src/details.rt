@@ -5,7 +5,7 @@ ghost use Rattle.std.specs.Str.{bytes_eq};
 ghost use Rattle.dep_index.specs.Text.{texts_of};
 ghost use Rattle.dep_index.specs.Catalogue.{described, sized, change};
 ghost use Rattle.dep_index.specs.Catalogue as spec;
-ghost use Rattle.dep_index.specs.Descriptions.{owned, open_in};
+ghost use Rattle.dep_index.specs.Descriptions.{open_in};
 ghost use Rattle.dep_index.specs.Directives.{directive_in};
 ghost use Rattle.dep_index.specs.Exports.{export_links, change_links};
 ghost use Rattle.dep_index.specs.Faults.{IsMade};
@@ -15,6 +15,7 @@ use crate::exporters::Exporters;
 use crate::faults::Refused;
 use crate::names::Name;
 use crate::params::{Param, ParamKind};
+use crate::symbols::Symbols;
 use crate::text::is_same;
 use crate::versions::Version;
 use std::alloc::{AllocError, Global};
@@ -23,8 +24,8 @@ use std::alloc::{AllocError, Global};
 #[derive(Drop)]
 pub(crate) struct Details {
     pub(crate) size: Option<u32>,
-    pub(crate) exports: Vec<Vec<u8>>,
-    pub(crate) needed_symbols: Vec<Vec<u8>>,
+    pub(crate) exports: Symbols,
+    pub(crate) needed_symbols: Symbols,
     pub(crate) params: Vec<Param>,
     pub(crate) softneeds: Vec<Name>,
     pub(crate) permanent: bool,
@@ -35,16 +36,6 @@ pub(crate) struct Details {
 pub(crate) struct Open {
     pub(crate) name: Vec<u8>,
     pub(crate) details: Details,
-}
-
-/// Adds copies of the texts.
-fn push_texts(texts: &mut Vec<Vec<u8>>, alloc: Global, more: &[&[u8]]) -> Result<(), AllocError>
-    ensures { OnOk result (owned texts.new.items ≡ owned texts.old.items ++ texts_of more.now) }
-{
-    for text in more {
-        texts.push(Vec::from_slice(alloc, text)?)?;
-    }
-    Ok(())
 }
 
 /// Whether a parameter of the name stands already.
@@ -64,8 +55,8 @@ impl Open {
             name,
             details: Details {
                 size: None,
-                exports: Vec::new(alloc),
-                needed_symbols: Vec::new(alloc),
+                exports: Symbols::new(alloc),
+                needed_symbols: Symbols::new(alloc),
                 params: Vec::new(alloc),
                 softneeds: Vec::new(alloc),
                 permanent: false,
@@ -83,10 +74,10 @@ impl Open {
         Ok(())
     }
 
-    fn need(&mut self, alloc: Global, symbols: &[&[u8]]) -> Result<(), AllocError>
+    fn need(&mut self, symbols: &[&[u8]]) -> Result<(), AllocError>
         ensures { OnOk result (open_in self.new ≡ record (open_in self.old) { needed_symbols = (open_in self.old).needed_symbols ++ texts_of symbols.now }) }
     {
-        push_texts(&mut self.details.needed_symbols, alloc, symbols)
+        self.details.needed_symbols.push_all(symbols)
     }
 
     fn soften(&mut self, mut names: Vec<Name>) -> Result<(), AllocError>
@@ -107,18 +98,18 @@ impl Open {
 
     fn export<'a>(
         &mut self,
-        alloc: Global,
         exporters: &mut Exporters<'a>,
         slot: u16,
         symbols: &[&'a [u8]],
     ) -> Result<(), Refused>
         ensures { IsMade result (export_links exporters.old slot (open_in self.old) (texts_of symbols.now)) (open_in self.new, exporters.new) }
     {
+        self.details.exports.reserve(symbols)?;
         for symbol in symbols {
             if !exporters.add(symbol, slot)? {
                 return Err(Refused::TwiceExported);
             }
-            self.details.exports.push(Vec::from_slice(alloc, symbol)?)?;
+            self.details.exports.push(symbol)?;
         }
         Ok(())
     }
@@ -126,7 +117,6 @@ impl Open {
     /// Takes what a line says of this module in the slot.
     pub(crate) fn change<'a>(
         &mut self,
-        alloc: Global,
         version: Version,
         exporters: &mut Exporters<'a>,
         slot: u16,
@@ -138,8 +128,8 @@ impl Open {
         match directive {
             Directive::Version(_) | Directive::Module(_) => return Err(Refused::Bad),
             Directive::Size(n) => self.set_size(n)?,
-            Directive::Exports(symbols) => self.export(alloc, exporters, slot, symbols)?,
-            Directive::Needs(symbols) => self.need(alloc, symbols)?,
+            Directive::Exports(symbols) => self.export(exporters, slot, symbols)?,
+            Directive::Needs(symbols) => self.need(symbols)?,
             Directive::Softneeds(names) => {
                 if !version.has_softneeds() {
                     return Err(Refused::Bad);

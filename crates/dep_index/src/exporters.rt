@@ -1,5 +1,5 @@
 //! Which module exports a symbol.
-ghost use Rattle.std.specs.Prelude.{◌≡◌, [], ◌∷◌, ◌++◌, is_none, IfOk, if◌then◌else◌};
+ghost use Rattle.std.specs.Prelude.{◌≡◌, true, [], ◌∷◌, ◌++◌, is_none, IfOk};
 ghost use Rattle.dep_index.specs.Exports.{slot_at};
 
 use indexmap::IndexMap;
@@ -37,15 +37,12 @@ impl<'a> Exporters<'a> {
         self.by_symbol.get(symbol).copied()
     }
 
-    /// Adds the symbol, where it is new, and says whether it is.
+    /// Adds the symbol with the slot, and says whether it is new. One that is there has this slot then.
     pub(crate) fn add(&mut self, symbol: &'a [u8], slot: u16) -> Result<bool, AllocError>
         ensures added { IfOk result (λ is_new. is_new ≡ is_none (slot_at self.old symbol.now)) }
-        ensures links { IfOk result (λ is_new. self.new ≡ (if is_new then self.old ++ (symbol.now, slot) ∷ [] else self.old)) }
+        ensures links { IfOk result (λ is_new. is_new ≡ true → self.new ≡ self.old ++ (symbol.now, slot) ∷ []) }
     {
-        if self.slot(symbol).is_some() {
-            return Ok(false);
-        }
-        self.by_symbol.insert(symbol, slot)?;
-        Ok(true)
+        let before = self.by_symbol.insert(symbol, slot)?;
+        Ok(before.is_none())
     }
 }

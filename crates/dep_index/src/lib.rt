@@ -21,6 +21,7 @@ pub mod reads;
 mod refusals;
 mod slots;
 mod states;
+mod symbols;
 pub mod text;
 mod versions;
 pub mod words;

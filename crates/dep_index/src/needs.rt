@@ -2,13 +2,14 @@
 ghost use Rattle.std.specs.Prelude.{◌≡◌, ◌+◌, ◌<◌, ◌≤◌, ℕ, List, [], is_none, length, slice_index, Some, IfOk, IfSome, OnOk};
 ghost use Rattle.std.specs.List.{list_any};
 ghost use Rattle.dep_index.specs.Catalogue.{modules_of, with_need};
-ghost use Rattle.dep_index.specs.Descriptions.{owned, descriptions_in};
+ghost use Rattle.dep_index.specs.Descriptions.{descriptions_in};
 ghost use Rattle.dep_index.specs.Exports.{slot_at, links_of, needs_by};
 ghost use Rattle.dep_index.specs.Marks.{IsMarked};
 
 use crate::details::Details;
 use crate::exporters::Exporters;
 use crate::slots::Slots;
+use crate::symbols::Symbols;
 use indexmap::IndexMap;
 use std::alloc::{AllocError, Global};
 
@@ -47,22 +48,24 @@ fn needs_of(
     exporters: &Exporters<'_>,
     marks: &mut [u16],
     slot: u16,
-    symbols: &[Vec<u8>],
+    symbols: &Symbols,
 ) -> Result<Needs, AllocError>
     requires small { slot < 65535 }
     requires slots { (s : List ℕ) → IfSome (slot_at exporters.now s) (λ k. k < length marks.old) }
     requires marks { (k : ℕ) → slice_index marks.old k ≤ slot }
-    ensures needs { IfOk result (λ needs. needs.slots.items ≡ needs_by exporters.now slot [] (owned symbols.now)) }
-    ensures unknown { IfOk result (λ needs. needs.unknown_symbol ≡ list_any (λ s. is_none (slot_at exporters.now s.items)) symbols.now) }
+    ensures needs { IfOk result (λ needs. needs.slots.items ≡ needs_by exporters.now slot [] symbols.now) }
+    ensures unknown { IfOk result (λ needs. needs.unknown_symbol ≡ list_any (λ s. is_none (slot_at exporters.now s)) symbols.now) }
     ensures marks { OnOk result ((k : ℕ) → slice_index marks.new k ≤ slot + 1) }
 {
     let mut slots = Vec::new(alloc);
     let mut unknown_symbol = false;
-    for symbol in symbols {
+    let mut left = symbols.iter();
+    'symbols: while let Some((symbol, rest)) = left.split_first() {
         match exporters.slot(symbol) {
             Some(k) => add_need(&mut slots, marks, slot, slot + 1, k)?,
             None => unknown_symbol = true,
         }
+        left = rest;
     }
     Ok(Needs {
         slots,

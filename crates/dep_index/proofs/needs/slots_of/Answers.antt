@@ -1,4 +1,4 @@
-use Rattle.std.proofs.Common.{◌≡◌, ◌∙◌, ◌<◌, ap, sym, length, Some, is_none, arith, take_all, ℕ, Vec}
+use Rattle.std.proofs.Common.{◌≡◌, ◌∙◌, ◌<◌, refl, ap, sym, length, Some, is_none, arith, take_all, ℕ, Vec}
 use Rattle.std.specs.declared.alloc.Global.{Global}
 use Rattle.std.specs.Map.Iter.{deref_pair}
 use Rattle.std.specs.Option.{option_map}
@@ -23,8 +23,8 @@ loop-slot-preserved c =
     record {
       slots =
           c.in_ok-push.ensures.added
-          ∙ next_slot c.args.modules.now.entries c.args.exporters.now c.loop-slot.slot entry c.loop-slot.slots c.deref.result.now c.in_ok-needs.needs.slots.items c.in_ok-needs.needs.unknown_symbol
-          c.requires.links here below c.deref.ensures.value c.loop-slot.invariant.slots c.in_ok-needs.ensures.needs
+          ∙ next_slot c.args.modules.now.entries c.args.exporters.now c.loop-slot.slot entry c.loop-slot.slots entry.1.needed_symbols c.in_ok-needs.needs.slots.items c.in_ok-needs.needs.unknown_symbol
+          c.requires.links here below refl c.loop-slot.invariant.slots c.in_ok-needs.ensures.needs
           c.in_ok-needs.ensures.unknown;
       len = omega arith;
       marks = c.in_ok-needs.ensures.marks;
