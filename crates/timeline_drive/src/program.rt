@@ -1,6 +1,6 @@
 //! The program over any input and output.
-ghost use Rattle.std.specs.Prelude.{◌≡◌};
 ghost use Rattle.timeline_drive.specs.declared.program.Fault.TheVariants as faults;
+ghost use Rattle.std.specs.Prelude.{◌≡◌, ◌≤◌};
 
 use crate::reports::{ReportFault, read_report};
 use crate::svg::svg_text;
@@ -151,7 +151,9 @@ pub fn drive<I: Read, O: Write, E: Write>(
     reader: &mut I,
     writer: &mut O,
     errors: &mut E,
-) -> u8 {
+) -> u8
+    ensures { result ≤ 3 }
+{
     let status = match drive_or_fail(alloc, words, reader, writer, errors) {
         Ok(status) => status,
         Err(_) => {

@@ -9,28 +9,18 @@ ghost use Rattle.timeline_drive.specs.Reports.{line_at, entries_in, IsReport, Re
 use crate::entries::{Entry, entry_of};
 use dep_index::text::whole_lines;
 use std::alloc::{AllocError, AllocFailed, Global};
-use std::error::Error;
-use std::fmt;
+use thiserror::Error;
 
 /// Why a text is no report.
-#[derive(Clone, Copy, Debug, PartialEq, Eq, Drop)]
+#[derive(Clone, Copy, Debug, PartialEq, Eq, Drop, Error)]
 pub enum ReportFault {
     /// This line, from 1, is the first that is none of a report at its place.
+    #[error("R1 line {0}")]
     Line(usize),
     /// There was no memory.
+    #[error("out of memory")]
     Memory,
 }
-
-impl fmt::Display for ReportFault {
-    fn fmt<W: fmt::Write>(&self, f: &mut fmt::Formatter<W>) -> fmt::Result {
-        match *self {
-            ReportFault::Line(line) => write!(f, "R1 line {line}"),
-            ReportFault::Memory => write!(f, "out of memory"),
-        }
-    }
-}
-
-impl Error for ReportFault {}
 
 impl From<AllocError> for ReportFault {
     ghost use Rattle.timeline_drive.specs.declared.reports.ReportFault.TheVariants.{Memory};
