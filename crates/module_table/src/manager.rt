@@ -10,7 +10,7 @@ use dep_index::{
 use root_row::Row;
 use std::alloc::{AllocError, Global};
 use std::marker::Model;
-use std::sync::{Arc, Mutex, Wait};
+use std::sync::{Arc, Mutex, MutexGuard, Wait};
 use use_indicator::Reader;
 
 /// A row of root words, a lock for each worker's leaf and one for the book. Contracts see its row.
@@ -89,7 +89,10 @@ impl Manager {
     pub fn leaf(&self, worker: usize) -> Option<&Mutex<OwnLeaf>>
         ensures { IsNone result ↔ (self.now.world.workers ≤ worker) }
     {
-        Some(self.leaves.get(worker)?)
+        if worker >= self.leaves.len() {
+            return None;
+        }
+        Some(&self.leaves[worker])
     }
 
     /// The lock of the book.
@@ -133,7 +136,7 @@ impl Manager {
         ensures worker { self.now.world.workers ≤ worker → IsNone result }
         ensures slot { slots self.now.world ≤ slot → IsNone result }
     {
-        self.leaf_for(worker, slot)?.lock(rt).held(slot)
+        lock_leaf(rt, self.leaf_for(worker, slot)?).held(slot)
     }
 
     /// Takes one reference for the worker.
@@ -141,7 +144,7 @@ impl Manager {
         ensures worker { self.now.world.workers ≤ worker → IsNone result }
         ensures slot { slots self.now.world ≤ slot → IsNone result }
     {
-        self.leaf_for(worker, slot)?.lock(rt).get(rt, slot)
+        lock_leaf(rt, self.leaf_for(worker, slot)?).get(rt, slot)
     }
 
     /// Gives one reference of the worker back.
@@ -149,7 +152,7 @@ impl Manager {
         ensures worker { self.now.world.workers ≤ worker → IsNone result }
         ensures slot { slots self.now.world ≤ slot → IsNone result }
     {
-        self.leaf_for(worker, slot)?.lock(rt).put(slot)
+        lock_leaf(rt, self.leaf_for(worker, slot)?).put(slot)
     }
 
     /// Begins a load.
@@ -210,4 +213,19 @@ impl Manager {
     {
         self.book_for(place)?.lock(rt).loaded_at(place)
     }
+}
+
+// A lock that another has is waited for in a call of its own, so that taking a free one saves no registers.
+#[inline(always)]
+fn lock_leaf<'a, R: Wait>(rt: &R, lock: &'a Mutex<OwnLeaf>) -> MutexGuard<'a, OwnLeaf> {
+    match lock.try_lock() {
+        Some(leaf) => leaf,
+        None => wait_for(rt, lock),
+    }
+}
+
+#[cold]
+#[inline(never)]
+fn wait_for<'a, R: Wait>(rt: &R, lock: &'a Mutex<OwnLeaf>) -> MutexGuard<'a, OwnLeaf> {
+    lock.lock(rt)
 }
