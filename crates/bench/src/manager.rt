@@ -24,6 +24,8 @@ impl Worker for ManagerWorker<'_> {
         let _ = self.manager.put(rt, self.number, slot);
     }
 
+    // In a function of its own the loop keeps its registers.
+    #[inline(never)]
     fn make_pairs<R: Wait>(&mut self, rt: &R, range: SlotRange, rounds: u64) {
         for _ in 0..rounds {
             self.make_round(rt, range);
@@ -34,9 +36,10 @@ impl Worker for ManagerWorker<'_> {
 impl ManagerWorker<'_> {
     /// A reference to each is taken and given back.
     fn make_round<R: Wait>(&mut self, rt: &R, range: SlotRange) {
+        let manager = self.manager;
         for slot in range.from..range.to {
-            let _ = self.manager.get(rt, self.number, slot);
-            let _ = self.manager.put(rt, self.number, slot);
+            let _ = manager.get(rt, self.number, slot);
+            let _ = manager.put(rt, self.number, slot);
         }
     }
 }
