@@ -10,6 +10,7 @@ use Rattle.root_row.specs.Seats.{Seated}
 use Rattle.root_row.specs.Steps.{LeafAnswered, ReaderAnswered}
 use Rattle.root_row.specs.StepsMade.{SameView}
 use Rattle.root_row.specs.BookSteps.{BookAnswered}
+use Rattle.use_indicator.specs.Counted.{GivenUp}
 use Rattle.gourzhiel.specs.Numbers.{reply_at, state_at, busy, out_of_range}
 
 -- the slot is none of the table, and nothing changed
@@ -31,10 +32,16 @@ IsEnded Answers before slot number need after =
 abbrev pub LeafEnded : Seated → ℕ → LeafCall → ℕ → Seated → Type 0
 LeafEnded before slot call number after = IsEnded (λ reply. LeafAnswered before.view slot call reply after.view) before slot number 0 after
 
--- a get of so many tries: the leaf holds no reference, each try was missed, and the view stays; or it ended
-abbrev pub GetEnded : Seated → ℕ → ℕ → Seated → Type 0
-GetEnded before slot number after =
-    MatchBool (number == busy) ((slot < slots before.view.world) × (count_of before.view slot ≡ 0) × SameView before after) (LeafEnded before slot Get number after)
+-- a get of so many tries was busy: the leaf holds no reference, all tries were made and missed, and the view stays
+pub record WasBusy (before : Seated) (slot tries : ℕ) (after : Seated) : Type 0 where
+  pub inside : slot < slots before.view.world
+  pub none_held : count_of before.view slot ≡ 0
+  pub view : SameView before after
+  pub missed : GivenUp tries slot before after
+
+-- a get of so many tries: it was busy, or it ended
+abbrev pub GetEnded : Seated → ℕ → ℕ → ℕ → Seated → Type 0
+GetEnded before slot tries number after = MatchBool (number == busy) (WasBusy before slot tries after) (LeafEnded before slot Get number after)
 
 -- a reader's query
 abbrev pub QueryEnded : Seated → ℕ → ℕ → Seated → Type 0

@@ -10,7 +10,7 @@ use root_row::LeafCall;
 
 #[inline(always)]
 fn get(leaf: &mut OwnLeaf, slot: usize, tries: u32) -> u32
-    ensures { GetEnded leaf.old slot result leaf.new }
+    ensures { GetEnded leaf.old slot tries result leaf.new }
 {
     match leaf.try_get(slot, tries) {
         None => OUT_OF_RANGE,
@@ -47,7 +47,7 @@ fn held(leaf: &OwnLeaf, slot: usize, count: &mut u32) -> u32
 fn end_get(mut leaf: Box<OwnLeaf>, back: &mut GzLeaf, slot: usize, tries: u32) -> u32
     requires empty { back.old.full ≡ false }
     ensures full { back.new.full ≡ true }
-    ensures call { GetEnded leaf.value slot result back.new.held }
+    ensures call { GetEnded leaf.value slot tries result back.new.held }
 {
     let number = get(&mut leaf, slot, tries);
     *back = GzLeaf::new(leaf);
@@ -59,7 +59,7 @@ fn end_get(mut leaf: Box<OwnLeaf>, back: &mut GzLeaf, slot: usize, tries: u32) -
 fn end_first_get(leaf: Box<OwnLeaf>, back: &mut GzLeaf, slot: usize, tries: u32) -> u32
     requires empty { back.old.full ≡ false }
     ensures full { back.new.full ≡ true }
-    ensures call { GetEnded leaf.value slot result back.new.held }
+    ensures call { GetEnded leaf.value slot tries result back.new.held }
 {
     end_get(leaf, back, slot, tries)
 }
@@ -73,7 +73,7 @@ pub extern "C" fn gz_leaf_get(leaf: GzLeaf, back: &mut GzLeaf, slot: usize, trie
     requires full { leaf.full ≡ true }
     requires empty { back.old.full ≡ false }
     ensures full { back.new.full ≡ true }
-    ensures call { GetEnded leaf.held slot result back.new.held }
+    ensures call { GetEnded leaf.held slot tries result back.new.held }
 {
     let leaf = leaf.into_box();
     if leaf.held(slot) == Some(0) {
