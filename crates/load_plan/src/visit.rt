@@ -157,13 +157,9 @@ fn first_left(graph: &DependencyGraph, stage: Stage) -> Option<(&Target, Stage)>
     ensures within { IfSome result (λ x. is_within (length graph.entry.now) x.0.now ≡ true) }
     ensures next { IfSome result (λ x. x.1 ≡ next_stage stage) }
 {
-    match target_at(graph.targets(stage.slot, stage.phase), stage.visited) {
-        Some(target) => {
-            let visited = stage.visited + 1;
-            Some((target, Stage { visited, ..stage }))
-        }
-        None => None,
-    }
+    let target = target_at(graph.targets(stage.slot, stage.phase), stage.visited)?;
+    let visited = stage.visited + 1;
+    Some((target, Stage { visited, ..stage }))
 }
 
 /// What comes behind the last target of a phase.
