@@ -1,5 +1,5 @@
 -- The text of a line of a report, read again.
-use Rattle.std.proofs.Common.{◌≡◌, ◌==◌, ◌<◌, ◌≤◌, ◌+◌, nat_le, nat_lt, Bool, true, false, not, ◌&&◌, eqb, List, [], ◌∷◌, ◌++◌}
+use Rattle.std.proofs.Common.{◌≡◌, ◌==◌, ◌<◌, ◌≤◌, nat_le, nat_lt, Bool, true, false, not, ◌&&◌, eqb, List, [], ◌∷◌}
 use Rattle.std.proofs.Common.{length, get_or, codes, decimal, refl, sym, ◌∙◌, ap, arith, rules, ℕ, zero, suc, Option, Some, None, All}
 use Rattle.std.specs.List.{list_all, slice_split, join_with_byte}
 use Rattle.std.specs.Str.{bytes_eq}
@@ -11,15 +11,17 @@ use Rattle.std.proofs.lemmas.List.Splits.{slice_split_at, slice_split_none}
 use Rattle.std.proofs.lemmas.Str.Parse.{IsNumeralModel, numerals_by_fold}
 use Rattle.std.proofs.lemmas.Fmt.{digits_decimal, digits_value-decimal, decimal_nonempty, length-decimal-le, first_decimal, decimal_digit}
 use Rattle.dep_index.specs.Text.{is_name, is_name_byte, is_digit, digits_from}
-use Rattle.timeline_drive.specs.declared.verbs.Verb.{Verb}
-use Rattle.timeline_drive.specs.declared.verbs.Verb.TheVariants.{Get, Put, Query, BeginLoad, EndLoad, BeginDrain, BeginRemove, EndRemove}
-use Rattle.timeline_drive.specs.declared.replies.Reply.{Reply}
-use Rattle.timeline_drive.specs.declared.replies.Reply.TheVariants as reply
+use Rattle.call_words.specs.declared.verb.Verb.{Verb}
+use Rattle.call_words.specs.declared.verb.Verb.TheVariants.{Get, Put, Query, BeginLoad, EndLoad, BeginDrain, BeginRemove, EndRemove}
+use Rattle.call_words.specs.declared.reply.ReplyWord.{ReplyWord}
+use Rattle.call_words.specs.declared.reply.ReplyWord.TheVariants as reply
+use Rattle.call_words.specs.Replies.{reply_of, reply_text}
+use Rattle.call_words.specs.Calls.{call_words}
 use Rattle.timeline_drive.specs.declared.entries.Effect.{Effect}
-use Rattle.timeline_drive.specs.Words.{leads_with_zero, decimal_within, thread_of, reply_text, reply_of}
-use Rattle.timeline_drive.specs.Entries.{Times, Entry, Call, is_shown_name, call_of, last_of, effect_of, is_ordered, lies_within, times_of, entry_of}
-use Rattle.timeline_drive.specs.Reports.{numbered, line_at}
-use Rattle.timeline_drive.specs.Texts.{call_words, last_text, point_text, answer_text, times_words, line_words}
+use Rattle.timeline_drive.specs.Numbers.{leads_with_zero, decimal_within}
+use Rattle.timeline_drive.specs.Entries.{Times, Entry, is_shown_name, call_of, last_of, effect_of, is_ordered, times_of, entry_of}
+use Rattle.timeline_drive.specs.Reports.{numbered}
+use Rattle.timeline_drive.specs.Texts.{last_text, point_text, answer_text, times_words, line_words}
 use Rattle.timeline_drive.specs.Texts.{line_text, HasWorker, IsLast, IsEffect, IsEntry, ReadsBack}
 
 -- no byte of the text is a space
@@ -101,7 +103,7 @@ number_back limit n small bound =
     (length-decimal-le 10 n (omega arith) (omega (arith, small, bound)) (omega (arith, small, bound))) (digits_value-decimal numerals n (omega (arith, small, bound)))
     small (unled n (omega (arith, small, bound)))
 
-reply_back : (r : Reply) → reply_of (reply_text r) ≡ Some r
+reply_back : (r : ReplyWord) → reply_of (reply_text r) ≡ Some r
 reply_back reply.Done = refl
 reply_back reply.Yes = refl
 reply_back reply.No = refl
@@ -118,7 +120,7 @@ reply_back reply.Permanent = refl
 reply_back reply.InUse = refl
 reply_back reply.NotUnloading = refl
 
-free_reply : (r : Reply) → Free (reply_text r)
+free_reply : (r : ReplyWord) → Free (reply_text r)
 free_reply reply.Done = free_codes (codes "ok") refl
 free_reply reply.Yes = free_codes (codes "yes") refl
 free_reply reply.No = free_codes (codes "no") refl

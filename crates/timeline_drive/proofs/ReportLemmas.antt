@@ -1,6 +1,6 @@
 -- The lines of a report, one on.
-use Rattle.std.proofs.Common.{arith, ◌≡◌, ℕ, ◌+◌, zero, suc, List, [], ◌∷◌, ◌++◌, length}
-use Rattle.std.proofs.Common.{map, position, refl, sym, ap, ◌∙◌, Option, Some, None, zero-add, append_assoc}
+use Rattle.std.proofs.Common.{arith, ◌≡◌, ℕ, ◌+◌, suc, List, [], ◌∷◌, ◌++◌, length}
+use Rattle.std.proofs.Common.{map, position, sym, ap, ◌∙◌, Option, Some, None, zero-add, append_assoc}
 use Rattle.std.specs.Prelude.{is_none}
 use Rattle.std.specs.List.{position_from}
 use Rattle.std.specs.Option.{option_map}

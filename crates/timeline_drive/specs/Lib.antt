@@ -1,4 +1,4 @@
-pub mod Words
+pub mod Numbers
 pub mod Entries
 pub mod Reports
 pub mod Escapes

@@ -1,24 +1,13 @@
 -- The text of a line of a report.
-use Rattle.std.specs.Prelude.{◌≡◌, ◌≤◌, ℕ, Bool, true, false, List, [], ◌∷◌, ◌++◌, codes, decimal, Option, Some, None}
+use Rattle.std.specs.Prelude.{◌≡◌, ◌≤◌, ℕ, true, List, [], ◌∷◌, codes, decimal, Option, Some, None}
 use Rattle.std.specs.List.{join_with_byte}
-use Rattle.timeline_drive.specs.declared.verbs.Verb.{Verb}
-use Rattle.timeline_drive.specs.declared.verbs.Verb.TheVariants.{Get, Put, Query, BeginLoad, EndLoad, BeginDrain, BeginRemove, EndRemove}
+use Rattle.call_words.specs.declared.verb.Verb.{Verb}
+use Rattle.call_words.specs.declared.verb.Verb.TheVariants.{Get, Put}
+use Rattle.call_words.specs.Replies.{reply_text}
+use Rattle.call_words.specs.Calls.{call_words}
 use Rattle.timeline_drive.specs.declared.entries.Effect.{Effect}
-use Rattle.timeline_drive.specs.Words.{reply_text}
 use Rattle.timeline_drive.specs.Entries.{Times, Entry, is_shown_name, is_ordered}
 use Rattle.timeline_drive.specs.Reports.{line_at}
-
--- the words of a call, before those of its times
-abbrev pub call_words : Verb → List ℕ → List (List ℕ) → List (List ℕ)
-call_words (Get worker) name times = codes "get" ∷ decimal worker ∷ name ∷ times
-call_words (Put worker) name times = codes "put" ∷ decimal worker ∷ name ∷ times
-call_words Query name times = codes "query" ∷ name ∷ times
-call_words BeginLoad name times = codes "begin_load" ∷ name ∷ times
-call_words (EndLoad true) name times = codes "end_load" ∷ name ∷ codes "ok" ∷ times
-call_words (EndLoad false) name times = codes "end_load" ∷ name ∷ codes "fail" ∷ times
-call_words BeginDrain name times = codes "begin_drain" ∷ name ∷ times
-call_words BeginRemove name times = codes "begin_remove" ∷ name ∷ times
-call_words EndRemove name times = codes "end_remove" ∷ name ∷ times
 
 -- the last step, or `-`
 abbrev pub last_text : Option ℕ → List ℕ

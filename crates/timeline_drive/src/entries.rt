@@ -3,13 +3,11 @@ ghost use Rattle.std.specs.Prelude.{◌≡◌, ◌==◌, not};
 ghost use Rattle.std.specs.List.{list_all};
 ghost use Rattle.std.specs.Option.{option_map};
 ghost use Rattle.dep_index.specs.Text.{texts_of};
-ghost use Rattle.timeline_drive.specs.Words.{decimal_within};
-ghost use Rattle.timeline_drive.specs.Entries.{entry_in, call_in, found_in, times_in, is_shown_name, on_name, on_worker, on_load_end, call_of};
-ghost use Rattle.timeline_drive.specs.Entries.{last_of, effect_of, is_ordered, ordered, times_with, after, times_of, timed, entry_behind, entry_of};
+ghost use Rattle.call_words.specs.Calls.{said_in};
+ghost use Rattle.timeline_drive.specs.Entries.{entry_in, found_in, times_in, is_shown_name, call_of, last_of, effect_of, is_ordered, after, times_of, entry_of};
 
-use crate::numbers::{index_of, thread_of};
-use crate::replies::{Reply, reply_of};
-use crate::verbs::{Verb, load_end, verb_of, with_worker};
+use crate::numbers::{LAST_THREAD, decimal_within, index_of, thread_of};
+use call_words::{ReplyWord, Said, Verb};
 use dep_index::text::{is_name, is_same};
 
 /// Where a call takes effect, and what it answers there.
@@ -17,7 +15,7 @@ use dep_index::text::{is_name, is_same};
 pub struct Effect {
     /// The index of the call's point.
     pub point: u32,
-    pub reply: Reply,
+    pub reply: ReplyWord,
 }
 
 /// A call of a report.
@@ -35,14 +33,6 @@ pub struct Entry<'a> {
     pub last: Option<u32>,
     /// None while it has not taken effect.
     pub effect: Option<Effect>,
-}
-
-/// A call, and the words after it.
-#[derive(Clone, Copy, Drop)]
-struct Call<'w, 'a> {
-    verb: Verb,
-    name: &'a [u8],
-    later: &'w [&'a [u8]],
 }
 
 /// A word, and the words behind it.
@@ -73,52 +63,18 @@ fn is_shown_name(word: &[u8]) -> bool
     is_name(word) && has_no_dash(word)
 }
 
-fn on_name<'w, 'a>(
-    verb: Option<Verb>,
-    name: &'a [u8],
-    later: &'w [&'a [u8]],
-) -> Option<Call<'w, 'a>>
-    ensures { option_map call_in result ≡ on_name verb name.now (texts_of later.now) }
-{
-    match verb {
-        Some(verb) if is_shown_name(name) => Some(Call { verb, name, later }),
-        _ => None,
-    }
-}
-
-fn on_worker<'w, 'a>(word: &[u8], worker: &[u8], words: &'w [&'a [u8]]) -> Option<Call<'w, 'a>>
-    ensures { option_map call_in result ≡ on_worker word.now worker.now (texts_of words.now) }
-{
-    match words {
-        [name, later @ ..] => on_name(with_worker(word, worker), name, later),
-        _ => None,
-    }
-}
-
-fn on_load_end<'w, 'a>(name: &'a [u8], words: &'w [&'a [u8]]) -> Option<Call<'w, 'a>>
-    ensures { option_map call_in result ≡ on_load_end name.now (texts_of words.now) }
-{
-    match words {
-        [end, later @ ..] => on_name(load_end(end), name, later),
-        _ => None,
-    }
-}
-
 /// The call that words begin with.
-fn call_of<'w, 'a>(words: &'w [&'a [u8]]) -> Option<Call<'w, 'a>>
-    ensures { option_map call_in result ≡ call_of (texts_of words.now) }
+fn call_of<'w, 'a>(words: &'w [&'a [u8]]) -> Option<Said<'w, 'a>>
+    ensures { option_map said_in result ≡ call_of (texts_of words.now) }
 {
-    match words {
-        [word, second, later @ ..] => {
-            if is_same(word, b"get") || is_same(word, b"put") {
-                on_worker(word, second, later)
-            } else if is_same(word, b"end_load") {
-                on_load_end(second, later)
-            } else {
-                on_name(verb_of(word), second, later)
-            }
-        }
-        _ => None,
+    let [_, worker, ..] = words else {
+        return None;
+    };
+    let said = call_words::call_of(words, decimal_within(LAST_THREAD, worker))?;
+    if is_shown_name(said.name) {
+        Some(said)
+    } else {
+        None
     }
 }
 
@@ -128,10 +84,7 @@ fn last_of(word: &[u8]) -> Option<Option<u32>>
     if is_same(word, b"-") {
         return Some(None);
     }
-    match index_of(word) {
-        Some(last) => Some(Some(last)),
-        None => None,
-    }
+    Some(Some(index_of(word)?))
 }
 
 fn effect_of(point: &[u8], reply: &[u8]) -> Option<Option<Effect>>
@@ -140,10 +93,9 @@ fn effect_of(point: &[u8], reply: &[u8]) -> Option<Option<Effect>>
     if is_same(point, b"-") && is_same(reply, b"-") {
         return Some(None);
     }
-    match (index_of(point), reply_of(reply)) {
-        (Some(point), Some(reply)) => Some(Some(Effect { point, reply })),
-        _ => None,
-    }
+    let point = index_of(point)?;
+    let reply = ReplyWord::of_word(reply)?;
+    Some(Some(Effect { point, reply }))
 }
 
 /// Whether the point lies within the call; one that has returned has a point.
@@ -154,26 +106,6 @@ fn is_ordered(times: Times) -> bool
         (Some(effect), Some(last)) => times.first <= effect.point && effect.point <= last,
         (Some(effect), None) => times.first <= effect.point,
         (None, last) => last.is_none(),
-    }
-}
-
-fn ordered(times: Times) -> Option<Times>
-    ensures { option_map times_in result ≡ ordered (times_in times) }
-{
-    if is_ordered(times) { Some(times) } else { None }
-}
-
-/// The times that four words are.
-fn times_in_words(first: &[u8], last: &[u8], point: &[u8], reply: &[u8]) -> Option<Times>
-    ensures { option_map times_in result ≡ times_with (decimal_within 999999 first.now) (last_of last.now) (effect_of point.now reply.now) }
-{
-    match (index_of(first), last_of(last), effect_of(point, reply)) {
-        (Some(first), Some(last), Some(effect)) => ordered(Times {
-            first,
-            last,
-            effect,
-        }),
-        _ => None,
     }
 }
 
@@ -198,45 +130,33 @@ fn times_of(words: &[&[u8]]) -> Option<Times>
     if !reply.later.is_empty() {
         return None;
     }
-    times_in_words(first.value, last.value, point.value, reply.value)
-}
-
-fn timed<'a>(number: u32, thread: u8, call: Call<'_, 'a>) -> Option<Entry<'a>>
-    ensures { option_map entry_in result ≡ timed number thread (call_in call.entry) (times_of (texts_of call.entry.later.now)) }
-{
-    match times_of(call.later) {
-        Some(times) => Some(Entry {
-            number,
-            thread,
-            verb: call.verb,
-            name: call.name,
-            first: times.first,
-            last: times.last,
-            effect: times.effect,
-        }),
-        None => None,
-    }
-}
-
-/// The entry of a number and the words after it.
-fn entry_behind<'a>(number: &[u8], words: &[&'a [u8]]) -> Option<Entry<'a>>
-    ensures { option_map entry_in result ≡ entry_behind number.now (texts_of words.now) }
-{
-    let [thread, later @ ..] = words else {
-        return None;
+    let times = Times {
+        first: index_of(first.value)?,
+        last: last_of(last.value)?,
+        effect: effect_of(point.value, reply.value)?,
     };
-    match (index_of(number), thread_of(thread), call_of(later)) {
-        (Some(number), Some(thread), Some(call)) => timed(number, thread, call),
-        _ => None,
-    }
+    if is_ordered(times) { Some(times) } else { None }
 }
 
 /// The entry that the words of a line are; None where they are none.
 pub(crate) fn entry_of<'a>(words: &[&'a [u8]]) -> Option<Entry<'a>>
     ensures { option_map entry_in result ≡ entry_of (texts_of words.now) }
 {
-    match after(b"call", words) {
-        Some(found) => entry_behind(found.value, found.later),
-        None => None,
-    }
+    let found = after(b"call", words)?;
+    let [thread, call @ ..] = found.later else {
+        return None;
+    };
+    let number = index_of(found.value)?;
+    let thread = thread_of(thread)?;
+    let said = call_of(call)?;
+    let times = times_of(said.later)?;
+    Some(Entry {
+        number,
+        thread,
+        verb: said.verb,
+        name: said.name,
+        first: times.first,
+        last: times.last,
+        effect: times.effect,
+    })
 }

@@ -12,14 +12,11 @@ pub mod laws;
 mod layout;
 mod numbers;
 mod program;
-mod replies;
 mod reports;
 mod svg;
 mod terminal;
-mod verbs;
 
+pub use call_words::{ReplyWord, Verb};
 pub use entries::{Effect, Entry};
 pub use program::drive;
-pub use replies::Reply;
 pub use reports::{ReportFault, read_report};
-pub use verbs::Verb;

@@ -1,7 +1,7 @@
 //! Numbers of a report.
 ghost use Rattle.std.specs.Prelude.{◌≡◌, ◌≤◌, ◌==◌, ◌&&◌, nat_lt, length, slice_index, IfSome};
 ghost use Rattle.std.specs.Option.{option_map};
-ghost use Rattle.timeline_drive.specs.Words.{leads_with_zero, decimal_within, thread_of};
+ghost use Rattle.timeline_drive.specs.Numbers.{leads_with_zero, decimal_within, thread_of};
 
 use dep_index::text::number_within;
 
@@ -32,20 +32,7 @@ pub(crate) fn decimal_within(limit: u64, word: &[u8]) -> Option<u64>
 pub(crate) fn index_of(word: &[u8]) -> Option<u32>
     ensures { result ≡ decimal_within 999999 word.now }
 {
-    match decimal_within(LAST_STEP, word) {
-        Some(index) => Some(index as u32),
-        None => None,
-    }
-}
-
-/// The number of a worker.
-pub(crate) fn worker_of(word: &[u8]) -> Option<u8>
-    ensures { result ≡ decimal_within 63 word.now }
-{
-    match decimal_within(LAST_THREAD, word) {
-        Some(worker) => Some(worker as u8),
-        None => None,
-    }
+    Some(decimal_within(LAST_STEP, word)? as u32)
 }
 
 /// The number of a thread, which has `t` before it.
@@ -53,7 +40,7 @@ pub(crate) fn thread_of(word: &[u8]) -> Option<u8>
     ensures { result ≡ thread_of word.now }
 {
     match word {
-        [b't', number @ ..] => worker_of(number),
+        [b't', number @ ..] => Some(decimal_within(LAST_THREAD, number)? as u8),
         _ => None,
     }
 }

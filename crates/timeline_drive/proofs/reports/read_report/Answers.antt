@@ -1,5 +1,4 @@
 use Rattle.std.proofs.Common.{◌≡◌, ℕ, ◌++◌, ◌∷◌, List, length, map, Some, None, rules, sym, ap, ◌∙◌}
-use Rattle.std.proofs.lemmas.Grind.{common_steps}
 use Rattle.timeline_drive.specs.Reports.{line_at, lines_from, entries_in}
 use Rattle.timeline_drive.proofs.ReportLemmas.{refused_at}
 use Rattle.timeline_drive.proofs.reports.read_report.Goals as goal
