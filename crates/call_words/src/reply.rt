@@ -1,4 +1,4 @@
-//! What a call all_words, in a word.
+//! What a call answers, in a word.
 ghost use Rattle.std.specs.Prelude.{◌≡◌};
 ghost use Rattle.call_words.specs.Replies.{reply_in, reply_text, reply_of, is_refusal};
 
@@ -25,6 +25,7 @@ pub enum ReplyWord {
     NotUnloading,
 }
 
+/// All of them.
 const ALL: [ReplyWord; 15] = [
     ReplyWord::Done,
     ReplyWord::Yes,
@@ -67,7 +68,7 @@ impl ReplyWord {
         }
     }
 
-    /// The word of the word.
+    /// The text of the word.
     pub fn text(self) -> &'static str
         ensures { result.now ≡ reply_text self }
     {
@@ -90,7 +91,7 @@ impl ReplyWord {
         }
     }
 
-    /// The reply of a word, None where it is none.
+    /// The reply that a word is the text of. None: it is no reply's.
     pub fn of_word(word: &[u8]) -> Option<ReplyWord>
         ensures { result ≡ reply_of word.now }
     {
