@@ -16,31 +16,31 @@ class Handle(Structure):
 
 
 class Library:
-    """The library's calls. Each takes a handle by value and writes it back."""
+    """The library's calls. Each takes a handle's place, and those that free take the handle itself."""
 
     def __init__(self, path):
         self.calls = ctypes.CDLL(path)
-        size, number, handle, back = c_size_t, c_uint32, Handle, POINTER(Handle)
-        self.declare("gz_catalogue_read", number, c_char_p, size, back, POINTER(size))
-        self.declare("gz_catalogue_slot", number, handle, back, c_char_p, size, POINTER(size))
-        self.declare("gz_table_new", number, handle, back, back, back, size, back, size)
-        self.declare("gz_leaf_get", number, handle, back, size, c_uint32)
-        self.declare("gz_leaf_put", number, handle, back, size)
-        self.declare("gz_reader_in_use", number, handle, back, size)
-        self.declare("gz_book_begin_load", number, handle, back, size, POINTER(size))
-        self.declare("gz_book_end_load", number, handle, back, size, c_bool)
-        self.declare("gz_book_begin_remove", number, handle, back, size)
-        self.declare("gz_book_end_remove", number, handle, back, size)
-        self.declare("gz_book_state", number, handle, back, size)
+        size, number, handle = c_size_t, c_uint32, POINTER(Handle)
+        self.declare("gz_catalogue_read", number, c_char_p, size, handle, POINTER(size))
+        self.declare("gz_catalogue_slot", number, handle, c_char_p, size, POINTER(size))
+        self.declare("gz_table_new", number, handle, handle, handle, size, handle, size)
+        self.declare("gz_leaf_get", number, handle, size, c_uint32)
+        self.declare("gz_leaf_put", number, handle, size)
+        self.declare("gz_reader_in_use", number, handle, size)
+        self.declare("gz_book_begin_load", number, handle, size, POINTER(size))
+        self.declare("gz_book_end_load", number, handle, size, c_bool)
+        self.declare("gz_book_begin_remove", number, handle, size)
+        self.declare("gz_book_end_remove", number, handle, size)
+        self.declare("gz_book_state", number, handle, size)
         for kind in ("catalogue", "leaf", "reader", "book"):
-            self.declare(f"gz_{kind}_free", None, handle)
+            self.declare(f"gz_{kind}_free", None, Handle)
 
     def declare(self, name, result, *arguments):
         call = getattr(self.calls, name)
         call.restype, call.argtypes = result, arguments
 
     def call(self, name, handle, *arguments):
-        return getattr(self.calls, f"gz_{name}")(handle, byref(handle), *arguments)
+        return getattr(self.calls, f"gz_{name}")(byref(handle), *arguments)
 
 
 def expect(what, number, wanted):
@@ -56,7 +56,7 @@ def main():
     expect("read", gz.calls.gz_catalogue_read(TEXT, len(TEXT), byref(catalogue), byref(line)), DONE)
     expect("slot of snd_pcm", gz.call("catalogue_slot", catalogue, b"snd_pcm", 7, byref(slot)), DONE)
     pcm, snd = slot.value, 0
-    made = gz.calls.gz_table_new(catalogue, byref(catalogue), byref(book), leaves, 2, byref(reader), 1)
+    made = gz.calls.gz_table_new(byref(catalogue), byref(book), leaves, 2, byref(reader), 1)
     expect("new", made, DONE)
     leaf = leaves[0]
     expect("get of an absent module", gz.call("leaf_get", leaf, snd, 1), NOT_LIVE)

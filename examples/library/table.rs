@@ -25,12 +25,6 @@ macro_rules! handle {
 
         impl $name {
             const EMPTY: $name = $name { at: ptr::null_mut() };
-
-            /// What the handle holds, for a call that writes it back.
-            #[allow(dead_code)]
-            fn take(&mut self) -> $name {
-                $name { at: self.at }
-            }
         }
 
         // The library proves that its handles may go to another thread.
@@ -44,36 +38,35 @@ handle!(Leaf);
 handle!(Reader);
 
 extern "C" {
-    fn gz_catalogue_read(text: *const u8, length: usize, back: &mut Catalogue, line: &mut usize) -> u32;
-    fn gz_catalogue_free(spent: Catalogue);
+    fn gz_catalogue_read(text: *const u8, length: usize, catalogue: &mut Catalogue, line: &mut usize) -> u32;
+    fn gz_catalogue_free(catalogue: Catalogue);
     fn gz_table_new(
-        spent: Catalogue,
-        back: &mut Catalogue,
+        catalogue: &mut Catalogue,
         book: &mut Book,
         leaves: *mut Leaf,
         leaf_count: usize,
         readers: *mut Reader,
         reader_count: usize,
     ) -> u32;
-    fn gz_leaf_get(spent: Leaf, back: &mut Leaf, slot: usize, tries: u32) -> u32;
-    fn gz_leaf_put(spent: Leaf, back: &mut Leaf, slot: usize) -> u32;
-    fn gz_leaf_free(spent: Leaf);
-    fn gz_reader_free(spent: Reader);
-    fn gz_book_begin_load(spent: Book, back: &mut Book, slot: usize, need: &mut usize) -> u32;
-    fn gz_book_end_load(spent: Book, back: &mut Book, slot: usize, ok: bool) -> u32;
-    fn gz_book_begin_remove(spent: Book, back: &mut Book, slot: usize) -> u32;
-    fn gz_book_end_remove(spent: Book, back: &mut Book, slot: usize) -> u32;
-    fn gz_book_free(spent: Book);
+    fn gz_leaf_get(leaf: &mut Leaf, slot: usize, tries: u32) -> u32;
+    fn gz_leaf_put(leaf: &mut Leaf, slot: usize) -> u32;
+    fn gz_leaf_free(leaf: Leaf);
+    fn gz_reader_free(reader: Reader);
+    fn gz_book_begin_load(book: &mut Book, slot: usize, need: &mut usize) -> u32;
+    fn gz_book_end_load(book: &mut Book, slot: usize, ok: bool) -> u32;
+    fn gz_book_begin_remove(book: &mut Book, slot: usize) -> u32;
+    fn gz_book_end_remove(book: &mut Book, slot: usize) -> u32;
+    fn gz_book_free(book: Book);
 }
 
 /// Takes and gives the module until it is over, and counts the gets that succeeded.
 fn work(mut leaf: Leaf, is_over: &AtomicBool) -> usize {
     let mut got = 0;
     while !is_over.load(SeqCst) {
-        match unsafe { gz_leaf_get(leaf.take(), &mut leaf, 0, 64) } {
+        match unsafe { gz_leaf_get(&mut leaf, 0, 64) } {
             DONE => {
                 got += 1;
-                assert_eq!(unsafe { gz_leaf_put(leaf.take(), &mut leaf, 0) }, DONE);
+                assert_eq!(unsafe { gz_leaf_put(&mut leaf, 0) }, DONE);
             }
             NOT_LIVE | BUSY => {}
             other => panic!("get answered {other}"),
@@ -86,17 +79,17 @@ fn work(mut leaf: Leaf, is_over: &AtomicBool) -> usize {
 /// Loads the module, and removes it once nobody holds it. Counts how often somebody did.
 fn load_and_remove(book: &mut Book) -> usize {
     let (mut need, mut in_use) = (0, 0);
-    assert_eq!(unsafe { gz_book_begin_load(book.take(), book, 0, &mut need) }, DONE);
-    assert_eq!(unsafe { gz_book_end_load(book.take(), book, 0, true) }, DONE);
+    assert_eq!(unsafe { gz_book_begin_load(book, 0, &mut need) }, DONE);
+    assert_eq!(unsafe { gz_book_end_load(book, 0, true) }, DONE);
     thread::sleep(Duration::from_micros(50));
     loop {
-        match unsafe { gz_book_begin_remove(book.take(), book, 0) } {
+        match unsafe { gz_book_begin_remove(book, 0) } {
             DONE => break,
             IN_USE => in_use += 1,
             other => panic!("removal answered {other}"),
         }
     }
-    assert_eq!(unsafe { gz_book_end_remove(book.take(), book, 0) }, DONE);
+    assert_eq!(unsafe { gz_book_end_remove(book, 0) }, DONE);
     in_use
 }
 
@@ -106,8 +99,7 @@ fn main() {
     let mut line = 0;
     unsafe {
         assert_eq!(gz_catalogue_read(TEXT.as_ptr(), TEXT.len(), &mut catalogue, &mut line), DONE);
-        let spent = catalogue.take();
-        let made = gz_table_new(spent, &mut catalogue, &mut book, leaves.as_mut_ptr(), WORKERS, &mut reader, 1);
+        let made = gz_table_new(&mut catalogue, &mut book, leaves.as_mut_ptr(), WORKERS, &mut reader, 1);
         assert_eq!(made, DONE);
     }
     let is_over = Arc::new(AtomicBool::new(false));

@@ -78,31 +78,31 @@ typedef struct gz_reader { void *at; } gz_reader;
 #define GZ_NAME_LENGTH 55
 #define GZ_NAME_ROOM 56
 
-/* The library's own calls. Each takes its handle by value and writes it back: `back` is empty, or the same handle. The
- * inline functions below do that, and are what programs in C and C++ call. Slices are a pointer that is not NULL and a
- * length; other pointers are not NULL. */
-uint32_t gz_catalogue_read(const uint8_t *text, size_t length, gz_catalogue *back, size_t *line);
-size_t gz_catalogue_len(gz_catalogue spent, gz_catalogue *back);
-uint32_t gz_catalogue_slot(gz_catalogue spent, gz_catalogue *back, const uint8_t *name, size_t length, size_t *slot);
-uint32_t gz_catalogue_name(gz_catalogue spent, gz_catalogue *back, size_t slot, uint8_t *buffer, size_t room, size_t *length);
-void gz_catalogue_free(gz_catalogue spent);
-uint32_t gz_table_new(gz_catalogue spent, gz_catalogue *back, gz_book *book, gz_leaf *leaves, size_t leaf_count,
+/* The library's own calls. Each takes a handle's place, and those that free take the handle itself. The inline functions
+ * below call them, and are what programs in C and C++ call. Slices are a pointer that is not NULL and a length; other
+ * pointers are not NULL. */
+uint32_t gz_catalogue_read(const uint8_t *text, size_t length, gz_catalogue *catalogue, size_t *line);
+size_t gz_catalogue_len(gz_catalogue *catalogue);
+uint32_t gz_catalogue_slot(gz_catalogue *catalogue, const uint8_t *name, size_t length, size_t *slot);
+uint32_t gz_catalogue_name(gz_catalogue *catalogue, size_t slot, uint8_t *buffer, size_t room, size_t *length);
+void gz_catalogue_free(gz_catalogue catalogue);
+uint32_t gz_table_new(gz_catalogue *catalogue, gz_book *book, gz_leaf *leaves, size_t leaf_count,
                       gz_reader *readers, size_t reader_count);
-uint32_t gz_leaf_get(gz_leaf spent, gz_leaf *back, size_t slot, uint32_t tries);
-uint32_t gz_leaf_put(gz_leaf spent, gz_leaf *back, size_t slot);
-uint32_t gz_leaf_held(gz_leaf spent, gz_leaf *back, size_t slot, uint32_t *count);
-void gz_leaf_free(gz_leaf spent);
-uint32_t gz_reader_in_use(gz_reader spent, gz_reader *back, size_t slot);
-void gz_reader_free(gz_reader spent);
-uint32_t gz_book_begin_load(gz_book spent, gz_book *back, size_t slot, size_t *need);
-uint32_t gz_book_end_load(gz_book spent, gz_book *back, size_t slot, bool ok);
-uint32_t gz_book_begin_drain(gz_book spent, gz_book *back, size_t slot);
-uint32_t gz_book_begin_remove(gz_book spent, gz_book *back, size_t slot);
-uint32_t gz_book_end_remove(gz_book spent, gz_book *back, size_t slot);
-uint32_t gz_book_state(gz_book spent, gz_book *back, size_t slot);
-size_t gz_book_loaded(gz_book spent, gz_book *back);
-uint32_t gz_book_loaded_at(gz_book spent, gz_book *back, size_t place, size_t *slot);
-void gz_book_free(gz_book spent);
+uint32_t gz_leaf_get(gz_leaf *leaf, size_t slot, uint32_t tries);
+uint32_t gz_leaf_put(gz_leaf *leaf, size_t slot);
+uint32_t gz_leaf_held(gz_leaf *leaf, size_t slot, uint32_t *count);
+void gz_leaf_free(gz_leaf leaf);
+uint32_t gz_reader_in_use(gz_reader *reader, size_t slot);
+void gz_reader_free(gz_reader reader);
+uint32_t gz_book_begin_load(gz_book *book, size_t slot, size_t *need);
+uint32_t gz_book_end_load(gz_book *book, size_t slot, bool ok);
+uint32_t gz_book_begin_drain(gz_book *book, size_t slot);
+uint32_t gz_book_begin_remove(gz_book *book, size_t slot);
+uint32_t gz_book_end_remove(gz_book *book, size_t slot);
+uint32_t gz_book_state(gz_book *book, size_t slot);
+size_t gz_book_loaded(gz_book *book);
+uint32_t gz_book_loaded_at(gz_book *book, size_t place, size_t *slot);
+void gz_book_free(gz_book book);
 
 /* ---- Catalogues ---- */
 
@@ -116,13 +116,13 @@ static inline gz_number gz_read(gz_catalogue *catalogue, const char *text, size_
 }
 
 /* How many modules the catalogue has. Their slots are 0 and up, in the order of the text. */
-static inline size_t gz_slots(gz_catalogue *catalogue) { return gz_catalogue_len(*catalogue, catalogue); }
+static inline size_t gz_slots(gz_catalogue *catalogue) { return gz_catalogue_len(catalogue); }
 
 /* The slot of a name that ends with 0, in *slot. Names are kept with _ for each -, and compared as they stand.
  * GZ_UNKNOWN_NAME: *slot is left as it is. */
 static inline gz_number gz_slot(gz_catalogue *catalogue, const char *name, size_t *slot)
 {
-    return (gz_number)gz_catalogue_slot(*catalogue, catalogue, (const uint8_t *)name, strlen(name), slot);
+    return (gz_number)gz_catalogue_slot(catalogue, (const uint8_t *)name, strlen(name), slot);
 }
 
 /* The name of the module in a slot, ended with 0, in a buffer of `room` bytes, which is at least 1.
@@ -130,7 +130,7 @@ static inline gz_number gz_slot(gz_catalogue *catalogue, const char *name, size_
 static inline gz_number gz_name(gz_catalogue *catalogue, size_t slot, char *buffer, size_t room)
 {
     size_t length = 0;
-    gz_number number = (gz_number)gz_catalogue_name(*catalogue, catalogue, slot, (uint8_t *)buffer, room - 1, &length);
+    gz_number number = (gz_number)gz_catalogue_name(catalogue, slot, (uint8_t *)buffer, room - 1, &length);
     if (number == GZ_DONE)
         buffer[length] = 0;
     return number;
@@ -154,7 +154,7 @@ static inline gz_number gz_new(gz_catalogue *catalogue, gz_book *book, gz_leaf *
 {
     gz_leaf no_leaf = GZ_EMPTY;
     gz_reader no_reader = GZ_EMPTY;
-    return (gz_number)gz_table_new(*catalogue, catalogue, book, leaf_count ? leaves : &no_leaf, leaf_count,
+    return (gz_number)gz_table_new(catalogue, book, leaf_count ? leaves : &no_leaf, leaf_count,
                                    reader_count ? readers : &no_reader, reader_count);
 }
 
@@ -164,7 +164,7 @@ static inline gz_number gz_new(gz_catalogue *catalogue, gz_book *book, gz_leaf *
  * GZ_NOT_LIVE, GZ_TOO_MANY, GZ_OUT_OF_RANGE. GZ_BUSY: no promise is made that a later call succeeds. */
 static inline gz_number gz_try_get(gz_leaf *leaf, size_t slot, uint32_t tries)
 {
-    return (gz_number)gz_leaf_get(*leaf, leaf, slot, tries);
+    return (gz_number)gz_leaf_get(leaf, slot, tries);
 }
 
 /* Takes one reference to the module, and tries as long as others are in its way.
@@ -181,12 +181,12 @@ static inline gz_number gz_get(gz_leaf *leaf, size_t slot)
 }
 
 /* Gives one reference to the module back. GZ_NOT_HELD, GZ_OUT_OF_RANGE. */
-static inline gz_number gz_put(gz_leaf *leaf, size_t slot) { return (gz_number)gz_leaf_put(*leaf, leaf, slot); }
+static inline gz_number gz_put(gz_leaf *leaf, size_t slot) { return (gz_number)gz_leaf_put(leaf, slot); }
 
 /* How often the leaf holds the module, in *count. GZ_OUT_OF_RANGE: *count is left as it is. */
 static inline gz_number gz_held(gz_leaf *leaf, size_t slot, uint32_t *count)
 {
-    return (gz_number)gz_leaf_held(*leaf, leaf, slot, count);
+    return (gz_number)gz_leaf_held(leaf, slot, count);
 }
 
 /* Frees the leaf, and empties the handle. Give its references back before: what it still holds stays in use. */
@@ -202,7 +202,7 @@ static inline void gz_free_leaf(gz_leaf *leaf)
 /* Whether any leaf holds the module: GZ_YES or GZ_NO. GZ_OUT_OF_RANGE. */
 static inline gz_number gz_in_use(gz_reader *reader, size_t slot)
 {
-    return (gz_number)gz_reader_in_use(*reader, reader, slot);
+    return (gz_number)gz_reader_in_use(reader, slot);
 }
 
 /* Frees the reader, and empties the handle. */
@@ -219,47 +219,47 @@ static inline void gz_free_reader(gz_reader *reader)
  * GZ_NEED_NOT_LIVE: the slot of a module that it needs is in *need, which is else left as it is. */
 static inline gz_number gz_begin_load(gz_book *book, size_t slot, size_t *need)
 {
-    return (gz_number)gz_book_begin_load(*book, book, slot, need);
+    return (gz_number)gz_book_begin_load(book, slot, need);
 }
 
 /* Ends a load: the module is then live where it went well (ok), else absent. GZ_NOT_LOADING, GZ_OUT_OF_RANGE. */
 static inline gz_number gz_end_load(gz_book *book, size_t slot, bool ok)
 {
-    return (gz_number)gz_book_end_load(*book, book, slot, ok);
+    return (gz_number)gz_book_end_load(book, slot, ok);
 }
 
 /* Begins a drain: gets are refused from then on, and references stay until they are given back.
  * GZ_NO_ENTRY, GZ_NEEDED_BY, GZ_NOT_LIVE, GZ_PERMANENT, GZ_OUT_OF_RANGE. */
 static inline gz_number gz_begin_drain(gz_book *book, size_t slot)
 {
-    return (gz_number)gz_book_begin_drain(*book, book, slot);
+    return (gz_number)gz_book_begin_drain(book, slot);
 }
 
 /* Begins a removal of a module that nobody holds: gets are refused from then on, so what the module has may be freed.
  * GZ_NO_ENTRY, GZ_NEEDED_BY, GZ_NOT_LIVE, GZ_PERMANENT, GZ_IN_USE, GZ_OUT_OF_RANGE. */
 static inline gz_number gz_begin_remove(gz_book *book, size_t slot)
 {
-    return (gz_number)gz_book_begin_remove(*book, book, slot);
+    return (gz_number)gz_book_begin_remove(book, slot);
 }
 
 /* Ends a removal, or a drain once nobody holds the module: it is then absent, and may be loaded again.
  * GZ_NOT_UNLOADING, GZ_IN_USE, GZ_OUT_OF_RANGE. */
 static inline gz_number gz_end_remove(gz_book *book, size_t slot)
 {
-    return (gz_number)gz_book_end_remove(*book, book, slot);
+    return (gz_number)gz_book_end_remove(book, slot);
 }
 
 /* The state of the module: GZ_ABSENT, GZ_LOADING, GZ_LIVE, GZ_DRAINING or GZ_UNLOADING. GZ_OUT_OF_RANGE. */
-static inline gz_number gz_state(gz_book *book, size_t slot) { return (gz_number)gz_book_state(*book, book, slot); }
+static inline gz_number gz_state(gz_book *book, size_t slot) { return (gz_number)gz_book_state(book, slot); }
 
 /* How many modules are not absent. */
-static inline size_t gz_loaded(gz_book *book) { return gz_book_loaded(*book, book); }
+static inline size_t gz_loaded(gz_book *book) { return gz_book_loaded(book); }
 
 /* The slot of the loaded module at a place, the oldest first, in *slot.
  * GZ_OUT_OF_RANGE: fewer are loaded, and *slot is left as it is. */
 static inline gz_number gz_loaded_at(gz_book *book, size_t place, size_t *slot)
 {
-    return (gz_number)gz_book_loaded_at(*book, book, place, slot);
+    return (gz_number)gz_book_loaded_at(book, place, slot);
 }
 
 /* Frees the book, and empties the handle. Leaves and readers go on; no module is loaded or removed any more. */

@@ -1,2 +1,3 @@
 pub mod Boxes
+pub mod Handles
 pub mod Tables

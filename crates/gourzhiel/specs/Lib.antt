@@ -4,5 +4,6 @@ pub mod HeldLeaf
 pub mod HeldBook
 pub mod HeldReader
 pub mod HeldCatalogue
+pub mod Lent
 pub mod Naming
 pub mod Making

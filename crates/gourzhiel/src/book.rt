@@ -24,6 +24,9 @@ impl Model for GzBook {
 }
 
 impl GzBook {
+    ghost use Rattle.std.specs.Borrow.{sem};
+    ghost use Rattle.gourzhiel.specs.Lent.{BookLent};
+
     pub fn new(book: Box<OwnBook>) -> GzBook
         ensures full { result.full ≡ true }
         ensures held { result.held ≡ book.value }
@@ -36,6 +39,14 @@ impl GzBook {
         ensures held { result.value ≡ self.held }
     {
         self.into_parts().into_box()
+    }
+
+    pub fn lend(&mut self) -> &mut OwnBook
+        requires full { self.old.full ≡ true }
+        ensures* writes_back { sem 𝓛 (BookLent self.entry result) }
+        ensures value { result.now ≡ self.old.held }
+    {
+        unsafe { &mut *(self.at as *mut OwnBook) }
     }
 
     fn of_parts(parts: Parts<OwnBook, Global>) -> GzBook

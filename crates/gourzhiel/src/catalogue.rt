@@ -24,6 +24,9 @@ impl Model for GzCatalogue {
 }
 
 impl GzCatalogue {
+    ghost use Rattle.std.specs.Borrow.{sem};
+    ghost use Rattle.gourzhiel.specs.Lent.{CatalogueLent};
+
     pub fn new(catalogue: Box<Catalogue>) -> GzCatalogue
         ensures full { result.full ≡ true }
         ensures held { result.held ≡ catalogue.value }
@@ -36,6 +39,14 @@ impl GzCatalogue {
         ensures held { result.value ≡ self.held }
     {
         self.into_parts().into_box()
+    }
+
+    pub fn lend(&mut self) -> &mut Catalogue
+        requires full { self.old.full ≡ true }
+        ensures* writes_back { sem 𝓛 (CatalogueLent self.entry result) }
+        ensures value { result.now ≡ self.old.held }
+    {
+        unsafe { &mut *(self.at as *mut Catalogue) }
     }
 
     fn of_parts(parts: Parts<Catalogue, Global>) -> GzCatalogue

@@ -9,7 +9,7 @@ use crate::numbers::{
     BAD_LINE, DONE, DUPLICATE, OUT_OF_MEMORY, OUT_OF_RANGE, TOO_MANY_MODULES, TOO_SHORT,
     TWICE_EXPORTED, UNKNOWN_NAME,
 };
-use dep_index::{CatError, Catalogue, read_catalogue};
+use dep_index::{CatError, read_catalogue};
 use std::alloc::Global;
 
 fn fault(error: CatError, line: &mut usize) -> u32
@@ -36,10 +36,57 @@ fn fault(error: CatError, line: &mut usize) -> u32
     }
 }
 
-fn slot_of(catalogue: &Catalogue, name: &[u8], slot: &mut usize) -> u32
-    ensures { SlotTold (slot_named catalogue.now name.now) slot.old result slot.new }
+/// Reads a catalogue from its text, and fills an empty handle with it.
+///
+/// OUT_OF_MEMORY: nothing is kept. BAD_LINE, DUPLICATE, TWICE_EXPORTED, TOO_MANY_MODULES: the text's first fault, with
+/// its line, from 1. The handle is then empty as before.
+#[unsafe(no_mangle)]
+pub extern "C" fn gz_catalogue_read(
+    alloc: Global,
+    text: &[u8],
+    catalogue: &mut GzCatalogue,
+    line: &mut usize,
+) -> u32
+    requires empty { catalogue.old.full ≡ false }
+    ensures { ReadInto (catalogue_of text.now) catalogue.old.full result line.new catalogue.new.full catalogue.new.held }
 {
-    match catalogue.slot(name) {
+    let read = match read_catalogue(alloc, text) {
+        Ok(read) => read,
+        Err(error) => return fault(error, line),
+    };
+    match Box::new(alloc, read) {
+        Ok(boxed) => {
+            *catalogue = GzCatalogue::new(boxed);
+            DONE
+        }
+        Err(_) => OUT_OF_MEMORY,
+    }
+}
+
+/// How many modules the catalogue has. Their slots are the numbers below.
+#[unsafe(no_mangle)]
+pub extern "C" fn gz_catalogue_len(catalogue: &mut GzCatalogue) -> usize
+    requires full { catalogue.old.full ≡ true }
+    ensures kept { (catalogue.new.full ≡ true) × (catalogue.new.held ≡ catalogue.old.held) }
+    ensures count { result ≡ length catalogue.old.held }
+{
+    catalogue.lend().len()
+}
+
+/// The slot of a name, which is compared as it stands: names are kept with `_` for each `-`.
+///
+/// UNKNOWN_NAME: no module has the name, and the slot is left as it is.
+#[unsafe(no_mangle)]
+pub extern "C" fn gz_catalogue_slot(
+    catalogue: &mut GzCatalogue,
+    name: &[u8],
+    slot: &mut usize,
+) -> u32
+    requires full { catalogue.old.full ≡ true }
+    ensures kept { (catalogue.new.full ≡ true) × (catalogue.new.held ≡ catalogue.old.held) }
+    ensures slot { SlotTold (slot_named catalogue.old.held name.now) slot.old result slot.new }
+{
+    match catalogue.lend().slot(name) {
         None => UNKNOWN_NAME,
         Some(found) => {
             *slot = found;
@@ -48,9 +95,22 @@ fn slot_of(catalogue: &Catalogue, name: &[u8], slot: &mut usize) -> u32
     }
 }
 
-fn name_of(catalogue: &Catalogue, slot: usize, buffer: &mut [u8], long: &mut usize) -> u32
-    ensures { NameTold catalogue.now slot buffer.old result buffer.new long.new }
+/// The name of the module in a slot, written to the front of the buffer, and its length, at most 55.
+///
+/// OUT_OF_RANGE: the slot is none of the catalogue. TOO_SHORT: the buffer is shorter than the name, whose length is
+/// told; nothing is written.
+#[unsafe(no_mangle)]
+pub extern "C" fn gz_catalogue_name(
+    catalogue: &mut GzCatalogue,
+    slot: usize,
+    buffer: &mut [u8],
+    long: &mut usize,
+) -> u32
+    requires full { catalogue.old.full ≡ true }
+    ensures kept { (catalogue.new.full ≡ true) × (catalogue.new.held ≡ catalogue.old.held) }
+    ensures name { NameTold catalogue.old.held slot buffer.old result buffer.new long.new }
 {
+    let catalogue = catalogue.lend();
     if slot >= catalogue.len() {
         return OUT_OF_RANGE;
     }
@@ -61,91 +121,6 @@ fn name_of(catalogue: &Catalogue, slot: usize, buffer: &mut [u8], long: &mut usi
     }
     buffer[..name.len()].copy_from_slice(name);
     DONE
-}
-
-/// Reads a catalogue from its text, and fills an empty handle with it.
-///
-/// OUT_OF_MEMORY: nothing is kept. BAD_LINE, DUPLICATE, TWICE_EXPORTED, TOO_MANY_MODULES: the text's first fault, with
-/// its line, from 1. The handle is then empty as before.
-#[unsafe(no_mangle)]
-pub extern "C" fn gz_catalogue_read(
-    alloc: Global,
-    text: &[u8],
-    back: &mut GzCatalogue,
-    line: &mut usize,
-) -> u32
-    requires empty { back.old.full ≡ false }
-    ensures { ReadInto (catalogue_of text.now) back.old.full result line.new back.new.full back.new.held }
-{
-    let catalogue = match read_catalogue(alloc, text) {
-        Ok(catalogue) => catalogue,
-        Err(error) => return fault(error, line),
-    };
-    match Box::new(alloc, catalogue) {
-        Ok(boxed) => {
-            *back = GzCatalogue::new(boxed);
-            DONE
-        }
-        Err(_) => OUT_OF_MEMORY,
-    }
-}
-
-/// How many modules the catalogue has. Their slots are the numbers below.
-#[unsafe(no_mangle)]
-pub extern "C" fn gz_catalogue_len(catalogue: GzCatalogue, back: &mut GzCatalogue) -> usize
-    requires full { catalogue.full ≡ true }
-    requires empty { back.old.full ≡ false }
-    ensures kept { (back.new.full ≡ true) × (back.new.held ≡ catalogue.held) }
-    ensures count { result ≡ length catalogue.held }
-{
-    let catalogue = catalogue.into_box();
-    let count = catalogue.len();
-    *back = GzCatalogue::new(catalogue);
-    count
-}
-
-/// The slot of a name, which is compared as it stands: names are kept with `_` for each `-`.
-///
-/// UNKNOWN_NAME: no module has the name, and the slot is left as it is.
-#[unsafe(no_mangle)]
-pub extern "C" fn gz_catalogue_slot(
-    catalogue: GzCatalogue,
-    back: &mut GzCatalogue,
-    name: &[u8],
-    slot: &mut usize,
-) -> u32
-    requires full { catalogue.full ≡ true }
-    requires empty { back.old.full ≡ false }
-    ensures kept { (back.new.full ≡ true) × (back.new.held ≡ catalogue.held) }
-    ensures slot { SlotTold (slot_named catalogue.held name.now) slot.old result slot.new }
-{
-    let catalogue = catalogue.into_box();
-    let number = slot_of(&catalogue, name, slot);
-    *back = GzCatalogue::new(catalogue);
-    number
-}
-
-/// The name of the module in a slot, written to the front of the buffer, and its length, at most 55.
-///
-/// OUT_OF_RANGE: the slot is none of the catalogue. TOO_SHORT: the buffer is shorter than the name, whose length is
-/// told; nothing is written.
-#[unsafe(no_mangle)]
-pub extern "C" fn gz_catalogue_name(
-    catalogue: GzCatalogue,
-    back: &mut GzCatalogue,
-    slot: usize,
-    buffer: &mut [u8],
-    long: &mut usize,
-) -> u32
-    requires full { catalogue.full ≡ true }
-    requires empty { back.old.full ≡ false }
-    ensures kept { (back.new.full ≡ true) × (back.new.held ≡ catalogue.held) }
-    ensures name { NameTold catalogue.held slot buffer.old result buffer.new long.new }
-{
-    let catalogue = catalogue.into_box();
-    let number = name_of(&catalogue, slot, buffer, long);
-    *back = GzCatalogue::new(catalogue);
-    number
 }
 
 /// Frees a catalogue. Tables that were made over it go on.

@@ -24,6 +24,9 @@ impl Model for GzLeaf {
 }
 
 impl GzLeaf {
+    ghost use Rattle.std.specs.Borrow.{sem};
+    ghost use Rattle.gourzhiel.specs.Lent.{LeafLent};
+
     pub fn new(leaf: Box<OwnLeaf>) -> GzLeaf
         ensures full { result.full ≡ true }
         ensures held { result.held ≡ leaf.value }
@@ -36,6 +39,14 @@ impl GzLeaf {
         ensures held { result.value ≡ self.held }
     {
         self.into_parts().into_box()
+    }
+
+    pub fn lend(&mut self) -> &mut OwnLeaf
+        requires full { self.old.full ≡ true }
+        ensures* writes_back { sem 𝓛 (LeafLent self.entry result) }
+        ensures value { result.now ≡ self.old.held }
+    {
+        unsafe { &mut *(self.at as *mut OwnLeaf) }
     }
 
     fn of_parts(parts: Parts<OwnLeaf, Global>) -> GzLeaf

@@ -24,6 +24,9 @@ impl Model for GzReader {
 }
 
 impl GzReader {
+    ghost use Rattle.std.specs.Borrow.{sem};
+    ghost use Rattle.gourzhiel.specs.Lent.{ReaderLent};
+
     pub fn new(reader: Box<OwnReader>) -> GzReader
         ensures full { result.full ≡ true }
         ensures held { result.held ≡ reader.value }
@@ -36,6 +39,14 @@ impl GzReader {
         ensures held { result.value ≡ self.held }
     {
         self.into_parts().into_box()
+    }
+
+    pub fn lend(&mut self) -> &mut OwnReader
+        requires full { self.old.full ≡ true }
+        ensures* writes_back { sem 𝓛 (ReaderLent self.entry result) }
+        ensures value { result.now ≡ self.old.held }
+    {
+        unsafe { &mut *(self.at as *mut OwnReader) }
     }
 
     fn of_parts(parts: Parts<OwnReader, Global>) -> GzReader

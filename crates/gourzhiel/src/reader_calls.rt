@@ -1,35 +1,24 @@
 //! The calls on the handle of a reader.
-ghost use Rattle.std.specs.Prelude.{◌≡◌, true, false};
+ghost use Rattle.std.specs.Prelude.{◌≡◌, true};
 ghost use Rattle.gourzhiel.specs.Ended.{QueryEnded};
 
 use crate::numbers::{NO, OUT_OF_RANGE, YES};
 use crate::reader::GzReader;
-use module_table::OwnReader;
-
-fn query(reader: &mut OwnReader, slot: usize) -> u32
-    ensures { QueryEnded reader.old slot result reader.new }
-{
-    match reader.in_use(slot) {
-        None => OUT_OF_RANGE,
-        Some(true) => YES,
-        Some(false) => NO,
-    }
-}
 
 /// Whether any leaf of the table holds the module: YES or NO.
 ///
 /// OUT_OF_RANGE: the slot is none of the table.
 #[unsafe(no_mangle)]
-pub extern "C" fn gz_reader_in_use(reader: GzReader, back: &mut GzReader, slot: usize) -> u32
-    requires full { reader.full ≡ true }
-    requires empty { back.old.full ≡ false }
-    ensures full { back.new.full ≡ true }
-    ensures call { QueryEnded reader.held slot result back.new.held }
+pub extern "C" fn gz_reader_in_use(reader: &mut GzReader, slot: usize) -> u32
+    requires full { reader.old.full ≡ true }
+    ensures full { reader.new.full ≡ true }
+    ensures call { QueryEnded reader.old.held slot result reader.new.held }
 {
-    let mut reader = reader.into_box();
-    let number = query(&mut reader, slot);
-    *back = GzReader::new(reader);
-    number
+    match reader.lend().in_use(slot) {
+        None => OUT_OF_RANGE,
+        Some(true) => YES,
+        Some(false) => NO,
+    }
 }
 
 /// Frees a reader.

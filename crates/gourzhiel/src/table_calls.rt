@@ -84,22 +84,17 @@ fn fill(made: Made, book: &mut GzBook, leaves: &mut [GzLeaf], readers: &mut [GzR
 #[unsafe(no_mangle)]
 pub extern "C" fn gz_table_new(
     alloc: Global,
-    catalogue: GzCatalogue,
-    back: &mut GzCatalogue,
+    catalogue: &mut GzCatalogue,
     book: &mut GzBook,
     leaves: &mut [GzLeaf],
     readers: &mut [GzReader],
 ) -> u32
-    requires full { catalogue.full ≡ true }
-    requires empty { back.old.full ≡ false }
+    requires full { catalogue.old.full ≡ true }
     requires no_book { book.old.full ≡ false }
     requires no_leaves { All (λ h. h.full ≡ false) leaves.old }
     requires no_readers { All (λ h. h.full ≡ false) readers.old }
-    ensures kept { (back.new.full ≡ true) × (back.new.held ≡ catalogue.held) }
-    ensures made { HandlesMade (modules_of catalogue.held) result book.old book.new leaves.old leaves.new readers.old readers.new }
+    ensures kept { (catalogue.new.full ≡ true) × (catalogue.new.held ≡ catalogue.old.held) }
+    ensures made { HandlesMade (modules_of catalogue.old.held) result book.old book.new leaves.old leaves.new readers.old readers.new }
 {
-    let catalogue = catalogue.into_box();
-    let number = made(alloc, &catalogue, book, leaves, readers);
-    *back = GzCatalogue::new(catalogue);
-    number
+    made(alloc, catalogue.lend(), book, leaves, readers)
 }
