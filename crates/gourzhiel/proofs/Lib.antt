@@ -1,3 +1,2 @@
-pub mod Boxes
-pub mod Handles
+pub mod Held
 pub mod Tables

@@ -5,17 +5,17 @@ use Rattle.std.specs.Borrow.{Lends, MutBor}
 use Rattle.dep_index.specs.Catalogue.{Description}
 use Rattle.root_row.specs.Seats.{Seated}
 use Rattle.module_table.specs.contracts.own_leaf.OwnLeaf as OwnLeaf
-use Rattle.gourzhiel.specs.declared.leaf.GzLeaf.{GzLeaf}
-use Rattle.gourzhiel.specs.contracts.leaf.GzLeaf as GzLeaf-row
+use Rattle.gourzhiel.specs.declared.handles.GzLeaf.{GzLeaf}
+use Rattle.gourzhiel.specs.contracts.handles.GzLeaf as GzLeaf-row
 use Rattle.module_table.specs.contracts.own_book.OwnBook as OwnBook
-use Rattle.gourzhiel.specs.declared.book.GzBook.{GzBook}
-use Rattle.gourzhiel.specs.contracts.book.GzBook as GzBook-row
+use Rattle.gourzhiel.specs.declared.handles.GzBook.{GzBook}
+use Rattle.gourzhiel.specs.contracts.handles.GzBook as GzBook-row
 use Rattle.module_table.specs.contracts.own_reader.OwnReader as OwnReader
-use Rattle.gourzhiel.specs.declared.reader.GzReader.{GzReader}
-use Rattle.gourzhiel.specs.contracts.reader.GzReader as GzReader-row
+use Rattle.gourzhiel.specs.declared.handles.GzReader.{GzReader}
+use Rattle.gourzhiel.specs.contracts.handles.GzReader as GzReader-row
 use Rattle.dep_index.specs.contracts.catalogue.Catalogue as OwnCatalogue
-use Rattle.gourzhiel.specs.declared.catalogue.GzCatalogue.{GzCatalogue}
-use Rattle.gourzhiel.specs.contracts.catalogue.GzCatalogue as GzCatalogue-row
+use Rattle.gourzhiel.specs.declared.handles.GzCatalogue.{GzCatalogue}
+use Rattle.gourzhiel.specs.contracts.handles.GzCatalogue as GzCatalogue-row
 
 abbrev pub LeafLent : MutBor GzLeaf → MutBor Seated → Fml
 LeafLent h r = Lends GzLeaf-row.the_row OwnLeaf.the_row h r (λ w. record { at = h.now.at; alloc = h.now.alloc; full = true; held = w })

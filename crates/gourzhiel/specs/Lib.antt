@@ -1,9 +1,6 @@
 pub mod Numbers
 pub mod Ended
-pub mod HeldLeaf
-pub mod HeldBook
-pub mod HeldReader
-pub mod HeldCatalogue
+pub mod Held
 pub mod Lent
 pub mod Naming
 pub mod Making

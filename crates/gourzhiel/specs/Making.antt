@@ -4,9 +4,9 @@ use Rattle.dep_index.specs.Table.{Module}
 use Rattle.root_row.specs.Seats.{Seated}
 use Rattle.root_row.specs.Made as made
 use Rattle.root_row.specs.Made.{AreNew}
-use Rattle.gourzhiel.specs.declared.book.GzBook.{GzBook}
-use Rattle.gourzhiel.specs.declared.leaf.GzLeaf.{GzLeaf}
-use Rattle.gourzhiel.specs.declared.reader.GzReader.{GzReader}
+use Rattle.gourzhiel.specs.declared.handles.GzBook.{GzBook}
+use Rattle.gourzhiel.specs.declared.handles.GzLeaf.{GzLeaf}
+use Rattle.gourzhiel.specs.declared.handles.GzReader.{GzReader}
 use Rattle.gourzhiel.specs.Numbers.{out_of_memory, too_many_leaves}
 
 -- all are of one row over these modules, none has seen anything, and the leaf and the reader at each place have its number

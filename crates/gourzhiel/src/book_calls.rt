@@ -2,7 +2,7 @@
 ghost use Rattle.std.specs.Prelude.{◌≡◌, ◌≢◌, true};
 ghost use Rattle.gourzhiel.specs.Ended.{BookEnded};
 
-use crate::book::GzBook;
+use crate::handles::GzBook;
 use crate::numbers::{
     DONE, EXISTS, IN_USE, NEED_NOT_LIVE, NEEDED_BY, NO_ENTRY, NOT_LIVE, NOT_LOADING, NOT_UNLOADING,
     OUT_OF_RANGE, PERMANENT, UNKNOWN_SYMBOL,
@@ -113,5 +113,5 @@ pub extern "C" fn gz_book_end_remove(book: &mut GzBook, slot: usize) -> u32
 pub extern "C" fn gz_book_free(book: GzBook)
     requires full { book.full ≡ true }
 {
-    drop(book.into_box());
+    drop(book.into_parts().into_box());
 }

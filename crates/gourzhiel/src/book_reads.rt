@@ -3,7 +3,7 @@ ghost use Rattle.std.specs.Prelude.{◌≡◌, true, length};
 ghost use Rattle.root_row.specs.Views.{book_of};
 ghost use Rattle.gourzhiel.specs.Ended.{StateTold, PlaceTold};
 
-use crate::book::GzBook;
+use crate::handles::GzBook;
 use crate::numbers::{ABSENT, DONE, DRAINING, LIVE, LOADING, OUT_OF_RANGE, UNLOADING};
 use dep_index::ModuleState;
 

@@ -4,11 +4,12 @@ ghost use Rattle.dep_index.specs.Catalogue.{Description, Refusal, catalogue_of, 
 ghost use Rattle.dep_index.specs.Faults.{IsFirstFault};
 ghost use Rattle.gourzhiel.specs.Naming.{ReadInto, SlotTold, NameTold, FaultTold};
 
-use crate::catalogue::GzCatalogue;
+use crate::handles::GzCatalogue;
 use crate::numbers::{
     BAD_LINE, DONE, DUPLICATE, OUT_OF_MEMORY, OUT_OF_RANGE, TOO_MANY_MODULES, TOO_SHORT,
     TWICE_EXPORTED, UNKNOWN_NAME,
 };
+use crate::parts::{Parts, hand_out};
 use dep_index::{CatError, read_catalogue};
 use std::alloc::Global;
 
@@ -56,7 +57,7 @@ pub extern "C" fn gz_catalogue_read(
     };
     match Box::new(alloc, read) {
         Ok(boxed) => {
-            *catalogue = GzCatalogue::new(boxed);
+            *catalogue = hand_out(GzCatalogue::of_parts(Parts::of(boxed)));
             DONE
         }
         Err(_) => OUT_OF_MEMORY,
@@ -128,5 +129,5 @@ pub extern "C" fn gz_catalogue_name(
 pub extern "C" fn gz_catalogue_free(catalogue: GzCatalogue)
     requires full { catalogue.full ≡ true }
 {
-    drop(catalogue.into_box());
+    drop(catalogue.into_parts().into_box());
 }

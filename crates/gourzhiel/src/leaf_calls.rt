@@ -2,7 +2,7 @@
 ghost use Rattle.std.specs.Prelude.{◌≡◌, true};
 ghost use Rattle.gourzhiel.specs.Ended.{GetEnded, LeafEnded, CountTold};
 
-use crate::leaf::GzLeaf;
+use crate::handles::GzLeaf;
 use crate::numbers::{BUSY, DONE, NOT_HELD, NOT_LIVE, OUT_OF_RANGE, TOO_MANY};
 use dep_index::{GetError, PutError};
 use module_table::OwnLeaf;
@@ -85,5 +85,5 @@ pub extern "C" fn gz_leaf_held(leaf: &mut GzLeaf, slot: usize, count: &mut u32) 
 pub extern "C" fn gz_leaf_free(leaf: GzLeaf)
     requires full { leaf.full ≡ true }
 {
-    drop(leaf.into_box());
+    drop(leaf.into_parts().into_box());
 }

@@ -1,32 +1,26 @@
 //! The module table for programs in other languages: handles of a catalogue, a book, leaves and readers.
 #![tactic(auto)]
 
-mod book;
 mod book_calls;
 mod book_reads;
-mod catalogue;
 mod catalogue_calls;
-mod leaf;
+mod handles;
 mod leaf_calls;
 mod making;
 mod numbers;
 mod parts;
-mod reader;
 mod reader_calls;
 mod table_calls;
 
-pub use book::GzBook;
 pub use book_calls::{
     gz_book_begin_drain, gz_book_begin_load, gz_book_begin_remove, gz_book_end_load,
     gz_book_end_remove, gz_book_free,
 };
 pub use book_reads::{gz_book_loaded, gz_book_loaded_at, gz_book_state};
-pub use catalogue::GzCatalogue;
 pub use catalogue_calls::{
     gz_catalogue_free, gz_catalogue_len, gz_catalogue_name, gz_catalogue_read, gz_catalogue_slot,
 };
-pub use leaf::GzLeaf;
+pub use handles::{GzBook, GzCatalogue, GzLeaf, GzReader};
 pub use leaf_calls::{gz_leaf_free, gz_leaf_get, gz_leaf_held, gz_leaf_put};
-pub use reader::GzReader;
 pub use reader_calls::{gz_reader_free, gz_reader_in_use};
 pub use table_calls::gz_table_new;

@@ -2,8 +2,8 @@
 ghost use Rattle.std.specs.Prelude.{◌≡◌, true};
 ghost use Rattle.gourzhiel.specs.Ended.{QueryEnded};
 
+use crate::handles::GzReader;
 use crate::numbers::{NO, OUT_OF_RANGE, YES};
-use crate::reader::GzReader;
 
 /// Whether any leaf of the table holds the module: YES or NO.
 ///
@@ -26,5 +26,5 @@ pub extern "C" fn gz_reader_in_use(reader: &mut GzReader, slot: usize) -> u32
 pub extern "C" fn gz_reader_free(reader: GzReader)
     requires full { reader.full ≡ true }
 {
-    drop(reader.into_box());
+    drop(reader.into_parts().into_box());
 }

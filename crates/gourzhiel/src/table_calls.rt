@@ -3,13 +3,10 @@ ghost use Rattle.std.specs.Prelude.{◌≡◌, true, false, map, length, All};
 ghost use Rattle.dep_index.specs.Catalogue.{modules_of};
 ghost use Rattle.gourzhiel.specs.Making.{AreFull, HandlesMade};
 
-use crate::book::GzBook;
-use crate::catalogue::GzCatalogue;
-use crate::leaf::GzLeaf;
+use crate::handles::{GzBook, GzCatalogue, GzLeaf, GzReader};
 use crate::making::{Made, make};
 use crate::numbers::{DONE, OUT_OF_MEMORY, TOO_MANY_LEAVES};
-use crate::reader::GzReader;
-use dep_index::Catalogue;
+use crate::parts::{Parts, hand_out};
 use dep_index::words::CLOSED;
 use module_table::{OwnLeaf, OwnReader};
 use std::alloc::Global;
@@ -21,7 +18,7 @@ fn fill_leaves(handles: &mut [GzLeaf], leaves: Vec<Box<OwnLeaf>>)
 {
     let mut place = 0;
     for leaf in leaves {
-        handles[place] = GzLeaf::new(leaf);
+        handles[place] = hand_out(GzLeaf::of_parts(Parts::of(leaf)));
         place += 1;
     }
 }
@@ -33,29 +30,8 @@ fn fill_readers(handles: &mut [GzReader], readers: Vec<Box<OwnReader>>)
 {
     let mut place = 0;
     for reader in readers {
-        handles[place] = GzReader::new(reader);
+        handles[place] = hand_out(GzReader::of_parts(Parts::of(reader)));
         place += 1;
-    }
-}
-
-fn made(
-    alloc: Global,
-    catalogue: &Catalogue,
-    book: &mut GzBook,
-    leaves: &mut [GzLeaf],
-    readers: &mut [GzReader],
-) -> u32
-    ensures { HandlesMade (modules_of catalogue.now) result book.old book.new leaves.old leaves.new readers.old readers.new }
-{
-    if leaves.len() >= CLOSED as usize {
-        return TOO_MANY_LEAVES;
-    }
-    match make(alloc, catalogue, leaves.len(), readers.len()) {
-        Err(_) => OUT_OF_MEMORY,
-        Ok(made) => {
-            fill(made, book, leaves, readers);
-            DONE
-        }
     }
 }
 
@@ -72,7 +48,7 @@ fn fill(made: Made, book: &mut GzBook, leaves: &mut [GzLeaf], readers: &mut [GzR
         leaves: leaf_boxes,
         readers: reader_boxes,
     } = made;
-    *book = GzBook::new(owner);
+    *book = hand_out(GzBook::of_parts(Parts::of(owner)));
     fill_leaves(leaves, leaf_boxes);
     fill_readers(readers, reader_boxes);
 }
@@ -96,5 +72,14 @@ pub extern "C" fn gz_table_new(
     ensures kept { (catalogue.new.full ≡ true) × (catalogue.new.held ≡ catalogue.old.held) }
     ensures made { HandlesMade (modules_of catalogue.old.held) result book.old book.new leaves.old leaves.new readers.old readers.new }
 {
-    made(alloc, catalogue.lend(), book, leaves, readers)
+    if leaves.len() >= CLOSED as usize {
+        return TOO_MANY_LEAVES;
+    }
+    match make(alloc, catalogue.lend(), leaves.len(), readers.len()) {
+        Err(_) => OUT_OF_MEMORY,
+        Ok(made) => {
+            fill(made, book, leaves, readers);
+            DONE
+        }
+    }
 }
