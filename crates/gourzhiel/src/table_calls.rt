@@ -1,7 +1,7 @@
 //! Makes a table, and fills empty handles with it.
 ghost use Rattle.std.specs.Prelude.{◌≡◌, true, false, map, length, All};
 ghost use Rattle.dep_index.specs.Catalogue.{modules_of};
-ghost use Rattle.gourzhiel.specs.Making.{AreFull, HandlesMade};
+ghost use Rattle.gourzhiel.specs.Making.{HandlesMade};
 
 use crate::handles::{GzBook, GzCatalogue, GzLeaf, GzReader};
 use crate::making::{Made, make};
@@ -35,24 +35,6 @@ fn fill_readers(handles: &mut [GzReader], readers: Vec<Box<OwnReader>>)
     }
 }
 
-fn fill(made: Made, book: &mut GzBook, leaves: &mut [GzLeaf], readers: &mut [GzReader])
-    requires leaves { length leaves.old ≡ length made.leaves.items }
-    requires readers { length readers.old ≡ length made.readers.items }
-    ensures full { AreFull book.new leaves.new readers.new }
-    ensures book { book.new.held ≡ made.book.value }
-    ensures leaves { map (λ h. h.held) leaves.new ≡ map (λ b. b.value) made.leaves.items }
-    ensures readers { map (λ h. h.held) readers.new ≡ map (λ b. b.value) made.readers.items }
-{
-    let Made {
-        book: owner,
-        leaves: leaf_boxes,
-        readers: reader_boxes,
-    } = made;
-    *book = hand_out(GzBook::of_parts(Parts::of(owner)));
-    fill_leaves(leaves, leaf_boxes);
-    fill_readers(readers, reader_boxes);
-}
-
 /// A new table over a catalogue: its book, so many leaves and so many readers. All modules are absent.
 /// It fills empty handles; the leaf at place k is the worker of the number k.
 ///
@@ -78,7 +60,14 @@ pub extern "C" fn gz_table_new(
     match make(alloc, catalogue.lend(), leaves.len(), readers.len()) {
         Err(_) => OUT_OF_MEMORY,
         Ok(made) => {
-            fill(made, book, leaves, readers);
+            let Made {
+                book: owner,
+                leaves: leaf_boxes,
+                readers: reader_boxes,
+            } = made;
+            *book = hand_out(GzBook::of_parts(Parts::of(owner)));
+            fill_leaves(leaves, leaf_boxes);
+            fill_readers(readers, reader_boxes);
             DONE
         }
     }
