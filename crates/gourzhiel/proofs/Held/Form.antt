@@ -4,7 +4,6 @@ use mathlib.Core.Bool.{Bool, true}
 use mathlib.Core.List.{List, [], ◌∷◌}
 use mir.Syntax.{Sym, Ty, tnil, tcons, ty_ptr, ty_struct}
 use mir.Val.{Val}
-use base.Fml.{Fml}
 use denote.RattleType.{RattleType}
 use Rattle.std_alloc.specs.Box.{with_value}
 use Rattle.std_alloc.proofs.BoxSteps.Form.{Bx, X, D, B, τ}

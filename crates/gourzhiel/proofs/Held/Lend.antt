@@ -37,7 +37,7 @@ use denote.Triple.Walked.{says, Stays, stay_dropped, walk_of, ends_at, walked, w
 use Rattle.core.proofs.alloc.Calls.{token}
 use Rattle.std_alloc.specs.Box.{with_value}
 use Rattle.std_alloc.proofs.VecSteps.Shapes.{after}
-use Rattle.std_alloc.proofs.BoxSteps.Form.{Bx, X, B, τ, word, handle}
+use Rattle.std_alloc.proofs.BoxSteps.Form.{Bx, X, τ, word, handle}
 use Rattle.std_alloc.proofs.BoxSteps.Steps.{box_out, box_in}
 use Rattle.gourzhiel.proofs.Held.Form.{Handle, T, H, at_handle, with_held}
 

@@ -3,9 +3,9 @@ use mathlib.Core.Path.{◌≡◌, refl, sym, subst, ap, ◌∙◌}
 use mathlib.Core.Bool.{true}
 use mathlib.Core.List.{List, [], ◌∷◌, ◌++◌}
 use seplogic.Ra.Ura.{Ura}
-use mir.Syntax.{Callee, Fn, Ty, ty_ptr, local, value_local, place, field, copy, rv_opd, aggregate, seq, assign, return}
+use mir.Syntax.{Callee, Fn, ty_ptr, local, value_local, place, field, copy, rv_opd, aggregate, seq, assign, return}
 use mir.Val.{Val}
-use base.Logic.{SProp, ent, emp, id⊢}
+use base.Logic.{ent, emp, id⊢}
 use base.Fml.{Fml, ftrue, fsep}
 use prog.Model.{Model}
 use prog.Wp.{Closed, WpFn, Tables}
