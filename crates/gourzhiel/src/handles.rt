@@ -33,10 +33,8 @@ impl GzCatalogue {
         ensures { (result.full ≡ true) × (result.held ≡ parts.value) }
     {
         let Parts { at, alloc } = parts;
-        GzCatalogue {
-            at: at as *mut u8,
-            alloc,
-        }
+        let at = at as *mut u8;
+        GzCatalogue { at, alloc }
     }
 
     pub fn into_parts(self) -> Parts<Catalogue, Global>
@@ -44,10 +42,8 @@ impl GzCatalogue {
         ensures { result.value ≡ self.held }
     {
         let GzCatalogue { at, alloc } = self;
-        Parts {
-            at: at as *mut Catalogue,
-            alloc,
-        }
+        let at = at as *mut Catalogue;
+        Parts { at, alloc }
     }
 
     pub fn lend(&mut self) -> &mut Catalogue
@@ -83,10 +79,8 @@ impl GzBook {
         ensures { (result.full ≡ true) × (result.held ≡ parts.value) }
     {
         let Parts { at, alloc } = parts;
-        GzBook {
-            at: at as *mut u8,
-            alloc,
-        }
+        let at = at as *mut u8;
+        GzBook { at, alloc }
     }
 
     pub fn into_parts(self) -> Parts<OwnBook, Global>
@@ -94,10 +88,8 @@ impl GzBook {
         ensures { result.value ≡ self.held }
     {
         let GzBook { at, alloc } = self;
-        Parts {
-            at: at as *mut OwnBook,
-            alloc,
-        }
+        let at = at as *mut OwnBook;
+        Parts { at, alloc }
     }
 
     pub fn lend(&mut self) -> &mut OwnBook
@@ -133,10 +125,8 @@ impl GzLeaf {
         ensures { (result.full ≡ true) × (result.held ≡ parts.value) }
     {
         let Parts { at, alloc } = parts;
-        GzLeaf {
-            at: at as *mut u8,
-            alloc,
-        }
+        let at = at as *mut u8;
+        GzLeaf { at, alloc }
     }
 
     pub fn into_parts(self) -> Parts<OwnLeaf, Global>
@@ -144,10 +134,8 @@ impl GzLeaf {
         ensures { result.value ≡ self.held }
     {
         let GzLeaf { at, alloc } = self;
-        Parts {
-            at: at as *mut OwnLeaf,
-            alloc,
-        }
+        let at = at as *mut OwnLeaf;
+        Parts { at, alloc }
     }
 
     pub fn lend(&mut self) -> &mut OwnLeaf
@@ -183,10 +171,8 @@ impl GzReader {
         ensures { (result.full ≡ true) × (result.held ≡ parts.value) }
     {
         let Parts { at, alloc } = parts;
-        GzReader {
-            at: at as *mut u8,
-            alloc,
-        }
+        let at = at as *mut u8;
+        GzReader { at, alloc }
     }
 
     pub fn into_parts(self) -> Parts<OwnReader, Global>
@@ -194,10 +180,8 @@ impl GzReader {
         ensures { result.value ≡ self.held }
     {
         let GzReader { at, alloc } = self;
-        Parts {
-            at: at as *mut OwnReader,
-            alloc,
-        }
+        let at = at as *mut OwnReader;
+        Parts { at, alloc }
     }
 
     pub fn lend(&mut self) -> &mut OwnReader
