@@ -1,7 +1,7 @@
 //! Reading a catalogue of 1,024 modules with 10 exports and 10 needs each.
 
 use crate::figure::{measure_rate, print_figure};
-use crate::texts::{catalogue_of, text_of};
+use crate::texts::{catalogue_of, of_text};
 use anyhow::Result;
 use dep_index::Catalogue;
 use std::alloc::{AllocError, Global};
@@ -14,8 +14,8 @@ const SYMBOLS: usize = 10;
 const READS: usize = 150;
 
 pub fn measure<R: Print + Clock + AllocGlobal>(rt: &R) -> Result<()> {
-    let text = text_of(rt.alloc(), "version 2\n", MODULES, push_module)?;
-    measure_text(rt, text.as_bytes())
+    let measure = |text: &[u8]| measure_text(rt, text);
+    of_text(rt.alloc(), "version 2\n", MODULES, push_module, measure)
 }
 
 fn measure_text<R: Print + Clock + AllocGlobal>(rt: &R, text: &[u8]) -> Result<()> {

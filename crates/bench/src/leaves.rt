@@ -6,7 +6,7 @@ ghost use Rattle.root_row.specs.Views.{worker_of};
 ghost use Rattle.root_row.specs.Made.{new_book, new_leaf};
 ghost use Rattle.dep_index.specs.Catalogue.{modules_of};
 
-use crate::workers::{COUNT, SlotRange, Worker, catalogue, measure_workers, worker_counts};
+use crate::workers::{COUNT, SlotRange, Worker, measure_counts, measure_workers};
 use anyhow::{Result, bail};
 use crossbeam_utils::CachePadded;
 use dep_index::Catalogue;
@@ -67,11 +67,8 @@ fn make_round<R: Wait>(rt: &R, row: &Row, leaf: &mut Leaf, range: SlotRange)
 }
 
 pub fn measure<R: Print + Clock + AllocGlobal + Threads + Wait + Sync>(rt: &R) -> Result<()> {
-    let catalogue = catalogue(rt.alloc())?;
-    for workers in worker_counts(rt)? {
-        measure_count(rt, &catalogue, *workers)?;
-    }
-    Ok(())
+    let measure = |catalogue: &Catalogue, workers| measure_count(rt, catalogue, workers);
+    measure_counts(rt, measure)
 }
 
 fn measure_count<R: Print + Clock + AllocGlobal + Threads + Wait + Sync>(

@@ -27,12 +27,8 @@ pub fn measure<R: Print + Clock + AllocGlobal>(rt: &R) -> Result<()> {
 
 fn measure_size<R: Print + Clock + AllocGlobal>(rt: &R, modules: usize) -> Result<()> {
     let catalogue = numbered_catalogue(rt.alloc(), modules, push_module)?;
-    measure_catalogue(rt, &catalogue)
-}
-
-fn measure_catalogue<R: Print + Clock + AllocGlobal>(rt: &R, catalogue: &Catalogue) -> Result<()> {
-    let table = loaded(rt.alloc(), catalogue)?;
-    measure_table(rt, catalogue, &table)
+    let table = loaded(rt.alloc(), &catalogue)?;
+    measure_table(rt, &catalogue, &table)
 }
 
 /// Prints how long each of the listings takes, and how many bytes both have.
@@ -65,23 +61,16 @@ fn push_module(text: &mut String, slot: usize) -> Result<(), AllocError> {
     Ok(())
 }
 
-/// Makes a module live.
-fn load(table: &mut Table, slot: usize)
-    ensures { table.new.catalogue ≡ table.old.catalogue }
-{
-    if slot < table.slots() {
-        let _ = table.begin_load(slot);
-        let _ = table.end_load(slot, true);
-    }
-}
-
 /// A table in which every module is live.
 fn loaded(alloc: Global, catalogue: &Catalogue) -> Result<Table, AllocError>
     ensures { IfOk result (λ t. t.catalogue ≡ modules_of catalogue.now) }
 {
     let mut table = Table::new(alloc, catalogue, WORKERS)?;
     for slot in 0..catalogue.len() {
-        load(&mut table, slot);
+        if slot < table.slots() {
+            let _ = table.begin_load(slot);
+            let _ = table.end_load(slot, true);
+        }
     }
     Ok(table)
 }

@@ -2,17 +2,16 @@
 
 use crate::figure::{measure_rate, print_figure};
 use crate::points::{MODULES, THREADS, loads};
+use crate::texts::plain_catalogue;
 use anyhow::{Result, bail};
-use dep_index::Slots;
-use std::alloc::{AllocError, Global};
 use std::rt::Clock;
 use step_core::{Call, Event, Machine, Step};
 
 const STEPS: usize = 10_000_000;
 
 pub fn measure<R: Print + Clock + AllocGlobal>(rt: &R) -> Result<()> {
-    let slots = modules(rt.alloc())?;
-    let mut machine = Machine::over(rt.alloc(), slots, THREADS, THREADS, STEPS)?;
+    let catalogue = plain_catalogue(rt.alloc(), MODULES)?;
+    let mut machine = Machine::new(rt.alloc(), &catalogue, THREADS, THREADS, STEPS)?;
     measure_machine(rt, &mut machine)
 }
 
@@ -22,14 +21,6 @@ fn measure_machine<R: Print + Clock + AllocGlobal>(rt: &R, machine: &mut Machine
     }
     let points = measure_rate(rt, "machine_steps", STEPS, "steps/s", || run(machine))?;
     print_figure(rt, "machine_points", points as u128, "points")
-}
-
-fn modules(alloc: Global) -> Result<Slots, AllocError> {
-    let mut slots = Slots::new(alloc);
-    for _ in 0..MODULES {
-        slots.push(Vec::new(alloc), false, false)?;
-    }
-    Ok(slots)
 }
 
 fn step(machine: &mut Machine, step: Step) -> Result<Event> {

@@ -1,7 +1,6 @@
 //! Measures the crates, one benchmark a call: `bench NAME`. With no argument it lists the benchmarks.
 #![tactic(auto)]
 
-mod aliases;
 mod catalogue;
 mod configuration;
 mod figure;
@@ -19,77 +18,35 @@ mod workers;
 use anyhow::Result;
 use std::env;
 use std::process::ExitCode;
-use std::rt::Runtime;
-use std::sync::Wait;
-use std::thread::Threads;
 
-/// What can be measured.
-#[derive(Clone, Copy)]
-enum Benchmark {
-    Catalogue,
-    Configuration,
-    Leaves,
-    Listing,
-    Machine,
-    Manager,
-    Patterns,
-    Plans,
-    Points,
-}
+/// A benchmark: its name, and what measures it.
+type Benchmark = (&'static str, fn(&HostRuntime) -> Result<()>);
 
-const ALL: [(&str, Benchmark); 9] = [
-    ("catalogue", Benchmark::Catalogue),
-    ("configuration", Benchmark::Configuration),
-    ("leaves", Benchmark::Leaves),
-    ("listing", Benchmark::Listing),
-    ("machine", Benchmark::Machine),
-    ("manager", Benchmark::Manager),
-    ("patterns", Benchmark::Patterns),
-    ("plans", Benchmark::Plans),
-    ("points", Benchmark::Points),
-];
-
-impl Benchmark {
-    fn measure<R: Runtime + AllocGlobal + Threads + Wait + Sync>(self, rt: &R) -> Result<()> {
-        match self {
-            Benchmark::Catalogue => catalogue::measure(rt),
-            Benchmark::Configuration => configuration::measure(rt),
-            Benchmark::Leaves => leaves::measure(rt),
-            Benchmark::Listing => listing::measure(rt),
-            Benchmark::Machine => machine::measure(rt),
-            Benchmark::Manager => manager::measure(rt),
-            Benchmark::Patterns => patterns::measure(rt),
-            Benchmark::Plans => plans::measure(rt),
-            Benchmark::Points => points::measure(rt),
+fn main(rt: HostRuntime) -> Result<ExitCode> {
+    let all: [Benchmark; 9] = [
+        ("catalogue", |rt| catalogue::measure(rt)),
+        ("configuration", |rt| configuration::measure(rt)),
+        ("leaves", |rt| leaves::measure(rt)),
+        ("listing", |rt| listing::measure(rt)),
+        ("machine", |rt| machine::measure(rt)),
+        ("manager", |rt| manager::measure(rt)),
+        ("patterns", |rt| patterns::measure(rt)),
+        ("plans", |rt| plans::measure(rt)),
+        ("points", |rt| points::measure(rt)),
+    ];
+    let mut args = env::args(&rt)?;
+    let _program = args.next();
+    let Some(name) = args.next() else {
+        for (name, _) in &all {
+            println!(rt; "{name}")?;
         }
-    }
-}
-
-fn list<R: Print>(rt: &R) -> Result<()> {
-    for (name, _) in &ALL {
-        println!(rt; "{name}")?;
-    }
-    Ok(())
-}
-
-fn run<R: Runtime + AllocGlobal + Threads + Wait + Sync>(rt: &R, name: &str) -> Result<ExitCode> {
-    let Some((_, benchmark)) = ALL.iter().find(|(own, _)| *own == name) else {
+        return Ok(ExitCode::SUCCESS);
+    };
+    let Some((_, measure)) = all.iter().find(|(own, _)| *own == name.as_str()) else {
         eprintln!(rt; "bench: no benchmark {name}")?;
         return Ok(ExitCode::from(2));
     };
-    load::print_load(rt)?;
-    benchmark.measure(rt)?;
+    load::print_load(&rt)?;
+    measure(&rt)?;
     Ok(ExitCode::SUCCESS)
-}
-
-fn main(rt: HostRuntime) -> Result<ExitCode> {
-    let mut args = env::args(&rt)?;
-    let _program = args.next();
-    match args.next() {
-        None => {
-            list(&rt)?;
-            Ok(ExitCode::SUCCESS)
-        }
-        Some(name) => run(&rt, name.as_str()),
-    }
 }

@@ -1,9 +1,10 @@
-//! Shell patterns of hardware aliases: one pair at a time, and a look-up over many.
+//! Shell patterns of hardware aliases: one pair at a time, and a look-up over the 26,000 of a modules.alias text.
 
-use crate::aliases::{DEVICE, aliases_text};
 use crate::figure::{measure_rate, measure_time};
+use crate::texts::of_text;
 use alias_match::{Aliases, Pattern, read_aliases};
 use anyhow::{Result, ensure};
+use std::alloc::{AllocError, Global};
 use std::rt::Clock;
 
 const USB: &[u8] = b"usb:v0A12p0001d*dc*dsc*dp*ic*isc*ip*in*";
@@ -30,22 +31,45 @@ const ROUNDS: usize = 300_000;
 
 const LOOKUPS: usize = 100;
 
+/// How many devices the text has, half of them on each of two buses.
+const DEVICES: usize = 26_000;
+
+/// A device that one of the patterns matches.
+pub const DEVICE: &[u8] = b"pci:v00001388d00001388sv00001028sd000006DEbc03sc00i00";
+
+/// Adds the alias of a device; its vendor and its product have its number.
+fn push_alias(text: &mut String, device: usize) -> Result<(), AllocError> {
+    if device % 2 == 0 {
+        writeln!(
+            text,
+            "alias pci:v0000{device:04X}d0000{device:04X}sv*sd*bc*sc*i* driver-{device}"
+        )
+    } else {
+        writeln!(
+            text,
+            "alias usb:v{device:04X}p{device:04X}d*dc*dsc*dp*ic*isc*ip*in* driver-{device}"
+        )
+    }
+}
+
+/// The aliases of this text.
+pub fn aliases(alloc: Global) -> Result<Aliases> {
+    let read = |text: &[u8]| Ok(read_aliases(alloc, text)?);
+    of_text(alloc, "", DEVICES, push_alias, read)
+}
+
 pub fn measure<R: Print + Clock + AllocGlobal>(rt: &R) -> Result<()> {
     for (name, pattern, text, is_hit) in &PAIRS {
         let pattern = Pattern::read(rt.alloc(), pattern)?;
-        let hits = measure_time(
-            rt,
-            *name,
-            ROUNDS,
-            |_| Ok(usize::from(pattern.matches(text))),
-        )?;
+        let matches = |_| Ok(usize::from(pattern.matches(text)));
+        let hits = measure_time(rt, *name, ROUNDS, matches)?;
         ensure!(
             hits == if *is_hit { ROUNDS as u128 } else { 0 },
             "another answer"
         );
     }
-    let text = aliases_text(rt.alloc())?;
-    measure_text(rt, text.as_bytes())
+    let measure = |text: &[u8]| measure_text(rt, text);
+    of_text(rt.alloc(), "", DEVICES, push_alias, measure)
 }
 
 fn measure_text<R: Print + Clock + AllocGlobal>(rt: &R, text: &[u8]) -> Result<()> {

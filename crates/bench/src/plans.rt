@@ -1,13 +1,12 @@
 //! Plans in a catalogue of 1,024 modules with three hard dependencies each, and a look-up over 26,000 aliases.
 
-use crate::aliases::{DEVICE, aliases};
 use crate::figure::{measure_time, print_figure};
-use crate::texts::{numbered_catalogue, text_of};
-use alias_match::Aliases;
-use anyhow::{Result, bail, ensure};
-use dep_index::{Catalogue, DepIndex, read_dep};
-use load_plan::{PlanError, Sources, find, plan, removal_plan};
-use modprobe_conf::{Conf, read_conf};
+use crate::patterns::{DEVICE, aliases};
+use crate::texts::{numbered_catalogue, of_text};
+use anyhow::{Result, ensure};
+use dep_index::read_dep;
+use load_plan::{Sources, find, plan, removal_plan};
+use modprobe_conf::read_conf;
 use std::alloc::{AllocError, Global};
 use std::rt::Clock;
 
@@ -39,43 +38,31 @@ const BY_PATHS: [(&str, Asked); 3] = [
     ("removal_plan_by_modules_dep", Asked::Removal(b"module_0")),
 ];
 
-/// What a plan is made from, as it was read.
-#[derive(Drop)]
-struct Inputs {
-    catalogue: Catalogue,
-    dependencies: DepIndex,
-    configuration: Conf,
-}
-
-impl Inputs {
-    /// The hard dependencies stand in the catalogue, as symbols, or else in modules.dep.
-    fn read(alloc: Global, has_symbols: bool) -> Result<Inputs> {
-        Ok(Inputs {
-            catalogue: catalogue(alloc, has_symbols)?,
-            dependencies: dependencies(alloc, !has_symbols)?,
-            configuration: configuration(alloc)?,
-        })
-    }
-
-    fn sources(&self) -> Sources<'_> {
-        Sources {
-            catalogue: &self.catalogue,
-            dependencies: &self.dependencies,
-            configuration: &self.configuration,
-        }
-    }
-}
-
 pub fn measure<R: Print + Clock + AllocGlobal>(rt: &R) -> Result<()> {
-    let by_symbols = Inputs::read(rt.alloc(), true)?;
-    measure_plans(rt, &by_symbols.sources(), &BY_SYMBOLS)?;
-    measure_by_paths(rt)?;
-    measure_find(rt, &by_symbols.sources())
+    over_sources(rt.alloc(), true, |sources| {
+        measure_plans(rt, sources, &BY_SYMBOLS)?;
+        over_sources(rt.alloc(), false, |own| measure_plans(rt, own, &BY_PATHS))?;
+        measure_find(rt, sources)
+    })
 }
 
-fn measure_by_paths<R: Print + Clock + AllocGlobal>(rt: &R) -> Result<()> {
-    let by_paths = Inputs::read(rt.alloc(), false)?;
-    measure_plans(rt, &by_paths.sources(), &BY_PATHS)
+/// Measures over the hard dependencies in the catalogue, as symbols, or else in modules.dep.
+fn over_sources<F: FnOnce(&Sources<'_>) -> Result<()>>(
+    alloc: Global,
+    has_symbols: bool,
+    measure: F,
+) -> Result<()>
+    requires { F.IsAlwaysCallable measure }
+{
+    let paths = if has_symbols { 0 } else { MODULES };
+    let push = |text: &mut String, slot| push_module(text, slot, has_symbols);
+    let dependencies = |text: &[u8]| Ok(read_dep(alloc, text)?);
+    let configuration = |text: &[u8]| Ok(read_conf(alloc, text)?);
+    measure(&Sources {
+        catalogue: &numbered_catalogue(alloc, MODULES, push)?,
+        dependencies: &of_text(alloc, "", paths, push_paths, dependencies)?,
+        configuration: &of_text(alloc, "", MODULES, push_settings, configuration)?,
+    })
 }
 
 fn measure_plans<R: Print + Clock + AllocGlobal>(
@@ -85,25 +72,14 @@ fn measure_plans<R: Print + Clock + AllocGlobal>(
 ) -> Result<()> {
     for (name, asked) in plans {
         let items = measure_time(rt, *name, PLANS, |_| len_of(rt.alloc(), sources, *asked))?;
-        print_figure(
-            rt,
-            format_args!("{name}_items"),
-            items / PLANS as u128,
-            "items",
-        )?;
+        let name = format_args!("{name}_items");
+        print_figure(rt, name, items / PLANS as u128, "items")?;
     }
     Ok(())
 }
 
 /// How many modules the plan that is asked for has.
 fn len_of(alloc: Global, sources: &Sources, asked: Asked) -> Result<usize> {
-    match try_len_of(alloc, sources, asked) {
-        Ok(len) => Ok(len),
-        Err(_) => bail!("no plan"),
-    }
-}
-
-fn try_len_of(alloc: Global, sources: &Sources, asked: Asked) -> Result<usize, PlanError> {
     match asked {
         Asked::Load(module) => Ok(plan(alloc, module, &[], sources)?.len()),
         Asked::Removal(module) => Ok(removal_plan(alloc, module, sources)?.len()),
@@ -112,49 +88,24 @@ fn try_len_of(alloc: Global, sources: &Sources, asked: Asked) -> Result<usize, P
 
 fn measure_find<R: Print + Clock + AllocGlobal>(rt: &R, sources: &Sources) -> Result<()> {
     let aliases = aliases(rt.alloc())?;
-    let look_up = |_| Ok(usize::from(is_found(rt.alloc(), sources, &aliases)));
+    let (catalogue, configuration) = (sources.catalogue, sources.configuration);
+    let look_up = |_| {
+        let found = find(rt.alloc(), DEVICE, catalogue, configuration, &aliases);
+        Ok(usize::from(found.is_ok()))
+    };
     let found = measure_time(rt, "find_in_26000_aliases", LOOKUPS, look_up)?;
     ensure!(found == LOOKUPS as u128, "no module was found");
     Ok(())
 }
 
-fn is_found(alloc: Global, sources: &Sources, aliases: &Aliases) -> bool {
-    find(
-        alloc,
-        DEVICE,
-        sources.catalogue,
-        sources.configuration,
-        aliases,
-    )
-    .is_ok()
-}
-
-fn catalogue(alloc: Global, has_symbols: bool) -> Result<Catalogue> {
+/// Adds the lines of a module, with its dependencies by symbols or without them.
+fn push_module(text: &mut String, slot: usize, has_symbols: bool) -> Result<(), AllocError> {
+    writeln!(text, "module module_{slot}")?;
     if has_symbols {
-        numbered_catalogue(alloc, MODULES, push_symbols)
-    } else {
-        numbered_catalogue(
-            alloc,
-            MODULES,
-            |text, slot| writeln!(text, "module module_{slot}"),
-        )
+        writeln!(text, "exports symbol_{slot}")?;
+        push_dependencies(text, slot, "needs symbol_", "\n")?;
     }
-}
-
-fn dependencies(alloc: Global, has_paths: bool) -> Result<DepIndex> {
-    let text = text_of(alloc, "", if has_paths { MODULES } else { 0 }, push_paths)?;
-    Ok(read_dep(alloc, text.as_bytes())?)
-}
-
-fn configuration(alloc: Global) -> Result<Conf> {
-    let text = text_of(alloc, "", MODULES, push_settings)?;
-    Ok(read_conf(alloc, text.as_bytes())?)
-}
-
-/// Adds the lines of a module that has its dependencies by symbols.
-fn push_symbols(text: &mut String, slot: usize) -> Result<(), AllocError> {
-    writeln!(text, "module module_{slot}\nexports symbol_{slot}")?;
-    push_dependencies(text, slot, "needs symbol_", "\n")
+    Ok(())
 }
 
 /// Adds a module's line of modules.dep.

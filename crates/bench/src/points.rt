@@ -1,7 +1,7 @@
 //! Schedules of 8 threads that get, query and put over 64 modules: their points, and the judging of these.
 
 use crate::figure::measure_rate;
-use crate::texts::numbered_catalogue;
+use crate::texts::plain_catalogue;
 use anyhow::{Result, ensure};
 use dep_index::Catalogue;
 use linear_points::{check_points, points};
@@ -20,15 +20,10 @@ const LINES: usize = 14;
 const SIZES: [usize; 2] = [250_000, 1_000_000];
 
 pub fn measure<R: Print + Clock + AllocGlobal>(rt: &R) -> Result<()> {
-    let push_module = |text: &mut String, slot| writeln!(text, "module m{slot}");
-    let catalogue = numbered_catalogue(rt.alloc(), MODULES, push_module)?;
-    measure_schedules(rt, &catalogue)
-}
-
-fn measure_schedules<R: Print + Clock + AllocGlobal>(rt: &R, catalogue: &Catalogue) -> Result<()> {
+    let catalogue = plain_catalogue(rt.alloc(), MODULES)?;
     for len in &SIZES {
         let steps = schedule(rt.alloc(), *len)?;
-        measure_points(rt, catalogue, &steps)?;
+        measure_points(rt, &catalogue, &steps)?;
     }
     Ok(())
 }
