@@ -1,5 +1,6 @@
 //! Bars: the parts of calls within a band.
 
+use crate::entries::Entry;
 use std::alloc::AllocError;
 
 /// How large things are drawn: in pixels, or in letters of a terminal.
@@ -19,20 +20,20 @@ pub(crate) struct Scale {
     pub(crate) has_text_in_bars: bool,
 }
 
-/// Where the text of a bar stands, and how many letters of it there is room for.
-#[derive(Clone, Copy, Debug, PartialEq, Eq, Drop)]
+/// Where the text of a bar stands.
+#[derive(Clone, Copy, Drop)]
 pub(crate) enum Label {
     Hidden,
+    /// In the bar, which has room for so many letters of it.
     Inside { letters: u32 },
     /// In a row above the bar, of which 0 is the lowest; `at` is its beginning.
-    Above { row: u32, at: u32, letters: u32 },
+    Above { row: u32, at: u32 },
 }
 
-/// The part of a call that lies within a band. Columns are those of the band.
-#[derive(Clone, Copy, Debug, Drop)]
-pub(crate) struct Bar {
-    /// The place of the call in the report.
-    pub(crate) call: usize,
+/// A call in the whole picture, or the part of it that lies within a band. Columns are those of the picture or the band.
+#[derive(Clone, Copy, Drop)]
+pub(crate) struct Bar<'e> {
+    pub(crate) entry: &'e Entry<'e>,
     pub(crate) lane: usize,
     pub(crate) from: u32,
     pub(crate) to: u32,
@@ -45,16 +46,8 @@ pub(crate) struct Bar {
     pub(crate) label: Label,
 }
 
-/// The columns of a call in the whole picture.
-#[derive(Clone, Copy, Drop)]
-pub(crate) struct Span {
-    pub(crate) from: u32,
-    pub(crate) to: u32,
-    pub(crate) point: Option<u32>,
-}
-
 /// A step that a report names, in a band.
-#[derive(Clone, Copy, Debug, Drop)]
+#[derive(Clone, Copy, Drop)]
 pub(crate) struct Tick {
     pub(crate) step: u32,
     pub(crate) column: u32,
@@ -64,9 +57,9 @@ pub(crate) struct Tick {
 
 /// A band: some columns of all lanes.
 #[derive(Drop)]
-pub(crate) struct Band {
+pub(crate) struct Band<'e> {
     pub(crate) ticks: Vec<Tick>,
-    pub(crate) bars: Vec<Bar>,
+    pub(crate) bars: Vec<Bar<'e>>,
     /// How many rows of labels each lane has.
     pub(crate) rows: Vec<u32>,
 }
@@ -83,38 +76,34 @@ impl Scale {
     }
 }
 
-/// The bar of a call in a band, whose columns begin and end with these.
-fn bar_in(call: usize, lane: usize, span: Span, begin: u32, end: u32) -> Bar {
-    let point = match span.point {
+/// The part of a bar that lies within a band whose columns begin and end with these.
+fn part<'e>(whole: &Bar<'e>, begin: u32, end: u32) -> Bar<'e> {
+    let point = match whole.point {
         Some(point) if begin <= point && point <= end => Some(point - begin),
         _ => None,
     };
     Bar {
-        call,
-        lane,
-        from: span.from.saturating_sub(begin),
-        to: span.to.min(end).saturating_sub(begin),
-        has_first: begin <= span.from,
-        has_end: span.to <= end,
+        from: whole.from.saturating_sub(begin),
+        to: whole.to.min(end).saturating_sub(begin),
+        has_first: begin <= whole.from,
+        has_end: whole.to <= end,
         point,
-        label: Label::Hidden,
+        ..*whole
     }
 }
 
-/// Adds the bars of a call to the bands in which it lies.
-pub(crate) fn push_bars(
-    bands: &mut Vec<Band>,
+/// Adds the parts of a bar to the bands, of so many columns, in which it lies.
+pub(crate) fn push_parts<'e>(
+    bands: &mut Vec<Band<'e>>,
     columns: u32,
-    call: usize,
-    lane: usize,
-    span: Span,
+    whole: &Bar<'e>,
 ) -> Result<(), AllocError> {
     let columns = columns.max(1);
-    for index in span.from / columns..(span.to / columns).saturating_add(1) {
+    for index in whole.from / columns..(whole.to / columns).saturating_add(1) {
         let begin = index.saturating_mul(columns);
         let end = begin.saturating_add(columns - 1);
         if let Some(band) = bands.get_mut(index as usize) {
-            band.bars.push(bar_in(call, lane, span, begin, end))?;
+            band.bars.push(part(whole, begin, end))?;
         }
     }
     Ok(())

@@ -18,6 +18,11 @@ pub(crate) fn reply_text(effect: Option<Effect>) -> &'static str {
     }
 }
 
+/// Whether a call was refused at its point.
+pub(crate) fn is_refused(entry: &Entry<'_>) -> bool {
+    matches!(entry.effect, Some(effect) if effect.reply.is_refusal())
+}
+
 /// How many letters a text has.
 pub(crate) fn letters(text: &[u8]) -> u32 {
     u32::try_from(text.len()).unwrap_or(u32::MAX)

@@ -14,41 +14,33 @@ pub(crate) struct Columns {
     places: Vec<u32>,
 }
 
-fn push_steps(steps: &mut Vec<u32>, entry: &Entry<'_>) -> Result<(), AllocError> {
-    steps.push(entry.first)?;
-    if let Some(last) = entry.last {
-        steps.push(last)?;
-    }
-    if let Some(effect) = entry.effect {
-        steps.push(effect.point)?;
-    }
-    Ok(())
-}
-
-/// The steps that entries name, in rising order. One may stand there several times.
+/// The steps that entries name, in rising order.
 fn named_steps(alloc: Global, entries: &[Entry<'_>]) -> Result<Vec<u32>, AllocError> {
     let mut steps = Vec::new(alloc);
     for entry in entries {
-        push_steps(&mut steps, entry)?;
+        steps.push(entry.first)?;
+        if let Some(last) = entry.last {
+            steps.push(last)?;
+        }
+        if let Some(effect) = entry.effect {
+            steps.push(effect.point)?;
+        }
     }
     steps.sort()?;
+    steps.dedup();
     Ok(steps)
 }
 
 impl Columns {
     pub(crate) fn new(alloc: Global, entries: &[Entry<'_>]) -> Result<Columns, AllocError> {
-        let mut steps: Vec<u32> = Vec::new(alloc);
-        let mut places: Vec<u32> = Vec::new(alloc);
-        let mut before = None;
-        for step in &named_steps(alloc, entries)? {
-            let (earlier, column) = before.unwrap_or((*step, 0));
-            let apart = step.saturating_sub(earlier);
-            if before.is_none() || apart > 0 {
-                let column: u32 = u32::saturating_add(column, apart.min(WIDEST));
-                steps.push(*step)?;
-                places.push(column)?;
-                before = Some((*step, column));
-            }
+        let steps = named_steps(alloc, entries)?;
+        let mut places = Vec::new(alloc);
+        let mut earlier = steps.first().copied().unwrap_or(0);
+        let mut column: u32 = 0;
+        for step in &steps {
+            column = column.saturating_add(step.saturating_sub(earlier).min(WIDEST));
+            places.push(column)?;
+            earlier = *step;
         }
         Ok(Columns { steps, places })
     }
@@ -67,7 +59,11 @@ impl Columns {
     }
 
     /// Adds to each band, of so many columns, the steps that are named there.
-    pub(crate) fn push_ticks(&self, bands: &mut Vec<Band>, columns: u32) -> Result<(), AllocError> {
+    pub(crate) fn push_ticks(
+        &self,
+        bands: &mut Vec<Band<'_>>,
+        columns: u32,
+    ) -> Result<(), AllocError> {
         let columns = columns.max(1);
         let mut earlier = 0;
         for (step, place) in self.steps.iter().zip(&self.places) {

@@ -7,7 +7,6 @@ mod columns;
 mod entries;
 mod escapes;
 mod labels;
-mod lanes;
 pub mod laws;
 mod layout;
 mod numbers;

@@ -1,54 +1,22 @@
 //! The program over any input and output.
-ghost use Rattle.timeline_drive.specs.declared.program.Fault.TheVariants as faults;
-ghost use Rattle.std.specs.Prelude.{◌≡◌, ◌≤◌};
+ghost use Rattle.std.specs.Prelude.{◌≤◌};
 
 use crate::reports::{ReportFault, read_report};
 use crate::svg::svg_text;
 use crate::terminal::terminal_text;
-use clap::error::ErrorKind;
 use clap::{Arg, ArgAction, Command, Error as ClapError};
-use std::alloc::{AllocError, Global};
-use std::io;
+use program_frame::{Status, StreamFault, end_by, read_input, write_text};
+use std::alloc::Global;
 use std::io::{Read, Write};
 use thiserror::Error;
-
-/// How the program ends.
-#[derive(Clone, Copy, Drop)]
-enum Status {
-    Done = 0,
-    /// An argument or the input is refused.
-    Refused = 2,
-    /// A stream failed, or memory ran out.
-    Fault = 3,
-}
 
 /// Why the program wrote nothing, or not all.
 #[derive(Clone, Copy, Debug, Drop, Error)]
 enum Fault {
-    #[error("read fault")]
-    Read,
-    #[error("write fault")]
-    Write,
-    #[error("out of memory")]
-    Memory,
     #[error("{0}")]
-    Input(ReportFault),
-}
-
-impl From<AllocError> for Fault {
-    ghost from_gives = { λ _ told. told ≡ faults.Memory };
-
-    fn from(_: AllocError) -> Fault {
-        Fault::Memory
-    }
-}
-
-impl From<ReportFault> for Fault {
-    ghost from_gives = { λ fault told. told ≡ faults.Input fault };
-
-    fn from(fault: ReportFault) -> Fault {
-        Fault::Input(fault)
-    }
+    Stream(#[from] StreamFault),
+    #[error("{0}")]
+    Input(#[from] ReportFault),
 }
 
 fn status_of(fault: Fault) -> Status {
@@ -58,17 +26,18 @@ fn status_of(fault: Fault) -> Status {
     }
 }
 
-/// All bytes of the reader.
-fn read_input<I: Read>(alloc: Global, reader: &mut I) -> Result<Vec<u8>, Fault> {
-    let mut input = Vec::new(alloc);
-    match reader.read_to_end(&mut input) {
-        Ok(_) => Ok(input),
-        Err(error) if error.kind() == io::ErrorKind::OutOfMemory => Err(Fault::Memory),
-        Err(_) => Err(Fault::Read),
-    }
+/// The picture of the report that an input is.
+fn picture(alloc: Global, in_letters: bool, input: &[u8]) -> Result<String, ReportFault> {
+    let entries = read_report(alloc, input)?;
+    let picture = if in_letters {
+        terminal_text(alloc, &entries)?
+    } else {
+        svg_text(alloc, &entries)?
+    };
+    Ok(picture)
 }
 
-/// Writes the picture of the report that the input is.
+/// Reads a report and writes its picture.
 fn write_picture<I: Read, O: Write>(
     alloc: Global,
     in_letters: bool,
@@ -76,16 +45,9 @@ fn write_picture<I: Read, O: Write>(
     writer: &mut O,
 ) -> Result<(), Fault> {
     let input = read_input(alloc, reader)?;
-    let entries = read_report(alloc, &input)?;
-    let picture = if in_letters {
-        terminal_text(alloc, &entries)?
-    } else {
-        svg_text(alloc, &entries)?
-    };
-    match writer.write_all(picture.as_bytes()) {
-        Ok(()) => Ok(()),
-        Err(_) => Err(Fault::Write),
-    }
+    let picture = picture(alloc, in_letters, &input)?;
+    write_text(picture.as_bytes(), writer)?;
+    Ok(())
 }
 
 const EXAMPLE: &str = "Standard input is a report, as workload writes it.
@@ -114,30 +76,19 @@ fn asks_for_letters(alloc: Global, words: &[String]) -> Result<bool, ClapError> 
     Ok(matches.get_flag("text"))
 }
 
-fn drive_or_fail<I: Read, O: Write, E: Write>(
+/// Draws the report of the reader. A fault is told.
+fn answer<I: Read, O: Write, E: Write>(
     alloc: Global,
-    words: &[String],
+    in_letters: bool,
     reader: &mut I,
     writer: &mut O,
     errors: &mut E,
-) -> Result<Status, AllocError> {
-    let in_letters = match asks_for_letters(alloc, words) {
-        Ok(in_letters) => in_letters,
-        Err(error) if error.kind() == ErrorKind::OutOfMemory => return Err(AllocError),
-        Err(error) if error.use_stderr() => {
-            let _ = write!(errors, "{error}");
-            return Ok(Status::Refused);
-        }
-        Err(error) => {
-            let _ = write!(writer, "{error}");
-            return Ok(Status::Done);
-        }
-    };
+) -> Status {
     match write_picture(alloc, in_letters, reader, writer) {
-        Ok(()) => Ok(Status::Done),
+        Ok(()) => Status::Done,
         Err(fault) => {
             let _ = writeln!(errors, "timeline: {fault}");
-            Ok(status_of(fault))
+            status_of(fault)
         }
     }
 }
@@ -154,12 +105,9 @@ pub fn drive<I: Read, O: Write, E: Write>(
 ) -> u8
     ensures { result ≤ 3 }
 {
-    let status = match drive_or_fail(alloc, words, reader, writer, errors) {
-        Ok(status) => status,
-        Err(_) => {
-            let _ = writeln!(errors, "timeline: out of memory");
-            Status::Fault
-        }
+    let status = match asks_for_letters(alloc, words) {
+        Ok(in_letters) => answer(alloc, in_letters, reader, writer, errors),
+        Err(error) => end_by("timeline", &error, writer, errors),
     };
-    status as u8
+    status.number()
 }

@@ -9,7 +9,7 @@ use crate::entries::Entry;
 use crate::layout::Layout;
 use bands::{band_height, push_band};
 use std::alloc::{AllocError, Global};
-use style::{STYLE, push_legend};
+use style::{LEGEND, STYLE};
 
 /// Pixels. The letters are those of a font of 11 pixels, with a little room.
 const SCALE: Scale = Scale {
@@ -29,14 +29,13 @@ const HEAD: u32 = 52;
 
 const NARROWEST: u32 = 700;
 
-/// The width of a picture.
-fn width(layout: &Layout) -> u32 {
+/// Where the columns end.
+pub(crate) fn right(layout: &Layout<'_>) -> u32 {
     let columns = layout.columns.last().saturating_add(1).min(SCALE.columns);
-    let width = SCALE.width(columns).saturating_add(LEFT + SCALE.overhang);
-    width.max(NARROWEST)
+    SCALE.width(columns).saturating_add(LEFT)
 }
 
-fn height(layout: &Layout) -> u32 {
+fn height(layout: &Layout<'_>) -> u32 {
     let mut height = HEAD;
     for band in &layout.bands {
         height = height.saturating_add(band_height(band));
@@ -48,17 +47,18 @@ fn height(layout: &Layout) -> u32 {
 /// the columns do not fit side by side, they go on in further bands below.
 pub(crate) fn svg_text(alloc: Global, entries: &[Entry<'_>]) -> Result<String, AllocError> {
     let layout = Layout::new(alloc, &SCALE, entries)?;
-    let (width, height) = (width(&layout), height(&layout));
+    let width = right(&layout).saturating_add(SCALE.overhang).max(NARROWEST);
+    let height = height(&layout);
     let mut page = String::new(alloc);
     write!(
         page,
         "<svg xmlns=\"http://www.w3.org/2000/svg\" width=\"{width}\" height=\"{height}\" viewBox=\"0 0 {width} {height}\">\n"
     )?;
     page.push_str(STYLE)?;
-    push_legend(&mut page)?;
+    page.push_str(LEGEND)?;
     let mut top = HEAD;
     for band in &layout.bands {
-        push_band(&mut page, &layout, entries, band, top)?;
+        push_band(alloc, &mut page, &layout, band, top)?;
         top = top.saturating_add(band_height(band));
     }
     page.push_str("</svg>\n")?;

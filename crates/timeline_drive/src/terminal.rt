@@ -1,10 +1,9 @@
 //! A picture in columns of a terminal.
 
 use crate::bars::{Band, Bar, Label, Scale, Tick};
-use crate::captions::{letters, reply_text};
+use crate::captions::{caption, is_refused, letters, reply_text};
 use crate::entries::Entry;
 use crate::layout::Layout;
-use itoa::Buffer;
 use std::alloc::{AllocError, Global};
 
 /// Letters. A line has 80.
@@ -20,12 +19,8 @@ const SCALE: Scale = Scale {
 /// Where the columns begin.
 const LEFT: u32 = 5;
 
-const WIDTH: usize = 80;
-
 /// A line of letters.
-fn blank_line(alloc: Global) -> Result<Vec<u8>, AllocError> {
-    vec![in alloc; b' '; WIDTH]
-}
+const BLANK: [u8; 80] = [b' '; 80];
 
 /// Writes a text into a line from there on, as far as the line goes.
 fn write_at(line: &mut [u8], at: u32, text: &[u8]) {
@@ -41,20 +36,9 @@ fn write_at(line: &mut [u8], at: u32, text: &[u8]) {
     }
 }
 
-fn write_number(line: &mut [u8], at: u32, number: u32) {
-    let mut buffer = Buffer::new();
-    write_at(line, at, buffer.format(number).as_bytes());
-}
-
 /// Adds a line without the blanks at its end.
 fn push_line(text: &mut String, line: &[u8]) -> Result<(), AllocError> {
-    let mut end = 0;
-    for (i, byte) in line.iter().enumerate() {
-        if *byte != b' ' {
-            end = i + 1;
-        }
-    }
-    for byte in line.iter().take(end) {
+    for byte in line.trim_ascii_end() {
         text.push(*byte as char)?;
     }
     text.push('\n')
@@ -67,7 +51,7 @@ fn middle(column: u32) -> u32 {
 
 /// Adds the steps, each with its number where there is room for it.
 fn push_axis(alloc: Global, text: &mut String, ticks: &[Tick]) -> Result<(), AllocError> {
-    let mut line = blank_line(alloc)?;
+    let mut line = BLANK;
     write_at(&mut line, 0, b"step");
     let mut free = LEFT;
     for tick in ticks {
@@ -76,18 +60,21 @@ fn push_axis(alloc: Global, text: &mut String, ticks: &[Tick]) -> Result<(), All
             write_at(&mut line, at.saturating_sub(6), b"..");
         }
         if free <= at {
-            write_number(&mut line, at, tick.step);
-            let digits = tick.step.checked_ilog10().unwrap_or(0);
-            free = at.saturating_add(digits).saturating_add(2);
+            let step = tick.step;
+            let number = format!(in alloc; "{step}")?;
+            write_at(&mut line, at, number.as_bytes());
+            free = at
+                .saturating_add(letters(number.as_bytes()))
+                .saturating_add(1);
         }
     }
     push_line(text, &line)
 }
 
 /// Writes a bar: `[===o===]`, `[---x---]` where the call was refused, `[...` before its point is known.
-fn write_bar(line: &mut [u8], bar: &Bar, entry: &Entry<'_>) {
-    let (stroke, mark) = match entry.effect {
-        Some(effect) if effect.reply.is_refusal() => (b"-", b"x"),
+fn write_bar(line: &mut [u8], bar: &Bar<'_>) {
+    let (stroke, mark) = match bar.entry.effect {
+        Some(_) if is_refused(bar.entry) => (b"-", b"x"),
         Some(_) => (b"=", b"o"),
         None => (b".", b"."),
     };
@@ -102,98 +89,61 @@ fn write_bar(line: &mut [u8], bar: &Bar, entry: &Entry<'_>) {
         write_at(line, begin.saturating_sub(1), b"[");
     }
     if bar.has_end {
-        write_at(
-            line,
-            end.saturating_add(1),
-            if entry.last.is_some() { b"]" } else { b"~" },
-        );
+        let close = if bar.entry.last.is_some() { b"]" } else { b"~" };
+        write_at(line, end.saturating_add(1), close);
     }
 }
 
 /// Writes the text of a bar, where it stands in this row.
-fn write_label(line: &mut [u8], bar: &Bar, row: u32, entry: &Entry<'_>, caption: &[u8]) {
-    let Label::Above {
-        row: own,
-        at,
-        letters: room,
-    } = bar.label
-    else {
-        return;
-    };
-    if own == row {
-        let at = at.saturating_add(LEFT);
-        let reply = reply_text(entry.effect).as_bytes();
-        let behind = room.saturating_sub(letters(reply));
-        write_at(line, at, caption);
-        write_at(line, at.saturating_add(behind).saturating_sub(2), b": ");
-        write_at(line, at.saturating_add(behind), reply);
+fn write_label(alloc: Global, line: &mut [u8], bar: &Bar<'_>, row: u32) -> Result<(), AllocError> {
+    if let Label::Above { row: own, at } = bar.label {
+        if own == row {
+            let mut text = caption(alloc, bar.entry)?;
+            text.extend_from_slice(b": ")?;
+            text.extend_from_slice(reply_text(bar.entry.effect).as_bytes())?;
+            write_at(line, at.saturating_add(LEFT), &text);
+        }
     }
+    Ok(())
 }
 
-/// The calls of a lane.
-#[derive(Clone, Copy, Drop)]
-struct Lane<'l, 'a> {
-    layout: &'l Layout,
-    band: &'l Band,
-    entries: &'l [Entry<'a>],
+/// Adds a lane: rows of labels, and then its bars.
+fn push_lane(
+    alloc: Global,
+    text: &mut String,
+    band: &Band<'_>,
     lane: usize,
     thread: u8,
-}
-
-impl Lane<'_, '_> {
-    /// Adds a row of labels.
-    fn push_row(&self, alloc: Global, text: &mut String, row: u32) -> Result<(), AllocError> {
-        let mut line = blank_line(alloc)?;
-        for bar in &self.band.bars {
-            if bar.lane == self.lane {
-                if let (Some(entry), Some(caption)) = (
-                    self.entries.get(bar.call),
-                    self.layout.captions.get(bar.call),
-                ) {
-                    write_label(&mut line, bar, row, entry, caption);
-                }
+) -> Result<(), AllocError> {
+    let rows = band.rows.get(lane).copied().unwrap_or(0);
+    for row in (0..rows).rev() {
+        let mut line = BLANK;
+        for bar in &band.bars {
+            if bar.lane == lane {
+                write_label(alloc, &mut line, bar, row)?;
             }
         }
-        push_line(text, &line)
+        push_line(text, &line)?;
     }
-
-    /// Adds the bars.
-    fn push_bars(&self, alloc: Global, text: &mut String) -> Result<(), AllocError> {
-        let mut line = blank_line(alloc)?;
-        write_at(&mut line, 0, b"t");
-        write_number(&mut line, 1, self.thread as u32);
-        for bar in &self.band.bars {
-            if bar.lane == self.lane {
-                if let Some(entry) = self.entries.get(bar.call) {
-                    write_bar(&mut line, bar, entry);
-                }
-            }
+    let mut line = BLANK;
+    write_at(&mut line, 0, format!(in alloc; "t{thread}")?.as_bytes());
+    for bar in &band.bars {
+        if bar.lane == lane {
+            write_bar(&mut line, bar);
         }
-        push_line(text, &line)
     }
+    push_line(text, &line)
 }
 
 fn push_band(
     alloc: Global,
     text: &mut String,
-    layout: &Layout,
-    entries: &[Entry<'_>],
-    band: &Band,
+    threads: &[u8],
+    band: &Band<'_>,
 ) -> Result<(), AllocError> {
     push_axis(alloc, text, &band.ticks)?;
-    for (lane, thread) in layout.lanes.threads().iter().enumerate() {
-        let rows = band.rows.get(lane).copied().unwrap_or(0);
-        let lane = Lane {
-            layout,
-            band,
-            entries,
-            lane,
-            thread: *thread,
-        };
-        for row in (0..rows).rev() {
-            lane.push_row(alloc, text, row)?;
-        }
-        lane.push_bars(alloc, text)?;
+    for (lane, thread) in threads.iter().enumerate() {
+        push_lane(alloc, text, band, lane, *thread)?;
     }
     text.push('\n')
 }
@@ -204,7 +154,7 @@ pub(crate) fn terminal_text(alloc: Global, entries: &[Entry<'_>]) -> Result<Stri
     let layout = Layout::new(alloc, &SCALE, entries)?;
     let mut text = String::new(alloc);
     for band in &layout.bands {
-        push_band(alloc, &mut text, &layout, entries, band)?;
+        push_band(alloc, &mut text, &layout.threads, band)?;
     }
     text.push_str("o takes effect, x is refused, ~ has not returned\n")?;
     Ok(text)

@@ -1,11 +1,10 @@
 //! The bands of an SVG.
 
 use super::marks::{push_bar, push_hair, push_lead};
-use super::{LEFT, SCALE};
+use super::{LEFT, SCALE, right};
 use crate::bars::{Band, Tick};
-use crate::entries::Entry;
 use crate::layout::Layout;
-use std::alloc::AllocError;
+use std::alloc::{AllocError, Global};
 
 /// The height of an axis, of a bar, and of a row of labels above it.
 const AXIS: u32 = 28;
@@ -22,7 +21,7 @@ fn lane_height(rows: u32) -> u32 {
     rows.saturating_mul(ROW).saturating_add(BAR + SPACE)
 }
 
-pub(crate) fn band_height(band: &Band) -> u32 {
+pub(crate) fn band_height(band: &Band<'_>) -> u32 {
     let mut height = AXIS + SPACE;
     for rows in &band.rows {
         height = height.saturating_add(lane_height(*rows));
@@ -68,7 +67,7 @@ fn push_ticks(page: &mut String, ticks: &[Tick], y: u32) -> Result<(), AllocErro
 }
 
 /// Adds the axis of a band, whose line stands at this height.
-fn push_axis(page: &mut String, band: &Band, y: u32, right: u32) -> Result<(), AllocError> {
+fn push_axis(page: &mut String, band: &Band<'_>, y: u32, right: u32) -> Result<(), AllocError> {
     let base = y.saturating_sub(8);
     write!(
         page,
@@ -79,13 +78,12 @@ fn push_axis(page: &mut String, band: &Band, y: u32, right: u32) -> Result<(), A
 }
 
 /// The tops of the bars of each lane.
-fn bar_tops(layout: &Layout, band: &Band, top: u32) -> Result<Vec<u32>, AllocError> {
-    let mut tops = Vec::new(*layout.bands.allocator());
+fn bar_tops(alloc: Global, band: &Band<'_>, top: u32) -> Result<Vec<u32>, AllocError> {
+    let mut tops = Vec::new(alloc);
     let mut y = top.saturating_add(AXIS);
     for rows in &band.rows {
-        let bottom = y.saturating_add(lane_height(*rows));
-        tops.push(bottom.saturating_sub(BAR))?;
-        y = bottom;
+        y = y.saturating_add(lane_height(*rows));
+        tops.push(y.saturating_sub(BAR))?;
     }
     Ok(tops)
 }
@@ -109,36 +107,24 @@ fn push_lanes(
 
 /// Adds a band, which begins at this height.
 pub(crate) fn push_band(
+    alloc: Global,
     page: &mut String,
-    layout: &Layout,
-    entries: &[Entry<'_>],
-    band: &Band,
+    layout: &Layout<'_>,
+    band: &Band<'_>,
     top: u32,
 ) -> Result<(), AllocError> {
-    let columns = layout.columns.last().saturating_add(1).min(SCALE.columns);
-    let right = SCALE.width(columns).saturating_add(LEFT);
-    let axis = top.saturating_add(AXIS - 6);
-    let tops = bar_tops(layout, band, top)?;
+    let (axis, right) = (top.saturating_add(AXIS - 6), right(layout));
+    let tops = bar_tops(alloc, band, top)?;
     push_axis(page, band, axis, right)?;
-    push_lanes(page, layout.lanes.threads(), &tops, right)?;
+    push_lanes(page, &layout.threads, &tops, right)?;
     for bar in &band.bars {
-        let bar_top = tops.get(bar.lane).copied().unwrap_or(top);
-        push_hair(page, bar, axis, bar_top)?;
-        push_lead(page, bar, bar_top)?;
+        let top = tops.get(bar.lane).copied().unwrap_or(top);
+        push_hair(page, bar, axis, top)?;
+        push_lead(page, bar, top)?;
     }
     for bar in &band.bars {
-        if let (Some(entry), Some(caption)) = (
-            entries.get(bar.call),
-            layout.captions.get(bar.call),
-        ) {
-            push_bar(
-                page,
-                bar,
-                entry,
-                caption,
-                tops.get(bar.lane).copied().unwrap_or(top),
-            )?;
-        }
+        let top = tops.get(bar.lane).copied().unwrap_or(top);
+        push_bar(alloc, page, bar, top)?;
     }
     Ok(())
 }

@@ -3,15 +3,15 @@
 use super::bands::{BAR, ROW, middle};
 use super::{LEFT, SCALE};
 use crate::bars::{Bar, Label};
-use crate::captions::reply_text;
+use crate::captions::{caption, is_refused, reply_text};
 use crate::entries::Entry;
 use crate::escapes::push_escaped;
-use std::alloc::AllocError;
+use std::alloc::{AllocError, Global};
 
 /// The class of a call: what its reply is.
 fn class(entry: &Entry<'_>) -> &'static str {
     match entry.effect {
-        Some(effect) if effect.reply.is_refusal() => "refused",
+        Some(_) if is_refused(entry) => "refused",
         Some(_) => "done",
         None => "pending",
     }
@@ -20,7 +20,7 @@ fn class(entry: &Entry<'_>) -> &'static str {
 /// Adds the hair line from the axis to a point.
 pub(crate) fn push_hair(
     page: &mut String,
-    bar: &Bar,
+    bar: &Bar<'_>,
     axis: u32,
     top: u32,
 ) -> Result<(), AllocError> {
@@ -48,7 +48,7 @@ fn push_title(page: &mut String, entry: &Entry<'_>, caption: &[u8]) -> Result<()
 }
 
 /// Adds the shape of a bar: with round corners, or with sharp ones where the call was refused.
-fn push_shape(page: &mut String, bar: &Bar, entry: &Entry<'_>, top: u32) -> Result<(), AllocError> {
+fn push_shape(page: &mut String, bar: &Bar<'_>, top: u32) -> Result<(), AllocError> {
     let begin = SCALE
         .width(bar.from)
         .saturating_add(if bar.has_first { LEFT + 2 } else { LEFT - 6 });
@@ -56,15 +56,9 @@ fn push_shape(page: &mut String, bar: &Bar, entry: &Entry<'_>, top: u32) -> Resu
         .width(bar.to.saturating_add(1))
         .saturating_add(if bar.has_end { LEFT - 2 } else { LEFT + 6 });
     let width = end.saturating_sub(begin);
-    let shape = if bar.has_end && entry.last.is_none() {
-        "bar open"
-    } else {
-        "bar"
-    };
-    let corner = match entry.effect {
-        Some(effect) if effect.reply.is_refusal() => 0,
-        _ => 6,
-    };
+    let is_open = bar.has_end && bar.entry.last.is_none();
+    let shape = if is_open { "bar open" } else { "bar" };
+    let corner = if is_refused(bar.entry) { 0 } else { 6 };
     write!(
         page,
         "<rect class=\"{shape}\" x=\"{begin}\" y=\"{top}\" width=\"{width}\" height=\"{BAR}\" rx=\"{corner}\"/>"
@@ -84,7 +78,7 @@ fn push_cut(page: &mut String, text: &[u8], letters: u32) -> Result<(), AllocErr
 /// Adds the text of a bar in two lines.
 fn push_inside(
     page: &mut String,
-    bar: &Bar,
+    bar: &Bar<'_>,
     letters: u32,
     texts: (&[u8], &[u8]),
     top: u32,
@@ -107,7 +101,7 @@ fn base(top: u32, row: u32) -> u32 {
 }
 
 /// Adds the line that leads from a bar to its text above it. It is drawn before all texts, and passes behind them.
-pub(crate) fn push_lead(page: &mut String, bar: &Bar, top: u32) -> Result<(), AllocError> {
+pub(crate) fn push_lead(page: &mut String, bar: &Bar<'_>, top: u32) -> Result<(), AllocError> {
     let Label::Above { row, .. } = bar.label else {
         return Ok(());
     };
@@ -135,41 +129,39 @@ fn push_above(
 }
 
 /// Adds the mark of a point: a disc, or a diamond where the call was refused.
-fn push_mark(page: &mut String, bar: &Bar, entry: &Entry<'_>, top: u32) -> Result<(), AllocError> {
+fn push_mark(page: &mut String, bar: &Bar<'_>, top: u32) -> Result<(), AllocError> {
     let Some(point) = bar.point else {
         return Ok(());
     };
     let (x, y) = (middle(point), top.saturating_add(BAR));
-    match entry.effect {
-        Some(effect) if effect.reply.is_refusal() => {
-            let tip = y.saturating_sub(6);
-            write!(page, "<path class=\"mark\" d=\"M{x} {tip}l6 6-6 6-6-6z\"/>")
-        }
-        _ => write!(
-            page,
-            "<circle class=\"mark\" cx=\"{x}\" cy=\"{y}\" r=\"4.5\"/>"
-        ),
+    if is_refused(bar.entry) {
+        let tip = y.saturating_sub(6);
+        return write!(page, "<path class=\"mark\" d=\"M{x} {tip}l6 6-6 6-6-6z\"/>");
     }
+    write!(
+        page,
+        "<circle class=\"mark\" cx=\"{x}\" cy=\"{y}\" r=\"4.5\"/>"
+    )
 }
 
 /// Adds a bar, whose top stands at this height.
 pub(crate) fn push_bar(
+    alloc: Global,
     page: &mut String,
-    bar: &Bar,
-    entry: &Entry<'_>,
-    caption: &[u8],
+    bar: &Bar<'_>,
     top: u32,
 ) -> Result<(), AllocError> {
-    let class = class(entry);
-    let texts = (caption, reply_text(entry.effect).as_bytes());
+    let class = class(bar.entry);
+    let caption = caption(alloc, bar.entry)?;
+    let texts = (caption.as_slice(), reply_text(bar.entry.effect).as_bytes());
     write!(page, "<g class=\"{class}\">")?;
-    push_title(page, entry, caption)?;
-    push_shape(page, bar, entry, top)?;
+    push_title(page, bar.entry, &caption)?;
+    push_shape(page, bar, top)?;
     match bar.label {
         Label::Hidden => {}
         Label::Inside { letters } => push_inside(page, bar, letters, texts, top)?,
-        Label::Above { row, at, .. } => push_above(page, row, at, texts, top)?,
+        Label::Above { row, at } => push_above(page, row, at, texts, top)?,
     }
-    push_mark(page, bar, entry, top)?;
+    push_mark(page, bar, top)?;
     page.push_str("</g>\n")
 }

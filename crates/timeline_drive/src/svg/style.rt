@@ -1,7 +1,5 @@
 //! What is the same in every SVG: the style and the legend.
 
-use std::alloc::AllocError;
-
 /// The title, the colours in light and dark, and the fading of open calls.
 pub(crate) const STYLE: &str = "<title>Calls of a schedule</title>
 <style>
@@ -55,7 +53,8 @@ text{fill:#e6edf3}
 <rect class=\"paper\" width=\"100%\" height=\"100%\"/>
 ";
 
-const LEGEND: &str = "<g transform=\"translate(52 12)\">
+/// What the shapes of a picture mean.
+pub(crate) const LEGEND: &str = "<g transform=\"translate(52 12)\">
 <g class=\"done\"><rect class=\"bar\" x=\"0\" y=\"0\" width=\"48\" height=\"18\" rx=\"6\"/><circle class=\"mark\" cx=\"24\" cy=\"18\" r=\"4.5\"/></g>
 <text x=\"56\" y=\"13\">call, its point</text>
 <g class=\"refused\"><rect class=\"bar\" x=\"176\" y=\"0\" width=\"48\" height=\"18\"/><path class=\"mark\" d=\"M200 12l6 6-6 6-6-6z\"/></g>
@@ -64,8 +63,3 @@ const LEGEND: &str = "<g transform=\"translate(52 12)\">
 <text x=\"444\" y=\"13\">has not returned</text>
 </g>
 ";
-
-/// Adds what the shapes of a picture mean.
-pub(crate) fn push_legend(page: &mut String) -> Result<(), AllocError> {
-    page.push_str(LEGEND)
-}

@@ -1,0 +1,26 @@
+//! What people are told on the stream for errors. Where that stream fails, nobody is told.
+ghost use Rattle.std.specs.Prelude.{◌≡◌};
+ghost use Rattle.program_frame.specs.declared.status.Status.TheVariants as statuses;
+
+use crate::status::Status;
+use std::io::Write;
+
+/// Tells that the program of this name had no memory, with which it ends.
+pub fn tell_no_memory<E: Write>(name: &str, errors: &mut E) -> Status
+    ensures { result ≡ statuses.Fault }
+{
+    let _ = writeln!(errors, "{name}: out of memory");
+    Status::Fault
+}
+
+/// Tells a sentence that explains a fault.
+pub fn tell_sentence<E: Write>(sentence: &str, errors: &mut E) {
+    let _ = writeln!(errors, "  {sentence}");
+}
+
+/// Tells what may have been meant, where there is something to tell.
+pub fn tell_hint<E: Write>(hint: Option<&str>, errors: &mut E) {
+    if let Some(hint) = hint {
+        let _ = writeln!(errors, "  hint: {hint}");
+    }
+}
