@@ -1,13 +1,12 @@
 //! What people are told of a fault, in lines that begin with two spaces.
 
 use crate::fault::{LineCode, LineFault, ScheduleFault};
-use crate::lines::{Line, cut_lines};
 use crate::schedule::{Order, order_of};
 use crate::script::WorkFault;
-use crate::shown::Shown;
 use crate::statement::{Statement, marked, read_parts};
-use dep_index::text::{is_same, words};
-use std::alloc::{AllocError, Global};
+use dep_index::text::{is_same, whole_lines};
+use program_frame::{Shown, first_word, tell_hint, tell_sentence};
+use std::alloc::Global;
 use std::io::Write;
 use step_core::StepError;
 
@@ -41,20 +40,23 @@ fn is_of_catalogue(code: LineCode) -> bool {
     )
 }
 
-/// The number in the input of the line `%catalogue`; 0 where there is none.
-fn head_number(lines: &[Line<'_>]) -> usize {
-    match lines.iter().find(|line| is_same(line.text, b"%catalogue")) {
-        Some(line) => line.number,
+/// The number of the line `%catalogue`, from 1; 0 where there is none.
+fn head_number(input: &[u8]) -> usize {
+    match whole_lines(input).position(|line| is_same(line, b"%catalogue")) {
+        Some(before) => before.saturating_add(1),
         None => 0,
     }
 }
 
-/// The text of the line of this number, from 1.
-fn text_at<'a>(lines: &[Line<'a>], number: usize) -> Option<&'a [u8]> {
-    match lines.get(number.checked_sub(1)?) {
-        Some(line) => Some(line.text),
-        None => None,
-    }
+/// The line of this number, from 1.
+fn line_at(input: &[u8], number: usize) -> Option<&[u8]> {
+    whole_lines(input).nth(number.checked_sub(1)?)
+}
+
+/// Tells a line of the input.
+fn tell_line<E: Write>(number: usize, line: &[u8], errors: &mut E) {
+    let text = Shown(line);
+    let _ = writeln!(errors, "  line {number}: {text}");
 }
 
 /// Whether a word begins a line of a script.
@@ -104,38 +106,23 @@ fn hint_of(threads: bool, code: LineCode, word: &[u8]) -> Option<&'static str> {
     }
 }
 
-fn explain_line<E: Write>(
-    alloc: Global,
-    threads: bool,
-    fault: LineFault,
-    input: &[u8],
-    errors: &mut E,
-) -> Result<(), AllocError> {
-    let lines = cut_lines(alloc, input)?;
+fn explain_line<E: Write>(threads: bool, fault: LineFault, input: &[u8], errors: &mut E) {
     let head = if is_of_catalogue(fault.code) {
-        head_number(&lines)
+        head_number(input)
     } else {
         0
     };
     let number = head.saturating_add(fault.line);
-    let line = text_at(&lines, number);
+    let line = line_at(input, number);
     match line {
-        Some(text) => {
-            let text = Shown(text);
-            let _ = writeln!(errors, "  line {number}: {text}");
-        }
+        Some(line) => tell_line(number, line, errors),
         None => {
             let _ = writeln!(errors, "  line {number}: the input ends before it");
         }
     }
-    let sentence = line_sentence(fault.code);
-    let _ = writeln!(errors, "  {sentence}");
-    let words = words(alloc, line.unwrap_or(b""))?;
-    let word = words.first().copied().unwrap_or(b"");
-    if let Some(hint) = hint_of(threads, fault.code, word) {
-        let _ = writeln!(errors, "  hint: {hint}");
-    }
-    Ok(())
+    tell_sentence(line_sentence(fault.code), errors);
+    let word = first_word(line.unwrap_or(b""));
+    tell_hint(hint_of(threads, fault.code, word), errors);
 }
 
 /// How many steps the words of a statement are.
@@ -165,19 +152,15 @@ fn explain_step<E: Write>(
     cause: StepError,
     input: &[u8],
     errors: &mut E,
-) -> Result<(), AllocError> {
+) {
     if let Ok(parts) = read_parts(alloc, b"%schedule", input) {
         // The first two statements are the settings.
         let steps = parts.statements.get(2..).unwrap_or(&[]);
-        let lines = cut_lines(alloc, input)?;
         if let Some(number) = line_of_step(steps, index) {
-            let text = Shown(text_at(&lines, number).unwrap_or(b""));
-            let _ = writeln!(errors, "  line {number}: {text}");
+            tell_line(number, line_at(input, number).unwrap_or(b""), errors);
         }
     }
-    let sentence = step_sentence(cause);
-    let _ = writeln!(errors, "  {sentence}");
-    Ok(())
+    tell_sentence(step_sentence(cause), errors);
 }
 
 /// Explains why an input has no report, or no script: the line, what is wrong with it, and what may have been meant.
@@ -187,11 +170,11 @@ pub(crate) fn explain<E: Write>(
     fault: ScheduleFault,
     input: &[u8],
     errors: &mut E,
-) -> Result<(), AllocError> {
+) {
     match fault {
-        ScheduleFault::Line(fault) => explain_line(alloc, threads, fault, input, errors),
+        ScheduleFault::Line(fault) => explain_line(threads, fault, input, errors),
         ScheduleFault::Step { index, cause } => explain_step(alloc, index, cause, input, errors),
-        ScheduleFault::Memory => Ok(()),
+        ScheduleFault::Memory => {}
     }
 }
 
@@ -202,5 +185,5 @@ pub(crate) fn explain_work<E: Write>(fault: WorkFault, errors: &mut E) {
         WorkFault::Spawn => "A thread of a script could not be started.",
         WorkFault::Gate => "A line of a worker was not let begin.",
     };
-    let _ = writeln!(errors, "  {sentence}");
+    tell_sentence(sentence, errors);
 }

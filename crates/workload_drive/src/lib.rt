@@ -8,7 +8,6 @@ mod lines;
 mod program;
 mod schedule;
 mod script;
-mod shown;
 mod statement;
 
 pub use fault::{LineCode, LineFault, ScheduleFault};
