@@ -1,7 +1,8 @@
 -- Which script an input is: its catalogue, the changes before its workers, and the lines of each worker.
 use Rattle.std.specs.Prelude.{ℕ, ◌==◌, Bool, true, false, not, nat_lt, if◌then◌else◌, List, [], ◌∷◌, ◌++◌, map, codes}
-use Rattle.std.specs.Prelude.{filter_map, option_map, Option, Some, None, Result, Ok, Err}
+use Rattle.std.specs.Prelude.{find, filter_map, option_map, Option, Some, None, Result, Ok, Err}
 use Rattle.std.specs.List.{list_any, range_with_len}
+use Rattle.std.specs.Option.{option_and_then}
 use Rattle.std.specs.Str.{bytes_eq}
 use Rattle.dep_index.specs.Text.{normal_form}
 use Rattle.dep_index.specs.Catalogue.{Description, slot_named}
@@ -19,20 +20,25 @@ use Rattle.workload_drive.specs.declared.script.entries.Entry.{Entry}
 use Rattle.workload_drive.specs.Faults.{fault_at, bad_line}
 use Rattle.workload_drive.specs.Statements.{Statement, Parts, parts_of, setting, marked}
 
--- the change of a word
-abbrev pub change_of : List ℕ → Option Change
-change_of verb =
-    if bytes_eq verb (codes "load") then Some Load
-    else (if bytes_eq verb (codes "remove") then Some Remove
-    else (if bytes_eq verb (codes "drain") then Some Drain
-    else (if bytes_eq verb (codes "finish") then Some Finish else None)))
+-- the word of a deed
+abbrev pub deed_text : Deed → List ℕ
+deed_text Get = codes "get"
+deed_text Put = codes "put"
+deed_text Query = codes "query"
+deed_text (Make Load) = codes "load"
+deed_text (Make Remove) = codes "remove"
+deed_text (Make Drain) = codes "drain"
+deed_text (Make Finish) = codes "finish"
 
 -- the deed of a word: what a worker can do to a module
 abbrev pub deed_of : List ℕ → Option Deed
 deed_of verb =
-    if bytes_eq verb (codes "get") then Some Get
-    else (if bytes_eq verb (codes "put") then Some Put
-    else (if bytes_eq verb (codes "query") then Some Query else option_map Make (change_of verb)))
+    find (λ (deed : Deed). bytes_eq verb (deed_text deed)) (Get ∷ Put ∷ Query ∷ Make Load ∷ Make Remove ∷ Make Drain ∷ Make Finish ∷ [])
+
+-- the change of a deed
+abbrev pub change_in : Deed → Option Change
+change_in (Make change) = Some change
+change_in _ = None
 
 -- what a line asks: an act on the module of a name
 pub record Request : Type 0 where
@@ -51,7 +57,7 @@ worked _ _ = None
 abbrev pub request_of : List (List ℕ) → Option Request
 request_of [] = None
 request_of (_ ∷ []) = None
-request_of (verb ∷ name ∷ []) = on_name name (option_map Opens (change_of verb))
+request_of (verb ∷ name ∷ []) = on_name name (option_map Opens (option_and_then change_in (deed_of verb)))
 request_of (worker ∷ verb ∷ name ∷ []) = on_name name (worked (marked 119 worker) (deed_of verb))
 request_of (_ ∷ _ ∷ _ ∷ _ ∷ _) = None
 

@@ -3,8 +3,7 @@
 mod order;
 mod reports;
 mod steps;
-mod text;
 
 pub(crate) use order::{Order, order_of};
+pub(crate) use reports::name_at;
 pub use reports::report;
-pub(crate) use text::{name_at, reply_text};

@@ -1,11 +1,12 @@
 -- The report of a schedule: a line for each call of its run.
-use Rattle.std.specs.Prelude.{◌≡◌, ◌≢◌, ℕ, ◌+◌, ◌==◌, Bool, true, false, List, [], ◌∷◌, ◌++◌}
+use Rattle.std.specs.Prelude.{◌≡◌, ◌≢◌, ℕ, ◌+◌, ◌==◌, List, [], ◌∷◌, ◌++◌}
 use Rattle.std.specs.Prelude.{codes, decimal, find, slice_index_or, unwrap_or, Option, Some, None, Err, IsOkAnd}
 use Rattle.dep_index.specs.declared.calls.Call.{Call}
-use Rattle.dep_index.specs.declared.calls.Call.TheVariants as call
-use Rattle.dep_index.specs.declared.calls.Reply.{Reply}
-use Rattle.dep_index.specs.declared.calls.Reply.TheVariants as reply_is
+use Rattle.dep_index.specs.Calls.{slot_of}
 use Rattle.dep_index.specs.Catalogue.{Description, description_at, modules_of}
+use Rattle.call_words.specs.Replies.{reply_in, reply_text}
+use Rattle.call_words.specs.Calls as calls
+use Rattle.call_words.specs.Calls.{verb_in}
 use Rattle.step_core.specs.declared.steps.Step.{Step}
 use Rattle.step_core.specs.declared.steps.Step.TheVariants.{Invoke, Go}
 use Rattle.step_core.specs.declared.steps.Event.{Event}
@@ -20,41 +21,9 @@ use Rattle.workload_drive.specs.Schedule.Steps.{Schedule, schedule_of}
 abbrev pub name_at : List Description → ℕ → List ℕ
 name_at modules slot = (description_at modules slot).name
 
--- a call of a worker, and a call of none
-abbrev pub worker_call : List ℕ → ℕ → List ℕ → List ℕ
-worker_call verb worker name = verb ++ (decimal worker ++ (codes " " ++ name))
-
-abbrev pub load_end_text : Bool → List ℕ
-load_end_text true = codes " ok"
-load_end_text false = codes " fail"
-
 -- a call as a schedule has it, its module's name in normal form
 abbrev pub call_text : List Description → Call → List ℕ
-call_text modules (call.Get worker slot) = worker_call (codes "get ") worker (name_at modules slot)
-call_text modules (call.Put worker slot) = worker_call (codes "put ") worker (name_at modules slot)
-call_text modules (call.InUse slot) = codes "query " ++ name_at modules slot
-call_text modules (call.BeginLoad slot) = codes "begin_load " ++ name_at modules slot
-call_text modules (call.EndLoad slot ok) = codes "end_load " ++ (name_at modules slot ++ load_end_text ok)
-call_text modules (call.BeginDrain slot) = codes "begin_drain " ++ name_at modules slot
-call_text modules (call.BeginRemove slot) = codes "begin_remove " ++ name_at modules slot
-call_text modules (call.EndRemove slot) = codes "end_remove " ++ name_at modules slot
-
-abbrev pub reply_text : Reply → List ℕ
-reply_text reply_is.Done = codes "ok"
-reply_text reply_is.Yes = codes "yes"
-reply_text reply_is.No = codes "no"
-reply_text reply_is.NotLive = codes "NotLive"
-reply_text reply_is.TooMany = codes "TooMany"
-reply_text reply_is.NotHeld = codes "NotHeld"
-reply_text reply_is.Exists = codes "Exists"
-reply_text reply_is.UnknownSymbol = codes "UnknownSymbol"
-reply_text (reply_is.NeedNotLive n) = codes "NeedNotLive"
-reply_text reply_is.NotLoading = codes "NotLoading"
-reply_text reply_is.NoEntry = codes "NoEntry"
-reply_text reply_is.NeededBy = codes "NeededBy"
-reply_text reply_is.Permanent = codes "Permanent"
-reply_text reply_is.InUse = codes "InUse"
-reply_text reply_is.NotUnloading = codes "NotUnloading"
+call_text modules made = calls.call_text (verb_in made) (name_at modules (slot_of made))
 
 -- the thread that makes a step
 abbrev pub thread_of : Step → ℕ
@@ -73,7 +42,7 @@ point_of points n = find (λ (p : Point). p.call == n) points
 -- where a call takes effect and what it answers there
 abbrev pub point_text : Option Point → List ℕ
 point_text None = codes "- reply -"
-point_text (Some p) = decimal p.index ++ (codes " reply " ++ reply_text p.reply)
+point_text (Some p) = decimal p.index ++ (codes " reply " ++ reply_text (reply_in p.reply))
 
 -- a call with its number and its thread
 abbrev pub call_head : List Description → ℕ → ℕ → Call → List ℕ

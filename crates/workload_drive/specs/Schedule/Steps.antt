@@ -6,10 +6,11 @@ use Rattle.step_core.specs.declared.steps.Step.{Step}
 use Rattle.step_core.specs.declared.steps.Step.TheVariants.{Invoke, Go}
 use Rattle.workload_drive.specs.declared.fault.LineCode.TheVariants.{H2, H3}
 use Rattle.workload_drive.specs.declared.fault.LineFault.{LineFault}
-use Rattle.workload_drive.specs.declared.schedule.order.Verb.{Verb}
+use Rattle.call_words.specs.declared.verb.Verb.{Verb}
+use Rattle.call_words.specs.Calls.{call_on}
 use Rattle.workload_drive.specs.Faults.{fault_at, bad_line}
 use Rattle.workload_drive.specs.Statements.{Statement, Parts, parts_of, setting, marked}
-use Rattle.workload_drive.specs.Schedule.Orders.{Order, go, make, call_on, order_of}
+use Rattle.workload_drive.specs.Schedule.Orders.{Order, go, make, order_of}
 
 -- the steps of threads over a catalogue, and how many workers and threads there are
 pub record Schedule : Type 0 where

@@ -2,12 +2,12 @@
 ghost use Rattle.std.specs.Prelude.{◌≡◌, ◌<◌, ◌++◌, ℕ, None, OnOk, IfOk, IfErr, length, slice_index_or};
 ghost use Rattle.std.specs.Option.{option_map};
 ghost use Rattle.step_core.specs.declared.steps.Step.TheVariants as step;
-ghost use Rattle.workload_drive.specs.Schedule.Report.{call_head, steps_text, thread_of, point_of, Reports, Refuses};
+ghost use Rattle.workload_drive.specs.Schedule.Report.{name_at, call_head, steps_text, thread_of, point_of, point_text, Reports, Refuses};
 ghost use Rattle.workload_drive.specs.Schedule.ForProofs.{with_point, interval_line, interval_lines, schedule_in};
 
 use super::steps::{Schedule, read_schedule};
-use super::text::{push_call, push_optional, push_point};
 use crate::fault::ScheduleFault;
+use call_words::{ReplyWord, Verb};
 use dep_index::{Call, Catalogue};
 use linear_points::{Interval, Point, call_intervals, points};
 use proc_modules::push_number;
@@ -50,6 +50,17 @@ fn points_by_call(
     Ok(taken)
 }
 
+/// The name of the module in a slot; of a slot past the end it is empty.
+pub(crate) fn name_at(catalogue: &Catalogue, slot: usize) -> &[u8]
+    ensures { result.now ≡ name_at catalogue.now slot }
+{
+    if slot < catalogue.len() {
+        catalogue.name(slot)
+    } else {
+        b""
+    }
+}
+
 /// Adds a call with its number and its thread.
 fn push_head(
     text: &mut Vec<u8>,
@@ -65,8 +76,7 @@ fn push_head(
     text.extend_from_slice(b" t")?;
     push_number(text, thread)?;
     text.extend_from_slice(b" ")?;
-    push_call(text, catalogue, call)?;
-    Ok(())
+    Verb::of(call).push(text, name_at(catalogue, call.slot()))
 }
 
 /// Adds the indices of a call's first and last step.
@@ -76,8 +86,24 @@ fn push_steps(text: &mut Vec<u8>, interval: &Interval) -> Result<(), AllocError>
     text.extend_from_slice(b" first ")?;
     push_number(text, interval.first)?;
     text.extend_from_slice(b" last ")?;
-    push_optional(text, interval.end.map(|end| end.index))?;
-    Ok(())
+    match interval.end {
+        Some(end) => push_number(text, end.index),
+        None => text.extend_from_slice(b"-"),
+    }
+}
+
+/// Adds where a call takes effect and what it answers there.
+pub(crate) fn push_point(text: &mut Vec<u8>, point: Option<Point>) -> Result<(), AllocError>
+    ensures { OnOk result (text.new.items ≡ text.old.items ++ point_text point) }
+{
+    match point {
+        Some(point) => {
+            push_number(text, point.index)?;
+            text.extend_from_slice(b" reply ")?;
+            text.extend_from_slice(ReplyWord::of(point.reply).text().as_bytes())
+        }
+        None => text.extend_from_slice(b"- reply -"),
+    }
 }
 
 /// Adds the line of a call, with its number, its interval and its point.
@@ -95,8 +121,7 @@ fn push_line(
     push_steps(text, interval)?;
     text.extend_from_slice(b" point ")?;
     push_point(text, point)?;
-    text.extend_from_slice(b"\n")?;
-    Ok(())
+    text.extend_from_slice(b"\n")
 }
 
 /// The lines of the calls of these intervals, which have taken these points.

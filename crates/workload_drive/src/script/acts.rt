@@ -2,8 +2,7 @@
 ghost use Rattle.std.specs.Prelude.{◌≡◌};
 ghost use Rattle.std.specs.Option.{option_map};
 ghost use Rattle.dep_index.specs.Text.{texts_of};
-ghost use Rattle.workload_drive.specs.Script.{change_of, deed_of, worked, on_name, request_of, is_works};
-ghost use Rattle.workload_drive.specs.declared.script.acts.Act.TheVariants as acts;
+ghost use Rattle.workload_drive.specs.Script.{deed_text, deed_of, request_of, is_works};
 ghost use Rattle.workload_drive.specs.ForProofs.{request_in};
 
 use crate::statement::marked;
@@ -56,66 +55,40 @@ impl Act {
     }
 }
 
-fn change_of(verb: &[u8]) -> Option<Change>
-    ensures { result ≡ change_of verb.now }
-{
-    if is_same(verb, b"load") {
-        Some(Change::Load)
-    } else if is_same(verb, b"remove") {
-        Some(Change::Remove)
-    } else if is_same(verb, b"drain") {
-        Some(Change::Drain)
-    } else if is_same(verb, b"finish") {
-        Some(Change::Finish)
-    } else {
-        None
+const DEEDS: [Deed; 7] = [
+    Deed::Get,
+    Deed::Put,
+    Deed::Query,
+    Deed::Make(Change::Load),
+    Deed::Make(Change::Remove),
+    Deed::Make(Change::Drain),
+    Deed::Make(Change::Finish),
+];
+
+impl Deed {
+    /// The word of the deed.
+    pub(super) fn text(self) -> &'static [u8]
+        ensures { result.now ≡ deed_text self }
+    {
+        match self {
+            Deed::Get => b"get",
+            Deed::Put => b"put",
+            Deed::Query => b"query",
+            Deed::Make(Change::Load) => b"load",
+            Deed::Make(Change::Remove) => b"remove",
+            Deed::Make(Change::Drain) => b"drain",
+            Deed::Make(Change::Finish) => b"finish",
+        }
     }
 }
 
 fn deed_of(verb: &[u8]) -> Option<Deed>
     ensures { result ≡ deed_of verb.now }
 {
-    if is_same(verb, b"get") {
-        Some(Deed::Get)
-    } else if is_same(verb, b"put") {
-        Some(Deed::Put)
-    } else if is_same(verb, b"query") {
-        Some(Deed::Query)
-    } else {
-        match change_of(verb) {
-            Some(change) => Some(Deed::Make(change)),
-            None => None,
-        }
-    }
-}
-
-/// The deed of a worker.
-fn worked(worker: Option<u64>, deed: Option<Deed>) -> Option<Act>
-    ensures { result ≡ worked worker deed }
-{
-    match (worker, deed) {
-        (Some(worker), Some(deed)) => Some(Act::Works(worker as usize, deed)),
-        _ => None,
-    }
-}
-
-fn on_name<'a>(name: &'a [u8], act: Option<Act>) -> Option<Request<'a>>
-    ensures { option_map request_in result ≡ on_name name.now act }
-{
-    match act {
-        Some(act) => Some(Request { act, name }),
-        None => None,
-    }
-}
-
-/// A change, where the word names one.
-fn opens(verb: &[u8]) -> Option<Act>
-    ensures { result ≡ option_map acts.Opens (change_of verb.now) }
-{
-    match change_of(verb) {
-        Some(change) => Some(Act::Opens(change)),
-        None => None,
-    }
+    DEEDS
+        .iter()
+        .copied()
+        .find(|deed| is_same(verb, deed.text()))
 }
 
 /// What a line of these words asks, or `None` where it has no form.
@@ -123,8 +96,20 @@ pub(crate) fn request_of<'a>(words: &[&'a [u8]]) -> Option<Request<'a>>
     ensures { option_map request_in result ≡ request_of (texts_of words.now) }
 {
     match words {
-        [verb, name] => on_name(name, opens(verb)),
-        [worker, verb, name] => on_name(name, worked(marked(b'w', worker), deed_of(verb))),
+        [verb, name] => match deed_of(verb)? {
+            Deed::Make(change) => Some(Request {
+                act: Act::Opens(change),
+                name,
+            }),
+            _ => None,
+        },
+        [worker, verb, name] => {
+            let worker = marked(b'w', worker)? as usize;
+            Some(Request {
+                act: Act::Works(worker, deed_of(verb)?),
+                name,
+            })
+        }
         _ => None,
     }
 }

@@ -1,9 +1,10 @@
 //! The replies of a script, line by line.
 
-use super::acts::{Change, Deed};
+use super::acts::Deed;
 use super::tasks::Script;
 use super::threads::Gate;
-use crate::schedule::{name_at, reply_text};
+use crate::schedule::name_at;
+use call_words::ReplyWord;
 use dep_index::Reply;
 use proc_modules::push_number;
 use std::alloc::{AllocError, Global};
@@ -37,23 +38,13 @@ impl Replies {
         Ok(Replies { opening, workers })
     }
 
-    /// The reply of a line before the workers, by its number from 0.
-    fn of_opening(&self, line: usize) -> Option<Reply> {
-        self.opening.get(line)?.get().copied()
-    }
-
-    /// The reply of a line of a worker, by its number from 0.
-    fn of_worker(&self, worker: usize, line: usize) -> Option<Reply> {
-        self.workers.get(worker)?.get(line)?.get().copied()
-    }
-
     /// A line for each line of the script that was made: those before the workers, and then those of each worker, in their
     /// order. Each has who made it, its number, from 0, what it is, and its reply.
     pub fn text(&self, alloc: Global, script: &Script) -> Result<Vec<u8>, AllocError> {
         let mut text = Vec::new(alloc);
-        push_opening(&mut text, script, self)?;
-        for worker in 0..script.workers() {
-            push_worker(&mut text, script, self, worker)?;
+        push_opening(&mut text, script, &self.opening)?;
+        for (worker, places) in self.workers.iter().enumerate() {
+            push_worker(&mut text, script, worker, places)?;
         }
         Ok(text)
     }
@@ -79,50 +70,36 @@ impl Gate for Replies {
     }
 }
 
-fn change_text(change: Change) -> &'static [u8] {
-    match change {
-        Change::Load => b"load",
-        Change::Remove => b"remove",
-        Change::Drain => b"drain",
-        Change::Finish => b"finish",
-    }
-}
-
-fn deed_text(deed: Deed) -> &'static [u8] {
-    match deed {
-        Deed::Get => b"get",
-        Deed::Put => b"put",
-        Deed::Query => b"query",
-        Deed::Make(change) => change_text(change),
-    }
-}
-
 /// Adds what a line is, and its reply.
 fn push_reply(
     text: &mut Vec<u8>,
     line: usize,
-    verb: &[u8],
+    deed: Deed,
     name: &[u8],
     reply: Reply,
 ) -> Result<(), AllocError> {
     text.extend_from_slice(b" line ")?;
     push_number(text, line)?;
     text.extend_from_slice(b" ")?;
-    text.extend_from_slice(verb)?;
+    text.extend_from_slice(deed.text())?;
     text.extend_from_slice(b" ")?;
     text.extend_from_slice(name)?;
     text.extend_from_slice(b" reply ")?;
-    text.extend_from_slice(reply_text(reply))?;
+    text.extend_from_slice(ReplyWord::of(reply).text().as_bytes())?;
     text.extend_from_slice(b"\n")
 }
 
 /// Adds the lines before the workers.
-fn push_opening(text: &mut Vec<u8>, script: &Script, replies: &Replies) -> Result<(), AllocError> {
-    for (line, opening) in script.opening().iter().enumerate() {
-        if let Some(reply) = replies.of_opening(line) {
+fn push_opening(
+    text: &mut Vec<u8>,
+    script: &Script,
+    places: &[OnceLock<Reply>],
+) -> Result<(), AllocError> {
+    for (line, (opening, place)) in script.opening().iter().zip(places).enumerate() {
+        if let Some(reply) = place.get() {
             let name = name_at(script.catalogue(), opening.slot);
             text.extend_from_slice(b"opening")?;
-            push_reply(text, line, change_text(opening.change), name, reply)?;
+            push_reply(text, line, Deed::Make(opening.change), name, *reply)?;
         }
     }
     Ok(())
@@ -132,15 +109,15 @@ fn push_opening(text: &mut Vec<u8>, script: &Script, replies: &Replies) -> Resul
 fn push_worker(
     text: &mut Vec<u8>,
     script: &Script,
-    replies: &Replies,
     worker: usize,
+    places: &[OnceLock<Reply>],
 ) -> Result<(), AllocError> {
-    for (line, task) in script.tasks(worker).iter().enumerate() {
-        if let Some(reply) = replies.of_worker(worker, line) {
+    for (line, (task, place)) in script.tasks(worker).iter().zip(places).enumerate() {
+        if let Some(reply) = place.get() {
             let name = name_at(script.catalogue(), task.slot);
             text.extend_from_slice(b"w")?;
             push_number(text, worker)?;
-            push_reply(text, line, deed_text(task.deed), name, reply)?;
+            push_reply(text, line, task.deed, name, *reply)?;
         }
     }
     Ok(())

@@ -44,10 +44,6 @@ fn remove<R: Wait>(rt: &R, manager: &Manager, slot: usize) -> Option<Reply> {
     }
 }
 
-fn drain<R: Wait>(rt: &R, manager: &Manager, slot: usize) -> Option<Reply> {
-    Some(Reply::of(manager.begin_drain(rt, slot)?))
-}
-
 /// Makes a change, and answers the reply of the first of its calls that was refused, or else Done. It is None where the
 /// slot is out of range.
 pub(super) fn make<R: Wait>(
@@ -59,7 +55,7 @@ pub(super) fn make<R: Wait>(
     match change {
         Change::Load => load(rt, manager, slot),
         Change::Remove => remove(rt, manager, slot),
-        Change::Drain => drain(rt, manager, slot),
+        Change::Drain => Some(Reply::of(manager.begin_drain(rt, slot)?)),
         Change::Finish => finish(rt, manager, slot),
     }
 }
@@ -81,14 +77,6 @@ impl<'a> Worker<'a> {
         self.number
     }
 
-    fn get<R: Wait>(&self, rt: &R, slot: usize) -> Option<Reply> {
-        Some(Reply::of(self.manager.get(rt, self.number, slot)?))
-    }
-
-    fn put<R: Wait>(&self, rt: &R, slot: usize) -> Option<Reply> {
-        Some(Reply::of(self.manager.put(rt, self.number, slot)?))
-    }
-
     fn query(&mut self, slot: usize) -> Option<Reply> {
         if slot >= self.manager.slots() {
             return None;
@@ -100,8 +88,8 @@ impl<'a> Worker<'a> {
     pub(super) fn perform<R: Wait>(&mut self, rt: &R, task: Task) -> Option<Reply> {
         let slot = task.slot;
         match task.deed {
-            Deed::Get => self.get(rt, slot),
-            Deed::Put => self.put(rt, slot),
+            Deed::Get => Some(Reply::of(self.manager.get(rt, self.number, slot)?)),
+            Deed::Put => Some(Reply::of(self.manager.put(rt, self.number, slot)?)),
             Deed::Query => self.query(slot),
             Deed::Make(change) => make(rt, self.manager, change, slot),
         }
