@@ -9,7 +9,7 @@ use Rattle.workload_drive.specs.declared.statement.Statement.{Statement}
 use Rattle.workload_drive.specs.declared.statement.Parts.{Parts}
 use Rattle.workload_drive.specs.Faults.{IsFirstFault}
 use Rattle.workload_drive.specs.Statements as spec
-use Rattle.workload_drive.specs.declared.script.acts.Request.{Request}
+use Rattle.workload_drive.specs.declared.script.acts.NamedAct.{NamedAct}
 use Rattle.workload_drive.specs.declared.script.entries.Task.{Task}
 use Rattle.workload_drive.specs.Script as scripts
 
@@ -32,8 +32,8 @@ statements_in said = map statement_in said
 abbrev pub parts_in : Parts → spec.Parts
 parts_in p = record { catalogue = p.catalogue; statements = statements_in p.statements.items; end = p.end }
 
-abbrev pub request_in : Request → scripts.Request
-request_in asked = record { act = asked.act; name = asked.name.now }
+abbrev pub named_act_in : NamedAct → scripts.NamedAct
+named_act_in asked = record { act = asked.act; name = asked.name.now }
 
 abbrev pub tasks_in : List (Vec Task) → List (List Task)
 tasks_in tasks = map (λ (t : Vec Task). t.items) tasks

@@ -41,11 +41,11 @@ change_in (Make change) = Some change
 change_in _ = None
 
 -- what a line asks: an act on the module of a name
-pub record Request : Type 0 where
+pub record NamedAct : Type 0 where
   pub act : Act
   pub name : List ℕ
 
-abbrev pub on_name : List ℕ → Option Act → Option Request
+abbrev pub on_name : List ℕ → Option Act → Option NamedAct
 on_name name None = None
 on_name name (Some act) = Some (record { act = act; name = name })
 
@@ -54,12 +54,12 @@ worked (Some worker) (Some deed) = Some (Works worker deed)
 worked _ _ = None
 
 -- the form of a line: `load NAME` and the like, or a worker, as `w0`, and what it does. None: it has no form
-abbrev pub request_of : List (List ℕ) → Option Request
-request_of [] = None
-request_of (_ ∷ []) = None
-request_of (verb ∷ name ∷ []) = on_name name (option_map Opens (option_and_then change_in (deed_of verb)))
-request_of (worker ∷ verb ∷ name ∷ []) = on_name name (worked (marked 119 worker) (deed_of verb))
-request_of (_ ∷ _ ∷ _ ∷ _ ∷ _) = None
+abbrev pub named_act_of : List (List ℕ) → Option NamedAct
+named_act_of [] = None
+named_act_of (_ ∷ []) = None
+named_act_of (verb ∷ name ∷ []) = on_name name (option_map Opens (option_and_then change_in (deed_of verb)))
+named_act_of (worker ∷ verb ∷ name ∷ []) = on_name name (worked (marked 119 worker) (deed_of verb))
+named_act_of (_ ∷ _ ∷ _ ∷ _ ∷ _) = None
 
 abbrev pub is_works : Act → Bool
 is_works (Opens change) = false
@@ -79,7 +79,7 @@ entry_at line act None = Err (fault_at H2 line)
 entry_at line act (Some slot) = Ok (record { act = act; slot = slot })
 
 -- what this line asks; a line of no form, or at no place of its own, comes before a name outside the catalogue
-abbrev pub entry_of : List Description → ℕ → Bool → ℕ → Option Request → Result Entry LineFault
+abbrev pub entry_of : List Description → ℕ → Bool → ℕ → Option NamedAct → Result Entry LineFault
 entry_of modules workers after_works line None = Err (bad_line line)
 entry_of modules workers after_works line (Some asked) =
     if has_place workers after_works asked.act then entry_at line asked.act (slot_named modules (normal_form asked.name))
@@ -93,7 +93,7 @@ then_entry (Ok entry) later = later entry
 abbrev pub entries_of : List Description → ℕ → List Entry → List Statement → Result (List Entry) LineFault
 entries_of modules workers earlier [] = Ok earlier
 entries_of modules workers earlier (said ∷ later) =
-    then_entry (entry_of modules workers (has_works earlier) said.number (request_of said.words))
+    then_entry (entry_of modules workers (has_works earlier) said.number (named_act_of said.words))
     (λ entry. entries_of modules workers (earlier ++ entry ∷ []) later)
 
 -- the change that a line is

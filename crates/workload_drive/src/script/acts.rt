@@ -2,8 +2,8 @@
 ghost use Rattle.std.specs.Prelude.{◌≡◌};
 ghost use Rattle.std.specs.Option.{option_map};
 ghost use Rattle.dep_index.specs.Text.{texts_of};
-ghost use Rattle.workload_drive.specs.Script.{deed_text, deed_of, request_of, is_works};
-ghost use Rattle.workload_drive.specs.ForProofs.{request_in};
+ghost use Rattle.workload_drive.specs.Script.{deed_text, deed_of, named_act_of, is_works};
+ghost use Rattle.workload_drive.specs.ForProofs.{named_act_in};
 
 use crate::statement::marked;
 use dep_index::text::is_same;
@@ -41,7 +41,7 @@ pub(crate) enum Act {
 
 /// What a line asks: an act on the module of a name.
 #[derive(Clone, Copy, Drop)]
-pub(crate) struct Request<'a> {
+pub(crate) struct NamedAct<'a> {
     pub(crate) act: Act,
     pub(crate) name: &'a [u8],
 }
@@ -92,12 +92,12 @@ fn deed_of(verb: &[u8]) -> Option<Deed>
 }
 
 /// What a line of these words asks, or `None` where it has no form.
-pub(crate) fn request_of<'a>(words: &[&'a [u8]]) -> Option<Request<'a>>
-    ensures { option_map request_in result ≡ request_of (texts_of words.now) }
+pub(crate) fn named_act_of<'a>(words: &[&'a [u8]]) -> Option<NamedAct<'a>>
+    ensures { option_map named_act_in result ≡ named_act_of (texts_of words.now) }
 {
     match words {
         [verb, name] => match deed_of(verb)? {
-            Deed::Make(change) => Some(Request {
+            Deed::Make(change) => Some(NamedAct {
                 act: Act::Opens(change),
                 name,
             }),
@@ -105,7 +105,7 @@ pub(crate) fn request_of<'a>(words: &[&'a [u8]]) -> Option<Request<'a>>
         },
         [worker, verb, name] => {
             let worker = marked(b'w', worker)? as usize;
-            Some(Request {
+            Some(NamedAct {
                 act: Act::Works(worker, deed_of(verb)?),
                 name,
             })

@@ -1,12 +1,12 @@
 //! The lines of a script, each with the slot of its module.
 ghost use Rattle.std.specs.Prelude.{◌≡◌, [], map, IfOk};
 ghost use Rattle.std.specs.List.{range_with_len};
-ghost use Rattle.workload_drive.specs.Script.{has_works, has_place, entry_at, entry_of, entries_of, opening_in, task_in, opening_of, tasks_of, request_of};
+ghost use Rattle.workload_drive.specs.Script.{has_works, has_place, entry_at, entry_of, entries_of, opening_in, task_in, opening_of, tasks_of, named_act_of};
 ghost use Rattle.dep_index.specs.Text.{texts_of, normal_form};
 ghost use Rattle.dep_index.specs.Catalogue.{slot_named};
-ghost use Rattle.workload_drive.specs.ForProofs.{Reads, statements_in, request_in, tasks_in};
+ghost use Rattle.workload_drive.specs.ForProofs.{Reads, statements_in, named_act_in, tasks_in};
 
-use super::acts::{Act, Change, Deed, Request, request_of};
+use super::acts::{Act, Change, Deed, NamedAct, named_act_of};
 use crate::fault::{LineCode, ScheduleFault};
 use crate::statement::Statement;
 use dep_index::{Catalogue, Name};
@@ -76,7 +76,7 @@ fn entry_at(
     alloc: Global,
     catalogue: &Catalogue,
     line: usize,
-    asked: Request<'_>,
+    asked: NamedAct<'_>,
 ) -> Result<Entry, ScheduleFault>
     ensures { Reads (entry_at line asked.entry.act (slot_named catalogue.now (normal_form asked.entry.name.now))) (λ entry. entry) result }
 {
@@ -99,9 +99,9 @@ fn entry_of(
     line: usize,
     words: &[&[u8]],
 ) -> Result<Entry, ScheduleFault>
-    ensures { Reads (entry_of catalogue.now workers after_works line (request_of (texts_of words.now))) (λ entry. entry) result }
+    ensures { Reads (entry_of catalogue.now workers after_works line (named_act_of (texts_of words.now))) (λ entry. entry) result }
 {
-    match request_of(words) {
+    match named_act_of(words) {
         Some(asked) if has_place(workers, after_works, asked.act) => {
             entry_at(alloc, catalogue, line, asked)
         }
