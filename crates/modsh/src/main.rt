@@ -2,22 +2,15 @@
 #![tactic(auto)]
 
 use modsh_drive::{Output, drive};
-use std::alloc::AllocError;
+use program_frame::words;
 use std::process::ExitCode;
-use std::{env, io};
 
 fn main(rt: HostRuntime) -> ExitCode {
-    let args = match env::args(&rt) {
-        Ok(args) => args,
-        Err(error) if error.kind() == io::ErrorKind::OutOfMemory => return ExitCode::from(3),
-        Err(_) => return ExitCode::from(2),
+    let words = match words(&rt) {
+        Ok(words) => words,
+        Err(status) => return ExitCode::from(status.number()),
     };
-    let words: Result<Vec<String>, AllocError> = args.collect(rt.alloc());
-    let Ok(words) = words else {
-        return ExitCode::from(3);
-    };
-    let mut errors = rt.stderr();
     let mut output = Output::new(rt.stdout());
-    let status = drive(&rt, words.as_slice(), rt.stdin(), &mut output, &mut errors);
+    let status = drive(&rt, &words, rt.stdin(), &mut output, &mut rt.stderr());
     ExitCode::from(status)
 }

@@ -6,14 +6,8 @@ use Rattle.modprobe.specs.declared.fault.SetupCode.{SetupCode}
 use Rattle.modprobe.specs.declared.fault.SetupCode.TheVariants.{C1, C2, C3, C4, M1, M2, M3, B1, Read, Memory, Turns, LongLine}
 use Rattle.modprobe.specs.Lines.{IfTold}
 use Rattle.modprobe.specs.Serve.{AnswersInput}
-use Rattle.modsh_drive.specs.declared.status.Status.{Status}
-use Rattle.modsh_drive.specs.declared.status.Status.TheVariants.{Done, ErrorReply, Refused, Fault}
-
-abbrev pub number_of : Status → ℕ
-number_of Done = 0
-number_of ErrorReply = 1
-number_of Refused = 2
-number_of Fault = 3
+use Rattle.program_frame.specs.declared.status.Status.{Status}
+use Rattle.program_frame.specs.declared.status.Status.TheVariants.{Done, ErrorReply, Refused, Fault}
 
 -- a text that is wrong is refused; all else is a fault
 abbrev pub setup_status : SetupCode → Status

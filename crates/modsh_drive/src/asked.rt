@@ -1,7 +1,7 @@
 //! What the arguments of the program ask for.
 ghost use Rattle.std.specs.Prelude.{◌≤◌};
 
-use clap::{Arg, ArgAction, ArgMatches, Command, value_parser};
+use clap::{Arg, ArgAction, ArgMatches, Command, Error as ClapError, value_parser};
 use std::alloc::{AllocError, Global};
 
 /// The version of the program.
@@ -27,7 +27,7 @@ Exit status:
   3  a read or a write failed, memory ran out, or a limit was reached";
 
 /// What the program takes: how many workers a session has, and files that stand before its input.
-pub(crate) fn command<'a>(alloc: Global) -> Result<Command<'a>, AllocError> {
+fn command<'a>(alloc: Global) -> Result<Command<'a>, AllocError> {
     let workers = Arg::new(alloc, "workers")
         .long("workers")
         .value_name("N")
@@ -54,6 +54,14 @@ pub(crate) fn command<'a>(alloc: Global) -> Result<Command<'a>, AllocError> {
         .arg(explain)?
         .arg(fail)?
         .arg(words)
+}
+
+/// What clap finds in the words.
+pub(crate) fn matches_of<'a>(
+    alloc: Global,
+    words: &'a [String],
+) -> Result<ArgMatches<'a>, ClapError> {
+    command(alloc)?.try_get_matches_from(words)
 }
 
 /// What is asked for besides files.

@@ -2,10 +2,9 @@
 
 use crate::hints::{hint_of, path_hint, word_hint};
 use crate::places::{PlacedLine, place_of};
-use crate::shown::Shown;
 use crate::words::Section;
 use modprobe::{LONGEST_LINE, RunFault, ServeFault, SetupCode, SetupFault};
-use std::alloc::{AllocError, Global};
+use program_frame::{Shown, tell_hint, tell_sentence};
 use std::io::Write;
 
 const READ: &str = "Standard input could not be read.";
@@ -45,12 +44,6 @@ fn run_sentence(fault: RunFault) -> &'static str {
     }
 }
 
-fn tell_hint<E: Write>(hint: Option<&str>, errors: &mut E) {
-    if let Some(hint) = hint {
-        let _ = writeln!(errors, "  hint: {hint}");
-    }
-}
-
 /// The section in whose lines a code counts; none are those before all sections.
 fn section_of(code: SetupCode) -> Option<Section> {
     match code {
@@ -69,49 +62,35 @@ fn place_of_fault(fault: &SetupFault, lines: &[PlacedLine<'_>]) -> Option<usize>
 }
 
 /// Tells where the line of a fault stands, its bytes, what is wrong, and what may have been meant.
-fn explain_setup<E: Write>(
-    alloc: Global,
-    fault: &SetupFault,
-    lines: &[PlacedLine<'_>],
-    errors: &mut E,
-) -> Result<(), AllocError> {
-    let sentence = setup_sentence(fault.code);
+fn explain_setup<E: Write>(fault: &SetupFault, lines: &[PlacedLine<'_>], errors: &mut E) {
     let place = place_of_fault(fault, lines).unwrap_or(lines.len());
     let Some(line) = lines.get(place) else {
-        let _ = writeln!(errors, "  {sentence}");
-        return Ok(());
+        return tell_sentence(setup_sentence(fault.code), errors);
     };
-    let text = Shown(line.text);
-    let _ = writeln!(errors, "  {line}: {text}\n  {sentence}");
     let before = lines.get(..place).unwrap_or(&[]);
-    tell_hint(hint_of(alloc, fault.code, before, line.text)?, errors);
-    Ok(())
+    let text = Shown(line.text);
+    let _ = writeln!(errors, "  {line}: {text}");
+    tell_sentence(setup_sentence(fault.code), errors);
+    tell_hint(hint_of(fault.code, before, line.text), errors);
 }
 
 /// Explains a fault of an input whose lines before the session are these.
-pub(crate) fn explain<E: Write>(
-    alloc: Global,
-    fault: &ServeFault,
-    lines: &[PlacedLine<'_>],
-    errors: &mut E,
-) -> Result<(), AllocError> {
-    let sentence = match fault {
-        ServeFault::Setup(fault) => return explain_setup(alloc, fault, lines, errors),
-        ServeFault::Run(fault) => run_sentence(*fault),
-        ServeFault::Memory => MEMORY,
-    };
-    let _ = writeln!(errors, "  {sentence}");
-    Ok(())
+pub(crate) fn explain<E: Write>(fault: &ServeFault, lines: &[PlacedLine<'_>], errors: &mut E) {
+    match fault {
+        ServeFault::Setup(fault) => explain_setup(fault, lines, errors),
+        ServeFault::Run(fault) => tell_sentence(run_sentence(*fault), errors),
+        ServeFault::Memory => tell_sentence(MEMORY, errors),
+    }
 }
 
 /// Explains a word that has not its form.
 pub(crate) fn explain_word<E: Write>(word: &str, errors: &mut E) {
-    let _ = writeln!(errors, "  An argument has none of the forms of a word.");
+    tell_sentence("An argument has none of the forms of a word.", errors);
     tell_hint(Some(word_hint(word)), errors);
 }
 
 /// Explains a path that cannot be read.
 pub(crate) fn explain_path<E: Write>(path: &str, errors: &mut E) {
-    let _ = writeln!(errors, "  The system could not read the file.");
+    tell_sentence("The system could not read the file.", errors);
     tell_hint(path_hint(path), errors);
 }

@@ -10,7 +10,6 @@ mod notes;
 mod output;
 mod places;
 mod program;
-mod shown;
 mod status;
 mod words;
 

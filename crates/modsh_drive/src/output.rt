@@ -16,14 +16,40 @@ enum Front {
     Other,
 }
 
+/// What is known of the lines that were written.
+#[derive(Drop)]
+struct Seen {
+    front: Front,
+    has_error: bool,
+}
+
+impl Seen {
+    fn see(&mut self, byte: u8) {
+        self.front = match self.front {
+            _ if byte == b'\n' => Front::Begun(0),
+            Front::Begun(count) if ERROR.get(count) == Some(&byte) => Front::Begun(count + 1),
+            Front::Begun(count) if count == ERROR.len() && byte.is_ascii_uppercase() => {
+                self.has_error = true;
+                Front::Other
+            }
+            _ => Front::Other,
+        };
+    }
+
+    fn see_all(&mut self, bytes: &[u8]) {
+        for byte in bytes {
+            self.see(*byte);
+        }
+    }
+}
+
 /// A writer to which replies go, and whether one of them was an error. It tells what the writer tells, and each error of
 /// the writer is a failure.
 #[derive(Drop)]
 pub struct Output<W> {
     writer: W,
     failed: bool,
-    front: Front,
-    has_error: bool,
+    seen: Seen,
 }
 
 impl<W: Write> Output<W> {
@@ -34,8 +60,10 @@ impl<W: Write> Output<W> {
         Output {
             writer,
             failed: false,
-            front: Front::Begun(0),
-            has_error: false,
+            seen: Seen {
+                front: Front::Begun(0),
+                has_error: false,
+            },
         }
     }
 
@@ -46,32 +74,7 @@ impl<W: Write> Output<W> {
 
     /// Whether a line was an error: `error ` and a code. No line of a listing has a capital letter there.
     pub(crate) fn has_error(&self) -> bool {
-        self.has_error
-    }
-
-    fn see(&mut self, byte: u8)
-        ensures writer { self.new.writer ≡ self.old.writer }
-        ensures failed { self.new.failed ≡ self.old.failed }
-    {
-        let front = match self.front {
-            _ if byte == b'\n' => Front::Begun(0),
-            Front::Begun(count) if ERROR.get(count) == Some(&byte) => Front::Begun(count + 1),
-            Front::Begun(count) if count == ERROR.len() && byte.is_ascii_uppercase() => {
-                self.has_error = true;
-                Front::Other
-            }
-            _ => Front::Other,
-        };
-        self.front = front;
-    }
-
-    fn see_all(&mut self, bytes: &[u8])
-        ensures writer { self.new.writer ≡ self.old.writer }
-        ensures failed { self.new.failed ≡ self.old.failed }
-    {
-        for byte in bytes {
-            self.see(*byte);
-        }
+        self.seen.has_error
     }
 }
 
@@ -86,7 +89,7 @@ impl<W: Write> Sink for Output<W> {
                 if count == 0 && !bytes.is_empty() {
                     self.failed = true;
                 }
-                self.see_all(&bytes[..count]);
+                self.seen.see_all(&bytes[..count]);
                 Ok(count)
             }
             Err(_) => {

@@ -1,9 +1,9 @@
 //! The lines of an input before its session, and where each of them stands.
 
 use crate::files::JoinedFiles;
-use crate::shown::Shown;
-use crate::words::Section;
+use crate::words::{Section, section_named};
 use dep_index::text::{is_same, whole_lines};
+use program_frame::Shown;
 use std::alloc::{AllocError, Global};
 use std::fmt;
 
@@ -34,26 +34,11 @@ impl fmt::Display for PlacedLine<'_> {
     }
 }
 
-/// What a section line begins.
-#[derive(Clone, Copy, Drop)]
-enum Head {
-    Section(Section),
-    Session,
-}
-
-fn head_of(line: &[u8]) -> Option<Head> {
-    if is_same(line, b"%catalogue") {
-        Some(Head::Section(Section::Catalogue))
-    } else if is_same(line, b"%dep") {
-        Some(Head::Section(Section::Dependencies))
-    } else if is_same(line, b"%alias") {
-        Some(Head::Section(Section::Aliases))
-    } else if is_same(line, b"%conf") {
-        Some(Head::Section(Section::Configuration))
-    } else if is_same(line, b"%session") {
-        Some(Head::Session)
-    } else {
-        None
+/// The section that a line begins.
+fn section_begun(line: &[u8]) -> Option<Section> {
+    match line {
+        [b'%', name @ ..] => section_named(name),
+        _ => None,
     }
 }
 
@@ -66,37 +51,27 @@ struct Placing<'a> {
 }
 
 impl<'a> Placing<'a> {
-    fn add(
-        &mut self,
-        path: Option<&'a str>,
-        number: usize,
-        text: &'a [u8],
-    ) -> Result<(), AllocError> {
-        if self.has_session {
-            return Ok(());
-        }
-        match head_of(text) {
-            Some(Head::Session) => self.has_session = true,
-            Some(Head::Section(section)) => self.section = Some(section),
-            None => self.lines.push(PlacedLine {
-                path,
-                number,
-                section: self.section,
-                text,
-            })?,
-        }
-        Ok(())
-    }
-
-    /// Adds the lines of a text, of which the first has this number.
+    /// Adds the lines of a text before a session, of which the first has this number.
     fn add_all(
         &mut self,
         path: Option<&'a str>,
         first: usize,
         text: &'a [u8],
     ) -> Result<(), AllocError> {
-        for (i, line) in whole_lines(text).enumerate() {
-            self.add(path, first.saturating_add(i), line)?;
+        for (i, text) in whole_lines(text).enumerate() {
+            self.has_session |= is_same(text, b"%session");
+            if self.has_session {
+                return Ok(());
+            }
+            match section_begun(text) {
+                Some(section) => self.section = Some(section),
+                None => self.lines.push(PlacedLine {
+                    path,
+                    number: first.saturating_add(i),
+                    section: self.section,
+                    text,
+                })?,
+            }
         }
         Ok(())
     }

@@ -1,20 +1,20 @@
 //! The program over any input and output.
-ghost use Rattle.std.specs.Prelude.{◌≡◌, ◌≢◌, ◌≤◌, ◌++◌, false, length, IfOk, OnOk};
+ghost use Rattle.std.specs.Prelude.{◌≡◌, ◌≢◌, ◌≤◌, ◌++◌, false, length, OnOk};
 ghost use Rattle.modprobe.specs.Lines.{IfTold};
 ghost use Rattle.modprobe.specs.Serve.{AnswersInput};
 ghost use Rattle.modsh_drive.specs.Statuses.{AnswersPlainly, EndsPlainly};
 
-use crate::asked::{Asked, command};
+use crate::asked::{Asked, matches_of};
 use crate::explain::{explain, explain_path, explain_word};
 use crate::files::JoinedFiles;
 use crate::kept::{Keeping, Kept};
 use crate::notes::note_idle;
 use crate::output::Output;
 use crate::places::placed_lines;
-use crate::status::Status;
+use crate::status::status_after;
 use crate::words::section_and_path;
-use clap::error::ErrorKind;
 use modprobe::{FromRead, ServeFault, serve};
+use program_frame::{Status, end_by, tell_no_memory};
 use std::alloc::{AllocError, Global};
 use std::fs::File;
 use std::io;
@@ -42,23 +42,23 @@ fn add_file<'a, R: Files + AllocGlobal, E: Write>(
     asked: Asked,
     files: &mut JoinedFiles<'a>,
     errors: &mut E,
-) -> Result<Status, AllocError> {
+) -> Status {
     let Some((section, path)) = section_and_path(word) else {
-        return Ok(Status::Refused);
+        return Status::Refused;
     };
     let added = match File::open(rt, path) {
         Ok(mut file) => files.add(section, path, &mut file),
         Err(error) => Err(error),
     };
     match added {
-        Ok(()) => Ok(Status::Done),
-        Err(error) if error.kind() == io::ErrorKind::OutOfMemory => Err(AllocError),
+        Ok(()) => Status::Done,
+        Err(error) if error.kind() == io::ErrorKind::OutOfMemory => tell_no_memory("modsh", errors),
         Err(_) => {
             let _ = writeln!(errors, "modsh: cannot read {path}");
             if asked.explain {
                 explain_path(path, errors);
             }
-            Ok(Status::Refused)
+            Status::Refused
         }
     }
 }
@@ -70,17 +70,17 @@ fn add_files<'a, R: Files + AllocGlobal, E: Write>(
     asked: Asked,
     files: &mut JoinedFiles<'a>,
     errors: &mut E,
-) -> Result<Status, AllocError> {
+) -> Status {
     if !have_form(words, asked, errors) {
-        return Ok(Status::Refused);
+        return Status::Refused;
     }
     for word in words {
-        let status = add_file(rt, *word, asked, files, errors)?;
+        let status = add_file(rt, *word, asked, files, errors);
         if !matches!(status, Status::Done) {
-            return Ok(status);
+            return status;
         }
     }
-    Ok(Status::Done)
+    Status::Done
 }
 
 /// Serves the session of this input.
@@ -109,7 +109,7 @@ fn explain_input<E: Write>(
 ) -> Result<(), AllocError> {
     let lines = placed_lines(alloc, files, kept.bytes())?;
     if let Err(fault) = answer {
-        explain(alloc, fault, &lines, errors)?;
+        explain(fault, &lines, errors);
     }
     if !kept.is_whole() {
         let _ = writeln!(
@@ -174,7 +174,7 @@ fn answer<I: Read + Drop, O: Write, E: Write>(
     ensures error { asked.fail ≡ false → result ≢ Status.ErrorReply }
 {
     let result = serve_files(alloc, asked, files, reader, writer, errors);
-    Status::after(&result, asked.fail && writer.has_error())
+    status_after(&result, asked.fail && writer.has_error())
 }
 
 /// Answers what the words ask for, of which there is one besides the program's own name.
@@ -184,47 +184,38 @@ fn answer_words<R: Files + AllocGlobal, I: Read + Drop, O: Write, E: Write>(
     reader: I,
     writer: &mut Output<O>,
     errors: &mut E,
-) -> Result<Status, AllocError>
+) -> Status
     requires { writer.old.failed ≡ false }
 {
-    let matches = match command(rt.alloc())?.try_get_matches_from(words) {
+    let matches = match matches_of(rt.alloc(), words) {
         Ok(matches) => matches,
-        Err(error) if error.kind() == ErrorKind::OutOfMemory => return Err(AllocError),
-        Err(error) if error.use_stderr() => {
-            let _ = write!(errors, "{error}");
-            return Ok(Status::Refused);
-        }
-        Err(help) => {
-            let _ = write!(writer.writer(), "{help}");
-            return Ok(Status::Done);
-        }
+        Err(error) => return end_by("modsh", &error, writer.writer(), errors),
     };
     let asked = Asked::of(&matches);
     let mut files = JoinedFiles::new(rt.alloc());
-    if let Some(words) = matches.get_strs("words") {
-        let status = add_files(rt, words, asked, &mut files, errors)?;
-        if !matches!(status, Status::Done) {
-            return Ok(status);
-        }
+    let words = matches.get_strs("words").unwrap_or(&[]);
+    match add_files(rt, words, asked, &mut files, errors) {
+        Status::Done => answer(rt.alloc(), asked, &files, reader, writer, errors),
+        status => status,
     }
-    Ok(answer(rt.alloc(), asked, &files, reader, writer, errors))
 }
 
-fn drive_or_fail<R: Files + AllocGlobal, I: Read + Drop, O: Write, E: Write>(
+/// Answers the words and the reader.
+fn answer_all<R: Files + AllocGlobal, I: Read + Drop, O: Write, E: Write>(
     rt: &R,
     words: &[String],
     reader: I,
     writer: &mut Output<O>,
     errors: &mut E,
-) -> Result<Status, AllocError>
+) -> Status
     requires { writer.old.failed ≡ false }
-    ensures { length words.now ≤ 1 → IfOk result (AnswersPlainly (I.remaining reader) (O.contents writer.old.writer) (O.contents writer.new.writer)) }
+    ensures { length words.now ≤ 1 → AnswersPlainly (I.remaining reader) (O.contents writer.old.writer) (O.contents writer.new.writer) result }
 {
     if words.len() > 1 {
         return answer_words(rt, words, reader, writer, errors);
     }
     let files = JoinedFiles::new(rt.alloc());
-    Ok(answer(rt.alloc(), Asked::plain(), &files, reader, writer, errors))
+    answer(rt.alloc(), Asked::plain(), &files, reader, writer, errors)
 }
 
 /// Runs the program on these words, the first of which is its own name, and answers its status: 0 at the end of the
@@ -241,12 +232,5 @@ pub fn drive<R: Files + AllocGlobal, I: Read + Drop, O: Write, E: Write>(
     ensures status { result ≤ 3 }
     ensures plain { length words.now ≤ 1 → EndsPlainly (I.remaining reader) (O.contents writer.old.writer) (O.contents writer.new.writer) result }
 {
-    let status = match drive_or_fail(rt, words, reader, writer, errors) {
-        Ok(status) => status,
-        Err(_) => {
-            let _ = writeln!(errors, "modsh: out of memory");
-            Status::Fault
-        }
-    };
-    status.number()
+    answer_all(rt, words, reader, writer, errors).number()
 }

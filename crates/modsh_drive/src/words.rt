@@ -16,7 +16,7 @@ pub(crate) enum Section {
 }
 
 /// The section that a word names before its `=`.
-fn section_named(name: &[u8]) -> Option<Section>
+pub(crate) fn section_named(name: &[u8]) -> Option<Section>
     ensures { result ≡ section_named name.now }
 {
     if name == b"catalogue".as_slice() {
