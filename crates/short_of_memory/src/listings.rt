@@ -34,8 +34,8 @@ depends:        snd
 parm:           debug:bool
 ";
 
-fn is_sound((line, used): (Line, usize)) -> bool {
-    used == 46
+fn is_sound((line, used): &(Line, usize)) -> bool {
+    *used == 46
         && line.name.as_bytes() == b"snd".as_slice()
         && line.size == 114_688
         && line.count == 1
@@ -55,33 +55,27 @@ fn push_name(alloc: Global) -> Result<Names, Stop> {
     Ok(names)
 }
 
-fn load(table: &mut Table, slot: usize)
-    ensures { table.new.catalogue ≡ table.old.catalogue }
-{
-    if slot < table.slots() {
-        let _ = table.begin_load(slot);
-        let _ = table.end_load(slot, true);
-    }
-}
-
-/// A table in which both modules are live.
+/// A table in which every module is live.
 fn loaded(alloc: Global, catalogue: &Catalogue) -> Result<Table, Stop>
     ensures { IfOk result (λ table. table.catalogue ≡ modules_of catalogue.now) }
 {
     let mut table = needed(Table::new(alloc, catalogue, 1))?;
-    load(&mut table, 0);
-    load(&mut table, 1);
+    for slot in 0..catalogue.len() {
+        if slot < table.slots() {
+            let _ = table.begin_load(slot);
+            let _ = table.end_load(slot, true);
+        }
+    }
     Ok(table)
 }
 
-fn lines_of(alloc: Global, catalogue: &Catalogue) -> Result<Vec<u8>, Stop> {
+fn listing_of(alloc: Global, catalogue: &Catalogue, in_columns: bool) -> Result<Vec<u8>, Stop> {
     let table = loaded(alloc, catalogue)?;
-    Ok(proc_text(alloc, catalogue, &table)?)
-}
-
-fn columns_of(alloc: Global, catalogue: &Catalogue) -> Result<Vec<u8>, Stop> {
-    let table = loaded(alloc, catalogue)?;
-    Ok(lsmod_text(alloc, catalogue, &table)?)
+    Ok(if in_columns {
+        lsmod_text(alloc, catalogue, &table)?
+    } else {
+        proc_text(alloc, catalogue, &table)?
+    })
 }
 
 fn details_of(alloc: Global, catalogue: &Catalogue) -> Result<Vec<u8>, Stop> {
@@ -93,19 +87,23 @@ fn details_of(alloc: Global, catalogue: &Catalogue) -> Result<Vec<u8>, Stop> {
 
 pub fn try_calls<R: Print + AllocGlobal>(rt: &R) -> anyhow::Result<()> {
     let alloc = rt.alloc();
-    tell(rt, "read_line", read_line(alloc, LINE).map(is_sound))?;
-    let line = write_sound(alloc);
-    tell(rt, "write_line", line.map(|line| line.as_slice() == LINE))?;
-    let names = push_name(alloc);
-    let is_right = names.map(|names| names.as_slice().len() == 1);
-    tell(rt, "Names::push", is_right)?;
-    let lines = over(sound(alloc), |catalogue| lines_of(alloc, catalogue));
-    let is_right = lines.map(|text| text.as_slice() == LISTING);
-    tell(rt, "proc_text", is_right)?;
-    let columns = over(sound(alloc), |catalogue| columns_of(alloc, catalogue));
-    let is_right = columns.map(|text| text.as_slice() == COLUMNS);
-    tell(rt, "lsmod_text", is_right)?;
-    let details = over(sound(alloc), |catalogue| details_of(alloc, catalogue));
-    let is_right = details.map(|text| text.as_slice() == DETAILS);
-    tell(rt, "modinfo_text", is_right)
+    tell(rt, "read_line", read_line(alloc, LINE), is_sound)?;
+    tell(
+        rt,
+        "write_line",
+        write_sound(alloc),
+        |it| it.as_slice() == LINE,
+    )?;
+    tell(
+        rt,
+        "Names::push",
+        push_name(alloc),
+        |it| it.as_slice().len() == 1,
+    )?;
+    let lines = over(sound(alloc), |it| listing_of(alloc, it, false));
+    tell(rt, "proc_text", lines, |it| it.as_slice() == LISTING)?;
+    let columns = over(sound(alloc), |it| listing_of(alloc, it, true));
+    tell(rt, "lsmod_text", columns, |it| it.as_slice() == COLUMNS)?;
+    let details = over(sound(alloc), |it| details_of(alloc, it));
+    tell(rt, "modinfo_text", details, |it| it.as_slice() == DETAILS)
 }

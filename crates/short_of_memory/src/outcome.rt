@@ -48,42 +48,33 @@ pub fn over<N: Drop, T, E: Into<Stop>, F: FnOnce(&N) -> Result<T, E>>(
 ) -> Result<T, Stop>
     requires { F.IsAlwaysCallable call }
 {
-    let needed = needed?;
-    match call(&needed) {
-        Ok(answer) => Ok(answer),
-        Err(error) => Err(error.into()),
-    }
+    call(&needed?).map_err(|error| error.into())
 }
 
 /// Whether these are the names, in order.
 pub fn are_names(names: &[Name], wanted: &[&[u8]]) -> bool {
-    if names.len() != wanted.len() {
-        return false;
-    }
-    for (name, own) in names.iter().zip(wanted) {
-        if name.as_bytes() != *own {
-            return false;
-        }
-    }
-    true
+    names.len() == wanted.len()
+        && names
+            .iter()
+            .zip(wanted)
+            .all(|(name, own)| name.as_bytes() == *own)
 }
 
-/// Prints what came of the call: whether its answer is its example's.
-pub fn tell<R: Print, E: Into<Stop>>(
+/// Prints what came of the call, and judges its answer.
+pub fn tell<R: Print, T: Drop, E: Into<Stop>, F: Fn(&T) -> bool>(
     rt: &R,
     call: &str,
-    answer: Result<bool, E>,
-) -> anyhow::Result<()> {
-    let stop = match answer {
-        Ok(true) => None,
-        Ok(false) => Some(Stop::Wrong),
-        Err(error) => Some(error.into()),
+    answer: Result<T, E>,
+    is_right: F,
+) -> anyhow::Result<()>
+    requires { F.IsAlwaysCallable is_right }
+{
+    let outcome = match answer.map_err(|error| error.into()) {
+        Ok(answer) if is_right(&answer) => "ok",
+        Err(Stop::NoMemory) => "no memory",
+        Err(Stop::NotMade) => "not made",
+        _ => bail!("{call}: another answer"),
     };
-    match stop {
-        None => println!(rt; "{call}: ok")?,
-        Some(Stop::NoMemory) => println!(rt; "{call}: no memory")?,
-        Some(Stop::NotMade) => println!(rt; "{call}: not made")?,
-        Some(Stop::Wrong) => bail!("{call}: another answer"),
-    }
+    println!(rt; "{call}: {outcome}")?;
     Ok(())
 }

@@ -2,7 +2,7 @@
 
 use crate::outcome::{Stop, over, stop_at, tell};
 use crate::sound::sound;
-use dep_index::{Call, Reply};
+use dep_index::{Call, Catalogue, Reply};
 use linear_points::{End, Interval, Point, PointsError, call_intervals, check_points, points};
 use step_core::Step;
 
@@ -14,52 +14,29 @@ impl From<PointsError> for Stop {
 
 const SND: usize = 0;
 
-// The get has exchanged the word and not written its count: the removal is refused.
-const STEPS: [Step; 20] = [
-    Step::Invoke(0, Call::BeginLoad(SND)),
-    Step::Go(0),
-    Step::Go(0),
-    Step::Go(0),
-    Step::Go(0),
-    Step::Invoke(0, Call::EndLoad(SND, true)),
-    Step::Go(0),
-    Step::Go(0),
-    Step::Go(0),
-    Step::Go(0),
-    Step::Invoke(0, Call::Get(0, SND)),
-    Step::Go(0),
-    Step::Go(0),
-    Step::Go(0),
-    Step::Invoke(1, Call::BeginRemove(SND)),
-    Step::Go(1),
-    Step::Go(1),
-    Step::Go(1),
-    Step::Go(0),
-    Step::Go(0),
-];
+/// The get has exchanged the word and not written its count: the removal is refused.
+fn steps() -> [Step; 20] {
+    let mut steps = [Step::Go(0); 20];
+    steps[0] = Step::Invoke(0, Call::BeginLoad(SND));
+    steps[5] = Step::Invoke(0, Call::EndLoad(SND, true));
+    steps[10] = Step::Invoke(0, Call::Get(0, SND));
+    steps[14] = Step::Invoke(1, Call::BeginRemove(SND));
+    for removal in &mut steps[15..18] {
+        *removal = Step::Go(1);
+    }
+    steps
+}
 
-const POINTS: [Point; 4] = [
-    Point {
-        call: 0,
-        index: 2,
-        reply: Reply::Done,
-    },
-    Point {
-        call: 1,
-        index: 7,
-        reply: Reply::Done,
-    },
-    Point {
-        call: 2,
-        index: 13,
-        reply: Reply::Done,
-    },
-    Point {
-        call: 3,
-        index: 16,
-        reply: Reply::InUse,
-    },
-];
+/// The point of each call.
+fn wanted() -> [Point; 4] {
+    let point = |call, index, reply| Point { call, index, reply };
+    [
+        point(0, 2, Reply::Done),
+        point(1, 7, Reply::Done),
+        point(2, 13, Reply::Done),
+        point(3, 16, Reply::InUse),
+    ]
+}
 
 const GET: Interval = Interval {
     call: Call::Get(0, SND),
@@ -72,19 +49,19 @@ const GET: Interval = Interval {
 
 pub fn try_calls<R: Print + AllocGlobal>(rt: &R) -> anyhow::Result<()> {
     let alloc = rt.alloc();
-    let found = over(sound(alloc), |it| points(alloc, it, 2, 2, &STEPS));
-    let is_right = found.map(|found| found.as_slice() == POINTS.as_slice());
-    tell(rt, "points", is_right)?;
-    let is_linear = over(sound(alloc), |it| {
-        check_points(alloc, it, 2, 2, &STEPS, &POINTS)
-    });
-    tell(rt, "check_points", is_linear)?;
-    let is_linear = over(sound(alloc), |it| {
-        check_points(alloc, it, 2, 2, &STEPS, &POINTS[..3])
-    });
-    let is_right = is_linear.map(|is_linear| !is_linear);
-    tell(rt, "check_points of too few", is_right)?;
-    let calls = over(sound(alloc), |it| call_intervals(alloc, it, 2, 2, &STEPS));
-    let is_right = calls.map(|calls| calls.len() == 4 && calls.get(2) == Some(&GET));
-    tell(rt, "call_intervals", is_right)
+    let (steps, wanted) = (steps(), wanted());
+    let found = over(sound(alloc), |it| points(alloc, it, 2, 2, &steps));
+    tell(rt, "points", found, |it| it.as_slice() == wanted.as_slice())?;
+    let judge = |it: &Catalogue, found: &[Point]| check_points(alloc, it, 2, 2, &steps, found);
+    let is_linear = over(sound(alloc), |it| judge(it, &wanted));
+    tell(rt, "check_points", is_linear, |it| *it)?;
+    let is_linear = over(sound(alloc), |it| judge(it, &wanted[..3]));
+    tell(rt, "check_points of too few", is_linear, |it| !it)?;
+    let calls = over(sound(alloc), |it| call_intervals(alloc, it, 2, 2, &steps));
+    tell(
+        rt,
+        "call_intervals",
+        calls,
+        |it| it.len() == 4 && it.get(2) == Some(&GET),
+    )
 }

@@ -3,8 +3,8 @@ ghost use Rattle.std.specs.Prelude.{◌≡◌, false, None};
 
 use crate::outcome::{Stop, needed, stop_at, tell};
 use modprobe::{
-    Buffer, Failed, FromRead, LineFault, Lines, RunFault, ServeFault, Setup, SetupCode, SetupFault,
-    Sink, Source, read_setup, run, serve,
+    Buffer, Failed, FromRead, LineFault, Lines, RunFault, ServeFault, SetupCode, SetupFault, Sink,
+    Source, read_setup, run, serve,
 };
 use seq_table::{Modules, Table};
 use std::alloc::Global;
@@ -37,14 +37,10 @@ impl From<ServeFault> for Stop {
     }
 }
 
-/// How much an answer may have.
-const ROOM: usize = 1024;
-
-/// Keeps what is written, and takes no memory for it.
+/// Takes an answer, and no memory for it: it refuses what is not the rest of the answer.
 #[derive(Drop)]
 struct Paper {
-    bytes: [u8; ROOM],
-    len: usize,
+    rest: &'static [u8],
     failed: bool,
 }
 
@@ -53,14 +49,9 @@ impl Paper {
         ensures { result.failed ≡ false }
     {
         Paper {
-            bytes: [0; ROOM],
-            len: 0,
+            rest: ANSWER,
             failed: false,
         }
-    }
-
-    fn text(&self) -> &[u8] {
-        self.bytes.get(..self.len).unwrap_or(&[])
     }
 }
 
@@ -70,16 +61,12 @@ impl Sink for Paper {
     ghost has_failed = { λ s. s.failed };
 
     fn write(&mut self, bytes: &[u8]) -> Result<usize, Failed> {
-        let Some(first) = bytes.first() else {
-            return Ok(0);
-        };
-        if self.len >= ROOM {
+        let Some(rest) = self.rest.strip_prefix(bytes) else {
             self.failed = true;
             return Err(Failed);
-        }
-        self.bytes[self.len] = *first;
-        self.len += 1;
-        Ok(1)
+        };
+        self.rest = rest;
+        Ok(bytes.len())
     }
 
     fn failed(&self) -> bool {
@@ -153,25 +140,23 @@ parm:           debug:bool
 ok
 ";
 
-/// Whether a session wrote its answer; where it stopped, it wrote the beginning of it.
-fn judge<E: Into<Stop> + Drop>(ended: Result<(), E>, written: &[u8]) -> Result<bool, Stop> {
-    match ended {
-        Ok(()) => Ok(written == ANSWER),
-        Err(fault) if ANSWER.starts_with(written) => Err(fault.into()),
-        Err(_) => Ok(false),
-    }
+/// What is done with the lines of an input.
+#[derive(Clone, Copy)]
+enum Done {
+    Read,
+    SetUp,
+    Run,
 }
 
-fn try_buffer(alloc: Global) -> Result<bool, Stop> {
-    let _buffer = Buffer::new(alloc)?;
-    Ok(true)
-}
-
-fn try_lines(alloc: Global) -> Result<bool, Stop> {
-    let mut reader = FromRead::new(b"insmod snd\nquery".as_slice());
+fn try_lines(alloc: Global, input: &[u8], done: Done) -> Result<bool, Stop> {
+    let mut reader = FromRead::new(input);
     let buffer = needed(Buffer::new(alloc))?;
     let mut lines = Lines::new(alloc, buffer, &mut reader, 9);
-    Ok(are_both(&mut lines)?)
+    match done {
+        Done::Read => Ok(are_both(&mut lines)?),
+        Done::SetUp => Ok(read_setup(alloc, &mut lines)?.catalogue().len() == 2),
+        Done::Run => try_run(alloc, &mut lines),
+    }
 }
 
 /// Whether these are the two lines and no other.
@@ -183,55 +168,29 @@ fn are_both<R: Source>(lines: &mut Lines<'_, R>) -> Result<bool, LineFault>
     Ok(is_first && is_last && !lines.next_line()?)
 }
 
-fn try_setup(alloc: Global) -> Result<bool, Stop> {
-    let mut reader = FromRead::new(INPUT);
-    let buffer = needed(Buffer::new(alloc))?;
-    let mut lines = Lines::new(alloc, buffer, &mut reader, 9);
-    let setup = read_setup(alloc, &mut lines)?;
-    Ok(setup.catalogue().len() == 2)
-}
-
-fn try_run(alloc: Global) -> Result<bool, Stop> {
-    let mut reader = FromRead::new(INPUT);
-    let buffer = needed(Buffer::new(alloc))?;
-    let mut lines = Lines::new(alloc, buffer, &mut reader, 9);
-    try_run_of(alloc, &mut lines)
-}
-
-fn try_run_of<R: Source>(alloc: Global, lines: &mut Lines<'_, R>) -> Result<bool, Stop>
+fn try_run<R: Source>(alloc: Global, lines: &mut Lines<'_, R>) -> Result<bool, Stop>
     requires { R.has_failed lines.old.reader.now ≡ false }
 {
-    let Ok(setup) = read_setup(alloc, lines) else {
-        return Err(Stop::NotMade);
-    };
-    try_session(alloc, &setup, lines)
-}
-
-fn try_session<R: Source>(
-    alloc: Global,
-    setup: &Setup,
-    lines: &mut Lines<'_, R>,
-) -> Result<bool, Stop>
-    requires { R.has_failed lines.old.reader.now ≡ false }
-{
+    let setup = needed(read_setup(alloc, lines))?;
     let mut table = needed(Table::new(alloc, setup.catalogue(), 1))?;
     let mut writer = Paper::new();
-    let ended = run(alloc, setup, lines, &mut writer, &mut table);
-    judge(ended, writer.text())
+    run(alloc, &setup, lines, &mut writer, &mut table)?;
+    Ok(writer.rest.is_empty())
 }
 
 fn try_serve(alloc: Global) -> Result<bool, Stop> {
-    let mut reader = FromRead::new(INPUT);
     let mut writer = Paper::new();
-    let ended = serve(alloc, 1, &mut reader, &mut writer);
-    judge(ended, writer.text())
+    serve(alloc, 1, &mut FromRead::new(INPUT), &mut writer)?;
+    Ok(writer.rest.is_empty())
 }
 
 pub fn try_calls<R: Print + AllocGlobal>(rt: &R) -> anyhow::Result<()> {
     let alloc = rt.alloc();
-    tell(rt, "Buffer::new", try_buffer(alloc))?;
-    tell(rt, "Lines", try_lines(alloc))?;
-    tell(rt, "read_setup", try_setup(alloc))?;
-    tell(rt, "run", try_run(alloc))?;
-    tell(rt, "serve", try_serve(alloc))
+    tell(rt, "Buffer::new", Buffer::new(alloc), |_| true)?;
+    let read = try_lines(alloc, b"insmod snd\nquery", Done::Read);
+    tell(rt, "Lines", read, |it| *it)?;
+    let set_up = try_lines(alloc, INPUT, Done::SetUp);
+    tell(rt, "read_setup", set_up, |it| *it)?;
+    tell(rt, "run", try_lines(alloc, INPUT, Done::Run), |it| *it)?;
+    tell(rt, "serve", try_serve(alloc), |it| *it)
 }

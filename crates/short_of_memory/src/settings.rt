@@ -3,7 +3,7 @@
 use crate::outcome::{Stop, are_names, stop_at, tell};
 use alias_match::{Alias, Aliases, Pattern, PatternError, read_aliases};
 use dep_index::{Name, text};
-use modprobe_conf::{Conf, Word, read_conf};
+use modprobe_conf::{Conf, Softdep, Word, read_conf};
 
 const WORDS: [&[u8]; 2] = [b"a", b"bc"];
 
@@ -28,13 +28,10 @@ impl From<PatternError> for Stop {
     }
 }
 
-fn is_alias(alias: Option<Alias>) -> bool {
-    match alias {
-        None => false,
-        Some(alias) => {
-            alias.pattern.matches(b"usb:v0") && alias.target.as_bytes() == b"snd_pcm".as_slice()
-        }
-    }
+fn is_alias(alias: &Option<Alias>) -> bool {
+    alias.as_ref().is_some_and(|alias| {
+        alias.pattern.matches(b"usb:v0") && alias.target.as_bytes() == b"snd_pcm".as_slice()
+    })
 }
 
 fn are_aliases(aliases: &Aliases) -> bool {
@@ -55,16 +52,13 @@ fn are_options(words: &[Word]) -> bool {
     }
 }
 
-fn has_softdep(conf: &Conf) -> bool {
-    match conf.softdep(b"z") {
-        None => false,
-        Some(softdep) => are_names(softdep.pre(), &[b"y"]) && softdep.post().is_empty(),
-    }
+fn is_softdep(softdep: &Softdep) -> bool {
+    are_names(softdep.pre(), &[b"y"]) && softdep.post().is_empty()
 }
 
 fn is_conf(conf: &Conf) -> bool {
     are_options(conf.options(b"y"))
-        && has_softdep(conf)
+        && conf.softdep(b"z").is_some_and(is_softdep)
         && conf.install_line(b"x")
         && conf.blacklisted(b"w")
         && conf.alias_len() == 1
@@ -74,22 +68,17 @@ fn is_conf(conf: &Conf) -> bool {
 
 pub fn try_calls<R: Print + AllocGlobal>(rt: &R) -> anyhow::Result<()> {
     let alloc = rt.alloc();
-    let name = Name::new(alloc, b"snd-pcm");
-    let is_right = name.map(|name| name.as_bytes() == b"snd_pcm".as_slice());
-    tell(rt, "Name::new", is_right)?;
+    let is_right = |it: &Name| it.as_bytes() == b"snd_pcm".as_slice();
+    tell(rt, "Name::new", Name::new(alloc, b"snd-pcm"), is_right)?;
     let words = text::words(alloc, b" a\tbc ");
-    let is_right = words.map(|words| words.as_slice() == WORDS.as_slice());
-    tell(rt, "words", is_right)?;
+    tell(rt, "words", words, |it| it.as_slice() == WORDS.as_slice())?;
     let pattern = Pattern::read(alloc, b"usb:v[0-9A-F]*p??");
-    let is_right = pattern.map(|it| it.matches(b"usb:v0Ap12") && !it.matches(b"usb:vGp12"));
-    tell(rt, "Pattern::read", is_right)?;
-    tell(rt, "Alias::read", Alias::read(alloc, &ALIAS).map(is_alias))?;
+    let is_right = |it: &Pattern| it.matches(b"usb:v0Ap12") && !it.matches(b"usb:vGp12");
+    tell(rt, "Pattern::read", pattern, is_right)?;
+    tell(rt, "Alias::read", Alias::read(alloc, &ALIAS), is_alias)?;
     let aliases = read_aliases(alloc, ALIASES);
-    let is_right = aliases.map(|aliases| are_aliases(&aliases));
-    tell(rt, "read_aliases", is_right)?;
-    let word = Word::new(alloc, b"debug=1");
-    let is_right = word.map(|word| word.as_bytes() == b"debug=1".as_slice());
-    tell(rt, "Word::new", is_right)?;
-    let conf = read_conf(alloc, CONFIGURATION);
-    tell(rt, "read_conf", conf.map(|conf| is_conf(&conf)))
+    tell(rt, "read_aliases", aliases, are_aliases)?;
+    let is_right = |it: &Word| it.as_bytes() == b"debug=1".as_slice();
+    tell(rt, "Word::new", Word::new(alloc, b"debug=1"), is_right)?;
+    tell(rt, "read_conf", read_conf(alloc, CONFIGURATION), is_conf)
 }

@@ -58,27 +58,34 @@ fn push_slots(alloc: Global) -> Result<Slots, Stop> {
     Ok(slots)
 }
 
-/// Whether the module has this dependency alone.
-fn has_deps(index: &DepIndex, module: &[u8], dependency: &[u8]) -> bool {
-    match index.deps(module) {
-        None => false,
-        Some(names) => are_names(names, &[dependency]),
-    }
+/// Whether each of the two modules has the other for its only dependency.
+fn is_circle(index: &DepIndex) -> bool {
+    index
+        .deps(b"a")
+        .is_some_and(|names| are_names(names, &[b"b"]))
+        && index
+            .deps(b"b")
+            .is_some_and(|names| are_names(names, &[b"a"]))
 }
 
 pub fn try_calls<R: Print + AllocGlobal>(rt: &R) -> anyhow::Result<()> {
     let alloc = rt.alloc();
-    let read = read_catalogue(alloc, SOUND).map(|catalogue| is_of_sound(&catalogue));
-    tell(rt, "read_catalogue", read)?;
-    let read = read_catalogue(alloc, SOFT).map(|catalogue| is_of_soft(&catalogue));
-    tell(rt, "read_catalogue of soft needs", read)?;
+    tell(
+        rt,
+        "read_catalogue",
+        read_catalogue(alloc, SOUND),
+        is_of_sound,
+    )?;
+    tell(
+        rt,
+        "read_catalogue of soft needs",
+        read_catalogue(alloc, SOFT),
+        is_of_soft,
+    )?;
     let slots = over(sound(alloc), |catalogue| catalogue.slots(alloc));
-    tell(rt, "Catalogue::slots", slots.map(|slots| is_sound(&slots)))?;
+    tell(rt, "Catalogue::slots", slots, is_sound)?;
     let copy = over(sound_slots(alloc), |slots| slots.copy(alloc));
-    tell(rt, "Slots::copy", copy.map(|slots| is_sound(&slots)))?;
-    let pushed = push_slots(alloc).map(|slots| is_sound(&slots));
-    tell(rt, "Slots::push", pushed)?;
-    let read = read_dep(alloc, DEPENDENCIES).map(|index| has_deps(&index, b"a", b"b")
-        && has_deps(&index, b"b", b"a"));
-    tell(rt, "read_dep", read)
+    tell(rt, "Slots::copy", copy, is_sound)?;
+    tell(rt, "Slots::push", push_slots(alloc), is_sound)?;
+    tell(rt, "read_dep", read_dep(alloc, DEPENDENCIES), is_circle)
 }
