@@ -1,39 +1,31 @@
 //! Lines, sections and sessions: where memory is wanting, what was written is the beginning of the answer.
 ghost use Rattle.std.specs.Prelude.{◌≡◌, false, None};
 
-use crate::outcome::{Stop, needed, stop_at, tell};
 use modprobe::{
     Buffer, Failed, FromRead, LineFault, Lines, RunFault, ServeFault, SetupCode, SetupFault, Sink,
     Source, read_setup, run, serve,
 };
 use seq_table::{Modules, Table};
+use short_of_memory_calls::outcome::{Stop, needed, stop_at, tell};
 use std::alloc::Global;
 
-impl From<LineFault> for Stop {
-    fn from(fault: LineFault) -> Stop {
-        stop_at(fault == LineFault::Memory)
-    }
+fn of_line(fault: LineFault) -> Stop {
+    stop_at(fault == LineFault::Memory)
 }
 
-impl From<SetupFault> for Stop {
-    fn from(fault: SetupFault) -> Stop {
-        stop_at(fault.code == SetupCode::Memory)
-    }
+fn of_setup(fault: SetupFault) -> Stop {
+    stop_at(fault.code == SetupCode::Memory)
 }
 
-impl From<RunFault> for Stop {
-    fn from(fault: RunFault) -> Stop {
-        stop_at(fault == RunFault::Memory)
-    }
+fn of_run(fault: RunFault) -> Stop {
+    stop_at(fault == RunFault::Memory)
 }
 
-impl From<ServeFault> for Stop {
-    fn from(fault: ServeFault) -> Stop {
-        match fault {
-            ServeFault::Memory => Stop::NoMemory,
-            ServeFault::Setup(fault) => Stop::from(fault),
-            ServeFault::Run(fault) => Stop::from(fault),
-        }
+fn of_session(fault: ServeFault) -> Stop {
+    match fault {
+        ServeFault::Memory => Stop::NoMemory,
+        ServeFault::Setup(fault) => of_setup(fault),
+        ServeFault::Run(fault) => of_run(fault),
     }
 }
 
@@ -153,8 +145,11 @@ fn try_lines(alloc: Global, input: &[u8], done: Done) -> Result<bool, Stop> {
     let buffer = needed(Buffer::new(alloc))?;
     let mut lines = Lines::new(alloc, buffer, &mut reader, 9);
     match done {
-        Done::Read => Ok(are_both(&mut lines)?),
-        Done::SetUp => Ok(read_setup(alloc, &mut lines)?.catalogue().len() == 2),
+        Done::Read => are_both(&mut lines).map_err(of_line),
+        Done::SetUp => {
+            let setup = read_setup(alloc, &mut lines).map_err(of_setup)?;
+            Ok(setup.catalogue().len() == 2)
+        }
         Done::Run => try_run(alloc, &mut lines),
     }
 }
@@ -174,13 +169,13 @@ fn try_run<R: Source>(alloc: Global, lines: &mut Lines<'_, R>) -> Result<bool, S
     let setup = needed(read_setup(alloc, lines))?;
     let mut table = needed(Table::new(alloc, setup.catalogue(), 1))?;
     let mut writer = Paper::new();
-    run(alloc, &setup, lines, &mut writer, &mut table)?;
+    run(alloc, &setup, lines, &mut writer, &mut table).map_err(of_run)?;
     Ok(writer.rest.is_empty())
 }
 
 fn try_serve(alloc: Global) -> Result<bool, Stop> {
     let mut writer = Paper::new();
-    serve(alloc, 1, &mut FromRead::new(INPUT), &mut writer)?;
+    serve(alloc, 1, &mut FromRead::new(INPUT), &mut writer).map_err(of_session)?;
     Ok(writer.rest.is_empty())
 }
 

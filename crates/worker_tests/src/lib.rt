@@ -1,4 +1,4 @@
-//! Tests of the table, the machine, its checker, the leaves, the manager and scripts, on one thread and on several.
+//! Tests of the table, the machine, its checker, the leaves and the manager, on one thread and on several.
 #![tactic(auto)]
 
 #[cfg(test)]
@@ -12,10 +12,7 @@ mod plays;
 #[cfg(test)]
 mod points;
 #[cfg(test)]
-#[cfg(test)]
 mod schedule;
-#[cfg(test)]
-mod scripts;
 #[cfg(test)]
 mod sound;
 #[cfg(test)]

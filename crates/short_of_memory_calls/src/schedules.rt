@@ -47,7 +47,7 @@ const GET: Interval = Interval {
     }),
 };
 
-pub fn try_calls<R: Print + AllocGlobal>(rt: &R) -> anyhow::Result<()> {
+pub(crate) fn try_calls<R: Print + AllocGlobal>(rt: &R) -> anyhow::Result<()> {
     let alloc = rt.alloc();
     let (steps, wanted) = (steps(), wanted());
     let found = over(sound(alloc), |it| points(alloc, it, 2, 2, &steps));

@@ -1,6 +1,5 @@
 //! Scripts on threads with gates of their own, and streams that fail.
 
-use crate::sound::SOUND;
 use dep_index::Reply;
 use module_table::Manager;
 use std::alloc::{AllocError, Global};
@@ -12,10 +11,15 @@ use std::test::Fail;
 use std::thread::Threads;
 use workload_drive::{Gate, OpenGate, WorkFault, drive, read_script, run_threads};
 
+/// The catalogue of all scripts here.
+const SND: &[u8] = b"module snd
+size 114688
+";
+
 /// How often a gate looks before it gives up.
 const TURNS: usize = 50_000_000;
 
-/// What a script comes to, and how often the workers 0 and 1 hold the sound card then.
+/// What a script comes to, and how often the workers 0 and 1 hold snd then.
 #[derive(Drop)]
 struct Course {
     answer: Result<Vec<u8>, WorkFault>,
@@ -38,10 +42,10 @@ impl Course {
     }
 }
 
-/// The input of a script of these lines over the sound card.
+/// The input of a script of these lines.
 fn input(alloc: Global, lines: &[u8]) -> Result<Vec<u8>, AllocError> {
     let mut input = Vec::from_slice(alloc, b"%catalogue\n")?;
-    input.extend_from_slice(SOUND)?;
+    input.extend_from_slice(SND)?;
     input.extend_from_slice(b"%script\n")?;
     input.extend_from_slice(lines)?;
     Ok(input)

@@ -20,7 +20,7 @@ fn makes_a_call(mut machine: Machine) -> bool {
         && machine.step(Step::Go(0)) == Ok(Event::Point(0, Reply::No))
 }
 
-pub fn try_calls<R: Print + AllocGlobal>(rt: &R) -> anyhow::Result<()> {
+pub(crate) fn try_calls<R: Print + AllocGlobal>(rt: &R) -> anyhow::Result<()> {
     let alloc = rt.alloc();
     let table = over(sound(alloc), |catalogue| Table::new(alloc, catalogue, 2));
     tell(rt, "Table::new", table, is_opening)?;

@@ -5,7 +5,7 @@ use dep_index::{Catalogue, Slots, read_catalogue};
 use std::alloc::Global;
 
 /// A sound card and its PCM layer, which needs it.
-pub const SOUND: &[u8] = b"module snd
+pub(crate) const SOUND: &[u8] = b"module snd
 size 114688
 exports snd_card_new
 module snd-pcm
@@ -16,12 +16,12 @@ param debug bool
 ";
 
 /// The catalogue, for a call over it.
-pub fn sound(alloc: Global) -> Result<Catalogue, Stop> {
+pub(crate) fn sound(alloc: Global) -> Result<Catalogue, Stop> {
     needed(read_catalogue(alloc, SOUND))
 }
 
 /// Its slots, for a call over them.
-pub fn sound_slots(alloc: Global) -> Result<Slots, Stop> {
+pub(crate) fn sound_slots(alloc: Global) -> Result<Slots, Stop> {
     let catalogue = sound(alloc)?;
     needed(catalogue.slots(alloc))
 }

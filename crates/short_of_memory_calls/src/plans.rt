@@ -176,7 +176,7 @@ fn over_texts<F: FnOnce(&Sources<'_>) -> Result<bool, Stop>>(
     })
 }
 
-pub fn try_calls<R: Print + AllocGlobal>(rt: &R) -> anyhow::Result<()> {
+pub(crate) fn try_calls<R: Print + AllocGlobal>(rt: &R) -> anyhow::Result<()> {
     let alloc = rt.alloc();
     for (call, texts, module, asked) in &CALLS {
         let answer = over_texts(alloc, texts, |it| try_call(alloc, call, module, asked, it));

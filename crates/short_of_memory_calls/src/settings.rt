@@ -66,7 +66,7 @@ fn is_conf(conf: &Conf) -> bool {
         && conf.skipped().is_empty()
 }
 
-pub fn try_calls<R: Print + AllocGlobal>(rt: &R) -> anyhow::Result<()> {
+pub(crate) fn try_calls<R: Print + AllocGlobal>(rt: &R) -> anyhow::Result<()> {
     let alloc = rt.alloc();
     let is_right = |it: &Name| it.as_bytes() == b"snd_pcm".as_slice();
     tell(rt, "Name::new", Name::new(alloc, b"snd-pcm"), is_right)?;

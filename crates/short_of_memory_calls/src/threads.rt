@@ -33,7 +33,7 @@ fn try_book(alloc: Global, catalogue: &Catalogue) -> Result<bool, Stop> {
     Ok(row.slots() == 2 && book.loaded() == 0 && book.state(1) == ModuleState::Absent)
 }
 
-pub fn try_calls<R: Print + AllocGlobal>(rt: &R) -> anyhow::Result<()> {
+pub(crate) fn try_calls<R: Print + AllocGlobal>(rt: &R) -> anyhow::Result<()> {
     let alloc = rt.alloc();
     let row = over(sound(alloc), |it| Row::new(alloc, it, 2, 1));
     tell(rt, "Row::new", row, is_row)?;

@@ -68,7 +68,7 @@ fn is_circle(index: &DepIndex) -> bool {
             .is_some_and(|names| are_names(names, &[b"a"]))
 }
 
-pub fn try_calls<R: Print + AllocGlobal>(rt: &R) -> anyhow::Result<()> {
+pub(crate) fn try_calls<R: Print + AllocGlobal>(rt: &R) -> anyhow::Result<()> {
     let alloc = rt.alloc();
     tell(
         rt,

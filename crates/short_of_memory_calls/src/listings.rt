@@ -85,7 +85,7 @@ fn details_of(alloc: Global, catalogue: &Catalogue) -> Result<Vec<u8>, Stop> {
     Ok(modinfo_text(alloc, catalogue, 1)?)
 }
 
-pub fn try_calls<R: Print + AllocGlobal>(rt: &R) -> anyhow::Result<()> {
+pub(crate) fn try_calls<R: Print + AllocGlobal>(rt: &R) -> anyhow::Result<()> {
     let alloc = rt.alloc();
     tell(rt, "read_line", read_line(alloc, LINE), is_sound)?;
     tell(
