@@ -21,9 +21,10 @@ fn get(leaf: &mut OwnLeaf, slot: usize, tries: u32) -> u32
     }
 }
 
-// A first reference has a call of its own, so that a leaf that holds the module already saves no registers for it.
+// Whatever is not the common case has a call of its own, so that the common case saves no registers. Its arguments stand in
+// another order than those of the export: so the jump to it is short, and crosses no 32 bytes, which many processors punish.
 #[inline(never)]
-fn first_get(leaf: &mut OwnLeaf, slot: usize, tries: u32) -> u32
+fn other_get(slot: usize, tries: u32, leaf: &mut OwnLeaf) -> u32
     ensures { GetEnded leaf.old slot tries result leaf.new }
 {
     get(leaf, slot, tries)
@@ -40,10 +41,29 @@ pub extern "C" fn gz_leaf_get(leaf: &mut GzLeaf, slot: usize, tries: u32) -> u32
     ensures call { GetEnded leaf.old.held slot tries result leaf.new.held }
 {
     let leaf = leaf.lend();
-    if leaf.held(slot) == Some(0) {
-        return first_get(leaf, slot, tries);
+    match leaf.held(slot) {
+        Some(count) if count > 0 => get(leaf, slot, tries),
+        _ => other_get(slot, tries, leaf),
     }
-    get(leaf, slot, tries)
+}
+
+#[inline(always)]
+fn put(leaf: &mut OwnLeaf, slot: usize) -> u32
+    ensures { LeafEnded leaf.old slot LeafCall.Put result leaf.new }
+{
+    match leaf.put(slot) {
+        None => OUT_OF_RANGE,
+        Some(Err(PutError::NotHeld)) => NOT_HELD,
+        Some(Ok(())) => DONE,
+    }
+}
+
+// As other_get.
+#[inline(never)]
+fn other_put(slot: usize, leaf: &mut OwnLeaf) -> u32
+    ensures { LeafEnded leaf.old slot LeafCall.Put result leaf.new }
+{
+    put(leaf, slot)
 }
 
 /// Gives one reference back.
@@ -55,10 +75,10 @@ pub extern "C" fn gz_leaf_put(leaf: &mut GzLeaf, slot: usize) -> u32
     ensures full { leaf.new.full ≡ true }
     ensures call { LeafEnded leaf.old.held slot LeafCall.Put result leaf.new.held }
 {
-    match leaf.lend().put(slot) {
-        None => OUT_OF_RANGE,
-        Some(Err(PutError::NotHeld)) => NOT_HELD,
-        Some(Ok(())) => DONE,
+    let leaf = leaf.lend();
+    match leaf.held(slot) {
+        Some(count) if count > 1 => put(leaf, slot),
+        _ => other_put(slot, leaf),
     }
 }
 
