@@ -1,6 +1,6 @@
 -- The lines without effect are those whose numbers are kept.
 use Rattle.std.proofs.Common.{◌≡◌, ℕ, Bool, true, false, List, [], ◌∷◌, Option, Some, None, map, cond, refl, ap}
-use Rattle.dep_index.specs.Text.{words, is_comment}
+use Rattle.text_parts.specs.Text.{words, is_comment}
 use Rattle.alias_match.specs.declared.idle.NoEffect.{NoEffect}
 use Rattle.alias_match.specs.declared.idle.IdleLine.{IdleLine}
 use Rattle.alias_match.specs.Aliases.{Entries, before, words_before, entries_of}

@@ -4,7 +4,7 @@ use Rattle.std.specs.Result.{result_ok}
 use Rattle.std.specs.List.{enumerate_from}
 use Rattle.std.specs.Str.{bytes_eq}
 use Rattle.std.specs.Str.Lines.{lines}
-use Rattle.dep_index.specs.Text.{words, is_comment, normal_form}
+use Rattle.text_parts.specs.Text.{words, is_comment, normal_form}
 use Rattle.alias_match.specs.declared.alias.Alias.{Alias}
 use Rattle.alias_match.specs.Pattern.{is_match}
 use Rattle.alias_match.specs.Reading.{pattern_of}

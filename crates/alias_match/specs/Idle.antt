@@ -3,7 +3,7 @@ use Rattle.std.specs.Prelude.{ℕ, nat_lt, if◌then◌else◌, List, [], ◌∷
 use Rattle.std.specs.List.{enumerate_from}
 use Rattle.std.specs.Str.{bytes_eq}
 use Rattle.std.specs.Str.Lines.{lines}
-use Rattle.dep_index.specs.Text.{words, is_comment}
+use Rattle.text_parts.specs.Text.{words, is_comment}
 use Rattle.alias_match.specs.declared.idle.NoEffect.{NoEffect}
 use Rattle.alias_match.specs.declared.idle.NoEffect.TheVariants.{UnknownWord, FewWords, BadPattern}
 use Rattle.alias_match.specs.declared.idle.IdleLine.{IdleLine}

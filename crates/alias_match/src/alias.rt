@@ -4,12 +4,12 @@ ghost use Rattle.std.specs.Result.{result_ok};
 ghost use Rattle.std.specs.Str.{bytes_eq};
 ghost use Rattle.alias_match.specs.Aliases.{alias_of, alias_from};
 ghost use Rattle.alias_match.specs.Reading.{pattern_of};
-ghost use Rattle.dep_index.specs.Text.{texts_of};
+ghost use Rattle.text_parts.specs.Text.{texts_of};
 
 use crate::pattern::Pattern;
 use crate::read::PatternError;
-use dep_index::Name;
 use std::alloc::{AllocError, Global};
+use text_parts::Name;
 
 /// A pattern, and the module that a text that it matches stands for.
 #[derive(Drop)]

@@ -2,15 +2,14 @@
 ghost use Rattle.std.specs.Prelude.{◌≡◌, ◌<◌, length, map, IfOk, OnOk, slice_get, option_map, Some};
 ghost use Rattle.alias_match.specs.Aliases.{aliases_of, alias_of, line_before, matching, words_before};
 ghost use Rattle.alias_match.specs.ForProofs.{nothing_read, followed_by};
-ghost use Rattle.dep_index.specs.Text.{texts_of};
+ghost use Rattle.text_parts.specs.Text.{texts_of};
 
 use crate::alias::Alias;
 use crate::alias_list::AliasList;
 use crate::pattern::Pattern;
-use dep_index::Name;
-use dep_index::text::{find_words, is_comment, whole_lines};
 use std::alloc::{AllocError, Global};
 use std::marker::Model;
+use text_parts::{Name, find_words, is_comment, whole_lines};
 
 /// The aliases of a modules.alias text, in the order of its lines, and the numbers of the lines that are skipped.
 #[derive(Drop)]

@@ -1,12 +1,12 @@
 //! The lines of a modules.alias text that have no effect.
 ghost use Rattle.std.specs.Prelude.{◌≡◌, ◌++◌, [], map, IfOk, OnOk};
-ghost use Rattle.dep_index.specs.Text.{texts_of};
+ghost use Rattle.text_parts.specs.Text.{texts_of};
 ghost use Rattle.alias_match.specs.Aliases.{alias_of, aliases_of};
 ghost use Rattle.alias_match.specs.Idle.{idle_aliases, idle_line, idle_words, why_no_alias};
 
 use crate::alias::Alias;
-use dep_index::text::{is_comment, is_same, whole_lines, words};
 use std::alloc::{AllocError, Global};
+use text_parts::{is_comment, is_same, whole_lines, words};
 
 /// Why a line has no effect.
 #[derive(Clone, Copy, Debug, PartialEq, Eq, Drop)]

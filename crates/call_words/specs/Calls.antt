@@ -3,7 +3,7 @@ use Rattle.std.specs.Prelude.{ℕ, Bool, true, false, if◌then◌else◌, List,
 use Rattle.std.specs.List.{join_with_byte}
 use Rattle.std.specs.Option.{option_map}
 use Rattle.std.specs.Str.{bytes_eq}
-use Rattle.dep_index.specs.Text.{texts_of}
+use Rattle.text_parts.specs.Text.{texts_of}
 use Rattle.dep_index.specs.declared.calls.Call.{Call}
 use Rattle.dep_index.specs.declared.calls.Call.TheVariants as call
 use Rattle.call_words.specs.declared.verb.Verb.{Verb}

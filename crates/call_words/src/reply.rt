@@ -3,7 +3,7 @@ ghost use Rattle.std.specs.Prelude.{◌≡◌};
 ghost use Rattle.call_words.specs.Replies.{reply_in, reply_text, reply_of, is_refusal};
 
 use dep_index::Reply;
-use dep_index::text::is_same;
+use text_parts::is_same;
 
 /// A reply, but for the slot of a need that is not Live.
 #[derive(Clone, Copy, Debug, PartialEq, Eq, Drop)]

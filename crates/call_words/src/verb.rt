@@ -1,13 +1,13 @@
 //! What a call does to its module, in words.
 ghost use Rattle.std.specs.Prelude.{◌≡◌, ◌++◌, OnOk, Some, decimal};
 ghost use Rattle.std.specs.Option.{option_map};
-ghost use Rattle.dep_index.specs.Text.{texts_of};
+ghost use Rattle.text_parts.specs.Text.{texts_of};
 ghost use Rattle.call_words.specs.Calls.{verb_in, call_on, word_of, end_word, call_text, verb_alone, load_end, on_name, said_in, call_of};
 
 use dep_index::Call;
-use dep_index::text::is_same;
 use itoa::Buffer;
 use std::alloc::AllocError;
+use text_parts::is_same;
 
 /// A call, but for its module.
 #[derive(Clone, Copy, Debug, PartialEq, Eq, Drop)]

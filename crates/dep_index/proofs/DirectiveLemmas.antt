@@ -2,7 +2,7 @@
 use Rattle.std.proofs.Common.{◌≡◌, ℕ, List, [], ◌∷◌, Bool, true, false, cond, map, Some, None, length, Bor, refl, ap, ◌∙◌}
 use Rattle.std.specs.Prelude.{◌&&◌, ◌==◌}
 use Rattle.std.specs.List.{list_all}
-use Rattle.dep_index.specs.Text.{texts_of, is_name, normal_form}
+use Rattle.text_parts.specs.Text.{texts_of, is_name, normal_form}
 use Rattle.dep_index.specs.Catalogue.{some_names, softneeds}
 
 list_all-texts : (p : List ℕ → Bool) (ws : List (Bor (List ℕ))) → list_all p (texts_of ws) ≡ list_all (λ w. p w.now) ws

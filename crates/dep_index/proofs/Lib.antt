@@ -6,11 +6,6 @@ pub mod StepLaws
 pub mod Room
 pub mod Replies
 pub mod Safe
-pub mod WordLemmas
-pub mod LineLemmas
-pub mod BstrLemmas
-pub mod NumberLemmas
-pub mod NameLemmas
 pub mod SlotLemmas
 pub mod PairLemmas
 pub mod PieceLemmas

@@ -11,7 +11,7 @@ use Rattle.std.proofs.lemmas.Map.Made.{is_some-lookup}
 use Rattle.std.specs.HashMap.{HashMap}
 use Rattle.indexmap.specs.IndexMap.{insert_entry}
 use Rattle.indexmap.proofs.CallerLemmas.{insert_entry-new}
-use Rattle.dep_index.specs.Text.{words, has_word, is_comment}
+use Rattle.text_parts.specs.Text.{words, has_word, is_comment}
 use Rattle.std.specs.Str.{bytes_eq}
 use Rattle.dep_index.specs.Dependencies.{Pair, deps, is_empty, with_pair, dep_line, dep_words, dep_split, DepRefusal, at_colon, name_of, trim}
 use Rattle.dep_index.specs.Pairs.{pair_of, pairs_in}

@@ -5,18 +5,13 @@ use Rattle.std.proofs.lemmas.Bool.{false_from_ne_true, ltb-false}
 use Rattle.std.proofs.lemmas.List.{take_rest}
 use Rattle.memchr.specs.Find.{Nowhere, Passes, is_byte}
 use Rattle.dep_index.specs.Dependencies.{at_colon, before_colon, last_part}
+use Rattle.text_parts.proofs.PlaceLemmas.{from_zero, here_not}
 use Rattle.dep_index.proofs.LinkLemmas.{chosen}
 use Rattle.std.proofs.Common.{inl, inr}
 
 -- no place of the rest, where there is none from the next on
 later : (test : ℕ → Bool) (b : ℕ) (s : List ℕ) (i j : ℕ) → Nowhere (Passes test (b ∷ s)) (suc i) (suc j) → Nowhere (Passes test s) i j
 later test b s i j none k low high is = none (suc k) (omega arith) (omega arith) is
-
-pub from_zero : (test : ℕ → Bool) (b : ℕ) (s : List ℕ) (j : ℕ) → Nowhere (Passes test (b ∷ s)) 0 (suc j) → Nowhere (Passes test s) 0 j
-from_zero test b s j none k low high is = none (suc k) (omega arith) (omega arith) is
-
-pub here_not : (test : ℕ → Bool) (b : ℕ) (s : List ℕ) (j : ℕ) → Nowhere (Passes test (b ∷ s)) 0 (suc j) → test b ≡ false
-here_not test b s j none = false_from_ne_true (test b) (λ is. none 0 (omega arith) (omega arith) is)
 
 pub colon_at : (s : List ℕ) (k : ℕ) → k < length s → Nowhere (Passes (is_byte 58) s) 0 k → Passes (is_byte 58) s k → at_colon s ≡ Some (take k s, drop (suc k) s)
 colon_at [] k below none is = absurd (omega arith)

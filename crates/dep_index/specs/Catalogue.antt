@@ -12,7 +12,7 @@ use Rattle.dep_index.specs.declared.params.Param.{Param}
 use Rattle.dep_index.specs.declared.versions.Version.{Version}
 use Rattle.dep_index.specs.declared.versions.Version.TheVariants as text
 use Rattle.dep_index.specs.Table.{Module}
-use Rattle.dep_index.specs.Text.{words, is_comment, normal_form, is_name, number_within}
+use Rattle.text_parts.specs.Text.{words, is_comment, normal_form, is_name, number_within}
 
 -- what a catalogue says of a module, its symbols as the text has them
 pub record Description : Type 0 where

@@ -3,7 +3,7 @@ use Rattle.std.specs.Prelude.{ℕ, suc, Bool, true, false, not, if◌then◌else
 use Rattle.std.specs.List.{list_any}
 use Rattle.std.specs.Str.{bytes_eq}
 use Rattle.std.specs.Str.Lines.{lines}
-use Rattle.dep_index.specs.Text.{words, is_comment, is_blank, normal_form}
+use Rattle.text_parts.specs.Text.{words, is_comment, is_blank, normal_form}
 
 -- why a text is no modules.dep text
 pub data DepRefusal : Type 0 where

@@ -1,5 +1,5 @@
 -- The directives of the program, as those of the definitions.
-use Rattle.dep_index.specs.Text.{texts_of}
+use Rattle.text_parts.specs.Text.{texts_of}
 use Rattle.dep_index.specs.Catalogue as spec
 use Rattle.dep_index.specs.declared.directives.Directive.{Directive}
 use Rattle.dep_index.specs.declared.directives.Directive.TheVariants.{Version, Module, Size, Exports, Needs, Softneeds, Param, Permanent}

@@ -1,4 +1,3 @@
-pub mod Text
 pub mod Table
 pub mod Refusals
 pub mod Calls
@@ -8,7 +7,6 @@ pub mod Words
 pub mod Slots
 pub mod Catalogue
 pub mod Dependencies
-pub mod TextLaws
 pub mod Descriptions
 pub mod Pieces
 pub mod Faults

@@ -4,12 +4,12 @@ ghost use Rattle.dep_index.specs.Catalogue.{description_at, slot_named, needs_of
 ghost use Rattle.dep_index.specs.Descriptions.{descriptions_in};
 
 use crate::details::Details;
-use crate::names::Name;
 use crate::params::Param;
 use crate::slots::Slots;
 use indexmap::IndexMap;
 use std::alloc::{AllocError, Global};
 use std::marker::Model;
+use text_parts::Name;
 
 /// The modules of a catalogue text. A module's slot is its place in the text, from 0.
 /// Contracts see it as the list of its descriptions.

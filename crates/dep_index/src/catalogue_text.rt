@@ -9,8 +9,8 @@ use crate::catalogue::Catalogue;
 use crate::draft::Draft;
 use crate::faults::CatError;
 use crate::needs::slots_of;
-use crate::text::whole_lines;
 use std::alloc::{AllocError, Global};
+use text_parts::whole_lines;
 
 /// Reads line after line.
 fn read_draft<'a>(alloc: Global, text: &'a [u8]) -> Result<Draft<'a>, CatError>

@@ -9,11 +9,10 @@ ghost use Rattle.dep_index.specs.Pairs.{pairs_in};
 
 use crate::dependencies::DepIndex;
 use crate::faults::{DepError, DepRefused};
-use crate::names::Name;
 use crate::paths::{name_of, names_of, split_at_colon, trimmed};
-use crate::text::{find_words, has_word, is_comment, whole_lines};
 use indexmap::IndexMap;
 use std::alloc::Global;
+use text_parts::{Name, find_words, has_word, is_comment, whole_lines};
 
 fn has_no_bytes(name: &[u8]) -> bool
     ensures { result ≡ is_empty name.now }

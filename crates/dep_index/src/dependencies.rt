@@ -4,9 +4,9 @@ ghost use Rattle.std.specs.Option.{option_map};
 ghost use Rattle.dep_index.specs.Dependencies.{deps};
 ghost use Rattle.dep_index.specs.Pairs.{pairs_in};
 
-use crate::names::Name;
 use indexmap::IndexMap;
 use std::marker::Model;
+use text_parts::Name;
 
 /// The lines of a modules.dep text (depmod(8)): for each name that has one, the names that it depends on.
 /// Contracts see it as the list of its pairs.

@@ -2,7 +2,7 @@
 ghost use Rattle.std.specs.Prelude.{◌≡◌, [], ◌∷◌, ◌++◌, Some, Ok, OnOk, MatchResult};
 ghost use Rattle.std.specs.List.{list_any};
 ghost use Rattle.std.specs.Str.{bytes_eq};
-ghost use Rattle.dep_index.specs.Text.{texts_of};
+ghost use Rattle.text_parts.specs.Text.{texts_of};
 ghost use Rattle.dep_index.specs.Catalogue.{described, sized, change};
 ghost use Rattle.dep_index.specs.Catalogue as spec;
 ghost use Rattle.dep_index.specs.Descriptions.{open_in};
@@ -13,12 +13,11 @@ ghost use Rattle.dep_index.specs.Faults.{IsMade};
 use crate::directives::Directive;
 use crate::exporters::Exporters;
 use crate::faults::Refused;
-use crate::names::Name;
 use crate::params::{Param, ParamKind};
 use crate::symbols::Symbols;
-use crate::text::is_same;
 use crate::versions::Version;
 use std::alloc::{AllocError, Global};
+use text_parts::{Name, is_same};
 
 /// What a catalogue says of a module beside its name.
 #[derive(Drop)]

@@ -2,16 +2,15 @@
 ghost use Rattle.std.specs.Prelude.{◌≡◌, IfOk, codes, map};
 ghost use Rattle.std.specs.List.{list_all};
 ghost use Rattle.std.specs.Option.{option_map};
-ghost use Rattle.dep_index.specs.Text.{texts_of, is_name, normal_form};
+ghost use Rattle.text_parts.specs.Text.{texts_of, is_name, normal_form};
 ghost use Rattle.dep_index.specs.Catalogue.{directive_of, begin_of, size_of, some_symbols, some_names, param_of, scalar_of, kind_of, alone, version_of};
 ghost use Rattle.dep_index.specs.Catalogue as spec;
 ghost use Rattle.dep_index.specs.Directives.{directive_in};
 
-use crate::names::Name;
 use crate::params::{ParamKind, Scalar};
-use crate::text::{is_name, is_same, number_within};
 use crate::versions::Version;
 use std::alloc::{AllocError, Global};
+use text_parts::{Name, is_name, is_same, number_within};
 
 /// What the words of a line say.
 #[derive(Drop)]

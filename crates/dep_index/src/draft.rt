@@ -1,6 +1,6 @@
 //! What was read of a catalogue so far, and what a line makes of it.
 ghost use Rattle.std.specs.Prelude.{◌≡◌, ◌<◌, ◌≤◌, ◌+◌, ◌++◌, [], ◌∷◌, None, Ok, OnOk, length, MatchResult};
-ghost use Rattle.dep_index.specs.Text.{texts_of};
+ghost use Rattle.text_parts.specs.Text.{texts_of};
 ghost use Rattle.dep_index.specs.Catalogue as spec;
 ghost use Rattle.dep_index.specs.Catalogue.{has_name, limit, apply, change_last, with_modules, read_words, read_line, no_draft};
 ghost use Rattle.dep_index.specs.Descriptions.{descriptions_in};
@@ -11,11 +11,10 @@ use crate::details::{Details, Open};
 use crate::directives::{Directive, read_directive};
 use crate::exporters::Exporters;
 use crate::faults::Refused;
-use crate::names::Name;
-use crate::text::{find_words, is_comment, is_same};
 use crate::versions::Version;
 use indexmap::IndexMap;
 use std::alloc::{AllocError, Global};
+use text_parts::{Name, find_words, is_comment, is_same};
 
 /// The modules so far: the earlier ones by name, and the one that is open.
 #[derive(Drop)]

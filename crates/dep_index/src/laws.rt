@@ -3,7 +3,6 @@
 ghost use Rattle.dep_index.specs.Laws.{AlwaysLawful, RemovesUnused, StaysShut};
 ghost use Rattle.dep_index.specs.History.{LegalIsSafe};
 ghost use Rattle.dep_index.specs.Words.{WordStepsAreRight};
-ghost use Rattle.dep_index.specs.TextLaws.{LinesHaveTexts};
 
 /// After every list of calls in range: the order has each module of the table once and no other, a pair names
 /// a Live or Draining module and is held at most 65,535 times, and each need of a module of the table is Live.
@@ -32,9 +31,4 @@ pub fn word_steps_are_right()
 /// drain that answers Ok no get of the module succeeds, until a load of it ends well.
 pub fn legal_is_safe()
     ensures { LegalIsSafe }
-{}
-
-/// The lines of a text with their ends have the texts of std's lines.
-pub fn lines_have_texts()
-    ensures { LinesHaveTexts }
 {}

@@ -13,7 +13,6 @@ mod draft;
 mod exporters;
 mod faults;
 pub mod laws;
-mod names;
 mod needs;
 mod params;
 mod paths;
@@ -22,7 +21,6 @@ mod refusals;
 mod slots;
 mod states;
 mod symbols;
-pub mod text;
 mod versions;
 pub mod words;
 
@@ -33,7 +31,6 @@ pub use catalogue_text::read_catalogue;
 pub use dep_text::read_dep;
 pub use dependencies::DepIndex;
 pub use faults::{CatError, DepError};
-pub use names::Name;
 pub use params::{Param, ParamKind, Scalar};
 pub use refusals::{
     BeginDrainError, BeginLoadError, BeginRemoveError, EndLoadError, EndRemoveError, GetError,
@@ -41,4 +38,5 @@ pub use refusals::{
 };
 pub use slots::Slots;
 pub use states::ModuleState;
+pub use text_parts::Name;
 pub use words::{Outcome, WordStep};

@@ -1,6 +1,6 @@
 //! The parameters of a module, as modinfo(8) lists them.
 
-use crate::names::Name;
+use text_parts::Name;
 
 /// What one value of a parameter is, by the names of the kernel's parameter types.
 #[derive(Clone, Copy, Debug, PartialEq, Eq, Drop)]

@@ -1,12 +1,11 @@
 //! The paths of modules.dep texts and their names.
 ghost use Rattle.std.specs.Prelude.{◌≡◌, ◌==◌, Some, None, not, reverse, map, take_while, position, IfOk, MatchOption};
-ghost use Rattle.dep_index.specs.Text.{texts_of, normal_form};
+ghost use Rattle.text_parts.specs.Text.{texts_of, normal_form};
 ghost use Rattle.dep_index.specs.Dependencies.{at_colon, last_part, name_of, skip_blanks, trim};
 
-use crate::names::Name;
-use crate::text::is_blank;
 use memchr::{memchr, memrchr};
 use std::alloc::{AllocError, Global};
+use text_parts::{Name, is_blank};
 
 /// The parts before and behind the first colon.
 pub(crate) fn split_at_colon(line: &[u8]) -> Option<(&[u8], &[u8])>

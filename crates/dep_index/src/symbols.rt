@@ -1,6 +1,6 @@
 //! Symbols one behind another, in one buffer.
 ghost use Rattle.std.specs.Prelude.{◌≡◌, ◌∷◌, ◌++◌, [], OnOk, MatchOption};
-ghost use Rattle.dep_index.specs.Text.{texts_of};
+ghost use Rattle.text_parts.specs.Text.{texts_of};
 
 use std::alloc::{AllocError, Global};
 use std::marker::Model;

@@ -4,7 +4,7 @@ use Rattle.std.specs.List.{Contains}
 use Rattle.std.proofs.lemmas.Bool.Decides.{eqb_tells}
 use Rattle.std.proofs.lemmas.List.Quantifiers.{position-Some}
 use Rattle.std.specs.Str.{bytes_eq}
-use Rattle.dep_index.specs.Text.{normal_form}
+use Rattle.text_parts.specs.Text.{normal_form}
 use Rattle.dep_index.specs.Catalogue.{Description, described, slot_named}
 use Rattle.dep_index.specs.Dependencies.{Pair}
 use Rattle.modprobe_conf.specs.Configuration.{Configuration, options_of}

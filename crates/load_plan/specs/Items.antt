@@ -1,6 +1,6 @@
 -- What a command loads for a name, and what it removes.
 use Rattle.std.specs.Prelude.{◌≡◌, ℕ, ◌==◌, if◌then◌else◌, List, [], ◌++◌, map, Result, Ok, Err}
-use Rattle.dep_index.specs.Text.{normal_form}
+use Rattle.text_parts.specs.Text.{normal_form}
 use Rattle.dep_index.specs.Catalogue.{Description, description_at}
 use Rattle.dep_index.specs.Dependencies.{Pair}
 use Rattle.modprobe_conf.specs.Configuration.{Configuration, options_of}

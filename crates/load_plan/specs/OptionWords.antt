@@ -1,7 +1,7 @@
 -- Serves proofs alone: the words of the options lines of the modules that were read, and an item for a command.
 use Rattle.std.specs.Prelude.{◌≡◌, ℕ, List, Option, None, IfSome, slice_index_or}
 use Rattle.std.specs.Borrow.{Bor}
-use Rattle.dep_index.specs.Text.{texts_of}
+use Rattle.text_parts.specs.Text.{texts_of}
 use Rattle.load_plan.specs.declared.items.Asked.{Asked}
 use Rattle.load_plan.specs.declared.items.Item.{Item}
 use Rattle.load_plan.specs.declared.plans.PlanStep.{PlanStep}

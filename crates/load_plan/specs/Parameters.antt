@@ -3,7 +3,7 @@ use Rattle.std.specs.Prelude.{ℕ, ◌+◌, ◌-◌, ◌*◌, Bool, true, false,
 use Rattle.std.specs.List.{list_all, before_first, slice_split}
 use Rattle.std.specs.Option.{option_map}
 use Rattle.std.specs.Str.{bytes_eq}
-use Rattle.dep_index.specs.Text.{normal_form, is_digit}
+use Rattle.text_parts.specs.Text.{normal_form, is_digit}
 use Rattle.dep_index.specs.Catalogue.{Description}
 use Rattle.dep_index.specs.declared.params.ParamKind.{ParamKind}
 use Rattle.dep_index.specs.declared.params.ParamKind.TheVariants.{Charp, One, Array}

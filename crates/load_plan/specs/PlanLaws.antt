@@ -1,6 +1,6 @@
 -- The laws of the plans of texts.
 use Rattle.std.specs.Prelude.{◌≡◌, ◌≢◌, ℕ, true, not, List, ◌++◌, map, Some, Ok, Contains}
-use Rattle.dep_index.specs.Text.{normal_form}
+use Rattle.text_parts.specs.Text.{normal_form}
 use Rattle.dep_index.specs.Catalogue.{Description, slot_named}
 use Rattle.dep_index.specs.Dependencies.{Pair}
 use Rattle.modprobe_conf.specs.Configuration.{Configuration, options_of}

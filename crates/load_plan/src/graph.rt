@@ -6,8 +6,8 @@ ghost use Rattle.load_plan.specs.SoftModules.{is_missing, HasNoSoftModules};
 ghost use Rattle.load_plan.specs.Graph.{is_bounded, is_within, node_at, targets_of};
 
 use crate::by_slot::BySlot;
-use dep_index::Name;
 use std::marker::Model;
+use text_parts::Name;
 
 /// A module that a module names: a slot of the catalogue, or a name that the catalogue does not have.
 #[derive(Drop)]

@@ -1,6 +1,6 @@
 //! What a command loads for a name, and what it removes.
 ghost use Rattle.std.specs.Prelude.{◌≡◌, ◌<◌, length, map, All, IfOk};
-ghost use Rattle.dep_index.specs.Text.{normal_form, texts_of};
+ghost use Rattle.text_parts.specs.Text.{normal_form, texts_of};
 ghost use Rattle.load_plan.specs.declared.refusal.WalkError.TheVariants.{Refused};
 ghost use Rattle.load_plan.specs.Items.{Answers, error_of, name_at, plan_from, removal_plan_from};
 ghost use Rattle.load_plan.specs.OptionWords.{item_for, AreOptions};
@@ -13,10 +13,11 @@ use crate::plans::{PlanStep, plan_in, removal_plan_in};
 use crate::reach::{Part, part_from};
 use crate::refusal::{PlanRefusal, WalkError};
 use crate::sources::{Sources, slot_of};
-use dep_index::{Catalogue, Name};
+use dep_index::Catalogue;
 use modprobe_conf::Word;
 use std::alloc::{AllocError, AllocFailed, Global};
 use std::fmt;
+use text_parts::Name;
 use thiserror::Error;
 
 /// A module that a plan loads, whether only soft items ask for it, and the words that it is loaded with.

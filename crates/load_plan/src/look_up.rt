@@ -7,9 +7,10 @@ ghost use Rattle.load_plan.specs.declared.look_up.FindError.TheVariants.{NotFoun
 ghost use Rattle.load_plan.specs.LookUp.{found, free_targets, targets_of, with_name, with_names};
 
 use alias_match::{Alias, Aliases};
-use dep_index::{Catalogue, Name};
+use dep_index::Catalogue;
 use modprobe_conf::Conf;
 use std::alloc::{AllocError, AllocFailed, Global};
+use text_parts::Name;
 use thiserror::Error;
 
 /// Why no module is found.

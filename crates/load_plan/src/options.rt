@@ -1,6 +1,6 @@
 //! The words that a module is loaded with.
 ghost use Rattle.std.specs.Prelude.{◌≡◌, [], ◌++◌, OnOk};
-ghost use Rattle.dep_index.specs.Text.{texts_of};
+ghost use Rattle.text_parts.specs.Text.{texts_of};
 
 use modprobe_conf::Word;
 use std::alloc::{AllocError, Global};
@@ -14,7 +14,7 @@ pub struct Options<'a> {
 
 impl<'a> Model for Options<'a> {
     ghost use Rattle.std.specs.Prelude.{ℕ, List};
-    ghost use Rattle.dep_index.specs.Text.{texts_of};
+    ghost use Rattle.text_parts.specs.Text.{texts_of};
 
     ghost Value = { List (List ℕ) };
 

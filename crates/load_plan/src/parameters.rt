@@ -3,7 +3,7 @@ ghost use Rattle.std.specs.Prelude.{◌≡◌, ◌<◌, length, position};
 ghost use Rattle.std.specs.List.{list_all};
 ghost use Rattle.std.specs.Option.{option_map};
 ghost use Rattle.std.specs.Str.{bytes_eq};
-ghost use Rattle.dep_index.specs.Text.{normal_form, texts_of};
+ghost use Rattle.text_parts.specs.Text.{normal_form, texts_of};
 ghost use Rattle.dep_index.specs.Catalogue.{description_at};
 ghost use Rattle.load_plan.specs.Parameters.{are_valid, is_equals, is_valid_word, name_of, takes_named, value_of};
 

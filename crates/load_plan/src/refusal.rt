@@ -1,8 +1,8 @@
 //! Why there is no plan.
 ghost use Rattle.std.specs.Prelude.{◌≡◌};
 
-use dep_index::Name;
 use std::alloc::{AllocError, AllocFailed};
+use text_parts::Name;
 
 /// Why a module has no plan, by slots of the catalogue and by names that it does not have.
 #[derive(Drop)]

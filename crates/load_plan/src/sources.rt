@@ -9,9 +9,10 @@ ghost use Rattle.modprobe_conf.specs.Configuration.{options_of, softdep_of};
 ghost use Rattle.std.specs.Option.{option_copied};
 
 use crate::graph::{Row, Target};
-use dep_index::{Catalogue, DepIndex, Name};
+use dep_index::{Catalogue, DepIndex};
 use modprobe_conf::{Conf, Softdep, Word};
 use std::alloc::{AllocError, Global};
+use text_parts::Name;
 
 /// What plans are made from: the catalogue, the modules.dep text that goes before its needs, and the configuration.
 #[derive(Clone, Copy)]

@@ -11,8 +11,8 @@ ghost use Rattle.load_plan.specs.Walk.{hard_walk, walk};
 use crate::filled::filled;
 use crate::graph::{DependencyGraph, Phase, Target, target_at};
 use crate::refusal::{PlanRefusal, WalkError};
-use dep_index::Name;
 use std::alloc::{AllocError, Global};
+use text_parts::Name;
 
 /// Where a walk or a visit is with a module.
 #[derive(Clone, Copy, Debug, PartialEq, Eq)]

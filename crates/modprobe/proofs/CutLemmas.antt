@@ -4,8 +4,8 @@ use Rattle.std.specs.Io.KnownBytes.{Consumes, prepend_known}
 use Rattle.std.specs.Str.Lines.{lines}
 use Rattle.std.proofs.lemmas.List.{append_assoc, append-nil}
 use Rattle.std.proofs.lemmas.List.Elements.{All-append, All-cons, All-nil}
-use Rattle.dep_index.specs.Text.{Line, cut_lines}
-use Rattle.dep_index.proofs.LineLemmas.{lines_have_texts}
+use Rattle.text_parts.specs.Text.{Line, cut_lines}
+use Rattle.text_parts.proofs.LineLemmas.{lines_have_texts}
 use Rattle.modprobe.specs.declared.lines.LineFault.{LineFault}
 use Rattle.modprobe.specs.declared.lines.LineFault.TheVariants.{LongLine}
 use Rattle.modprobe.specs.Lines.{GivesCut, GivesCuts, AllEnded, texts}

@@ -6,11 +6,11 @@ use Rattle.std.specs.Io.KnownBytes.{Keeps, Consumes}
 use Rattle.std.proofs.lemmas.List.{append_assoc, drop-drop, length-append, length-take, append-nil}
 use Rattle.std.proofs.Common.{drop-cons}
 use Rattle.std.specs.Str.Lines.{lines, strip_carriage_return}
-use Rattle.dep_index.specs.Text.{ended, cut_lines}
+use Rattle.text_parts.specs.Text.{ended, cut_lines}
 use Rattle.modprobe.specs.Lines.{EndsLine, GivesCut, ending_bytes}
 use Rattle.modprobe.specs.declared.lines.Ending.{Ending}
 use Rattle.modprobe.specs.declared.lines.Ending.TheVariants.{Absent}
-use Rattle.dep_index.proofs.LineLemmas.{lines-ended, lines-last, cut_lines-ended, cut_lines-last}
+use Rattle.text_parts.proofs.LineLemmas.{lines-ended, lines-last, cut_lines-ended, cut_lines-last}
 use Rattle.std.proofs.lemmas.List.Elements.{All-append}
 use Rattle.modprobe.specs.declared.lines.Lines.{Lines}
 use Rattle.modprobe.specs.declared.lines.LineFault.TheVariants.{LongLine}

@@ -5,7 +5,7 @@ use Rattle.std.specs.Str.Lines.{lines, strip_carriage_return}
 use Rattle.std.proofs.lemmas.Bool.{eqb-true}
 use Rattle.std.proofs.lemmas.List.{append-nil, append_assoc, length-append, length-take}
 use Rattle.std.proofs.lemmas.List.Elements.{All-append, All-cons, All-nil}
-use Rattle.dep_index.proofs.LineLemmas.{lines-ended, lines-last}
+use Rattle.text_parts.proofs.LineLemmas.{lines-ended, lines-last}
 use Rattle.modprobe.specs.Lines.{HasNoFeed, BeginsWithLongLine}
 
 pub length-strip : (line : List ℕ) → length line ≤ length (strip_carriage_return line) + 1

@@ -7,7 +7,7 @@ use Rattle.std.specs.Str.Lines.{lines}
 use Rattle.std.proofs.lemmas.List.{length-map}
 use Rattle.std.proofs.lemmas.Bool.{false≢true, leb-true}
 use Rattle.dep_index.specs.declared.params.ParamKind.{ParamKind}
-use Rattle.dep_index.specs.Text.{is_name, normal_form, number_within, is_comment, words}
+use Rattle.text_parts.specs.Text.{is_name, normal_form, number_within, is_comment, words}
 use Rattle.dep_index.specs.Catalogue.{Description, described, Directive, version, begin, size, exports, needs, softneeds, param, permanent, Refusal, bad, duplicate, twice_exported, too_many, has_name, has_softneeds, has_kind, limit, is_exported, exports_symbol, kind_of, with_size, with_kind, begin_of, size_of, some_symbols, some_names, param_of, alone, version_of, directive_of, Draft, no_draft, sized, with_last, export_each, change, change_last, with_modules, apply, apply_some, read_words, read_line, then_lines, read_lines, modules_read, catalogue_of}
 
 -- each name is short

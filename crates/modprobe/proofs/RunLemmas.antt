@@ -5,7 +5,7 @@ use Rattle.std.proofs.Math.Seq.{take-add}
 use Rattle.std.proofs.lemmas.List.Elements.{All-append, All-cons, All-nil}
 use Rattle.std.proofs.lemmas.List.{append_assoc, append-nil, map-append, take_rest}
 use Rattle.std.specs.Str.Lines.{lines}
-use Rattle.dep_index.specs.Text.{Line}
+use Rattle.text_parts.specs.Text.{Line}
 use Rattle.modprobe.specs.declared.lines.LineFault.{LineFault}
 use Rattle.modprobe.specs.declared.lines.LineFault.TheVariants.{Read, Memory, Turns, LongLine}
 use Rattle.modprobe.specs.Lines.{AtHand, IfTold, GivesCut, GivesCuts, AllEnded, texts, IsPartOfLine, BeginsWithLongLine}

@@ -2,9 +2,9 @@
 use Rattle.std.proofs.Common.{◌≡◌, ℕ, Bool, true, false, List, [], ◌∷◌, refl, sym, subst, Option, Some, None}
 use Rattle.std.specs.Str.Lines.{lines}
 use Rattle.std.specs.Io.KnownBytes.{Appends, IsAtEnd}
-use Rattle.dep_index.specs.Text.{cut_lines}
+use Rattle.text_parts.specs.Text.{cut_lines}
 use Rattle.dep_index.specs.Table.{Table}
-use Rattle.dep_index.proofs.LineLemmas.{lines_have_texts}
+use Rattle.text_parts.proofs.LineLemmas.{lines_have_texts}
 use Rattle.modprobe.specs.declared.fault.RunFault.{RunFault}
 use Rattle.modprobe.specs.Lines.{IfTold, AtHand, left_of}
 use Rattle.modprobe.specs.Setup.{Setup}

@@ -2,7 +2,7 @@
 use Rattle.std.proofs.Common.{arith, ◌≡◌, ℕ, ◌≤◌, true, false, List, [], ◌∷◌, ◌++◌, length, map, refl, sym, ap, subst, ◌∙◌, Option, Some, None, Ok, Err}
 use Rattle.std.specs.Prelude.{◌≢◌, slice_index_or, ⊤}
 use Rattle.std.specs.Io.KnownBytes.{IsAtEnd, Keeps}
-use Rattle.dep_index.specs.Text.{Line, cut_lines}
+use Rattle.text_parts.specs.Text.{Line, cut_lines}
 use Rattle.modprobe.specs.Lines.{IfTold, GivesCut, GivesCuts, AllEnded, IsPartOfLine, BeginsWithLongLine}
 use Rattle.modprobe.proofs.CutLemmas.{is_long_line, cuts_in_hand}
 use Rattle.modprobe.specs.declared.section.Section.{Section}
@@ -17,7 +17,7 @@ use Rattle.alias_match.specs.Aliases.{aliases_of}
 use Rattle.modprobe_conf.specs.Configuration.{configuration_of}
 use Rattle.modprobe.specs.Setup.{Setup}
 use Rattle.modprobe.specs.SetupInput.{of_sections, with_session, with_catalogue, with_dependencies, setup_for, GivesSetup, SetupStops}
-use Rattle.dep_index.proofs.LineLemmas.{lines_have_texts}
+use Rattle.text_parts.proofs.LineLemmas.{lines_have_texts}
 use Rattle.std.proofs.lemmas.Bool.{false≢true, true≢false, cond-true, cond-false, lt-ltb, le-ltb}
 
 -- the sections of the old text are those that the new text gives from here

@@ -1,7 +1,7 @@
 -- What a session line asks for, after insmod(8), rmmod(8), lsmod(8), modinfo(8) and modprobe(8).
 use Rattle.std.specs.Prelude.{ℕ, Bool, ◌&&◌, if◌then◌else◌, ◌==◌, ◌||◌, List, [], ◌∷◌, codes, Option, Some, None, slice_index}
 use Rattle.std.specs.Str.{bytes_eq}
-use Rattle.dep_index.specs.Text.{words, is_comment, normal_form, number_within}
+use Rattle.text_parts.specs.Text.{words, is_comment, normal_form, number_within}
 
 -- what is done to one module of the catalogue; a load has the words of its parameters
 pub data Action : Type 0 where

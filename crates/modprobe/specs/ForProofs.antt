@@ -1,6 +1,6 @@
 -- What the contracts of private functions say, for the proofs of the public ones.
 use Rattle.std.specs.Prelude.{◌≡◌, ℕ, ◌≤◌, Bool, true, false, List, ◌++◌, ◌∷◌, [], All, length, codes, Option, Some, None, ⊤, Result, Ok, Err}
-use Rattle.dep_index.specs.Text.{cut_lines, texts_of}
+use Rattle.text_parts.specs.Text.{cut_lines, texts_of}
 use Rattle.dep_index.specs.Catalogue.{Description}
 use Rattle.dep_index.specs.declared.calls.Call.{Call}
 use Rattle.dep_index.specs.declared.calls.Call.TheVariants as call

@@ -1,7 +1,7 @@
 -- What a run leaves, also where it stops.
 use Rattle.std.specs.Prelude.{◌≡◌, ℕ, ◌<◌, ◌≤◌, ◌⊎◌, Bool, true, false, List, [], ◌∷◌, ◌++◌, All, length, Option, Result, Ok, Err, take}
 use Rattle.std.specs.Io.KnownBytes.{Appends, prepend_known}
-use Rattle.dep_index.specs.Text.{Line}
+use Rattle.text_parts.specs.Text.{Line}
 use Rattle.dep_index.specs.Table.{Table}
 use Rattle.modprobe.specs.declared.lines.LineFault.{LineFault}
 use Rattle.modprobe.specs.declared.lines.LineFault.TheVariants as line_faults

@@ -1,7 +1,7 @@
 -- The sections of an input.
 use Rattle.std.specs.Prelude.{◌≡◌, ℕ, nat_lt, Bool, if◌then◌else◌, List, [], ◌∷◌, ◌++◌, length, codes, Option, Some, None, Result, Ok, Err}
 use Rattle.std.specs.Str.{bytes_eq}
-use Rattle.dep_index.specs.Text.{Line}
+use Rattle.text_parts.specs.Text.{Line}
 use Rattle.modprobe.specs.declared.section.Section.{Section}
 use Rattle.modprobe.specs.declared.section.Section.TheVariants.{Catalogue, Dep, Alias, Conf, Session}
 

@@ -1,7 +1,7 @@
 -- What a whole session answers.
 use Rattle.std.specs.Prelude.{◌≡◌, ℕ, Bool, false, List, Option, Some, Result, Ok, Err}
 use Rattle.std.specs.Io.KnownBytes.{Appends, Keeps}
-use Rattle.dep_index.specs.Text.{Line, cut_lines}
+use Rattle.text_parts.specs.Text.{Line, cut_lines}
 use Rattle.dep_index.specs.Table.{Table}
 use Rattle.dep_index.specs.Catalogue.{modules_of}
 use Rattle.dep_index.specs.Calls.{opening}

@@ -1,7 +1,7 @@
 -- What an input is: its sections, the setup that they say, and the lines of its session with their ends.
 use Rattle.std.specs.Prelude.{◌≡◌, ℕ, List, Option, Some, None, ⊤, Result, Ok, Err}
 use Rattle.std.specs.Io.KnownBytes.{prepend_known}
-use Rattle.dep_index.specs.Text.{Line, cut_lines}
+use Rattle.text_parts.specs.Text.{Line, cut_lines}
 use Rattle.dep_index.specs.Catalogue.{Description, Refusal, bad, duplicate, twice_exported, too_many, catalogue_of}
 use Rattle.dep_index.specs.Dependencies.{Pair, DepRefusal, no_colon, empty_name, second_line, dependencies_of}
 use Rattle.alias_match.specs.Aliases.{aliases_of}

@@ -1,13 +1,12 @@
 //! What a session line asks for.
 ghost use Rattle.std.specs.Prelude.{◌≡◌, IfOk, option_map};
-ghost use Rattle.dep_index.specs.Text.{texts_of};
+ghost use Rattle.text_parts.specs.Text.{texts_of};
 ghost use Rattle.modprobe.specs.Commands.{listing_of, plain_request_of, request_of, worker_request_of, takes_worker, is_option};
 ghost use Rattle.modprobe.specs.Commands.{with_name, with_worker, with_removal, is_removal, by_second, by_words};
 ghost use Rattle.modprobe.specs.ForProofs.{request_from, command_from};
 
-use dep_index::Name;
-use dep_index::text::number_within;
 use std::alloc::{AllocError, Global};
+use text_parts::{Name, number_within};
 
 /// The largest number of 10 digits.
 const LARGEST_WORKER: u64 = 9_999_999_999;

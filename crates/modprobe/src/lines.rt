@@ -58,7 +58,7 @@ pub struct Lines<'a, R> {
 
 impl<'a, R: Source> Lines<'a, R> {
     ghost use Rattle.std.specs.Str.Lines.{strip_carriage_return};
-    ghost use Rattle.dep_index.specs.Text.{ended};
+    ghost use Rattle.text_parts.specs.Text.{ended};
     ghost use Rattle.modprobe.specs.Lines.{bytes_left, text_left, ending_bytes, HasNoFeed, EndsLine, steps_left, is_read_fault};
     ghost use Rattle.modprobe.specs.Lines.{SpendsTurns, HasTrueEnd};
     ghost use Rattle.modprobe.specs.Lines.{Fetched, SameSource, StoppedTaking, GaveLine, FoundEnd, StoppedReading};

@@ -1,6 +1,6 @@
 //! The text of replies, and the room for it.
 ghost use Rattle.std.specs.Prelude.{◌≡◌, ◌≤◌, ◌+◌, ◌++◌, [], length, flat_map, vec_len, vec_capacity, IfOk, OnOk};
-ghost use Rattle.dep_index.specs.Text.{texts_of};
+ghost use Rattle.text_parts.specs.Text.{texts_of};
 ghost use Rattle.dep_index.specs.Catalogue.{slot_named};
 ghost use Rattle.modprobe.specs.Session.{details};
 ghost use Rattle.modprobe.specs.Refusals.{error_line};
@@ -10,10 +10,10 @@ ghost use Rattle.modprobe.specs.ForProofs.{answer_text, TellsRefusal};
 use crate::action::Answer;
 use crate::refusal::Code;
 use crate::setup::Setup;
-use dep_index::Name;
 use load_plan::{Item, PlanError};
 use proc_modules::modinfo_text;
 use std::alloc::{AllocError, Global};
+use text_parts::Name;
 
 /// The longest name of a catalogue.
 const LONGEST_NAME: usize = 55;

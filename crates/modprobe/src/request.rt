@@ -1,6 +1,6 @@
 //! What a request by a name needs: the modules that are found for it, and their plans.
 ghost use Rattle.std.specs.Prelude.{◌≡◌, ◌<◌, [], All, IfOk, filter, length, not};
-ghost use Rattle.dep_index.specs.Text.{texts_of};
+ghost use Rattle.text_parts.specs.Text.{texts_of};
 ghost use Rattle.load_plan.specs.Items.{Answers, plan_of, removal_plan_of};
 ghost use Rattle.modprobe.specs.Plans.{targets_of, items_of_plans, whole_plan};
 ghost use Rattle.modprobe.specs.Loads.{has_reached, is_there, load_plan, removal_plans_of, removal_plans};
@@ -8,11 +8,12 @@ ghost use Rattle.modprobe.specs.Loads.{has_reached, is_there, load_plan, removal
 use crate::removal::RemovalPlan;
 use crate::session::Session;
 use crate::setup::Setup;
+use dep_index::ModuleState;
 use dep_index::reads::{is_absent, is_live};
-use dep_index::{ModuleState, Name};
 use load_plan::{FindError, Item, PlanError, find, plan, removal_plan};
 use seq_table::Modules;
 use std::alloc::{AllocError, Global};
+use text_parts::Name;
 
 /// What modprobe(8) makes of the modules that are found.
 #[derive(Clone, Copy, Drop)]

@@ -9,11 +9,10 @@ use crate::refusal::Code;
 use crate::reply::{details, error_line, items_text, plan_refusal, render, room};
 use crate::request::whole_plan;
 use crate::setup::Setup;
-use dep_index::Name;
-use dep_index::text::{is_comment, words};
 use proc_modules::{lsmod_text, proc_text};
 use seq_table::Modules;
 use std::alloc::{AllocError, Global};
+use text_parts::{Name, is_comment, words};
 
 /// A table in use by a session, over the catalogue of its setup.
 #[derive(Drop)]
@@ -35,7 +34,7 @@ fn plan_text(alloc: Global, setup: &Setup, name: Name) -> Result<Vec<u8>, AllocE
 
 impl<'s, 't, M: Modules> Session<'s, 't, M> {
     ghost use Rattle.std.specs.Prelude.{OnErr};
-    ghost use Rattle.dep_index.specs.Text.{texts_of};
+    ghost use Rattle.text_parts.specs.Text.{texts_of};
     ghost use Rattle.modprobe.specs.Session.{change_reply, request_reply, command_reply, line_reply};
     ghost use Rattle.modprobe.specs.Loads.{modprobe, modprobe_remove};
     ghost use Rattle.modprobe.specs.Commands.{by_words};

@@ -1,6 +1,6 @@
 //! A whole configuration.
 ghost use Rattle.std.specs.Prelude.{◌≡◌, ◌<◌, ◌∷◌, [], length, map, IfOk, MatchOption, OnOk, Some, slice_get, option_map, option_copied};
-ghost use Rattle.dep_index.specs.Text.{texts_of};
+ghost use Rattle.text_parts.specs.Text.{texts_of};
 ghost use Rattle.alias_match.specs.Aliases.{line_before, matching, words_before};
 ghost use Rattle.alias_match.specs.ForProofs.{nothing_read};
 ghost use Rattle.modprobe_conf.specs.Configuration.{configuration_of, entry_of, options_of, settings_by, settings_of, softdep_of};
@@ -14,10 +14,9 @@ use crate::settings::Settings;
 use crate::softdep::Softdep;
 use crate::word::Word;
 use alias_match::{Alias, AliasList, Pattern};
-use dep_index::Name;
-use dep_index::text::{is_comment, words};
 use std::alloc::{AllocError, Global};
 use std::marker::Model;
+use text_parts::{Name, is_comment, words};
 
 /// What a configuration says: its aliases in file order, what its lines say of each name, and the numbers of the
 /// lines that are skipped. Names are compared as they stand, so give them in normal form.

@@ -2,7 +2,7 @@
 ghost use Rattle.std.specs.Prelude.{◌≡◌, ◌∷◌, ◌++◌, [], Bool, map, option_map, IfOk, OnOk, MatchOption, None};
 ghost use Rattle.std.specs.Str.{bytes_eq};
 ghost use Rattle.alias_match.specs.Aliases.{alias_of};
-ghost use Rattle.dep_index.specs.Text.{texts_of};
+ghost use Rattle.text_parts.specs.Text.{texts_of};
 ghost use Rattle.modprobe_conf.specs.Configuration.{alias_entry, entry_of, line_from, named_entry, soft_items, softdep_items};
 ghost use Rattle.modprobe_conf.specs.ForProofs.{entry_seen, line_of};
 
@@ -10,8 +10,8 @@ use crate::settings::Line;
 use crate::softdep::Softdep;
 use crate::word::Word;
 use alias_match::Alias;
-use dep_index::Name;
 use std::alloc::{AllocError, Global};
+use text_parts::Name;
 
 /// What one joined line says.
 #[derive(Drop)]

@@ -1,6 +1,6 @@
 //! The lines of a configuration that have no effect.
 ghost use Rattle.std.specs.Prelude.{◌≡◌, ◌++◌, [], map, IfOk, OnOk};
-ghost use Rattle.dep_index.specs.Text.{texts_of};
+ghost use Rattle.text_parts.specs.Text.{texts_of};
 ghost use Rattle.alias_match.specs.Idle.{idle_line, idle_words};
 ghost use Rattle.modprobe_conf.specs.Configuration.{configuration_of, entry_of};
 ghost use Rattle.modprobe_conf.specs.Idle.{idle_settings, is_line_word, why_no_entry};
@@ -8,8 +8,8 @@ ghost use Rattle.modprobe_conf.specs.Idle.{idle_settings, is_line_word, why_no_e
 use crate::entry::Entry;
 use crate::joined_lines::JoinedLines;
 use alias_match::{IdleLine, NoEffect};
-use dep_index::text::{is_comment, is_same, words};
 use std::alloc::{AllocError, Global};
+use text_parts::{is_comment, is_same, words};
 
 /// Whether a line other than an alias may begin with the word.
 fn is_line_word(word: &[u8]) -> bool

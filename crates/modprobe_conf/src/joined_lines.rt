@@ -4,9 +4,9 @@ ghost use Rattle.std.specs.Str.Lines.{lines};
 ghost use Rattle.modprobe_conf.specs.Configuration.{ends_with_backslash, joined_lines};
 
 use bstr::Lines;
-use dep_index::text::whole_lines;
 use std::alloc::AllocError;
 use std::marker::Model;
+use text_parts::whole_lines;
 
 /// The joined lines of a text that are left, each with the number of its first line.
 #[derive(Drop)]

@@ -4,10 +4,10 @@ ghost use Rattle.modprobe_conf.specs.Configuration.{settings_by, settings_in, wi
 ghost use Rattle.modprobe_conf.specs.ForProofs.{line_of};
 
 use crate::settings::{Line, Settings};
-use dep_index::Name;
 use indexmap::IndexMap;
 use std::alloc::{AllocError, Global};
 use std::marker::Model;
+use text_parts::Name;
 
 /// What all lines say of each module, by its name in normal form.
 #[derive(Drop)]

@@ -1,12 +1,12 @@
 //! The soft items of a softdep line.
 ghost use Rattle.std.specs.Prelude.{◌≡◌, if◌then◌else◌, IfOk, true, false, Some, None};
 ghost use Rattle.std.specs.Str.{bytes_eq};
-ghost use Rattle.dep_index.specs.Text.{texts_of};
+ghost use Rattle.text_parts.specs.Text.{texts_of};
 ghost use Rattle.modprobe_conf.specs.Configuration.{soft_items, softdep_items};
 
-use dep_index::Name;
 use std::alloc::{AllocError, Global};
 use std::marker::Model;
+use text_parts::Name;
 
 /// What a softdep line has loaded before and after its module, as far as they can be loaded (modprobe.d(5)).
 #[derive(Drop)]

@@ -2,9 +2,9 @@
 
 use crate::places::PlacedLine;
 use crate::words::Section;
-use dep_index::text::{is_comment, is_same};
 use modprobe::SetupCode;
 use program_frame::first_word;
+use text_parts::{is_comment, is_same};
 
 /// The first words of commands.
 const COMMANDS: [&[u8]; 11] = [

@@ -4,11 +4,12 @@ ghost use Rattle.std.specs.Prelude.{◌<◌, length};
 use crate::places::{PlacedLine, place_of, text_of};
 use crate::words::Section;
 use alias_match::{IdleLine, NoEffect, idle_aliases};
-use dep_index::{CatError, Catalogue, Name, Param, read_catalogue};
+use dep_index::{CatError, Catalogue, Param, read_catalogue};
 use modprobe_conf::{Conf, idle_settings, read_conf};
 use program_frame::Shown;
 use std::alloc::{AllocError, Global};
 use std::io::Write;
+use text_parts::Name;
 
 fn reason(why: NoEffect) -> &'static str {
     match why {

@@ -2,10 +2,10 @@
 
 use crate::files::JoinedFiles;
 use crate::words::{Section, section_named};
-use dep_index::text::{is_same, whole_lines};
 use program_frame::Shown;
 use std::alloc::{AllocError, Global};
 use std::fmt;
+use text_parts::{is_same, whole_lines};
 
 /// A line of a section, or one before the first section line.
 #[derive(Clone, Copy, Drop)]

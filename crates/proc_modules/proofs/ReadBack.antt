@@ -15,7 +15,7 @@ use Rattle.proc_modules.proofs.ReadingLemmas.{users_in-name}
 use Rattle.std.proofs.lemmas.List.Splits.{slice_split_at, slice_split_none}
 use Rattle.std.proofs.lemmas.Str.Parse.{IsNumeralModel, numerals_by_fold}
 use Rattle.std.proofs.lemmas.Fmt.{digits_decimal, digits_value-decimal, decimal_nonempty, length-decimal-le, first_decimal, decimal_digit}
-use Rattle.dep_index.specs.Text.{is_name, is_name_byte, is_digit, digits_from}
+use Rattle.text_parts.specs.Text.{is_name, is_name_byte, is_digit, digits_from}
 use Rattle.proc_modules.specs.declared.line.Line.{Line}
 use Rattle.proc_modules.specs.declared.line.LineState.{LineState}
 use Rattle.proc_modules.specs.declared.line.LineState.TheVariants.{Live, Loading, Unloading}

@@ -4,7 +4,7 @@ use Rattle.std.proofs.Common.{◌<◌, ◌+◌, drop, get_or, drop-cons, add-one
 use Rattle.std.proofs.lemmas.List.{length-map}
 use Rattle.std.specs.List.{list_any}
 use Rattle.std.specs.Borrow.{Bor}
-use Rattle.dep_index.specs.Text.{is_name, normal_form, texts_of}
+use Rattle.text_parts.specs.Text.{is_name, normal_form, texts_of}
 use Rattle.std.proofs.Common.{Result, Ok, Err}
 use Rattle.proc_modules.specs.declared.line.LineError.{LineError}
 use Rattle.proc_modules.specs.declared.line.LineState.{LineState}

@@ -1,6 +1,6 @@
 -- The fields of a line as the code has them. This file serves proofs alone.
 use Rattle.std.specs.Prelude.{ℕ, List, ◌∷◌}
-use Rattle.dep_index.specs.Text.{texts_of}
+use Rattle.text_parts.specs.Text.{texts_of}
 use Rattle.proc_modules.specs.declared.read.Fields.{Fields}
 
 abbrev pub texts_in : Fields → List (List ℕ)

@@ -3,7 +3,7 @@ use Rattle.std.specs.Prelude.{◌≡◌, ◌≢◌, ℕ, ◌+◌, ◌==◌, nat_
 use Rattle.std.specs.Prelude.{List, [], ◌∷◌, length, take, position, slice_index, codes, Option, Some, None, Result, Ok, Err}
 use Rattle.std.specs.List.{list_all, list_any, slice_split}
 use Rattle.std.specs.Str.{bytes_eq}
-use Rattle.dep_index.specs.Text.{is_name, is_digit, number_within}
+use Rattle.text_parts.specs.Text.{is_name, is_digit, number_within}
 use Rattle.proc_modules.specs.declared.line.Line.{Line}
 use Rattle.proc_modules.specs.declared.line.LineState.{LineState}
 use Rattle.proc_modules.specs.declared.line.LineState.TheVariants.{Live, Loading, Unloading}

@@ -1,8 +1,8 @@
 //! A line of /proc/modules as values.
 
 use crate::names::Names;
-use dep_index::Name;
 use std::alloc::{AllocError, AllocFailed};
+use text_parts::Name;
 use thiserror::Error;
 
 /// The state that a line of /proc/modules shows.

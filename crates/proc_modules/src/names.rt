@@ -1,9 +1,9 @@
 //! Names in a row.
 ghost use Rattle.std.specs.Prelude.{◌≡◌, [], ◌∷◌, ◌++◌, OnOk, OnErr};
 
-use dep_index::Name;
 use std::alloc::{AllocError, Global};
 use std::marker::Model;
+use text_parts::Name;
 
 /// Names in a row. Contracts see them as a list of texts.
 #[derive(Drop)]

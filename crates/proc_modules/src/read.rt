@@ -1,16 +1,15 @@
 //! Reading lines of /proc/modules.
 ghost use Rattle.std.specs.Prelude.{◌≡◌, ◌≢◌, ◌<◌, ◌==◌, ◌&&◌, length, position, MatchOption, MatchResult, IfOk, IfErr, Ok, Err, Some, None};
 ghost use Rattle.std.specs.List.{slice_split};
-ghost use Rattle.dep_index.specs.Text.{texts_of};
+ghost use Rattle.text_parts.specs.Text.{texts_of};
 ghost use Rattle.proc_modules.specs.Reading.{is_mark, is_end, users_in, users_of, numbers_in, state_in, first_line, line_in, line_of, ReadsLine, ReadsUsers};
 ghost use Rattle.proc_modules.specs.Fields.{texts_in};
 
 use crate::line::{Line, LineError, LineState};
 use crate::names::Names;
 use crate::words::{is_address, is_line_name, is_taint, line_number, shown_state};
-use dep_index::Name;
-use dep_index::text::is_same;
 use std::alloc::{AllocError, Global};
+use text_parts::{Name, is_same};
 
 /// The parts of a text, which the byte divides.
 fn parts<'a>(alloc: Global, text: &'a [u8], divider: u8) -> Result<Vec<&'a [u8]>, AllocError>

@@ -1,11 +1,11 @@
 //! The fields of a line of /proc/modules, each by itself.
 ghost use Rattle.std.specs.Prelude.{◌≡◌, ◌==◌};
 ghost use Rattle.std.specs.List.{list_all, list_any};
-ghost use Rattle.dep_index.specs.Text.{texts_of};
+ghost use Rattle.text_parts.specs.Text.{texts_of};
 ghost use Rattle.proc_modules.specs.Reading.{is_line_name, line_number, state_of, is_address, is_hex_digit, is_taint};
 
 use crate::line::LineState;
-use dep_index::text::{is_name, is_same, number_within};
+use text_parts::{is_name, is_same, number_within};
 
 fn has_dash(word: &[u8]) -> bool
     ensures { result ≡ list_any (λ byte. byte == 45) word.now }

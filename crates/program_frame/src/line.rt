@@ -2,7 +2,7 @@
 ghost use Rattle.std.specs.Prelude.{◌≡◌, [], unwrap_or};
 ghost use Rattle.std.specs.List.{find, slice_split};
 ghost use Rattle.std.specs.Option.{option_map};
-ghost use Rattle.dep_index.specs.Text.{is_blank, is_filled};
+ghost use Rattle.text_parts.specs.Text.{is_blank, is_filled};
 
 fn is_blank(byte: u8) -> bool
     ensures { result ≡ is_blank byte }

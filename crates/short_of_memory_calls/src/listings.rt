@@ -4,12 +4,13 @@ ghost use Rattle.dep_index.specs.Catalogue.{modules_of};
 
 use crate::outcome::{Stop, needed, over, stop_at, tell};
 use crate::sound::sound;
-use dep_index::{Catalogue, Name};
+use dep_index::Catalogue;
 use proc_modules::{
     Line, LineError, LineState, Names, lsmod_text, modinfo_text, proc_text, read_line, write_line,
 };
 use seq_table::{Modules, Table};
 use std::alloc::Global;
+use text_parts::Name;
 
 impl From<LineError> for Stop {
     fn from(fault: LineError) -> Stop {

@@ -2,8 +2,8 @@
 ghost use Rattle.std.specs.Prelude.{◌≡◌, IfOk, Ok};
 
 use anyhow::bail;
-use dep_index::Name;
 use std::alloc::AllocError;
+use text_parts::Name;
 
 /// Why a call did not answer what its example says.
 #[derive(Clone, Copy, Debug, PartialEq, Eq, Drop)]

@@ -2,8 +2,8 @@
 
 use crate::outcome::{Stop, are_names, stop_at, tell};
 use alias_match::{Alias, Aliases, Pattern, PatternError, read_aliases};
-use dep_index::{Name, text};
 use modprobe_conf::{Conf, Softdep, Word, read_conf};
+use text_parts::{Name, words};
 
 const WORDS: [&[u8]; 2] = [b"a", b"bc"];
 
@@ -70,7 +70,7 @@ pub(crate) fn try_calls<R: Print + AllocGlobal>(rt: &R) -> anyhow::Result<()> {
     let alloc = rt.alloc();
     let is_right = |it: &Name| it.as_bytes() == b"snd_pcm".as_slice();
     tell(rt, "Name::new", Name::new(alloc, b"snd-pcm"), is_right)?;
-    let words = text::words(alloc, b" a\tbc ");
+    let words = words(alloc, b" a\tbc ");
     tell(rt, "words", words, |it| it.as_slice() == WORDS.as_slice())?;
     let pattern = Pattern::read(alloc, b"usb:v[0-9A-F]*p??");
     let is_right = |it: &Pattern| it.matches(b"usb:v0Ap12") && !it.matches(b"usb:vGp12");

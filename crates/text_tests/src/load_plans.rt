@@ -11,13 +11,13 @@ mod soft_items;
 
 use crate::texts::{names_text, push_word};
 use alias_match::{Aliases, read_aliases};
-use dep_index::text::{number_within, whole_lines, words};
-use dep_index::{CatError, Catalogue, DepError, DepIndex, Name, read_catalogue, read_dep};
+use dep_index::{CatError, Catalogue, DepError, DepIndex, read_catalogue, read_dep};
 use load_plan::{FindError, Item, PlanError, Sources, find, plan, removal_plan};
 use modprobe_conf::{Conf, read_conf};
 use std::alloc::{AllocError, Global};
 use std::process::Abort;
 use std::test::Fail;
+use text_parts::{Name, number_within, whole_lines, words};
 
 /// What the line has behind its mark and a space, where it has this mark.
 fn behind_mark(line: &[u8], mark: u8) -> Option<&[u8]> {

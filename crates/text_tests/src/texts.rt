@@ -1,8 +1,8 @@
 //! What tests of several crates share: a text, how found texts are written, and the comparison.
 
-use dep_index::Name;
 use std::alloc::{AllocError, Global};
 use std::process::Abort;
+use text_parts::Name;
 
 /// Two modules that need each other.
 pub(crate) const CIRCLE: &[u8] =

@@ -5,7 +5,7 @@ use Rattle.std.specs.Str.{bytes_eq}
 use Rattle.std.proofs.lemmas.List.Quantifiers.{position-Some}
 use Rattle.std.proofs.lemmas.List.Elements.{All-nil, All-cons, All-get_or, All-from_get_or}
 use Rattle.std.proofs.lemmas.List.{length-reverse, get_or-reverse}
-use Rattle.dep_index.specs.Text.{normal_form}
+use Rattle.text_parts.specs.Text.{normal_form}
 use Rattle.dep_index.specs.Catalogue.{Description, described, slot_named}
 use Rattle.dep_index.specs.Dependencies.{Pair}
 use Rattle.modprobe_conf.specs.Configuration.{Configuration}

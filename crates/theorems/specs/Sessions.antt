@@ -6,7 +6,7 @@ use Rattle.dep_index.specs.Table.{Table}
 use Rattle.dep_index.specs.Catalogue.{modules_of}
 use Rattle.dep_index.specs.Calls.{after}
 use Rattle.dep_index.specs.Laws.{AllInRange, IsLawful}
-use Rattle.dep_index.specs.Text.{Line}
+use Rattle.text_parts.specs.Text.{Line}
 use Rattle.modprobe.specs.Lines.{texts}
 use Rattle.modprobe.specs.Setup.{Setup}
 use Rattle.modprobe.specs.Session.{answer}

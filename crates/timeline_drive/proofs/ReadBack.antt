@@ -10,7 +10,7 @@ use Rattle.std.proofs.lemmas.Bool.Decides.{nat_tests}
 use Rattle.std.proofs.lemmas.List.Splits.{slice_split_at, slice_split_none}
 use Rattle.std.proofs.lemmas.Str.Parse.{IsNumeralModel, numerals_by_fold}
 use Rattle.std.proofs.lemmas.Fmt.{digits_decimal, digits_value-decimal, decimal_nonempty, length-decimal-le, first_decimal, decimal_digit}
-use Rattle.dep_index.specs.Text.{is_name, is_name_byte, is_digit, digits_from}
+use Rattle.text_parts.specs.Text.{is_name, is_name_byte, is_digit, digits_from}
 use Rattle.call_words.specs.declared.verb.Verb.{Verb}
 use Rattle.call_words.specs.declared.verb.Verb.TheVariants.{Get, Put, Query, BeginLoad, EndLoad, BeginDrain, BeginRemove, EndRemove}
 use Rattle.call_words.specs.declared.reply.ReplyWord.{ReplyWord}

@@ -3,7 +3,7 @@ use Rattle.std.specs.Prelude.{ℕ, nat_le, Bool, true, false, not, ◌&&◌, ◌
 use Rattle.std.specs.List.{list_all}
 use Rattle.std.specs.Option.{option_map, option_and_then}
 use Rattle.std.specs.Str.{bytes_eq}
-use Rattle.dep_index.specs.Text.{is_name, texts_of}
+use Rattle.text_parts.specs.Text.{is_name, texts_of}
 use Rattle.call_words.specs.declared.verb.Verb.{Verb}
 use Rattle.call_words.specs.Replies.{reply_of}
 use Rattle.call_words.specs.Calls as calls

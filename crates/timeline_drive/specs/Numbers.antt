@@ -1,6 +1,6 @@
 -- The numbers of a report.
 use Rattle.std.specs.Prelude.{ℕ, nat_lt, Bool, ◌&&◌, ◌==◌, if◌then◌else◌, List, [], ◌∷◌, length, slice_index, Option, None}
-use Rattle.dep_index.specs.Text.{number_within}
+use Rattle.text_parts.specs.Text.{number_within}
 
 abbrev pub leads_with_zero : List ℕ → Bool
 leads_with_zero word = nat_lt 1 (length word) && slice_index word 0 == 48

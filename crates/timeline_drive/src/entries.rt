@@ -2,13 +2,13 @@
 ghost use Rattle.std.specs.Prelude.{◌≡◌, ◌==◌, not};
 ghost use Rattle.std.specs.List.{list_all};
 ghost use Rattle.std.specs.Option.{option_map};
-ghost use Rattle.dep_index.specs.Text.{texts_of};
+ghost use Rattle.text_parts.specs.Text.{texts_of};
 ghost use Rattle.call_words.specs.Calls.{said_in};
 ghost use Rattle.timeline_drive.specs.Entries.{entry_in, found_in, times_in, is_shown_name, call_of, last_of, effect_of, is_ordered, after, times_of, entry_of};
 
 use crate::numbers::{LAST_THREAD, decimal_within, index_of, thread_of};
 use call_words::{ReplyWord, Said, Verb};
-use dep_index::text::{is_name, is_same};
+use text_parts::{is_name, is_same};
 
 /// Where a call takes effect, and what it answers there.
 #[derive(Clone, Copy, Debug, PartialEq, Eq, Drop)]

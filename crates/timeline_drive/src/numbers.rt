@@ -3,7 +3,7 @@ ghost use Rattle.std.specs.Prelude.{◌≡◌, ◌≤◌, ◌==◌, ◌&&◌, na
 ghost use Rattle.std.specs.Option.{option_map};
 ghost use Rattle.timeline_drive.specs.Numbers.{leads_with_zero, decimal_within, thread_of};
 
-use dep_index::text::number_within;
+use text_parts::number_within;
 
 /// The largest index of a step, and the largest number of a call.
 pub(crate) const LAST_STEP: u64 = 999_999;

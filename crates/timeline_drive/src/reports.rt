@@ -2,13 +2,13 @@
 ghost use Rattle.std.specs.Prelude.{◌≡◌, ◌==◌, IfOk, IfErr};
 ghost use Rattle.std.specs.List.{slice_split};
 ghost use Rattle.std.specs.Option.{option_map};
-ghost use Rattle.dep_index.specs.Text.{texts_of};
+ghost use Rattle.text_parts.specs.Text.{texts_of};
 ghost use Rattle.timeline_drive.specs.Entries.{entry_in};
 ghost use Rattle.timeline_drive.specs.Reports.{line_at, entries_in, IsReport, Refuses};
 
 use crate::entries::{Entry, entry_of};
-use dep_index::text::whole_lines;
 use std::alloc::{AllocError, AllocFailed, Global};
+use text_parts::whole_lines;
 use thiserror::Error;
 
 /// Why a text is no report.

@@ -5,9 +5,9 @@ use Rattle.std.proofs.lemmas.List.{append_assoc, append-nil, map-append, length_
 use Rattle.std.proofs.lemmas.Bool.{false_from_ne_true, eqb-true, false≢true, true≢false}
 use Rattle.std.proofs.Math.Dec.{eqb-suc-zero}
 use Rattle.memchr.specs.Find.{Nowhere, Passes, is_byte}
-use Rattle.dep_index.specs.Text as text
-use Rattle.dep_index.specs.Text.{ended, cut_lines}
-use Rattle.dep_index.proofs.LineLemmas.{HasNoFeed, cut_lines-ended, cut_lines-last}
+use Rattle.text_parts.specs.Text as text
+use Rattle.text_parts.specs.Text.{ended, cut_lines}
+use Rattle.text_parts.proofs.LineLemmas.{HasNoFeed, cut_lines-ended, cut_lines-last}
 use Rattle.workload_drive.specs.declared.lines.Line.{Line}
 use Rattle.workload_drive.specs.Statements.{Numbered, with_number, numbered}
 use Rattle.workload_drive.specs.ForProofs.{line_in, lines_in}

@@ -2,7 +2,7 @@
 use Rattle.std.proofs.Common.{◌≡◌, ℕ, ◌+◌, List, [], length, refl, sym, ap, ◌∙◌, subst, Ok, Err}
 use Rattle.std.specs.Prelude.{codes, Result}
 use Rattle.std.proofs.lemmas.List.{length-map}
-use Rattle.dep_index.specs.Text.{cut_lines}
+use Rattle.text_parts.specs.Text.{cut_lines}
 use Rattle.dep_index.specs.Catalogue.{Description, Refusal, catalogue_of}
 use Rattle.dep_index.specs.Faults as dep
 use Rattle.dep_index.specs.declared.faults.CatError.{CatError}

@@ -1,7 +1,7 @@
 -- What the program holds while it reads, as the definitions have it.
 use Rattle.std.specs.Prelude.{◌≡◌, List, map, Ok, Result, MatchResult}
 use Rattle.std.specs.Global.{Vec}
-use Rattle.dep_index.specs.Text.{texts_of}
+use Rattle.text_parts.specs.Text.{texts_of}
 use Rattle.workload_drive.specs.declared.fault.LineFault.{LineFault}
 use Rattle.workload_drive.specs.declared.fault.ScheduleFault.{ScheduleFault}
 use Rattle.workload_drive.specs.declared.lines.Line.{Line}

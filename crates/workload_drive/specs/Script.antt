@@ -4,7 +4,7 @@ use Rattle.std.specs.Prelude.{find, filter_map, option_map, Option, Some, None, 
 use Rattle.std.specs.List.{list_any, range_with_len}
 use Rattle.std.specs.Option.{option_and_then}
 use Rattle.std.specs.Str.{bytes_eq}
-use Rattle.dep_index.specs.Text.{normal_form}
+use Rattle.text_parts.specs.Text.{normal_form}
 use Rattle.dep_index.specs.Catalogue.{Description, slot_named}
 use Rattle.workload_drive.specs.declared.fault.LineCode.TheVariants.{H2}
 use Rattle.workload_drive.specs.declared.fault.LineFault.{LineFault}

@@ -2,7 +2,7 @@
 use Rattle.std.specs.Prelude.{ℕ, ◌+◌, ◌||◌, ◌==◌, Bool, if◌then◌else◌, List, [], ◌∷◌, ◌++◌}
 use Rattle.std.specs.Prelude.{length, drop, slice_index, codes, Option, Some, None, Result, Ok, Err}
 use Rattle.std.specs.Str.{bytes_eq}
-use Rattle.dep_index.specs.Text.{Line, cut_lines, words, is_comment, number_within}
+use Rattle.text_parts.specs.Text.{Line, cut_lines, words, is_comment, number_within}
 use Rattle.dep_index.specs.Catalogue.{Description, Refusal, catalogue_of}
 use Rattle.workload_drive.specs.declared.fault.LineFault.{LineFault}
 use Rattle.workload_drive.specs.Faults.{fault_at, bad_line, code_of}

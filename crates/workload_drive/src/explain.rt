@@ -4,11 +4,11 @@ use crate::fault::{LineCode, LineFault, ScheduleFault};
 use crate::schedule::{Order, order_of};
 use crate::script::WorkFault;
 use crate::statement::{Statement, marked, read_parts};
-use dep_index::text::{is_same, whole_lines};
 use program_frame::{Shown, first_word, tell_hint, tell_sentence};
 use std::alloc::Global;
 use std::io::Write;
 use step_core::StepError;
+use text_parts::{is_same, whole_lines};
 
 fn line_sentence(code: LineCode) -> &'static str {
     match code {

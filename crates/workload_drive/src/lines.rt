@@ -1,12 +1,12 @@
 //! The lines of an input, with their numbers.
 ghost use Rattle.std.specs.Prelude.{◌≡◌, IfOk};
-ghost use Rattle.dep_index.specs.Text.{ended, cut_lines};
+ghost use Rattle.text_parts.specs.Text.{ended, cut_lines};
 ghost use Rattle.workload_drive.specs.Statements.{with_number, numbered, is_ignored};
 ghost use Rattle.workload_drive.specs.ForProofs.{line_in, lines_in};
 
-use dep_index::text::{is_comment, words};
 use memchr::memchr;
 use std::alloc::{AllocError, Global};
+use text_parts::{is_comment, words};
 
 /// A line: its number, from 1, its text, and the bytes that end it.
 #[derive(Clone, Copy, Drop)]

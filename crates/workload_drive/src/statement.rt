@@ -2,13 +2,13 @@
 ghost use Rattle.std.specs.Prelude.{◌≡◌, ◌≤◌, IfOk, IfSome, Option};
 ghost use Rattle.workload_drive.specs.Statements.{behind_head, text_before, lines_behind, statements, parts_of, from_one, marked, setting_in, setting};
 ghost use Rattle.workload_drive.specs.ForProofs.{Reads, lines_in, statements_in, parts_in};
-ghost use Rattle.dep_index.specs.Text.{texts_of};
+ghost use Rattle.text_parts.specs.Text.{texts_of};
 
 use crate::fault::{LineCode, ScheduleFault};
 use crate::lines::{Line, cut_lines, is_ignored};
-use dep_index::text::{is_same, number_within, words};
 use dep_index::{Catalogue, read_catalogue};
 use std::alloc::{AllocError, Global};
+use text_parts::{is_same, number_within, words};
 
 /// The largest number of 10 digits.
 pub(crate) const LARGEST: u64 = 9_999_999_999;

@@ -1,6 +1,6 @@
 -- Which schedule an input is.
 use Rattle.std.specs.Prelude.{ℕ, ◌+◌, nat_le, if◌then◌else◌, List, [], ◌∷◌, ◌++◌, length, replicate, codes, Option, Some, None, Result, Ok, Err}
-use Rattle.dep_index.specs.Text.{normal_form}
+use Rattle.text_parts.specs.Text.{normal_form}
 use Rattle.dep_index.specs.Catalogue.{Description, slot_named}
 use Rattle.step_core.specs.declared.steps.Step.{Step}
 use Rattle.step_core.specs.declared.steps.Step.TheVariants.{Invoke, Go}

@@ -1,13 +1,13 @@
 //! What a line of a schedule asks of a thread.
 ghost use Rattle.std.specs.Prelude.{◌≡◌};
 ghost use Rattle.std.specs.Option.{option_map};
-ghost use Rattle.dep_index.specs.Text.{texts_of};
+ghost use Rattle.text_parts.specs.Text.{texts_of};
 ghost use Rattle.workload_drive.specs.Schedule.Orders.{go_of, order_of};
 ghost use Rattle.workload_drive.specs.Schedule.ForProofs.{order_in};
 
 use crate::statement::{LARGEST, from_one};
 use call_words::{Verb, call_of};
-use dep_index::text::{is_same, number_within};
+use text_parts::{is_same, number_within};
 
 /// The most steps of a schedule.
 pub(crate) const MOST_STEPS: u64 = 1_000_000;

@@ -1,6 +1,6 @@
 //! The steps of threads over a catalogue, as an input gives them.
 ghost use Rattle.std.specs.Prelude.{◌≡◌, ◌≤◌, ◌++◌, [], Ok, length, replicate, IfOk, OnOk, MatchResult, Option};
-ghost use Rattle.dep_index.specs.Text.{texts_of};
+ghost use Rattle.text_parts.specs.Text.{texts_of};
 ghost use Rattle.step_core.specs.declared.steps.Step.TheVariants as step;
 ghost use Rattle.workload_drive.specs.Schedule.Steps.{ordered, behind_steps, by_words, steps_of, schedule_of};
 ghost use Rattle.workload_drive.specs.ForProofs.{Reads, statements_in};
@@ -9,9 +9,10 @@ ghost use Rattle.workload_drive.specs.Schedule.ForProofs.{order_in, schedule_in}
 use super::order::{MOST_STEPS, Order, order_of};
 use crate::fault::{LineCode, ScheduleFault};
 use crate::statement::{Parts, Statement, marked, read_parts, setting};
-use dep_index::{Catalogue, Name};
+use dep_index::Catalogue;
 use std::alloc::{AllocError, Global};
 use step_core::Step;
+use text_parts::Name;
 
 /// The steps of threads over a catalogue, and how many workers and threads there are.
 #[derive(Drop)]

@@ -1,12 +1,12 @@
 //! What a line of a script asks.
 ghost use Rattle.std.specs.Prelude.{◌≡◌};
 ghost use Rattle.std.specs.Option.{option_map};
-ghost use Rattle.dep_index.specs.Text.{texts_of};
+ghost use Rattle.text_parts.specs.Text.{texts_of};
 ghost use Rattle.workload_drive.specs.Script.{deed_text, deed_of, named_act_of, is_works};
 ghost use Rattle.workload_drive.specs.ForProofs.{named_act_in};
 
 use crate::statement::marked;
-use dep_index::text::is_same;
+use text_parts::is_same;
 
 /// A change of the table, of one call or two.
 #[derive(Clone, Copy, Drop)]

@@ -2,15 +2,16 @@
 ghost use Rattle.std.specs.Prelude.{◌≡◌, [], map, IfOk};
 ghost use Rattle.std.specs.List.{range_with_len};
 ghost use Rattle.workload_drive.specs.Script.{has_works, has_place, entry_at, entry_of, entries_of, opening_in, task_in, opening_of, tasks_of, named_act_of};
-ghost use Rattle.dep_index.specs.Text.{texts_of, normal_form};
+ghost use Rattle.text_parts.specs.Text.{texts_of, normal_form};
 ghost use Rattle.dep_index.specs.Catalogue.{slot_named};
 ghost use Rattle.workload_drive.specs.ForProofs.{Reads, statements_in, named_act_in, tasks_in};
 
 use super::acts::{Act, Change, Deed, NamedAct, named_act_of};
 use crate::fault::{LineCode, ScheduleFault};
 use crate::statement::Statement;
-use dep_index::{Catalogue, Name};
+use dep_index::Catalogue;
 use std::alloc::{AllocError, Global};
+use text_parts::Name;
 
 /// A change that is made before any worker begins, and the slot of its module.
 #[derive(Clone, Copy, Drop)]

@@ -1,6 +1,6 @@
 use Rattle.std.proofs.Common.{◌≡◌, ◌∙◌, sym, ap, map}
 use Rattle.dep_index.specs.Dependencies.{dep_line, with_pair, name_of}
-use Rattle.dep_index.specs.Text.{texts_of}
+use Rattle.text_parts.specs.Text.{texts_of}
 use Rattle.dep_index.specs.Pairs.{pairs_in}
 use Rattle.dep_index.proofs.PairLemmas.{line_paired}
 use Rattle.dep_index.proofs.dep_text.read_line.Goals as goal

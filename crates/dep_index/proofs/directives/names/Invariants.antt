@@ -1,5 +1,5 @@
 use Rattle.std.proofs.Common.{◌≡◌, map, take}
-use Rattle.dep_index.specs.Text.{texts_of, normal_form}
+use Rattle.text_parts.specs.Text.{texts_of, normal_form}
 use Rattle.dep_index.proofs.directives.names.Given as goal
 
 -- the words up to the index are in normal form

@@ -1,5 +1,5 @@
 use Rattle.std.proofs.Common.{◌≡◌, map, take}
-use Rattle.dep_index.specs.Text.{texts_of}
+use Rattle.text_parts.specs.Text.{texts_of}
 use Rattle.dep_index.specs.Dependencies.{name_of}
 use Rattle.dep_index.proofs.paths.names_of.Given as goal
 

@@ -1,5 +1,5 @@
 use Rattle.std.proofs.Common.{◌≡◌, map, Ok, sym, ◌∙◌, ap}
-use Rattle.dep_index.specs.Text.{normal_form, texts_of}
+use Rattle.text_parts.specs.Text.{normal_form, texts_of}
 use Rattle.load_plan.specs.declared.graph.Target.TheVariants.{Slot}
 use Rattle.load_plan.specs.Items.{item_of, named, plan_at}
 use Rattle.load_plan.specs.Sources.{target_at, target_of}

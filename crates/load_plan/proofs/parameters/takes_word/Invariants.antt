@@ -1,6 +1,6 @@
 use Rattle.std.proofs.Common.{◌≡◌, drop}
 use Rattle.std.specs.Option.{option_map}
-use Rattle.dep_index.specs.Text.{normal_form}
+use Rattle.text_parts.specs.Text.{normal_form}
 use Rattle.load_plan.specs.Parameters.{takes_named}
 use Rattle.load_plan.proofs.parameters.takes_word.Given as goal
 

@@ -1,6 +1,6 @@
 use Rattle.std.proofs.Common.{◌≡◌, drop}
 use Rattle.std.specs.List.{list_all}
-use Rattle.dep_index.specs.Text.{texts_of}
+use Rattle.text_parts.specs.Text.{texts_of}
 use Rattle.load_plan.specs.Parameters.{is_valid_word}
 use Rattle.load_plan.proofs.parameters.takes_words.Given as goal
 

@@ -1,5 +1,5 @@
 use Rattle.std.proofs.Common.{◌≡◌, ◌++◌, take}
-use Rattle.dep_index.specs.Text.{texts_of}
+use Rattle.text_parts.specs.Text.{texts_of}
 use Rattle.modprobe.specs.Plans.{words_text}
 use Rattle.modprobe.proofs.reply.push_words.Given as goal
 

@@ -1,5 +1,5 @@
 use Rattle.std.proofs.Common.{◌≡◌, ◌<◌, [], drop, length, All}
-use Rattle.dep_index.specs.Text.{texts_of}
+use Rattle.text_parts.specs.Text.{texts_of}
 use Rattle.load_plan.specs.declared.items.Item.{Item}
 use Rattle.modprobe.specs.Plans.{items_of_plans}
 use Rattle.modprobe.proofs.request.items_of_plans.Given as goal

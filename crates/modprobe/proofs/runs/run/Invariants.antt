@@ -1,5 +1,5 @@
 use Rattle.std.proofs.Common.{◌≡◌, List, false}
-use Rattle.dep_index.specs.Text.{Line}
+use Rattle.text_parts.specs.Text.{Line}
 use Rattle.modprobe.specs.Lines.{bytes_left, AllEnded, IsPaid, SpendsTurns, HasTrueEnd, steps_left}
 use Rattle.modprobe.specs.Run.{Answered}
 use Rattle.modprobe.proofs.runs.run.Given as goal

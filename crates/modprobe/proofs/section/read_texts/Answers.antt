@@ -1,6 +1,6 @@
 use Rattle.std.proofs.Common.{◌≡◌, ◌∷◌, [], ◌++◌, ◌∙◌, refl, sym, ap, Some, None, true, false}
 use Rattle.std.proofs.lemmas.Result.{err_from_is_err_and}
-use Rattle.dep_index.specs.Text.{Line}
+use Rattle.text_parts.specs.Text.{Line}
 use Rattle.modprobe.specs.Lines.{bytes_left, ending_bytes}
 use Rattle.modprobe.specs.Sections.{section_of, no_parts, add_bytes, step_of, text_step, go, stop, early}
 use Rattle.modprobe.specs.ForProofs.{parts_of, is_session}

@@ -1,5 +1,5 @@
 use Rattle.std.proofs.Common.{◌≡◌, List, false, None}
-use Rattle.dep_index.specs.Text.{Line}
+use Rattle.text_parts.specs.Text.{Line}
 use Rattle.modprobe.specs.Lines.{bytes_left, GivesCuts, AllEnded, IsPaid, SpendsTurns, HasTrueEnd, steps_left}
 use Rattle.modprobe.specs.ForProofs.{parts_of}
 use Rattle.modprobe.specs.Sections.{no_parts, steps_of, go}

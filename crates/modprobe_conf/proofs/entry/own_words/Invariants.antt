@@ -1,5 +1,5 @@
 use Rattle.std.proofs.Common.{◌≡◌, ◌++◌, drop}
-use Rattle.dep_index.specs.Text.{texts_of}
+use Rattle.text_parts.specs.Text.{texts_of}
 use Rattle.modprobe_conf.proofs.entry.own_words.Given as goal
 
 abbrev pub invariant-loop-word : goal.invariant-loop-word

@@ -1,5 +1,5 @@
 use Rattle.std.proofs.Common.{◌≡◌, ◌++◌, drop, false}
-use Rattle.dep_index.specs.Text.{texts_of}
+use Rattle.text_parts.specs.Text.{texts_of}
 use Rattle.modprobe_conf.specs.Configuration.{softdep_items}
 use Rattle.modprobe_conf.proofs.softdep.names_behind.Given as goal
 

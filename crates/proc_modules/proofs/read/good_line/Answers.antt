@@ -1,5 +1,5 @@
 use Rattle.std.proofs.Common.{sym}
-use Rattle.dep_index.specs.Text.{texts_of}
+use Rattle.text_parts.specs.Text.{texts_of}
 use Rattle.proc_modules.proofs.ReadingLemmas.{line_read}
 use Rattle.proc_modules.proofs.read.good_line.Goals as goal
 

@@ -1,5 +1,5 @@
 use Rattle.std.proofs.Common.{◌≡◌, drop}
-use Rattle.dep_index.specs.Text.{texts_of}
+use Rattle.text_parts.specs.Text.{texts_of}
 use Rattle.proc_modules.specs.Reading.{users_in}
 use Rattle.proc_modules.proofs.ReadingLemmas.{with_users}
 use Rattle.proc_modules.proofs.read.users_in.Given as goal

@@ -1,7 +1,7 @@
 use Rattle.std.proofs.Common.{rules}
 use Rattle.std.proofs.lemmas.Iterator.Search.{find_from_yields_List}
 use Rattle.std.proofs.lemmas.Iterator.Splits.{YieldsList-from_slice_split}
-use Rattle.dep_index.specs.Text.{is_blank, is_filled}
+use Rattle.text_parts.specs.Text.{is_blank, is_filled}
 use Rattle.program_frame.proofs.line.found_word.Goals as goal
 
 pub returns : goal.returns

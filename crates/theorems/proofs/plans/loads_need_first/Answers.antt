@@ -1,4 +1,4 @@
-use Rattle.dep_index.specs.Text.{texts_of}
+use Rattle.text_parts.specs.Text.{texts_of}
 use Rattle.theorems.proofs.Ordering.{load-once, load-needs}
 use Rattle.theorems.proofs.plans.loads_need_first.Goals as goal
 

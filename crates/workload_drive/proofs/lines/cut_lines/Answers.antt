@@ -1,6 +1,6 @@
 use Rattle.std.proofs.Common.{◌≡◌, ◌+◌, ◌-◌, ◌∙◌, ap, length, take, drop, ℕ, []}
-use Rattle.dep_index.specs.Text.{ended, cut_lines}
-use Rattle.dep_index.proofs.WordLemmas.{rest_after}
+use Rattle.text_parts.specs.Text.{ended, cut_lines}
+use Rattle.text_parts.proofs.WordLemmas.{rest_after}
 use Rattle.workload_drive.specs.Statements.{Numbered, with_number, numbered}
 use Rattle.workload_drive.proofs.LineLemmas.{lines_more, lines_last, lines_done, is_some, is_none}
 use Rattle.workload_drive.proofs.lines.cut_lines.Goals as goal

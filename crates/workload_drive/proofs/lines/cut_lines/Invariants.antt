@@ -1,5 +1,5 @@
 use Rattle.std.proofs.Common.{◌≡◌, ◌+◌, ◌++◌, length}
-use Rattle.dep_index.specs.Text.{cut_lines}
+use Rattle.text_parts.specs.Text.{cut_lines}
 use Rattle.workload_drive.specs.Statements.{numbered}
 use Rattle.workload_drive.specs.ForProofs.{lines_in}
 use Rattle.workload_drive.proofs.lines.cut_lines.Given as goal

@@ -1,5 +1,5 @@
 use Rattle.std.proofs.Common.{◌≡◌, drop}
-use Rattle.dep_index.specs.Text.{texts_of}
+use Rattle.text_parts.specs.Text.{texts_of}
 use Rattle.dep_index.specs.Descriptions.{open_in}
 use Rattle.dep_index.specs.Exports.{export_links}
 use Rattle.dep_index.proofs.details.Open.export.Given as goal

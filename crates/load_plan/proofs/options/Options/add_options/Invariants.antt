@@ -1,5 +1,5 @@
 use Rattle.std.proofs.Common.{◌≡◌, ◌++◌, take}
-use Rattle.dep_index.specs.Text.{texts_of}
+use Rattle.text_parts.specs.Text.{texts_of}
 use Rattle.load_plan.proofs.options.Options.add_options.Given as goal
 
 abbrev pub invariant-loop-word : goal.invariant-loop-word

@@ -1,6 +1,0 @@
-use Rattle.std.proofs.Common.{◌∙◌, ap, not}
-use Rattle.dep_index.proofs.WordLemmas.{word_found}
-use Rattle.dep_index.proofs.text.has_word.Goals as goal
-
-pub returns : goal.returns
-returns c = ap not c.is_all_blank.ensures ∙ word_found c.args.line.now
