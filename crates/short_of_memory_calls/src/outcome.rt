@@ -42,7 +42,7 @@ pub fn needed<T, E: Drop>(made: Result<T, E>) -> Result<T, Stop>
 }
 
 /// The answer of a call over what it needs.
-pub fn over<N: Drop, T, E: Into<Stop>, F: FnOnce(&N) -> Result<T, E>>(
+pub(crate) fn over<N: Drop, T, E: Into<Stop>, F: FnOnce(&N) -> Result<T, E>>(
     needed: Result<N, Stop>,
     call: F,
 ) -> Result<T, Stop>
@@ -52,7 +52,7 @@ pub fn over<N: Drop, T, E: Into<Stop>, F: FnOnce(&N) -> Result<T, E>>(
 }
 
 /// Whether these are the names, in order.
-pub fn are_names(names: &[Name], wanted: &[&[u8]]) -> bool {
+pub(crate) fn are_names(names: &[Name], wanted: &[&[u8]]) -> bool {
     names.len() == wanted.len()
         && names
             .iter()
