@@ -1,4 +1,4 @@
-//! Tests of scripts on threads: gates of their own, and streams that fail.
+//! Tests of scripts on threads, with gates of their own.
 #![tactic(auto)]
 
 #[cfg(test)]

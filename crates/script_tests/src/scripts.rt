@@ -1,15 +1,13 @@
-//! Scripts on threads with gates of their own, and streams that fail.
+//! Scripts on threads with gates of their own.
 
 use dep_index::Reply;
 use module_table::Manager;
 use std::alloc::{AllocError, Global};
-use std::io;
-use std::io::{Read, Write};
 use std::sync::Wait;
 use std::sync::atomic::{AtomicBool, AtomicUsize, Ordering};
 use std::test::Fail;
 use std::thread::Threads;
-use workload_drive::{Gate, OpenGate, WorkFault, drive, read_script, run_threads};
+use workload_drive::{Gate, OpenGate, WorkFault, read_script, run_threads};
 
 /// The catalogue of all scripts here.
 const SND: &[u8] = b"module snd
@@ -201,52 +199,5 @@ fn a_gate_is_shut(rt: HostRuntime) -> Result<(), Fail> {
     let course = run(&rt, SHUT_OUT, &shut)?;
     let asked = shut.asked.load(Ordering::SeqCst);
     assert!(rt; asked && course.is(Err(WorkFault::Gate)) && course.are_held(1, 0));
-    Ok(())
-}
-
-/// Fails at each call.
-#[derive(Drop)]
-struct Broken;
-
-impl Read for Broken {
-    fn read(&mut self, _buffer: &mut [u8]) -> io::Result<usize> {
-        Err(io::Error::from(io::ErrorKind::Other))
-    }
-}
-
-impl Write for Broken {
-    fn write(&mut self, _bytes: &[u8]) -> io::Result<usize> {
-        Err(io::Error::from(io::ErrorKind::Other))
-    }
-
-    fn flush(&mut self) -> io::Result<()> {
-        Ok(())
-    }
-}
-
-/// Whether the program on these streams ends with status 3, and says this.
-fn fails<R: AllocGlobal + Threads + Wait + Sync, I: Read, O: Write>(
-    rt: &R,
-    reader: &mut I,
-    writer: &mut O,
-    wanted: &str,
-) -> bool {
-    let mut errors = Vec::new(rt.alloc());
-    let status = drive(rt, &[], reader, writer, &mut errors);
-    status == 3 && errors.as_slice() == wanted.as_bytes()
-}
-
-#[test]
-fn a_read_fails(rt: HostRuntime) -> Result<(), Fail> {
-    let mut written = Vec::new(rt.alloc());
-    let failed = fails(&rt, &mut Broken, &mut written, "workload: read fault\n");
-    assert!(rt; failed && written.is_empty());
-    Ok(())
-}
-
-#[test]
-fn a_write_fails(rt: HostRuntime) -> Result<(), Fail> {
-    let mut input: &[u8] = b"%catalogue\nmodule a\n%schedule\nworkers 1\nthreads 1\nt0 query a\n";
-    assert!(rt; fails(&rt, &mut input, &mut Broken, "workload: write fault\n"));
     Ok(())
 }

@@ -2,28 +2,7 @@
 ghost use Rattle.std.specs.Prelude.{◌≡◌, ◌+◌, false, if◌then◌else◌, Some, None, Option};
 
 use modprobe::{Failed, Sink, Source};
-use std::io;
-use std::io::{Read, Write};
-
-/// Fails at each call, as a reader or writer of std.
-#[derive(Drop)]
-pub(crate) struct Broken;
-
-impl Read for Broken {
-    fn read(&mut self, _buffer: &mut [u8]) -> io::Result<usize> {
-        Err(io::Error::from(io::ErrorKind::Other))
-    }
-}
-
-impl Write for Broken {
-    fn write(&mut self, _bytes: &[u8]) -> io::Result<usize> {
-        Err(io::Error::from(io::ErrorKind::Other))
-    }
-
-    fn flush(&mut self) -> io::Result<()> {
-        Ok(())
-    }
-}
+use std::io::Read;
 
 /// Gives its bytes, and then fails or is at its end.
 #[derive(Drop)]

@@ -1,9 +1,7 @@
-//! Tests of sessions and of their program over devices that fail, never end, or take a byte at a time.
+//! Tests of sessions over devices that fail, never end, or take a byte at a time.
 #![tactic(auto)]
 
 #[cfg(test)]
 mod devices;
-#[cfg(test)]
-mod program;
 #[cfg(test)]
 mod sessions;

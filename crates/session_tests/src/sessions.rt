@@ -4,8 +4,8 @@ ghost use Rattle.std.specs.Prelude.{◌≡◌, false};
 use crate::devices::{Dripping, Narrow, Scripted, Trickling};
 use dep_index::ModuleState;
 use modprobe::{
-    Buffer, FromRead, FromWrite, Lines, RunFault, ServeFault, Setup, SetupCode, read_setup, run,
-    serve,
+    Buffer, FromRead, FromWrite, Lines, RunFault, ServeFault, Setup, SetupCode, SetupFault,
+    read_setup, run, serve,
 };
 use seq_table::{Modules, Table};
 use std::alloc::{AllocError, Global};
@@ -196,4 +196,17 @@ fn memory_runs_out_in_a_session(rt: HostRuntime) {
 #[test]
 fn memory_runs_out_in_a_session_of_cards(rt: HostRuntime) {
     assert!(rt; is_answered_or_out_of_memory(rt.alloc(), CARD_RUN, CARD_ANSWER));
+}
+
+/// A session of 16,777,216 reads takes too long for a test. So this shows only what the program would say of it.
+#[test]
+fn the_text_of_a_turn_limit(rt: HostRuntime) -> Result<(), Fail> {
+    let setup = SetupFault {
+        code: SetupCode::Turns,
+        line: None,
+    };
+    let in_setup = format!(in rt.alloc(); "{}", ServeFault::Setup(setup))?;
+    let in_session = format!(in rt.alloc(); "{}", ServeFault::Run(RunFault::Turns))?;
+    assert!(rt; in_setup.as_str() == "turn limit" && in_session.as_str() == "turn limit");
+    Ok(())
 }

@@ -1,7 +1,6 @@
-//! The session program over streams that fail, and a line that is too long.
+//! The program of a session over streams that fail, and with a line that is too long.
 
-use crate::devices::Broken;
-use modprobe::{RunFault, ServeFault, SetupCode, SetupFault};
+use crate::broken::Broken;
 use modsh_drive::{Output, drive};
 use std::io::Read;
 use std::test::Fail;
@@ -39,18 +38,5 @@ fn a_line_that_is_too_long(rt: HostRuntime) -> Result<(), Fail> {
     let mut output = Output::new(&mut written);
     let status = drive(&rt, &[], input.as_slice(), &mut output, &mut errors);
     assert!(rt; (status, errors.as_slice()) == (3, b"modsh: long line\n".as_slice()));
-    Ok(())
-}
-
-/// A session of 16,777,216 reads takes too long for a test. So this shows only what the program would say of it.
-#[test]
-fn the_text_of_a_turn_limit(rt: HostRuntime) -> Result<(), Fail> {
-    let setup = SetupFault {
-        code: SetupCode::Turns,
-        line: None,
-    };
-    let in_setup = format!(in rt.alloc(); "{}", ServeFault::Setup(setup))?;
-    let in_session = format!(in rt.alloc(); "{}", ServeFault::Run(RunFault::Turns))?;
-    assert!(rt; in_setup.as_str() == "turn limit" && in_session.as_str() == "turn limit");
     Ok(())
 }
