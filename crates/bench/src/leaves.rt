@@ -44,6 +44,8 @@ impl Worker for CachePadded<RowLeaf<'_>> {
     }
 }
 
+// In a function of its own the loop keeps its registers.
+#[inline(never)]
 fn make_pairs<R: Wait>(rt: &R, row: &Row, leaf: &mut Leaf, range: SlotRange, rounds: u64)
     requires wide { 8 ≤ slots row.now.world }
     requires own { IsOf row.now leaf.old }
