@@ -1,5 +1,4 @@
-use Rattle.std.proofs.Common.{arith, ◌≡◌, ◌∙◌, ap, sym, List, [], ◌∷◌, ◌++◌, ℕ, map}
-use Rattle.std.specs.Global.{Vec}
+use Rattle.std.proofs.Common.{arith, ◌∙◌, ap, sym, List, [], ◌∷◌, ◌++◌, ℕ, map}
 use Rattle.std.specs.List.{range_with_len}
 use Rattle.std.proofs.lemmas.List.{map-append}
 use Rattle.std.proofs.lemmas.List.FromFn.{map-range_with_len_more}

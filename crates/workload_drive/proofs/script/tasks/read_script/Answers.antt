@@ -1,4 +1,3 @@
-use Rattle.std.proofs.Common.{◌∙◌, ap}
 use Rattle.std.proofs.lemmas.Result.{err_from_is_err_and}
 use Rattle.workload_drive.specs.ForProofs.{statements_in, parts_in, tasks_in}
 use Rattle.workload_drive.proofs.ScriptLemmas.{parts_refused, workers_refused, entries_refused, script_made}
