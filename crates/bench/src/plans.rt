@@ -19,6 +19,10 @@ const PLANS: usize = 500;
 
 const LOOKUPS: usize = 50;
 
+/// As large as a kernel's modules.alias text. Once a buffer of this size was freed, as behind the reading of such a text,
+/// the C library keeps so much of its heap; before, it gives it back to the kernel behind each long plan (mallopt(3)).
+const TEXT_BYTES: usize = 1 << 20;
+
 /// What is asked of a module.
 #[derive(Clone, Copy)]
 enum Asked {
@@ -39,6 +43,7 @@ const BY_PATHS: [(&str, Asked); 3] = [
 ];
 
 pub fn measure<R: Print + Clock + AllocGlobal>(rt: &R) -> Result<()> {
+    drop(Vec::<u8>::with_capacity(rt.alloc(), TEXT_BYTES)?);
     over_sources(rt.alloc(), true, |sources| {
         measure_plans(rt, sources, &BY_SYMBOLS)?;
         over_sources(rt.alloc(), false, |own| measure_plans(rt, own, &BY_PATHS))?;
