@@ -1,5 +1,5 @@
 //! Shell patterns, and whether they match a text.
-ghost use Rattle.std.specs.Prelude.{◌≡◌, ◌↔◌, [], IsTrue, MatchOption};
+ghost use Rattle.std.specs.Prelude.{◌≡◌, ◌↔◌, ◌∷◌, [], IsTrue, MatchOption};
 ghost use Rattle.alias_match.specs.Pattern.{Matches};
 ghost use Rattle.alias_match.specs.Marks.{IsMarkOf};
 ghost use Rattle.alias_match.specs.ForProofs.{IsStep, IsLater};
@@ -65,25 +65,38 @@ enum Step<'p, 't> {
     Stuck,
 }
 
+/// What the first item says at the end of the text.
+fn step_at_end<'p, 't>(items: Items<'p>) -> Step<'p, 't>
+    ensures { IsStep items.entry [] result }
+{
+    match items.split_first() {
+        None => Step::Over,
+        Some((Item::Run, after)) => Step::Run(after),
+        Some(_) => Step::Short,
+    }
+}
+
+/// What the first item says of a byte and those that follow it.
+#[inline(always)]
+fn step_at<'p, 't>(items: Items<'p>, byte: u8, later: &'t [u8]) -> Step<'p, 't>
+    ensures { IsStep items.entry (byte ∷ later.entry.now) result }
+{
+    match items.split_first() {
+        None => Step::Stuck,
+        Some((Item::Run, after)) => Step::Run(after),
+        Some((item, after)) if item.holds(byte) => Step::Taken(after, later),
+        Some(_) => Step::Stuck,
+    }
+}
+
 #[inline(always)]
 fn next_step<'p, 't>(items: Items<'p>, text: &'t [u8]) -> Step<'p, 't>
     ensures { IsStep items.entry text.entry.now result }
 {
-    let Some((item, after)) = items.split_first() else {
-        return if text.is_empty() {
-            Step::Over
-        } else {
-            Step::Stuck
-        };
+    let Some((byte, later)) = text.split_first() else {
+        return step_at_end(items);
     };
-    if let Item::Run = item {
-        return Step::Run(after);
-    }
-    match text.split_first() {
-        None => Step::Short,
-        Some((byte, later)) if item.holds(*byte) => Step::Taken(after, later),
-        Some(_) => Step::Stuck,
-    }
+    step_at(items, *byte, later)
 }
 
 impl Pattern {

@@ -207,7 +207,7 @@ fn next_plain_item(first: u8, rest: &[u8]) -> Result<(Item, &[u8]), PatternError
 fn is_plain(byte: u8) -> bool
     ensures { result ≡ true → (byte ≢ 42) × (byte ≢ 45) × (byte ≢ 63) × (byte ≢ 91) × (byte ≢ 92) }
 {
-    matches!(byte, b'0'..=b':' | b'A'..=b'Z' | b'a'..=b'z')
+    !matches!(byte, b'*' | b'-' | b'?' | b'[' | b'\\')
 }
 
 /// The item with which a text of this first byte begins, and what follows it.
