@@ -11,6 +11,9 @@ const STEPS: [usize; 3] = [1, 7, 40];
 
 const PLANS: u32 = 500;
 
+/// As the benchmark beside this one does: the C library keeps its heap between plans once so large a buffer was freed.
+const TEXT_BYTES: usize = 1 << 20;
+
 #[derive(Clone, Copy, PartialEq)]
 enum Mark {
     New,
@@ -168,6 +171,7 @@ fn time_plan(name: &str, sources: &Sources, module: &str) {
 }
 
 pub fn measure() {
+    drop(black_box(Vec::<u8>::with_capacity(TEXT_BYTES)));
     let by_symbols = Sources::new(true);
     time_plan("plan_by_symbols", &by_symbols, "module_0");
     time_plan("short_plan_by_symbols", &by_symbols, "module_1000");

@@ -202,7 +202,7 @@ fn next_plain_item(first: u8, rest: &[u8]) -> Result<(Item, &[u8]), PatternError
     Ok((Item::Byte(undashed(letter.byte)), rest))
 }
 
-/// Whether a byte is one of those of which most patterns are, which stand for themselves. It is asked first, for speed.
+/// Whether a byte is none of the five that may not stand for themselves. It is asked first, for speed.
 #[inline(always)]
 fn is_plain(byte: u8) -> bool
     ensures { result ≡ true → (byte ≢ 42) × (byte ≢ 45) × (byte ≢ 63) × (byte ≢ 91) × (byte ≢ 92) }
