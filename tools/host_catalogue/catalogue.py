@@ -1,21 +1,64 @@
 """What modules need of each other, and the catalogue's text."""
 
 import re
-import textwrap
 from collections.abc import Iterable, Iterator
 from fnmatch import fnmatchcase
+from typing import NamedTuple
 
-from .elf import TEXT
 from .format import Format, is_name, normal
 from .modules import Module
-from .report import Notes, Refusal
+from .report import TEXT, Notes, Refusal
 
 WIDTH = 120
+# How much is tried to find the modules of soft dependencies, in bytes.
+EFFORT = 1_000_000
+
+
+class Alias(NamedTuple):
+    """An alias of a module, and its place among all."""
+
+    place: int
+    pattern: str
+    name: str
 
 
 def plain(pattern: str) -> str:
     """A pattern as fnmatch reads it, in normal form outside of sets."""
     return re.sub(r"\[[^]]*\]|-", lambda it: "_" if it[0] == "-" else it[0].replace("[^", "[!", 1), pattern)
+
+
+class Aliases:
+    """The aliases of modules: those without wildcards, and the others by how they begin before their first."""
+
+    def __init__(self, modules: Iterable[Module]):
+        self.words: dict[str, set[Alias]] = {}
+        self.patterns: dict[str, list[Alias]] = {}
+        self.effort = 0
+        pairs = dict.fromkeys((plain(it), module.name) for module in modules for it in module.aliases)
+        for place, (pattern, name) in enumerate(pairs):
+            begin = re.split(r"[*?[]", pattern, maxsplit=1)[0]
+            if begin == pattern:
+                self.words.setdefault(pattern, set()).add(Alias(place, pattern, name))
+            else:
+                self.patterns.setdefault(begin, []).append(Alias(place, pattern, name))
+        self.sizes = sorted({len(it) for it in self.patterns})
+
+    def targets(self, word: str) -> list[str]:
+        """The modules with an alias that matches, each once, in the order of the aliases."""
+        begins = (word[:size] for size in self.sizes if size <= len(word))
+        tried = (alias for begin in begins for alias in self.patterns.get(begin, []))
+        found = self.words.get(word, set()).union(it for it in tried if self.matches(it.pattern, word))
+        return list(dict.fromkeys(it.name for it in sorted(found)))
+
+    def matches(self, pattern: str, word: str) -> bool:
+        # (of a kernel's modules next to none are tried)
+        self.effort += 50 + len(pattern) + len(word)
+        if self.effort > EFFORT:
+            raise Refusal("soft dependencies: too many aliases begin as they do")
+        try:
+            return fnmatchcase(word, pattern)
+        except re.error:
+            return False
 
 
 class Tree:
@@ -27,8 +70,9 @@ class Tree:
         for module in modules.values():
             for symbol in module.exports:
                 self.exporters.setdefault(symbol, module.name)
-        patterns = ((plain(it), module.name) for module in modules.values() for it in module.aliases)
-        self.aliases = [(re.split(r"[*?[\\]", it, maxsplit=1)[0], it, name) for it, name in patterns]
+        self.aliases = Aliases(it for it in modules.values() if not it.is_builtin)
+        self.builtin_aliases = Aliases(it for it in modules.values() if it.is_builtin)
+        self.targets: dict[str, list[str]] = {}
 
     def exports(self, module: Module) -> list[str]:
         """Its symbols but for those of which an earlier module is the exporter."""
@@ -41,11 +85,16 @@ class Tree:
     def found(self, item: str) -> list[str]:
         """The modules that a soft item stands for: the one of that name, else those with an alias that matches."""
         word = normal(item)
-        if word in self.modules:
+        if word not in self.targets:
+            self.targets[word] = self.look_up(word)
+        return self.targets[word]
+
+    def look_up(self, word: str) -> list[str]:
+        """As kmod does: modules that are built in come last."""
+        named = self.modules.get(word)
+        if named and not named.is_builtin:
             return [word]
-        # (most patterns begin otherwise, and that is soon seen)
-        matching = (name for begin, it, name in self.aliases if word.startswith(begin) and fnmatchcase(word, it))
-        return list(dict.fromkeys(matching))
+        return self.aliases.targets(word) or ([word] if named else self.builtin_aliases.targets(word))
 
     def soft_needs(self, module: Module, items: Iterable[str]) -> list[str]:
         """The modules that soft items of a module stand for, each once and without the module itself."""
@@ -66,9 +115,6 @@ class Tree:
 
 def selected(tree: Tree, names: list[str], form: Format) -> list[Module]:
     """The modules of these names and what they need; all modules where there are no names. A catalogue has to hold them."""
-    unknown = [it for it in names if normal(it) not in tree.modules]
-    if unknown:
-        raise Refusal(*(f"{it}: no module of this name" for it in unknown))
     found = tree.closure(map(normal, names)) if names else list(tree.modules.values())
     if len(found) > form.modules:
         advice = "name fewer" if names else "name those that are wanted"
@@ -102,10 +148,16 @@ def note_left_out(tree: Tree, module: Module, notes: Notes) -> None:
         notes.add("soft dependencies that go after their module", f"{module.name}: {item}")
 
 
-def lines_of(directive: str, words: list[str]) -> Iterator[str]:
+def lines_of(directive: str, words: Iterable[str]) -> Iterator[str]:
     """A directive with its words, on as many lines as they fill; none where there are no words."""
-    wrapped = textwrap.wrap(" ".join(words), WIDTH - len(directive) - 1, break_long_words=False, break_on_hyphens=False)
-    return (f"{directive} {it}" for it in wrapped)
+    line = directive
+    for word in words:
+        if line != directive and len(line) + 1 + len(word) > WIDTH:
+            yield line
+            line = directive
+        line = f"{line} {word}"
+    if line != directive:
+        yield line
 
 
 def description(tree: Tree, module: Module, form: Format, notes: Notes) -> Iterator[str]:
@@ -120,10 +172,21 @@ def description(tree: Tree, module: Module, form: Format, notes: Notes) -> Itera
         yield "permanent"
 
 
-def catalogue(tree: Tree, modules: list[Module], form: Format, notes: Notes) -> bytes:
-    """The text of a catalogue of these modules. What it cannot hold is noted."""
-    lines = [f"version {form.version}"]
+def catalogue(tree: Tree, modules: list[Module], form: Format, notes: Notes) -> Iterator[str]:
+    """The lines of a catalogue of these modules. What it cannot hold is noted."""
+    yield f"version {form.version}"
     for module in modules:
-        lines += description(tree, module, form, notes)
+        yield from description(tree, module, form, notes)
         note_left_out(tree, module, notes)
+
+
+def session(tree: Tree, modules: list[Module], form: Format, notes: Notes) -> Iterator[str]:
+    """The beginning of a session over these modules, in which those that are built in are live."""
+    yield "%catalogue"
+    yield from catalogue(tree, modules, form, notes)
+    yield "%session"
+    yield from (f"insmod {it.name}" for it in modules if it.is_builtin)
+
+
+def bytes_of(lines: Iterable[str]) -> bytes:
     return "".join(f"{it}\n" for it in lines).encode(*TEXT)

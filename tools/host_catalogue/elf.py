@@ -1,11 +1,17 @@
 """Relocatable ELF files: their sections, symbols and strings."""
 
+import re
 import struct
 from collections.abc import Iterator
 from dataclasses import dataclass
+from typing import Union
 
-# How names and strings are read and written, so that every byte stays as it is.
-TEXT = ("utf-8", "surrogateescape")
+from .report import TEXT
+
+# What is read of a file, at most. Modules of Linux have some hundred sections, thousands of symbols, 100 KiB of names.
+SECTIONS = 100_000
+SYMBOLS = 1_000_000
+LETTERS = 4 * 2**20
 
 
 class Unreadable(Exception):
@@ -34,6 +40,9 @@ WITHOUT_BYTES = (0, 8)
 ALLOCATED = 2
 NUMBER_ELSEWHERE = 0xFFFF
 DAMAGED = "damaged or cut short"
+TOO_MUCH = f"more than {LETTERS // 2**20} MiB of names and strings"
+PART = re.compile(rb"[^\0]+")
+Content = Union[bytes, bytearray]
 
 
 @dataclass(frozen=True)
@@ -47,6 +56,11 @@ class Section:
     size: int
     link: int
 
+    @property
+    def room(self) -> int:
+        """How many bytes of the file it takes."""
+        return 0 if self.kind in WITHOUT_BYTES else self.size
+
 
 @dataclass(frozen=True)
 class Symbol:
@@ -56,13 +70,38 @@ class Symbol:
     is_open: bool
 
 
-class Elf:
-    """A relocatable file of 32 or 64 bits, in either order of bytes, whose sections all lie in it."""
+class Names:
+    """A section of names, each with a zero byte after it. A name is known by where it begins."""
 
-    def __init__(self, content: bytes):
+    def __init__(self, content: Content, section: Section):
+        self.content = content
+        self.start = section.at
+        self.last = content.rfind(b"\0", section.at, section.at + section.room)
+
+    def begins(self, at: int, beginnings: tuple[bytes, ...]) -> bool:
+        """Whether a name begins in one of these ways. With a zero byte at its end a beginning is a whole name."""
+        if self.start + at > self.last:
+            raise Unreadable(DAMAGED)
+        return self.content.startswith(beginnings, self.start + at)
+
+    def name(self, at: int, longest: int) -> Content:
+        """The name, if it is no longer."""
+        begin = self.start + at
+        end = self.content.find(b"\0", begin, begin + longest + 1)
+        if end < 0:
+            raise Unreadable(TOO_MUCH)
+        return self.content[begin:end]
+
+
+class Elf:
+    """A relocatable file of 32 or 64 bits, in either order of bytes. Its sections all lie in it, and do not overlap."""
+
+    def __init__(self, content: Content):
         if content[:4] != b"\x7fELF":
             raise Unreadable("no ELF file")
         self.content = content
+        self.letters_left = LETTERS
+        self.names_in: dict[int, Names] = {}
         try:
             self.read_headers()
         except (struct.error, IndexError) as cause:
@@ -80,44 +119,64 @@ class Elf:
         # (numbers too large for the header stand in the first section's)
         first = Section(*form.unpack(self.content[at : at + size]))
         count = count or first.size
-        headers = self.content[at : at + count * size]
-        self.sections = [Section(*it) for it in form.iter_unpack(headers)]
-        if len(self.sections) != count or not all(map(self.holds, self.sections)):
+        if at + count * size > len(self.content):
             raise Unreadable(DAMAGED)
-        self.names = self.bytes_of(self.sections[first.link if names == NUMBER_ELSEWHERE else names])
+        self.sections = self.sections_of(form.iter_unpack(self.content[at : at + at_most(count, SECTIONS, "sections") * size]))
+        self.names = self.names_of(first.link if names == NUMBER_ELSEWHERE else names)
 
-    def holds(self, section: Section) -> bool:
-        """Whether the section lies in the file."""
-        return section.kind in WITHOUT_BYTES or section.at + section.size <= len(self.content)
+    def sections_of(self, headers: Iterator[tuple[int, ...]]) -> list[Section]:
+        """The sections, which lie in the file and together take no more bytes than it has."""
+        sections = [Section(*it) for it in headers]
+        if any(it.at + it.room > len(self.content) for it in sections if it.room):
+            raise Unreadable(DAMAGED)
+        if sum(it.room for it in sections) > len(self.content):
+            raise Unreadable("sections that overlap")
+        return sections
 
-    def bytes_of(self, section: Section) -> bytes:
-        return b"" if section.kind in WITHOUT_BYTES else self.content[section.at : section.at + section.size]
+    def names_of(self, number: int) -> Names:
+        """The names in a section."""
+        if number not in self.names_in:
+            self.names_in[number] = Names(self.content, self.sections[number])
+        return self.names_in[number]
 
-    def strings(self, name: str) -> list[str]:
+    def read(self, letters: Content) -> str:
+        """A text of these bytes. All that are read of a file are counted."""
+        self.letters_left -= len(letters) + 1
+        if self.letters_left < 0:
+            raise Unreadable(TOO_MUCH)
+        return letters.decode(*TEXT)
+
+    def strings(self, name: str) -> Iterator[str]:
         """The strings of the sections of this name, without empty ones."""
-        found = (self.bytes_of(it) for it in self.sections if text_at(self.names, it.name_at) == name)
-        return [part.decode(*TEXT) for it in found for part in it.split(b"\0") if part]
+        whole = (name.encode() + b"\0",)
+        found = [it for it in self.sections if self.names.begins(it.name_at, whole)]
+        if sum(it.room for it in found) > LETTERS:
+            raise Unreadable(TOO_MUCH)
+        for section in found:
+            for part in PART.finditer(self.content, section.at, section.at + section.room):
+                yield self.read(part.group())
 
-    def symbols(self) -> Iterator[Symbol]:
-        """The symbols that have names, in the order of the file."""
-        for table in self.sections:
-            if table.kind != SYMBOL_TABLE:
-                continue
+    def symbols(self, beginnings: tuple[bytes, ...]) -> Iterator[Symbol]:
+        """The open symbols that have names, and the others whose names begin so, in the order of the file."""
+        tables = [it for it in self.sections if it.kind == SYMBOL_TABLE]
+        at_most(sum(it.size // self.symbol_form.size for it in tables), SYMBOLS, "symbols")
+        for table in tables:
             try:
-                names = self.bytes_of(self.sections[table.link])
-                pairs = self.symbol_form.iter_unpack(self.bytes_of(table))
+                names = self.names_of(table.link)
+                pairs = self.symbol_form.iter_unpack(memoryview(self.content)[table.at : table.at + table.size])
             except (struct.error, IndexError) as cause:
                 raise Unreadable(DAMAGED) from cause
-            yield from (Symbol(text_at(names, at), section == 0) for at, section in pairs if at)
+            for at, section in pairs:
+                if at and (names.begins(at, beginnings) or section == 0):
+                    yield Symbol(self.read(names.name(at, self.letters_left)), section == 0)
 
     def loaded_size(self) -> int:
         """The sum of the sections that are loaded."""
         return sum(it.size for it in self.sections if it.flags & ALLOCATED)
 
 
-def text_at(names: bytes, at: int) -> str:
-    """The string that begins at a place."""
-    end = names.find(b"\0", at)
-    if end < 0:
-        raise Unreadable(DAMAGED)
-    return names[at:end].decode(*TEXT)
+def at_most(count: int, limit: int, what: str) -> int:
+    """The count, where it is within the limit."""
+    if count > limit:
+        raise Unreadable(f"{count} {what}, and at most {limit} are read")
+    return count

@@ -5,6 +5,8 @@ from dataclasses import dataclass
 
 
 SIZES = 2**32 - 1
+# The bytes of a symbol or of another word, at most: every reader takes a line of that length.
+LONGEST = 1000
 
 
 @dataclass(frozen=True)
@@ -32,8 +34,8 @@ def is_name(name: str) -> bool:
 
 
 def is_symbol(symbol: str) -> bool:
-    """Whether it can be a word of a line, of a length that every reader takes."""
-    return re.fullmatch(r"[^\x00-\x20\x7f]{1,1000}", symbol) is not None
+    """Whether it can be a word of a line."""
+    return re.fullmatch(rf"[^\x00-\x20\x7f]{{1,{LONGEST}}}", symbol) is not None
 
 
 def normal(name: str) -> str:
