@@ -16,12 +16,12 @@ use Rattle.std.proofs.lemmas.List.Sorted.{Contains-permutation, IsPermutation-sy
 use Rattle.alias_match.specs.declared.alias.Alias.{Alias}
 use Rattle.alias_match.specs.Pattern.{is_match}
 use Rattle.alias_match.specs.Marks.{HasMark, IsMarkOf, mark}
-use Rattle.alias_match.specs.Aliases.{matching}
+use Rattle.alias_match.specs.Aliases.{matching, matching_places}
 use Rattle.alias_match.specs.ForProofs.{KeepsEach, is_match_at, is_some_match, matches_below, matches_under, places_of}
 use Rattle.alias_match.proofs.Deciding.{match_yes}
 use Rattle.alias_match.proofs.Members.{told, nothing_in, kept_by_filter, passes_filter}
 use Rattle.alias_match.proofs.Walked.{has_place}
-use Rattle.alias_match.proofs.Rising.{rising_matches}
+use Rattle.alias_match.proofs.Rising.{rising_matches, rising_places}
 
 less_of : (n k : ℕ) → suc n ≤ suc k → nat_eq n k ≡ false → suc n ≤ k
 less_of n k le apart = omega (arith, other)
@@ -105,3 +105,8 @@ pub matching_found : (result : Result (Vec (Bor Alias) Global) AllocError) (entr
 matching_found (Err e) entries aliases text places at h same here rising each = tt
 matching_found (Ok found) entries aliases text places at h same here rising each =
     h ∙ ap (λ l. filter_map (slice_get l) at) same ∙ ap (filter_map (slice_get aliases)) here ∙ rising_matches aliases text places rising each
+
+-- the places of matches
+pub places_found : (result : Result (Vec ℕ Global) AllocError) (aliases : List Alias) (text : List ℕ) → IfOk result (λ places. IsStrictlyIncreasing places.items) → IfOk result (λ places. (i : ℕ) → Contains places.items i ↔ (is_match_at aliases text i ≡ true)) → IfOk result (λ places. places.items ≡ matching_places aliases text)
+places_found (Err e) aliases text rising each = tt
+places_found (Ok places) aliases text rising each = rising_places aliases text places.items rising each

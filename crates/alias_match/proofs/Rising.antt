@@ -6,7 +6,7 @@ use Rattle.std.specs.List.Sorted.{IsStrictlyIncreasing}
 use Rattle.std.proofs.lemmas.List.Kept.{AllPairs-from_increasing}
 use Rattle.alias_match.specs.declared.alias.Alias.{Alias}
 use Rattle.alias_match.specs.Pattern.{is_match}
-use Rattle.alias_match.specs.Aliases.{matching}
+use Rattle.alias_match.specs.Aliases.{matching, matching_places, places_where}
 use Rattle.alias_match.specs.ForProofs.{is_match_at}
 use Rattle.alias_match.proofs.Members.{told, nothing_in, is_first, is_later, first_or_later}
 
@@ -76,8 +76,7 @@ Rising-same low (x ∷ xs) (y ∷ ys) h k sub sup =
 
 -- the places of the aliases that match, from a number on
 abbrev matches_from : ℕ → List Alias → List ℕ → List ℕ
-matches_from k [] text = []
-matches_from k (alias ∷ later) text = cond (is_match alias.pattern text) (k ∷ matches_from (suc k) later text) (matches_from (suc k) later text)
+matches_from k aliases text = places_where (λ alias. is_match alias.pattern text) k aliases
 
 matches-Rising : (k : ℕ) (aliases : List Alias) (text : List ℕ) → Rising k (matches_from k aliases text)
 matches-Rising k [] text = tt
@@ -119,10 +118,15 @@ taken all k (alias ∷ later) text h =
       | inr t ↦ rw t (taken all (suc k) later text behind)
     ]
 
-pub rising_matches : (aliases : List Alias) (text places : List ℕ) → IsStrictlyIncreasing places → ((i : ℕ) → Contains places i ↔ (is_match_at aliases text i ≡ true)) → filter_map (slice_get aliases) places ≡ matching aliases text
-rising_matches aliases text places rising each =
-    let one : places ≡ matches_from 0 aliases text = Rising-same 0 places (matches_from 0 aliases text) (Rising-increasing places rising) (matches-Rising 0 aliases text)
+-- rising places of each match are the places of the matches
+pub rising_places : (aliases : List Alias) (text places : List ℕ) → IsStrictlyIncreasing places → ((i : ℕ) → Contains places i ↔ (is_match_at aliases text i ≡ true)) → places ≡ matching_places aliases text
+rising_places aliases text places rising each =
+    Rising-same 0 places (matches_from 0 aliases text) (Rising-increasing places rising) (matches-Rising 0 aliases text)
     (λ x m. has_match 0 aliases text x x (omega arith) ((each x).0 m))
     (λ x m. let r : (i : ℕ) × (x ≡ i + 0) × (is_match_at aliases text i ≡ true) = of_match 0 aliases text x m in
-    let e : r.0 ≡ x = omega (arith, r.1) in (each x).1 (subst (λ z. is_match_at aliases text z ≡ true) e r.2)) in
-    ap (filter_map (slice_get aliases)) one ∙ taken aliases 0 aliases text (λ i. ap (slice_get aliases) (omega arith))
+    let e : r.0 ≡ x = omega (arith, r.1) in (each x).1 (subst (λ z. is_match_at aliases text z ≡ true) e r.2))
+
+pub rising_matches : (aliases : List Alias) (text places : List ℕ) → IsStrictlyIncreasing places → ((i : ℕ) → Contains places i ↔ (is_match_at aliases text i ≡ true)) → filter_map (slice_get aliases) places ≡ matching aliases text
+rising_matches aliases text places rising each =
+    ap (filter_map (slice_get aliases)) (rising_places aliases text places rising each)
+    ∙ taken aliases 0 aliases text (λ i. ap (slice_get aliases) (omega arith))

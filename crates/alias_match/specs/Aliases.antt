@@ -1,5 +1,5 @@
 -- Which aliases a modules.alias text has: its lines `alias PATTERN TARGET`, as in modprobe.d(5).
-use Rattle.std.specs.Prelude.{ℕ, if◌then◌else◌, List, [], ◌∷◌, codes, filter, Option, Some, None, option_map}
+use Rattle.std.specs.Prelude.{ℕ, suc, Bool, if◌then◌else◌, List, [], ◌∷◌, codes, filter, Option, Some, None, option_map}
 use Rattle.std.specs.Result.{result_ok}
 use Rattle.std.specs.List.{enumerate_from}
 use Rattle.std.specs.Str.{bytes_eq}
@@ -52,3 +52,13 @@ aliases_of text = entries_of alias_of (enumerate_from 1 (lines text))
 -- the aliases whose pattern matches a text, in their order
 abbrev pub matching : List Alias → List ℕ → List Alias
 matching aliases text = filter (λ alias. is_match alias.pattern text) aliases
+
+-- the places of what passes, where the list begins at a place
+abbrev pub places_where : {X : Type 0} → (X → Bool) → ℕ → List X → List ℕ
+places_where passes place [] = []
+places_where passes place (x ∷ xs) =
+    if passes x then place ∷ places_where passes (suc place) xs else places_where passes (suc place) xs
+
+-- the places of the aliases whose pattern matches a text, from 0, in rising order
+abbrev pub matching_places : List Alias → List ℕ → List ℕ
+matching_places aliases text = places_where (λ alias. is_match alias.pattern text) 0 aliases

@@ -3,7 +3,7 @@ ghost use Rattle.std.specs.Prelude.{◌≡◌, ◌<◌, ◌↔◌, ℕ, suc, ◌
 ghost use Rattle.std.specs.Prelude.{IfOk, OnOk, OnErr, Some, None, nat_le, if◌then◌else◌, option_copied};
 ghost use Rattle.std.specs.List.{filter_map};
 ghost use Rattle.std.specs.List.Sorted.{IsStrictlyIncreasing};
-ghost use Rattle.alias_match.specs.Aliases.{matching};
+ghost use Rattle.alias_match.specs.Aliases.{matching, matching_places};
 ghost use Rattle.alias_match.specs.ForProofs.{is_match_at, matches_below, matches_under, places_of};
 
 use crate::alias::Alias;
@@ -180,6 +180,13 @@ impl AliasList {
         places.sort_unstable();
         places.dedup();
         Ok(places)
+    }
+
+    /// The places, from 0, of the aliases whose patterns match the text, in rising order. Only want of memory refuses.
+    pub fn matching_places(&self, alloc: Global, text: &[u8]) -> Result<Vec<usize>, AllocError>
+        ensures { IfOk result (λ places. places.items ≡ matching_places self.now text.now) }
+    {
+        self.places_of_matches(alloc, text)
     }
 
     /// The aliases whose patterns match the text, in the order of the lines. Only want of memory refuses.
