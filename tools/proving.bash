@@ -1,0 +1,59 @@
+# What tools/install and tools/libgourzhiel share. They set tool to their name, top to the repository and room to a folder.
+
+refuse() {
+  echo "$tool: $*" >&2
+  exit 1
+}
+
+# Ends where PREFIX could not be made or written. It is asked first, since a proof takes long.
+check_writable() {
+  local place=$1 probe
+  while [ ! -e "$place" ]; do place=$(dirname "$place"); done
+  [ -d "$place" ] || refuse "$place: no folder"
+  probe=$(mktemp "$place/.install-XXXXXX" 2>/dev/null) || refuse "$place: cannot be written"
+  rm "$probe"
+}
+
+check_toolchain() {
+  command -v rt >/dev/null || refuse "rt is not on the path: put the toolchain's folder bin there"
+}
+
+# Writes the names of these crates and of all below them, lowest first, as crates.txt has them.
+with_those_below() {
+  awk -F: -v wanted="$*" '
+    BEGIN { count = split(wanted, names, " "); while (count) is_wanted[names[count--]] }
+    /^[a-z]/ { split($1, head, " "); crates[++last] = head[1]; below[last] = $2 }
+    END {
+      for (at = last; at; at--)
+        if (crates[at] in is_wanted) { count = split(below[at], names, " "); while (count) is_wanted[names[count--]] }
+      for (at = 1; at <= last; at++) if (crates[at] in is_wanted) print crates[at]
+    }' "$top/crates.txt"
+}
+
+# Proves a crate and builds it: a program stays in out/ once it has run, a library for those above it.
+prove() {
+  local crate=$1 status=0 words=(lib) arguments=()
+  if [ -e "$top/crates/$crate/src/main.rt" ]; then words=(run) arguments=(-- --help); fi
+  (cd "$top/crates/$crate" && rt "${words[@]}" ${RT_JOBS:+--jobs "$RT_JOBS"} "${arguments[@]}") >"$room/said" 2>&1 </dev/null || status=$?
+  [ $status = 0 ] && return
+  cat "$room/said" >&2
+  # rt says 1 of what is not proved. From 129 on a signal has ended it, or the prover below it.
+  case $status in
+  1) refuse "$crate is not proved, or does not build: nothing was installed" ;;
+  129 | 1[3-9]? | 2??) refuse "the proof of $crate was killed, most likely for memory, which says nothing of $crate:" \
+    "free some, or set RT_JOBS=1, and run this again; nothing was installed" ;;
+  *) refuse "the prover stopped with status $status and gave no verdict on $crate: nothing was installed" ;;
+  esac
+}
+
+# Proves these crates and all below them, with a line for each.
+prove_with_those_below() {
+  local crates crate number=0
+  mapfile -t crates < <(with_those_below "$@")
+  for crate in "${crates[@]}"; do
+    number=$((number + 1))
+    echo "crate $number of ${#crates[@]}: $crate" >&2
+    prove "$crate"
+  done
+  grep -oE '^logic=[a-z-]+' "$room/said" >&2 || true
+}
