@@ -54,6 +54,7 @@ prove_with_those_below() {
     number=$((number + 1))
     echo "crate $number of ${#crates[@]}: $crate" >&2
     prove "$crate"
+    # (rt says nothing of a crate that was proved before)
+    case " $* " in *" $crate "*) grep -oE '^logic=[a-z-]+' "$room/said" >&2 || true ;; esac
   done
-  grep -oE '^logic=[a-z-]+' "$room/said" >&2 || true
 }

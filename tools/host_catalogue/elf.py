@@ -121,7 +121,8 @@ class Elf:
         count = count or first.size
         if at + count * size > len(self.content):
             raise Unreadable(DAMAGED)
-        self.sections = self.sections_of(form.iter_unpack(self.content[at : at + at_most(count, SECTIONS, "sections") * size]))
+        end = at + at_most(count, SECTIONS, "sections") * size
+        self.sections = self.sections_of(form.iter_unpack(self.content[at:end]))
         self.names = self.names_of(first.link if names == NUMBER_ELSEWHERE else names)
 
     def sections_of(self, headers: Iterator[tuple[int, ...]]) -> list[Section]:

@@ -4,7 +4,7 @@ import errno
 import os
 import re
 import shutil
-from collections.abc import Iterable, Iterator
+from collections.abc import Iterator
 from dataclasses import dataclass, field
 from pathlib import Path
 
@@ -41,10 +41,10 @@ class Reading:
     faults: list[Fault] = field(default_factory=list)
 
 
-def lines_of(faults: Iterable[Fault]) -> list[str]:
+def lines_of(faults: list[Fault]) -> list[str]:
     """A line for each fault, but one alone for all files that want zstd."""
-    others = [it for it in faults if it.why == NO_ZSTD][1:]
-    return [str(it) for it in faults if it not in others]
+    first = next((it for it in faults if it.why == NO_ZSTD), None)
+    return [str(it) for it in faults if it.why != NO_ZSTD or it is first]
 
 
 def names_in(folder: Path) -> list[str]:
@@ -91,7 +91,7 @@ def files_below(folder: Path, faults: list[Fault]) -> Iterator[Path]:
             faults.append(Fault(Path(place), cause.strerror or str(cause)))
             continue
         left += [it.path for it in entries if is_folder(it, is_followed=False)]
-        files = (it for it in entries if re.search(r"\.ko(\.gz|\.xz|\.zst)?$", it.name))
+        files = (it for it in entries if re.search(r"\.ko(\.gz|\.xz|\.zst)?\Z", it.name))
         yield from (Path(it.path) for it in files if not is_folder(it, is_followed=True))
 
 

@@ -14,8 +14,9 @@ from .elf import Unreadable
 from .report import TEXT
 
 MEBIBYTE = 2**20
+# The second bounds the time: a file may have a stream or a block every dozen bytes.
 UNPACKED = 256 * MEBIBYTE
-PACKED = 64 * MEBIBYTE
+PACKED = 48 * MEBIBYTE
 TEXTS = 16 * MEBIBYTE
 # What xz takes beside what it unpacks. Modules want some MiB, and `xz -9` 65.
 MEMORY_OF_XZ = 128 * MEBIBYTE
