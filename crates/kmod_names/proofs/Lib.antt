@@ -1,0 +1,4 @@
+pub mod NameLemmas
+pub mod PlaceLemmas
+pub mod PatternLemmas
+pub mod TableLemmas

@@ -1,0 +1,3 @@
+pub mod Names
+pub mod Patterns
+pub mod Aliases

@@ -1,0 +1,14 @@
+//! Names, aliases and patterns, as kmod reads and compares them.
+#![tactic(auto)]
+
+mod alias_table;
+mod names;
+mod pattern_list;
+mod place;
+mod text;
+
+pub use alias_table::{AliasEntry, AliasTable};
+pub use names::{name_of_path, normal_alias};
+pub use pattern_list::{PatternList, matches_pattern};
+pub use place::Place;
+pub use text::Text;

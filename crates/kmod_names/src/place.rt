@@ -1,0 +1,8 @@
+//! Where something was read.
+
+/// The place of a line: which source of a list of sources it is in, from 0, and the number of its first line, from 1.
+#[derive(Clone, Copy, Debug, PartialEq, Eq)]
+pub struct Place {
+    pub source: usize,
+    pub line: usize,
+}
