@@ -1,0 +1,2 @@
+pub mod FirstLemmas
+pub mod EntryLemmas

@@ -1,0 +1,4 @@
+pub mod Lines
+pub mod Configuration
+pub mod CommandLine
+pub mod LookUps

@@ -1,0 +1,73 @@
+-- The lines of a configuration text, and their parts, after modprobe.d(5) and libkmod.
+use Rattle.std.specs.Prelude.{ℕ, ◌+◌, nat_le, Bool, false, true, if◌then◌else◌, ◌==◌, ◌&&◌, ◌||◌, List, [], ◌∷◌, ◌++◌, codes, map}
+use Rattle.std.specs.List.{after_first, before_first}
+use Rattle.std.specs.Str.{bytes_eq}
+use Rattle.text_parts.specs.Text.{is_blank, words}
+
+-- white space, as isspace(3) has it in the C locale
+abbrev pub is_space : ℕ → Bool
+is_space byte = byte == 32 || nat_le 9 byte && nat_le byte 13
+
+-- a begun line that has bytes, at the end of the text
+abbrev pub last_line : ℕ → List ℕ → List (ℕ × List ℕ)
+last_line first [] = []
+last_line first (byte ∷ front) = (first, byte ∷ front) ∷ []
+
+-- The lines of a text behind a begun one, each with the number of its first line, from the number `here` of the line
+-- that is read. A backslash before a line's end joins two lines, and before another byte it is dropped; one that ends
+-- the text stands for the byte 255.
+abbrev pub lines_from : ℕ → ℕ → List ℕ → Bool → List ℕ → List (ℕ × List ℕ)
+lines_from first here front is_escaped [] = last_line first (if is_escaped then front ++ 255 ∷ [] else front)
+lines_from first here front true (byte ∷ rest) =
+    if byte == 10 then lines_from first (here + 1) front false rest else lines_from first here (front ++ byte ∷ []) false rest
+lines_from first here front false (byte ∷ rest) =
+    if byte == 10 then (first, front) ∷ lines_from (here + 1) (here + 1) [] false rest
+    else (if byte == 92 then lines_from first here front true rest else lines_from first here (front ++ byte ∷ []) false rest)
+
+-- the lines of a text whose first line has a number
+abbrev pub lines_at : ℕ → List ℕ → List (ℕ × List ℕ)
+lines_at number text = lines_from number number [] false text
+
+abbrev pub wrapped_lines : List ℕ → List (ℕ × List ℕ)
+wrapped_lines text = lines_at 1 text
+
+-- what stands before the first NUL
+abbrev pub line_text : List ℕ → List ℕ
+line_text line = before_first (λ byte. byte == 0) line
+
+abbrev pub skip_blanks : List ℕ → List ℕ
+skip_blanks [] = []
+skip_blanks (byte ∷ rest) = if is_blank byte then skip_blanks rest else byte ∷ rest
+
+-- the first word of a text; none is empty
+abbrev pub word_of : List ℕ → List ℕ
+word_of text = before_first is_blank (skip_blanks text)
+
+-- what stands behind the blank that ends the first word
+abbrev pub rest_of : List ℕ → List ℕ
+rest_of text = after_first is_blank (skip_blanks text)
+
+-- what a softdep line names before and after its name
+pub record SoftWords : Type 0 where
+  pub pre : List (List ℕ)
+  pub post : List (List ℕ)
+
+-- a blank for white space
+abbrev pub as_blank : ℕ → ℕ
+as_blank byte = if is_space byte then 32 else byte
+
+-- the words behind one mark, up to the other
+abbrev pub words_behind : List ℕ → List ℕ → Bool → List (List ℕ) → List (List ℕ)
+words_behind mark other within [] = []
+words_behind mark other within (w ∷ ws) =
+    if bytes_eq w mark then words_behind mark other true ws
+    else (if bytes_eq w other then words_behind mark other false ws
+    else (if within then w ∷ words_behind mark other within ws else words_behind mark other within ws))
+
+-- the words, between white space, behind `pre:` and behind `post:`
+abbrev pub soft_words : List ℕ → SoftWords
+soft_words text =
+    record {
+      pre = words_behind (codes "pre:") (codes "post:") false (words (map as_blank text));
+      post = words_behind (codes "post:") (codes "pre:") false (words (map as_blank text));
+    }

@@ -1,0 +1,309 @@
+//! A whole configuration.
+ghost use Rattle.std.specs.Prelude.{◌≡◌, ◌∷◌, ◌++◌, [], map, option_map, option_copied, IfOk, OnOk};
+ghost use Rattle.kmod_conf.specs.Configuration.{conf_with_text, no_lines, with_entry};
+ghost use Rattle.kmod_conf.specs.CommandLine.{blacklist_from, conf_with_command_line, options_said, parameter_said, with_entries, word_said};
+ghost use Rattle.kmod_conf.specs.LookUps.{has_install_named, has_remove_named, install_of, is_blacklisted, matching_aliases};
+ghost use Rattle.kmod_conf.specs.LookUps.{options_of, remove_of, softdep_of};
+ghost use Rattle.kmod_conf.specs.declared.entry.Entry.TheVariants.{Blacklist};
+ghost use Rattle.kmod_names.specs.Names.{normal_alias};
+
+use crate::bytes::{byte_at, is_space};
+use crate::command_line::{
+    blacklist_names, counted, cut_parameter, is_blacklist, is_parameter, unquoted, with_quote,
+};
+use crate::command_list::CommandList;
+use crate::entry::{Entry, without_tabs};
+use crate::line::{NameLine, SoftdepLine, TextLine};
+use crate::look_up::{is_named, options_in};
+use crate::softdep_list::SoftdepList;
+use crate::wrapped_lines::WrappedLines;
+use kmod_names::{AliasEntry, AliasTable, Place, Text, normal_alias};
+use std::alloc::{AllocError, Global};
+use std::marker::Model;
+
+/// A configuration: the lines of each kind in the order of the texts that were added. Names are compared as they
+/// stand, so give them in normal form.
+#[derive(Drop)]
+pub struct Conf {
+    aliases: AliasTable,
+    blacklist: Vec<NameLine>,
+    options: Vec<TextLine>,
+    installs: CommandList,
+    removes: CommandList,
+    softdeps: SoftdepList,
+    bad: Vec<NameLine>,
+}
+
+impl Model for Conf {
+    ghost use Rattle.kmod_conf.specs.Configuration.{Configuration};
+
+    ghost Value = { Configuration };
+
+    ghost view = { λ c. record {
+      aliases = c.aliases;
+      blacklist = c.blacklist.items;
+      options = c.options.items;
+      installs = c.installs;
+      removes = c.removes;
+      softdeps = c.softdeps;
+      bad = c.bad.items;
+    } };
+}
+
+impl Conf {
+    /// A configuration without lines.
+    pub fn new(alloc: Global) -> Conf
+        ensures { result ≡ no_lines }
+    {
+        Conf {
+            aliases: AliasTable::new(alloc),
+            blacklist: Vec::new(alloc),
+            options: Vec::new(alloc),
+            installs: CommandList::new(alloc),
+            removes: CommandList::new(alloc),
+            softdeps: SoftdepList::new(alloc),
+            bad: Vec::new(alloc),
+        }
+    }
+
+    fn add_entry(&mut self, alloc: Global, entry: Entry) -> Result<(), AllocError>
+        ensures { OnOk result (self.new ≡ with_entry self.old entry) }
+    {
+        match entry {
+            Entry::Alias(line) => self.aliases.push(alloc, line)?,
+            Entry::Blacklist(line) => self.blacklist.push(line)?,
+            Entry::Options(line) => self.options.push(line)?,
+            Entry::Install(line) => self.installs.push(alloc, line)?,
+            Entry::Remove(line) => self.removes.push(alloc, line)?,
+            Entry::Softdep(line) => self.softdeps.push(alloc, line)?,
+            Entry::Bad(line) => self.bad.push(line)?,
+        }
+        Ok(())
+    }
+
+    /// Adds what the lines of a text of modprobe.d say (modprobe.d(5)), behind what is there; `source` is kept in
+    /// their places. Only want of memory refuses, and then some of the lines may be there.
+    pub fn add_text(&mut self, alloc: Global, source: usize, text: &[u8]) -> Result<(), AllocError>
+        ensures { OnOk result (self.new ≡ conf_with_text self.old source text.now) }
+    {
+        let mut lines = WrappedLines::new(text);
+        let mut line = Vec::new(alloc);
+        'lines: while let Some(number) = lines.next_line(&mut line)? {
+            let place = Place {
+                source,
+                line: number,
+            };
+            if let Some(entry) = Entry::read(alloc, &line, place)? {
+                self.add_entry(alloc, entry)?;
+            }
+        }
+        Ok(())
+    }
+
+    fn add_blacklisted(
+        &mut self,
+        name: &[u8],
+        alloc: Global,
+        place: Place,
+    ) -> Result<(), AllocError>
+        ensures { OnOk result (self.new ≡ with_entry self.old (Blacklist (record { name = name.now; place = place }))) }
+    {
+        let name = Text::new(alloc, name)?;
+        self.blacklist.push(NameLine { name, place })?;
+        Ok(())
+    }
+
+    /// Adds the names between commas to the blacklist.
+    fn add_blacklist(&mut self, alloc: Global, names: &[u8], place: Place) -> Result<(), AllocError>
+        ensures { OnOk result (self.new ≡ with_entries self.old (blacklist_from place [] names.now)) }
+    {
+        let mut name = Vec::new(alloc);
+        let mut rest = names;
+        while let Some((byte, later)) = rest.split_first() {
+            if *byte == b',' {
+                self.add_blacklisted(&name, alloc, place)?;
+                name.clear();
+            } else {
+                name.push(*byte)?;
+            }
+            rest = later;
+        }
+        self.add_blacklisted(&name, alloc, place)
+    }
+
+    fn add_options(
+        &mut self,
+        alloc: Global,
+        name: &[u8],
+        parameter: &[u8],
+        place: Place,
+    ) -> Result<(), AllocError>
+        ensures { OnOk result (self.new ≡ with_entries self.old (options_said place (normal_alias name.now) parameter.now)) }
+    {
+        let Some(name) = normal_alias(alloc, name)? else {
+            return Ok(());
+        };
+        let text = without_tabs(alloc, parameter)?;
+        self.options.push(TextLine { name, text, place })?;
+        Ok(())
+    }
+
+    /// Adds what a word of the command line says.
+    fn add_word(&mut self, alloc: Global, word: &[u8], place: Place) -> Result<(), AllocError>
+        ensures { OnOk result (self.new ≡ with_entries self.old (word_said place word.now)) }
+    {
+        let is_quoted = byte_at(word, 0) == b'"';
+        let Some((name, parameter)) = cut_parameter(unquoted(word)) else {
+            return Ok(());
+        };
+        if !is_parameter(parameter) {
+            return Ok(());
+        }
+        let parameter = with_quote(alloc, is_quoted, parameter)?;
+        if is_blacklist(name, parameter.as_bytes()) {
+            return self.add_blacklist(alloc, blacklist_names(parameter.as_bytes()), place);
+        }
+        self.add_options(alloc, name, parameter.as_bytes(), place)
+    }
+
+    /// Adds what the kernel's command line says, the text of /proc/cmdline, behind what is there; `source` is kept in
+    /// the places. Only want of memory refuses, and then some of it may be there.
+    pub fn add_command_line(
+        &mut self,
+        alloc: Global,
+        source: usize,
+        text: &[u8],
+    ) -> Result<(), AllocError>
+        ensures { OnOk result (self.new ≡ conf_with_command_line self.old source text.now) }
+    {
+        let place = Place { source, line: 1 };
+        let mut word = Vec::new(alloc);
+        let mut is_quoted = false;
+        let mut rest = counted(text);
+        while let Some((byte, later)) = rest.split_first() {
+            if is_space(*byte) && !is_quoted {
+                self.add_word(alloc, &word, place)?;
+                word.clear();
+            } else {
+                is_quoted = is_quoted != (*byte == b'"');
+                word.push(*byte)?;
+            }
+            rest = later;
+        }
+        if is_quoted {
+            return Ok(());
+        }
+        self.add_word(alloc, &word, place)
+    }
+
+    /// The alias lines, patterns and names in normal form.
+    pub fn aliases(&self) -> &[AliasEntry]
+        ensures { result.now ≡ self.now.aliases }
+    {
+        self.aliases.entries()
+    }
+
+    pub fn blacklist(&self) -> &[NameLine]
+        ensures { result.now ≡ self.now.blacklist }
+    {
+        &self.blacklist
+    }
+
+    pub fn options(&self) -> &[TextLine]
+        ensures { result.now ≡ self.now.options }
+    {
+        &self.options
+    }
+
+    pub fn installs(&self) -> &[TextLine]
+        ensures { result.now ≡ self.now.installs }
+    {
+        self.installs.lines()
+    }
+
+    pub fn removes(&self) -> &[TextLine]
+        ensures { result.now ≡ self.now.removes }
+    {
+        self.removes.lines()
+    }
+
+    pub fn softdeps(&self) -> &[SoftdepLine]
+        ensures { result.now ≡ self.now.softdeps }
+    {
+        self.softdeps.lines()
+    }
+
+    /// The lines that say nothing, each with its first word.
+    pub fn bad(&self) -> &[NameLine]
+        ensures { result.now ≡ self.now.bad }
+    {
+        &self.bad
+    }
+
+    /// The aliases whose pattern the name matches, in order. Only want of memory refuses.
+    pub fn matching_aliases(
+        &self,
+        alloc: Global,
+        name: &[u8],
+    ) -> Result<Vec<&AliasEntry>, AllocError>
+        ensures { IfOk result (λ found. map (λ entry. entry.now) found.items ≡ matching_aliases self.now name.now) }
+    {
+        self.aliases.matching(alloc, name)
+    }
+
+    /// The first softdep line whose name, as a pattern, the module matches. Only want of memory refuses.
+    pub fn softdep_of(&self, alloc: Global, name: &[u8]) -> Result<Option<&SoftdepLine>, AllocError>
+        ensures { IfOk result (λ line. option_copied line ≡ softdep_of self.now name.now) }
+    {
+        self.softdeps.first(alloc, name)
+    }
+
+    /// The first install line whose name, as a pattern, the module matches. Only want of memory refuses.
+    pub fn install_of(&self, alloc: Global, name: &[u8]) -> Result<Option<&TextLine>, AllocError>
+        ensures { IfOk result (λ line. option_copied line ≡ install_of self.now name.now) }
+    {
+        self.installs.first(alloc, name)
+    }
+
+    /// The first remove line whose name, as a pattern, the module matches. Only want of memory refuses.
+    pub fn remove_of(&self, alloc: Global, name: &[u8]) -> Result<Option<&TextLine>, AllocError>
+        ensures { IfOk result (λ line. option_copied line ≡ remove_of self.now name.now) }
+    {
+        self.removes.first(alloc, name)
+    }
+
+    /// The options lines with text, in order, whose name is the module's or that of the alias by which it came. Only
+    /// want of memory refuses.
+    pub fn options_of(
+        &self,
+        alloc: Global,
+        name: &[u8],
+        alias: Option<&[u8]>,
+    ) -> Result<Vec<&TextLine>, AllocError>
+        ensures { IfOk result (λ found. map (λ line. line.now) found.items
+            ≡ options_of self.now name.now (option_map (λ own. own.now) alias.entry)) }
+    {
+        options_in(alloc, &self.options, name, alias)
+    }
+
+    /// Whether a blacklist line has just this name.
+    pub fn is_blacklisted(&self, name: &[u8]) -> bool
+        ensures { result ≡ is_blacklisted self.now name.now }
+    {
+        is_named(&self.blacklist, name)
+    }
+
+    /// Whether an install line has just this name.
+    pub fn has_install_named(&self, name: &[u8]) -> bool
+        ensures { result ≡ has_install_named self.now name.now }
+    {
+        self.installs.has_named(name)
+    }
+
+    /// Whether a remove line has just this name.
+    pub fn has_remove_named(&self, name: &[u8]) -> bool
+        ensures { result ≡ has_remove_named self.now name.now }
+    {
+        self.removes.has_named(name)
+    }
+}

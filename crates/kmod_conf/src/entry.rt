@@ -1,0 +1,204 @@
+//! What one line says.
+ghost use Rattle.std.specs.Prelude.{◌≡◌, map, IfOk};
+ghost use Rattle.kmod_conf.specs.Configuration.{alias_entry, blacklist_entry, command_entry, install_entry, known_entry, line_entry};
+ghost use Rattle.kmod_conf.specs.Configuration.{name_of_word, options_entry, remove_entry, softdep_entry, text_line, untabbed};
+
+use crate::bytes::{cut_word, line_text};
+use crate::line::{NameLine, SoftdepLine, TextLine};
+use crate::softdep::SoftItems;
+use kmod_names::{AliasEntry, Place, Text, normal_alias};
+use std::alloc::{AllocError, Global};
+use text_parts::{is_comment, is_same};
+
+/// What a line says. One that is read as nothing else is bad, and its first word is kept.
+#[derive(Drop)]
+pub(crate) enum Entry {
+    Alias(AliasEntry),
+    Blacklist(NameLine),
+    Options(TextLine),
+    Install(TextLine),
+    Remove(TextLine),
+    Softdep(SoftdepLine),
+    Bad(NameLine),
+}
+
+/// The normal form of a word, None where there is no word or it has none.
+fn name_of_word(alloc: Global, word: &[u8]) -> Result<Option<Text>, AllocError>
+    ensures { IfOk result (λ name. name ≡ name_of_word word.now) }
+{
+    if word.is_empty() {
+        return Ok(None);
+    }
+    normal_alias(alloc, word)
+}
+
+fn read_alias(alloc: Global, text: &[u8], place: Place) -> Result<Option<Entry>, AllocError>
+    ensures { IfOk result (λ entry. entry ≡ alias_entry place text.now) }
+{
+    let (pattern, rest) = cut_word(text);
+    let (target, _) = cut_word(rest);
+    let Some(pattern) = name_of_word(alloc, pattern)? else {
+        return Ok(None);
+    };
+    let Some(target) = name_of_word(alloc, target)? else {
+        return Ok(None);
+    };
+    Ok(Some(Entry::Alias(AliasEntry {
+        pattern,
+        target,
+        place,
+    })))
+}
+
+fn read_blacklist(alloc: Global, text: &[u8], place: Place) -> Result<Option<Entry>, AllocError>
+    ensures { IfOk result (λ entry. entry ≡ blacklist_entry place text.now) }
+{
+    let (word, _) = cut_word(text);
+    match name_of_word(alloc, word)? {
+        Some(name) => Ok(Some(Entry::Blacklist(NameLine { name, place }))),
+        None => Ok(None),
+    }
+}
+
+/// A name and the text behind it, None where it has not both.
+fn read_text_line(alloc: Global, text: &[u8], place: Place) -> Result<Option<TextLine>, AllocError>
+    ensures { IfOk result (λ line. line ≡ text_line place text.now) }
+{
+    let (word, rest) = cut_word(text);
+    let Some(name) = name_of_word(alloc, word)? else {
+        return Ok(None);
+    };
+    if rest.is_empty() {
+        return Ok(None);
+    }
+    let text = Text::new(alloc, rest)?;
+    Ok(Some(TextLine { name, text, place }))
+}
+
+/// A blank for a tab, and every other byte as it is.
+fn untabbed(byte: u8) -> u8
+    ensures { result ≡ untabbed byte }
+{
+    if byte == b'\t' { b' ' } else { byte }
+}
+
+/// The text with blanks for tabs.
+pub(crate) fn without_tabs(alloc: Global, text: &[u8]) -> Result<Text, AllocError>
+    ensures { IfOk result (λ own. own ≡ map untabbed text.now) }
+{
+    let bytes: Vec<u8> = text.iter().map(|byte| untabbed(*byte)).collect(alloc)?;
+    Ok(Text::of(bytes))
+}
+
+fn read_options(alloc: Global, text: &[u8], place: Place) -> Result<Option<Entry>, AllocError>
+    ensures { IfOk result (λ entry. entry ≡ options_entry place text.now) }
+{
+    let Some(line) = read_text_line(alloc, text, place)? else {
+        return Ok(None);
+    };
+    let text = without_tabs(alloc, line.text.as_bytes())?;
+    Ok(Some(Entry::Options(TextLine {
+        name: line.name,
+        text,
+        place: line.place,
+    })))
+}
+
+fn read_install(alloc: Global, text: &[u8], place: Place) -> Result<Option<Entry>, AllocError>
+    ensures { IfOk result (λ entry. entry ≡ install_entry place text.now) }
+{
+    match read_text_line(alloc, text, place)? {
+        Some(line) => Ok(Some(Entry::Install(line))),
+        None => Ok(None),
+    }
+}
+
+fn read_remove(alloc: Global, text: &[u8], place: Place) -> Result<Option<Entry>, AllocError>
+    ensures { IfOk result (λ entry. entry ≡ remove_entry place text.now) }
+{
+    match read_text_line(alloc, text, place)? {
+        Some(line) => Ok(Some(Entry::Remove(line))),
+        None => Ok(None),
+    }
+}
+
+fn read_softdep(alloc: Global, text: &[u8], place: Place) -> Result<Option<Entry>, AllocError>
+    ensures { IfOk result (λ entry. entry ≡ softdep_entry place text.now) }
+{
+    let Some(line) = read_text_line(alloc, text, place)? else {
+        return Ok(None);
+    };
+    let items = SoftItems::read(alloc, line.text.as_bytes())?;
+    Ok(Some(Entry::Softdep(SoftdepLine {
+        name: line.name,
+        items,
+        place: line.place,
+    })))
+}
+
+/// What a command, a remove or an install line, and so on says; None where it is bad.
+fn read_command(
+    alloc: Global,
+    word: &[u8],
+    text: &[u8],
+    place: Place,
+) -> Result<Option<Entry>, AllocError>
+    ensures { IfOk result (λ entry. entry ≡ command_entry place word.now text.now) }
+{
+    if is_same(word, b"install") {
+        return read_install(alloc, text, place);
+    }
+    if is_same(word, b"remove") {
+        return read_remove(alloc, text, place);
+    }
+    if is_same(word, b"softdep") {
+        return read_softdep(alloc, text, place);
+    }
+    Ok(None)
+}
+
+/// What a line with this first word and this text behind it says, None where it is bad.
+fn read_known(
+    alloc: Global,
+    word: &[u8],
+    text: &[u8],
+    place: Place,
+) -> Result<Option<Entry>, AllocError>
+    ensures { IfOk result (λ entry. entry ≡ known_entry place word.now text.now) }
+{
+    if is_same(word, b"alias") {
+        return read_alias(alloc, text, place);
+    }
+    if is_same(word, b"blacklist") {
+        return read_blacklist(alloc, text, place);
+    }
+    if is_same(word, b"options") {
+        return read_options(alloc, text, place);
+    }
+    read_command(alloc, word, text, place)
+}
+
+impl Entry {
+    /// What a line says, None where it is a comment or has no word.
+    pub(crate) fn read(
+        alloc: Global,
+        line: &[u8],
+        place: Place,
+    ) -> Result<Option<Entry>, AllocError>
+        ensures { IfOk result (λ entry. entry ≡ line_entry place line.now) }
+    {
+        let text = line_text(line);
+        if is_comment(text) {
+            return Ok(None);
+        }
+        let (word, rest) = cut_word(text);
+        if word.is_empty() {
+            return Ok(None);
+        }
+        if let Some(entry) = read_known(alloc, word, rest, place)? {
+            return Ok(Some(entry));
+        }
+        let name = Text::new(alloc, word)?;
+        Ok(Some(Entry::Bad(NameLine { name, place })))
+    }
+}

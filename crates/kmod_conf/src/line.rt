@@ -1,0 +1,26 @@
+//! What lines say, with their places.
+use crate::softdep::SoftItems;
+use kmod_names::{Place, Text};
+
+/// A name, as a blacklist line has it; or the first word of a line that says nothing.
+#[derive(Drop)]
+pub struct NameLine {
+    pub name: Text,
+    pub place: Place,
+}
+
+/// A name, and the text behind it as it stands: options, or the command of an install or a remove line.
+#[derive(Drop)]
+pub struct TextLine {
+    pub name: Text,
+    pub text: Text,
+    pub place: Place,
+}
+
+/// A name, and what is loaded before and after it.
+#[derive(Drop)]
+pub struct SoftdepLine {
+    pub name: Text,
+    pub items: SoftItems,
+    pub place: Place,
+}
