@@ -1,0 +1,113 @@
+-- The steps of a pass are allowed.
+use Rattle.std.proofs.Common.{◌≡◌, ◌≢◌, ℕ, ◌<◌, List, [], ◌∷◌, length, get_or, set, Option, Some, None, ◌==◌, MatchBool, refl, sym, ap, ◌∙◌, subst, inl, inr, arith, replicate, eq-eqb, ne_eqb}
+use Rattle.std.proofs.lemmas.Bool.{cases_eq}
+use Rattle.std.proofs.lemmas.List.{get_or-replicate, length-replicate}
+use mathlib.Core.Option.{some, none, some-ne-none}
+use lib.ListN.{get_elem?}
+use Rattle.atomic_table.specs.Table.{Me, takes, gives, keeps, put_back, rest, opening, step, Allows, Enters}
+use Rattle.atomic_table.proofs.Lists.{set_again, at_map}
+use Rattle.root_row.specs.declared.view.SeatAnswer.{SeatAnswer}
+use Rattle.root_row.specs.Seats.{RowIs}
+use Rattle.root_row.specs.World.{place_of}
+use Rattle.root_row.specs.History.{SeatName, StartsWith}
+use Rattle.root_row.proofs.Moves.{same_slot}
+use Rattle.managed_table.specs.declared.view.Taken.{Taken}
+use Rattle.managed_table.specs.declared.view.Turn.{Turn}
+use Rattle.managed_table.specs.declared.view.Pass.{Pass}
+use Rattle.managed_table.specs.declared.view.Passes.{Passes}
+use Rattle.managed_table.specs.declared.rule.Setting.{Setting}
+use Rattle.managed_table.specs.Locks.{Place, Accounts, FitsPass, HasTurn, LocksRule, AreFresh, first_view}
+use Rattle.managed_table.specs.Turns.{taken, alone, pass_of, new_pass, with_turns, turn_of, seen_in_hand, HasTaken, Seizes, Releases, EntersAs}
+use Rattle.managed_table.proofs.Places.{place_new}
+use Rattle.managed_table.proofs.Keeping as keeping
+
+module _ {T : Type 0} (row : RowIs) (locks : ℕ) (by : ℕ → SeatName) (fits : RowIs → ℕ → T → Type 0) (seen : T → List SeatAnswer) (slots' id : ℕ) (me : Me T Passes) (one : me.0 ≡ alone (pass_of me.0)) where
+  abbrev mine : Pass
+  mine = pass_of me.0
+
+  pub seizes : (w mark : ℕ) → me.1 ≡ [] → mine.taken ≡ None → w < locks → mark ≢ 0
+      → Allows (LocksRule row locks by fits seen) slots' id me (place_of w) (λ _. mark) (Seizes fits seen (step slots' (place_of w) mark 0 none) me)
+  seizes w mark empty none_taken inside shut s kept homes at small = elim (cases_eq (get_or s.words (place_of w) 0) 0) [
+    | inl unlocked ↦ (
+        let at' = at ∙ ap some one in
+        let home = kept.free w inside unlocked in
+        let view : Passes = alone (keeping.taking row locks by fits seen s kept id mine at' w mark inside shut none_taken unlocked) in
+        let has : HasTaken fits seen w mine (view, (w, home.value) ∷ me.1) = record {
+          value = home.value;
+          view = refl;
+          hand = ap (λ l. (w, home.value) ∷ l) empty;
+          fit = subst (λ r. fits r w home.value) (sym (keeping.mine row locks by fits seen s kept id mine at').same_row) home.fit;
+          follows = keeping.follows row locks by fits seen s kept id mine at' w mark inside shut none_taken unlocked;
+        } in (
+          view,
+          takes w home.value,
+          home.at,
+          keeping.seized row locks by fits seen s kept id mine at' w mark inside shut none_taken unlocked,
+          λ lock e. subst (λ i. MatchBool (get_or s.words (place_of w) 0 == 0) (HasTaken fits seen i mine (view, (w, home.value) ∷ me.1)) ((view ≡ me.0) × ((w, home.value) ∷ me.1 ≡ me.1))) (same_slot w lock e)
+              (subst (λ b. MatchBool b (HasTaken fits seen w mine (view, (w, home.value) ∷ me.1)) ((view ≡ me.0) × ((w, home.value) ∷ me.1 ≡ me.1))) (sym (eq-eqb (get_or s.words (place_of w) 0) 0 unlocked)) has),
+        ))
+    | inr away ↦ (
+      me.0,
+      keeps,
+      tt,
+      subst (λ l. LocksRule row locks by fits seen (record { words = set s.words (place_of w) mark; homes = s.homes; views = l })) (sym (set_again s.views id me.0 at)) (keeping.busy row locks by fits seen s kept w mark inside shut away),
+      λ lock e. subst (λ b. MatchBool b (HasTaken fits seen lock mine (me.0, me.1)) ((me.0 ≡ me.0) × (me.1 ≡ me.1))) (sym (ne_eqb (get_or s.words (place_of w) 0) 0 away)) (refl, refl),
+    )
+  ]
+
+  pub releases : (w : ℕ) (x : T) (b : List SeatAnswer) → me.1 ≡ (w, x) ∷ [] → mine.taken ≡ Some (taken w b) → fits mine.row.value w x → StartsWith (seen x) b → slots' ≡ locks
+      → Allows (LocksRule row locks by fits seen) slots' id me (place_of w) (λ _. 0) (Releases seen (step slots' (place_of w) 0 0 none) me)
+  releases w x b hand has fit grows as_many s kept homes at small =
+      let at' = at ∙ ap some one in (
+        alone (with_turns mine (turn_of mine.taken (seen_in_hand seen me.1))),
+        gives,
+        tt,
+        subst (λ (z : Option Taken × List (ℕ × T)). LocksRule row locks by fits seen (record { words = set s.words (place_of w) 0; homes = put_back s.homes z.1; views = set s.views id (alone (with_turns mine (turn_of z.0 (seen_in_hand seen z.1)))) })) (λ i. (sym has i, sym hand i))
+            (keeping.released row locks by fits seen s kept id mine at' w x b has (subst (λ r. fits r w x) (keeping.mine row locks by fits seen s kept id mine at').same_row fit) grows (homes ∙ as_many)),
+        (refl, ap rest hand),
+      )
+
+pub enters : {T : Type 0} (setting : Setting) (by : ℕ → SeatName) (fits : RowIs → ℕ → T → Type 0) (seen : T → List SeatAnswer) (slots' : ℕ)
+    → Enters (LocksRule setting.row.value setting.locks by fits seen) slots' 0 (λ n w. EntersAs {T = T} (step slots' 0 0 0 none) (first_view setting, []) n (w, []))
+enters setting by fits seen slots' s kept homes small = (
+  alone (new_pass setting.row.value kept.accounts.next),
+  keeping.entered setting.row.value setting.locks by fits seen s kept,
+  (kept.accounts.next, refl),
+)
+
+-- the first pass, before any other
+abbrev first_pass : Setting → Pass
+first_pass setting = new_pass setting.row.value 0
+
+abbrev first_accounts : Accounts
+first_accounts = record { logs = λ _. []; holder = λ _. (0, 0); owner = λ _. (0, 0); next = 1; who = λ _ _. (0, 0) }
+
+first_fits : (setting : Setting) (by : ℕ → SeatName) (words : List ℕ) → FitsPass setting.row.value setting.locks by first_accounts words (0, 0) (first_pass setting)
+first_fits setting by words = record {
+  same_row = refl;
+  named = refl;
+  below = omega arith;
+  held = λ t is. absurd (keeping.not_taken t is);
+  turns = λ k g there. absurd (some-ne-none g (sym there));
+}
+
+no_turn : (setting : Setting) (n k : ℕ) (t : Turn) → HasTurn (first_view setting ∷ []) n k t → ⊥
+no_turn setting n k t h = elim (place_new [] (first_pass setting) h.place h.pass h.at) [
+  | inl none_there ↦ absurd (some-ne-none h.pass (sym none_there))
+  | inr one ↦ absurd (some-ne-none t (sym (ap (λ (u : Pass). get_elem? u.turns k) one.1 ∙ h.there)))
+]
+
+pub opens : {T : Type 0} (setting : Setting) (by : ℕ → SeatName) (fits : RowIs → ℕ → T → Type 0) (seen : T → List SeatAnswer) (xs : List T) → length xs ≡ setting.locks → AreFresh fits seen setting.row.value xs
+    → LocksRule setting.row.value setting.locks by fits seen (opening (replicate (place_of setting.locks) 0) xs (first_view setting))
+opens setting by fits seen xs many fresh = record {
+  accounts = first_accounts;
+  wide = length-replicate (place_of setting.locks) 0;
+  free = λ lock lt is_zero. let f = fresh lock (omega arith) in record { value = f.0; at = at_map some xs lock f.0 f.1; fit = f.2; saw = f.3 };
+  shut = λ lock lt not_zero. absurd (not_zero (get_or-replicate (place_of setting.locks) (place_of lock) 0 0 (omega arith)));
+  passes = λ z p there. elim (place_new [] (first_pass setting) z p there) [
+    | inl none_there ↦ absurd (some-ne-none p (sym none_there))
+    | inr one ↦ subst (λ (y : Place × Pass). FitsPass setting.row.value setting.locks by first_accounts (replicate (place_of setting.locks) 0) y.0 y.1) (λ i. (sym one.0 i, one.1 i)) (first_fits setting by (replicate (place_of setting.locks) 0))
+  ];
+  made = λ lock k lt below. let none : k < 0 = below in absurd (omega arith);
+  ordered = λ n k m i t u h j. absurd (no_turn setting n k t h);
+}

@@ -1,0 +1,115 @@
+-- The rule of the locks: a lock that is free has its own seat behind it, and each call that this seat has made was made in
+-- one turn of one pass.
+use Rattle.std.specs.Prelude.{◌≡◌, ◌≢◌, ℕ, ◌<◌, ◌≤◌, List, [], length, slice_index, Some}
+use mathlib.Core.Option as core
+use lib.ListN.{get_elem?}
+use Rattle.atomic_table.specs.Table.{State}
+use Rattle.root_row.specs.declared.view.SeatAnswer.{SeatAnswer}
+use Rattle.root_row.specs.Seats.{RowIs}
+use Rattle.root_row.specs.World.{place_of}
+use Rattle.root_row.specs.History.{SeatName, own_answers, StartsWith}
+use Rattle.managed_table.specs.declared.view.Turn.{Turn}
+use Rattle.managed_table.specs.declared.view.Taken.{Taken}
+use Rattle.managed_table.specs.declared.view.Pass.{Pass}
+use Rattle.managed_table.specs.declared.view.Passes.{Passes}
+use Rattle.managed_table.specs.declared.rule.Setting.{Setting}
+use Rattle.managed_table.specs.Turns.{alone, new_pass, AreOrdered}
+
+-- how many calls the seat has made itself, in what was seen
+abbrev pub count : SeatName → List SeatAnswer → ℕ
+count by seen = length (own_answers by seen)
+
+-- the k-th call of the seat behind the lock was made in this turn
+pub record IsIn (by : ℕ → SeatName) (lock k : ℕ) (turn : Turn) : Type 0 where
+  pub same : turn.lock ≡ lock
+  pub from : count (by lock) turn.before ≤ k
+  pub below : k < count (by lock) turn.after
+
+-- where a pass stands: its seat, and its place in the seat's view
+abbrev pub Place : Type 0
+Place = ℕ × ℕ
+
+abbrev pub pass_in : core.Option Passes → ℕ → core.Option Pass
+pass_in core.none k = core.none
+pass_in (core.some v) k = get_elem? v.passes k
+
+abbrev pub pass_at : List Passes → Place → core.Option Pass
+pass_at views z = pass_in (get_elem? views z.0) z.1
+
+-- what the seat behind each lock had seen when the lock was last free; the pass that has the lock; the pass that has each
+-- number, and the next number; and, of each call of the seat behind a lock, the pass that made it and the place of the turn
+pub record Accounts : Type 0 where
+  pub logs : ℕ → List SeatAnswer
+  pub holder : ℕ → Place
+  pub owner : ℕ → Place
+  pub next : ℕ
+  pub who : ℕ → ℕ → ℕ × ℕ
+
+-- the pass of this number has this turn at the place k: it is a part of the log, and its calls were made in no other
+pub record FitsTurn (by : ℕ → SeatName) (a : Accounts) (number k : ℕ) (turn : Turn) : Type 0 where
+  pub begins : StartsWith (a.logs turn.lock) turn.after
+  pub mine : (i : ℕ) → IsIn by turn.lock i turn → a.who turn.lock i ≡ (number, k)
+
+-- the pass at z has taken this lock
+pub record IsHeld (locks : ℕ) (a : Accounts) (words : List ℕ) (z : Place) (taken : Taken) : Type 0 where
+  pub inside : taken.lock < locks
+  pub holder : a.holder taken.lock ≡ z
+  pub log : taken.before ≡ a.logs taken.lock
+  pub shut : slice_index words (place_of taken.lock) ≢ 0
+
+pub record FitsPass (row : RowIs) (locks : ℕ) (by : ℕ → SeatName) (a : Accounts) (words : List ℕ) (z : Place) (p : Pass) : Type 0 where
+  pub same_row : p.row.value ≡ row
+  pub named : a.owner p.number ≡ z
+  pub below : p.number < a.next
+  pub held : (taken : Taken) → p.taken ≡ Some taken → IsHeld locks a words z taken
+  pub turns : (k : ℕ) (turn : Turn) → get_elem? p.turns k ≡ core.some turn → FitsTurn by a p.number k turn
+
+-- the k-th call of the seat behind the lock was made by the pass z.0, in its turn z.1
+pub record IsMade (by : ℕ → SeatName) (owner : ℕ → Place) (z : ℕ × ℕ) (views : List Passes) (lock k : ℕ) : Type 0 where
+  pub pass : Pass
+  pub at : pass_at views (owner z.0) ≡ core.some pass
+  pub name : pass.number ≡ z.0
+  pub turn : Turn
+  pub there : get_elem? pass.turns z.1 ≡ core.some turn
+  pub is_in : IsIn by lock k turn
+
+-- a pass with a number has taken this lock
+pub record IsShut (owner : ℕ → Place) (views : List Passes) (lock : ℕ) : Type 0 where
+  pub number : ℕ
+  pub pass : Pass
+  pub at : pass_at views (owner number) ≡ core.some pass
+  pub name : pass.number ≡ number
+  pub taken : Taken
+  pub has : pass.taken ≡ Some taken
+  pub same : taken.lock ≡ lock
+
+-- a pass of this number has this turn at the place k of its turns
+pub record HasTurn (views : List Passes) (number k : ℕ) (turn : Turn) : Type 0 where
+  pub place : Place
+  pub pass : Pass
+  pub at : pass_at views place ≡ core.some pass
+  pub name : pass.number ≡ number
+  pub there : get_elem? pass.turns k ≡ core.some turn
+
+-- the value behind the lock is at home, fits, and has seen this
+pub record IsHome {T : Type 0} (row : RowIs) (fits : RowIs → ℕ → T → Type 0) (seen : T → List SeatAnswer) (homes : List (core.Option T)) (lock : ℕ) (log : List SeatAnswer) : Type 0 where
+  pub value : T
+  pub at : get_elem? homes lock ≡ core.some (core.some value)
+  pub fit : fits row lock value
+  pub saw : seen value ≡ log
+
+pub record LocksRule {T : Type 0} (row : RowIs) (locks : ℕ) (by : ℕ → SeatName) (fits : RowIs → ℕ → T → Type 0) (seen : T → List SeatAnswer) (s : State T Passes) : Type 0 where
+  pub accounts : Accounts
+  pub wide : length s.words ≡ place_of locks
+  pub free : (lock : ℕ) → lock < locks → slice_index s.words (place_of lock) ≡ 0 → IsHome row fits seen s.homes lock (accounts.logs lock)
+  pub shut : (lock : ℕ) → lock < locks → slice_index s.words (place_of lock) ≢ 0 → IsShut accounts.owner s.views lock
+  pub passes : (z : Place) (p : Pass) → pass_at s.views z ≡ core.some p → FitsPass row locks by accounts s.words z p
+  pub made : (lock k : ℕ) → lock < locks → k < count (by lock) (accounts.logs lock) → IsMade by accounts.owner (accounts.who lock k) s.views lock k
+  pub ordered : (n k m i : ℕ) (t u : Turn) → HasTurn s.views n k t → HasTurn s.views m i u → t.lock ≡ u.lock → ((n ≡ m) × (k ≡ i) → ⊥) → AreOrdered t u
+
+abbrev pub first_view : Setting → Passes
+first_view setting = alone (new_pass setting.row.value 0)
+
+-- each value fits its place, and has seen nothing
+abbrev pub AreFresh : {T : Type 0} → (RowIs → ℕ → T → Type 0) → (T → List SeatAnswer) → RowIs → List T → Type 0
+AreFresh {T} fits seen row xs = (lock : ℕ) → lock < length xs → (x : T) × (get_elem? xs lock ≡ core.some x) × fits row lock x × (seen x ≡ [])

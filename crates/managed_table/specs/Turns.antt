@@ -1,0 +1,127 @@
+-- The turns of a pass.
+use Rattle.std.specs.Prelude.{◌≡◌, ◌⊎◌, ℕ, ◌==◌, List, [], ◌∷◌, ◌++◌, Option, Some, None, MatchBool}
+use mathlib.Core.Option as core
+use lib.ListN.{get_elem?}
+use Rattle.atomic_table.specs.Table.{Me, Step}
+use Rattle.dep_index.specs.declared.calls.Call.{Call}
+use Rattle.dep_index.specs.declared.calls.Reply.{Reply}
+use Rattle.dep_index.specs.History.{IsLegal}
+use Rattle.dep_index.specs.Table.{Table}
+use Rattle.root_row.specs.declared.view.SeatAnswer.{SeatAnswer}
+use Rattle.root_row.specs.Seats.{RowIs}
+use Rattle.root_row.specs.World.{place_of}
+use Rattle.root_row.specs.History.{SeatName, seat_answer, answers_in, table_after, own_answers, StartsWith}
+use Rattle.managed_table.specs.declared.view.Turn.{Turn}
+use Rattle.managed_table.specs.declared.view.Taken.{Taken}
+use Rattle.managed_table.specs.declared.view.Pass.{Pass}
+use Rattle.managed_table.specs.declared.view.Passes.{Passes}
+
+abbrev pub turn : ℕ → List SeatAnswer → List SeatAnswer → Turn
+turn lock before after = record { lock = lock; before = before; after = after }
+
+abbrev pub taken : ℕ → List SeatAnswer → Taken
+taken lock before = record { lock = lock; before = before }
+
+-- a view of one pass
+abbrev pub alone : Pass → Passes
+alone p = record { passes = p ∷ [] }
+
+abbrev pub no_row : RowIs
+no_row = record {
+  id = record { words = 0; slots = 0; views_name = 0; atom = 0; block = 0; offset = 0; slot_names = [] };
+  world = record { catalogue = []; workers = 0 };
+}
+
+abbrev pub no_pass : Pass
+no_pass = record { row = record { marker = record {}; value = no_row }; number = 0; taken = None; turns = [] }
+
+abbrev pub first_in : List Pass → Pass
+first_in [] = no_pass
+first_in (p ∷ ps) = p
+
+-- a caller's pass
+abbrev pub pass_of : Passes → Pass
+pass_of v = first_in v.passes
+
+-- a pass of this number that has done nothing
+abbrev pub new_pass : RowIs → ℕ → Pass
+new_pass row number = record { row = record { marker = record {}; value = row }; number = number; taken = None; turns = [] }
+
+-- the pass has taken the lock
+abbrev pub with_taken : Pass → Option Taken → Pass
+with_taken p t = record { row = p.row; number = p.number; taken = t; turns = p.turns }
+
+-- the pass has had these turns more, and has no lock
+abbrev pub with_turns : Pass → List Turn → Pass
+with_turns p more = record { row = p.row; number = p.number; taken = None; turns = p.turns ++ more }
+
+abbrev pub turn_of : Option Taken → List SeatAnswer → List Turn
+turn_of None after = []
+turn_of (Some t) after = turn t.lock t.before after ∷ []
+
+-- what was seen begins with what each turn at this lock had seen
+abbrev pub Follows : Pass → ℕ → List SeatAnswer → Type 0
+Follows p lock seen = (k : ℕ) (t : Turn) → get_elem? p.turns k ≡ core.some t → t.lock ≡ lock → StartsWith seen t.after
+
+-- when the second turn began, all was seen that had been seen when the first ended
+abbrev pub IsBefore : Turn → Turn → Type 0
+IsBefore t u = StartsWith u.before t.after
+
+abbrev pub AreOrdered : Turn → Turn → Type 0
+AreOrdered t u = IsBefore t u ⊎ IsBefore u t
+
+-- the value is out with the pass
+pub record HasTaken {T : Type 0} (fits : RowIs → ℕ → T → Type 0) (seen : T → List SeatAnswer) (lock : ℕ) (p : Pass) (me : Me T Passes) : Type 0 where
+  pub value : T
+  pub view : me.0 ≡ alone (with_taken p (Some (taken lock (seen value))))
+  pub hand : me.1 ≡ (lock, value) ∷ []
+  pub fit : fits p.row.value lock value
+  pub follows : Follows p lock (seen value)
+
+module _ {T : Type 0} where
+  -- where the word was 0 the lock is taken; else nothing is known
+  abbrev pub Seizes : (RowIs → ℕ → T → Type 0) → (T → List SeatAnswer) → Step T → Me T Passes → ℕ → Me T Passes → Type 0
+  Seizes fits seen st me found me' = (lock : ℕ) → st.word ≡ place_of lock → MatchBool (found == 0) (HasTaken fits seen lock (pass_of me.0) me') ((me'.0 ≡ me.0) × (me'.1 ≡ me.1))
+
+  abbrev pub seen_in_hand : (T → List SeatAnswer) → List (ℕ × T) → List SeatAnswer
+  seen_in_hand seen [] = []
+  seen_in_hand seen (x ∷ xs) = seen x.1
+
+  -- the turn is over
+  abbrev pub Releases : (T → List SeatAnswer) → Step T → Me T Passes → ℕ → Me T Passes → Type 0
+  Releases seen st me found me' =
+      (me'.0 ≡ alone (with_turns (pass_of me.0) (turn_of (pass_of me.0).taken (seen_in_hand seen me.1)))) × (me'.1 ≡ [])
+
+  -- a new pass of the same row, which has done nothing
+  abbrev pub EntersAs : Step T → Me T Passes → ℕ → Me T Passes → Type 0
+  EntersAs st me found me' = (number : ℕ) × (me'.0 ≡ alone (new_pass (pass_of me.0).row.value number))
+
+-- The pass made one turn more, at this lock: it took the value, did so with it, and put it back
+pub record MadeTurn {T : Type 0} (fits : RowIs → ℕ → T → Type 0) (seen : T → List SeatAnswer) (lock : ℕ) (Did : T → T → Type 0) (old new : Pass) : Type 0 where
+  pub taken : T
+  pub left : T
+  pub turned : new ≡ with_turns old (turn lock (seen taken) (seen left) ∷ [])
+  pub fit : fits old.row.value lock taken
+  pub did : Did taken left
+  pub follows : Follows old lock (seen taken)
+
+-- The pass made one turn more, at this lock, and in it the seat behind the lock made this one call, which was answered so. What
+-- the seat has then seen is legal, begins with all that it had seen in any turn of this pass, and ends with the call
+pub record MadeOneCall (row : RowIs) (lock : ℕ) (by : SeatName) (call : Call) (reply : Reply) (old new : Pass) : Type 0 where
+  pub before : List SeatAnswer
+  pub between : List SeatAnswer
+  pub after : List SeatAnswer
+  pub turned : new ≡ with_turns old (turn lock before after ∷ [])
+  pub ends : after ≡ (before ++ between) ++ seat_answer by call reply ∷ []
+  pub legal : IsLegal row.world.catalogue row.world.workers (answers_in after)
+  pub own : own_answers by after ≡ own_answers by before ++ seat_answer by call reply ∷ []
+  pub follows : Follows old lock before
+
+-- The pass made one turn more, at this lock, and in it no call was made. What the seat behind the lock had seen is legal, begins
+-- with all that it had seen in any turn of this pass, and leaves this table
+pub record MadeNoCall (row : RowIs) (lock : ℕ) (Shows : Table → Type 0) (old new : Pass) : Type 0 where
+  pub seen : List SeatAnswer
+  pub turned : new ≡ with_turns old (turn lock seen seen ∷ [])
+  pub legal : IsLegal row.world.catalogue row.world.workers (answers_in seen)
+  pub shows : Shows (table_after row.world seen)
+  pub follows : Follows old lock seen

@@ -1,0 +1,98 @@
+//! The calls of leaves.
+use crate::caller::Caller;
+use crate::table::ManagedTable;
+use dep_index::{Call, GetError, PutError};
+use std::sync::Wait;
+
+impl ManagedTable {
+    ghost use Rattle.std.specs.Prelude.{◌≡◌, ◌<◌, ◌≤◌, ◌⊎◌, IfSome, IfNone, MatchOption};
+    ghost use Rattle.dep_index.specs.Refusals.{reply_of, get_refusal, put_refusal};
+    ghost use Rattle.root_row.specs.World.{slots};
+    ghost use Rattle.root_row.specs.declared.view.SeatName.TheVariants as name_is;
+    ghost use Rattle.managed_table.specs.Turns.{MadeOneCall, MadeNoCall};
+    ghost use Rattle.managed_table.specs.Shown.{HoldsSoOften};
+    ghost use Rattle.managed_table.specs.Callers.{IsCallerOf};
+
+    /// Takes one reference for the worker. It is None exactly where the worker or the slot is out of range.
+    ///
+    /// Else the caller made one turn more: in it the worker's leaf made this one call, which was answered so. Where another
+    /// worker changed the module's word between, the leaf tries again.
+    pub fn get<R: Wait>(
+        &self,
+        rt: &R,
+        caller: &mut Caller,
+        worker: usize,
+        slot: usize,
+    ) -> Option<Result<(), GetError>>
+        requires own { IsCallerOf self.now caller.old }
+        ensures own { IsCallerOf self.now caller.new }
+        ensures range { MatchOption result (((self.now.row.world.workers ≤ worker) ⊎ (slots self.now.row.world ≤ slot)) × (caller.new ≡ caller.old)) (λ _. (worker < self.now.row.world.workers) × (slot < slots self.now.row.world)) }
+        ensures call { IfSome result (λ r. MadeOneCall self.now.row worker (name_is.Leaf worker) (Call.Get worker slot) (reply_of get_refusal r) caller.old.leaves.pass caller.new.leaves.pass) }
+        ensures book { caller.new.book ≡ caller.old.book }
+    {
+        let row = &self.row;
+        self.leaf_turn(rt, caller, worker, slot, |leaf| leaf.get(rt, row, slot))
+    }
+
+    /// As `get`, but the leaf tries at most this many times. The inner None: the worker holds no reference to the slot, each
+    /// try was missed, and no call was made in the turn.
+    pub fn try_get<R: Wait>(
+        &self,
+        rt: &R,
+        caller: &mut Caller,
+        worker: usize,
+        slot: usize,
+        tries: u32,
+    ) -> Option<Option<Result<(), GetError>>>
+        requires own { IsCallerOf self.now caller.old }
+        ensures own { IsCallerOf self.now caller.new }
+        ensures range { MatchOption result (((self.now.row.world.workers ≤ worker) ⊎ (slots self.now.row.world ≤ slot)) × (caller.new ≡ caller.old)) (λ _. (worker < self.now.row.world.workers) × (slot < slots self.now.row.world)) }
+        ensures call { IfSome result (λ r. IfSome r (λ a. MadeOneCall self.now.row worker (name_is.Leaf worker) (Call.Get worker slot) (reply_of get_refusal a) caller.old.leaves.pass caller.new.leaves.pass)) }
+        ensures missed { IfSome result (λ r. IfNone r (MadeNoCall self.now.row worker (HoldsSoOften worker slot 0) caller.old.leaves.pass caller.new.leaves.pass)) }
+        ensures book { caller.new.book ≡ caller.old.book }
+    {
+        let row = &self.row;
+        self.leaf_turn(rt, caller, worker, slot, |leaf| {
+            leaf.laws();
+            leaf.try_get(row, slot, tries)
+        })
+    }
+
+    /// Gives one reference of the worker back.
+    pub fn put<R: Wait>(
+        &self,
+        rt: &R,
+        caller: &mut Caller,
+        worker: usize,
+        slot: usize,
+    ) -> Option<Result<(), PutError>>
+        requires own { IsCallerOf self.now caller.old }
+        ensures own { IsCallerOf self.now caller.new }
+        ensures range { MatchOption result (((self.now.row.world.workers ≤ worker) ⊎ (slots self.now.row.world ≤ slot)) × (caller.new ≡ caller.old)) (λ _. (worker < self.now.row.world.workers) × (slot < slots self.now.row.world)) }
+        ensures call { IfSome result (λ r. MadeOneCall self.now.row worker (name_is.Leaf worker) (Call.Put worker slot) (reply_of put_refusal r) caller.old.leaves.pass caller.new.leaves.pass) }
+        ensures book { caller.new.book ≡ caller.old.book }
+    {
+        let row = &self.row;
+        self.leaf_turn(rt, caller, worker, slot, |leaf| leaf.put(row, slot))
+    }
+
+    /// How often the worker holds the module. The turn makes no call.
+    pub fn held<R: Wait>(
+        &self,
+        rt: &R,
+        caller: &mut Caller,
+        worker: usize,
+        slot: usize,
+    ) -> Option<u32>
+        requires own { IsCallerOf self.now caller.old }
+        ensures own { IsCallerOf self.now caller.new }
+        ensures range { MatchOption result (((self.now.row.world.workers ≤ worker) ⊎ (slots self.now.row.world ≤ slot)) × (caller.new ≡ caller.old)) (λ _. (worker < self.now.row.world.workers) × (slot < slots self.now.row.world)) }
+        ensures shown { IfSome result (λ r. MadeNoCall self.now.row worker (HoldsSoOften worker slot r) caller.old.leaves.pass caller.new.leaves.pass) }
+        ensures book { caller.new.book ≡ caller.old.book }
+    {
+        self.leaf_turn(rt, caller, worker, slot, |leaf| {
+            leaf.laws();
+            leaf.held(slot)
+        })
+    }
+}

@@ -1,0 +1,162 @@
+//! Locks that know whose value lies behind them. A lock that is free has its own value behind it, of its own row.
+ghost use Rattle.std.specs.Prelude.{◌≡◌, ◌≢◌, ◌<◌, ◌∷◌, [], ◌==◌, length, IfOk, MatchBool};
+ghost use Rattle.std.specs.Fn.{FnOnceTakesAtMut, FnOnceReturnsAtMut};
+ghost use Rattle.root_row.specs.World.{place_of};
+ghost use Rattle.managed_table.specs.Locks.{AreFresh};
+ghost use Rattle.managed_table.specs.Turns.{HasTaken, MadeTurn, alone, pass_of, new_pass, with_turns, turn_of, seen_in_hand};
+ghost use Rattle.managed_table.specs.Passes.{IsFree, HasInHand, MayActOn, ActedOn};
+
+use crate::keyed::Keyed;
+use crate::plays::{Enter, Release, Seize};
+use crate::rule::{OneTurn, Setting};
+use crate::view::Passes;
+use atomic_table::{Refused, Seat, Table};
+use root_row::Row;
+use std::alloc::{AllocError, Global};
+use std::snapshot::Snapshot;
+use std::sync::Wait;
+
+// How far a lock's word stands from the next lock's: two cache lines.
+const WORDS_APART: usize = 16;
+
+const FREE: u64 = 0;
+
+const HELD: u64 = 1;
+
+const WAITED_FOR: u64 = 2;
+
+#[derive(Drop)]
+pub struct Locks<T: Keyed> {
+    pub(crate) table: Table<T, Passes, Setting, OneTurn<T>, Global>,
+    ghost words_are: { table.shared.table_id.words ≡ place_of table.shared.key.locks },
+    ghost slots_are: { table.shared.table_id.slots ≡ table.shared.key.locks },
+    ghost few: { table.shared.key.locks < 4294967296 },
+}
+
+impl<T: Keyed + Drop> Locks<T> {
+    pub fn new(alloc: Global, row: &Row, values: Vec<T>) -> Result<Locks<T>, AllocError>
+        requires few { length values.items < 4294967296 }
+        requires fresh { AreFresh T.fits T.seen row.now values.items }
+        ensures row { IfOk result (λ r. r.table.shared.key.row.value ≡ row.now) }
+        ensures count { IfOk result (λ r. r.table.shared.key.locks ≡ length values.items) }
+    {
+        let locks = values.len();
+        let words = Vec::from_elem(alloc, FREE, (locks + 1) * WORDS_APART)?;
+        let setting = Setting {
+            row: Snapshot::of(row),
+            locks,
+        };
+        match Table::new(alloc, words.as_slice(), values, &setting) {
+            Ok((table, _first)) => Ok(Locks { table }),
+            Err(Refused { slots: _ }) => Err(AllocError),
+        }
+    }
+
+    pub fn count(&self) -> usize
+        ensures { result ≡ self.now.table.shared.key.locks }
+    {
+        self.table.slot_count()
+    }
+
+    /// A new pass, which has done nothing. One load.
+    pub fn enter(&self) -> Seat<T, Passes>
+        ensures { IsFree self.now.table.shared.table_id self.now.table.shared.key.row.value result × ((pass_of result.me.0).turns ≡ []) }
+    {
+        let (_, seat) = self.table.shared.load_new_seat::<Enter>(0);
+        seat
+    }
+
+    // Marks the lock, and takes it where it was free.
+    #[inline(always)]
+    fn try_take(&self, seat: &mut Seat<T, Passes>, lock: usize, mark: u64) -> bool
+        requires mark { mark ≢ 0 }
+        requires inside { lock < self.now.table.shared.key.locks }
+        requires free { IsFree self.now.table.shared.table_id self.now.table.shared.key.row.value seat.old }
+        ensures id { seat.new.table_id ≡ seat.old.table_id }
+        ensures told { MatchBool result (HasTaken T.fits T.seen lock (pass_of seat.old.me.0) seat.new.me) ((seat.new.me.0 ≡ seat.old.me.0) × (seat.new.me.1 ≡ seat.old.me.1)) }
+    {
+        let shared = &self.table.shared;
+        shared.swap::<Seize<T>>(seat, (lock + 1) * WORDS_APART, mark) == FREE
+    }
+
+    /// Takes a lock, and waits for it where another pass has it.
+    #[inline(always)]
+    fn take<R: Wait>(&self, rt: &R, seat: &mut Seat<T, Passes>, lock: usize)
+        requires inside { lock < self.now.table.shared.key.locks }
+        requires free { IsFree self.now.table.shared.table_id self.now.table.shared.key.row.value seat.old }
+        ensures id { seat.new.table_id ≡ seat.old.table_id }
+        ensures taken { HasTaken T.fits T.seen lock (pass_of seat.old.me.0) seat.new.me }
+    {
+        if !self.try_take(seat, lock, HELD) {
+            self.wait_for(rt, seat, lock);
+        }
+    }
+
+    #[cold]
+    #[inline(never)]
+    fn wait_for<R: Wait>(&self, rt: &R, seat: &mut Seat<T, Passes>, lock: usize)
+        requires inside { lock < self.now.table.shared.key.locks }
+        requires free { IsFree self.now.table.shared.table_id self.now.table.shared.key.row.value seat.old }
+        ensures id { seat.new.table_id ≡ seat.old.table_id }
+        ensures taken { HasTaken T.fits T.seen lock (pass_of seat.old.me.0) seat.new.me }
+    {
+        for _ in rt.forever() {
+            if self.try_take(seat, lock, WAITED_FOR) {
+                return;
+            }
+            let shared = &self.table.shared;
+            shared.park(rt, (lock + 1) * WORDS_APART, WAITED_FOR as u32);
+        }
+        unreachable!()
+    }
+
+    // Lends the value that the pass has in hand to `act`.
+    #[inline(always)]
+    fn lend<A, F: FnOnce(&mut T) -> A>(&self, seat: &mut Seat<T, Passes>, lock: usize, act: F) -> A
+        requires id { seat.old.table_id ≡ self.now.table.shared.table_id }
+        requires hand { (x : T) × (seat.old.me.1 ≡ (lock, x) ∷ []) × FnOnceTakesAtMut F.FnOnce act x }
+        ensures id { seat.new.table_id ≡ seat.old.table_id }
+        ensures view { seat.new.me.0 ≡ seat.old.me.0 }
+        ensures did { ActedOn F.FnOnce lock act result seat.old.me.1 seat.new.me.1 }
+    {
+        act(seat.slot_mut(&self.table.shared, lock))
+    }
+
+    /// Lets go of a lock, and wakes one who waits for it.
+    #[inline(always)]
+    fn put_back(&self, seat: &mut Seat<T, Passes>, lock: usize)
+        requires inside { lock < self.now.table.shared.key.locks }
+        requires id { seat.old.table_id ≡ self.now.table.shared.table_id }
+        requires row { (pass_of seat.old.me.0).row.value ≡ self.now.table.shared.key.row.value }
+        requires holds { HasInHand T.fits T.seen lock (pass_of seat.old.me.0) seat.old.me }
+        ensures free { IsFree self.now.table.shared.table_id self.now.table.shared.key.row.value seat.new }
+        ensures turn { seat.new.me.0 ≡ alone (with_turns (pass_of seat.old.me.0) (turn_of (pass_of seat.old.me.0).taken (seen_in_hand T.seen seat.old.me.1))) }
+    {
+        let shared = &self.table.shared;
+        let word = (lock + 1) * WORDS_APART;
+        if shared.swap::<Release<T>>(seat, word, FREE) == WAITED_FOR {
+            shared.wake_one(word);
+        }
+    }
+
+    /// One turn: takes the lock, lets `act` work on the value behind it, and lets go.
+    #[inline(always)]
+    pub fn turn<R: Wait, A, F: FnOnce(&mut T) -> A>(
+        &self,
+        rt: &R,
+        seat: &mut Seat<T, Passes>,
+        lock: usize,
+        act: F,
+    ) -> A
+        requires inside { lock < self.now.table.shared.key.locks }
+        requires free { IsFree self.now.table.shared.table_id self.now.table.shared.key.row.value seat.old }
+        requires may { MayActOn F.FnOnce T.fits T.seen self.now.table.shared.key.row.value lock act }
+        ensures free { IsFree self.now.table.shared.table_id self.now.table.shared.key.row.value seat.new }
+        ensures turn { MadeTurn T.fits T.seen lock (λ x y. FnOnceReturnsAtMut F.FnOnce act x result y) (pass_of seat.old.me.0) (pass_of seat.new.me.0) }
+    {
+        self.take(rt, seat, lock);
+        let answer = self.lend(seat, lock, act);
+        self.put_back(seat, lock);
+        answer
+    }
+}

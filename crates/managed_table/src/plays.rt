@@ -1,0 +1,65 @@
+//! What each step on a lock's word tells a pass, and what a new pass knows.
+use crate::keyed::Keyed;
+use crate::view::Passes;
+use atomic_table::{Join, Play, Split};
+use std::marker::PhantomData;
+
+pub(crate) struct Seize<T> {
+    marker: PhantomData<T>,
+}
+
+impl<T: Keyed> Play<T, Passes> for Seize<T> {
+    ghost use Rattle.managed_table.specs.Turns.{Seizes};
+
+    ghost then = { Seizes T.fits T.seen };
+}
+
+pub(crate) struct Release<T> {
+    marker: PhantomData<T>,
+}
+
+impl<T: Keyed> Play<T, Passes> for Release<T> {
+    ghost use Rattle.managed_table.specs.Turns.{Releases};
+
+    ghost then = { Releases T.seen };
+}
+
+pub(crate) struct Enter;
+
+impl<T> Play<T, Passes> for Enter {
+    ghost use Rattle.managed_table.specs.Turns.{EntersAs};
+
+    ghost then = { EntersAs };
+}
+
+/// Two views are put together, and the second seat is spent.
+pub(crate) struct Together;
+
+impl Join<Passes> for Together {
+    ghost use Rattle.managed_table.specs.Meeting.{both, spent};
+
+    ghost both = { both };
+
+    ghost spent = { spent };
+}
+
+/// The first pass of a view stays, and the others go to a new seat.
+pub(crate) struct FirstPass;
+
+impl Split<Passes> for FirstPass {
+    ghost use Rattle.managed_table.specs.Meeting.{first_pass, other_passes};
+
+    ghost left = { first_pass };
+
+    ghost right = { other_passes };
+}
+
+pub(crate) struct TellApart<T> {
+    marker: PhantomData<T>,
+}
+
+impl<T: Keyed> Play<T, Passes> for TellApart<T> {
+    ghost use Rattle.managed_table.specs.Meeting.{TellsApart};
+
+    ghost then = { TellsApart T.by };
+}

@@ -1,0 +1,149 @@
+//! A row with its leaves and its book behind locks.
+use crate::caller::Caller;
+use crate::locks::Locks;
+use crate::making::{leaves_of, readers_of};
+use dep_index::Catalogue;
+use module_table::Book;
+use root_row::Row;
+use std::alloc::{AllocError, Global};
+use std::marker::Model;
+use std::sync::Wait;
+use use_indicator::{Leaf, Reader};
+
+/// A row of root words, and its leaves and its book behind locks that know whose they are. Contracts see its row.
+///
+/// Any thread calls it, with a caller of its own. A call takes one lock, makes one call and lets go. It answers None where
+/// the worker, the slot or the place is out of range, and nothing is changed then.
+///
+/// Each lock's word has cache lines of its own, so workers who hold a module don't slow each other.
+#[derive(Drop)]
+pub struct ManagedTable {
+    pub(crate) row: Row,
+    pub(crate) leaves: Locks<Leaf>,
+    pub(crate) book: Locks<Book>,
+}
+
+impl Model for ManagedTable {
+    ghost use Rattle.std.specs.Prelude.{◌≡◌};
+    ghost use Rattle.managed_table.specs.Callers.{ManagedIs};
+
+    ghost Value = { ManagedIs };
+
+    ghost view = { λ t. record { row = t.row; leaves = t.leaves.table.shared.table_id; book = t.book.table.shared.table_id } };
+
+    ghost invariant = { λ t. (t.leaves.table.shared.key.row.value ≡ t.row) × (t.book.table.shared.key.row.value ≡ t.row)
+        × (t.leaves.table.shared.key.locks ≡ t.row.world.workers) × (t.book.table.shared.key.locks ≡ 1) };
+}
+
+impl ManagedTable {
+    ghost use Rattle.std.specs.Prelude.{◌≡◌, ◌<◌, ◌≤◌, ◌⊎◌, [], All, IfOk, IfSome, MatchOption, if◌then◌else◌};
+    ghost use Rattle.std.specs.Fn.{FnOnceReturnsAtMut};
+    ghost use Rattle.dep_index.specs.Catalogue.{modules_of};
+    ghost use Rattle.dep_index.specs.Words.{closed};
+    ghost use Rattle.dep_index.specs.declared.calls.Reply.TheVariants.{Yes, No};
+    ghost use Rattle.root_row.specs.World.{slots};
+    ghost use Rattle.root_row.specs.Made.{new_reader, AreNew};
+    ghost use Rattle.root_row.specs.Seats.{IsOf};
+    ghost use Rattle.root_row.specs.Steps.{ReaderAnswered};
+    ghost use Rattle.managed_table.specs.Kept.{seen, leaf_fits, book_fits};
+    ghost use Rattle.managed_table.specs.Turns.{MadeTurn};
+    ghost use Rattle.managed_table.specs.Passes.{MayActOn};
+    ghost use Rattle.managed_table.specs.Callers.{IsCallerOf};
+
+    /// A managed table over a catalogue, with a reader for each worker. Every module is Absent, and nothing is held.
+    pub fn new(
+        alloc: Global,
+        catalogue: &Catalogue,
+        workers: usize,
+    ) -> Result<(ManagedTable, Vec<Reader>), AllocError>
+        requires few_workers { workers < closed }
+        ensures world { IfOk result (λ r. r.0.row.world ≡ record { catalogue = modules_of catalogue.now; workers = workers }) }
+        ensures readers { IfOk result (λ r. AreNew (new_reader r.0.row.id r.0.row.world) workers r.1.items) }
+        ensures own { IfOk result (λ r. All (IsOf r.0.row) r.1.items) }
+    {
+        let (row, leaf_seats, book_seat, read_seats) = Row::new(
+            alloc, catalogue, workers, workers,
+        )?;
+        let leaves = Locks::new(alloc, &row, leaves_of(alloc, &row, leaf_seats)?)?;
+        let mut books = Vec::with_capacity(alloc, 1)?;
+        books.push_reserved(Book::new(alloc, book_seat, catalogue)?);
+        let book = Locks::new(alloc, &row, books)?;
+        let readers = readers_of(alloc, read_seats)?;
+        Ok((ManagedTable { row, leaves, book }, readers))
+    }
+
+    /// A caller of this table, who has done nothing. Two loads, and no memory.
+    pub fn caller(&self) -> Caller
+        ensures own { IsCallerOf self.now result }
+        ensures new { (result.leaves.pass.turns ≡ []) × (result.book.pass.turns ≡ []) }
+    {
+        Caller {
+            leaves: self.leaves.enter(),
+            book: self.book.enter(),
+        }
+    }
+
+    /// How many workers there are.
+    pub fn workers(&self) -> usize
+        ensures { result ≡ self.now.row.world.workers }
+    {
+        self.leaves.count()
+    }
+
+    /// How many modules the catalogue has.
+    pub fn slots(&self) -> usize
+        ensures { result ≡ slots self.now.row.world }
+    {
+        self.row.slots()
+    }
+
+    /// Whether some worker holds the module. It locks nothing.
+    pub fn query(&self, reader: &mut Reader, slot: usize) -> bool
+        requires own { IsOf self.now.row reader.old }
+        requires inside { slot < slots self.now.row.world }
+        ensures own { IsOf self.now.row reader.new }
+        ensures call { ReaderAnswered reader.old.view slot (if result then Yes else No) reader.new.view }
+    {
+        reader.in_use(&self.row, slot)
+    }
+
+    // One turn of the lock of the worker's leaf, where worker and slot are in range.
+    #[inline(always)]
+    pub(crate) fn leaf_turn<R: Wait, A, F: FnOnce(&mut Leaf) -> A>(
+        &self,
+        rt: &R,
+        caller: &mut Caller,
+        worker: usize,
+        slot: usize,
+        act: F,
+    ) -> Option<A>
+        requires own { IsCallerOf self.now caller.old }
+        requires may { slot < slots self.now.row.world → MayActOn F.FnOnce leaf_fits seen self.now.row worker act }
+        ensures own { IsCallerOf self.now caller.new }
+        ensures range { MatchOption result (((self.now.row.world.workers ≤ worker) ⊎ (slots self.now.row.world ≤ slot)) × (caller.new ≡ caller.old)) (λ _. (worker < self.now.row.world.workers) × (slot < slots self.now.row.world)) }
+        ensures turn { IfSome result (λ r. MadeTurn leaf_fits seen worker (λ x y. FnOnceReturnsAtMut F.FnOnce act x r y) caller.old.leaves.pass caller.new.leaves.pass) }
+        ensures book { caller.new.book ≡ caller.old.book }
+    {
+        if worker >= self.leaves.count() || slot >= self.row.slots() {
+            return None;
+        }
+        Some(self.leaves.turn(rt, &mut caller.leaves, worker, act))
+    }
+
+    // One turn of the book's lock.
+    #[inline(always)]
+    pub(crate) fn book_turn<R: Wait, A, F: FnOnce(&mut Book) -> A>(
+        &self,
+        rt: &R,
+        caller: &mut Caller,
+        act: F,
+    ) -> A
+        requires own { IsCallerOf self.now caller.old }
+        requires may { MayActOn F.FnOnce book_fits seen self.now.row 0 act }
+        ensures own { IsCallerOf self.now caller.new }
+        ensures turn { MadeTurn book_fits seen 0 (λ x y. FnOnceReturnsAtMut F.FnOnce act x result y) caller.old.book.pass caller.new.book.pass }
+        ensures leaves { caller.new.leaves ≡ caller.old.leaves }
+    {
+        self.book.turn(rt, &mut caller.book, 0, act)
+    }
+}

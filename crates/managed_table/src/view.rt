@@ -1,0 +1,31 @@
+//! What a caller's passes know, as plain data. No value of these types is made.
+use root_row::Row;
+use root_row::view::SeatAnswer;
+use std::collections::LinkedList;
+use std::snapshot::Snapshot;
+
+/// A lock was taken and let go once: what the seat behind it had seen then, and then.
+pub struct Turn {
+    pub lock: usize,
+    pub before: LinkedList<SeatAnswer>,
+    pub after: LinkedList<SeatAnswer>,
+}
+
+/// The lock that a pass has taken, and what the seat behind it had seen.
+pub struct Taken {
+    pub lock: usize,
+    pub before: LinkedList<SeatAnswer>,
+}
+
+/// The row that the locks are of, and the pass's number. The lock that it has taken, and its turns, the oldest first.
+pub struct Pass {
+    pub row: Snapshot<Row>,
+    pub number: u64,
+    pub taken: Option<Taken>,
+    pub turns: LinkedList<Turn>,
+}
+
+/// What a seat at the locks knows: a caller's has one pass, that of two which are put together has two, a spent one's has none.
+pub struct Passes {
+    pub passes: LinkedList<Pass>,
+}
