@@ -1,6 +1,7 @@
 -- What the kernel's command line says of modules, as libkmod reads it: MODULE.PARAMETER[=VALUE] and
 -- modprobe.blacklist=NAME,NAME (modprobe(8)).
-use Rattle.std.specs.Prelude.{ℕ, ◌+◌, Bool, false, true, not, if◌then◌else◌, ◌==◌, ◌&&◌, ◌||◌, List, [], ◌∷◌, ◌++◌, codes, map, take, drop, slice_index, Option, Some, None}
+use Rattle.std.specs.Prelude.{ℕ, ◌+◌, Bool, false, not, if◌then◌else◌, ◌==◌, ◌&&◌, ◌||◌, List, [], ◌∷◌, ◌++◌, codes}
+use Rattle.std.specs.Prelude.{map, take, drop, slice_index, Option, Some, None}
 use Rattle.std.specs.List.{after_first, before_first, position_or_len}
 use Rattle.std.specs.Str.{bytes_eq}
 use Rattle.kmod_names.specs.declared.place.Place.{Place}

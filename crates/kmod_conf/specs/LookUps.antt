@@ -1,12 +1,11 @@
 -- What a configuration says of a name, as modprobe(8) asks for it.
-use Rattle.std.specs.Prelude.{ℕ, Bool, false, ◌&&◌, ◌||◌, List, map, filter, Option, Some, None}
+use Rattle.std.specs.Prelude.{ℕ, Bool, false, ◌&&◌, ◌||◌, List, filter, Option, Some, None}
 use Rattle.std.specs.List.{find, list_any}
 use Rattle.std.specs.Str.{bytes_eq}
 use Rattle.text_parts.specs.Text.{is_filled}
 use Rattle.kmod_names.specs.declared.alias_table.AliasEntry.{AliasEntry}
 use Rattle.kmod_names.specs.Aliases.{matching_entries}
 use Rattle.kmod_names.specs.Patterns.{matches_pattern}
-use Rattle.kmod_conf.specs.declared.line.NameLine.{NameLine}
 use Rattle.kmod_conf.specs.declared.line.TextLine.{TextLine}
 use Rattle.kmod_conf.specs.declared.line.SoftdepLine.{SoftdepLine}
 use Rattle.kmod_conf.specs.Configuration.{Configuration}

@@ -1,10 +1,17 @@
-//! Words of the kernel's command line.
-ghost use Rattle.std.specs.Prelude.{◌≡◌, ◌≤◌, ◌==◌, ◌+◌, length, take, drop, IfOk, MatchOption, None, Some};
+//! What the kernel's command line says.
+ghost use Rattle.std.specs.Prelude.{◌≡◌, [], OnOk, ◌≤◌, ◌==◌, ◌+◌, length, take, drop, IfOk, MatchOption, None, Some};
 ghost use Rattle.std.specs.List.{position_or_len};
 ghost use Rattle.kmod_conf.specs.CommandLine.{counted, cut_parameter, ends_name, is_blacklist, is_parameter, unquoted, with_quote};
+ghost use Rattle.kmod_conf.specs.CommandLine.{blacklist_from, conf_with_command_line, options_said, with_entries, word_said};
+ghost use Rattle.kmod_conf.specs.Configuration.{with_entry};
+ghost use Rattle.kmod_conf.specs.declared.entry.Entry.TheVariants.{Blacklist};
+ghost use Rattle.kmod_names.specs.Names.{normal_alias};
 
 use crate::bytes::{byte_at, is_space, line_text};
-use kmod_names::Text;
+use crate::conf::Conf;
+use crate::entry::{Entry, without_tabs};
+use crate::line::{NameLine, TextLine};
+use kmod_names::{Place, Text, normal_alias};
 use std::alloc::{AllocError, Global};
 use text_parts::is_same;
 
@@ -20,7 +27,7 @@ fn front(text: &[u8], count: usize) -> &[u8]
 }
 
 /// The bytes that count: the first 4,095, up to a NUL.
-pub(crate) fn counted(text: &[u8]) -> &[u8]
+fn counted(text: &[u8]) -> &[u8]
     ensures { result.now ≡ counted text.entry.now }
 {
     line_text(front(text, 4095))
@@ -42,7 +49,7 @@ fn name_len(text: &[u8]) -> usize
 }
 
 /// A word without a quote at its beginning.
-pub(crate) fn unquoted(word: &[u8]) -> &[u8]
+fn unquoted(word: &[u8]) -> &[u8]
     ensures { result.now ≡ unquoted word.entry.now }
 {
     match word.split_first() {
@@ -52,7 +59,7 @@ pub(crate) fn unquoted(word: &[u8]) -> &[u8]
 }
 
 /// The module and its parameter.
-pub(crate) fn cut_parameter(word: &[u8]) -> Option<(&[u8], &[u8])>
+fn cut_parameter(word: &[u8]) -> Option<(&[u8], &[u8])>
     ensures { MatchOption result
         (cut_parameter word.entry.now ≡ None)
         (λ parts. cut_parameter word.entry.now ≡ Some (parts.0.now, parts.1.now)) }
@@ -66,7 +73,7 @@ pub(crate) fn cut_parameter(word: &[u8]) -> Option<(&[u8], &[u8])>
 }
 
 /// Whether a parameter's name ends its text, or `=` stands behind it.
-pub(crate) fn is_parameter(parameter: &[u8]) -> bool
+fn is_parameter(parameter: &[u8]) -> bool
     ensures { result ≡ is_parameter parameter.now }
 {
     let end = byte_at(parameter, name_len(parameter));
@@ -74,11 +81,7 @@ pub(crate) fn is_parameter(parameter: &[u8]) -> bool
 }
 
 /// The parameter with the quote of its word before its value.
-pub(crate) fn with_quote(
-    alloc: Global,
-    is_quoted: bool,
-    parameter: &[u8],
-) -> Result<Text, AllocError>
+fn with_quote(alloc: Global, is_quoted: bool, parameter: &[u8]) -> Result<Text, AllocError>
     ensures { IfOk result (λ text. text ≡ with_quote is_quoted parameter.now) }
 {
     let end = name_len(parameter);
@@ -93,19 +96,115 @@ pub(crate) fn with_quote(
 }
 
 /// Whether the parameter has names for the blacklist.
-pub(crate) fn is_blacklist(name: &[u8], parameter: &[u8]) -> bool
+fn is_blacklist(name: &[u8], parameter: &[u8]) -> bool
     ensures { result ≡ is_blacklist name.now parameter.now }
 {
     is_same(name, b"modprobe") && is_same(front(parameter, 10), b"blacklist=")
 }
 
 /// What stands behind the first ten bytes, those of `blacklist=`.
-pub(crate) fn blacklist_names(parameter: &[u8]) -> &[u8]
+fn blacklist_names(parameter: &[u8]) -> &[u8]
     ensures { result.now ≡ drop 10 parameter.entry.now }
 {
     if parameter.len() > 10 {
         &parameter[10..]
     } else {
         &[]
+    }
+}
+
+impl Conf {
+    fn add_blacklisted(
+        &mut self,
+        name: &[u8],
+        alloc: Global,
+        place: Place,
+    ) -> Result<(), AllocError>
+        ensures { OnOk result (self.new ≡ with_entry self.old (Blacklist (record { name = name.now; place = place }))) }
+    {
+        let name = Text::new(alloc, name)?;
+        self.add_entry(alloc, Entry::Blacklist(NameLine { name, place }))
+    }
+
+    /// Adds the names between commas to the blacklist.
+    fn add_blacklist(&mut self, alloc: Global, names: &[u8], place: Place) -> Result<(), AllocError>
+        ensures { OnOk result (self.new ≡ with_entries self.old (blacklist_from place [] names.now)) }
+    {
+        let mut name = Vec::new(alloc);
+        let mut rest = names;
+        while let Some((byte, later)) = rest.split_first() {
+            if *byte == b',' {
+                self.add_blacklisted(&name, alloc, place)?;
+                name.clear();
+            } else {
+                name.push(*byte)?;
+            }
+            rest = later;
+        }
+        self.add_blacklisted(&name, alloc, place)
+    }
+
+    fn add_options(
+        &mut self,
+        alloc: Global,
+        name: &[u8],
+        parameter: &[u8],
+        place: Place,
+    ) -> Result<(), AllocError>
+        ensures { OnOk result (self.new ≡ with_entries self.old (options_said place (normal_alias name.now) parameter.now)) }
+    {
+        let Some(name) = normal_alias(alloc, name)? else {
+            return Ok(());
+        };
+        let text = without_tabs(alloc, parameter)?;
+        self.add_entry(alloc, Entry::Options(TextLine { name, text, place }))
+    }
+
+    /// Adds what a word of the command line says.
+    fn add_word(&mut self, alloc: Global, word: &[u8], place: Place) -> Result<(), AllocError>
+        ensures { OnOk result (self.new ≡ with_entries self.old (word_said place word.now)) }
+    {
+        let is_quoted = byte_at(word, 0) == b'"';
+        let Some((name, parameter)) = cut_parameter(unquoted(word)) else {
+            return Ok(());
+        };
+        if !is_parameter(parameter) {
+            return Ok(());
+        }
+        let parameter = with_quote(alloc, is_quoted, parameter)?;
+        if is_blacklist(name, parameter.as_bytes()) {
+            return self.add_blacklist(alloc, blacklist_names(parameter.as_bytes()), place);
+        }
+        self.add_options(alloc, name, parameter.as_bytes(), place)
+    }
+
+    /// Adds what the kernel's command line says, the text of /proc/cmdline, behind what is there; `source` is kept in
+    /// the places. Only want of memory refuses, and then some of it may be there.
+    pub fn add_command_line(
+        &mut self,
+        alloc: Global,
+        source: usize,
+        text: &[u8],
+    ) -> Result<(), AllocError>
+        ensures { OnOk result (self.new ≡ conf_with_command_line self.old source text.now) }
+    {
+        let place = Place { source, line: 1 };
+        let mut word = Vec::new(alloc);
+        let mut is_quoted = false;
+        let mut rest = counted(text);
+        while let Some((byte, later)) = rest.split_first() {
+            if is_space(*byte) && !is_quoted {
+                self.add_word(alloc, &word, place)?;
+                word.clear();
+            } else {
+                is_quoted = is_quoted != (*byte == b'"');
+                word.push(*byte)?;
+            }
+            rest = later;
+        }
+        if is_quoted {
+            return Ok(());
+        }
+        self.add_word(alloc, &word, place)
     }
 }

@@ -1,23 +1,16 @@
 //! A whole configuration.
 ghost use Rattle.std.specs.Prelude.{◌≡◌, ◌∷◌, ◌++◌, [], map, option_map, option_copied, IfOk, OnOk};
 ghost use Rattle.kmod_conf.specs.Configuration.{conf_with_text, no_lines, with_entry};
-ghost use Rattle.kmod_conf.specs.CommandLine.{blacklist_from, conf_with_command_line, options_said, parameter_said, with_entries, word_said};
 ghost use Rattle.kmod_conf.specs.LookUps.{has_install_named, has_remove_named, install_of, is_blacklisted, matching_aliases};
 ghost use Rattle.kmod_conf.specs.LookUps.{options_of, remove_of, softdep_of};
-ghost use Rattle.kmod_conf.specs.declared.entry.Entry.TheVariants.{Blacklist};
-ghost use Rattle.kmod_names.specs.Names.{normal_alias};
 
-use crate::bytes::{byte_at, is_space};
-use crate::command_line::{
-    blacklist_names, counted, cut_parameter, is_blacklist, is_parameter, unquoted, with_quote,
-};
 use crate::command_list::CommandList;
-use crate::entry::{Entry, without_tabs};
+use crate::entry::Entry;
 use crate::line::{NameLine, SoftdepLine, TextLine};
 use crate::look_up::{is_named, options_in};
 use crate::softdep_list::SoftdepList;
 use crate::wrapped_lines::WrappedLines;
-use kmod_names::{AliasEntry, AliasTable, Place, Text, normal_alias};
+use kmod_names::{AliasEntry, AliasTable, Place};
 use std::alloc::{AllocError, Global};
 use std::marker::Model;
 
@@ -66,7 +59,7 @@ impl Conf {
         }
     }
 
-    fn add_entry(&mut self, alloc: Global, entry: Entry) -> Result<(), AllocError>
+    pub(crate) fn add_entry(&mut self, alloc: Global, entry: Entry) -> Result<(), AllocError>
         ensures { OnOk result (self.new ≡ with_entry self.old entry) }
     {
         match entry {
@@ -98,102 +91,6 @@ impl Conf {
             }
         }
         Ok(())
-    }
-
-    fn add_blacklisted(
-        &mut self,
-        name: &[u8],
-        alloc: Global,
-        place: Place,
-    ) -> Result<(), AllocError>
-        ensures { OnOk result (self.new ≡ with_entry self.old (Blacklist (record { name = name.now; place = place }))) }
-    {
-        let name = Text::new(alloc, name)?;
-        self.blacklist.push(NameLine { name, place })?;
-        Ok(())
-    }
-
-    /// Adds the names between commas to the blacklist.
-    fn add_blacklist(&mut self, alloc: Global, names: &[u8], place: Place) -> Result<(), AllocError>
-        ensures { OnOk result (self.new ≡ with_entries self.old (blacklist_from place [] names.now)) }
-    {
-        let mut name = Vec::new(alloc);
-        let mut rest = names;
-        while let Some((byte, later)) = rest.split_first() {
-            if *byte == b',' {
-                self.add_blacklisted(&name, alloc, place)?;
-                name.clear();
-            } else {
-                name.push(*byte)?;
-            }
-            rest = later;
-        }
-        self.add_blacklisted(&name, alloc, place)
-    }
-
-    fn add_options(
-        &mut self,
-        alloc: Global,
-        name: &[u8],
-        parameter: &[u8],
-        place: Place,
-    ) -> Result<(), AllocError>
-        ensures { OnOk result (self.new ≡ with_entries self.old (options_said place (normal_alias name.now) parameter.now)) }
-    {
-        let Some(name) = normal_alias(alloc, name)? else {
-            return Ok(());
-        };
-        let text = without_tabs(alloc, parameter)?;
-        self.options.push(TextLine { name, text, place })?;
-        Ok(())
-    }
-
-    /// Adds what a word of the command line says.
-    fn add_word(&mut self, alloc: Global, word: &[u8], place: Place) -> Result<(), AllocError>
-        ensures { OnOk result (self.new ≡ with_entries self.old (word_said place word.now)) }
-    {
-        let is_quoted = byte_at(word, 0) == b'"';
-        let Some((name, parameter)) = cut_parameter(unquoted(word)) else {
-            return Ok(());
-        };
-        if !is_parameter(parameter) {
-            return Ok(());
-        }
-        let parameter = with_quote(alloc, is_quoted, parameter)?;
-        if is_blacklist(name, parameter.as_bytes()) {
-            return self.add_blacklist(alloc, blacklist_names(parameter.as_bytes()), place);
-        }
-        self.add_options(alloc, name, parameter.as_bytes(), place)
-    }
-
-    /// Adds what the kernel's command line says, the text of /proc/cmdline, behind what is there; `source` is kept in
-    /// the places. Only want of memory refuses, and then some of it may be there.
-    pub fn add_command_line(
-        &mut self,
-        alloc: Global,
-        source: usize,
-        text: &[u8],
-    ) -> Result<(), AllocError>
-        ensures { OnOk result (self.new ≡ conf_with_command_line self.old source text.now) }
-    {
-        let place = Place { source, line: 1 };
-        let mut word = Vec::new(alloc);
-        let mut is_quoted = false;
-        let mut rest = counted(text);
-        while let Some((byte, later)) = rest.split_first() {
-            if is_space(*byte) && !is_quoted {
-                self.add_word(alloc, &word, place)?;
-                word.clear();
-            } else {
-                is_quoted = is_quoted != (*byte == b'"');
-                word.push(*byte)?;
-            }
-            rest = later;
-        }
-        if is_quoted {
-            return Ok(());
-        }
-        self.add_word(alloc, &word, place)
     }
 
     /// The alias lines, patterns and names in normal form.

@@ -1,5 +1,5 @@
 -- How a normal form goes on.
-use Rattle.std.proofs.Common.{◌≡◌, ℕ, List, [], ◌∷◌, ◌++◌, Option, Some, None, refl, sym, ap, append_assoc}
+use Rattle.std.proofs.Common.{◌≡◌, ℕ, List, [], ◌++◌, Option, Some, None, refl, sym, ap, append_assoc}
 use Rattle.kmod_names.specs.Names.{put_before}
 
 pub put_before-nothing : (rest : Option (List ℕ)) → put_before [] rest ≡ rest

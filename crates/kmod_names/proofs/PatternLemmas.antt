@@ -1,12 +1,12 @@
 -- What is read matches as the texts of the patterns do.
-use Rattle.std.proofs.Common.{◌≡◌, ℕ, ◌+◌, Bool, true, false, List, [], ◌∷◌, ◌++◌, codes, length, Option, Some, None, Result, Ok, Err, refl, sym, ◌∙◌, ap, arith, length-append, nat_le, ◌&&◌, ◌||◌}
+use Rattle.std.proofs.Common.{◌≡◌, ℕ, ◌+◌, false, List, [], ◌∷◌, ◌++◌, codes, length, Option, Some, None, Result, Ok, Err, refl, sym, ◌∙◌, ap, arith, length-append, nat_le, ◌&&◌, ◌||◌}
 use Rattle.std.proofs.lemmas.Bool.Decides.{nat_tests}
 use Rattle.std.specs.Option.{option_map}
 use Rattle.std.specs.Result.{IfOk, OnOk, is_err, result_ok}
 use Rattle.std.specs.declared.alloc.AllocError.{AllocError}
 use Rattle.alias_match.specs.declared.alias.Alias.{Alias}
 use Rattle.alias_match.specs.declared.read.PatternError.{PatternError}
-use Rattle.alias_match.specs.Aliases.{alias_of, matching_places, places_where}
+use Rattle.alias_match.specs.Aliases.{alias_of, matching_places}
 use Rattle.alias_match.specs.Pattern.{Piece, one_of, is_end, is_match}
 use Rattle.alias_match.specs.Reading.{pattern_of}
 use Rattle.kmod_names.specs.Patterns.{IsReadAs, MatchesNothing, ReadsEach, matches_pattern, matches_read, pattern_places}

@@ -1,6 +1,6 @@
 -- The normal form of names and aliases, and the name of a module's file, as libkmod has them (modprobe.d(5) says that
 -- `-` and `_` are the same).
-use Rattle.std.specs.Prelude.{ℕ, Bool, true, false, not, if◌then◌else◌, ◌==◌, ◌&&◌, List, [], ◌∷◌, ◌++◌, map, Option, Some, None}
+use Rattle.std.specs.Prelude.{ℕ, Bool, false, not, if◌then◌else◌, ◌==◌, ◌&&◌, List, [], ◌∷◌, ◌++◌, map, Option, Some, None}
 use Rattle.std.specs.List.{take_while}
 use Rattle.text_parts.specs.Text.{normal_byte}
 

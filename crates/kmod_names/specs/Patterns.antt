@@ -1,5 +1,5 @@
 -- Patterns by their texts, after fnmatch(3).
-use Rattle.std.specs.Prelude.{◌≡◌, ℕ, Bool, false, List, length, map, Option, Some, None, Result, Ok, Err}
+use Rattle.std.specs.Prelude.{◌≡◌, ℕ, Bool, false, List, length, Option, Result, Ok, Err}
 use Rattle.std.specs.List.{position_from}
 use Rattle.alias_match.specs.declared.alias.Alias.{Alias}
 use Rattle.alias_match.specs.declared.read.PatternError.{PatternError}

@@ -1,4 +1,4 @@
-use Rattle.std.proofs.Common.{◌∙◌, sym, arith}
+use Rattle.std.proofs.Common.{◌∙◌, arith}
 use Rattle.std.proofs.lemmas.Grind.{common_steps}
 use Rattle.kmod_conf.proofs.EntryLemmas.{space_read}
 use Rattle.kmod_conf.proofs.conf.Conf.add_command_line.Goals as goal

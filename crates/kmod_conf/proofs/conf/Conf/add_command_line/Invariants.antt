@@ -1,4 +1,4 @@
-use Rattle.std.proofs.Common.{◌≡◌, [], length}
+use Rattle.std.proofs.Common.{◌≡◌, length}
 use Rattle.kmod_conf.specs.CommandLine.{conf_with_command_line, words_said, with_entries}
 use Rattle.kmod_conf.proofs.conf.Conf.add_command_line.Given as goal
 
