@@ -1,0 +1,6 @@
+pub mod PartLemmas
+pub mod KeyLemmas
+pub mod LineLemmas
+pub mod FoundLemmas
+pub mod TrieLemmas
+pub mod ModinfoLemmas

@@ -1,0 +1,10 @@
+pub mod Parts
+pub mod Places
+pub mod Dependencies
+pub mod Lines
+pub mod Aliases
+pub mod Builtins
+pub mod Tries
+pub mod Indexes
+pub mod Index
+pub mod ForProofs

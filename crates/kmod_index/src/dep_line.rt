@@ -1,0 +1,99 @@
+//! A line of modules.dep.
+ghost use Rattle.std.specs.Prelude.{◌≡◌, map, IfOk};
+ghost use Rattle.text_parts.specs.Text.{texts_of};
+ghost use Rattle.kmod_names.specs.Names.{name_of_path};
+ghost use Rattle.kmod_index.specs.Dependencies.{dependencies_of_line, name_of, needed_names};
+
+use crate::parts::at_first;
+use kmod_names::{Text, name_of_path};
+use std::alloc::{AllocError, Global};
+use std::marker::Model;
+use text_parts::words;
+
+/// A line of modules.dep: the path of a module's file, and the paths of the modules that it needs.
+#[derive(Drop)]
+pub struct DepLine {
+    path: Text,
+    needs: Text,
+    number: usize,
+}
+
+impl Model for DepLine {
+    ghost use Rattle.text_parts.specs.Text.{words};
+    ghost use Rattle.kmod_index.specs.Dependencies.{Dependencies};
+
+    ghost Value = { Dependencies };
+
+    ghost view = { λ line. record { path = line.path; needs = words line.needs; number = line.number } };
+}
+
+/// The names of the modules in the paths.
+fn names_of(alloc: Global, paths: &[&[u8]]) -> Result<Vec<Text>, AllocError>
+    ensures { IfOk result (λ names. names.items ≡ map name_of_path (texts_of paths.now)) }
+{
+    let mut names = Vec::with_capacity(alloc, paths.len())?;
+    for path in paths {
+        names.push(name_of_path(alloc, path)?)?;
+    }
+    Ok(names)
+}
+
+impl DepLine {
+    /// The line of this number, from 1, None where it has no colon.
+    pub(crate) fn read(
+        alloc: Global,
+        number: usize,
+        line: &[u8],
+    ) -> Result<Option<DepLine>, AllocError>
+        ensures { IfOk result (λ read. read ≡ dependencies_of_line (number, line.now)) }
+    {
+        let Some((path, needs)) = at_first(b':', line) else {
+            return Ok(None);
+        };
+        Ok(Some(DepLine {
+            path: Text::new(alloc, path)?,
+            needs: Text::new(alloc, needs)?,
+            number,
+        }))
+    }
+
+    /// The path of the module's file, as it stands: below the folder of modules.dep, or from the root where it begins
+    /// with `/`.
+    pub fn path(&self) -> &[u8]
+        ensures { result.now ≡ self.now.path }
+    {
+        self.path.as_bytes()
+    }
+
+    /// The paths of the modules that it needs, in the order of the line. It fails for want of memory alone.
+    pub fn needs(&self, alloc: Global) -> Result<Vec<&[u8]>, AllocError>
+        ensures { IfOk result (λ needs. texts_of needs.items ≡ self.now.needs) }
+    {
+        words(alloc, self.needs.as_bytes())
+    }
+
+    /// The number of the line, from 1.
+    pub fn number(&self) -> usize
+        ensures { result ≡ self.now.number }
+    {
+        self.number
+    }
+
+    /// The name of the module. It fails for want of memory alone.
+    pub fn name(&self, alloc: Global) -> Result<Text, AllocError>
+        ensures { IfOk result (λ name. name ≡ name_of self.now) }
+    {
+        name_of_path(alloc, self.path())
+    }
+
+    /// The names of the modules that it needs, in the order in which they are loaded: the last of the line first. It fails
+    /// for want of memory alone.
+    pub fn needed_names(&self, alloc: Global) -> Result<Vec<Text>, AllocError>
+        ensures { IfOk result (λ names. names.items ≡ needed_names self.now) }
+    {
+        let needs = self.needs(alloc)?;
+        let mut names = names_of(alloc, &needs)?;
+        names.reverse();
+        Ok(names)
+    }
+}

@@ -1,0 +1,84 @@
+//! Aliases of modules that are built in.
+ghost use Rattle.std.specs.Prelude.{◌≡◌, ◌++◌, IfOk, OnOk, None, Some, MatchOption};
+ghost use Rattle.std.specs.Option.{option_to_list};
+ghost use Rattle.kmod_index.specs.Builtins.{alias_of_entry, alias_value, builtin_aliases, modinfo_parts};
+ghost use Rattle.kmod_index.specs.Parts.{at_first};
+
+use crate::aliases::Aliases;
+use crate::index_line::IndexLine;
+use crate::parts::at_first;
+use std::alloc::{AllocError, Global};
+use text_parts::is_same;
+
+/// The value and the module of a key and its value, where the key is that of an alias.
+fn alias_value<'a>(key: &'a [u8], value: &'a [u8]) -> Option<(&'a [u8], &'a [u8])>
+    ensures { MatchOption result
+        (alias_value value.entry.now (at_first 46 key.entry.now) ≡ None)
+        (λ parts. alias_value value.entry.now (at_first 46 key.entry.now) ≡ Some (parts.0.now, parts.1.now)) }
+{
+    let (module, field) = at_first(b'.', key)?;
+    if is_same(field, b"alias") && !module.is_empty() && !value.is_empty() {
+        Some((value, module))
+    } else {
+        None
+    }
+}
+
+/// An alias and its module, as one entry says.
+fn modinfo_parts(entry: &[u8]) -> Option<(&[u8], &[u8])>
+    ensures { MatchOption result
+        (modinfo_parts entry.entry.now ≡ None)
+        (λ parts. modinfo_parts entry.entry.now ≡ Some (parts.0.now, parts.1.now)) }
+{
+    match at_first(b'=', entry) {
+        Some((key, value)) => alias_value(key, value),
+        None => None,
+    }
+}
+
+/// The alias of an entry of this number.
+fn read_entry(alloc: Global, number: usize, entry: &[u8]) -> Result<Option<IndexLine>, AllocError>
+    ensures { IfOk result (λ read. read ≡ alias_of_entry (number, entry.now)) }
+{
+    match modinfo_parts(entry) {
+        Some((value, module)) => IndexLine::of_alias(alloc, number, value, module),
+        None => Ok(None),
+    }
+}
+
+/// Adds the alias of an entry, where it has one.
+fn add_entry(
+    aliases: &mut Aliases,
+    alloc: Global,
+    number: usize,
+    entry: &[u8],
+) -> Result<(), AllocError>
+    ensures { OnOk result (aliases.new ≡ aliases.old ++ option_to_list (alias_of_entry (number, entry.now))) }
+{
+    let Some(alias) = read_entry(alloc, number, entry)? else {
+        return Ok(());
+    };
+    aliases.push(alloc, alias)
+}
+
+/// The aliases of a whole modules.builtin.modinfo text. It fails for want of memory alone.
+pub fn read_builtin_aliases(alloc: Global, text: &[u8]) -> Result<Aliases, AllocError>
+    ensures { IfOk result (λ aliases. aliases ≡ builtin_aliases text.now) }
+{
+    let mut aliases = Aliases::new(alloc);
+    let mut rest = text;
+    let mut number = 1usize;
+    'entries: loop {
+        match at_first(0, rest) {
+            Some((entry, later)) => {
+                add_entry(&mut aliases, alloc, number, entry)?;
+                rest = later;
+                number += 1;
+            }
+            None => {
+                add_entry(&mut aliases, alloc, number, rest)?;
+                return Ok(aliases);
+            }
+        }
+    }
+}
