@@ -14,6 +14,8 @@ pub(crate) struct Scale {
     pub(crate) gap: u32,
     /// How far a label may stand over the last column.
     pub(crate) overhang: u32,
+    /// How far labels may stand in any picture, however few columns it has.
+    pub(crate) narrowest: u32,
     /// How many columns a band has.
     pub(crate) columns: u32,
     /// Whether a bar has room for text.
@@ -26,8 +28,8 @@ pub(crate) enum Label {
     Hidden,
     /// In the bar, which has room for so many letters of it.
     Inside { letters: u32 },
-    /// In a row above the bar, of which 0 is the lowest; `at` is its beginning.
-    Above { row: u32, at: u32 },
+    /// In a row above the bar, of which 0 is the lowest; `at` is its beginning, and it has room for so many letters.
+    Above { row: u32, at: u32, letters: u32 },
 }
 
 /// A call in the whole picture, or the part of it that lies within a band. Columns are those of the picture or the band.
@@ -68,6 +70,13 @@ impl Scale {
     /// The width of so many columns.
     pub(crate) fn width(&self, columns: u32) -> u32 {
         columns.saturating_mul(self.column)
+    }
+
+    /// Where the room for labels ends in a picture of so many columns.
+    pub(crate) fn limit(&self, columns: u32) -> u32 {
+        self.width(columns.min(self.columns))
+            .saturating_add(self.overhang)
+            .max(self.narrowest)
     }
 
     /// The width of so many letters.

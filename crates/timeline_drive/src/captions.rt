@@ -18,6 +18,13 @@ pub(crate) fn reply_text(effect: Option<Effect>) -> &'static str {
     }
 }
 
+/// How many letters the words of a call may have in a label of so many, which has the reply too.
+pub(crate) fn caption_room(letters_of_label: u32, reply: &str) -> u32 {
+    letters_of_label
+        .saturating_sub(letters(reply.as_bytes()))
+        .saturating_sub(2)
+}
+
 /// Whether a call was refused at its point.
 pub(crate) fn is_refused(entry: &Entry<'_>) -> bool {
     matches!(entry.effect, Some(effect) if effect.reply.is_refusal())

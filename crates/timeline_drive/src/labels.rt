@@ -19,19 +19,29 @@ fn room_in(scale: &Scale, bar: &Bar<'_>) -> u32 {
     width / scale.letter.max(1)
 }
 
-/// The label in the lowest row in which nothing stands from there on. The rows are filled from the right, and `begins`
-/// has the beginning of what stands in each.
-fn above(scale: &Scale, bar: &Bar<'_>, letters: u32, begins: &mut [u32; ROWS]) -> Option<Label> {
+/// What is free in the rows of a lane, which are filled from the right.
+#[derive(Clone, Copy, Drop)]
+struct Rows {
+    /// Where the room for labels ends.
+    limit: u32,
+    /// Where what stands in each row begins.
+    begins: [u32; ROWS],
+}
+
+/// The label in the lowest row in which nothing stands from there on. One for which no row is wide enough is cut.
+fn above(scale: &Scale, bar: &Bar<'_>, letters: u32, rows: &mut Rows) -> Option<Label> {
+    let limit = rows.limit;
+    let letters = letters.min(limit / scale.letter.max(1));
     let width = scale.text_width(letters);
-    let limit = scale.width(scale.columns).saturating_add(scale.overhang);
     let at = scale.width(bar.from).min(limit.saturating_sub(width));
     let end = at.saturating_add(width);
-    for (row, begin) in begins.iter_mut().enumerate() {
+    for (row, begin) in rows.begins.iter_mut().enumerate() {
         if end <= *begin {
             *begin = at.saturating_sub(scale.gap);
             return Some(Label::Above {
                 row: row as u32,
                 at,
+                letters,
             });
         }
     }
@@ -43,7 +53,7 @@ fn place(
     alloc: Global,
     scale: &Scale,
     bar: &Bar<'_>,
-    begins: &mut [u32; ROWS],
+    rows: &mut Rows,
 ) -> Result<Label, AllocError> {
     let words = letters(&caption(alloc, bar.entry)?);
     let reply = letters(reply_text(bar.entry.effect).as_bytes());
@@ -55,29 +65,30 @@ fn place(
         return Ok(Label::Hidden);
     }
     let both = words.saturating_add(reply).saturating_add(2);
-    Ok(match above(scale, bar, both, begins) {
+    Ok(match above(scale, bar, both, rows) {
         Some(label) => label,
         None if room > 1 => Label::Inside { letters: room },
         None => Label::Hidden,
     })
 }
 
-/// Places the labels of a band, from the right to the left.
+/// Places the labels of a band, from the right to the left. None stands further to the right than the limit.
 pub(crate) fn place_labels(
     alloc: Global,
     scale: &Scale,
+    limit: u32,
     band: &mut Band<'_>,
 ) -> Result<(), AllocError> {
-    let limit = scale.width(scale.columns).saturating_add(scale.overhang);
-    let mut begins = vec![in alloc; [limit; ROWS]; band.rows.len()]?;
+    let free = Rows {
+        limit,
+        begins: [limit; ROWS],
+    };
+    let mut lanes = vec![in alloc; free; band.rows.len()]?;
     for bar in band.bars.iter_mut().rev() {
-        if let (Some(begins), Some(rows)) = (
-            begins.get_mut(bar.lane),
-            band.rows.get_mut(bar.lane),
-        ) {
-            bar.label = place(alloc, scale, bar, begins)?;
+        if let (Some(rows), Some(count)) = (lanes.get_mut(bar.lane), band.rows.get_mut(bar.lane)) {
+            bar.label = place(alloc, scale, bar, rows)?;
             if let Label::Above { row, .. } = bar.label {
-                *rows = (*rows).max(row.saturating_add(1));
+                *count = (*count).max(row.saturating_add(1));
             }
         }
     }

@@ -72,8 +72,9 @@ impl<'e> Layout<'e> {
             let lane = threads.binary_search(&entry.thread).unwrap_or(0);
             push_parts(&mut bands, scale.columns, &whole_bar(&columns, lane, entry))?;
         }
+        let limit = scale.limit(columns.last().saturating_add(1));
         for band in &mut bands {
-            place_labels(alloc, scale, band)?;
+            place_labels(alloc, scale, limit, band)?;
         }
         Ok(Layout {
             threads,

@@ -9,7 +9,7 @@ use crate::entries::Entry;
 use crate::layout::Layout;
 use bands::{band_height, push_band};
 use std::alloc::{AllocError, Global};
-use style::{LEGEND, STYLE};
+use style::{LEGEND, STYLE, push_narrow_style};
 
 /// Pixels. The letters are those of a font of 11 pixels, with a little room.
 const SCALE: Scale = Scale {
@@ -17,12 +17,16 @@ const SCALE: Scale = Scale {
     letter: 7,
     gap: 8,
     overhang: 120,
+    narrowest: NARROWEST - LEFT - INSET,
     columns: 42,
     has_text_in_bars: true,
 };
 
 /// Where the columns begin.
 pub(crate) const LEFT: u32 = 52;
+
+/// How far a label stands to the right of its place.
+pub(crate) const INSET: u32 = 6;
 
 /// What the legend needs.
 const HEAD: u32 = 52;
@@ -47,7 +51,9 @@ fn height(layout: &Layout<'_>) -> u32 {
 /// the columns do not fit side by side, they go on in further bands below.
 pub(crate) fn svg_text(alloc: Global, entries: &[Entry<'_>]) -> Result<String, AllocError> {
     let layout = Layout::new(alloc, &SCALE, entries)?;
-    let width = right(&layout).saturating_add(SCALE.overhang).max(NARROWEST);
+    let width = right(&layout)
+        .saturating_add(SCALE.overhang + INSET)
+        .max(NARROWEST);
     let height = height(&layout);
     let mut page = String::new(alloc);
     write!(
@@ -55,6 +61,7 @@ pub(crate) fn svg_text(alloc: Global, entries: &[Entry<'_>]) -> Result<String, A
         "<svg xmlns=\"http://www.w3.org/2000/svg\" width=\"{width}\" height=\"{height}\" viewBox=\"0 0 {width} {height}\">\n"
     )?;
     page.push_str(STYLE)?;
+    push_narrow_style(&mut page, width)?;
     page.push_str(LEGEND)?;
     let mut top = HEAD;
     for band in &layout.bands {

@@ -1,7 +1,7 @@
 //! A picture in columns of a terminal.
 
 use crate::bars::{Band, Bar, Label, Scale, Tick};
-use crate::captions::{caption, is_refused, letters, reply_text};
+use crate::captions::{caption, caption_room, is_refused, letters, reply_text};
 use crate::entries::Entry;
 use crate::layout::Layout;
 use std::alloc::{AllocError, Global};
@@ -12,6 +12,7 @@ const SCALE: Scale = Scale {
     letter: 1,
     gap: 2,
     overhang: 0,
+    narrowest: 75,
     columns: 25,
     has_text_in_bars: false,
 };
@@ -94,13 +95,30 @@ fn write_bar(line: &mut [u8], bar: &Bar<'_>) {
     }
 }
 
+/// Cuts a text to so many letters, of which the last two are dots.
+fn cut(text: &mut Vec<u8>, letters: u32) -> Result<(), AllocError> {
+    let letters = letters as usize;
+    if text.len() > letters {
+        text.truncate(letters.saturating_sub(2));
+        text.extend_from_slice(b"..")?;
+    }
+    Ok(())
+}
+
 /// Writes the text of a bar, where it stands in this row.
 fn write_label(alloc: Global, line: &mut [u8], bar: &Bar<'_>, row: u32) -> Result<(), AllocError> {
-    if let Label::Above { row: own, at } = bar.label {
+    if let Label::Above {
+        row: own,
+        at,
+        letters,
+    } = bar.label
+    {
         if own == row {
+            let reply = reply_text(bar.entry.effect);
             let mut text = caption(alloc, bar.entry)?;
+            cut(&mut text, caption_room(letters, reply))?;
             text.extend_from_slice(b": ")?;
-            text.extend_from_slice(reply_text(bar.entry.effect).as_bytes())?;
+            text.extend_from_slice(reply.as_bytes())?;
             write_at(line, at.saturating_add(LEFT), &text);
         }
     }

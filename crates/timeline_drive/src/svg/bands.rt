@@ -13,8 +13,11 @@ pub(crate) const BAR: u32 = 34;
 
 pub(crate) const ROW: u32 = 14;
 
-/// What is left free above the labels of a lane, and between two bands.
+/// What is left free above the labels of a lane.
 const SPACE: u32 = 16;
+
+/// What is left free under a band.
+const UNDER: u32 = 30;
 
 /// The height of a lane with so many rows of labels.
 fn lane_height(rows: u32) -> u32 {
@@ -22,7 +25,7 @@ fn lane_height(rows: u32) -> u32 {
 }
 
 pub(crate) fn band_height(band: &Band<'_>) -> u32 {
-    let mut height = AXIS + SPACE;
+    let mut height = AXIS + UNDER;
     for rows in &band.rows {
         height = height.saturating_add(lane_height(*rows));
     }
@@ -99,7 +102,7 @@ fn push_lanes(
         let (line, base) = (top.saturating_add(BAR / 2), top.saturating_add(BAR / 2 + 4));
         write!(
             page,
-            "<text x=\"8\" y=\"{base}\">t{thread}</text><path class=\"rule\" d=\"M{LEFT} {line}H{right}\"/>\n"
+            "<text class=\"lane\" x=\"8\" y=\"{base}\">t{thread}</text><path class=\"rule\" d=\"M{LEFT} {line}H{right}\"/>\n"
         )?;
     }
     Ok(())

@@ -1,9 +1,9 @@
 //! The bars of an SVG, with their texts and their points.
 
 use super::bands::{BAR, ROW, middle};
-use super::{LEFT, SCALE};
+use super::{INSET, LEFT, SCALE};
 use crate::bars::{Bar, Label};
-use crate::captions::{caption, is_refused, reply_text};
+use crate::captions::{caption, caption_room, is_refused, reply_text};
 use crate::entries::Entry;
 use crate::escapes::push_escaped;
 use std::alloc::{AllocError, Global};
@@ -47,7 +47,25 @@ fn push_title(page: &mut String, entry: &Entry<'_>, caption: &[u8]) -> Result<()
     page.push_str("</title>")
 }
 
-/// Adds the shape of a bar: with round corners, or with sharp ones where the call was refused.
+/// Adds the outline of a bar that goes on in another band: it has no edge where the bands break.
+fn push_outline(
+    page: &mut String,
+    bar: &Bar<'_>,
+    begin: u32,
+    end: u32,
+    top: u32,
+) -> Result<(), AllocError> {
+    let bottom = top.saturating_add(BAR);
+    write!(page, "<path class=\"edge\" d=\"")?;
+    match (bar.has_first, bar.has_end) {
+        (true, _) => write!(page, "M{end} {top}H{begin}V{bottom}H{end}")?,
+        (false, true) => write!(page, "M{begin} {top}H{end}V{bottom}H{begin}")?,
+        (false, false) => write!(page, "M{begin} {top}H{end}M{begin} {bottom}H{end}")?,
+    }
+    page.push_str("\"/>")
+}
+
+/// Adds the shape of a bar: with round corners, or with sharp ones where the call was refused or goes on in another band.
 fn push_shape(page: &mut String, bar: &Bar<'_>, top: u32) -> Result<(), AllocError> {
     let begin = SCALE
         .width(bar.from)
@@ -57,12 +75,25 @@ fn push_shape(page: &mut String, bar: &Bar<'_>, top: u32) -> Result<(), AllocErr
         .saturating_add(if bar.has_end { LEFT - 2 } else { LEFT + 6 });
     let width = end.saturating_sub(begin);
     let is_open = bar.has_end && bar.entry.last.is_none();
-    let shape = if is_open { "bar open" } else { "bar" };
-    let corner = if is_refused(bar.entry) { 0 } else { 6 };
+    let is_cut = !(bar.has_first && bar.has_end);
+    let shape = match (is_open, is_cut) {
+        (true, _) => "bar open",
+        (false, true) => "bar cut",
+        (false, false) => "bar",
+    };
+    let corner = if is_refused(bar.entry) || is_cut {
+        0
+    } else {
+        6
+    };
     write!(
         page,
         "<rect class=\"{shape}\" x=\"{begin}\" y=\"{top}\" width=\"{width}\" height=\"{BAR}\" rx=\"{corner}\"/>"
-    )
+    )?;
+    if is_cut && !is_open {
+        push_outline(page, bar, begin, end, top)?;
+    }
+    Ok(())
 }
 
 /// Adds a text, cut to so many letters.
@@ -115,16 +146,17 @@ pub(crate) fn push_lead(page: &mut String, bar: &Bar<'_>, top: u32) -> Result<()
 /// Adds the text of a bar above it.
 fn push_above(
     page: &mut String,
-    row: u32,
+    entry: &Entry<'_>,
+    caption: &[u8],
     at: u32,
-    texts: (&[u8], &[u8]),
-    top: u32,
+    letters: u32,
+    base: u32,
 ) -> Result<(), AllocError> {
-    let (x, base) = (at.saturating_add(LEFT + 6), base(top, row));
+    let (x, reply) = (at.saturating_add(LEFT + INSET), reply_text(entry.effect));
     write!(page, "<text class=\"label\" x=\"{x}\" y=\"{base}\">")?;
-    push_escaped(page, texts.0)?;
+    push_cut(page, caption, caption_room(letters, reply))?;
     page.push_str(": <tspan class=\"reply\">")?;
-    push_escaped(page, texts.1)?;
+    page.push_str(reply)?;
     page.push_str("</tspan></text>")
 }
 
@@ -160,7 +192,9 @@ pub(crate) fn push_bar(
     match bar.label {
         Label::Hidden => {}
         Label::Inside { letters } => push_inside(page, bar, letters, texts, top)?,
-        Label::Above { row, at } => push_above(page, row, at, texts, top)?,
+        Label::Above { row, at, letters } => {
+            push_above(page, bar.entry, &caption, at, letters, base(top, row))?
+        }
     }
     push_mark(page, bar, top)?;
     page.push_str("</g>\n")

@@ -1,8 +1,11 @@
-//! What is the same in every SVG: the style and the legend.
+//! The style of an SVG, and its legend.
+
+use std::alloc::AllocError;
 
 /// The title, the colours in light and dark, and the fading of open calls.
 pub(crate) const STYLE: &str = "<title>Calls of a schedule</title>
 <style>
+svg{max-width:100%;height:auto}
 text{font:11px ui-monospace,Menlo,Consolas,'DejaVu Sans Mono','Liberation Mono',monospace;fill:#1f2328}
 .paper{fill:#ffffff}
 .soft{fill:#59636e}
@@ -14,6 +17,11 @@ text{font:11px ui-monospace,Menlo,Consolas,'DejaVu Sans Mono','Liberation Mono',
 .done .bar{fill:#dbeafe;stroke:#2563ab}
 .refused .bar{fill:#ffe2cc;stroke:#b1430a;stroke-dasharray:5 2}
 .pending .bar{fill:#e8ebef;stroke:#818b98}
+.bar.cut{stroke:none}
+.edge{fill:none;stroke-width:1.25}
+.done .edge{stroke:#2563ab}
+.refused .edge{stroke:#b1430a;stroke-dasharray:5 2}
+.pending .edge{stroke:#818b98}
 .done .open{fill:url(#open-done);stroke:none}
 .refused .open{fill:url(#open-refused);stroke:none}
 .pending .open{fill:url(#open-pending);stroke:none}
@@ -35,6 +43,10 @@ text{fill:#e6edf3}
 .done .bar{fill:#12304f;stroke:#58a6ff}
 .refused .bar{fill:#4a2410;stroke:#f0883e}
 .pending .bar{fill:#21262d;stroke:#7d8590}
+.bar.cut{stroke:none}
+.done .edge{stroke:#58a6ff}
+.refused .edge{stroke:#f0883e}
+.pending .edge{stroke:#7d8590}
 .done .mark{fill:#58a6ff;stroke:#0d1117}
 .refused .mark{fill:#f0883e;stroke:#0d1117}
 .done .reply{fill:#9ecbff}
@@ -54,7 +66,7 @@ text{fill:#e6edf3}
 ";
 
 /// What the shapes of a picture mean.
-pub(crate) const LEGEND: &str = "<g transform=\"translate(52 12)\">
+pub(crate) const LEGEND: &str = "<g class=\"legend\" transform=\"translate(52 12)\">
 <g class=\"done\"><rect class=\"bar\" x=\"0\" y=\"0\" width=\"48\" height=\"18\" rx=\"6\"/><circle class=\"mark\" cx=\"24\" cy=\"18\" r=\"4.5\"/></g>
 <text x=\"56\" y=\"13\">call, its point</text>
 <g class=\"refused\"><rect class=\"bar\" x=\"176\" y=\"0\" width=\"48\" height=\"18\"/><path class=\"mark\" d=\"M200 12l6 6-6 6-6-6z\"/></g>
@@ -63,3 +75,13 @@ pub(crate) const LEGEND: &str = "<g transform=\"translate(52 12)\">
 <text x=\"444\" y=\"13\">has not returned</text>
 </g>
 ";
+
+/// Adds the style of a picture of this width where it is shown less than 500 pixels wide: no texts but the names of the lanes, and
+/// these and the points larger.
+pub(crate) fn push_narrow_style(page: &mut String, width: u32) -> Result<(), AllocError> {
+    let letter = width / 40;
+    write!(
+        page,
+        "<style>@media(max-width:500px){{text,.legend{{display:none}}.lane{{display:inline;font-size:{letter}px;dominant-baseline:central}}.mark{{stroke-width:8px}}.done .mark{{stroke:#2563ab}}.refused .mark{{stroke:#b1430a}}}}</style>\n"
+    )
+}
