@@ -5,3 +5,4 @@ pub mod Pairing
 pub mod Turning
 pub mod Answered
 pub mod Fresh
+pub mod Trying

@@ -5,3 +5,4 @@ pub mod Passes
 pub mod Meeting
 pub mod Shown
 pub mod Callers
+pub mod Owned

@@ -8,10 +8,14 @@ mod leaf_calls;
 mod locks;
 mod making;
 mod meeting;
+mod own_caller;
+mod own_caller_book;
 mod plays;
 mod rule;
 mod table;
+mod tries;
 pub mod view;
 
 pub use caller::Caller;
+pub use own_caller::OwnCaller;
 pub use table::ManagedTable;

@@ -17,11 +17,11 @@ use std::snapshot::Snapshot;
 use std::sync::Wait;
 
 // How far a lock's word stands from the next lock's: two cache lines.
-const WORDS_APART: usize = 16;
+pub(crate) const WORDS_APART: usize = 16;
 
-const FREE: u64 = 0;
+pub(crate) const FREE: u64 = 0;
 
-const HELD: u64 = 1;
+pub(crate) const HELD: u64 = 1;
 
 const WAITED_FOR: u64 = 2;
 
@@ -68,7 +68,7 @@ impl<T: Keyed + Drop> Locks<T> {
 
     // Marks the lock, and takes it where it was free.
     #[inline(always)]
-    fn try_take(&self, seat: &mut Seat<T, Passes>, lock: usize, mark: u64) -> bool
+    pub(crate) fn try_take(&self, seat: &mut Seat<T, Passes>, lock: usize, mark: u64) -> bool
         requires mark { mark ≢ 0 }
         requires inside { lock < self.now.table.shared.key.locks }
         requires free { IsFree self.now.table.shared.table_id self.now.table.shared.key.row.value seat.old }
@@ -112,7 +112,12 @@ impl<T: Keyed + Drop> Locks<T> {
 
     // Lends the value that the pass has in hand to `act`.
     #[inline(always)]
-    fn lend<A, F: FnOnce(&mut T) -> A>(&self, seat: &mut Seat<T, Passes>, lock: usize, act: F) -> A
+    pub(crate) fn lend<A, F: FnOnce(&mut T) -> A>(
+        &self,
+        seat: &mut Seat<T, Passes>,
+        lock: usize,
+        act: F,
+    ) -> A
         requires id { seat.old.table_id ≡ self.now.table.shared.table_id }
         requires hand { (x : T) × (seat.old.me.1 ≡ (lock, x) ∷ []) × FnOnceTakesAtMut F.FnOnce act x }
         ensures id { seat.new.table_id ≡ seat.old.table_id }

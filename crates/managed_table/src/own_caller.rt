@@ -1,0 +1,140 @@
+//! A caller that owns a share of its table.
+use crate::caller::Caller;
+use crate::table::ManagedTable;
+use dep_index::{Call, Catalogue, GetError, PutError};
+use std::alloc::{AllocError, Global};
+use std::marker::Model;
+use std::sync::Arc;
+
+/// A caller with a share of a table that only such callers have, for threads that must not wait. Contracts see the caller.
+///
+/// Its calls never wait, and so wake nobody: each tries its lock at most so many times. The outer None: the worker, the slot or the place is out
+/// of range. The inner None: the lock was taken at each try. Nothing is changed then.
+#[derive(Drop)]
+pub struct OwnCaller {
+    pub(crate) caller: Caller,
+    pub(crate) table: Arc<ManagedTable, Global>,
+}
+
+impl Model for OwnCaller {
+    ghost use Rattle.std.specs.Arc.{arc_value};
+    ghost use Rattle.managed_table.specs.Callers.{CallerIs, IsCallerOf};
+
+    ghost Value = { CallerIs };
+
+    ghost view = { λ c. c.caller };
+
+    ghost invariant = { λ c. IsCallerOf (arc_value c.table) c.caller };
+}
+
+impl OwnCaller {
+    ghost use Rattle.std.specs.Prelude.{◌≡◌, ◌<◌, [], IfOk, IfSome, IfNone, MatchOption};
+    ghost use Rattle.std.specs.Arc.{arc_value};
+    ghost use Rattle.dep_index.specs.Catalogue.{modules_of};
+    ghost use Rattle.dep_index.specs.Words.{closed};
+    ghost use Rattle.dep_index.specs.Refusals.{reply_of, get_refusal, put_refusal};
+    ghost use Rattle.root_row.specs.World.{slots};
+    ghost use Rattle.root_row.specs.declared.view.SeatName.TheVariants as name_is;
+    ghost use Rattle.managed_table.specs.Turns.{MadeOneCall, MadeNoCall};
+    ghost use Rattle.managed_table.specs.Shown.{HoldsSoOften};
+    ghost use Rattle.managed_table.specs.Callers.{IsCallerOf};
+    ghost use Rattle.managed_table.specs.Owned.{row_of, SameTable, IsBeyond, IsWithin};
+
+    /// A table over a catalogue, and its first caller. Every module is Absent, and nothing is held.
+    pub fn new(
+        alloc: Global,
+        catalogue: &Catalogue,
+        workers: usize,
+    ) -> Result<OwnCaller, AllocError>
+        requires few_workers { workers < closed }
+        ensures world { IfOk result (λ c. (row_of c).world ≡ record { catalogue = modules_of catalogue.now; workers = workers }) }
+        ensures new { IfOk result (λ c. (c.leaves.pass.turns ≡ []) × (c.book.pass.turns ≡ [])) }
+    {
+        let (table, _readers) = ManagedTable::new(alloc, catalogue, workers)?;
+        Ok(OwnCaller::of(Arc::new(alloc, table)?))
+    }
+
+    fn of(table: Arc<ManagedTable, Global>) -> OwnCaller
+        ensures own { IsCallerOf (arc_value table) result }
+        ensures new { (result.leaves.pass.turns ≡ []) × (result.book.pass.turns ≡ []) }
+    {
+        let caller = table.caller();
+        OwnCaller { caller, table }
+    }
+
+    /// A further caller of the same table, who has done nothing.
+    pub fn further(&self) -> Result<OwnCaller, AllocError>
+        ensures same { IfOk result (SameTable self.now) }
+        ensures new { IfOk result (λ c. (c.leaves.pass.turns ≡ []) × (c.book.pass.turns ≡ [])) }
+    {
+        let table = Arc::try_clone(&self.table)?;
+        Ok(OwnCaller::of(table))
+    }
+
+    /// How many workers there are.
+    pub fn workers(&self) -> usize
+        ensures { result ≡ (row_of self.now).world.workers }
+    {
+        self.table.workers()
+    }
+
+    /// How many modules the catalogue has.
+    pub fn slots(&self) -> usize
+        ensures { result ≡ slots (row_of self.now).world }
+    {
+        self.table.slots()
+    }
+
+    /// Takes one reference for the worker. The innermost None: the lock was taken, the worker holds no reference to the module,
+    /// and each try of the module's word was missed.
+    pub fn get(
+        &mut self,
+        worker: usize,
+        slot: usize,
+        tries: u32,
+    ) -> Option<Option<Option<Result<(), GetError>>>>
+        ensures same { SameTable self.old self.new }
+        ensures range { MatchOption result (IsBeyond self.old worker slot × (self.new ≡ self.old)) (λ _. IsWithin self.old worker slot) }
+        ensures call { IfSome result (λ o. MatchOption o (self.new ≡ self.old) (λ a. IfSome a (λ r. MadeOneCall (row_of self.old) worker (name_is.Leaf worker) (Call.Get worker slot) (reply_of get_refusal r) self.old.leaves.pass self.new.leaves.pass))) }
+        ensures missed { IfSome result (λ o. IfSome o (λ a. IfNone a (MadeNoCall (row_of self.old) worker (HoldsSoOften worker slot 0) self.old.leaves.pass self.new.leaves.pass))) }
+        ensures book { self.new.book ≡ self.old.book }
+    {
+        self.table.get_within(&mut self.caller, worker, slot, tries)
+    }
+
+    /// Gives one reference of the worker back.
+    pub fn put(
+        &mut self,
+        worker: usize,
+        slot: usize,
+        tries: u32,
+    ) -> Option<Option<Result<(), PutError>>>
+        ensures same { SameTable self.old self.new }
+        ensures range { MatchOption result (IsBeyond self.old worker slot × (self.new ≡ self.old)) (λ _. IsWithin self.old worker slot) }
+        ensures call { IfSome result (λ o. MatchOption o (self.new ≡ self.old) (λ r. MadeOneCall (row_of self.old) worker (name_is.Leaf worker) (Call.Put worker slot) (reply_of put_refusal r) self.old.leaves.pass self.new.leaves.pass)) }
+        ensures book { self.new.book ≡ self.old.book }
+    {
+        let row = &self.table.row;
+        self.table.try_leaf_turn(
+            &mut self.caller,
+            worker,
+            slot,
+            tries,
+            |leaf| leaf.put(row, slot),
+        )
+    }
+
+    /// How often the worker holds the module. The turn makes no call.
+    pub fn held(&mut self, worker: usize, slot: usize, tries: u32) -> Option<Option<u32>>
+        ensures same { SameTable self.old self.new }
+        ensures range { MatchOption result (IsBeyond self.old worker slot × (self.new ≡ self.old)) (λ _. IsWithin self.old worker slot) }
+        ensures shown { IfSome result (λ o. MatchOption o (self.new ≡ self.old) (λ r. MadeNoCall (row_of self.old) worker (HoldsSoOften worker slot r) self.old.leaves.pass self.new.leaves.pass)) }
+        ensures book { self.new.book ≡ self.old.book }
+    {
+        self.table
+            .try_leaf_turn(&mut self.caller, worker, slot, tries, |leaf| {
+                leaf.laws();
+                leaf.held(slot)
+            })
+    }
+}

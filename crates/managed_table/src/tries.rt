@@ -1,0 +1,156 @@
+//! Turns that are given up where the lock is taken.
+ghost use Rattle.std.specs.Prelude.{◌≡◌, ◌<◌, ◌≤◌, ◌⊎◌, IfSome, IfNone, MatchBool, MatchOption};
+ghost use Rattle.std.specs.Fn.{FnOnceReturnsAtMut};
+ghost use Rattle.dep_index.specs.Refusals.{reply_of, get_refusal};
+ghost use Rattle.root_row.specs.World.{slots};
+ghost use Rattle.root_row.specs.declared.view.SeatName.TheVariants as name_is;
+ghost use Rattle.managed_table.specs.Kept.{seen, leaf_fits, book_fits};
+ghost use Rattle.managed_table.specs.Turns.{HasTaken, MadeTurn, MadeOneCall, MadeNoCall, alone, pass_of, with_turns, turn_of, seen_in_hand};
+ghost use Rattle.managed_table.specs.Passes.{IsFree, HasInHand, MayActOn};
+ghost use Rattle.managed_table.specs.Shown.{HoldsSoOften};
+ghost use Rattle.managed_table.specs.Callers.{IsCallerOf};
+
+use crate::caller::Caller;
+use crate::keyed::Keyed;
+use crate::locks::{FREE, HELD, Locks, WORDS_APART};
+use crate::plays::Release;
+use crate::table::ManagedTable;
+use crate::view::Passes;
+use atomic_table::Seat;
+use dep_index::{Call, GetError};
+use module_table::Book;
+use use_indicator::Leaf;
+
+impl<T: Keyed + Drop> Locks<T> {
+    // Takes the lock where it is free.
+    #[inline(always)]
+    fn take_free(&self, seat: &mut Seat<T, Passes>, lock: usize) -> bool
+        requires inside { lock < self.now.table.shared.key.locks }
+        requires free { IsFree self.now.table.shared.table_id self.now.table.shared.key.row.value seat.old }
+        ensures id { seat.new.table_id ≡ seat.old.table_id }
+        ensures told { MatchBool result (HasTaken T.fits T.seen lock (pass_of seat.old.me.0) seat.new.me) ((seat.new.me.0 ≡ seat.old.me.0) × (seat.new.me.1 ≡ seat.old.me.1)) }
+    {
+        if self.table.shared.peek((lock + 1) * WORDS_APART) != FREE {
+            return false;
+        }
+        self.try_take(seat, lock, HELD)
+    }
+
+    // Takes the lock in at most so many tries.
+    #[inline(always)]
+    fn take_within(&self, seat: &mut Seat<T, Passes>, lock: usize, tries: u32) -> bool
+        requires inside { lock < self.now.table.shared.key.locks }
+        requires free { IsFree self.now.table.shared.table_id self.now.table.shared.key.row.value seat.old }
+        ensures id { seat.new.table_id ≡ seat.old.table_id }
+        ensures told { MatchBool result (HasTaken T.fits T.seen lock (pass_of seat.old.me.0) seat.new.me) ((seat.new.me.0 ≡ seat.old.me.0) × (seat.new.me.1 ≡ seat.old.me.1)) }
+    {
+        for _ in 0..tries {
+            if self.take_free(seat, lock) {
+                return true;
+            }
+        }
+        false
+    }
+
+    // Lets go of a lock that nobody waits for.
+    #[inline(always)]
+    fn let_go(&self, seat: &mut Seat<T, Passes>, lock: usize)
+        requires inside { lock < self.now.table.shared.key.locks }
+        requires id { seat.old.table_id ≡ self.now.table.shared.table_id }
+        requires row { (pass_of seat.old.me.0).row.value ≡ self.now.table.shared.key.row.value }
+        requires holds { HasInHand T.fits T.seen lock (pass_of seat.old.me.0) seat.old.me }
+        ensures free { IsFree self.now.table.shared.table_id self.now.table.shared.key.row.value seat.new }
+        ensures turn { seat.new.me.0 ≡ alone (with_turns (pass_of seat.old.me.0) (turn_of (pass_of seat.old.me.0).taken (seen_in_hand T.seen seat.old.me.1))) }
+    {
+        let shared = &self.table.shared;
+        shared.swap::<Release<T>>(seat, (lock + 1) * WORDS_APART, FREE);
+    }
+
+    /// As `turn`, but it never waits and wakes nobody, for locks that nobody waits for. It is None where the lock was taken at
+    /// each of so many tries, and the pass is then as it was.
+    #[inline(always)]
+    pub fn try_turn<A, F: FnOnce(&mut T) -> A + Drop>(
+        &self,
+        seat: &mut Seat<T, Passes>,
+        lock: usize,
+        tries: u32,
+        act: F,
+    ) -> Option<A>
+        requires inside { lock < self.now.table.shared.key.locks }
+        requires free { IsFree self.now.table.shared.table_id self.now.table.shared.key.row.value seat.old }
+        requires may { MayActOn F.FnOnce T.fits T.seen self.now.table.shared.key.row.value lock act }
+        ensures free { IsFree self.now.table.shared.table_id self.now.table.shared.key.row.value seat.new }
+        ensures turn { MatchOption result (seat.new.me.0 ≡ seat.old.me.0) (λ r. MadeTurn T.fits T.seen lock (λ x y. FnOnceReturnsAtMut F.FnOnce act x r y) (pass_of seat.old.me.0) (pass_of seat.new.me.0)) }
+    {
+        if !self.take_within(seat, lock, tries) {
+            return None;
+        }
+        let answer = self.lend(seat, lock, act);
+        self.let_go(seat, lock);
+        Some(answer)
+    }
+}
+
+impl ManagedTable {
+    /// As `try_get`, but it never waits. The middle None: the lock was taken at each try, and the caller is as it was.
+    pub(crate) fn get_within(
+        &self,
+        caller: &mut Caller,
+        worker: usize,
+        slot: usize,
+        tries: u32,
+    ) -> Option<Option<Option<Result<(), GetError>>>>
+        requires own { IsCallerOf self.now caller.old }
+        ensures own { IsCallerOf self.now caller.new }
+        ensures range { MatchOption result (((self.now.row.world.workers ≤ worker) ⊎ (slots self.now.row.world ≤ slot)) × (caller.new ≡ caller.old)) (λ _. (worker < self.now.row.world.workers) × (slot < slots self.now.row.world)) }
+        ensures call { IfSome result (λ o. MatchOption o (caller.new ≡ caller.old) (λ a. IfSome a (λ r. MadeOneCall self.now.row worker (name_is.Leaf worker) (Call.Get worker slot) (reply_of get_refusal r) caller.old.leaves.pass caller.new.leaves.pass))) }
+        ensures missed { IfSome result (λ o. IfSome o (λ a. IfNone a (MadeNoCall self.now.row worker (HoldsSoOften worker slot 0) caller.old.leaves.pass caller.new.leaves.pass))) }
+        ensures book { caller.new.book ≡ caller.old.book }
+    {
+        let row = &self.row;
+        self.try_leaf_turn(caller, worker, slot, tries, |leaf| {
+            leaf.laws();
+            leaf.try_get(row, slot, tries)
+        })
+    }
+
+    // As leaf_turn, but the inner None: the lock was taken at each of so many tries, and the caller is as it was.
+    #[inline(always)]
+    pub(crate) fn try_leaf_turn<A, F: FnOnce(&mut Leaf) -> A + Drop>(
+        &self,
+        caller: &mut Caller,
+        worker: usize,
+        slot: usize,
+        tries: u32,
+        act: F,
+    ) -> Option<Option<A>>
+        requires own { IsCallerOf self.now caller.old }
+        requires may { slot < slots self.now.row.world → MayActOn F.FnOnce leaf_fits seen self.now.row worker act }
+        ensures own { IsCallerOf self.now caller.new }
+        ensures range { MatchOption result (((self.now.row.world.workers ≤ worker) ⊎ (slots self.now.row.world ≤ slot)) × (caller.new ≡ caller.old)) (λ _. (worker < self.now.row.world.workers) × (slot < slots self.now.row.world)) }
+        ensures turn { IfSome result (λ o. MatchOption o (caller.new ≡ caller.old) (λ r. MadeTurn leaf_fits seen worker (λ x y. FnOnceReturnsAtMut F.FnOnce act x r y) caller.old.leaves.pass caller.new.leaves.pass)) }
+        ensures book { caller.new.book ≡ caller.old.book }
+    {
+        if worker >= self.leaves.count() || slot >= self.row.slots() {
+            return None;
+        }
+        Some(self.leaves.try_turn(&mut caller.leaves, worker, tries, act))
+    }
+
+    // As book_turn, but None: the lock was taken at each of so many tries, and the caller is as it was.
+    #[inline(always)]
+    pub(crate) fn try_book_turn<A, F: FnOnce(&mut Book) -> A + Drop>(
+        &self,
+        caller: &mut Caller,
+        tries: u32,
+        act: F,
+    ) -> Option<A>
+        requires own { IsCallerOf self.now caller.old }
+        requires may { MayActOn F.FnOnce book_fits seen self.now.row 0 act }
+        ensures own { IsCallerOf self.now caller.new }
+        ensures turn { MatchOption result (caller.new ≡ caller.old) (λ r. MadeTurn book_fits seen 0 (λ x y. FnOnceReturnsAtMut F.FnOnce act x r y) caller.old.book.pass caller.new.book.pass) }
+        ensures leaves { caller.new.leaves ≡ caller.old.leaves }
+    {
+        self.book.try_turn(&mut caller.book, 0, tries, act)
+    }
+}
