@@ -87,11 +87,29 @@ static bool is_filled(const struct table *table, bool wanted)
     return is;
 }
 
+/* A managed table's first caller, and a further one. */
+struct callers {
+    gz_caller first, further;
+};
+
+static gz_number make_managed(gz_catalogue *catalogue, struct callers *callers)
+{
+    gz_number number = gz_new_managed(catalogue, LEAVES, &callers->first);
+    return number ? number : gz_new_caller(&callers->first, &callers->further);
+}
+
+static void free_callers(struct callers *callers)
+{
+    gz_free_caller(&callers->first);
+    gz_free_caller(&callers->further);
+}
+
 /* Reads and makes with some allocations refused, and frees what was made. */
 static bool is_sound(long from, long to)
 {
     gz_catalogue catalogue = GZ_EMPTY;
     struct table table = { .book = GZ_EMPTY };
+    struct callers callers = { GZ_EMPTY, GZ_EMPTY };
     refuse(from, to);
     gz_number number = read_text(&catalogue);
     bool is = (number == GZ_DONE) == (catalogue.at != NULL) && (number == GZ_DONE || number == GZ_OUT_OF_MEMORY);
@@ -99,7 +117,13 @@ static bool is_sound(long from, long to)
         number = make(&catalogue, &table);
         is = is && is_filled(&table, number == GZ_DONE) && (number == GZ_DONE || number == GZ_OUT_OF_MEMORY);
     }
+    if (number == GZ_DONE) {
+        number = make_managed(&catalogue, &callers);
+        is = is && (number == GZ_DONE || number == GZ_OUT_OF_MEMORY) && (callers.further.at != NULL) == (number == GZ_DONE);
+        is = is && (callers.first.at != NULL || number != GZ_DONE);
+    }
     refuse(-1, -1);
+    free_callers(&callers);
     free_table(&table);
     gz_free_catalogue(&catalogue);
     return is && blocks == 0 && (from >= 0 || number == GZ_DONE);
@@ -111,10 +135,12 @@ int main(void)
         return fails("all allowed", 0);
     gz_catalogue catalogue = GZ_EMPTY;
     struct table table = { .book = GZ_EMPTY };
+    struct callers callers = { GZ_EMPTY, GZ_EMPTY };
     refuse(-1, -1);
-    if (read_text(&catalogue) || make(&catalogue, &table))
+    if (read_text(&catalogue) || make(&catalogue, &table) || make_managed(&catalogue, &callers))
         return fails("all allowed", 0);
     long last = made;
+    free_callers(&callers);
     free_table(&table);
     gz_free_catalogue(&catalogue);
     for (long number = 0; number < last; number++) {

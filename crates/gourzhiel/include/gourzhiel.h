@@ -1,17 +1,25 @@
 /* gourzhiel.h: the table of loadable modules, for programs in C and C++.
  *
  * A table counts who uses which module while others load, drain and remove modules beside them. Each user has a leaf,
- * which counts its own references; one atomic word a module counts the leaves that hold it. Nothing here takes a lock.
+ * which counts its own references; one atomic word a module counts the leaves that hold it.
  *
  *     gz_catalogue catalogue = GZ_EMPTY;   what modules there may be, read from a text
+ *
+ * A table is had in one of two ways. By gz_new its parts are in its callers' hands, and nothing takes a lock:
+ *
  *     gz_book book = GZ_EMPTY;             loads, drains and removes: one to a table
  *     gz_leaf leaves[4] = { GZ_EMPTY };    take and give references: one to a thread
  *     gz_reader reader = GZ_EMPTY;         asks whether a module is held
  *
+ * By gz_new_managed the library keeps the parts, each behind a lock of its own. Any thread calls for any worker, which is
+ * a leaf by its number, and for the book:
+ *
+ *     gz_caller caller = GZ_EMPTY;         makes all calls: one to a thread
+ *
  * What a caller owes. The library is proved against its contracts; nobody proves a caller. Otherwise the behaviour is
  * undefined:
- *   - A handle begins as GZ_EMPTY, and gz_read or gz_new fills it. Every other call wants full handles, and fills no
- *     full one. The gz_free_ calls also take an empty one.
+ *   - A handle begins as GZ_EMPTY, and gz_read or a gz_new call fills it. Every other call wants full handles, and fills
+ *     no full one. The gz_free_ calls also take an empty one.
  *   - A handle is in one call at a time. Handles of one table may be in calls of several threads at once.
  *   - A handle is moved, not copied: after `b = a` only b is used. After gz_free_ it is empty.
  *   - A hand-over of a handle to another thread is ordered by a lock, a thread's start or join, or a seq_cst atomic.
@@ -19,11 +27,12 @@
  *   - No call from a signal handler, and none in the forked child of a process with threads.
  *   - malloc, realloc and free are of one allocator, whose blocks are aligned as C's are.
  * Each comment names the numbers that a call may answer beside GZ_DONE. A refusal changes nothing.
- * GZ_OUT_OF_RANGE: the slot is none of the table.
+ * GZ_OUT_OF_RANGE: the slot is none of the table; of a managed call, the worker or the slot.
  */
 #ifndef GOURZHIEL_H
 #define GOURZHIEL_H
 
+#include <sched.h>
 #include <stdbool.h>
 #include <stddef.h>
 #include <stdint.h>
@@ -59,8 +68,8 @@ typedef enum gz_number {
     GZ_TWICE_EXPORTED = 26, /* the symbol is exported already */
     GZ_TOO_MANY_MODULES = 27, /* more than 256 modules, 1,024 in version 2 or 65,535 in version 3 */
     GZ_OUT_OF_MEMORY = 28,  /* malloc answered NULL, and nothing is kept */
-    GZ_BUSY = 32,           /* each try was missed, since other leaves took or gave the module between */
-    GZ_OUT_OF_RANGE = 33,   /* the slot or the place is none of the table */
+    GZ_BUSY = 32,           /* each try was missed: others changed the module's word between, or had the lock */
+    GZ_OUT_OF_RANGE = 33,   /* the worker, the slot or the place is none of the table */
     GZ_UNKNOWN_NAME = 34,   /* no module has the name */
     GZ_TOO_SHORT = 35,      /* the buffer is shorter than the name */
     GZ_TOO_MANY_LEAVES = 36 /* a table has fewer than 2^32 leaves */
@@ -71,6 +80,7 @@ typedef struct gz_catalogue { void *at; } gz_catalogue;
 typedef struct gz_book { void *at; } gz_book;
 typedef struct gz_leaf { void *at; } gz_leaf;
 typedef struct gz_reader { void *at; } gz_reader;
+typedef struct gz_caller { void *at; } gz_caller;
 
 #define GZ_EMPTY { NULL }
 
@@ -103,6 +113,21 @@ uint32_t gz_book_state(gz_book *book, size_t slot);
 size_t gz_book_loaded(gz_book *book);
 uint32_t gz_book_loaded_at(gz_book *book, size_t place, size_t *slot);
 void gz_book_free(gz_book book);
+uint32_t gz_managed_new(gz_catalogue *catalogue, size_t workers, gz_caller *caller);
+uint32_t gz_caller_new(gz_caller *caller, gz_caller *further);
+size_t gz_caller_workers(gz_caller *caller);
+uint32_t gz_caller_get(gz_caller *caller, size_t worker, size_t slot, uint32_t tries);
+uint32_t gz_caller_put(gz_caller *caller, size_t worker, size_t slot, uint32_t tries);
+uint32_t gz_caller_held(gz_caller *caller, size_t worker, size_t slot, uint32_t tries, uint32_t *count);
+uint32_t gz_caller_begin_load(gz_caller *caller, size_t slot, uint32_t tries, size_t *need);
+uint32_t gz_caller_end_load(gz_caller *caller, size_t slot, bool ok, uint32_t tries);
+uint32_t gz_caller_begin_drain(gz_caller *caller, size_t slot, uint32_t tries);
+uint32_t gz_caller_begin_remove(gz_caller *caller, size_t slot, uint32_t tries);
+uint32_t gz_caller_end_remove(gz_caller *caller, size_t slot, uint32_t tries);
+uint32_t gz_caller_state(gz_caller *caller, size_t slot, uint32_t tries);
+uint32_t gz_caller_loaded(gz_caller *caller, uint32_t tries, size_t *count);
+uint32_t gz_caller_loaded_at(gz_caller *caller, size_t place, uint32_t tries, size_t *slot);
+void gz_caller_free(gz_caller caller);
 
 /* ---- Catalogues ---- */
 
@@ -269,6 +294,112 @@ static inline void gz_free_book(gz_book *book)
         gz_book_free(*book);
     book->at = NULL;
 }
+
+/* ---- Managed tables ---- */
+
+/* A new table whose parts the library keeps, over a catalogue, with `workers` workers, and its first caller in an empty
+ * handle. All modules are absent, and no worker holds one. GZ_OUT_OF_MEMORY, GZ_TOO_MANY_LEAVES: no handle is filled. */
+static inline gz_number gz_new_managed(gz_catalogue *catalogue, size_t workers, gz_caller *caller)
+{
+    return (gz_number)gz_managed_new(catalogue, workers, caller);
+}
+
+/* A further caller of the same table, in an empty handle. Each thread has one of its own. GZ_OUT_OF_MEMORY. */
+static inline gz_number gz_new_caller(gz_caller *caller, gz_caller *further)
+{
+    return (gz_number)gz_caller_new(caller, further);
+}
+
+/* How many workers the table has. Their numbers are 0 and up. */
+static inline size_t gz_workers(gz_caller *caller) { return gz_caller_workers(caller); }
+
+/* Managed calls. Each takes one lock, makes one call of a worker's leaf or of the book, and lets go: so that any thread
+ * may call for any worker at any time, and each call that returns was made once. The library's own call tries the lock so
+ * many times and then answers GZ_BUSY, with nothing changed; it never waits. The functions here wait: while it is GZ_BUSY
+ * they let another thread run, by sched_yield, and call again. A thread that shall not wait calls gz_caller_ itself.
+ * No promise is made that a lock comes free. */
+#define GZ_TRIES 64
+#define GZ_WAIT_FOR(call) \
+    gz_number number; \
+    while ((number = (gz_number)(call)) == GZ_BUSY) \
+        sched_yield(); \
+    return number
+
+/* Takes one reference to the module for the worker. GZ_NOT_LIVE, GZ_TOO_MANY, GZ_OUT_OF_RANGE. */
+static inline gz_number gz_call_get(gz_caller *caller, size_t worker, size_t slot)
+{
+    GZ_WAIT_FOR(gz_caller_get(caller, worker, slot, GZ_TRIES));
+}
+
+/* Gives one reference of the worker back. GZ_NOT_HELD, GZ_OUT_OF_RANGE. */
+static inline gz_number gz_call_put(gz_caller *caller, size_t worker, size_t slot)
+{
+    GZ_WAIT_FOR(gz_caller_put(caller, worker, slot, GZ_TRIES));
+}
+
+/* How often the worker holds the module, in *count. GZ_OUT_OF_RANGE: *count is left as it is. */
+static inline gz_number gz_call_held(gz_caller *caller, size_t worker, size_t slot, uint32_t *count)
+{
+    GZ_WAIT_FOR(gz_caller_held(caller, worker, slot, GZ_TRIES, count));
+}
+
+/* Begins a load, as gz_begin_load. */
+static inline gz_number gz_call_begin_load(gz_caller *caller, size_t slot, size_t *need)
+{
+    GZ_WAIT_FOR(gz_caller_begin_load(caller, slot, GZ_TRIES, need));
+}
+
+/* Ends a load, as gz_end_load. */
+static inline gz_number gz_call_end_load(gz_caller *caller, size_t slot, bool ok)
+{
+    GZ_WAIT_FOR(gz_caller_end_load(caller, slot, ok, GZ_TRIES));
+}
+
+/* Begins a drain, as gz_begin_drain. */
+static inline gz_number gz_call_begin_drain(gz_caller *caller, size_t slot)
+{
+    GZ_WAIT_FOR(gz_caller_begin_drain(caller, slot, GZ_TRIES));
+}
+
+/* Begins a removal, as gz_begin_remove. */
+static inline gz_number gz_call_begin_remove(gz_caller *caller, size_t slot)
+{
+    GZ_WAIT_FOR(gz_caller_begin_remove(caller, slot, GZ_TRIES));
+}
+
+/* Ends a removal or a drain, as gz_end_remove. */
+static inline gz_number gz_call_end_remove(gz_caller *caller, size_t slot)
+{
+    GZ_WAIT_FOR(gz_caller_end_remove(caller, slot, GZ_TRIES));
+}
+
+/* The state of the module, as gz_state. */
+static inline gz_number gz_call_state(gz_caller *caller, size_t slot)
+{
+    GZ_WAIT_FOR(gz_caller_state(caller, slot, GZ_TRIES));
+}
+
+/* How many modules are not absent, in *count. */
+static inline gz_number gz_call_loaded(gz_caller *caller, size_t *count)
+{
+    GZ_WAIT_FOR(gz_caller_loaded(caller, GZ_TRIES, count));
+}
+
+/* The slot of the loaded module at a place, as gz_loaded_at. */
+static inline gz_number gz_call_loaded_at(gz_caller *caller, size_t place, size_t *slot)
+{
+    GZ_WAIT_FOR(gz_caller_loaded_at(caller, place, GZ_TRIES, slot));
+}
+
+/* Frees the caller, and empties the handle. The last caller frees the table; what its workers still hold ends with it. */
+static inline void gz_free_caller(gz_caller *caller)
+{
+    if (caller->at)
+        gz_caller_free(*caller);
+    caller->at = NULL;
+}
+
+#undef GZ_WAIT_FOR
 
 /* ---- Numbers ---- */
 

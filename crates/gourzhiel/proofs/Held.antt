@@ -21,6 +21,9 @@ use Rattle.gourzhiel.specs.contracts.handles.GzLeaf as GzLeaf
 use Rattle.module_table.specs.contracts.own_reader.OwnReader as Reader
 use Rattle.module_table.proofs.own_reader.OwnReader.TheLaws as reader
 use Rattle.gourzhiel.specs.contracts.handles.GzReader as GzReader
+use Rattle.managed_table.specs.contracts.own_caller.OwnCaller as Caller
+use Rattle.managed_table.proofs.own_caller.OwnCaller.TheLaws as caller
+use Rattle.gourzhiel.specs.contracts.handles.GzCaller as GzCaller
 use Rattle.gourzhiel.proofs.Held.Form.{Handle}
 pub mod Form
 pub mod Lend
@@ -82,6 +85,21 @@ abbrev pub the_reader : Handle of_reader
 the_reader = record {
   name = GzReader.the_type.name;
   base = GzReader.the_row;
+  is_full = λ h. h.full;
+  box = λ h. record { ptr = h.at; alloc = h.alloc; value = h.held };
+  full_of = λ d. record { at = d.ptr; alloc = d.alloc; full = true; held = d.value };
+  filled = λ d. (refl, refl);
+  full = λ h. ap (λ (x : Bool). record { at = h.at; alloc = h.alloc; full = x; held = h.held });
+  owns = λ d vs. refl;
+}
+
+abbrev pub of_caller : Bx
+of_caller = boxed Caller.the_row caller.the_row_laws
+
+abbrev pub the_caller : Handle of_caller
+the_caller = record {
+  name = GzCaller.the_type.name;
+  base = GzCaller.the_row;
   is_full = λ h. h.full;
   box = λ h. record { ptr = h.at; alloc = h.alloc; value = h.held };
   full_of = λ d. record { at = d.ptr; alloc = d.alloc; full = true; held = d.value };

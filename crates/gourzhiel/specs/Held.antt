@@ -11,6 +11,7 @@ use Rattle.dep_index.specs.contracts.catalogue.Catalogue as Catalogue
 use Rattle.module_table.specs.contracts.own_book.OwnBook as Book
 use Rattle.module_table.specs.contracts.own_leaf.OwnLeaf as Leaf
 use Rattle.module_table.specs.contracts.own_reader.OwnReader as Reader
+use Rattle.managed_table.specs.contracts.own_caller.OwnCaller as Caller
 
 abbrev pub held_owns : (R : RattleType) → Bool → Global → Ptr → R.Denot → Fml
 held_owns R true alloc at held = box_owns (ghosts.dealloc_token alloc) R at held
@@ -39,3 +40,9 @@ reader_owns = held_owns Reader.the_row
 
 abbrev pub reader_coded : Coded Reader.the_row.Denot
 reader_coded = Reader.the_row.coded
+
+abbrev pub caller_owns : Bool → Global → Ptr → Caller.the_row.Denot → Fml
+caller_owns = held_owns Caller.the_row
+
+abbrev pub caller_coded : Coded Caller.the_row.Denot
+caller_coded = Caller.the_row.coded

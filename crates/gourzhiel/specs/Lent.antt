@@ -13,6 +13,10 @@ use Rattle.gourzhiel.specs.contracts.handles.GzBook as GzBook-row
 use Rattle.module_table.specs.contracts.own_reader.OwnReader as OwnReader
 use Rattle.gourzhiel.specs.declared.handles.GzReader.{GzReader}
 use Rattle.gourzhiel.specs.contracts.handles.GzReader as GzReader-row
+use Rattle.managed_table.specs.Callers.{CallerIs}
+use Rattle.managed_table.specs.contracts.own_caller.OwnCaller as OwnCaller
+use Rattle.gourzhiel.specs.declared.handles.GzCaller.{GzCaller}
+use Rattle.gourzhiel.specs.contracts.handles.GzCaller as GzCaller-row
 use Rattle.dep_index.specs.contracts.catalogue.Catalogue as OwnCatalogue
 use Rattle.gourzhiel.specs.declared.handles.GzCatalogue.{GzCatalogue}
 use Rattle.gourzhiel.specs.contracts.handles.GzCatalogue as GzCatalogue-row
@@ -28,3 +32,6 @@ ReaderLent h r = Lends GzReader-row.the_row OwnReader.the_row h r (λ w. record 
 
 abbrev pub CatalogueLent : MutBor GzCatalogue → MutBor (List Description) → Fml
 CatalogueLent h r = Lends GzCatalogue-row.the_row OwnCatalogue.the_row h r (λ w. record { at = h.now.at; alloc = h.now.alloc; full = true; held = w })
+
+abbrev pub CallerLent : MutBor GzCaller → MutBor CallerIs → Fml
+CallerLent h r = Lends GzCaller-row.the_row OwnCaller.the_row h r (λ w. record { at = h.now.at; alloc = h.now.alloc; full = true; held = w })

@@ -4,3 +4,4 @@ pub mod Held
 pub mod Lent
 pub mod Naming
 pub mod Making
+pub mod Called

@@ -3,10 +3,12 @@
 ghost use Rattle.std.specs.Prelude.{◌≡◌, Bool, true, List};
 ghost use Rattle.dep_index.specs.Catalogue.{Description};
 ghost use Rattle.root_row.specs.Seats.{Seated};
-ghost use Rattle.gourzhiel.specs.Held.{book_coded, book_owns, catalogue_coded, catalogue_owns, leaf_coded, leaf_owns, reader_coded, reader_owns};
+ghost use Rattle.managed_table.specs.Callers.{CallerIs};
+ghost use Rattle.gourzhiel.specs.Held.{book_coded, book_owns, caller_coded, caller_owns, catalogue_coded, catalogue_owns, leaf_coded, leaf_owns, reader_coded, reader_owns};
 
 use crate::parts::Parts;
 use dep_index::Catalogue;
+use managed_table::OwnCaller;
 use module_table::{OwnBook, OwnLeaf, OwnReader};
 use std::alloc::Global;
 use std::marker::Model;
@@ -194,3 +196,49 @@ impl GzReader {
 }
 
 unsafe impl Send for GzReader {}
+
+/// The handle of a caller of a managed table.
+#[repr(C)]
+#[derive(Drop)]
+pub struct GzCaller {
+    at: *mut u8,
+    alloc: Global,
+    pub ghost full: { Bool },
+    pub ghost held: { CallerIs } by { caller_coded },
+}
+
+impl Model for GzCaller {
+    ghost also_owns = { λ h. caller_owns h.full h.alloc h.at h.held };
+}
+
+impl GzCaller {
+    ghost use Rattle.std.specs.Borrow.{sem};
+    ghost use Rattle.gourzhiel.specs.Lent.{CallerLent};
+
+    pub fn of_parts(parts: Parts<OwnCaller, Global>) -> GzCaller
+        ensures { (result.full ≡ true) × (result.held ≡ parts.value) }
+    {
+        let Parts { at, alloc } = parts;
+        let at = at as *mut u8;
+        GzCaller { at, alloc }
+    }
+
+    pub fn into_parts(self) -> Parts<OwnCaller, Global>
+        requires { self.full ≡ true }
+        ensures { result.value ≡ self.held }
+    {
+        let GzCaller { at, alloc } = self;
+        let at = at as *mut OwnCaller;
+        Parts { at, alloc }
+    }
+
+    pub fn lend(&mut self) -> &mut OwnCaller
+        requires full { self.old.full ≡ true }
+        ensures* writes_back { sem 𝓛 (CallerLent self.entry result) }
+        ensures value { result.now ≡ self.old.held }
+    {
+        unsafe { &mut *(self.at as *mut OwnCaller) }
+    }
+}
+
+unsafe impl Send for GzCaller {}

@@ -1,0 +1,102 @@
+-- How a managed call on the handle of a caller ended: the caller before, the number that is answered, the caller after.
+use Rattle.std.specs.Prelude.{◌≡◌, ◌⊎◌, ℕ, ◌<◌, ◌≤◌, ◌==◌, true, List, [], MatchOption, MatchBool}
+use Rattle.dep_index.specs.declared.calls.Call.{Call}
+use Rattle.dep_index.specs.declared.calls.Call.TheVariants.{Get}
+use Rattle.dep_index.specs.declared.calls.Reply.{Reply}
+use Rattle.dep_index.specs.Table.{Module, Table}
+use Rattle.root_row.specs.World.{slots}
+use Rattle.root_row.specs.declared.view.SeatName.TheVariants as name_is
+use Rattle.managed_table.specs.Callers.{CallerIs}
+use Rattle.managed_table.specs.Turns.{MadeOneCall, MadeNoCall}
+use Rattle.managed_table.specs.Shown.{HoldsSoOften, IsInState, HasLoaded, HasLoadedAt, HasNoneAt}
+use Rattle.managed_table.specs.Owned.{row_of, SameTable, IsBeyond, IsWithin}
+use Rattle.gourzhiel.specs.Numbers.{reply_at, state_at, busy, out_of_range, out_of_memory, too_many_leaves}
+use Rattle.gourzhiel.specs.declared.handles.GzCaller.{GzCaller}
+
+-- in one turn the worker's leaf made this call, which was answered so
+abbrev pub LeafMade : CallerIs → ℕ → Call → CallerIs → Reply → Type 0
+LeafMade before worker call after reply =
+    MadeOneCall (row_of before) worker (name_is.Leaf worker) call reply before.leaves.pass after.leaves.pass × (after.book ≡ before.book)
+
+-- in one turn the book made this call, which was answered so
+abbrev pub BookMade : CallerIs → Call → CallerIs → Reply → Type 0
+BookMade before call after reply =
+    MadeOneCall (row_of before) 0 name_is.Book call reply before.book.pass after.book.pass × (after.leaves ≡ before.leaves)
+
+-- one turn of the worker's leaf showed a table of which this holds, and no call was made
+abbrev pub LeafShown : CallerIs → ℕ → (Table → Type 0) → CallerIs → Type 0
+LeafShown before worker Shows after =
+    MadeNoCall (row_of before) worker Shows before.leaves.pass after.leaves.pass × (after.book ≡ before.book)
+
+-- the same of the book
+abbrev pub BookShown : CallerIs → (Table → Type 0) → CallerIs → Type 0
+BookShown before Shows after =
+    MadeNoCall (row_of before) 0 Shows before.book.pass after.book.pass × (after.leaves ≡ before.leaves)
+
+-- a call of a leaf: the worker or the slot is out of range, or the lock was taken at each try, or it was made and answered so
+abbrev pub LeafCallEnded : CallerIs → ℕ → ℕ → Call → ℕ → CallerIs → Type 0
+LeafCallEnded before worker slot call number after =
+    MatchBool (number == out_of_range) (IsBeyond before worker slot × (after ≡ before))
+    (IsWithin before worker slot × MatchBool (number == busy) (after ≡ before) (MatchOption (reply_at number 0) ⊥ (LeafMade before worker call after)))
+
+-- a get that was busy: the lock was taken at each try, or each try of the module's word was missed, and no call was made
+abbrev pub GetMissed : CallerIs → ℕ → ℕ → CallerIs → Type 0
+GetMissed before worker slot after = (after ≡ before) ⊎ LeafShown before worker (HoldsSoOften worker slot 0) after
+
+abbrev pub GetCallEnded : CallerIs → ℕ → ℕ → ℕ → CallerIs → Type 0
+GetCallEnded before worker slot number after =
+    MatchBool (number == out_of_range) (IsBeyond before worker slot × (after ≡ before))
+    (IsWithin before worker slot × MatchBool (number == busy) (GetMissed before worker slot after)
+    (MatchOption (reply_at number 0) ⊥ (LeafMade before worker (Get worker slot) after)))
+
+-- a call of the book; the need is the one that NeedNotLive names
+abbrev pub BookCallEnded : CallerIs → ℕ → Call → ℕ → ℕ → CallerIs → Type 0
+BookCallEnded before slot call number need after =
+    MatchBool (number == out_of_range) ((slots (row_of before).world ≤ slot) × (after ≡ before))
+    ((slot < slots (row_of before).world) × MatchBool (number == busy) (after ≡ before) (MatchOption (reply_at number need) ⊥ (BookMade before call after)))
+
+-- how often a worker holds a slot, or what was there
+abbrev pub HeldTold : CallerIs → ℕ → ℕ → ℕ → ℕ → ℕ → CallerIs → Type 0
+HeldTold before worker slot was number count after =
+    MatchBool (number == out_of_range) (IsBeyond before worker slot × (after ≡ before) × (count ≡ was))
+    (IsWithin before worker slot × MatchBool (number == busy) ((after ≡ before) × (count ≡ was))
+    ((number ≡ 0) × LeafShown before worker (HoldsSoOften worker slot count) after))
+
+-- the number is that of the module's state
+abbrev pub StateCallTold : CallerIs → ℕ → ℕ → CallerIs → Type 0
+StateCallTold before slot number after =
+    MatchBool (number == out_of_range) ((slots (row_of before).world ≤ slot) × (after ≡ before))
+    ((slot < slots (row_of before).world) × MatchBool (number == busy) (after ≡ before)
+    (MatchOption (state_at number) ⊥ (λ state. BookShown before (IsInState slot state) after)))
+
+-- how many modules are loaded, or what was there
+abbrev pub LoadedTold : CallerIs → ℕ → ℕ → ℕ → CallerIs → Type 0
+LoadedTold before was number count after =
+    MatchBool (number == busy) ((after ≡ before) × (count ≡ was)) ((number ≡ 0) × BookShown before (HasLoaded count) after)
+
+-- the slot of the loaded module at a place, or what was there
+abbrev pub PlaceCallTold : CallerIs → ℕ → ℕ → ℕ → ℕ → CallerIs → Type 0
+PlaceCallTold before place was number slot after =
+    MatchBool (number == busy) ((after ≡ before) × (slot ≡ was))
+    (MatchBool (number == out_of_range) (BookShown before (HasNoneAt place) after × (slot ≡ was))
+    ((number ≡ 0) × BookShown before (HasLoadedAt place slot) after))
+
+-- it has done nothing
+abbrev pub HasDoneNothing : CallerIs → Type 0
+HasDoneNothing caller = (caller.leaves.pass.turns ≡ []) × (caller.book.pass.turns ≡ [])
+
+-- a caller of a table over these modules, with so many workers, which has done nothing
+abbrev pub IsNewCaller : List Module → ℕ → CallerIs → Type 0
+IsNewCaller modules workers caller = ((row_of caller).world ≡ record { catalogue = modules; workers = workers }) × HasDoneNothing caller
+
+-- the handle after a table was made: it is full, with the first caller; or it was not touched, and the number says why
+abbrev pub CallerMade : List Module → ℕ → ℕ → GzCaller → GzCaller → Type 0
+CallerMade modules workers number none caller =
+    MatchBool (number == 0) ((caller.full ≡ true) × IsNewCaller modules workers caller.held)
+    ((caller ≡ none) × ((number ≡ out_of_memory) ⊎ (number ≡ too_many_leaves)))
+
+-- the same of a further caller
+abbrev pub FurtherMade : CallerIs → ℕ → GzCaller → GzCaller → Type 0
+FurtherMade caller number none further =
+    MatchBool (number == 0) ((further.full ≡ true) × SameTable caller further.held × HasDoneNothing further.held)
+    ((further ≡ none) × (number ≡ out_of_memory))

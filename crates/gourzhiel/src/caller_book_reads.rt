@@ -1,0 +1,70 @@
+//! What the book of a managed table shows. It is no call of the history.
+ghost use Rattle.std.specs.Prelude.{◌≡◌, true};
+ghost use Rattle.managed_table.specs.Owned.{SameTable};
+ghost use Rattle.gourzhiel.specs.Called.{StateCallTold, LoadedTold, PlaceCallTold};
+
+use crate::handles::GzCaller;
+use crate::numbers::{ABSENT, BUSY, DONE, DRAINING, LIVE, LOADING, OUT_OF_RANGE, UNLOADING};
+use dep_index::ModuleState;
+
+/// The state of the module: ABSENT, LOADING, LIVE, DRAINING or UNLOADING.
+///
+/// BUSY: the lock was taken at each of so many tries. OUT_OF_RANGE: the slot is none of the table.
+#[unsafe(no_mangle)]
+pub extern "C" fn gz_caller_state(caller: &mut GzCaller, slot: usize, tries: u32) -> u32
+    requires full { caller.old.full ≡ true }
+    ensures kept { (caller.new.full ≡ true) × SameTable caller.old.held caller.new.held }
+    ensures state { StateCallTold caller.old.held slot result caller.new.held }
+{
+    match caller.lend().state(slot, tries) {
+        None => OUT_OF_RANGE,
+        Some(None) => BUSY,
+        Some(Some(ModuleState::Absent)) => ABSENT,
+        Some(Some(ModuleState::Loading)) => LOADING,
+        Some(Some(ModuleState::Live)) => LIVE,
+        Some(Some(ModuleState::Draining)) => DRAINING,
+        Some(Some(ModuleState::Unloading)) => UNLOADING,
+    }
+}
+
+/// How many modules are loaded, in any state but absent.
+///
+/// BUSY: the lock was taken at each of so many tries, and the count is left as it is.
+#[unsafe(no_mangle)]
+pub extern "C" fn gz_caller_loaded(caller: &mut GzCaller, tries: u32, count: &mut usize) -> u32
+    requires full { caller.old.full ≡ true }
+    ensures kept { (caller.new.full ≡ true) × SameTable caller.old.held caller.new.held }
+    ensures count { LoadedTold caller.old.held count.old result count.new caller.new.held }
+{
+    match caller.lend().loaded(tries) {
+        None => BUSY,
+        Some(found) => {
+            *count = found;
+            DONE
+        }
+    }
+}
+
+/// The slot of the loaded module at this place, the oldest first.
+///
+/// BUSY: the lock was taken at each of so many tries. OUT_OF_RANGE: fewer are loaded. The slot is then left as it is.
+#[unsafe(no_mangle)]
+pub extern "C" fn gz_caller_loaded_at(
+    caller: &mut GzCaller,
+    place: usize,
+    tries: u32,
+    slot: &mut usize,
+) -> u32
+    requires full { caller.old.full ≡ true }
+    ensures kept { (caller.new.full ≡ true) × SameTable caller.old.held caller.new.held }
+    ensures place { PlaceCallTold caller.old.held place slot.old result slot.new caller.new.held }
+{
+    match caller.lend().loaded_at(place, tries) {
+        None => BUSY,
+        Some(None) => OUT_OF_RANGE,
+        Some(Some(found)) => {
+            *slot = found;
+            DONE
+        }
+    }
+}

@@ -1,0 +1,78 @@
+//! Makes a managed table, and callers of it in empty handles.
+ghost use Rattle.std.specs.Prelude.{◌≡◌, ◌<◌, true, false, IfOk};
+ghost use Rattle.dep_index.specs.Catalogue.{modules_of};
+ghost use Rattle.dep_index.specs.Words.{closed};
+ghost use Rattle.managed_table.specs.Owned.{SameTable};
+ghost use Rattle.gourzhiel.specs.Called.{CallerMade, FurtherMade, IsNewCaller, HasDoneNothing};
+
+use crate::handles::{GzCaller, GzCatalogue};
+use crate::numbers::{DONE, OUT_OF_MEMORY, TOO_MANY_LEAVES};
+use crate::parts::{Parts, hand_out};
+use dep_index::Catalogue;
+use dep_index::words::CLOSED;
+use managed_table::OwnCaller;
+use std::alloc::{AllocError, Global};
+
+fn first_box(
+    alloc: Global,
+    catalogue: &Catalogue,
+    workers: usize,
+) -> Result<Box<OwnCaller>, AllocError>
+    requires few { workers < closed }
+    ensures { IfOk result (λ b. IsNewCaller (modules_of catalogue.now) workers b.value) }
+{
+    Ok(Box::new(alloc, OwnCaller::new(alloc, catalogue, workers)?)?)
+}
+
+fn further_box(alloc: Global, caller: &OwnCaller) -> Result<Box<OwnCaller>, AllocError>
+    ensures { IfOk result (λ b. SameTable caller.now b.value × HasDoneNothing b.value) }
+{
+    Ok(Box::new(alloc, caller.further()?)?)
+}
+
+/// A new table over a catalogue, with so many workers: the library keeps its book and its leaves, each behind a lock. All
+/// modules are absent. It fills an empty handle with the first caller.
+///
+/// OUT_OF_MEMORY: nothing is kept. TOO_MANY_LEAVES: 2^32 workers or more. The handle is then not touched.
+#[unsafe(no_mangle)]
+pub extern "C" fn gz_managed_new(
+    alloc: Global,
+    catalogue: &mut GzCatalogue,
+    workers: usize,
+    caller: &mut GzCaller,
+) -> u32
+    requires full { catalogue.old.full ≡ true }
+    requires empty { caller.old.full ≡ false }
+    ensures kept { (catalogue.new.full ≡ true) × (catalogue.new.held ≡ catalogue.old.held) }
+    ensures made { CallerMade (modules_of catalogue.old.held) workers result caller.old caller.new }
+{
+    if workers >= CLOSED as usize {
+        return TOO_MANY_LEAVES;
+    }
+    match first_box(alloc, catalogue.lend(), workers) {
+        Err(_) => OUT_OF_MEMORY,
+        Ok(boxed) => {
+            *caller = hand_out(GzCaller::of_parts(Parts::of(boxed)));
+            DONE
+        }
+    }
+}
+
+/// A further caller of the same table, in an empty handle.
+///
+/// OUT_OF_MEMORY: the handle is not touched.
+#[unsafe(no_mangle)]
+pub extern "C" fn gz_caller_new(alloc: Global, caller: &mut GzCaller, further: &mut GzCaller) -> u32
+    requires full { caller.old.full ≡ true }
+    requires empty { further.old.full ≡ false }
+    ensures kept { (caller.new.full ≡ true) × (caller.new.held ≡ caller.old.held) }
+    ensures made { FurtherMade caller.old.held result further.old further.new }
+{
+    match further_box(alloc, caller.lend()) {
+        Err(_) => OUT_OF_MEMORY,
+        Ok(boxed) => {
+            *further = hand_out(GzCaller::of_parts(Parts::of(boxed)));
+            DONE
+        }
+    }
+}

@@ -1,0 +1,175 @@
+/* Managed calls: each once, with each number that it may answer. Says nothing where all is well. */
+#include <gourzhiel.h>
+#include <stdio.h>
+#include <stdlib.h>
+
+static const char text[] =
+    "module snd\nexports snd_card_new\n"
+    "module snd-pcm\nneeds snd_card_new\n"
+    "module fixed\npermanent\n"
+    "module lost\nneeds nobody_has_it\n";
+
+enum { SND, PCM, FIXED, LOST, OUTSIDE, WORKERS = 2 };
+
+static int wrong;
+
+static void check(int line, long found, long wanted)
+{
+    if (found != wanted) {
+        printf("managed.c:%d: answered %ld, and not %ld\n", line, found, wanted);
+        wrong = 1;
+    }
+}
+#define CHECK(found, wanted) check(__LINE__, (long)(found), (long)(wanted))
+
+static void load(gz_caller *caller, size_t slot)
+{
+    size_t need = 99;
+    CHECK(gz_call_begin_load(caller, slot, &need), GZ_DONE);
+    CHECK(gz_call_state(caller, slot), GZ_LOADING);
+    CHECK(gz_call_end_load(caller, slot, true), GZ_DONE);
+    CHECK(gz_call_state(caller, slot), GZ_LIVE);
+    CHECK(need, 99);
+}
+
+static void loads(gz_caller *caller)
+{
+    size_t need = 99, slot = 99, count = 99;
+    CHECK(gz_call_begin_load(caller, PCM, &need), GZ_NEED_NOT_LIVE);
+    CHECK(need, SND);
+    CHECK(gz_call_begin_load(caller, LOST, &need), GZ_UNKNOWN_SYMBOL);
+    CHECK(gz_call_end_load(caller, SND, true), GZ_NOT_LOADING);
+    CHECK(gz_call_begin_load(caller, SND, &need), GZ_DONE);
+    CHECK(gz_call_begin_load(caller, SND, &need), GZ_EXISTS);
+    CHECK(gz_call_end_load(caller, SND, false), GZ_DONE);
+    CHECK(gz_call_state(caller, SND), GZ_ABSENT);
+    load(caller, SND);
+    load(caller, PCM);
+    load(caller, FIXED);
+    CHECK(gz_call_loaded(caller, &count), GZ_DONE);
+    CHECK(count, 3);
+    CHECK(gz_call_loaded_at(caller, 1, &slot), GZ_DONE);
+    CHECK(slot, PCM);
+    CHECK(gz_call_loaded_at(caller, 3, &slot), GZ_OUT_OF_RANGE);
+    CHECK(slot, PCM);
+}
+
+/* What one caller took for a worker, another gives back: the count is the worker's. */
+static void uses(gz_caller *one, gz_caller *other)
+{
+    uint32_t count = 99;
+    CHECK(gz_call_get(one, 0, LOST), GZ_NOT_LIVE);
+    CHECK(gz_call_get(one, 0, PCM), GZ_DONE);
+    CHECK(gz_call_get(other, 0, PCM), GZ_DONE);
+    CHECK(gz_call_held(other, 0, PCM, &count), GZ_DONE);
+    CHECK(count, 2);
+    CHECK(gz_call_put(other, 1, PCM), GZ_NOT_HELD);
+    CHECK(gz_call_begin_remove(one, PCM), GZ_IN_USE);
+    CHECK(gz_call_begin_remove(one, SND), GZ_NEEDED_BY);
+    CHECK(gz_call_begin_remove(one, FIXED), GZ_PERMANENT);
+    CHECK(gz_call_begin_remove(one, LOST), GZ_NO_ENTRY);
+    CHECK(gz_call_put(other, 0, PCM), GZ_DONE);
+    CHECK(gz_call_put(other, 0, PCM), GZ_DONE);
+    CHECK(gz_call_put(one, 0, PCM), GZ_NOT_HELD);
+    for (int i = 0; i < 65535; i++)
+        CHECK(gz_call_get(other, 1, SND), GZ_DONE);
+    CHECK(gz_call_get(one, 1, SND), GZ_TOO_MANY);
+    for (int i = 0; i < 65535; i++)
+        CHECK(gz_call_put(one, 1, SND), GZ_DONE);
+}
+
+static void removals(gz_caller *caller)
+{
+    size_t count = 99;
+    CHECK(gz_call_begin_remove(caller, PCM), GZ_DONE);
+    CHECK(gz_call_state(caller, PCM), GZ_UNLOADING);
+    CHECK(gz_call_get(caller, 0, PCM), GZ_NOT_LIVE);
+    CHECK(gz_call_begin_remove(caller, PCM), GZ_NOT_LIVE);
+    CHECK(gz_call_end_remove(caller, PCM), GZ_DONE);
+    CHECK(gz_call_end_remove(caller, PCM), GZ_NOT_UNLOADING);
+    CHECK(gz_call_begin_drain(caller, LOST), GZ_NO_ENTRY);
+    CHECK(gz_call_begin_drain(caller, FIXED), GZ_PERMANENT);
+    CHECK(gz_call_get(caller, 1, SND), GZ_DONE);
+    CHECK(gz_call_begin_drain(caller, SND), GZ_DONE);
+    CHECK(gz_call_begin_drain(caller, SND), GZ_NOT_LIVE);
+    CHECK(gz_call_state(caller, SND), GZ_DRAINING);
+    CHECK(gz_call_get(caller, 1, SND), GZ_NOT_LIVE);
+    CHECK(gz_call_end_remove(caller, SND), GZ_IN_USE);
+    CHECK(gz_call_put(caller, 1, SND), GZ_DONE);
+    CHECK(gz_call_end_remove(caller, SND), GZ_DONE);
+    CHECK(gz_call_loaded(caller, &count), GZ_DONE);
+    CHECK(count, 1);
+}
+
+static void outside(gz_caller *caller)
+{
+    size_t need = 99;
+    uint32_t count = 99;
+    CHECK(gz_call_get(caller, 0, OUTSIDE), GZ_OUT_OF_RANGE);
+    CHECK(gz_call_get(caller, WORKERS, SND), GZ_OUT_OF_RANGE);
+    CHECK(gz_call_put(caller, 0, OUTSIDE), GZ_OUT_OF_RANGE);
+    CHECK(gz_call_put(caller, SIZE_MAX, SND), GZ_OUT_OF_RANGE);
+    CHECK(gz_call_held(caller, 0, OUTSIDE, &count), GZ_OUT_OF_RANGE);
+    CHECK(gz_call_held(caller, WORKERS, SND, &count), GZ_OUT_OF_RANGE);
+    CHECK(count, 99);
+    CHECK(gz_call_begin_load(caller, OUTSIDE, &need), GZ_OUT_OF_RANGE);
+    CHECK(need, 99);
+    CHECK(gz_call_end_load(caller, OUTSIDE, true), GZ_OUT_OF_RANGE);
+    CHECK(gz_call_begin_drain(caller, OUTSIDE), GZ_OUT_OF_RANGE);
+    CHECK(gz_call_begin_remove(caller, OUTSIDE), GZ_OUT_OF_RANGE);
+    CHECK(gz_call_end_remove(caller, OUTSIDE), GZ_OUT_OF_RANGE);
+    CHECK(gz_call_state(caller, SIZE_MAX), GZ_OUT_OF_RANGE);
+}
+
+/* A call of no try is busy, and changes nothing. */
+static void busy(gz_caller *caller)
+{
+    size_t need = 99, count = 99, slot = 99;
+    uint32_t held = 99;
+    CHECK(gz_caller_get(caller, 0, FIXED, 0), GZ_BUSY);
+    CHECK(gz_caller_put(caller, 0, FIXED, 0), GZ_BUSY);
+    CHECK(gz_caller_held(caller, 0, FIXED, 0, &held), GZ_BUSY);
+    CHECK(gz_caller_begin_load(caller, SND, 0, &need), GZ_BUSY);
+    CHECK(gz_caller_end_load(caller, SND, true, 0), GZ_BUSY);
+    CHECK(gz_caller_begin_drain(caller, FIXED, 0), GZ_BUSY);
+    CHECK(gz_caller_begin_remove(caller, FIXED, 0), GZ_BUSY);
+    CHECK(gz_caller_end_remove(caller, FIXED, 0), GZ_BUSY);
+    CHECK(gz_caller_state(caller, FIXED, 0), GZ_BUSY);
+    CHECK(gz_caller_loaded(caller, 0, &count), GZ_BUSY);
+    CHECK(gz_caller_loaded_at(caller, 0, 0, &slot), GZ_BUSY);
+    CHECK(need == 99 && count == 99 && slot == 99 && held == 99, 1);
+    CHECK(gz_caller_state(caller, FIXED, 1), GZ_LIVE);
+    CHECK(gz_caller_held(caller, 0, FIXED, 1, &held), GZ_DONE);
+    CHECK(held, 0);
+}
+
+int main(void)
+{
+    gz_catalogue catalogue = GZ_EMPTY;
+    gz_caller one = GZ_EMPTY, other = GZ_EMPTY, apart = GZ_EMPTY;
+    size_t line = 0, count = 99;
+    CHECK(gz_read(&catalogue, text, sizeof text - 1, &line), GZ_DONE);
+    CHECK(gz_new_managed(&catalogue, (size_t)1 << 32, &one), GZ_TOO_MANY_LEAVES);
+    CHECK(one.at == NULL, 1);
+    CHECK(gz_new_managed(&catalogue, WORKERS, &one), GZ_DONE);
+    CHECK(gz_new_managed(&catalogue, 0, &apart), GZ_DONE);
+    gz_free_catalogue(&catalogue);
+    CHECK(gz_new_caller(&one, &other), GZ_DONE);
+    CHECK(gz_workers(&other), WORKERS);
+    loads(&one);
+    uses(&one, &other);
+    removals(&other);
+    outside(&one);
+    busy(&other);
+    CHECK(gz_workers(&apart), 0);
+    CHECK(gz_call_get(&apart, 0, SND), GZ_OUT_OF_RANGE);
+    CHECK(gz_call_loaded(&apart, &count), GZ_DONE);
+    CHECK(count, 0);
+    gz_free_caller(&one);
+    gz_free_caller(&one);
+    CHECK(gz_call_get(&other, 1, FIXED), GZ_DONE);
+    gz_free_caller(&other);
+    gz_free_caller(&apart);
+    CHECK(one.at || other.at || apart.at, 0);
+    return wrong;
+}
