@@ -1,0 +1,6 @@
+pub mod KnownLemmas
+pub mod MetLemmas
+pub mod ProbeLemmas
+pub mod TextLemmas
+pub mod RemovalLemmas
+pub mod GroupLemmas

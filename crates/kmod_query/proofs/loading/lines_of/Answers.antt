@@ -1,0 +1,11 @@
+use Rattle.std.proofs.Common.{◌≡◌, ◌≤◌, ◌∙◌, ap, arith, length, sym}
+use Rattle.kmod_query.specs.Loading.{line_unless_passed}
+use Rattle.kmod_query.specs.Objects.{object_of}
+use Rattle.kmod_query.specs.World.{facts_of}
+use Rattle.kmod_query.proofs.TextLemmas.{flat_map-all}
+use Rattle.kmod_query.proofs.loading.lines_of.Goals as goal
+
+pub returns : goal.returns
+returns c =
+    let over : length c.args.list.now ≤ c.objects.object-index = omega arith in
+    c.objects.invariant ∙ flat_map-all object_of (line_unless_passed (facts_of c.args.world.now) c.args.query.now c.args.parameters.now (object_of c.args.top.now)) c.objects.object-index c.args.list.now over

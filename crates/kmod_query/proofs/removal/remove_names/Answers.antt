@@ -1,0 +1,11 @@
+use Rattle.std.proofs.Common.{◌≡◌, ◌<◌, ◌∙◌, arith, length, sym, true}
+use Rattle.kmod_query.specs.Removal.{has_ended}
+use Rattle.kmod_query.specs.World.{facts_of}
+use Rattle.kmod_query.proofs.RemovalLemmas.{names-ended}
+use Rattle.kmod_query.proofs.removal.remove_names.Goals as goal
+
+pub returns-then-has_ended : goal.returns-then-has_ended
+returns-then-has_ended c =
+    let below : c.words.word-index < length c.args.words.now = omega arith in
+    let ended : has_ended c.args.query.now c.words.answer.failures ≡ true = sym c.has_ended.ensures ∙ c.if-has_ended.true in
+    sym (names-ended (facts_of c.args.world.now) c.args.query.now c.words.answer c.args.words.now c.words.word-index below ended) ∙ c.words.invariant

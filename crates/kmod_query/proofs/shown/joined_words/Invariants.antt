@@ -1,0 +1,7 @@
+use Rattle.std.proofs.Common.{◌≡◌, ◌∷◌, take}
+use Rattle.std.specs.List.{flat_map}
+use Rattle.kmod_query.specs.Shown.{alias_line, blacklist_line, softdep_line, text_line}
+use Rattle.kmod_query.proofs.shown.joined_words.Given as goal
+
+abbrev pub invariant-words : goal.invariant-words
+invariant-words l = l.text.items ≡ flat_map (λ word. 32 ∷ word) (take l.word-index l.words)

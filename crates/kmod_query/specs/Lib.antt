@@ -1,0 +1,15 @@
+pub mod States
+pub mod Answers
+pub mod Facts
+pub mod Objects
+pub mod LookUp
+pub mod Probes
+pub mod Stacks
+pub mod Lines
+pub mod Loading
+pub mod Removal
+pub mod Verdicts
+pub mod Removals
+pub mod Shown
+pub mod World
+pub mod AnswerOf

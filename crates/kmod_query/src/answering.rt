@@ -1,0 +1,27 @@
+//! The answer to a query.
+ghost use Rattle.std.specs.Prelude.{◌≡◌, IfOk};
+ghost use Rattle.kmod_query.specs.AnswerOf.{answer_of};
+
+use crate::answer::Answer;
+use crate::loading::answer_names;
+use crate::query::{Ask, Query};
+use crate::removal::remove_names;
+use crate::shown::shown;
+use crate::world::World;
+use std::alloc::{AllocError, Global};
+
+/// The answer to a query: kmod's, of what the machine's texts and states say. Only want of memory refuses.
+pub fn answer_to(alloc: Global, world: &World, query: &Query) -> Result<Answer, AllocError>
+    ensures { IfOk result (λ own. own ≡ answer_of world.now query.now) }
+{
+    match query.ask {
+        Ask::ShowDepends | Ask::DryRun | Ask::Resolve => {
+            answer_names(alloc, world, query, query.words)
+        }
+        Ask::Remove | Ask::ShowRemoval => remove_names(alloc, world, query, query.words),
+        Ask::ShowConfig => {
+            let lines = shown(alloc, world.conf, world.index)?;
+            Ok(Answer::said(alloc, lines))
+        }
+    }
+}

@@ -1,0 +1,102 @@
+//! The lines of an index by their keys.
+ghost use Rattle.std.specs.Prelude.{◌≡◌, ◌++◌, [], fold, map, option_map, unwrap_or, IfOk, OnOk};
+ghost use Rattle.std.specs.List.{flat_map};
+ghost use Rattle.kmod_query.specs.Objects.{alias_of};
+ghost use Rattle.kmod_query.specs.Shown.{shown_index, text_of_key, with_index_line, without_key, with_text};
+
+use crate::lines::line;
+use kmod_index::IndexLine;
+use std::alloc::{AllocError, Global};
+use std::collections::BTreeMap;
+use std::marker::Model;
+
+/// Keys in the order of their bytes, each with the text of its lines.
+#[derive(Drop)]
+struct Groups {
+    texts: BTreeMap<Vec<u8>, Vec<u8>>,
+}
+
+impl Model for Groups {
+    ghost use Rattle.std.specs.Prelude.{map};
+    ghost use Rattle.kmod_query.specs.Shown.{GroupList};
+
+    ghost Value = { GroupList };
+
+    ghost view = { λ g. map (λ entry. (entry.0.items, entry.1.items)) g.texts.entries };
+}
+
+/// The text, or an empty one.
+fn or_empty(alloc: Global, text: Option<Vec<u8>>) -> Vec<u8>
+    ensures { result.items ≡ unwrap_or (alias_of text) [] }
+{
+    match text {
+        Some(text) => text,
+        None => Vec::new(alloc),
+    }
+}
+
+impl Groups {
+    fn new(alloc: Global) -> Groups
+        ensures { result ≡ [] }
+    {
+        Groups {
+            texts: BTreeMap::new(alloc),
+        }
+    }
+
+    /// Takes the text of a key out.
+    fn take(&mut self, key: &[u8]) -> Option<Vec<u8>>
+        ensures text { unwrap_or (alias_of result) [] ≡ text_of_key self.old key.now }
+        ensures rest { self.new ≡ without_key self.old key.now }
+    {
+        self.texts.remove(key)
+    }
+
+    fn put(&mut self, alloc: Global, key: &[u8], text: Vec<u8>) -> Result<(), AllocError>
+        ensures { OnOk result (self.new ≡ with_text self.old key.now text.items) }
+    {
+        let key = Vec::from_slice(alloc, key)?;
+        self.texts.insert(key, text)?;
+        Ok(())
+    }
+
+    /// Adds a line behind those of its key.
+    fn add(&mut self, alloc: Global, own: &IndexLine) -> Result<(), AllocError>
+        ensures { OnOk result (self.new ≡ with_index_line self.old own.now) }
+    {
+        let had = self.take(own.key());
+        let mut text = or_empty(alloc, had);
+        let mut one = line(alloc, b"alias ", own.key(), own.name())?;
+        text.append(&mut one)?;
+        self.put(alloc, own.key(), text)
+    }
+
+    /// The texts, in the order of their keys.
+    fn text(&self, alloc: Global) -> Result<Vec<u8>, AllocError>
+        ensures { IfOk result (λ text. text.items ≡ flat_map (λ group. group.1) self.now) }
+    {
+        let mut lines = Vec::new(alloc);
+        'texts: for text in self.texts.values() {
+            lines.extend_from_slice(text)?;
+        }
+        Ok(lines)
+    }
+}
+
+fn groups_of(alloc: Global, all: &[IndexLine]) -> Result<Groups, AllocError>
+    ensures { IfOk result (λ groups. groups ≡ fold with_index_line [] all.now) }
+{
+    let mut groups = Groups::new(alloc);
+    'all: for own in all {
+        groups.add(alloc, own)?;
+    }
+    Ok(groups)
+}
+
+/// The lines of an index, by their keys.
+pub(crate) fn shown_index(alloc: Global, all: &[IndexLine]) -> Result<Vec<u8>, AllocError>
+    ensures { IfOk result (λ text. text.items ≡ shown_index all.now) }
+{
+    let groups = groups_of(alloc, all)?;
+    groups.text(alloc)
+}

@@ -1,0 +1,24 @@
+//! kmod's answers to the queries of modprobe.
+#![tactic(auto)]
+
+mod answer;
+mod answering;
+mod groups;
+mod lines;
+mod loading;
+mod look_up;
+mod object;
+mod parameters;
+mod probes;
+mod query;
+mod removal;
+mod removal_check;
+mod shown;
+mod states;
+mod world;
+
+pub use answer::{Answer, Failure};
+pub use answering::answer_to;
+pub use query::{Ask, Query};
+pub use states::{ModuleState, ModuleStatus, States};
+pub use world::World;

@@ -1,0 +1,181 @@
+//! The lines that load a module, with its options.
+ghost use Rattle.std.specs.Prelude.{◌≡◌, ◌++◌, ◌∷◌, [], codes, IfOk, option_copied};
+ghost use Rattle.kmod_query.specs.Lines.{command_of, has_soft_items, is_built_in, is_commandless, is_in_kernel, is_live};
+ghost use Rattle.kmod_query.specs.Lines.{is_live_state, line, line_by, load_line, option_text, own_parameters};
+ghost use Rattle.kmod_query.specs.Objects.{alias_of, object_of};
+ghost use Rattle.kmod_query.specs.World.{facts_of};
+
+use crate::look_up::soft_items;
+use crate::object::Object;
+use crate::parameters::{join, push_joined};
+use crate::states::{ModuleState, ModuleStatus};
+use crate::world::{World, install_of, is_builtin, options_of, path_of, status_of};
+use std::alloc::{AllocError, Global};
+
+/// The options of an object, and the parameters behind them.
+fn option_text(
+    alloc: Global,
+    world: &World,
+    object: &Object,
+    parameters: &[u8],
+) -> Result<Vec<u8>, AllocError>
+    ensures { IfOk result (λ text. text.items ≡ option_text (facts_of world.now) (object_of object.now) parameters.now) }
+{
+    let texts = options_of(alloc, world, object)?;
+    let mut text = join(alloc, &texts)?;
+    push_joined(&mut text, parameters)?;
+    Ok(text)
+}
+
+pub(crate) fn is_built_in(world: &World, object: &Object) -> bool
+    ensures { result ≡ is_built_in (facts_of world.now) (object_of object.now) }
+{
+    object.builtin || is_builtin(world, &object.name)
+}
+
+fn is_live_state(state: ModuleState) -> bool
+    ensures { result ≡ is_live_state state }
+{
+    match state {
+        ModuleState::Live => true,
+        ModuleState::Coming => false,
+        ModuleState::Going => false,
+        ModuleState::Other => false,
+        ModuleState::Folder => false,
+    }
+}
+
+fn is_live(status: Option<ModuleStatus>) -> bool
+    ensures { result ≡ is_live status }
+{
+    match status {
+        Some(status) => is_live_state(status.state),
+        None => false,
+    }
+}
+
+/// Whether the kernel has it now.
+pub(crate) fn is_in_kernel(world: &World, object: &Object) -> bool
+    ensures { result ≡ is_in_kernel (facts_of world.now) (object_of object.now) }
+{
+    is_built_in(world, object) || is_live(status_of(world, &object.name))
+}
+
+fn has_soft_items(alloc: Global, world: &World, name: &[u8]) -> Result<bool, AllocError>
+    ensures { IfOk result (λ has. has ≡ has_soft_items (facts_of world.now) name.now) }
+{
+    let items = soft_items(alloc, world, name)?;
+    Ok(items.before.len() > 0 || items.after.len() > 0)
+}
+
+/// Whether the install line of an object is passed over.
+fn is_commandless(
+    alloc: Global,
+    world: &World,
+    bare: bool,
+    top: &Object,
+    object: &Object,
+) -> Result<bool, AllocError>
+    ensures { IfOk result (λ passed. passed ≡ is_commandless (facts_of world.now) bare (object_of top.now) (object_of object.now)) }
+{
+    if bare && object.is_same(top) {
+        return Ok(true);
+    }
+    has_soft_items(alloc, world, &object.name)
+}
+
+fn command_of<'a>(
+    alloc: Global,
+    world: &World<'a>,
+    bare: bool,
+    top: &Object,
+    object: &Object,
+) -> Result<Option<&'a [u8]>, AllocError>
+    ensures { IfOk result (λ command. option_copied command ≡ command_of (facts_of world.now) bare (object_of top.now) (object_of object.now)) }
+{
+    if is_commandless(alloc, world, bare, top, object)? {
+        return Ok(None);
+    }
+    install_of(alloc, world, &object.name)
+}
+
+pub(crate) fn line(
+    alloc: Global,
+    verb: &[u8],
+    what: &[u8],
+    options: &[u8],
+) -> Result<Vec<u8>, AllocError>
+    ensures { IfOk result (λ text. text.items ≡ line verb.now what.now options.now) }
+{
+    let mut text = Vec::from_slice(alloc, verb)?;
+    text.extend_from_slice(what)?;
+    text.push(b' ')?;
+    text.extend_from_slice(options)?;
+    text.push(b'\n')?;
+    Ok(text)
+}
+
+fn builtin_line(alloc: Global, name: &[u8]) -> Result<Vec<u8>, AllocError>
+    ensures { IfOk result (λ text. text.items ≡ codes "builtin " ++ name.now ++ (10 ∷ [])) }
+{
+    let mut text = Vec::from_slice(alloc, b"builtin ")?;
+    text.extend_from_slice(name)?;
+    text.push(b'\n')?;
+    Ok(text)
+}
+
+/// The line by the command, the file, and whether it is built in; empty where there is nothing to say.
+fn line_by(
+    alloc: Global,
+    command: Option<&[u8]>,
+    path: Option<Vec<u8>>,
+    builtin: bool,
+    name: &[u8],
+    options: &[u8],
+) -> Result<Vec<u8>, AllocError>
+    ensures { IfOk result (λ text. text.items ≡ line_by (option_copied command.entry) (alias_of path) builtin name.now options.now) }
+{
+    match (command, path) {
+        (Some(command), _) => line(alloc, b"install ", command, options),
+        (None, Some(path)) => line(alloc, b"insmod ", &path, options),
+        (None, None) => {
+            if builtin {
+                return builtin_line(alloc, name);
+            }
+            Ok(Vec::new(alloc))
+        }
+    }
+}
+
+fn own_parameters<'a>(top: &Object, object: &Object, parameters: &'a [u8]) -> &'a [u8]
+    ensures { result.now ≡ own_parameters (object_of top.now) (object_of object.now) parameters.entry.now }
+{
+    if object.is_same(top) {
+        parameters
+    } else {
+        &parameters[..0]
+    }
+}
+
+/// The line of an object in the load of another.
+pub(crate) fn load_line(
+    alloc: Global,
+    world: &World,
+    bare: bool,
+    parameters: &[u8],
+    top: &Object,
+    object: &Object,
+) -> Result<Vec<u8>, AllocError>
+    ensures { IfOk result (λ text. text.items ≡ load_line (facts_of world.now) bare parameters.now (object_of top.now) (object_of object.now)) }
+{
+    let command = command_of(alloc, world, bare, top, object)?;
+    let path = path_of(alloc, world, &object.name)?;
+    let options = option_text(
+        alloc,
+        world,
+        object,
+        own_parameters(top, object, parameters),
+    )?;
+    let builtin = is_built_in(world, object);
+    line_by(alloc, command, path, builtin, &object.name, &options)
+}

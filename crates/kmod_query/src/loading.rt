@@ -1,0 +1,264 @@
+//! What names are answered that are to be loaded or resolved.
+ghost use Rattle.std.specs.Prelude.{◌≡◌, ◌++◌, ◌∷◌, [], IfOk, is_some};
+ghost use Rattle.std.specs.List.{flat_map};
+ghost use Rattle.text_parts.specs.Text.{texts_of};
+ghost use Rattle.kmod_query.specs.Loading.{already, answer_each, answer_found, answer_name, answer_names, answer_object, answer_one};
+ghost use Rattle.kmod_query.specs.Loading.{is_barred, is_passed, is_resolve, is_show_depends, line_unless_passed, load, load_lines};
+ghost use Rattle.kmod_query.specs.Loading.{shows_lines};
+ghost use Rattle.kmod_query.specs.Objects.{alias_of, object_of, objects_of};
+ghost use Rattle.kmod_query.specs.World.{facts_of};
+
+use crate::answer::{Answer, Failure};
+use crate::lines::{is_in_kernel, load_line};
+use crate::look_up::look_up;
+use crate::object::Object;
+use crate::parameters::parameter_text;
+use crate::probes::probe_list;
+use crate::query::{Ask, Query};
+use crate::world::{World, is_blacklisted};
+use kmod_names::Text;
+use std::alloc::{AllocError, Global};
+
+fn is_show_depends(ask: Ask) -> bool
+    ensures { result ≡ is_show_depends ask }
+{
+    match ask {
+        Ask::ShowDepends => true,
+        Ask::DryRun => false,
+        Ask::Resolve => false,
+        Ask::Remove => false,
+        Ask::ShowRemoval => false,
+        Ask::ShowConfig => false,
+    }
+}
+
+fn is_resolve(ask: Ask) -> bool
+    ensures { result ≡ is_resolve ask }
+{
+    match ask {
+        Ask::ShowDepends => false,
+        Ask::DryRun => false,
+        Ask::Resolve => true,
+        Ask::Remove => false,
+        Ask::ShowRemoval => false,
+        Ask::ShowConfig => false,
+    }
+}
+
+/// Whether lines are shown.
+fn shows_lines(query: &Query) -> bool
+    ensures { result ≡ shows_lines query.now }
+{
+    is_show_depends(query.ask) || query.verbosity > 4
+}
+
+/// Whether an object is passed over since the kernel has it.
+fn is_passed(world: &World, query: &Query, object: &Object) -> bool
+    ensures { result ≡ is_passed (facts_of world.now) query.now (object_of object.now) }
+{
+    !is_show_depends(query.ask) && is_in_kernel(world, object)
+}
+
+fn has_alias(object: &Object) -> bool
+    ensures { result ≡ is_some (object_of object.now).alias }
+{
+    match object.alias {
+        Some(_) => true,
+        None => false,
+    }
+}
+
+/// Whether the blacklist bars an object.
+fn is_barred(world: &World, query: &Query, object: &Object) -> bool
+    ensures { result ≡ is_barred (facts_of world.now) query.now (object_of object.now) }
+{
+    is_blacklisted(world, &object.name) && (has_alias(object) || query.use_blacklist)
+}
+
+fn line_unless_passed(
+    alloc: Global,
+    world: &World,
+    query: &Query,
+    parameters: &[u8],
+    top: &Object,
+    object: &Object,
+) -> Result<Vec<u8>, AllocError>
+    ensures { IfOk result (λ text. text.items ≡ line_unless_passed (facts_of world.now) query.now parameters.now (object_of top.now) (object_of object.now)) }
+{
+    if is_passed(world, query, object) {
+        return Ok(Vec::new(alloc));
+    }
+    load_line(alloc, world, query.ignore_commands, parameters, top, object)
+}
+
+/// The lines of the objects, in the load of one.
+fn lines_of(
+    alloc: Global,
+    world: &World,
+    query: &Query,
+    parameters: &[u8],
+    top: &Object,
+    list: &[Object],
+) -> Result<Vec<u8>, AllocError>
+    ensures { IfOk result (λ text. text.items ≡ flat_map (line_unless_passed (facts_of world.now) query.now parameters.now (object_of top.now)) (objects_of list.now)) }
+{
+    let mut lines = Vec::new(alloc);
+    'objects: for object in list {
+        let mut own = line_unless_passed(alloc, world, query, parameters, top, object)?;
+        lines.append(&mut own)?;
+    }
+    Ok(lines)
+}
+
+/// The lines that load an object.
+fn load_lines(
+    alloc: Global,
+    world: &World,
+    query: &Query,
+    parameters: &[u8],
+    top: &Object,
+) -> Result<Vec<u8>, AllocError>
+    ensures { IfOk result (λ text. text.items ≡ load_lines (facts_of world.now) query.now parameters.now (object_of top.now)) }
+{
+    let list = probe_list(alloc, world, query.ignore_commands, top)?;
+    lines_of(alloc, world, query, parameters, top, &list)
+}
+
+/// What is answered where the kernel has the object.
+fn already(alloc: Global, query: &Query, object: &Object) -> Result<Answer, AllocError>
+    ensures { IfOk result (λ answer. answer ≡ already query.now (object_of object.now)) }
+{
+    if query.first_time {
+        return Answer::failing(
+            alloc,
+            Failure::AlreadyLoaded(Text::new(alloc, &object.name)?),
+        );
+    }
+    Ok(Answer::nothing(alloc))
+}
+
+/// What is answered of one object that is to be loaded.
+fn load(
+    alloc: Global,
+    world: &World,
+    query: &Query,
+    parameters: &[u8],
+    top: &Object,
+) -> Result<Answer, AllocError>
+    ensures { IfOk result (λ answer. answer ≡ load (facts_of world.now) query.now parameters.now (object_of top.now)) }
+{
+    if is_passed(world, query, top) {
+        return already(alloc, query, top);
+    }
+    if is_barred(world, query, top) || !shows_lines(query) {
+        return Ok(Answer::nothing(alloc));
+    }
+    let lines = load_lines(alloc, world, query, parameters, top)?;
+    Ok(Answer::said(alloc, lines))
+}
+
+fn name_line(alloc: Global, name: &[u8]) -> Result<Vec<u8>, AllocError>
+    ensures { IfOk result (λ text. text.items ≡ name.now ++ (10 ∷ [])) }
+{
+    let mut text = Vec::from_slice(alloc, name)?;
+    text.push(b'\n')?;
+    Ok(text)
+}
+
+fn answer_object(
+    alloc: Global,
+    world: &World,
+    query: &Query,
+    parameters: &[u8],
+    object: &Object,
+) -> Result<Answer, AllocError>
+    ensures { IfOk result (λ answer. answer ≡ answer_object (facts_of world.now) query.now parameters.now (object_of object.now)) }
+{
+    if is_resolve(query.ask) {
+        return Ok(Answer::said(alloc, name_line(alloc, &object.name)?));
+    }
+    load(alloc, world, query, parameters, object)
+}
+
+/// The modules of a name one after another; the status is that of the last.
+fn answer_found(
+    alloc: Global,
+    world: &World,
+    query: &Query,
+    parameters: &[u8],
+    word: &[u8],
+    found: &[Object],
+) -> Result<Answer, AllocError>
+    ensures { IfOk result (λ answer. answer ≡ answer_found (facts_of world.now) query.now parameters.now word.now (objects_of found.now)) }
+{
+    if found.is_empty() {
+        return Answer::failing(alloc, Failure::NotFound(Text::new(alloc, word)?));
+    }
+    let mut answer = Answer::nothing(alloc);
+    'objects: for object in found {
+        answer = answer.and_then(answer_object(alloc, world, query, parameters, object)?)?;
+    }
+    Ok(answer)
+}
+
+fn answer_name(
+    alloc: Global,
+    world: &World,
+    query: &Query,
+    parameters: &[u8],
+    word: &[u8],
+) -> Result<Answer, AllocError>
+    ensures { IfOk result (λ answer. answer ≡ answer_name (facts_of world.now) query.now parameters.now word.now) }
+{
+    let found = look_up(alloc, world, word)?;
+    answer_found(alloc, world, query, parameters, word, &found)
+}
+
+/// A name and its parameters.
+fn answer_one(
+    alloc: Global,
+    world: &World,
+    query: &Query,
+    words: &[&[u8]],
+) -> Result<Answer, AllocError>
+    ensures { IfOk result (λ answer. answer ≡ answer_one (facts_of world.now) query.now (texts_of words.now)) }
+{
+    match words.split_first() {
+        Some((word, parameters)) => {
+            let parameters = parameter_text(alloc, parameters)?;
+            answer_name(alloc, world, query, &parameters, word)
+        }
+        None => Ok(Answer::nothing(alloc)),
+    }
+}
+
+/// Names one after another.
+fn answer_each(
+    alloc: Global,
+    world: &World,
+    query: &Query,
+    words: &[&[u8]],
+) -> Result<Answer, AllocError>
+    ensures { IfOk result (λ answer. answer ≡ answer_each (facts_of world.now) query.now (texts_of words.now)) }
+{
+    let mut answer = Answer::nothing(alloc);
+    'words: for word in words {
+        answer = answer.and_also(answer_name(alloc, world, query, b"", word)?)?;
+    }
+    Ok(answer)
+}
+
+/// What names are answered that are to be loaded or resolved.
+pub(crate) fn answer_names(
+    alloc: Global,
+    world: &World,
+    query: &Query,
+    words: &[&[u8]],
+) -> Result<Answer, AllocError>
+    ensures { IfOk result (λ answer. answer ≡ answer_names (facts_of world.now) query.now (texts_of words.now)) }
+{
+    if query.all {
+        return answer_each(alloc, world, query, words);
+    }
+    answer_one(alloc, world, query, words)
+}

@@ -1,0 +1,78 @@
+//! What a name stands for, and which of such things a load has met.
+ghost use Rattle.std.specs.Prelude.{◌≡◌, ◌++◌, ◌∷◌, [], IfOk, OnOk, not};
+ghost use Rattle.kmod_query.specs.Objects.{alias_of, has, is_same, object_of, with_object};
+
+use indexmap::IndexSet;
+use std::alloc::{AllocError, Global};
+use std::marker::Model;
+
+/// A module, and the alias by which it was found, where it was by one. `builtin` says that this was an alias of
+/// modules.builtin.modinfo.
+#[derive(Debug, Drop, PartialEq, Eq, Hash)]
+pub(crate) struct Object {
+    pub(crate) name: Vec<u8>,
+    pub(crate) alias: Option<Vec<u8>>,
+    pub(crate) builtin: bool,
+}
+
+fn copy_alias(alloc: Global, alias: &Option<Vec<u8>>) -> Result<Option<Vec<u8>>, AllocError>
+    ensures { IfOk result (λ copied. alias_of copied ≡ alias_of alias.now) }
+{
+    match alias {
+        Some(text) => Ok(Some(Vec::from_slice(alloc, text)?)),
+        None => Ok(None),
+    }
+}
+
+impl Object {
+    /// Whether both are the same module, found in the same way.
+    pub(crate) fn is_same(&self, other: &Object) -> bool
+        ensures { result ≡ is_same (object_of self.now) (object_of other.now) }
+    {
+        self == other
+    }
+
+    pub(crate) fn copy(&self, alloc: Global) -> Result<Object, AllocError>
+        ensures { IfOk result (λ copied. object_of copied ≡ object_of self.now) }
+    {
+        Ok(Object {
+            name: Vec::from_slice(alloc, &self.name)?,
+            alias: copy_alias(alloc, &self.alias)?,
+            builtin: self.builtin,
+        })
+    }
+}
+
+/// Objects that were met, each once.
+#[derive(Drop)]
+pub(crate) struct Met {
+    objects: IndexSet<Object>,
+}
+
+impl Model for Met {
+    ghost use Rattle.std.specs.Prelude.{List};
+    ghost use Rattle.kmod_query.specs.Objects.{Object, objects_of};
+
+    ghost Value = { List Object };
+
+    ghost view = { λ m. objects_of m.objects.keys };
+}
+
+impl Met {
+    pub(crate) fn new(alloc: Global) -> Met
+        ensures { result ≡ [] }
+    {
+        Met {
+            objects: IndexSet::new(alloc),
+        }
+    }
+
+    /// Whether the object is new here; it is here from now on.
+    pub(crate) fn insert(&mut self, alloc: Global, object: &Object) -> Result<bool, AllocError>
+        ensures new { IfOk result (λ new. new ≡ not (has self.old (object_of object.now))) }
+        ensures met { OnOk result (self.new ≡ with_object self.old (object_of object.now)) }
+    {
+        let own = object.copy(alloc)?;
+        Ok(self.objects.insert(own)?)
+    }
+}

@@ -1,0 +1,328 @@
+//! What names are answered that are to be removed.
+ghost use Rattle.std.specs.Prelude.{◌≡◌, ◌++◌, true, map, reverse, IfOk, OnOk};
+ghost use Rattle.std.specs.List.{list_any};
+ghost use Rattle.std.specs.Str.{bytes_eq};
+ghost use Rattle.kmod_query.specs.Objects.{object_of, objects_of};
+ghost use Rattle.text_parts.specs.Text.{texts_of};
+ghost use Rattle.kmod_query.specs.Answers.{Answer, nothing};
+ghost use Rattle.kmod_query.specs.Removal.{has_ended, refused, release, remove_found, remove_name, remove_names, remove_object};
+ghost use Rattle.kmod_query.specs.Removal.{remove_objects, removed_after, removed_before, take, take_each, taken_tasks};
+ghost use Rattle.kmod_query.specs.Removals.{Moves, after, removal_of, removals_of};
+ghost use Rattle.kmod_query.specs.World.{facts_of};
+
+use crate::answer::{Answer, Failure};
+use crate::look_up::{found, soft_items};
+use crate::object::Object;
+use crate::query::Query;
+use crate::removal_check::{Verdict, is_fatal, is_in_use, judge, removal_lines};
+use crate::world::{World, normal};
+use kmod_names::Text;
+use std::alloc::{AllocError, Global};
+use text_parts::is_same;
+
+/// What is to be done: take an object, which is a soft item or not, let it go once its soft items after it are gone, or
+/// leave the way.
+#[derive(Drop)]
+enum Removal {
+    Take(bool, Object),
+    Release(bool, Object),
+    Leave,
+}
+
+/// Where a run is: the modules whose soft items are being removed, and what is to be done, the next task last.
+#[derive(Drop)]
+struct Course {
+    way: Vec<Vec<u8>>,
+    stack: Vec<Removal>,
+}
+
+/// What a step answers, and whether it is the last.
+#[derive(Drop)]
+struct Step {
+    answer: Answer,
+    ended: bool,
+}
+
+fn is_on_way(way: &[Vec<u8>], name: &[u8]) -> bool
+    ensures { result ≡ list_any (λ own. bytes_eq name.now own.items) way.now }
+{
+    way.iter().any(|own| is_same(name, own))
+}
+
+fn removed_before(
+    alloc: Global,
+    world: &World,
+    query: &Query,
+    name: &[u8],
+) -> Result<Vec<Object>, AllocError>
+    ensures { IfOk result (λ found. objects_of found.items ≡ removed_before (facts_of world.now) query.now name.now) }
+{
+    if query.ignore_commands {
+        return Ok(Vec::new(alloc));
+    }
+    let items = soft_items(alloc, world, name)?;
+    Ok(items.after)
+}
+
+fn removed_after(
+    alloc: Global,
+    world: &World,
+    query: &Query,
+    name: &[u8],
+) -> Result<Vec<Object>, AllocError>
+    ensures { IfOk result (λ found. objects_of found.items ≡ removed_after (facts_of world.now) query.now name.now) }
+{
+    if query.ignore_commands {
+        return Ok(Vec::new(alloc));
+    }
+    let items = soft_items(alloc, world, name)?;
+    Ok(items.before)
+}
+
+/// The objects, the last first.
+fn reversed(mut objects: Vec<Object>) -> Vec<Object>
+    ensures { result.items ≡ reverse objects.items }
+{
+    objects.reverse();
+    objects
+}
+
+/// The objects are taken as soft items in their order, before what is to be done already.
+fn push_takes(stack: &mut Vec<Removal>, mut objects: Vec<Object>) -> Result<(), AllocError>
+    ensures { OnOk result (removals_of stack.new.items ≡ map (take true) (objects_of objects.items) ++ removals_of stack.old.items) }
+{
+    'objects: while let Some(object) = objects.pop() {
+        stack.push(Removal::Take(true, object))?;
+    }
+    Ok(())
+}
+
+/// The objects are taken as soft items, the last first, before what is to be done already.
+fn push_each(stack: &mut Vec<Removal>, objects: Vec<Object>) -> Result<(), AllocError>
+    ensures { OnOk result (removals_of stack.new.items ≡ take_each (objects_of objects.items) ++ removals_of stack.old.items) }
+{
+    push_takes(stack, reversed(objects))
+}
+
+/// The object is taken: its soft items after it, then itself, before what is to be done already.
+fn push_taken(
+    alloc: Global,
+    world: &World,
+    query: &Query,
+    soft: bool,
+    stack: &mut Vec<Removal>,
+    object: Object,
+) -> Result<(), AllocError>
+    ensures { OnOk result (removals_of stack.new.items ≡ taken_tasks (facts_of world.now) query.now soft (object_of object) ++ removals_of stack.old.items) }
+{
+    let items = removed_before(alloc, world, query, &object.name)?;
+    stack.push(Removal::Leave)?;
+    stack.push(Removal::Release(soft, object))?;
+    push_each(stack, items)
+}
+
+/// A step that answers nothing.
+fn silent(alloc: Global) -> Step
+    ensures { (later : Answer) → after result later ≡ later }
+{
+    Step {
+        answer: Answer::nothing(alloc),
+        ended: false,
+    }
+}
+
+/// A failure that ends the run, or is noted.
+fn refuse(alloc: Global, query: &Query, soft: bool, failure: Failure) -> Result<Step, AllocError>
+    ensures { IfOk result (λ step. (later : Answer) → after step later ≡ refused query.now soft failure later) }
+{
+    if is_fatal(query) {
+        return Ok(Step {
+            answer: Answer::failing(alloc, failure)?,
+            ended: true,
+        });
+    }
+    Ok(Step {
+        answer: Answer::noted(alloc, soft, failure)?,
+        ended: false,
+    })
+}
+
+fn take(
+    alloc: Global,
+    world: &World,
+    query: &Query,
+    soft: bool,
+    object: Object,
+    course: &mut Course,
+) -> Result<Step, AllocError>
+    ensures { IfOk result (Moves (facts_of world.now) query.now (take soft (object_of object)) course.old course.new) }
+{
+    if is_on_way(&course.way, &object.name) {
+        return Ok(silent(alloc));
+    }
+    match judge(alloc, world, query, soft, &object)? {
+        Verdict::Remove => {
+            course.way.push(Vec::from_slice(alloc, &object.name)?)?;
+            push_taken(alloc, world, query, soft, &mut course.stack, object)?;
+            Ok(silent(alloc))
+        }
+        Verdict::Pass => Ok(silent(alloc)),
+        Verdict::Refuse(failure) => refuse(alloc, query, soft, failure),
+    }
+}
+
+fn release(
+    alloc: Global,
+    world: &World,
+    query: &Query,
+    soft: bool,
+    object: &Object,
+    course: &mut Course,
+) -> Result<Step, AllocError>
+    ensures { IfOk result (Moves (facts_of world.now) query.now (release soft (object_of object.now)) course.old course.new) }
+{
+    if is_in_use(alloc, world, query, object)? {
+        let name = Text::new(alloc, &object.name)?;
+        return refuse(alloc, query, soft, Failure::InUse(name));
+    }
+    let lines = removal_lines(alloc, world, query, object)?;
+    let items = removed_after(alloc, world, query, &object.name)?;
+    push_each(&mut course.stack, items)?;
+    Ok(Step {
+        answer: Answer::said(alloc, lines),
+        ended: false,
+    })
+}
+
+/// Makes one step.
+fn make(
+    alloc: Global,
+    world: &World,
+    query: &Query,
+    task: Removal,
+    course: &mut Course,
+) -> Result<Step, AllocError>
+    ensures { IfOk result (Moves (facts_of world.now) query.now (removal_of task) course.old course.new) }
+{
+    match task {
+        Removal::Take(soft, object) => take(alloc, world, query, soft, object, course),
+        Removal::Release(soft, object) => release(alloc, world, query, soft, &object, course),
+        Removal::Leave => {
+            course.way.pop();
+            Ok(silent(alloc))
+        }
+    }
+}
+
+/// What is answered of one object that is to be removed.
+fn remove_object(
+    alloc: Global,
+    world: &World,
+    query: &Query,
+    object: &Object,
+) -> Result<Answer, AllocError>
+    ensures { IfOk result (λ answer. answer ≡ remove_object (facts_of world.now) query.now (object_of object.now)) }
+{
+    let mut course = Course {
+        way: Vec::new(alloc),
+        stack: Vec::new(alloc),
+    };
+    course
+        .stack
+        .push(Removal::Take(false, object.copy(alloc)?))?;
+    let mut answer = Answer::nothing(alloc);
+    'tasks: for _step in 0..u64::MAX {
+        match course.stack.pop() {
+            None => return Ok(answer),
+            Some(task) => {
+                let Step { answer: own, ended } = make(alloc, world, query, task, &mut course)?;
+                answer = answer.and_also(own)?;
+                if ended {
+                    return Ok(answer);
+                }
+            }
+        }
+    }
+    Ok(answer)
+}
+
+/// The modules of a name one after another, up to the first that is refused.
+fn remove_objects(
+    alloc: Global,
+    world: &World,
+    query: &Query,
+    objects: &[Object],
+) -> Result<Answer, AllocError>
+    ensures { IfOk result (λ answer. answer ≡ remove_objects (facts_of world.now) query.now nothing (objects_of objects.now)) }
+{
+    let mut answer = Answer::nothing(alloc);
+    let mut rest = objects;
+    'objects: while let Some((object, later)) = rest.split_first() {
+        if answer.has_failed() {
+            return Ok(answer);
+        }
+        answer = answer.and_then(remove_object(alloc, world, query, object)?)?;
+        rest = later;
+    }
+    Ok(answer)
+}
+
+fn remove_found(
+    alloc: Global,
+    world: &World,
+    query: &Query,
+    word: &[u8],
+    found: &[Object],
+) -> Result<Answer, AllocError>
+    ensures { IfOk result (λ answer. answer ≡ remove_found (facts_of world.now) query.now word.now (objects_of found.now)) }
+{
+    if found.is_empty() {
+        return Answer::failing(alloc, Failure::NothingToRemove(Text::new(alloc, word)?));
+    }
+    remove_objects(alloc, world, query, found)
+}
+
+fn remove_name(
+    alloc: Global,
+    world: &World,
+    query: &Query,
+    word: &[u8],
+) -> Result<Answer, AllocError>
+    ensures { IfOk result (λ answer. answer ≡ remove_name (facts_of world.now) query.now word.now ((facts_of world.now).normal word.now)) }
+{
+    match normal(alloc, world, word)? {
+        Some(name) => {
+            let found = found(alloc, world, name.as_bytes())?;
+            remove_found(alloc, world, query, word, &found)
+        }
+        None => Ok(Answer::silent_failure(alloc)),
+    }
+}
+
+fn has_ended(query: &Query, answer: &Answer) -> bool
+    ensures { result ≡ has_ended query.now answer.now.failures }
+{
+    match answer.failures().first() {
+        Some(_) => is_fatal(query),
+        None => false,
+    }
+}
+
+/// What names are answered that are to be removed, one after another, up to a message that ends the program.
+pub(crate) fn remove_names(
+    alloc: Global,
+    world: &World,
+    query: &Query,
+    words: &[&[u8]],
+) -> Result<Answer, AllocError>
+    ensures { IfOk result (λ answer. answer ≡ remove_names (facts_of world.now) query.now nothing (texts_of words.now)) }
+{
+    let mut answer = Answer::nothing(alloc);
+    'words: for word in words {
+        if has_ended(query, &answer) {
+            return Ok(answer);
+        }
+        answer = answer.and_also(remove_name(alloc, world, query, word)?)?;
+    }
+    Ok(answer)
+}

@@ -1,0 +1,188 @@
+//! What the machine's texts and states say.
+#![tactic(auto, unfolding(crate::specs::World::facts_of))]
+
+ghost use Rattle.std.specs.Prelude.{◌≡◌, ◌==◌, IfOk, is_some, map, option_copied, option_map, slice_index};
+ghost use Rattle.text_parts.specs.Text.{texts_of};
+ghost use Rattle.kmod_query.specs.Objects.{alias_of, names_of, object_of};
+ghost use Rattle.kmod_query.specs.World.{facts_of, file_of, text_of};
+
+use crate::object::Object;
+use crate::states::{ModuleStatus, States};
+use kmod_conf::{Conf, TextLine};
+use kmod_index::Index;
+use kmod_names::{Text, normal_alias};
+use std::alloc::{AllocError, Global};
+
+/// What answers are made from: a configuration, the texts of a folder of modules, the states of modules, and the name
+/// of that folder, as it is printed before a module's file.
+#[derive(Clone, Copy)]
+pub struct World<'a> {
+    pub conf: &'a Conf,
+    pub index: &'a Index,
+    pub states: &'a States,
+    pub directory: &'a [u8],
+}
+
+fn copied_names(alloc: Global, texts: &[Text]) -> Result<Vec<Vec<u8>>, AllocError>
+    ensures { IfOk result (λ names. names_of names.items ≡ texts.now) }
+{
+    let mut names = Vec::with_capacity(alloc, texts.len())?;
+    'texts: for text in texts {
+        names.push(Vec::from_slice(alloc, text.as_bytes())?)?;
+    }
+    Ok(names)
+}
+
+/// The modules that a module needs, in the order in which they are loaded.
+pub(crate) fn needs_of(
+    alloc: Global,
+    world: &World,
+    name: &[u8],
+) -> Result<Vec<Vec<u8>>, AllocError>
+    ensures { IfOk result (λ needs. names_of needs.items ≡ (facts_of world.now).needs name.now) }
+{
+    let needs = world.index.dependencies().hard_needs(alloc, name)?;
+    copied_names(alloc, &needs)
+}
+
+/// The normal form of a word.
+pub(crate) fn normal(alloc: Global, world: &World, word: &[u8]) -> Result<Option<Text>, AllocError>
+    ensures { IfOk result (λ name. name ≡ (facts_of world.now).normal word.now) }
+{
+    let _ = world;
+    normal_alias(alloc, word)
+}
+
+pub(crate) fn is_loadable(world: &World, name: &[u8]) -> bool
+    ensures { result ≡ (facts_of world.now).is_loadable name.now }
+{
+    match world.index.dependencies().find(name) {
+        Some(_) => true,
+        None => false,
+    }
+}
+
+pub(crate) fn is_commanded(world: &World, name: &[u8]) -> bool
+    ensures { result ≡ (facts_of world.now).is_commanded name.now }
+{
+    world.conf.has_install_named(name) || world.conf.has_remove_named(name)
+}
+
+pub(crate) fn is_builtin(world: &World, name: &[u8]) -> bool
+    ensures { result ≡ (facts_of world.now).is_builtin name.now }
+{
+    world.index.is_builtin(name)
+}
+
+pub(crate) fn is_blacklisted(world: &World, name: &[u8]) -> bool
+    ensures { result ≡ (facts_of world.now).is_blacklisted name.now }
+{
+    world.conf.is_blacklisted(name)
+}
+
+pub(crate) fn status_of(world: &World, name: &[u8]) -> Option<ModuleStatus>
+    ensures { result ≡ (facts_of world.now).status name.now }
+{
+    world.states.of(name)
+}
+
+/// The text of a line, where there is one.
+fn text_in(line: Option<&TextLine>) -> Option<&[u8]>
+    ensures { option_copied result ≡ option_map text_of (option_copied line.entry) }
+{
+    match line {
+        Some(line) => Some(line.text.as_bytes()),
+        None => None,
+    }
+}
+
+pub(crate) fn install_of<'a>(
+    alloc: Global,
+    world: &World<'a>,
+    name: &[u8],
+) -> Result<Option<&'a [u8]>, AllocError>
+    ensures { IfOk result (λ command. option_copied command ≡ (facts_of world.now).install name.now) }
+{
+    let line = world.conf.install_of(alloc, name)?;
+    Ok(text_in(line))
+}
+
+pub(crate) fn remove_of<'a>(
+    alloc: Global,
+    world: &World<'a>,
+    name: &[u8],
+) -> Result<Option<&'a [u8]>, AllocError>
+    ensures { IfOk result (λ command. option_copied command ≡ (facts_of world.now).remove name.now) }
+{
+    let line = world.conf.remove_of(alloc, name)?;
+    Ok(text_in(line))
+}
+
+fn line_texts<'a>(alloc: Global, lines: &[&'a TextLine]) -> Result<Vec<&'a [u8]>, AllocError>
+    ensures { IfOk result (λ texts. texts_of texts.items ≡ map text_of (map (λ line. line.now) lines.now)) }
+{
+    let mut texts = Vec::new(alloc);
+    'lines: for line in lines {
+        texts.push(line.text.as_bytes())?;
+    }
+    Ok(texts)
+}
+
+fn alias_bytes(object: &Object) -> Option<&[u8]>
+    ensures { option_map (λ text. text.now) result ≡ alias_of object.entry.now.alias }
+{
+    match &object.alias {
+        Some(alias) => Some(alias.as_slice()),
+        None => None,
+    }
+}
+
+/// The texts of the options lines of an object.
+pub(crate) fn options_of<'a>(
+    alloc: Global,
+    world: &World<'a>,
+    object: &Object,
+) -> Result<Vec<&'a [u8]>, AllocError>
+    ensures { IfOk result (λ texts. texts_of texts.items ≡ (facts_of world.now).options (object_of object.now).name (object_of object.now).alias) }
+{
+    let lines = world
+        .conf
+        .options_of(alloc, &object.name, alias_bytes(object))?;
+    line_texts(alloc, &lines)
+}
+
+fn is_absolute(path: &[u8]) -> bool
+    ensures { result ≡ (slice_index path.now 0 == 47) }
+{
+    match path.first() {
+        Some(byte) => *byte == b'/',
+        None => false,
+    }
+}
+
+/// The file of a path of modules.dep.
+fn file_of(alloc: Global, directory: &[u8], path: &[u8]) -> Result<Vec<u8>, AllocError>
+    ensures { IfOk result (λ file. file.items ≡ file_of directory.now path.now) }
+{
+    if is_absolute(path) {
+        return Vec::from_slice(alloc, path);
+    }
+    let mut file = Vec::from_slice(alloc, directory)?;
+    file.push(b'/')?;
+    file.extend_from_slice(path)?;
+    Ok(file)
+}
+
+/// The file of a module.
+pub(crate) fn path_of(
+    alloc: Global,
+    world: &World,
+    name: &[u8],
+) -> Result<Option<Vec<u8>>, AllocError>
+    ensures { IfOk result (λ path. alias_of path ≡ (facts_of world.now).path name.now) }
+{
+    match world.index.dependencies().find(name) {
+        Some(line) => Ok(Some(file_of(alloc, world.directory, line.path())?)),
+        None => Ok(None),
+    }
+}
