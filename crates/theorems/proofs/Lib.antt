@@ -8,3 +8,4 @@ pub mod Finding
 pub mod Loading
 pub mod Refusing
 pub mod Resting
+pub mod Managing

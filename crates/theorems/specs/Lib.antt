@@ -6,3 +6,4 @@ pub mod Sessions
 pub mod Meetings
 pub mod Loads
 pub mod Rungs
+pub mod Managed

@@ -1,0 +1,58 @@
+//! Managed calls, which any thread makes.
+ghost use Rattle.std.specs.Prelude.{◌≡◌, IfSome, IfNone, OnOk};
+ghost use Rattle.dep_index.specs.Refusals.{reply_of, begin_remove_refusal};
+ghost use Rattle.managed_table.specs.Callers.{IsCallerOf};
+ghost use Rattle.theorems.specs.Managed.{WasMadeOnce, CannotBeMade, LeftUnused};
+
+use crate::managed_calls;
+use dep_index::laws::legal_is_safe;
+use dep_index::{BeginRemoveError, Call, Reply};
+use managed_table::{Caller, ManagedTable};
+use std::sync::Wait;
+
+/// Each managed call that returns was made exactly once: its caller had one turn more, and in it the worker's leaf or the book
+/// made this one call. It was answered as the one-thread table answers it in a legal history, which begins with all that this
+/// caller had seen there, and in which removals are safe. It is not made exactly where the worker or the slot is out of range,
+/// or where it is a query, which takes no lock. It may not return.
+///
+/// Premises: the caller is of this table; the steps on all words are in one order (sequentially consistent atomics).
+pub fn managed_calls_are_made_once<R: Wait>(
+    rt: &R,
+    table: &ManagedTable,
+    caller: &mut Caller,
+    call: Call,
+) -> Option<Reply>
+    requires own { IsCallerOf table.now caller.old }
+    ensures own { IsCallerOf table.now caller.new }
+    ensures once { IfSome result (λ reply. WasMadeOnce table.now.row call reply caller.old caller.new) }
+    ensures not_made { IfNone result (CannotBeMade table.now.row.world call × (caller.new ≡ caller.old)) }
+{
+    match call {
+        Call::Get(worker, slot) => managed_calls::get(rt, table, caller, worker, slot),
+        Call::Put(worker, slot) => managed_calls::put(rt, table, caller, worker, slot),
+        Call::InUse(_) => None,
+        Call::BeginLoad(slot) => managed_calls::begin_load(rt, table, caller, slot),
+        Call::EndLoad(slot, ok) => managed_calls::end_load(rt, table, caller, slot, ok),
+        Call::BeginDrain(slot) => managed_calls::begin_drain(rt, table, caller, slot),
+        Call::BeginRemove(slot) => managed_calls::begin_remove(rt, table, caller, slot),
+        Call::EndRemove(slot) => managed_calls::end_remove(rt, table, caller, slot),
+    }
+}
+
+/// A managed removal that was begun with Ok found no reference by any worker, through whichever caller it was taken, and no
+/// loaded module that needs it. In every legal history that begins so, no get of the module succeeds afterwards until it is
+/// loaded again. Premises as above.
+pub fn managed_removals_find_no_user<R: Wait>(
+    rt: &R,
+    table: &ManagedTable,
+    caller: &mut Caller,
+    slot: usize,
+) -> Option<Result<(), BeginRemoveError>>
+    requires own { IsCallerOf table.now caller.old }
+    ensures own { IsCallerOf table.now caller.new }
+    ensures once { IfSome result (λ r. WasMadeOnce table.now.row (Call.BeginRemove slot) (reply_of begin_remove_refusal r) caller.old caller.new) }
+    ensures unused { IfSome result (λ r. OnOk r (LeftUnused table.now.row (Call.BeginRemove slot) slot caller.old caller.new)) }
+{
+    legal_is_safe();
+    table.begin_remove(rt, caller, slot)
+}
