@@ -224,7 +224,7 @@ joins world id other v w x single s kept at apart there =
     joins_at world s kept id v at (move.fits_one world s kept id v x single at).same_world other w apart (sym (set_else s.views id other (joined v w) apart) ∙ there)
 
 -- all members of a view have seen the whole history
-abbrev caught_up : List SeatAnswer → List Member → List Member
+abbrev pub caught_up : List SeatAnswer → List Member → List Member
 caught_up log [] = []
 caught_up log (x ∷ xs) = member x.part log ∷ caught_up log xs
 
@@ -239,7 +239,7 @@ caught_up_at log (y ∷ ys) zero x e = ap (λ (z : Member). some (member z.part 
 caught_up_at log (y ∷ ys) (suc k) x e = caught_up_at log ys k x e
 
 module _ (world : World) (s : move.St) (kept : RowRule world s) (id : ℕ) (v : View) (at : get_elem? s.views id ≡ some v) where
-  abbrev now : View
+  abbrev pub now : View
   now = record { world = v.world; members = caught_up kept.history v.members }
 
   now_fits : Fits world kept.history kept.owner id now

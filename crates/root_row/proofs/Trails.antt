@@ -28,7 +28,7 @@ use Rattle.root_row.proofs.ReaderSteps as reader
 use Rattle.root_row.proofs.BookSteps as book
 use Rattle.root_row.proofs.Seating as seating
 
-views_set : (l : List Trail) (i : ℕ) (t : Trail) → map view_in (set l i t) ≡ set (map view_in l) i t.view
+pub views_set : (l : List Trail) (i : ℕ) (t : Trail) → map view_in (set l i t) ≡ set (map view_in l) i t.view
 views_set [] i t = refl
 views_set (x ∷ xs) zero t = refl
 views_set (x ∷ xs) (suc i) t = ap (λ l. x.view ∷ l) (views_set xs i t)

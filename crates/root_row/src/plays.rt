@@ -83,6 +83,14 @@ impl Play<(), Trail> for Hear {
     ghost then = { told_trail };
 }
 
+pub(crate) struct HearTwo;
+
+impl Play<(), Trail> for HearTwo {
+    ghost use Rattle.root_row.specs.Hearing.{told_two_trail};
+
+    ghost then = { told_two_trail };
+}
+
 /// A call of the book, as a type.
 pub(crate) trait Asked {
     ghost use Rattle.root_row.specs.declared.calls.BookCall.{BookCall};
