@@ -6,6 +6,7 @@ use dep_index::{
 use root_row::{BookCall, BookSeat, Row};
 use std::alloc::{AllocError, Global};
 use std::marker::Model;
+use use_indicator::Reader;
 
 /// The states of all modules and the order of loading, beside the book's seat at the row. It makes the loads,
 /// drains and removals, each by one atomic step on the row. Contracts see its row and its view.
@@ -38,6 +39,7 @@ impl Book {
     ghost use Rattle.root_row.specs.Views.{state_in, book_of};
     ghost use Rattle.root_row.specs.BookSteps.{BookAnswered};
     ghost use Rattle.module_table.specs.CallSteps.{CallSteps};
+    ghost use Rattle.root_row.specs.Hearing.{HeardBoth};
 
     /// The book of a new row, over the row's catalogue. It reserves the order: no later call takes memory.
     ///
@@ -62,6 +64,17 @@ impl Book {
         ensures { KnowsTable self.now.view }
     {
         self.seat.laws()
+    }
+
+    /// The book and a reader hear of each other: both have then seen one list of calls, which begins with what each had
+    /// seen, is legal, and has of each one's calls just those that it made. Three loads, and no call.
+    pub fn hear(&mut self, row: &Row, reader: Reader) -> Reader
+        requires own { IsOf row.now self.old }
+        requires reader_own { IsOf row.now reader }
+        ensures own { IsOf row.now self.new × IsOf row.now result }
+        ensures heard { HeardBoth self.old.view reader.view self.new.view result.view }
+    {
+        reader.hear_book(row, &mut self.seat)
     }
 
     /// How many modules are loaded, in any state.
