@@ -1,8 +1,17 @@
 -- What contracts see of a managed table and of a caller.
-use Rattle.std.specs.Prelude.{◌≡◌}
+use Rattle.std.specs.Prelude.{◌≡◌, ◌⊎◌, ℕ, ◌<◌, ◌≤◌}
 use Rattle.atomic_table.specs.Seated.{TableId}
-use Rattle.root_row.specs.Seats.{RowIs}
+use Rattle.atomic_table.specs.declared.shared.Seat.{Seat}
+use Rattle.root_row.specs.Seats.{RowIs, Seated}
+use Rattle.dep_index.specs.declared.calls.Call.{Call}
+use Rattle.dep_index.specs.declared.calls.Reply.{Reply}
+use Rattle.dep_index.specs.Table.{Table}
+use Rattle.root_row.specs.declared.view.SeatName.TheVariants as name_is
+use Rattle.root_row.specs.World.{slots}
 use Rattle.managed_table.specs.declared.view.Pass.{Pass}
+use Rattle.managed_table.specs.declared.view.Passes.{Passes}
+use Rattle.managed_table.specs.Kept.{seen, leaf_fits, book_fits}
+use Rattle.managed_table.specs.Turns.{pass_of, MadeTurn, MadeOneCall, MadeNoCall}
 
 -- its row, and which tables of locks are its leaves' and its book's
 pub record ManagedIs : Type 0 where
@@ -15,6 +24,9 @@ pub record PassIs : Type 0 where
   pub table : TableId
   pub pass : Pass
 
+abbrev pub pass_is : {T : Type 0} → Seat T Passes → PassIs
+pass_is seat = record { table = seat.table_id; pass = pass_of seat.me.0 }
+
 pub record CallerIs : Type 0 where
   pub leaves : PassIs
   pub book : PassIs
@@ -24,3 +36,34 @@ abbrev pub IsCallerOf : ManagedIs → CallerIs → Type 0
 IsCallerOf table caller =
     (caller.leaves.table ≡ table.leaves) × (caller.leaves.pass.row.value ≡ table.row)
     × (caller.book.table ≡ table.book) × (caller.book.pass.row.value ≡ table.row)
+
+-- worker and slot are in range, or not
+abbrev pub IsInside : ManagedIs → ℕ → ℕ → Type 0
+IsInside table worker slot = (worker < table.row.world.workers) × (slot < slots table.row.world)
+
+abbrev pub IsOutside : ManagedIs → ℕ → ℕ → Type 0
+IsOutside table worker slot = (table.row.world.workers ≤ worker) ⊎ (slots table.row.world ≤ slot)
+
+-- through the caller, in one turn, this was done with the worker's leaf
+abbrev pub LeafTurned : ℕ → (Seated → Seated → Type 0) → CallerIs → CallerIs → Type 0
+LeafTurned worker Did old new = MadeTurn leaf_fits seen worker Did old.leaves.pass new.leaves.pass
+
+-- or with the book
+abbrev pub BookTurned : (Seated → Seated → Type 0) → CallerIs → CallerIs → Type 0
+BookTurned Did old new = MadeTurn book_fits seen 0 Did old.book.pass new.book.pass
+
+-- through the caller, in one turn, the worker's leaf made this one call, which was answered so
+abbrev pub LeafMade : ManagedIs → ℕ → Call → Reply → CallerIs → CallerIs → Type 0
+LeafMade table worker call reply old new = MadeOneCall table.row worker (name_is.Leaf worker) call reply old.leaves.pass new.leaves.pass
+
+-- and so did the book
+abbrev pub BookMade : ManagedIs → Call → Reply → CallerIs → CallerIs → Type 0
+BookMade table call reply old new = MadeOneCall table.row 0 name_is.Book call reply old.book.pass new.book.pass
+
+-- in one turn without a call, the worker's leaf showed this of the table
+abbrev pub LeafShown : ManagedIs → ℕ → (Table → Type 0) → CallerIs → CallerIs → Type 0
+LeafShown table worker Shows old new = MadeNoCall table.row worker Shows old.leaves.pass new.leaves.pass
+
+-- and so did the book
+abbrev pub BookShown : ManagedIs → (Table → Type 0) → CallerIs → CallerIs → Type 0
+BookShown table Shows old new = MadeNoCall table.row 0 Shows old.book.pass new.book.pass

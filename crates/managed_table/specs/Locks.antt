@@ -92,20 +92,23 @@ pub record HasTurn (views : List Passes) (number k : ℕ) (turn : Turn) : Type 0
   pub there : get_elem? pass.turns k ≡ core.some turn
 
 -- the value behind the lock is at home, fits, and has seen this
-pub record IsHome {T : Type 0} (row : RowIs) (fits : RowIs → ℕ → T → Type 0) (seen : T → List SeatAnswer) (homes : List (core.Option T)) (lock : ℕ) (log : List SeatAnswer) : Type 0 where
+pub record IsHome {T : Type 0} (row : RowIs) (fits : RowIs → ℕ → T → Type 0) (seen : T → List SeatAnswer)
+    (homes : List (core.Option T)) (lock : ℕ) (log : List SeatAnswer) : Type 0 where
   pub value : T
   pub at : get_elem? homes lock ≡ core.some (core.some value)
   pub fit : fits row lock value
   pub saw : seen value ≡ log
 
-pub record LocksRule {T : Type 0} (row : RowIs) (locks : ℕ) (by : ℕ → SeatName) (fits : RowIs → ℕ → T → Type 0) (seen : T → List SeatAnswer) (s : State T Passes) : Type 0 where
+pub record LocksRule {T : Type 0} (row : RowIs) (locks : ℕ) (by : ℕ → SeatName) (fits : RowIs → ℕ → T → Type 0)
+    (seen : T → List SeatAnswer) (s : State T Passes) : Type 0 where
   pub accounts : Accounts
   pub wide : length s.words ≡ place_of locks
   pub free : (lock : ℕ) → lock < locks → slice_index s.words (place_of lock) ≡ 0 → IsHome row fits seen s.homes lock (accounts.logs lock)
   pub shut : (lock : ℕ) → lock < locks → slice_index s.words (place_of lock) ≢ 0 → IsShut accounts.owner s.views lock
   pub passes : (z : Place) (p : Pass) → pass_at s.views z ≡ core.some p → FitsPass row locks by accounts s.words z p
   pub made : (lock k : ℕ) → lock < locks → k < count (by lock) (accounts.logs lock) → IsMade by accounts.owner (accounts.who lock k) s.views lock k
-  pub ordered : (n k m i : ℕ) (t u : Turn) → HasTurn s.views n k t → HasTurn s.views m i u → t.lock ≡ u.lock → ((n ≡ m) × (k ≡ i) → ⊥) → AreOrdered t u
+  pub ordered : (n k m i : ℕ) (t u : Turn) → HasTurn s.views n k t → HasTurn s.views m i u
+      → t.lock ≡ u.lock → ((n ≡ m) × (k ≡ i) → ⊥) → AreOrdered t u
 
 abbrev pub first_view : Setting → Passes
 first_view setting = alone (new_pass setting.row.value 0)

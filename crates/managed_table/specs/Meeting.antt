@@ -36,8 +36,10 @@ other_passes v = record { passes = rest_of v.passes }
 -- the earlier had seen at its end. No call was made in both
 pub record AreApart (by : ℕ → SeatName) (p q : Pass) : Type 0 where
   pub numbers : p.number ≢ q.number
-  pub ordered : (k i : ℕ) (t u : Turn) → get_elem? p.turns k ≡ core.some t → get_elem? q.turns i ≡ core.some u → t.lock ≡ u.lock → AreOrdered t u
-  pub unshared : (k i : ℕ) (t u : Turn) → get_elem? p.turns k ≡ core.some t → get_elem? q.turns i ≡ core.some u → (lock c : ℕ) → IsIn by lock c t → IsIn by lock c u → ⊥
+  pub ordered : (k i : ℕ) (t u : Turn) → get_elem? p.turns k ≡ core.some t → get_elem? q.turns i ≡ core.some u
+      → t.lock ≡ u.lock → AreOrdered t u
+  pub unshared : (k i : ℕ) (t u : Turn) → get_elem? p.turns k ≡ core.some t → get_elem? q.turns i ≡ core.some u
+      → (lock c : ℕ) → IsIn by lock c t → IsIn by lock c u → ⊥
 
 -- a load tells two passes of one view that they are apart
 abbrev pub TellsApart : {T : Type 0} → (ℕ → SeatName) → Step T → Me T Passes → ℕ → Me T Passes → Type 0

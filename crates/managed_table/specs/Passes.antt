@@ -22,7 +22,8 @@ module _ {T : Type 0} where
   IsFree id row seat = (seat.table_id ≡ id) × ((pass_of seat.me.0).row.value ≡ row) × IsIdle seat
 
 -- the pass has the lock's value in hand, which fits and begins with what was seen at first
-pub record HasInHand {T : Type 0} (fits : RowIs → ℕ → T → Type 0) (seen : T → List SeatAnswer) (lock : ℕ) (p : Pass) (me : Me T Passes) : Type 0 where
+pub record HasInHand {T : Type 0} (fits : RowIs → ℕ → T → Type 0) (seen : T → List SeatAnswer)
+    (lock : ℕ) (p : Pass) (me : Me T Passes) : Type 0 where
   pub value : T
   pub before : List SeatAnswer
   pub hand : me.1 ≡ (lock, value) ∷ []
@@ -31,14 +32,18 @@ pub record HasInHand {T : Type 0} (fits : RowIs → ℕ → T → Type 0) (seen 
   pub fit : fits p.row.value lock value
   pub grows : StartsWith (seen value) before
 
-module _ {T F A : Type 0} (g : Once F (MutBor T × Unit {0}) (A × (MutBor T × Unit {0}))) (fits : RowIs → ℕ → T → Type 0) (seen : T → List SeatAnswer) where
+module _ {T F A : Type 0} (g : Once F (MutBor T × Unit {0}) (A × (MutBor T × Unit {0}))) (fits : RowIs → ℕ → T → Type 0)
+    (seen : T → List SeatAnswer) where
   -- f may be called at each value that fits, which then fits again, and begins with what it had seen
   abbrev pub MayActOn : RowIs → ℕ → F → Type 0
-  MayActOn row lock f = (x : T) → fits row lock x → FnOnceTakesAtMut g f x × ((r : A) (y : T) → FnOnceReturnsAtMut g f x r y → fits row lock y × StartsWith (seen y) (seen x))
+  MayActOn row lock f =
+      (x : T) → fits row lock x → FnOnceTakesAtMut g f x
+      × ((r : A) (y : T) → FnOnceReturnsAtMut g f x r y → fits row lock y × StartsWith (seen y) (seen x))
 
 module _ {T F A : Type 0} where
   -- the value in hand was changed by a call of f, which answered r
-  pub record ActedOn (g : Once F (MutBor T × Unit {0}) (A × (MutBor T × Unit {0}))) (lock : ℕ) (f : F) (r : A) (hand hand' : List (ℕ × T)) : Type 0 where
+  pub record ActedOn (g : Once F (MutBor T × Unit {0}) (A × (MutBor T × Unit {0})))
+      (lock : ℕ) (f : F) (r : A) (hand hand' : List (ℕ × T)) : Type 0 where
     pub taken : T
     pub left : T
     pub was : hand ≡ (lock, taken) ∷ []

@@ -71,7 +71,8 @@ abbrev pub AreOrdered : Turn → Turn → Type 0
 AreOrdered t u = IsBefore t u ⊎ IsBefore u t
 
 -- the value is out with the pass
-pub record HasTaken {T : Type 0} (fits : RowIs → ℕ → T → Type 0) (seen : T → List SeatAnswer) (lock : ℕ) (p : Pass) (me : Me T Passes) : Type 0 where
+pub record HasTaken {T : Type 0} (fits : RowIs → ℕ → T → Type 0) (seen : T → List SeatAnswer)
+    (lock : ℕ) (p : Pass) (me : Me T Passes) : Type 0 where
   pub value : T
   pub view : me.0 ≡ alone (with_taken p (Some (taken lock (seen value))))
   pub hand : me.1 ≡ (lock, value) ∷ []
@@ -79,25 +80,33 @@ pub record HasTaken {T : Type 0} (fits : RowIs → ℕ → T → Type 0) (seen :
   pub follows : Follows p lock (seen value)
 
 module _ {T : Type 0} where
+  abbrev pub IsSame : Me T Passes → Me T Passes → Type 0
+  IsSame me me' = (me'.0 ≡ me.0) × (me'.1 ≡ me.1)
+
   -- where the word was 0 the lock is taken; else nothing is known
   abbrev pub Seizes : (RowIs → ℕ → T → Type 0) → (T → List SeatAnswer) → Step T → Me T Passes → ℕ → Me T Passes → Type 0
-  Seizes fits seen st me found me' = (lock : ℕ) → st.word ≡ place_of lock → MatchBool (found == 0) (HasTaken fits seen lock (pass_of me.0) me') ((me'.0 ≡ me.0) × (me'.1 ≡ me.1))
+  Seizes fits seen st me found me' =
+      (lock : ℕ) → st.word ≡ place_of lock → MatchBool (found == 0) (HasTaken fits seen lock (pass_of me.0) me') (IsSame me me')
 
   abbrev pub seen_in_hand : (T → List SeatAnswer) → List (ℕ × T) → List SeatAnswer
   seen_in_hand seen [] = []
   seen_in_hand seen (x ∷ xs) = seen x.1
 
+  -- the view after the turn
+  abbrev pub after_turn : (T → List SeatAnswer) → Me T Passes → Passes
+  after_turn seen me = alone (with_turns (pass_of me.0) (turn_of (pass_of me.0).taken (seen_in_hand seen me.1)))
+
   -- the turn is over
   abbrev pub Releases : (T → List SeatAnswer) → Step T → Me T Passes → ℕ → Me T Passes → Type 0
-  Releases seen st me found me' =
-      (me'.0 ≡ alone (with_turns (pass_of me.0) (turn_of (pass_of me.0).taken (seen_in_hand seen me.1)))) × (me'.1 ≡ [])
+  Releases seen st me found me' = (me'.0 ≡ after_turn seen me) × (me'.1 ≡ [])
 
   -- a new pass of the same row, which has done nothing
   abbrev pub EntersAs : Step T → Me T Passes → ℕ → Me T Passes → Type 0
   EntersAs st me found me' = (number : ℕ) × (me'.0 ≡ alone (new_pass (pass_of me.0).row.value number))
 
 -- The pass made one turn more, at this lock: it took the value, did so with it, and put it back
-pub record MadeTurn {T : Type 0} (fits : RowIs → ℕ → T → Type 0) (seen : T → List SeatAnswer) (lock : ℕ) (Did : T → T → Type 0) (old new : Pass) : Type 0 where
+pub record MadeTurn {T : Type 0} (fits : RowIs → ℕ → T → Type 0) (seen : T → List SeatAnswer)
+    (lock : ℕ) (Did : T → T → Type 0) (old new : Pass) : Type 0 where
   pub taken : T
   pub left : T
   pub turned : new ≡ with_turns old (turn lock (seen taken) (seen left) ∷ [])

@@ -12,10 +12,8 @@ impl ManagedTable {
     ghost use Rattle.dep_index.specs.Refusals.{reply_of, begin_load_refusal, end_load_refusal};
     ghost use Rattle.dep_index.specs.Refusals.{begin_drain_refusal, begin_remove_refusal, end_remove_refusal};
     ghost use Rattle.root_row.specs.World.{slots};
-    ghost use Rattle.root_row.specs.declared.view.SeatName.TheVariants as name_is;
-    ghost use Rattle.managed_table.specs.Turns.{MadeOneCall, MadeNoCall};
     ghost use Rattle.managed_table.specs.Shown.{IsInState, HasLoaded, HasLoadedAt, HasNoneAt};
-    ghost use Rattle.managed_table.specs.Callers.{IsCallerOf};
+    ghost use Rattle.managed_table.specs.Callers.{IsCallerOf, BookMade, BookShown};
 
     /// Begins a load. It is None exactly where the slot is out of range.
     ///
@@ -29,7 +27,7 @@ impl ManagedTable {
         requires own { IsCallerOf self.now caller.old }
         ensures own { IsCallerOf self.now caller.new }
         ensures range { MatchOption result ((slots self.now.row.world ≤ slot) × (caller.new ≡ caller.old)) (λ _. slot < slots self.now.row.world) }
-        ensures call { IfSome result (λ r. MadeOneCall self.now.row 0 name_is.Book (Call.BeginLoad slot) (reply_of begin_load_refusal r) caller.old.book.pass caller.new.book.pass) }
+        ensures call { IfSome result (λ r. BookMade self.now (Call.BeginLoad slot) (reply_of begin_load_refusal r) caller.old caller.new) }
         ensures leaves { caller.new.leaves ≡ caller.old.leaves }
     {
         if slot >= self.slots() {
@@ -50,7 +48,7 @@ impl ManagedTable {
         requires own { IsCallerOf self.now caller.old }
         ensures own { IsCallerOf self.now caller.new }
         ensures range { MatchOption result ((slots self.now.row.world ≤ slot) × (caller.new ≡ caller.old)) (λ _. slot < slots self.now.row.world) }
-        ensures call { IfSome result (λ r. MadeOneCall self.now.row 0 name_is.Book (Call.EndLoad slot ok) (reply_of end_load_refusal r) caller.old.book.pass caller.new.book.pass) }
+        ensures call { IfSome result (λ r. BookMade self.now (Call.EndLoad slot ok) (reply_of end_load_refusal r) caller.old caller.new) }
         ensures leaves { caller.new.leaves ≡ caller.old.leaves }
     {
         if slot >= self.slots() {
@@ -70,7 +68,7 @@ impl ManagedTable {
         requires own { IsCallerOf self.now caller.old }
         ensures own { IsCallerOf self.now caller.new }
         ensures range { MatchOption result ((slots self.now.row.world ≤ slot) × (caller.new ≡ caller.old)) (λ _. slot < slots self.now.row.world) }
-        ensures call { IfSome result (λ r. MadeOneCall self.now.row 0 name_is.Book (Call.BeginDrain slot) (reply_of begin_drain_refusal r) caller.old.book.pass caller.new.book.pass) }
+        ensures call { IfSome result (λ r. BookMade self.now (Call.BeginDrain slot) (reply_of begin_drain_refusal r) caller.old caller.new) }
         ensures leaves { caller.new.leaves ≡ caller.old.leaves }
     {
         if slot >= self.slots() {
@@ -90,7 +88,7 @@ impl ManagedTable {
         requires own { IsCallerOf self.now caller.old }
         ensures own { IsCallerOf self.now caller.new }
         ensures range { MatchOption result ((slots self.now.row.world ≤ slot) × (caller.new ≡ caller.old)) (λ _. slot < slots self.now.row.world) }
-        ensures call { IfSome result (λ r. MadeOneCall self.now.row 0 name_is.Book (Call.BeginRemove slot) (reply_of begin_remove_refusal r) caller.old.book.pass caller.new.book.pass) }
+        ensures call { IfSome result (λ r. BookMade self.now (Call.BeginRemove slot) (reply_of begin_remove_refusal r) caller.old caller.new) }
         ensures leaves { caller.new.leaves ≡ caller.old.leaves }
     {
         if slot >= self.slots() {
@@ -110,7 +108,7 @@ impl ManagedTable {
         requires own { IsCallerOf self.now caller.old }
         ensures own { IsCallerOf self.now caller.new }
         ensures range { MatchOption result ((slots self.now.row.world ≤ slot) × (caller.new ≡ caller.old)) (λ _. slot < slots self.now.row.world) }
-        ensures call { IfSome result (λ r. MadeOneCall self.now.row 0 name_is.Book (Call.EndRemove slot) (reply_of end_remove_refusal r) caller.old.book.pass caller.new.book.pass) }
+        ensures call { IfSome result (λ r. BookMade self.now (Call.EndRemove slot) (reply_of end_remove_refusal r) caller.old caller.new) }
         ensures leaves { caller.new.leaves ≡ caller.old.leaves }
     {
         if slot >= self.slots() {
@@ -125,7 +123,7 @@ impl ManagedTable {
         requires own { IsCallerOf self.now caller.old }
         ensures own { IsCallerOf self.now caller.new }
         ensures range { MatchOption result ((slots self.now.row.world ≤ slot) × (caller.new ≡ caller.old)) (λ _. slot < slots self.now.row.world) }
-        ensures shown { IfSome result (λ r. MadeNoCall self.now.row 0 (IsInState slot r) caller.old.book.pass caller.new.book.pass) }
+        ensures shown { IfSome result (λ r. BookShown self.now (IsInState slot r) caller.old caller.new) }
         ensures leaves { caller.new.leaves ≡ caller.old.leaves }
     {
         if slot >= self.slots() {
@@ -141,7 +139,7 @@ impl ManagedTable {
     pub fn loaded<R: Wait>(&self, rt: &R, caller: &mut Caller) -> usize
         requires own { IsCallerOf self.now caller.old }
         ensures own { IsCallerOf self.now caller.new }
-        ensures shown { MadeNoCall self.now.row 0 (HasLoaded result) caller.old.book.pass caller.new.book.pass }
+        ensures shown { BookShown self.now (HasLoaded result) caller.old caller.new }
         ensures leaves { caller.new.leaves ≡ caller.old.leaves }
     {
         self.book_turn(rt, caller, |book| {
@@ -154,8 +152,8 @@ impl ManagedTable {
     pub fn loaded_at<R: Wait>(&self, rt: &R, caller: &mut Caller, place: usize) -> Option<usize>
         requires own { IsCallerOf self.now caller.old }
         ensures own { IsCallerOf self.now caller.new }
-        ensures shown { IfSome result (λ r. MadeNoCall self.now.row 0 (HasLoadedAt place r) caller.old.book.pass caller.new.book.pass) }
-        ensures none { IfNone result (MadeNoCall self.now.row 0 (HasNoneAt place) caller.old.book.pass caller.new.book.pass) }
+        ensures shown { IfSome result (λ r. BookShown self.now (HasLoadedAt place r) caller.old caller.new) }
+        ensures none { IfNone result (BookShown self.now (HasNoneAt place) caller.old caller.new) }
         ensures leaves { caller.new.leaves ≡ caller.old.leaves }
     {
         self.book_turn(rt, caller, |book| {

@@ -14,13 +14,12 @@ pub struct Caller {
 }
 
 impl Model for Caller {
-    ghost use Rattle.managed_table.specs.Callers.{CallerIs};
+    ghost use Rattle.managed_table.specs.Callers.{CallerIs, pass_is};
     ghost use Rattle.managed_table.specs.Passes.{IsIdle};
-    ghost use Rattle.managed_table.specs.Turns.{pass_of};
 
     ghost Value = { CallerIs };
 
-    ghost view = { λ c. record { leaves = record { table = c.leaves.table_id; pass = pass_of c.leaves.me.0 }; book = record { table = c.book.table_id; pass = pass_of c.book.me.0 } } };
+    ghost view = { λ c. record { leaves = pass_is c.leaves; book = pass_is c.book } };
 
     ghost invariant = { λ c. IsIdle c.leaves × IsIdle c.book };
 }

@@ -5,13 +5,10 @@ use dep_index::{Call, GetError, PutError};
 use std::sync::Wait;
 
 impl ManagedTable {
-    ghost use Rattle.std.specs.Prelude.{◌≡◌, ◌<◌, ◌≤◌, ◌⊎◌, IfSome, IfNone, MatchOption};
+    ghost use Rattle.std.specs.Prelude.{◌≡◌, IfSome, IfNone, MatchOption};
     ghost use Rattle.dep_index.specs.Refusals.{reply_of, get_refusal, put_refusal};
-    ghost use Rattle.root_row.specs.World.{slots};
-    ghost use Rattle.root_row.specs.declared.view.SeatName.TheVariants as name_is;
-    ghost use Rattle.managed_table.specs.Turns.{MadeOneCall, MadeNoCall};
     ghost use Rattle.managed_table.specs.Shown.{HoldsSoOften};
-    ghost use Rattle.managed_table.specs.Callers.{IsCallerOf};
+    ghost use Rattle.managed_table.specs.Callers.{IsCallerOf, IsInside, IsOutside, LeafMade, LeafShown};
 
     /// Takes one reference for the worker. It is None exactly where the worker or the slot is out of range.
     ///
@@ -26,8 +23,8 @@ impl ManagedTable {
     ) -> Option<Result<(), GetError>>
         requires own { IsCallerOf self.now caller.old }
         ensures own { IsCallerOf self.now caller.new }
-        ensures range { MatchOption result (((self.now.row.world.workers ≤ worker) ⊎ (slots self.now.row.world ≤ slot)) × (caller.new ≡ caller.old)) (λ _. (worker < self.now.row.world.workers) × (slot < slots self.now.row.world)) }
-        ensures call { IfSome result (λ r. MadeOneCall self.now.row worker (name_is.Leaf worker) (Call.Get worker slot) (reply_of get_refusal r) caller.old.leaves.pass caller.new.leaves.pass) }
+        ensures range { MatchOption result (IsOutside self.now worker slot × (caller.new ≡ caller.old)) (λ _. IsInside self.now worker slot) }
+        ensures call { IfSome result (λ r. LeafMade self.now worker (Call.Get worker slot) (reply_of get_refusal r) caller.old caller.new) }
         ensures book { caller.new.book ≡ caller.old.book }
     {
         let row = &self.row;
@@ -46,9 +43,9 @@ impl ManagedTable {
     ) -> Option<Option<Result<(), GetError>>>
         requires own { IsCallerOf self.now caller.old }
         ensures own { IsCallerOf self.now caller.new }
-        ensures range { MatchOption result (((self.now.row.world.workers ≤ worker) ⊎ (slots self.now.row.world ≤ slot)) × (caller.new ≡ caller.old)) (λ _. (worker < self.now.row.world.workers) × (slot < slots self.now.row.world)) }
-        ensures call { IfSome result (λ r. IfSome r (λ a. MadeOneCall self.now.row worker (name_is.Leaf worker) (Call.Get worker slot) (reply_of get_refusal a) caller.old.leaves.pass caller.new.leaves.pass)) }
-        ensures missed { IfSome result (λ r. IfNone r (MadeNoCall self.now.row worker (HoldsSoOften worker slot 0) caller.old.leaves.pass caller.new.leaves.pass)) }
+        ensures range { MatchOption result (IsOutside self.now worker slot × (caller.new ≡ caller.old)) (λ _. IsInside self.now worker slot) }
+        ensures call { IfSome result (λ r. IfSome r (λ a. LeafMade self.now worker (Call.Get worker slot) (reply_of get_refusal a) caller.old caller.new)) }
+        ensures missed { IfSome result (λ r. IfNone r (LeafShown self.now worker (HoldsSoOften worker slot 0) caller.old caller.new)) }
         ensures book { caller.new.book ≡ caller.old.book }
     {
         let row = &self.row;
@@ -68,8 +65,8 @@ impl ManagedTable {
     ) -> Option<Result<(), PutError>>
         requires own { IsCallerOf self.now caller.old }
         ensures own { IsCallerOf self.now caller.new }
-        ensures range { MatchOption result (((self.now.row.world.workers ≤ worker) ⊎ (slots self.now.row.world ≤ slot)) × (caller.new ≡ caller.old)) (λ _. (worker < self.now.row.world.workers) × (slot < slots self.now.row.world)) }
-        ensures call { IfSome result (λ r. MadeOneCall self.now.row worker (name_is.Leaf worker) (Call.Put worker slot) (reply_of put_refusal r) caller.old.leaves.pass caller.new.leaves.pass) }
+        ensures range { MatchOption result (IsOutside self.now worker slot × (caller.new ≡ caller.old)) (λ _. IsInside self.now worker slot) }
+        ensures call { IfSome result (λ r. LeafMade self.now worker (Call.Put worker slot) (reply_of put_refusal r) caller.old caller.new) }
         ensures book { caller.new.book ≡ caller.old.book }
     {
         let row = &self.row;
@@ -86,8 +83,8 @@ impl ManagedTable {
     ) -> Option<u32>
         requires own { IsCallerOf self.now caller.old }
         ensures own { IsCallerOf self.now caller.new }
-        ensures range { MatchOption result (((self.now.row.world.workers ≤ worker) ⊎ (slots self.now.row.world ≤ slot)) × (caller.new ≡ caller.old)) (λ _. (worker < self.now.row.world.workers) × (slot < slots self.now.row.world)) }
-        ensures shown { IfSome result (λ r. MadeNoCall self.now.row worker (HoldsSoOften worker slot r) caller.old.leaves.pass caller.new.leaves.pass) }
+        ensures range { MatchOption result (IsOutside self.now worker slot × (caller.new ≡ caller.old)) (λ _. IsInside self.now worker slot) }
+        ensures shown { IfSome result (λ r. LeafShown self.now worker (HoldsSoOften worker slot r) caller.old caller.new) }
         ensures book { caller.new.book ≡ caller.old.book }
     {
         self.leaf_turn(rt, caller, worker, slot, |leaf| {

@@ -3,7 +3,7 @@ ghost use Rattle.std.specs.Prelude.{◌≡◌, ◌≢◌, ◌<◌, ◌∷◌, []
 ghost use Rattle.std.specs.Fn.{FnOnceTakesAtMut, FnOnceReturnsAtMut};
 ghost use Rattle.root_row.specs.World.{place_of};
 ghost use Rattle.managed_table.specs.Locks.{AreFresh};
-ghost use Rattle.managed_table.specs.Turns.{HasTaken, MadeTurn, alone, pass_of, new_pass, with_turns, turn_of, seen_in_hand};
+ghost use Rattle.managed_table.specs.Turns.{HasTaken, MadeTurn, IsSame, pass_of, after_turn};
 ghost use Rattle.managed_table.specs.Passes.{IsFree, HasInHand, MayActOn, ActedOn};
 
 use crate::keyed::Keyed;
@@ -73,7 +73,7 @@ impl<T: Keyed + Drop> Locks<T> {
         requires inside { lock < self.now.table.shared.key.locks }
         requires free { IsFree self.now.table.shared.table_id self.now.table.shared.key.row.value seat.old }
         ensures id { seat.new.table_id ≡ seat.old.table_id }
-        ensures told { MatchBool result (HasTaken T.fits T.seen lock (pass_of seat.old.me.0) seat.new.me) ((seat.new.me.0 ≡ seat.old.me.0) × (seat.new.me.1 ≡ seat.old.me.1)) }
+        ensures told { MatchBool result (HasTaken T.fits T.seen lock (pass_of seat.old.me.0) seat.new.me) (IsSame seat.old.me seat.new.me) }
     {
         let shared = &self.table.shared;
         shared.swap::<Seize<T>>(seat, (lock + 1) * WORDS_APART, mark) == FREE
@@ -135,7 +135,7 @@ impl<T: Keyed + Drop> Locks<T> {
         requires row { (pass_of seat.old.me.0).row.value ≡ self.now.table.shared.key.row.value }
         requires holds { HasInHand T.fits T.seen lock (pass_of seat.old.me.0) seat.old.me }
         ensures free { IsFree self.now.table.shared.table_id self.now.table.shared.key.row.value seat.new }
-        ensures turn { seat.new.me.0 ≡ alone (with_turns (pass_of seat.old.me.0) (turn_of (pass_of seat.old.me.0).taken (seen_in_hand T.seen seat.old.me.1))) }
+        ensures turn { seat.new.me.0 ≡ after_turn T.seen seat.old.me }
     {
         let shared = &self.table.shared;
         let word = (lock + 1) * WORDS_APART;

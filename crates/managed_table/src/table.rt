@@ -36,7 +36,7 @@ impl Model for ManagedTable {
 }
 
 impl ManagedTable {
-    ghost use Rattle.std.specs.Prelude.{◌≡◌, ◌<◌, ◌≤◌, ◌⊎◌, [], All, IfOk, IfSome, MatchOption, if◌then◌else◌};
+    ghost use Rattle.std.specs.Prelude.{◌≡◌, ◌<◌, [], All, IfOk, IfSome, MatchOption, if◌then◌else◌};
     ghost use Rattle.std.specs.Fn.{FnOnceReturnsAtMut};
     ghost use Rattle.dep_index.specs.Catalogue.{modules_of};
     ghost use Rattle.dep_index.specs.Words.{closed};
@@ -46,9 +46,8 @@ impl ManagedTable {
     ghost use Rattle.root_row.specs.Seats.{IsOf};
     ghost use Rattle.root_row.specs.Steps.{ReaderAnswered};
     ghost use Rattle.managed_table.specs.Kept.{seen, leaf_fits, book_fits};
-    ghost use Rattle.managed_table.specs.Turns.{MadeTurn};
     ghost use Rattle.managed_table.specs.Passes.{MayActOn};
-    ghost use Rattle.managed_table.specs.Callers.{IsCallerOf};
+    ghost use Rattle.managed_table.specs.Callers.{IsCallerOf, IsInside, IsOutside, LeafTurned, BookTurned};
 
     /// A managed table over a catalogue, with a reader for each worker. Every module is Absent, and nothing is held.
     pub fn new(
@@ -120,8 +119,8 @@ impl ManagedTable {
         requires own { IsCallerOf self.now caller.old }
         requires may { slot < slots self.now.row.world → MayActOn F.FnOnce leaf_fits seen self.now.row worker act }
         ensures own { IsCallerOf self.now caller.new }
-        ensures range { MatchOption result (((self.now.row.world.workers ≤ worker) ⊎ (slots self.now.row.world ≤ slot)) × (caller.new ≡ caller.old)) (λ _. (worker < self.now.row.world.workers) × (slot < slots self.now.row.world)) }
-        ensures turn { IfSome result (λ r. MadeTurn leaf_fits seen worker (λ x y. FnOnceReturnsAtMut F.FnOnce act x r y) caller.old.leaves.pass caller.new.leaves.pass) }
+        ensures range { MatchOption result (IsOutside self.now worker slot × (caller.new ≡ caller.old)) (λ _. IsInside self.now worker slot) }
+        ensures turn { IfSome result (λ r. LeafTurned worker (λ x y. FnOnceReturnsAtMut F.FnOnce act x r y) caller.old caller.new) }
         ensures book { caller.new.book ≡ caller.old.book }
     {
         if worker >= self.leaves.count() || slot >= self.row.slots() {
@@ -141,7 +140,7 @@ impl ManagedTable {
         requires own { IsCallerOf self.now caller.old }
         requires may { MayActOn F.FnOnce book_fits seen self.now.row 0 act }
         ensures own { IsCallerOf self.now caller.new }
-        ensures turn { MadeTurn book_fits seen 0 (λ x y. FnOnceReturnsAtMut F.FnOnce act x result y) caller.old.book.pass caller.new.book.pass }
+        ensures turn { BookTurned (λ x y. FnOnceReturnsAtMut F.FnOnce act x result y) caller.old caller.new }
         ensures leaves { caller.new.leaves ≡ caller.old.leaves }
     {
         self.book.turn(rt, &mut caller.book, 0, act)
