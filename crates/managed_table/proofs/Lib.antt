@@ -6,3 +6,4 @@ pub mod Turning
 pub mod Answered
 pub mod Fresh
 pub mod Trying
+pub mod Telling

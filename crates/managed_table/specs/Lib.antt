@@ -6,3 +6,4 @@ pub mod Meeting
 pub mod Shown
 pub mod Callers
 pub mod Owned
+pub mod Hearing

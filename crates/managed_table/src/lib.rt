@@ -3,6 +3,7 @@
 
 mod book_calls;
 mod caller;
+mod hearing;
 mod keyed;
 mod leaf_calls;
 mod locks;

@@ -1,0 +1,70 @@
+//! A leaf or the book and a reader hear of each other, under the lock.
+use crate::caller::Caller;
+use crate::table::ManagedTable;
+use std::sync::Wait;
+use use_indicator::{Leaf, Reader};
+
+impl ManagedTable {
+    ghost use Rattle.std.specs.Prelude.{◌≡◌, ◌<◌};
+    ghost use Rattle.std.specs.Fn.{FnOnceReturnsAtMut};
+    ghost use Rattle.root_row.specs.Seats.{IsOf};
+    ghost use Rattle.managed_table.specs.Kept.{seen, leaf_fits};
+    ghost use Rattle.managed_table.specs.Passes.{MayActOn};
+    ghost use Rattle.managed_table.specs.Callers.{IsCallerOf, LeafTurned};
+    ghost use Rattle.managed_table.specs.Hearing.{LeafMet, BookMet};
+
+    /// The worker's leaf and a reader hear of each other: both have then seen one list of calls. It begins with what each had
+    /// seen, is legal, and has of each one's calls just those that it made. The turn makes no call.
+    ///
+    /// So a reader gives order across locks. A later call at this lock, by a caller that met there, has in its history all
+    /// that the reader had seen, and the reader takes on what the leaf had seen. Three loads besides the lock.
+    pub fn meet_leaf<R: Wait>(
+        &self,
+        rt: &R,
+        caller: &mut Caller,
+        worker: usize,
+        reader: Reader,
+    ) -> Reader
+        requires own { IsCallerOf self.now caller.old }
+        requires reader_own { IsOf self.now.row reader }
+        requires inside { worker < self.now.row.world.workers }
+        ensures own { IsCallerOf self.now caller.new }
+        ensures reader_own { IsOf self.now.row result }
+        ensures met { LeafMet self.now worker caller.old caller.new reader.view result.view }
+        ensures book { caller.new.book ≡ caller.old.book }
+    {
+        let row = &self.row;
+        self.worker_turn(rt, caller, worker, |leaf| reader.hear_leaf(row, leaf))
+    }
+
+    /// The same of the book and the reader.
+    pub fn meet_book<R: Wait>(&self, rt: &R, caller: &mut Caller, reader: Reader) -> Reader
+        requires own { IsCallerOf self.now caller.old }
+        requires reader_own { IsOf self.now.row reader }
+        ensures own { IsCallerOf self.now caller.new }
+        ensures reader_own { IsOf self.now.row result }
+        ensures met { BookMet self.now caller.old caller.new reader.view result.view }
+        ensures leaves { caller.new.leaves ≡ caller.old.leaves }
+    {
+        let row = &self.row;
+        self.book_turn(rt, caller, |book| book.hear(row, reader))
+    }
+
+    // One turn of the lock of the worker's leaf.
+    fn worker_turn<R: Wait, A, F: FnOnce(&mut Leaf) -> A>(
+        &self,
+        rt: &R,
+        caller: &mut Caller,
+        worker: usize,
+        act: F,
+    ) -> A
+        requires own { IsCallerOf self.now caller.old }
+        requires inside { worker < self.now.row.world.workers }
+        requires may { MayActOn F.FnOnce leaf_fits seen self.now.row worker act }
+        ensures own { IsCallerOf self.now caller.new }
+        ensures turn { LeafTurned worker (λ x y. FnOnceReturnsAtMut F.FnOnce act x result y) caller.old caller.new }
+        ensures book { caller.new.book ≡ caller.old.book }
+    {
+        self.leaves.turn(rt, &mut caller.leaves, worker, act)
+    }
+}
