@@ -1,5 +1,6 @@
 /* Refuses each allocation in turn, once alone and once with all later ones. Where the answer is GZ_OUT_OF_MEMORY no
- * handle is filled and nothing is left allocated; else the call did without, and all is as ever.
+ * handle is filled and nothing is left allocated; else the call did without, and all is as ever. Calls of a table take no
+ * memory: each is made while none is to be had.
  * To be linked with -Wl,--wrap=malloc,--wrap=realloc,--wrap=free. */
 #include <gourzhiel.h>
 #include <stdio.h>
@@ -129,6 +130,42 @@ static bool is_sound(long from, long to)
     return is && blocks == 0 && (from >= 0 || number == GZ_DONE);
 }
 
+/* Each call of a table's parts, while no memory is to be had: none asks for any. */
+static bool parts_take_none(struct table *table)
+{
+    size_t need, slot;
+    uint32_t count;
+    bool is = gz_begin_load(&table->book, 0, &need) == GZ_DONE && gz_end_load(&table->book, 0, true) == GZ_DONE;
+    is = is && gz_get(&table->leaves[1], 0) == GZ_DONE && gz_try_get(&table->leaves[1], 0, 1) == GZ_DONE;
+    is = is && gz_held(&table->leaves[1], 0, &count) == GZ_DONE && gz_in_use(&table->readers[0], 0) == GZ_YES;
+    is = is && gz_state(&table->book, 0) == GZ_LIVE && gz_loaded_at(&table->book, 0, &slot) == GZ_DONE;
+    is = is && gz_begin_remove(&table->book, 0) == GZ_IN_USE && gz_begin_drain(&table->book, 0) == GZ_DONE;
+    is = is && gz_put(&table->leaves[1], 0) == GZ_DONE && gz_end_remove(&table->book, 0) == GZ_IN_USE;
+    is = is && gz_put(&table->leaves[1], 0) == GZ_DONE && gz_end_remove(&table->book, 0) == GZ_DONE;
+    return is && gz_loaded(&table->book) == 0;
+}
+
+/* The same of managed calls. */
+static bool managed_calls_take_none(gz_caller *caller)
+{
+    size_t need, slot;
+    uint32_t count;
+    bool is = gz_call_begin_load(caller, 0, &need) == GZ_DONE && gz_call_end_load(caller, 0, true) == GZ_DONE;
+    is = is && gz_call_get(caller, 1, 0) == GZ_DONE && gz_call_held(caller, 1, 0, &count) == GZ_DONE;
+    is = is && gz_call_state(caller, 0) == GZ_LIVE && gz_call_loaded_at(caller, 0, &slot) == GZ_DONE;
+    is = is && gz_call_begin_remove(caller, 0) == GZ_IN_USE && gz_call_begin_drain(caller, 0) == GZ_DONE;
+    is = is && gz_call_put(caller, 1, 0) == GZ_DONE && gz_call_end_remove(caller, 0) == GZ_DONE;
+    return is && gz_call_loaded(caller, &slot) == GZ_DONE && slot == 0;
+}
+
+static bool calls_take_no_memory(struct table *table, gz_caller *caller)
+{
+    refuse(0, 1000);
+    bool is = parts_take_none(table) && managed_calls_take_none(caller) && made == 0;
+    refuse(-1, -1);
+    return is;
+}
+
 int main(void)
 {
     if (!is_sound(-1, -1))
@@ -140,6 +177,8 @@ int main(void)
     if (read_text(&catalogue) || make(&catalogue, &table) || make_managed(&catalogue, &callers))
         return fails("all allowed", 0);
     long last = made;
+    if (!calls_take_no_memory(&table, &callers.further))
+        return fails("calls that take no memory", 0);
     free_callers(&callers);
     free_table(&table);
     gz_free_catalogue(&catalogue);

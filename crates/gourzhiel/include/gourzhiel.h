@@ -36,11 +36,26 @@
 #include <stdbool.h>
 #include <stddef.h>
 #include <stdint.h>
+#include <stdlib.h>
 #include <string.h>
+
+#if defined(__SANITIZE_THREAD__)
+#define GZ_THREAD_SANITIZER 1
+#elif defined(__has_feature)
+#if __has_feature(thread_sanitizer)
+#define GZ_THREAD_SANITIZER 1
+#endif
+#endif
+#ifdef GZ_THREAD_SANITIZER
+#include <sanitizer/tsan_interface.h>
+#endif
 
 #ifdef __cplusplus
 extern "C" {
 #endif
+
+/* The version of this header. gz_version tells that of the library: 1 has no managed calls. */
+#define GZ_VERSION 2
 
 typedef enum gz_number {
     GZ_DONE = 0,            /* the call is made */
@@ -91,9 +106,11 @@ typedef struct gz_caller { void *at; } gz_caller;
 /* The library's own calls. Each takes a handle's place, and those that free take the handle itself. The inline functions
  * below call them, and are what programs in C and C++ call. Slices are a pointer that is not NULL and a length; other
  * pointers are not NULL. */
+uint32_t gz_version(void);
 uint32_t gz_catalogue_read(const uint8_t *text, size_t length, gz_catalogue *catalogue, size_t *line);
 size_t gz_catalogue_len(gz_catalogue *catalogue);
 uint32_t gz_catalogue_slot(gz_catalogue *catalogue, const uint8_t *name, size_t length, size_t *slot);
+uint32_t gz_catalogue_need(gz_catalogue *catalogue, size_t slot, size_t place, size_t *need);
 uint32_t gz_catalogue_name(gz_catalogue *catalogue, size_t slot, uint8_t *buffer, size_t room, size_t *length);
 void gz_catalogue_free(gz_catalogue catalogue);
 uint32_t gz_table_new(gz_catalogue *catalogue, gz_book *book, gz_leaf *leaves, size_t leaf_count,
@@ -129,6 +146,21 @@ uint32_t gz_caller_loaded(gz_caller *caller, uint32_t tries, size_t *count);
 uint32_t gz_caller_loaded_at(gz_caller *caller, size_t place, uint32_t tries, size_t *slot);
 void gz_caller_free(gz_caller caller);
 
+/* What a call of a table orders. The library's atomics are sequentially consistent: of two calls on one table the later
+ * sees what was written before the earlier. The thread sanitizer does not see into the library, so it is told here. It is
+ * told of all tables at once: a race between users of two tables may then stay unseen. */
+#ifdef GZ_THREAD_SANITIZER
+static inline void gz_before_call(void) { __tsan_release((void *)(uintptr_t)gz_version); }
+static inline gz_number gz_after_call(uint32_t number)
+{
+    __tsan_acquire((void *)(uintptr_t)gz_version);
+    return (gz_number)number;
+}
+#define GZ_ORDERED(call) (gz_before_call(), gz_after_call(call))
+#else
+#define GZ_ORDERED(call) ((gz_number)(call))
+#endif
+
 /* ---- Catalogues ---- */
 
 /* Reads a catalogue from `length` bytes of text into an empty handle. Line by line: `module NAME`, `exports SYMBOL..`,
@@ -143,11 +175,28 @@ static inline gz_number gz_read(gz_catalogue *catalogue, const char *text, size_
 /* How many modules the catalogue has. Their slots are 0 and up, in the order of the text. */
 static inline size_t gz_slots(gz_catalogue *catalogue) { return gz_catalogue_len(catalogue); }
 
-/* The slot of a name that ends with 0, in *slot. Names are kept with _ for each -, and compared as they stand.
- * GZ_UNKNOWN_NAME: *slot is left as it is. */
+/* The slot of a name that ends with 0, in *slot. In names - and _ are the same.
+ * GZ_UNKNOWN_NAME, GZ_OUT_OF_MEMORY: *slot is left as it is. */
 static inline gz_number gz_slot(gz_catalogue *catalogue, const char *name, size_t *slot)
 {
     return (gz_number)gz_catalogue_slot(catalogue, (const uint8_t *)name, strlen(name), slot);
+}
+
+/* The slot of a module that the module in `slot` needs, in *need: of its needs the one at `place`, from 0, in the order of
+ * the text. GZ_OUT_OF_RANGE: it needs fewer, or the slot is none; *need is left as it is. */
+static inline gz_number gz_need(gz_catalogue *catalogue, size_t slot, size_t place, size_t *need)
+{
+    return (gz_number)gz_catalogue_need(catalogue, slot, place, need);
+}
+
+/* Whether the module in `slot` needs the one in `other`. */
+static inline bool gz_needs(gz_catalogue *catalogue, size_t slot, size_t other)
+{
+    size_t need = 0;
+    for (size_t place = 0; gz_need(catalogue, slot, place, &need) == GZ_DONE; place++)
+        if (need == other)
+            return true;
+    return false;
 }
 
 /* The name of the module in a slot, ended with 0, in a buffer of `room` bytes, which is at least 1.
@@ -189,7 +238,7 @@ static inline gz_number gz_new(gz_catalogue *catalogue, gz_book *book, gz_leaf *
  * GZ_NOT_LIVE, GZ_TOO_MANY, GZ_OUT_OF_RANGE. GZ_BUSY: no promise is made that a later call succeeds. */
 static inline gz_number gz_try_get(gz_leaf *leaf, size_t slot, uint32_t tries)
 {
-    return (gz_number)gz_leaf_get(leaf, slot, tries);
+    return GZ_ORDERED(gz_leaf_get(leaf, slot, tries));
 }
 
 /* Takes one reference to the module, and tries as long as others are in its way.
@@ -206,7 +255,7 @@ static inline gz_number gz_get(gz_leaf *leaf, size_t slot)
 }
 
 /* Gives one reference to the module back. GZ_NOT_HELD, GZ_OUT_OF_RANGE. */
-static inline gz_number gz_put(gz_leaf *leaf, size_t slot) { return (gz_number)gz_leaf_put(leaf, slot); }
+static inline gz_number gz_put(gz_leaf *leaf, size_t slot) { return GZ_ORDERED(gz_leaf_put(leaf, slot)); }
 
 /* How often the leaf holds the module, in *count. GZ_OUT_OF_RANGE: *count is left as it is. */
 static inline gz_number gz_held(gz_leaf *leaf, size_t slot, uint32_t *count)
@@ -227,7 +276,16 @@ static inline void gz_free_leaf(gz_leaf *leaf)
 /* Whether any leaf holds the module: GZ_YES or GZ_NO. GZ_OUT_OF_RANGE. */
 static inline gz_number gz_in_use(gz_reader *reader, size_t slot)
 {
-    return (gz_number)gz_reader_in_use(reader, slot);
+    return GZ_ORDERED(gz_reader_in_use(reader, slot));
+}
+
+/* Waits until no leaf holds the module, by sched_yield: GZ_NO. After gz_begin_drain it stays so. GZ_OUT_OF_RANGE. */
+static inline gz_number gz_wait_unused(gz_reader *reader, size_t slot)
+{
+    gz_number number;
+    while ((number = gz_in_use(reader, slot)) == GZ_YES)
+        sched_yield();
+    return number;
 }
 
 /* Frees the reader, and empties the handle. */
@@ -244,34 +302,35 @@ static inline void gz_free_reader(gz_reader *reader)
  * GZ_NEED_NOT_LIVE: the slot of a module that it needs is in *need, which is else left as it is. */
 static inline gz_number gz_begin_load(gz_book *book, size_t slot, size_t *need)
 {
-    return (gz_number)gz_book_begin_load(book, slot, need);
+    return GZ_ORDERED(gz_book_begin_load(book, slot, need));
 }
 
 /* Ends a load: the module is then live where it went well (ok), else absent. GZ_NOT_LOADING, GZ_OUT_OF_RANGE. */
 static inline gz_number gz_end_load(gz_book *book, size_t slot, bool ok)
 {
-    return (gz_number)gz_book_end_load(book, slot, ok);
+    return GZ_ORDERED(gz_book_end_load(book, slot, ok));
 }
 
-/* Begins a drain: gets are refused from then on, and references stay until they are given back.
+/* Begins a drain: gets are refused from then on, also those of a leaf that holds the module, and references stay until
+ * they are given back. A call that gets within a call has to take both references before the drain, or live with a refusal.
  * GZ_NO_ENTRY, GZ_NEEDED_BY, GZ_NOT_LIVE, GZ_PERMANENT, GZ_OUT_OF_RANGE. */
 static inline gz_number gz_begin_drain(gz_book *book, size_t slot)
 {
-    return (gz_number)gz_book_begin_drain(book, slot);
+    return GZ_ORDERED(gz_book_begin_drain(book, slot));
 }
 
 /* Begins a removal of a module that nobody holds: gets are refused from then on, so what the module has may be freed.
  * GZ_NO_ENTRY, GZ_NEEDED_BY, GZ_NOT_LIVE, GZ_PERMANENT, GZ_IN_USE, GZ_OUT_OF_RANGE. */
 static inline gz_number gz_begin_remove(gz_book *book, size_t slot)
 {
-    return (gz_number)gz_book_begin_remove(book, slot);
+    return GZ_ORDERED(gz_book_begin_remove(book, slot));
 }
 
 /* Ends a removal, or a drain once nobody holds the module: it is then absent, and may be loaded again.
  * GZ_NOT_UNLOADING, GZ_IN_USE, GZ_OUT_OF_RANGE. */
 static inline gz_number gz_end_remove(gz_book *book, size_t slot)
 {
-    return (gz_number)gz_book_end_remove(book, slot);
+    return GZ_ORDERED(gz_book_end_remove(book, slot));
 }
 
 /* The state of the module: GZ_ABSENT, GZ_LOADING, GZ_LIVE, GZ_DRAINING or GZ_UNLOADING. GZ_OUT_OF_RANGE. */
@@ -287,6 +346,28 @@ static inline gz_number gz_loaded_at(gz_book *book, size_t place, size_t *slot)
     return (gz_number)gz_book_loaded_at(book, place, slot);
 }
 
+/* Ends a drain once nobody holds the module, and waits for that by sched_yield. GZ_NOT_UNLOADING, GZ_OUT_OF_RANGE. */
+static inline gz_number gz_wait_removed(gz_book *book, size_t slot)
+{
+    gz_number number;
+    while ((number = gz_end_remove(book, slot)) == GZ_IN_USE)
+        sched_yield();
+    return number;
+}
+
+/* The slot of a loaded module that needs the module, in *user: of those the one at `place`, from 0, the oldest first.
+ * GZ_OUT_OF_RANGE: fewer are loaded that need it, and *user is left as it is. */
+static inline gz_number gz_user(gz_book *book, gz_catalogue *catalogue, size_t slot, size_t place, size_t *user)
+{
+    size_t loaded = 0;
+    for (size_t at = 0; gz_loaded_at(book, at, &loaded) == GZ_DONE; at++)
+        if (gz_needs(catalogue, loaded, slot) && place-- == 0) {
+            *user = loaded;
+            return GZ_DONE;
+        }
+    return GZ_OUT_OF_RANGE;
+}
+
 /* Frees the book, and empties the handle. Leaves and readers go on; no module is loaded or removed any more. */
 static inline void gz_free_book(gz_book *book)
 {
@@ -294,112 +375,6 @@ static inline void gz_free_book(gz_book *book)
         gz_book_free(*book);
     book->at = NULL;
 }
-
-/* ---- Managed tables ---- */
-
-/* A new table whose parts the library keeps, over a catalogue, with `workers` workers, and its first caller in an empty
- * handle. All modules are absent, and no worker holds one. GZ_OUT_OF_MEMORY, GZ_TOO_MANY_LEAVES: no handle is filled. */
-static inline gz_number gz_new_managed(gz_catalogue *catalogue, size_t workers, gz_caller *caller)
-{
-    return (gz_number)gz_managed_new(catalogue, workers, caller);
-}
-
-/* A further caller of the same table, in an empty handle. Each thread has one of its own. GZ_OUT_OF_MEMORY. */
-static inline gz_number gz_new_caller(gz_caller *caller, gz_caller *further)
-{
-    return (gz_number)gz_caller_new(caller, further);
-}
-
-/* How many workers the table has. Their numbers are 0 and up. */
-static inline size_t gz_workers(gz_caller *caller) { return gz_caller_workers(caller); }
-
-/* Managed calls. Each takes one lock, makes one call of a worker's leaf or of the book, and lets go: so that any thread
- * may call for any worker at any time, and each call that returns was made once. The library's own call tries the lock so
- * many times and then answers GZ_BUSY, with nothing changed; it never waits. The functions here wait: while it is GZ_BUSY
- * they let another thread run, by sched_yield, and call again. A thread that shall not wait calls gz_caller_ itself.
- * No promise is made that a lock comes free. */
-#define GZ_TRIES 64
-#define GZ_WAIT_FOR(call) \
-    gz_number number; \
-    while ((number = (gz_number)(call)) == GZ_BUSY) \
-        sched_yield(); \
-    return number
-
-/* Takes one reference to the module for the worker. GZ_NOT_LIVE, GZ_TOO_MANY, GZ_OUT_OF_RANGE. */
-static inline gz_number gz_call_get(gz_caller *caller, size_t worker, size_t slot)
-{
-    GZ_WAIT_FOR(gz_caller_get(caller, worker, slot, GZ_TRIES));
-}
-
-/* Gives one reference of the worker back. GZ_NOT_HELD, GZ_OUT_OF_RANGE. */
-static inline gz_number gz_call_put(gz_caller *caller, size_t worker, size_t slot)
-{
-    GZ_WAIT_FOR(gz_caller_put(caller, worker, slot, GZ_TRIES));
-}
-
-/* How often the worker holds the module, in *count. GZ_OUT_OF_RANGE: *count is left as it is. */
-static inline gz_number gz_call_held(gz_caller *caller, size_t worker, size_t slot, uint32_t *count)
-{
-    GZ_WAIT_FOR(gz_caller_held(caller, worker, slot, GZ_TRIES, count));
-}
-
-/* Begins a load, as gz_begin_load. */
-static inline gz_number gz_call_begin_load(gz_caller *caller, size_t slot, size_t *need)
-{
-    GZ_WAIT_FOR(gz_caller_begin_load(caller, slot, GZ_TRIES, need));
-}
-
-/* Ends a load, as gz_end_load. */
-static inline gz_number gz_call_end_load(gz_caller *caller, size_t slot, bool ok)
-{
-    GZ_WAIT_FOR(gz_caller_end_load(caller, slot, ok, GZ_TRIES));
-}
-
-/* Begins a drain, as gz_begin_drain. */
-static inline gz_number gz_call_begin_drain(gz_caller *caller, size_t slot)
-{
-    GZ_WAIT_FOR(gz_caller_begin_drain(caller, slot, GZ_TRIES));
-}
-
-/* Begins a removal, as gz_begin_remove. */
-static inline gz_number gz_call_begin_remove(gz_caller *caller, size_t slot)
-{
-    GZ_WAIT_FOR(gz_caller_begin_remove(caller, slot, GZ_TRIES));
-}
-
-/* Ends a removal or a drain, as gz_end_remove. */
-static inline gz_number gz_call_end_remove(gz_caller *caller, size_t slot)
-{
-    GZ_WAIT_FOR(gz_caller_end_remove(caller, slot, GZ_TRIES));
-}
-
-/* The state of the module, as gz_state. */
-static inline gz_number gz_call_state(gz_caller *caller, size_t slot)
-{
-    GZ_WAIT_FOR(gz_caller_state(caller, slot, GZ_TRIES));
-}
-
-/* How many modules are not absent, in *count. */
-static inline gz_number gz_call_loaded(gz_caller *caller, size_t *count)
-{
-    GZ_WAIT_FOR(gz_caller_loaded(caller, GZ_TRIES, count));
-}
-
-/* The slot of the loaded module at a place, as gz_loaded_at. */
-static inline gz_number gz_call_loaded_at(gz_caller *caller, size_t place, size_t *slot)
-{
-    GZ_WAIT_FOR(gz_caller_loaded_at(caller, place, GZ_TRIES, slot));
-}
-
-/* Frees the caller, and empties the handle. The last caller frees the table; what its workers still hold ends with it. */
-static inline void gz_free_caller(gz_caller *caller)
-{
-    if (caller->at)
-        gz_caller_free(*caller);
-    caller->at = NULL;
-}
-
-#undef GZ_WAIT_FOR
 
 /* ---- Numbers ---- */
 
@@ -444,5 +419,8 @@ static inline const char *gz_strerror(gz_number number)
 #ifdef __cplusplus
 }
 #endif
+
+#include "gourzhiel_managed.h"
+#include "gourzhiel_needs.h"
 
 #endif

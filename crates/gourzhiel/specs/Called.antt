@@ -10,7 +10,8 @@ use Rattle.managed_table.specs.Callers.{CallerIs}
 use Rattle.managed_table.specs.Turns.{MadeOneCall, MadeNoCall}
 use Rattle.managed_table.specs.Shown.{HoldsSoOften, IsInState, HasLoaded, HasLoadedAt, HasNoneAt}
 use Rattle.managed_table.specs.Owned.{row_of, SameTable, IsBeyond, IsWithin}
-use Rattle.gourzhiel.specs.Numbers.{reply_at, state_at, busy, out_of_range, out_of_memory, too_many_leaves}
+use Rattle.gourzhiel.specs.Making.{NoneMade}
+use Rattle.gourzhiel.specs.Numbers.{reply_at, state_at, busy, out_of_range, out_of_memory}
 use Rattle.gourzhiel.specs.declared.handles.GzCaller.{GzCaller}
 
 -- in one turn the worker's leaf made this call, which was answered so
@@ -93,7 +94,7 @@ IsNewCaller modules workers caller = ((row_of caller).world ≡ record { catalog
 abbrev pub CallerMade : List Module → ℕ → ℕ → GzCaller → GzCaller → Type 0
 CallerMade modules workers number none caller =
     MatchBool (number == 0) ((caller.full ≡ true) × IsNewCaller modules workers caller.held)
-    ((caller ≡ none) × ((number ≡ out_of_memory) ⊎ (number ≡ too_many_leaves)))
+    ((caller ≡ none) × NoneMade workers number)
 
 -- the same of a further caller
 abbrev pub FurtherMade : CallerIs → ℕ → GzCaller → GzCaller → Type 0

@@ -1,6 +1,7 @@
 -- A new table: its book, its leaves and its readers.
-use Rattle.std.specs.Prelude.{◌≡◌, ◌⊎◌, ℕ, ◌==◌, true, List, length, map, All, MatchBool}
+use Rattle.std.specs.Prelude.{◌≡◌, ℕ, ◌==◌, nat_lt, true, List, length, map, All, MatchBool}
 use Rattle.dep_index.specs.Table.{Module}
+use Rattle.dep_index.specs.Words.{closed}
 use Rattle.root_row.specs.Seats.{Seated}
 use Rattle.root_row.specs.Made as made
 use Rattle.root_row.specs.Made.{AreNew}
@@ -22,9 +23,14 @@ pub record AreFull (book : GzBook) (leaves : List GzLeaf) (readers : List GzRead
   pub has_leaves : All (λ h. h.full ≡ true) leaves
   pub has_readers : All (λ h. h.full ≡ true) readers
 
+-- why no table was made: this many leaves are too many, or they are not and there was no memory
+abbrev pub NoneMade : ℕ → ℕ → Type 0
+NoneMade workers number =
+    MatchBool (nat_lt workers closed) (number ≡ out_of_memory) (number ≡ too_many_leaves)
+
 -- the handles after a table was made: all are full, with its parts; or none was touched, and the number says why
 abbrev pub HandlesMade : List Module → ℕ → GzBook → GzBook → List GzLeaf → List GzLeaf → List GzReader → List GzReader → Type 0
 HandlesMade modules number no_book book no_leaves leaves no_readers readers =
     MatchBool (number == 0)
     (AreFull book leaves readers × IsTable modules (length no_leaves) (length no_readers) book.held (map (λ h. h.held) leaves) (map (λ h. h.held) readers))
-    ((book ≡ no_book) × (leaves ≡ no_leaves) × (readers ≡ no_readers) × ((number ≡ out_of_memory) ⊎ (number ≡ too_many_leaves)))
+    ((book ≡ no_book) × (leaves ≡ no_leaves) × (readers ≡ no_readers) × NoneMade (length no_leaves) number)

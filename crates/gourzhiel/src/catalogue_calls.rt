@@ -1,8 +1,9 @@
 //! The calls on the handle of a catalogue.
 ghost use Rattle.std.specs.Prelude.{◌≡◌, ℕ, true, false, List, length, Result};
+ghost use Rattle.text_parts.specs.Text.{normal_form};
 ghost use Rattle.dep_index.specs.Catalogue.{Description, Refusal, catalogue_of, slot_named};
 ghost use Rattle.dep_index.specs.Faults.{IsFirstFault};
-ghost use Rattle.gourzhiel.specs.Naming.{ReadInto, SlotTold, NameTold, FaultTold};
+ghost use Rattle.gourzhiel.specs.Naming.{ReadInto, SlotTold, NeedTold, NameTold, FaultTold};
 
 use crate::handles::GzCatalogue;
 use crate::numbers::{
@@ -12,9 +13,10 @@ use crate::numbers::{
 use crate::parts::{Parts, hand_out};
 use dep_index::{CatError, read_catalogue};
 use std::alloc::Global;
+use text_parts::Name;
 
 fn fault(error: CatError, line: &mut usize) -> u32
-    ensures { (read : Result (List Description) (Refusal × ℕ)) → IsFirstFault error read → FaultTold result line.new read }
+    ensures { (read : Result (List Description) (Refusal × ℕ)) → IsFirstFault error read → FaultTold result line.old line.new read }
 {
     match error {
         CatError::Bad { line: at } => {
@@ -40,7 +42,7 @@ fn fault(error: CatError, line: &mut usize) -> u32
 /// Reads a catalogue from its text, and fills an empty handle with it.
 ///
 /// OUT_OF_MEMORY: nothing is kept. BAD_LINE, DUPLICATE, TWICE_EXPORTED, TOO_MANY_MODULES: the text's first fault, with
-/// its line, from 1. The handle is then empty as before.
+/// its line, from 1, which is else left as it is. The handle is then empty as before.
 #[unsafe(no_mangle)]
 pub extern "C" fn gz_catalogue_read(
     alloc: Global,
@@ -49,7 +51,7 @@ pub extern "C" fn gz_catalogue_read(
     line: &mut usize,
 ) -> u32
     requires empty { catalogue.old.full ≡ false }
-    ensures { ReadInto (catalogue_of text.now) catalogue.old.full result line.new catalogue.new.full catalogue.new.held }
+    ensures { ReadInto (catalogue_of text.now) catalogue.old.full result line.old line.new catalogue.new.full catalogue.new.held }
 {
     let read = match read_catalogue(alloc, text) {
         Ok(read) => read,
@@ -74,20 +76,24 @@ pub extern "C" fn gz_catalogue_len(catalogue: &mut GzCatalogue) -> usize
     catalogue.lend().len()
 }
 
-/// The slot of a name, which is compared as it stands: names are kept with `_` for each `-`.
+/// The slot of a name. In the name `-` and `_` are the same (modprobe(8)).
 ///
-/// UNKNOWN_NAME: no module has the name, and the slot is left as it is.
+/// UNKNOWN_NAME: no module has the name. OUT_OF_MEMORY. The slot is then left as it is.
 #[unsafe(no_mangle)]
 pub extern "C" fn gz_catalogue_slot(
+    alloc: Global,
     catalogue: &mut GzCatalogue,
     name: &[u8],
     slot: &mut usize,
 ) -> u32
     requires full { catalogue.old.full ≡ true }
     ensures kept { (catalogue.new.full ≡ true) × (catalogue.new.held ≡ catalogue.old.held) }
-    ensures slot { SlotTold (slot_named catalogue.old.held name.now) slot.old result slot.new }
+    ensures slot { SlotTold (slot_named catalogue.old.held (normal_form name.now)) slot.old result slot.new }
 {
-    match catalogue.lend().slot(name) {
+    let Ok(normal) = Name::new(alloc, name) else {
+        return OUT_OF_MEMORY;
+    };
+    match catalogue.lend().slot(normal.as_bytes()) {
         None => UNKNOWN_NAME,
         Some(found) => {
             *slot = found;
@@ -96,10 +102,37 @@ pub extern "C" fn gz_catalogue_slot(
     }
 }
 
+/// The slot of a module that the module in a slot needs, by its place among its needs, in the order of the text.
+///
+/// OUT_OF_RANGE: the slot is none of the catalogue, or it needs fewer. The need is then left as it is.
+#[unsafe(no_mangle)]
+pub extern "C" fn gz_catalogue_need(
+    catalogue: &mut GzCatalogue,
+    slot: usize,
+    place: usize,
+    need: &mut usize,
+) -> u32
+    requires full { catalogue.old.full ≡ true }
+    ensures kept { (catalogue.new.full ≡ true) × (catalogue.new.held ≡ catalogue.old.held) }
+    ensures need { NeedTold catalogue.old.held slot place need.old result need.new }
+{
+    let modules = catalogue.lend();
+    if slot >= modules.len() {
+        return OUT_OF_RANGE;
+    }
+    match modules.needs(slot).get(place) {
+        None => OUT_OF_RANGE,
+        Some(found) => {
+            *need = usize::from(*found);
+            DONE
+        }
+    }
+}
+
 /// The name of the module in a slot, written to the front of the buffer, and its length, at most 55.
 ///
-/// OUT_OF_RANGE: the slot is none of the catalogue. TOO_SHORT: the buffer is shorter than the name, whose length is
-/// told; nothing is written.
+/// OUT_OF_RANGE: the slot is none of the catalogue, and the length is left as it is. TOO_SHORT: the buffer is shorter than
+/// the name, whose length is told; nothing is written.
 #[unsafe(no_mangle)]
 pub extern "C" fn gz_catalogue_name(
     catalogue: &mut GzCatalogue,
@@ -109,7 +142,7 @@ pub extern "C" fn gz_catalogue_name(
 ) -> u32
     requires full { catalogue.old.full ≡ true }
     ensures kept { (catalogue.new.full ≡ true) × (catalogue.new.held ≡ catalogue.old.held) }
-    ensures name { NameTold catalogue.old.held slot buffer.old result buffer.new long.new }
+    ensures name { NameTold catalogue.old.held slot buffer.old long.old result buffer.new long.new }
 {
     let catalogue = catalogue.lend();
     if slot >= catalogue.len() {

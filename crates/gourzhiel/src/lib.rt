@@ -15,6 +15,7 @@ mod numbers;
 mod parts;
 mod reader_calls;
 mod table_calls;
+mod version;
 
 pub use book_calls::{
     gz_book_begin_drain, gz_book_begin_load, gz_book_begin_remove, gz_book_end_load,
@@ -30,10 +31,12 @@ pub use caller_calls::{
     gz_caller_free, gz_caller_get, gz_caller_held, gz_caller_put, gz_caller_workers,
 };
 pub use catalogue_calls::{
-    gz_catalogue_free, gz_catalogue_len, gz_catalogue_name, gz_catalogue_read, gz_catalogue_slot,
+    gz_catalogue_free, gz_catalogue_len, gz_catalogue_name, gz_catalogue_need, gz_catalogue_read,
+    gz_catalogue_slot,
 };
 pub use handles::{GzBook, GzCaller, GzCatalogue, GzLeaf, GzReader};
 pub use leaf_calls::{gz_leaf_free, gz_leaf_get, gz_leaf_held, gz_leaf_put};
 pub use managed_calls::{gz_caller_new, gz_managed_new};
 pub use reader_calls::{gz_reader_free, gz_reader_in_use};
 pub use table_calls::gz_table_new;
+pub use version::gz_version;

@@ -1,0 +1,171 @@
+/* Names, needs, users, loads and removals with needs, waits: by a book and by a caller. Says nothing where all is well. */
+#include <gourzhiel.h>
+#include <stdio.h>
+
+/* usb_audio needs core and pcm, pcm needs core and timer; a and b need each other; lost needs what nobody has. */
+static const char text[] =
+    "module core\nexports c\n"
+    "module timer\nexports t\n"
+    "module pcm\nexports p\nneeds c t\n"
+    "module usb-audio\nneeds c p\n"
+    "module a\nexports x\nneeds y\n"
+    "module b\nexports y\nneeds x\n"
+    "module lost\nneeds nobody_has_it\n"
+    "module over\nexports o\nneeds l\n"
+    "module stuck\nexports l\npermanent\n";
+
+enum { CORE, TIMER, PCM, AUDIO, A, B, LOST, OVER, STUCK, OUTSIDE };
+
+static int wrong;
+
+static void check(int line, long found, long wanted)
+{
+    if (found != wanted) {
+        printf("needs.c:%d: answered %ld, and not %ld\n", line, found, wanted);
+        wrong = 1;
+    }
+}
+#define CHECK(found, wanted) check(__LINE__, (long)(found), (long)(wanted))
+
+/* What was worked for, in order, and for which module the work goes wrong. */
+struct log {
+    size_t slots[32], count, bad;
+};
+
+static bool note(void *data, size_t slot)
+{
+    struct log *log = (struct log *)data;
+    log->slots[log->count++] = slot;
+    return slot != log->bad;
+}
+
+static void check_log(int line, struct log *log, size_t count, const size_t *wanted)
+{
+    check(line, (long)log->count, (long)count);
+    for (size_t i = 0; i < count && i < log->count; i++)
+        check(line, (long)log->slots[i], (long)wanted[i]);
+    log->count = 0;
+}
+#define CHECK_LOG(log, ...) \
+    do { \
+        const size_t wanted[] = { __VA_ARGS__ }; \
+        check_log(__LINE__, &log, sizeof wanted / sizeof *wanted, wanted); \
+    } while (0)
+
+static void names(gz_catalogue *catalogue)
+{
+    size_t slot = 99, need = 99;
+    CHECK(gz_slot(catalogue, "usb-audio", &slot), GZ_DONE);
+    CHECK(slot, AUDIO);
+    slot = 99;
+    CHECK(gz_slot(catalogue, "usb_audio", &slot), GZ_DONE);
+    CHECK(slot, AUDIO);
+    CHECK(gz_slot(catalogue, "usb audio", &slot), GZ_UNKNOWN_NAME);
+    CHECK(gz_slot(catalogue, "", &slot), GZ_UNKNOWN_NAME);
+    CHECK(slot, AUDIO);
+    CHECK(gz_need(catalogue, AUDIO, 0, &need), GZ_DONE);
+    CHECK(need, CORE);
+    CHECK(gz_need(catalogue, AUDIO, 1, &need), GZ_DONE);
+    CHECK(need, PCM);
+    CHECK(gz_need(catalogue, AUDIO, 2, &need), GZ_OUT_OF_RANGE);
+    CHECK(gz_need(catalogue, OUTSIDE, 0, &need), GZ_OUT_OF_RANGE);
+    CHECK(gz_need(catalogue, LOST, 0, &need), GZ_OUT_OF_RANGE);
+    CHECK(need, PCM);
+    CHECK(gz_needs(catalogue, PCM, TIMER), true);
+    CHECK(gz_needs(catalogue, AUDIO, TIMER), false);
+    CHECK(gz_version(), GZ_VERSION);
+}
+
+static void by_book(gz_catalogue *catalogue)
+{
+    gz_book book = GZ_EMPTY;
+    gz_leaf leaf = GZ_EMPTY;
+    gz_reader reader = GZ_EMPTY;
+    struct log log = { { 0 }, 0, OUTSIDE };
+    size_t at = 99, user = 99;
+    CHECK(gz_new(catalogue, &book, &leaf, 1, &reader, 1), GZ_DONE);
+    CHECK(gz_load_with_needs(&book, catalogue, AUDIO, note, &log, &at), GZ_DONE);
+    CHECK(at, AUDIO);
+    CHECK_LOG(log, CORE, TIMER, PCM, AUDIO);
+    CHECK(gz_load_with_needs(&book, catalogue, AUDIO, note, &log, &at), GZ_EXISTS);
+    CHECK(gz_load_with_needs(&book, catalogue, A, note, &log, &at), GZ_NEED_NOT_LIVE);
+    CHECK(gz_load_with_needs(&book, catalogue, LOST, note, &log, &at), GZ_UNKNOWN_SYMBOL);
+    CHECK(at, LOST);
+    CHECK(gz_load_with_needs(&book, catalogue, OUTSIDE, note, &log, &at), GZ_OUT_OF_RANGE);
+    CHECK(log.count, 0);
+    CHECK(gz_user(&book, catalogue, CORE, 0, &user), GZ_DONE);
+    CHECK(user, PCM);
+    CHECK(gz_user(&book, catalogue, CORE, 1, &user), GZ_DONE);
+    CHECK(user, AUDIO);
+    CHECK(gz_user(&book, catalogue, CORE, 2, &user), GZ_OUT_OF_RANGE);
+    CHECK(user, AUDIO);
+    CHECK(gz_get(&leaf, TIMER), GZ_DONE);
+    CHECK(gz_remove_with_needs(&book, catalogue, PCM, note, &log), GZ_NEEDED_BY);
+    CHECK(log.count, 0);
+    CHECK(gz_remove_with_needs(&book, catalogue, AUDIO, note, &log), GZ_DONE);
+    CHECK_LOG(log, AUDIO, PCM, CORE);
+    CHECK(gz_begin_drain(&book, TIMER), GZ_DONE);
+    CHECK(gz_get(&leaf, TIMER), GZ_NOT_LIVE);
+    CHECK(gz_in_use(&reader, TIMER), GZ_YES);
+    CHECK(gz_put(&leaf, TIMER), GZ_DONE);
+    CHECK(gz_wait_unused(&reader, TIMER), GZ_NO);
+    CHECK(gz_wait_removed(&book, TIMER), GZ_DONE);
+    CHECK(gz_wait_removed(&book, TIMER), GZ_NOT_UNLOADING);
+    CHECK(gz_wait_unused(&reader, OUTSIDE), GZ_OUT_OF_RANGE);
+    CHECK(gz_loaded(&book), 0);
+    gz_free_reader(&reader);
+    gz_free_leaf(&leaf);
+    gz_free_book(&book);
+}
+
+static void by_caller(gz_catalogue *catalogue)
+{
+    gz_caller caller = GZ_EMPTY;
+    struct log log = { { 0 }, 0, PCM };
+    size_t at = 99, user = 99, count = 99;
+    uint64_t sum = 99;
+    CHECK(gz_new_managed(catalogue, 3, &caller), GZ_DONE);
+    CHECK(gz_call_load_with_needs(&caller, catalogue, AUDIO, note, &log, &at), GZ_NOT_LIVE);
+    CHECK(at, PCM);
+    CHECK_LOG(log, CORE, TIMER, PCM);
+    log.bad = OUTSIDE;
+    CHECK(gz_call_load_with_needs(&caller, catalogue, AUDIO, note, &log, &at), GZ_DONE);
+    CHECK_LOG(log, PCM, AUDIO);
+    CHECK(gz_call_user(&caller, catalogue, TIMER, 0, &user), GZ_DONE);
+    CHECK(user, PCM);
+    CHECK(gz_call_user(&caller, catalogue, AUDIO, 0, &user), GZ_OUT_OF_RANGE);
+    CHECK(gz_call_get(&caller, 0, AUDIO), GZ_DONE);
+    CHECK(gz_call_get(&caller, 2, AUDIO), GZ_DONE);
+    CHECK(gz_call_get(&caller, 2, AUDIO), GZ_DONE);
+    CHECK(gz_call_references(&caller, AUDIO, &sum), GZ_DONE);
+    CHECK(sum, 3);
+    CHECK(gz_call_references(&caller, OUTSIDE, &sum), GZ_OUT_OF_RANGE);
+    CHECK(sum, 3);
+    CHECK(gz_call_remove_with_needs(&caller, catalogue, AUDIO, note, &log), GZ_IN_USE);
+    CHECK(gz_call_put(&caller, 0, AUDIO), GZ_DONE);
+    CHECK(gz_call_put(&caller, 2, AUDIO), GZ_DONE);
+    CHECK(gz_call_put(&caller, 2, AUDIO), GZ_DONE);
+    CHECK(gz_call_remove_with_needs(&caller, catalogue, AUDIO, note, &log), GZ_DONE);
+    CHECK_LOG(log, AUDIO, PCM, CORE, TIMER);
+    CHECK(gz_call_load_with_needs(&caller, catalogue, OVER, note, &log, &at), GZ_DONE);
+    CHECK_LOG(log, STUCK, OVER);
+    CHECK(gz_call_begin_drain(&caller, OVER), GZ_DONE);
+    CHECK(gz_call_wait_removed(&caller, OVER), GZ_DONE);
+    CHECK(gz_call_remove_with_needs(&caller, catalogue, STUCK, note, &log), GZ_PERMANENT);
+    CHECK(gz_call_loaded(&caller, &count), GZ_DONE);
+    CHECK(count, 1);
+    gz_free_caller(&caller);
+}
+
+int main(void)
+{
+    gz_catalogue catalogue = GZ_EMPTY;
+    size_t line = 77;
+    CHECK(gz_read(&catalogue, text, sizeof text - 1, &line), GZ_DONE);
+    CHECK(line, 77);
+    names(&catalogue);
+    by_book(&catalogue);
+    by_caller(&catalogue);
+    gz_free_catalogue(&catalogue);
+    return wrong;
+}
