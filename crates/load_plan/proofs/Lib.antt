@@ -3,7 +3,7 @@ pub mod Bounds
 pub mod Walking
 pub mod Orders
 pub mod Clean
-pub mod Trials
+pub mod Lessons
 pub mod Free
 pub mod Resuming
 pub mod Visiting

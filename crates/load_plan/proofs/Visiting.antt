@@ -18,8 +18,9 @@ use Rattle.load_plan.specs.Plan.{is_free, visit}
 use Rattle.load_plan.specs.Laws.{is_in, start, more}
 use Rattle.load_plan.specs.ForProofs.{mark_at, AreMarks, IsKept}
 use Rattle.load_plan.specs.VisitSteps.{left_of, next_stage, first_stage, Leads, is_taken, IsUnmet, IsUnmetFirst, IsMove, IsTaken}
-use Rattle.load_plan.specs.Trials.{IsTrial, StaysKnown}
-use Rattle.load_plan.proofs.Trials.{Trial-begin}
+use Rattle.load_plan.specs.declared.learnt.Learnt.{Learnt}
+use Rattle.load_plan.specs.Learnt.{Knows, StaysKnown}
+use Rattle.load_plan.proofs.Lessons.{Learnt-append}
 use Rattle.load_plan.proofs.Lists.{and_makes, or_false, or_comes, has-same, has-other, has-last_same, has-last_other, apart_from, below_cons, nothing_apart, room_for, has-from_apart, passes_at, not_false, all-append, take-first, take-all}
 use Rattle.load_plan.proofs.Orders.{IsWithin, grows_last, all_in-grows}
 use Rattle.load_plan.proofs.Walking.{mark_new, marks-open, marks-done}
@@ -265,57 +266,67 @@ pub Visits-over : {w : List Node} {begun : ℕ} {marks : List Mark} {order : Lis
 Visits-over v = v.same
 
 -- what the code knows of what is taken
-abbrev pub TakenAt : List Node → List Mark → List Mark → Stage → Move → Type 0
-TakenAt w marks trial s move = (progress done : List ℕ) → AreMarks (length w) marks progress done → IsKept w progress done → IsTrial w progress trial → IsUnmetFirst w progress s → IsTaken w progress done s move
+abbrev pub TakenAt : List Node → List Mark → Learnt → Stage → Move → Type 0
+TakenAt w marks learnt s move = (progress done : List ℕ) → AreMarks (length w) marks progress done → IsKept w progress done → Knows w progress done learnt → IsUnmetFirst w progress s → IsTaken w progress done s move
 
-taken_here : {w : List Node} {begun : ℕ} {marks trial : List Mark} {order : List ℕ} {s : Stage} {ss : List Stage} → Visits w begun marks order (s ∷ ss) → IsTrial w (progress_of (s ∷ ss)) trial → (move : Move) → TakenAt w marks trial s move → IsTaken w (progress_of (s ∷ ss)) order s move
-taken_here {w} {begun} {marks} {trial} {order} {s} {ss} v known move taken = taken (progress_of (s ∷ ss)) order v.marked v.kept known (unmet_first w order [] s ss v.holds)
-
-pub Visits-by_pass : {w : List Node} {begun : ℕ} {marks trial : List Mark} {order : List ℕ} {s next : Stage} {ss : List Stage} → Visits w begun marks order (s ∷ ss) → IsTrial w (progress_of (s ∷ ss)) trial → IsMove w marks s (Pass next) → TakenAt w marks trial s (Pass next) → Visits w begun marks order (next ∷ ss)
-Visits-by_pass {w} {begun} {marks} {trial} {order} {s} {next} {ss} v known move taken =
-    subst (λ x. Visits w begun marks order (x ∷ ss)) (sym move.2) (Visits-pass v move.0 move.1 (taken_here v known (Pass next) taken move.0 move.1))
-
-pub Visits-by_append : {w : List Node} {begun : ℕ} {marks : List Mark} {order : List ℕ} {s next : Stage} {ss : List Stage} → Visits w begun marks order (s ∷ ss) → IsMove w marks s (Append next) → Visits w begun (set marks s.slot Done) (order ++ s.slot ∷ []) (next ∷ ss)
-Visits-by_append {w} {begun} {marks} {order} {s} {next} {ss} v move =
-    subst (λ x. Visits w begun (set marks s.slot Done) (order ++ s.slot ∷ []) (x ∷ ss)) (sym move.2) (Visits-append v move.0 move.1)
-
-pub Visits-by_enter : {w : List Node} {begun : ℕ} {marks trial : List Mark} {order : List ℕ} {s next : Stage} {ss : List Stage} (m : ℕ) → Visits w begun marks order (s ∷ ss) → IsTrial w (progress_of (s ∷ ss)) trial → IsMove w marks s (Enter m next) → TakenAt w marks trial s (Enter m next) → Visits w begun (set marks m Open) order (first_stage Pre m ∷ next ∷ ss)
-Visits-by_enter {w} {begun} {marks} {trial} {order} {s} {next} {ss} m v known move taken =
-    subst (λ x. Visits w begun (set marks m Open) order (first_stage Pre m ∷ x ∷ ss)) (sym move.3) (Visits-enter v m move.0 move.1 move.2 (taken_here v known (Enter m next) taken))
+taken_here : {w : List Node} {begun : ℕ} {marks : List Mark} {order : List ℕ} {s : Stage} {ss : List Stage} (learnt : Learnt) → Visits w begun marks order (s ∷ ss) → Knows w (progress_of (s ∷ ss)) order learnt → (move : Move) → TakenAt w marks learnt s move → IsTaken w (progress_of (s ∷ ss)) order s move
+taken_here {w} {begun} {marks} {order} {s} {ss} learnt v known move taken = taken (progress_of (s ∷ ss)) order v.marked v.kept known (unmet_first w order [] s ss v.holds)
 
 -- What the loop keeps, with what was learnt.
-pub record Learns (w : List Node) (begun : ℕ) (marks trial : List Mark) (order : List ℕ) (ss : List Stage) : Type 0 where
+pub record Learns (w : List Node) (begun : ℕ) (marks : List Mark) (learnt : Learnt) (order : List ℕ) (ss : List Stage) : Type 0 where
   pub visits : Visits w begun marks order ss
-  pub long : length trial ≡ length w
-  pub known : IsTrial w (progress_of ss) trial
+  pub long : length learnt.verdicts.items ≡ length w
+  pub known : Knows w (progress_of ss) order learnt
 
-pub Learns-forget : {w : List Node} {begun : ℕ} {marks trial : List Mark} {order : List ℕ} {ss : List Stage} → trial ≡ marks → Visits w begun marks order ss → Learns w begun marks trial order ss
-Learns-forget {w} {begun} {marks} {trial} {order} {ss} same v = record {
-  visits = v;
-  long = ap length same ∙ v.long;
-  known = subst (λ l. IsTrial w (progress_of ss) l) (sym same) (Trial-begin w marks (progress_of ss) order v.marked v.kept);
-}
+-- what is known behind a step of the loop
+pub Learns-step : {w : List Node} {begun : ℕ} {marks : List Mark} {order : List ℕ} {ss : List Stage} (learnt after : Learnt) → Learns w begun marks learnt order ss → StaysKnown w marks learnt after → Knows w (progress_of ss) order after
+Learns-step {w} {begun} {marks} {order} {ss} learnt after k stays = stays (progress_of ss) order k.visits.marked k.visits.kept k.known
 
-pub Learns-pass : {w : List Node} {begun : ℕ} {marks trial after : List Mark} {order : List ℕ} {s next : Stage} {ss : List Stage} → Learns w begun marks trial order (s ∷ ss) → length after ≡ length w → StaysKnown w trial after → IsMove w marks s (Pass next) → TakenAt w marks trial s (Pass next) → Learns w begun marks after order (next ∷ ss)
-Learns-pass {w} {begun} {marks} {trial} {after} {order} {s} {next} {ss} k long stays move taken = record {
-  visits = Visits-by_pass k.visits k.known move taken;
-  long = long;
-  known = subst (λ x. IsTrial w (progress_of (x ∷ ss)) after) (sym move.2) (stays (progress_of (s ∷ ss)) k.known);
-}
+pub Learns-pass : {w : List Node} {begun : ℕ} {marks : List Mark} {order : List ℕ} {s next : Stage} {ss : List Stage} (learnt after : Learnt) → Learns w begun marks learnt order (s ∷ ss) → length after.verdicts.items ≡ length w → StaysKnown w marks learnt after → IsMove w marks s (Pass next) → TakenAt w marks learnt s (Pass next) → Learns w begun marks after order (next ∷ ss)
+Learns-pass {w} {begun} {marks} {order} {s} {next} {ss} learnt after k long stays move taken =
+    subst (λ x. Learns w begun marks after order (x ∷ ss)) (sym move.2)
+    (record { visits = Visits-pass k.visits move.0 move.1 (taken_here learnt k.visits k.known (Pass next) taken move.0 move.1); long = long; known = Learns-step learnt after k stays })
 
-pub Learns-turn : {w : List Node} {begun : ℕ} {marks trial after : List Mark} {order : List ℕ} {s next : Stage} {ss : List Stage} → Learns w begun marks trial order (s ∷ ss) → length after ≡ length w → StaysKnown w trial after → IsMove w marks s (Turn next) → Learns w begun marks after order (next ∷ ss)
-Learns-turn {w} {begun} {marks} {trial} {after} {order} {s} {next} {ss} k long stays move =
+pub Learns-turn : {w : List Node} {begun : ℕ} {marks : List Mark} {order : List ℕ} {s next : Stage} {ss : List Stage} (learnt after : Learnt) → Learns w begun marks learnt order (s ∷ ss) → length after.verdicts.items ≡ length w → StaysKnown w marks learnt after → IsMove w marks s (Turn next) → Learns w begun marks after order (next ∷ ss)
+Learns-turn {w} {begun} {marks} {order} {s} {next} {ss} learnt after k long stays move =
     let same : progress_of (s ∷ ss) ≡ progress_of (first_stage Hard s.slot ∷ ss) = ap (λ p. with_phase p s.slot (progress_of ss)) move.0 in
     subst (λ x. Learns w begun marks after order (x ∷ ss)) (sym move.2)
-    (record {
-      visits = Visits-turn k.visits move.0 move.1;
-      long = long;
-      known = subst (λ l. IsTrial w l after) same (stays (progress_of (s ∷ ss)) k.known);
-    })
+    (record { visits = Visits-turn k.visits move.0 move.1; long = long; known = subst (λ l. Knows w l order after) same (Learns-step learnt after k stays) })
 
-pub Learns-leave : {w : List Node} {begun : ℕ} {marks trial after : List Mark} {order : List ℕ} {s : Stage} {ss : List Stage} → Learns w begun marks trial order (s ∷ ss) → length after ≡ length w → StaysKnown w trial after → IsMove w marks s Leave → Learns w begun marks after order ss
-Learns-leave {w} {begun} {marks} {trial} {after} {order} {s} {ss} k long stays move = record {
+pub Learns-leave : {w : List Node} {begun : ℕ} {marks : List Mark} {order : List ℕ} {s : Stage} {ss : List Stage} (learnt after : Learnt) → Learns w begun marks learnt order (s ∷ ss) → length after.verdicts.items ≡ length w → StaysKnown w marks learnt after → IsMove w marks s Leave → Learns w begun marks after order ss
+Learns-leave {w} {begun} {marks} {order} {s} {ss} learnt after k long stays move = record {
   visits = Visits-leave k.visits move.0 move.1;
   long = long;
-  known = subst (λ l. IsTrial w l after) (ap (λ p. with_phase p s.slot (progress_of ss)) move.0) (stays (progress_of (s ∷ ss)) k.known);
+  known = subst (λ l. Knows w l order after) (ap (λ p. with_phase p s.slot (progress_of ss)) move.0) (Learns-step learnt after k stays);
+}
+
+pub Learns-append : {w : List Node} {begun : ℕ} {marks : List Mark} {order : List ℕ} {s next : Stage} {ss : List Stage} (learnt after : Learnt) → Learns w begun marks learnt order (s ∷ ss) → length after.verdicts.items ≡ length w → StaysKnown w marks learnt after → IsMove w marks s (Append next) → Learns w begun (set marks s.slot Done) after (order ++ s.slot ∷ []) (next ∷ ss)
+Learns-append {w} {begun} {marks} {order} {s} {next} {ss} learnt after k long stays move =
+    let opened : progress_of (s ∷ ss) ≡ s.slot ∷ progress_of ss = ap (λ p. with_phase p s.slot (progress_of ss)) move.0 in
+    subst (λ x. Learns w begun (set marks s.slot Done) after (order ++ s.slot ∷ []) (x ∷ ss)) (sym move.2)
+    (record {
+      visits = Visits-append k.visits move.0 move.1;
+      long = long;
+      known = Learnt-append w (progress_of ss) order after.verdicts.items after.order.items s.slot (subst (λ l. Knows w l order after) opened (Learns-step learnt after k stays));
+    })
+
+-- what `enter` keeps
+abbrev pub EntersWith : List Node → ℕ → Learnt → Learnt → Type 0
+EntersWith w m before after = (progress done : List ℕ) → Knows w progress done before → Knows w (m ∷ progress) done after
+
+pub Learns-enter : {w : List Node} {begun : ℕ} {marks : List Mark} {order : List ℕ} {s next : Stage} {ss : List Stage} (learnt after entered : Learnt) (m : ℕ) → Learns w begun marks learnt order (s ∷ ss) → length entered.verdicts.items ≡ length w → StaysKnown w marks learnt after → EntersWith w m after entered → IsMove w marks s (Enter m next) → TakenAt w marks learnt s (Enter m next) → Learns w begun (set marks m Open) entered order (first_stage Pre m ∷ next ∷ ss)
+Learns-enter {w} {begun} {marks} {order} {s} {next} {ss} learnt after entered m k long stays enters move taken =
+    subst (λ x. Learns w begun (set marks m Open) entered order (first_stage Pre m ∷ x ∷ ss)) (sym move.3)
+    (record {
+      visits = Visits-enter k.visits m move.0 move.1 move.2 (taken_here learnt k.visits k.known (Enter m next) taken);
+      long = long;
+      known = enters (progress_of (s ∷ ss)) order (Learns-step learnt after k stays);
+    })
+
+-- nothing is learnt when the visit begins
+pub Learns-begin : {w : List Node} {begun : ℕ} {marks : List Mark} {order : List ℕ} {ss : List Stage} (learnt entered : Learnt) → Visits w begun marks order ss → ss ≡ first_stage Pre begun ∷ [] → Knows w [] order learnt → length entered.verdicts.items ≡ length w → EntersWith w begun learnt entered → Learns w begun marks entered order ss
+Learns-begin {w} {begun} {marks} {order} {ss} learnt entered v one known long enters = record {
+  visits = v;
+  long = long;
+  known = subst (λ l. Knows w (progress_of l) order entered) (sym one) (enters [] order known);
 }

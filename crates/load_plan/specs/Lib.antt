@@ -9,7 +9,7 @@ pub mod Results
 pub mod ForProofs
 pub mod SoftModules
 pub mod VisitSteps
-pub mod Trials
+pub mod Learnt
 pub mod Parts
 pub mod Sources
 pub mod Items

@@ -7,6 +7,7 @@ mod graph;
 mod items;
 mod kept;
 pub mod laws;
+mod learnt;
 mod look_up;
 mod options;
 mod parameters;

@@ -1,12 +1,9 @@
-//! Which hard walks are free while the same modules are in progress, learnt from the hard dependencies up.
-ghost use Rattle.std.specs.Prelude.{◌≡◌, ◌<◌, length, OnOk};
-ghost use Rattle.std.specs.List.{list_all};
-ghost use Rattle.load_plan.specs.declared.walk.Mark.TheVariants.{New};
-ghost use Rattle.load_plan.specs.ForProofs.{mark_at};
-ghost use Rattle.load_plan.specs.Graph.{node_at};
-ghost use Rattle.load_plan.specs.Trials.{IsLessonWithin, StaysKnown, is_known_free};
+//! What the hard walk of a module meets, learnt from the hard dependencies up.
+ghost use Rattle.std.specs.Prelude.{◌≡◌, ◌<◌, length, reverse, true, IfOk, OnOk};
+ghost use Rattle.load_plan.specs.Learnt.{IsLesson, IsNew, IsOnWay, IsWay, StaysKnown};
 
-use crate::graph::{DependencyGraph, Phase, Target};
+use crate::graph::{DependencyGraph, Target};
+use crate::learnt::{Learnt, Told, Verdict};
 use crate::walk::{Frame, Mark, first_left};
 use std::alloc::{AllocError, Global};
 
@@ -21,100 +18,112 @@ enum Lesson {
     Back,
 }
 
-/// Whether the hard walk of a target is known to be free.
-fn is_known_free(trial: &[Mark], target: &Target) -> bool
-    ensures { result ≡ is_known_free trial.now target.now }
+/// Whether a module is on the way: it is the last one, or stands there where its verdict says.
+fn is_on_way(learnt: &Learnt, way: &[Frame], last: usize, slot: usize) -> bool
+    requires { slot < length learnt.now.verdicts.items }
+    ensures { result ≡ true → IsOnWay way.now last slot }
 {
-    match target {
-        Target::Slot(slot) => matches!(trial.get(*slot), Some(Mark::Done)),
-        Target::Missing(_) => false,
-    }
-}
-
-/// Whether the hard walks of all hard dependencies of a module are known to be free.
-fn stands_free(graph: &DependencyGraph, trial: &[Mark], slot: usize) -> bool
-    requires { slot < length graph.now }
-    ensures { result ≡ list_all (is_known_free trial.now) (node_at graph.now slot).hard }
-{
-    graph
-        .targets(slot, Phase::Hard)
-        .iter()
-        .all(|target| is_known_free(trial, target))
+    slot == last
+        || match learnt.verdicts[slot] {
+            Verdict::Begun(depth) => way.get(depth).is_some_and(|frame| frame.slot == slot),
+            _ => false,
+        }
 }
 
 /// Learns of a module of which nothing is known what its first hard dependency that is left tells.
-fn learn_new(graph: &DependencyGraph, trial: &mut [Mark], frame: Frame) -> Lesson
+fn learn_new(
+    graph: &DependencyGraph,
+    marks: &[Mark],
+    learnt: &mut Learnt,
+    way: &[Frame],
+    frame: Frame,
+) -> Result<Lesson, AllocError>
     requires slot { frame.slot < length graph.now }
-    requires trial { length trial.old ≡ length graph.now }
-    requires new { mark_at trial.old frame.slot ≡ New }
-    ensures long { length trial.new ≡ length trial.old }
-    ensures known { StaysKnown graph.now trial.old trial.new }
-    ensures within { IsLessonWithin (length graph.now) result }
+    requires marks { length marks.now ≡ length graph.now }
+    requires long { length learnt.old.verdicts.items ≡ length graph.now }
+    requires way { IsWay graph.now (reverse way.now) frame.slot }
+    requires new { IsNew graph.now marks.now learnt.old frame.slot }
+    ensures long { OnOk result (length learnt.new.verdicts.items ≡ length graph.now) }
+    ensures known { OnOk result (StaysKnown graph.now marks.now learnt.old learnt.new) }
+    ensures lesson { IfOk result (IsLesson graph.now frame) }
 {
     if graph.installs(frame.slot) {
-        trial[frame.slot] = Mark::Open;
-        return Lesson::Back;
+        learnt.verdicts[frame.slot] = Verdict::Faulty;
+        return Ok(Lesson::Back);
     }
     match first_left(graph, frame) {
         None => {
-            if stands_free(graph, trial, frame.slot) {
-                trial[frame.slot] = Mark::Done;
-            }
-            Lesson::Back
+            learnt.settle(graph, marks, frame.slot)?;
+            Ok(Lesson::Back)
         }
         Some((Target::Missing(_), _)) => {
-            trial[frame.slot] = Mark::Open;
-            Lesson::Back
+            learnt.verdicts[frame.slot] = Verdict::Faulty;
+            Ok(Lesson::Back)
         }
-        Some((Target::Slot(slot), next)) => match trial[*slot] {
-            Mark::Done => Lesson::Stay(next),
-            Mark::New => Lesson::Enter(*slot),
-            Mark::Open => {
-                trial[frame.slot] = Mark::Open;
-                Lesson::Back
+        Some((Target::Slot(slot), next)) => match learnt.told(marks, *slot) {
+            Told::Free | Told::Meets(_) => Ok(Lesson::Stay(next)),
+            Told::Faulty => {
+                learnt.verdicts[frame.slot] = Verdict::Faulty;
+                Ok(Lesson::Back)
+            }
+            Told::Nothing => {
+                if is_on_way(learnt, way, frame.slot, *slot) {
+                    learnt.verdicts[frame.slot] = Verdict::Faulty;
+                    return Ok(Lesson::Back);
+                }
+                learnt.verdicts[frame.slot] = Verdict::Begun(way.len());
+                Ok(Lesson::Enter(*slot))
             }
         },
     }
 }
 
 /// Learns of a module what its first hard dependency that is left tells. What is known stays true.
-fn learn(graph: &DependencyGraph, trial: &mut [Mark], frame: Frame) -> Lesson
+fn learn(
+    graph: &DependencyGraph,
+    marks: &[Mark],
+    learnt: &mut Learnt,
+    way: &[Frame],
+    frame: Frame,
+) -> Result<Lesson, AllocError>
     requires slot { frame.slot < length graph.now }
-    requires trial { length trial.old ≡ length graph.now }
-    ensures long { length trial.new ≡ length trial.old }
-    ensures known { StaysKnown graph.now trial.old trial.new }
-    ensures within { IsLessonWithin (length graph.now) result }
+    requires marks { length marks.now ≡ length graph.now }
+    requires long { length learnt.old.verdicts.items ≡ length graph.now }
+    requires way { IsWay graph.now (reverse way.now) frame.slot }
+    ensures long { OnOk result (length learnt.new.verdicts.items ≡ length graph.now) }
+    ensures known { OnOk result (StaysKnown graph.now marks.now learnt.old learnt.new) }
+    ensures lesson { IfOk result (IsLesson graph.now frame) }
 {
-    match trial[frame.slot] {
-        Mark::Open | Mark::Done => Lesson::Back,
-        Mark::New => learn_new(graph, trial, frame),
+    match learnt.told(marks, frame.slot) {
+        Told::Free | Told::Meets(_) | Told::Faulty => Ok(Lesson::Back),
+        Told::Nothing => learn_new(graph, marks, learnt, way, frame),
     }
 }
 
-/// Learns whether the hard walk of a module is free. It gives up where the way grows longer than there are modules:
-/// a module is then its own hard dependency.
+/// Learns what the hard walk of a module meets.
 pub(crate) fn learn_from(
     alloc: Global,
     graph: &DependencyGraph,
-    trial: &mut Vec<Mark>,
+    marks: &[Mark],
+    learnt: &mut Learnt,
     slot: usize,
 ) -> Result<(), AllocError>
     requires slot { slot < length graph.now }
-    requires trial { length trial.old.items ≡ length graph.now }
-    ensures long { OnOk result (length trial.new.items ≡ length graph.now) }
-    ensures known { OnOk result (StaysKnown graph.now trial.old.items trial.new.items) }
+    requires marks { length marks.now ≡ length graph.now }
+    requires long { length learnt.old.verdicts.items ≡ length graph.now }
+    ensures long { OnOk result (length learnt.new.verdicts.items ≡ length graph.now) }
+    ensures known { OnOk result (StaysKnown graph.now marks.now learnt.old learnt.new) }
 {
-    let mut waiting = Vec::new(alloc);
+    let mut way = Vec::new(alloc);
     let mut frame = Frame { slot, walked: 0 };
     for _ in 0..u64::MAX {
-        match learn(graph, trial, frame) {
+        match learn(graph, marks, learnt, &way, frame)? {
             Lesson::Stay(next) => frame = next,
-            Lesson::Enter(_) if waiting.len() > graph.len() => return Ok(()),
             Lesson::Enter(slot) => {
-                waiting.push(frame)?;
+                way.push(frame)?;
                 frame = Frame { slot, walked: 0 };
             }
-            Lesson::Back => match waiting.pop() {
+            Lesson::Back => match way.pop() {
                 Some(next) => frame = next,
                 None => return Ok(()),
             },

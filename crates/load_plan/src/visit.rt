@@ -7,11 +7,12 @@ ghost use Rattle.load_plan.specs.ForProofs.{mark_at, InVisit};
 ghost use Rattle.load_plan.specs.declared.walk.Mark.{Mark};
 ghost use Rattle.load_plan.specs.VisitSteps.{IsMove, IsTaken, IsUnmet, IsUnmetFirst, is_taken, left_of, Leads, first_stage, next_stage};
 ghost use Rattle.load_plan.specs.Graph.{is_within, Node};
-ghost use Rattle.load_plan.specs.Trials.{IsTrial, StaysKnown, trial_of};
+ghost use Rattle.load_plan.specs.Learnt.{Knows, StaysKnown};
 ghost use Rattle.load_plan.specs.Plan.{is_clean, visit};
 ghost use Rattle.load_plan.specs.Walk.{hard_walk};
 
 use crate::graph::{DependencyGraph, Phase, Target, target_at};
+use crate::learnt::{Learnt, Told};
 use crate::refusal::WalkError;
 use crate::trial::learn_from;
 use crate::walk::{Mark, new_marks, walk};
@@ -74,49 +75,32 @@ fn walks_clean(
     }
 }
 
-/// What is known: what was learnt, and where nothing was, what the marks tell.
-fn known_from(
-    alloc: Global,
-    marks: &[Mark],
-    learnt: Option<Vec<Mark>>,
-) -> Result<Vec<Mark>, AllocError>
-    ensures { IfOk result (λ trial. trial.items ≡ trial_of marks.now learnt) }
-{
-    match learnt {
-        Some(trial) => Ok(trial),
-        None => Vec::from_slice(alloc, marks),
-    }
-}
-
-/// Whether a soft item is clean, by what was learnt while the same modules are in progress. A walk is made only where
-/// nothing can be learnt.
+/// Whether a soft item is clean, by what was learnt. A walk is made only where nothing can be learnt.
 fn is_clean(
     alloc: Global,
     graph: &DependencyGraph,
     marks: &[Mark],
-    learnt: &mut Option<Vec<Mark>>,
+    learnt: &mut Learnt,
     slot: usize,
 ) -> Result<bool, AllocError>
     requires slot { slot < length graph.now }
     requires marks { length marks.now ≡ length graph.now }
-    requires trial { length (trial_of marks.now learnt.old) ≡ length graph.now }
-    ensures clean { InVisit graph.now marks.now (λ progress done. IsTrial graph.now progress (trial_of marks.now learnt.old)
+    requires long { length learnt.old.verdicts.items ≡ length graph.now }
+    ensures clean { InVisit graph.now marks.now (λ progress done. Knows graph.now progress done learnt.old
         → IfOk result (λ clean. clean ≡ is_clean graph.now progress done (Slot slot))) }
     ensures new { IfOk result (λ clean. clean ≡ true → mark_at marks.now slot ≡ New) }
-    ensures long { OnOk result (length (trial_of marks.now learnt.new) ≡ length graph.now) }
-    ensures known { OnOk result (StaysKnown graph.now (trial_of marks.now learnt.old) (trial_of marks.now learnt.new)) }
+    ensures long { OnOk result (length learnt.new.verdicts.items ≡ length graph.now) }
+    ensures known { OnOk result (StaysKnown graph.now marks.now learnt.old learnt.new) }
 {
     match marks[slot] {
         Mark::Open | Mark::Done => Ok(false),
         Mark::New => {
-            let mut trial = known_from(alloc, marks, learnt.take())?;
-            learn_from(alloc, graph, &mut trial, slot)?;
-            let told = trial[slot];
-            *learnt = Some(trial);
-            match told {
-                Mark::Done => Ok(true),
-                Mark::Open => Ok(false),
-                Mark::New => walks_clean(alloc, graph, marks, slot),
+            learn_from(alloc, graph, marks, learnt, slot)?;
+            match learnt.told(marks, slot) {
+                Told::Free => Ok(true),
+                Told::Meets(_) => Ok(false),
+                Told::Faulty => Ok(false),
+                Told::Nothing => walks_clean(alloc, graph, marks, slot),
             }
         }
     }
@@ -127,19 +111,19 @@ fn enters(
     alloc: Global,
     graph: &DependencyGraph,
     marks: &[Mark],
-    learnt: &mut Option<Vec<Mark>>,
+    learnt: &mut Learnt,
     phase: Phase,
     slot: usize,
 ) -> Result<bool, AllocError>
     requires slot { slot < length graph.now }
     requires marks { length marks.now ≡ length graph.now }
-    requires trial { length (trial_of marks.now learnt.old) ≡ length graph.now }
+    requires long { length learnt.old.verdicts.items ≡ length graph.now }
     ensures taken { InVisit graph.now marks.now (λ progress done.
-        IsTrial graph.now progress (trial_of marks.now learnt.old) → IsUnmet progress phase (Slot slot)
+        Knows graph.now progress done learnt.old → IsUnmet progress phase (Slot slot)
         → IfOk result (λ taken. taken ≡ is_taken graph.now progress done phase (Slot slot))) }
     ensures new { IfOk result (λ taken. taken ≡ true → mark_at marks.now slot ≡ New) }
-    ensures long { OnOk result (length (trial_of marks.now learnt.new) ≡ length graph.now) }
-    ensures known { OnOk result (StaysKnown graph.now (trial_of marks.now learnt.old) (trial_of marks.now learnt.new)) }
+    ensures long { OnOk result (length learnt.new.verdicts.items ≡ length graph.now) }
+    ensures known { OnOk result (StaysKnown graph.now marks.now learnt.old learnt.new) }
 {
     match phase {
         Phase::Pre | Phase::Post => is_clean(alloc, graph, marks, learnt, slot),
@@ -178,18 +162,18 @@ fn next_move(
     alloc: Global,
     graph: &DependencyGraph,
     marks: &[Mark],
-    learnt: &mut Option<Vec<Mark>>,
+    learnt: &mut Learnt,
     stage: Stage,
 ) -> Result<Move, AllocError>
     requires slot { stage.slot < length graph.now }
     requires marks { length marks.now ≡ length graph.now }
-    requires trial { length (trial_of marks.now learnt.old) ≡ length graph.now }
+    requires long { length learnt.old.verdicts.items ≡ length graph.now }
     ensures moves { IfOk result (IsMove graph.now marks.now stage) }
     ensures taken { InVisit graph.now marks.now (λ progress done.
-        IsTrial graph.now progress (trial_of marks.now learnt.old) → IsUnmetFirst graph.now progress stage
+        Knows graph.now progress done learnt.old → IsUnmetFirst graph.now progress stage
         → IfOk result (IsTaken graph.now progress done stage)) }
-    ensures long { OnOk result (length (trial_of marks.now learnt.new) ≡ length graph.now) }
-    ensures known { OnOk result (StaysKnown graph.now (trial_of marks.now learnt.old) (trial_of marks.now learnt.new)) }
+    ensures long { OnOk result (length learnt.new.verdicts.items ≡ length graph.now) }
+    ensures known { OnOk result (StaysKnown graph.now marks.now learnt.old learnt.new) }
 {
     match first_left(graph, stage) {
         None => Ok(behind(stage)),
@@ -217,8 +201,8 @@ pub(crate) fn visit(
 {
     let mut marks = new_marks(alloc, graph.len())?;
     marks[start] = Mark::Open;
-    // what was learnt of soft items, until the modules in progress or those in the order change
-    let mut learnt = None;
+    let mut learnt = Learnt::new(alloc, graph.len())?;
+    learnt.enter(start, 0);
     let mut order = Vec::new(alloc);
     let mut waiting = Vec::new(alloc);
     let mut stage = Stage::first(start, Phase::Pre);
@@ -228,7 +212,6 @@ pub(crate) fn visit(
             Move::Pass(next) => stage = next,
             Move::Append(next) => {
                 marks[stage.slot] = Mark::Done;
-                learnt = None;
                 order.push(stage.slot)?;
                 stage = next;
             }
@@ -238,7 +221,7 @@ pub(crate) fn visit(
             },
             Move::Enter(slot, next) => {
                 marks[slot] = Mark::Open;
-                learnt = None;
+                learnt.enter(slot, waiting.len());
                 waiting.push(next)?;
                 stage = Stage::first(slot, Phase::Pre);
             }

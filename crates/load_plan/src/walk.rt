@@ -1,6 +1,6 @@
 //! The hard walk: a module and all that it stands on, depth first, by marks and a stack of its own.
 ghost use Rattle.std.specs.Prelude.{◌≡◌, ◌<◌, ◌&&◌, ℕ, List, [], ◌++◌, length, replicate, true, All, MatchOption, IfSome, IfOk, IfErr};
-ghost use Rattle.load_plan.specs.declared.walk.Mark.TheVariants.{New};
+ghost use Rattle.load_plan.specs.declared.walk.Mark.TheVariants.{New, Open};
 ghost use Rattle.load_plan.specs.declared.walk.Walked.{Walked};
 ghost use Rattle.load_plan.specs.declared.graph.Target.TheVariants.{Slot};
 ghost use Rattle.load_plan.specs.ForProofs.{AreMarks, IsStep, left_of, mark_at, next_frame, Leads};
@@ -86,6 +86,13 @@ fn next_step<'a>(graph: &'a DependencyGraph, tests: bool, marks: &[Mark], frame:
             Mark::New => Step::Enter(*slot, next),
         },
     }
+}
+
+/// Whether a module is marked Open.
+pub(crate) fn is_open(marks: &[Mark], slot: usize) -> bool
+    ensures { result ≡ true → (slot < length marks.now) × (mark_at marks.now slot ≡ Open) }
+{
+    slot < marks.len() && matches!(marks[slot], Mark::Open)
 }
 
 /// A mark for each module, all New.

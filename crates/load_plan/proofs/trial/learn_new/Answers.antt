@@ -1,24 +1,39 @@
-use Rattle.std.proofs.Common.{◌∙◌, ◌<◌, arith, length, sym}
-use Rattle.load_plan.specs.declared.walk.Mark.TheVariants.{New}
+use Rattle.std.proofs.Common.{◌<◌, arith, length, sym, ◌∙◌}
+use Rattle.load_plan.specs.declared.learnt.Verdict.TheVariants.{Begun, Faulty}
 use Rattle.load_plan.proofs.Bounds.{lt-true}
-use Rattle.load_plan.proofs.Clean.{mark_with}
-use Rattle.load_plan.proofs.Trials.{Trial-free, stain_missing, stain_stopped, stain_target}
+use Rattle.load_plan.proofs.Lessons.{Learnt-set, barred_missing, barred_stopped, barred_target, barred_way, stands_on}
 use Rattle.load_plan.proofs.trial.learn_new.Goals as goal
 
 pub returns-then-installs-clause-known : goal.returns-then-installs-clause-known
-returns-then-installs-clause-known c progress known =
-    stain_stopped c.args.graph.now progress c.args.trial.now c.args.frame.slot c.requires.trial c.requires.slot (sym c.installs.ensures ∙ c.if-installs.true) known
+returns-then-installs-clause-known c progress done marked kept known =
+    Learnt-set c.args.graph.now progress done c.args.learnt.now.verdicts.items c.args.learnt.now.order.items c.args.frame.slot Faulty (omega (arith, c.requires.slot, c.requires.long)) (c.requires.new progress done marked kept known).0
+    (barred_stopped c.args.graph.now c.args.frame.slot (sym c.installs.ensures ∙ c.if-installs.true)) known
 
-pub returns-then-stands_free-clause-known : goal.returns-then-stands_free-clause-known
-returns-then-stands_free-clause-known c progress known =
-    Trial-free c.args.graph.now progress c.args.trial.now c.args.frame.slot c.requires.trial c.requires.slot c.requires.new (sym c.installs.ensures ∙ c.if-installs.false) (sym c.stands_free.ensures ∙ c.if-stands_free.true) known
+pub returns-then-is_on_way-clause-known : goal.returns-then-is_on_way-clause-known
+returns-then-is_on_way-clause-known c progress done marked kept known =
+    let leads = rw c.in-Some-Slot-default.field-0-0-is at c.in-Some-Slot-default.ensures.first in
+    Learnt-set c.args.graph.now progress done c.args.learnt.now.verdicts.items c.args.learnt.now.order.items c.args.frame.slot Faulty (omega (arith, c.requires.slot, c.requires.long)) (c.requires.new progress done marked kept known).0
+    (barred_way c.args.graph.now c.args.way.now c.args.frame.slot c.args.frame.walked c.in-Some-Slot-default.slot _ leads c.requires.way (c.is_on_way.ensures c.if-is_on_way.true)) known
 
 pub returns-in-Some-Missing-default-clause-known : goal.returns-in-Some-Missing-default-clause-known
-returns-in-Some-Missing-default-clause-known c progress known =
-    stain_missing c.args.graph.now progress c.args.trial.now c.args.frame.slot c.args.frame.walked _ _ c.requires.trial c.requires.slot (rw c.in-Some-Missing-default.field-0-0-is at c.in-Some-Missing-default.ensures.first) known
+returns-in-Some-Missing-default-clause-known c progress done marked kept known =
+    let leads = rw c.in-Some-Missing-default.field-0-0-is at c.in-Some-Missing-default.ensures.first in
+    Learnt-set c.args.graph.now progress done c.args.learnt.now.verdicts.items c.args.learnt.now.order.items c.args.frame.slot Faulty (omega (arith, c.requires.slot, c.requires.long)) (c.requires.new progress done marked kept known).0
+    (barred_missing c.args.graph.now c.args.frame.slot c.args.frame.walked _ _ leads) known
 
-pub returns-in-Open-clause-known : goal.returns-in-Open-clause-known
-returns-in-Open-clause-known c progress known =
+pub returns-in-Faulty-clause-known : goal.returns-in-Faulty-clause-known
+returns-in-Faulty-clause-known c progress done marked kept known =
+    let leads = rw c.in-Some-Slot-default.field-0-0-is at c.in-Some-Slot-default.ensures.first in
+    let barred = rw c.in-Faulty.is at (c.told.ensures c.args.graph.now (sym c.requires.marks) progress done marked kept known) in
+    Learnt-set c.args.graph.now progress done c.args.learnt.now.verdicts.items c.args.learnt.now.order.items c.args.frame.slot Faulty (omega (arith, c.requires.slot, c.requires.long)) (c.requires.new progress done marked kept known).0
+    (barred_target c.args.graph.now c.args.frame.slot c.args.frame.walked c.in-Some-Slot-default.slot _ leads barred) known
+
+pub returns-else-is_on_way-clause-known : goal.returns-else-is_on_way-clause-known
+returns-else-is_on_way-clause-known c progress done marked kept known =
+    Learnt-set c.args.graph.now progress done c.args.learnt.now.verdicts.items c.args.learnt.now.order.items c.args.frame.slot (Begun (length c.args.way.now)) (omega (arith, c.requires.slot, c.requires.long)) (c.requires.new progress done marked kept known).0 tt known
+
+pub returns-else-is_on_way-clause-lesson : goal.returns-else-is_on_way-clause-lesson
+returns-else-is_on_way-clause-lesson c =
     let leads = rw c.in-Some-Slot-default.field-0-0-is at c.in-Some-Slot-default.ensures.first in
     let within : c.in-Some-Slot-default.slot < length c.args.graph.now = lt-true c.in-Some-Slot-default.slot (length c.args.graph.now) (rw c.in-Some-Slot-default.field-0-0-is at c.in-Some-Slot-default.ensures.within) in
-    stain_target c.args.graph.now progress c.args.trial.now c.args.frame.slot c.args.frame.walked c.in-Some-Slot-default.slot _ c.requires.trial c.requires.slot within (mark_with c.args.trial.now c.in-Some-Slot-default.slot New (omega (arith, within, c.requires.trial)) ∙ c.in-Open.is) leads known
+    (within, stands_on c.args.graph.now c.args.frame.slot c.args.frame.walked c.in-Some-Slot-default.slot _ leads)
