@@ -9,3 +9,4 @@ pub mod Loading
 pub mod Refusing
 pub mod Resting
 pub mod Managing
+pub mod Telling

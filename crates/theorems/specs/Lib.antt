@@ -7,3 +7,4 @@ pub mod Meetings
 pub mod Loads
 pub mod Rungs
 pub mod Managed
+pub mod Told

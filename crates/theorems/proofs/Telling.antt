@@ -1,0 +1,100 @@
+-- Two managed calls, of which the second was told of the first.
+use Rattle.std.proofs.Common.{◌≡◌, ⊎_elim, inl, ℕ, List, [], ◌∷◌, ◌++◌, length, refl, sym, ap, ◌∙◌, subst, append_assoc, arith}
+use Rattle.std.proofs.lemmas.List.{map-append}
+use mathlib.Core.Option.{some}
+use lib.ListN.{get_elem?}
+use Rattle.atomic_table.proofs.Lists.{at_last}
+use Rattle.dep_index.specs.declared.calls.Call.{Call}
+use Rattle.dep_index.specs.declared.calls.Call.TheVariants.{Get, Put, InUse, BeginLoad, EndLoad, BeginDrain, BeginRemove, EndRemove}
+use Rattle.dep_index.specs.declared.calls.Reply.{Reply}
+use Rattle.dep_index.specs.History.{Answer}
+use Rattle.root_row.specs.declared.view.SeatAnswer.{SeatAnswer}
+use Rattle.root_row.specs.declared.view.World.{World}
+use Rattle.root_row.specs.declared.view.View.{View}
+use Rattle.root_row.specs.Seats.{RowIs}
+use Rattle.root_row.specs.Views.{seen_of}
+use Rattle.root_row.specs.History.{answer_of, answers_in, seat_answer, StartsWith}
+use Rattle.managed_table.specs.Callers.{CallerIs}
+use Rattle.managed_table.specs.Turns.{turn}
+use Rattle.managed_table.proofs.Keeping.{starts_trans}
+use Rattle.theorems.specs.Managed.{seat_for, lock_of, elsewhere, turns_of, WasMadeOnce, CannotBeMade}
+use Rattle.theorems.specs.Told.{CanBeMade, MadeNone, MadeAndTold, HeardAndMade, WereMadeInOrder, FindsItGone, MetAt}
+
+-- a call in range is made
+pub is_made : (world : World) (call : Call) → CanBeMade world call → CannotBeMade world call → ⊥
+is_made world (Get w m) can cannot = ⊎_elim (λ a. let b = can.0 in omega arith) (λ a. let b = can.1 in omega arith) cannot
+is_made world (Put w m) can cannot = ⊎_elim (λ a. let b = can.0 in omega arith) (λ a. let b = can.1 in omega arith) cannot
+is_made world (InUse m) can cannot = can
+is_made world (BeginLoad m) can cannot = omega arith
+is_made world (EndLoad m ok) can cannot = omega arith
+is_made world (BeginDrain m) can cannot = omega arith
+is_made world (BeginRemove m) can cannot = omega arith
+is_made world (EndRemove m) can cannot = omega arith
+
+module _ (row : RowIs) (call : Call) (old new : CallerIs) (reader reader' : View) (met : MetAt row call old new reader reader') (other : elsewhere (seat_for call) new ≡ elsewhere (seat_for call) old) where
+  made_none : MadeNone call old new
+  made_none = record { turn = turn (lock_of (seat_for call)) met.before met.after; turned = ap (λ p. p.turns) met.turned; elsewhere = other; none = met.own }
+
+  -- the call before the meeting is told
+  pub made_and_told : (reply : Reply) (first : CallerIs) → WasMadeOnce row call reply first old → MadeAndTold row call reply first new reader reader'
+  made_and_told reply first made =
+      let place = length (turns_of call first) in
+      let t = turn (lock_of (seat_for call)) made.before made.after in
+      let there : get_elem? (turns_of call old) place ≡ some t = ap (λ l. get_elem? l place) made.turned ∙ at_last (turns_of call first) t place refl in record {
+        between = old;
+        made = made;
+        meeting = made_none;
+        told = subst (λ l. StartsWith l made.after) (sym met.told) (starts_trans met.after met.before made.after met.begins (met.follows place t there refl));
+        kept = subst (λ l. StartsWith l (seen_of reader)) (sym met.told) met.tells;
+      }
+
+  -- and the call after it comes after what the reader had seen
+  pub heard_and_made : (reply : Reply) (last : CallerIs) → WasMadeOnce row call reply new last → HeardAndMade row call reply old last reader
+  heard_and_made reply last made =
+      let place = length (turns_of call old) in
+      let t = turn (lock_of (seat_for call)) met.before met.after in
+      let there : get_elem? (turns_of call new) place ≡ some t = ap (λ p. get_elem? p.turns place) met.turned ∙ at_last (turns_of call old) t place refl in record {
+        between = new;
+        meeting = made_none;
+        made = made;
+        heard = starts_trans made.before met.after (seen_of reader) (made.follows place t there refl) met.tells;
+      }
+
+pub in_order : (row : RowIs) (first : Call) (reply : Reply) (old new : CallerIs) (second : Call) (reply' : Reply) (old' new' : CallerIs) (reader reader' : View)
+    → MadeAndTold row first reply old new reader reader' → HeardAndMade row second reply' old' new' reader' → WereMadeInOrder row first reply old new second reply' old' new'
+in_order row first reply old new second reply' old' new' reader reader' one other =
+    let rest = starts_trans other.made.before (seen_of reader') one.made.after other.heard one.told in
+    let last = seat_answer (seat_for second) second reply' ∷ [] in record {
+      told = one.between;
+      one = one.made;
+      telling = one.meeting;
+      heard = other.between;
+      hearing = other.meeting;
+      other = other.made;
+      since = rest.0 ++ other.made.others;
+      order = other.made.ends ∙ ap (λ l. (l ++ other.made.others) ++ last) rest.1 ∙ ap (λ l. l ++ last) (append_assoc one.made.after rest.0 other.made.others);
+    }
+
+answers_more : (l m : List SeatAnswer) → answers_in (l ++ m) ≡ answers_in l ++ answers_in m
+answers_more l m = map-append answer_of l m
+
+pub finds_it_gone : (row : RowIs) (slot worker : ℕ) (removal get : Reply) (old new old' new' : CallerIs)
+    → WereMadeInOrder row (BeginRemove slot) removal old new (Get worker slot) get old' new' → FindsItGone row slot worker removal get old new old' new'
+finds_it_gone row slot worker removal get old new old' new' t done =
+    (t, λ not_again. t.other.none_after before (since ++ last ∷ []) since [] (record { call = BeginRemove slot; reply = removal }) last slot worker is (inl refl) done refl not_again refl)
+  where
+    before : List Answer
+    before = answers_in (t.one.before ++ t.one.others)
+
+    since : List Answer
+    since = answers_in t.since
+
+    last : Answer
+    last = record { call = Get worker slot; reply = get }
+
+    removed : List Answer
+    removed = record { call = BeginRemove slot; reply = removal } ∷ []
+
+    is : answers_in t.other.after ≡ before ++ (removed ++ (since ++ last ∷ []))
+    is = ap answers_in t.order ∙ answers_more (t.one.after ++ t.since) _ ∙ ap (λ l. l ++ last ∷ []) (answers_more t.one.after t.since ∙ ap (λ l. l ++ since) (ap answers_in t.one.ends ∙ answers_more (t.one.before ++ t.one.others) _))
+        ∙ append_assoc (before ++ removed) since (last ∷ []) ∙ append_assoc before removed (since ++ last ∷ [])

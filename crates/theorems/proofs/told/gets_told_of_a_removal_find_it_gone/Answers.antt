@@ -1,0 +1,5 @@
+use Rattle.theorems.proofs.Telling.{finds_it_gone}
+use Rattle.theorems.proofs.told.gets_told_of_a_removal_find_it_gone.Goals as goal
+
+pub returns-clause-gone : goal.returns-clause-gone
+returns-clause-gone g c = finds_it_gone c.args.table.now.row c.args.slot c.args.worker _ _ _ _ _ _ c.calls_told_are_in_order.ensures.in_order

@@ -1,0 +1,149 @@
+//! Managed calls of which a reader tells. What the reader has seen is what one caller told of a call, and another hears.
+ghost use Rattle.std.specs.Prelude.{◌≡◌};
+ghost use Rattle.root_row.specs.Seats.{IsOf};
+ghost use Rattle.managed_table.specs.Callers.{IsCallerOf};
+ghost use Rattle.theorems.specs.Managed.{WasMadeOnce, seat_for, elsewhere};
+ghost use Rattle.theorems.specs.Told.{CanBeMade, MadeAndTold, HeardAndMade, WereMadeInOrder, FindsItGone, MetAt};
+
+use crate::managed::managed_calls_are_made_once;
+use dep_index::{Call, Reply};
+use managed_table::{Caller, ManagedTable};
+use std::sync::Wait;
+use use_indicator::Reader;
+
+/// A managed call was made exactly once. Then, in one turn more, its caller told a reader: what the reader has seen begins with
+/// the history of the call. It may not return.
+///
+/// Premises: the caller and the reader are of this table; the call is no query, and its worker and its slot are in range; the
+/// steps on all words are in one order (sequentially consistent atomics).
+pub fn managed_calls_are_told<R: Wait>(
+    rt: &R,
+    table: &ManagedTable,
+    caller: &mut Caller,
+    call: Call,
+    reader: Reader,
+) -> (Reply, Reader)
+    requires own { IsCallerOf table.now caller.old }
+    requires reader_own { IsOf table.now.row reader }
+    requires can { CanBeMade table.now.row.world call }
+    ensures own { IsCallerOf table.now caller.new }
+    ensures reader_own { IsOf table.now.row result.1 }
+    ensures told { MadeAndTold table.now.row call result.0 caller.old caller.new reader.view result.1.view }
+{
+    let reply = made(rt, table, caller, call);
+    let told = meet_at(rt, table, caller, call, reader);
+    (reply, told)
+}
+
+/// A managed call whose caller was told by a reader was made exactly once, after all that the reader had seen. Premises as above.
+pub fn managed_calls_follow_what_was_told<R: Wait>(
+    rt: &R,
+    table: &ManagedTable,
+    caller: &mut Caller,
+    reader: Reader,
+    call: Call,
+) -> (Reply, Reader)
+    requires own { IsCallerOf table.now caller.old }
+    requires reader_own { IsOf table.now.row reader }
+    requires can { CanBeMade table.now.row.world call }
+    ensures own { IsCallerOf table.now caller.new }
+    ensures reader_own { IsOf table.now.row result.1 }
+    ensures heard { HeardAndMade table.now.row call result.0 caller.old caller.new reader.view }
+{
+    let heard = meet_at(rt, table, caller, call, reader);
+    let answer = made(rt, table, caller, call);
+    (answer, heard)
+}
+
+/// Order in real time, across locks. A call was made and its caller told a reader. The reader was handed to another caller, which
+/// heard of it at its own lock and then made a call. Then the history of the second call begins with that of the first.
+/// Premises as above.
+pub fn calls_told_are_in_order<R: Wait>(
+    rt: &R,
+    table: &ManagedTable,
+    first: &mut Caller,
+    call: Call,
+    reader: Reader,
+    second: &mut Caller,
+    later: Call,
+) -> (Reply, Reply, Reader)
+    requires first_own { IsCallerOf table.now first.old }
+    requires second_own { IsCallerOf table.now second.old }
+    requires reader_own { IsOf table.now.row reader }
+    requires can { CanBeMade table.now.row.world call }
+    requires later_can { CanBeMade table.now.row.world later }
+    ensures first_own { IsCallerOf table.now first.new }
+    ensures second_own { IsCallerOf table.now second.new }
+    ensures reader_own { IsOf table.now.row result.2 }
+    ensures in_order { WereMadeInOrder table.now.row call result.0 first.old first.new later result.1 second.old second.new }
+{
+    let (reply, told) = managed_calls_are_told(rt, table, first, call, reader);
+    let (answer, heard) = managed_calls_follow_what_was_told(rt, table, second, told, later);
+    (reply, answer, heard)
+}
+
+/// A get that was told of a removal which was answered Ok finds the module gone: it is answered NotLive, unless a load of the
+/// module ended well between the two. Premises as above.
+pub fn gets_told_of_a_removal_find_it_gone<R: Wait>(
+    rt: &R,
+    table: &ManagedTable,
+    remover: &mut Caller,
+    slot: usize,
+    reader: Reader,
+    user: &mut Caller,
+    worker: usize,
+) -> (Reply, Reply, Reader)
+    requires remover_own { IsCallerOf table.now remover.old }
+    requires user_own { IsCallerOf table.now user.old }
+    requires reader_own { IsOf table.now.row reader }
+    requires inside { CanBeMade table.now.row.world (Call.Get worker slot) }
+    ensures remover_own { IsCallerOf table.now remover.new }
+    ensures user_own { IsCallerOf table.now user.new }
+    ensures reader_own { IsOf table.now.row result.2 }
+    ensures gone { FindsItGone table.now.row slot worker result.0 result.1 remover.old remover.new user.old user.new }
+{
+    let removal = Call::BeginRemove(slot);
+    let get = Call::Get(worker, slot);
+    calls_told_are_in_order(rt, table, remover, removal, reader, user, get)
+}
+
+// A call in range is made.
+fn made<R: Wait>(rt: &R, table: &ManagedTable, caller: &mut Caller, call: Call) -> Reply
+    requires own { IsCallerOf table.now caller.old }
+    requires can { CanBeMade table.now.row.world call }
+    ensures own { IsCallerOf table.now caller.new }
+    ensures once { WasMadeOnce table.now.row call result caller.old caller.new }
+{
+    match managed_calls_are_made_once(rt, table, caller, call) {
+        Some(reply) => reply,
+        None => unreachable!(),
+    }
+}
+
+// The seat that makes the call, and the reader, hear of each other.
+fn meet_at<R: Wait>(
+    rt: &R,
+    table: &ManagedTable,
+    caller: &mut Caller,
+    call: Call,
+    reader: Reader,
+) -> Reader
+    requires own { IsCallerOf table.now caller.old }
+    requires reader_own { IsOf table.now.row reader }
+    requires can { CanBeMade table.now.row.world call }
+    ensures own { IsCallerOf table.now caller.new }
+    ensures reader_own { IsOf table.now.row result }
+    ensures met { MetAt table.now.row call caller.old caller.new reader.view result.view }
+    ensures elsewhere { elsewhere (seat_for call) caller.new ≡ elsewhere (seat_for call) caller.old }
+{
+    match call {
+        Call::Get(worker, _) => table.meet_leaf(rt, caller, worker, reader),
+        Call::Put(worker, _) => table.meet_leaf(rt, caller, worker, reader),
+        Call::InUse(_) => unreachable!(),
+        Call::BeginLoad(_) => table.meet_book(rt, caller, reader),
+        Call::EndLoad(_, _) => table.meet_book(rt, caller, reader),
+        Call::BeginDrain(_) => table.meet_book(rt, caller, reader),
+        Call::BeginRemove(_) => table.meet_book(rt, caller, reader),
+        Call::EndRemove(_) => table.meet_book(rt, caller, reader),
+    }
+}
