@@ -1,13 +1,14 @@
 //! Scripts on threads with gates of their own.
 
 use dep_index::Reply;
+use managed_table::ManagedTable;
 use module_table::Manager;
 use std::alloc::{AllocError, Global};
 use std::sync::Wait;
 use std::sync::atomic::{AtomicBool, AtomicUsize, Ordering};
 use std::test::Fail;
 use std::thread::Threads;
-use workload_drive::{Gate, OpenGate, WorkFault, read_script, run_threads};
+use workload_drive::{Gate, OpenGate, WorkFault, read_script, run_managed, run_threads};
 
 /// The catalogue of all scripts here.
 const SND: &[u8] = b"module snd
@@ -65,6 +66,23 @@ fn run<R: AllocGlobal + Threads + Wait + Sync, G: Gate + Sync>(
     })
 }
 
+/// The same on a managed table.
+fn run_by_callers<R: AllocGlobal + Threads + Wait + Sync, G: Gate + Sync>(
+    rt: &R,
+    lines: &[u8],
+    gate: &G,
+) -> Result<Course, Fail> {
+    let script = read_script(rt.alloc(), &input(rt.alloc(), lines)?)?;
+    let (table, readers) = ManagedTable::new(rt.alloc(), script.catalogue(), script.workers())?;
+    let answer = run_managed(rt, script.catalogue(), &table, readers, &script, gate);
+    let mut caller = table.caller();
+    Ok(Course {
+        answer,
+        first: table.held(rt, &mut caller, 0, 0),
+        second: table.held(rt, &mut caller, 1, 0),
+    })
+}
+
 /// Both workers keep what they get.
 const KEPT: &[u8] = b"workers 2
 load snd
@@ -75,8 +93,10 @@ w1 get snd
 
 #[test]
 fn references_are_left(rt: HostRuntime) -> Result<(), Fail> {
-    let course = run(&rt, KEPT, &OpenGate)?;
     let text = "snd 114688 3 - Live 0x0000000000000000\ncalls 4\n";
+    let course = run(&rt, KEPT, &OpenGate)?;
+    assert!(rt; course.is(Ok(text)) && course.are_held(1, 2));
+    let course = run_by_callers(&rt, KEPT, &OpenGate)?;
     assert!(rt; course.is(Ok(text)) && course.are_held(1, 2));
     Ok(())
 }
@@ -161,6 +181,9 @@ fn workers_run_at_once(rt: HostRuntime) -> Result<(), Fail> {
     let meeting = Meeting::new();
     let course = run(&rt, MET, &meeting)?;
     assert!(rt; course.is(Ok("calls 6\n")) && meeting.removed.load(Ordering::SeqCst));
+    let meeting = Meeting::new();
+    let course = run_by_callers(&rt, MET, &meeting)?;
+    assert!(rt; course.is(Ok("calls 6\n")) && meeting.removed.load(Ordering::SeqCst));
     Ok(())
 }
 
@@ -168,6 +191,14 @@ fn workers_run_at_once(rt: HostRuntime) -> Result<(), Fail> {
 #[derive(Drop)]
 struct Shut {
     asked: AtomicBool,
+}
+
+impl Shut {
+    fn new() -> Shut {
+        Shut {
+            asked: AtomicBool::new(false),
+        }
+    }
 }
 
 impl Gate for Shut {
@@ -193,10 +224,12 @@ w1 query snd
 
 #[test]
 fn a_gate_is_shut(rt: HostRuntime) -> Result<(), Fail> {
-    let shut = Shut {
-        asked: AtomicBool::new(false),
-    };
+    let shut = Shut::new();
     let course = run(&rt, SHUT_OUT, &shut)?;
+    let asked = shut.asked.load(Ordering::SeqCst);
+    assert!(rt; asked && course.is(Err(WorkFault::Gate)) && course.are_held(1, 0));
+    let shut = Shut::new();
+    let course = run_by_callers(&rt, SHUT_OUT, &shut)?;
     let asked = shut.asked.load(Ordering::SeqCst);
     assert!(rt; asked && course.is(Err(WorkFault::Gate)) && course.are_held(1, 0));
     Ok(())

@@ -2,4 +2,5 @@ pub mod Faults
 pub mod Statements
 pub mod Schedule
 pub mod Script
+pub mod Calls
 pub mod ForProofs

@@ -13,4 +13,6 @@ mod statement;
 pub use fault::{LineCode, LineFault, ScheduleFault};
 pub use program::drive;
 pub use schedule::report;
-pub use script::{Gate, OpenGate, Replies, Script, WorkFault, read_script, run_threads};
+pub use script::{
+    Gate, OpenGate, Replies, Script, WorkFault, read_script, run_managed, run_threads,
+};

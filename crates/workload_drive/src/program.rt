@@ -4,8 +4,8 @@ use crate::asked::{Asked, asked_by};
 use crate::explain::{explain, explain_work};
 use crate::fault::ScheduleFault;
 use crate::schedule::report;
-use crate::script::{OpenGate, Replies, WorkFault, read_script, run_threads};
-use module_table::Manager;
+use crate::script::{OpenGate, Replies, WorkFault, read_script, run_managed};
+use managed_table::ManagedTable;
 use program_frame::{Status, StreamFault, end_by, read_input, write_text};
 use std::alloc::{AllocError, Global};
 use std::io::{Read, Write};
@@ -33,7 +33,7 @@ fn status_of(fault: Fault) -> Status {
     }
 }
 
-/// What the workers of a script come to, on a manager of its own, after their replies where these are asked for.
+/// What the workers of a script come to, on a managed table of its own, after their replies where these are asked for.
 fn script_text<R: AllocGlobal + Threads + Wait + Sync>(
     rt: &R,
     asked: Asked,
@@ -41,14 +41,14 @@ fn script_text<R: AllocGlobal + Threads + Wait + Sync>(
 ) -> Result<Vec<u8>, Fault> {
     let script = read_script(rt.alloc(), input)?;
     let catalogue = script.catalogue();
-    let (manager, readers) = Manager::new(rt.alloc(), catalogue, script.workers())?;
+    let (table, readers) = ManagedTable::new(rt.alloc(), catalogue, script.workers())?;
     if !asked.replies {
-        return Ok(run_threads(rt, catalogue, &manager, readers, &script, &OpenGate)?);
+        return Ok(run_managed(rt, catalogue, &table, readers, &script, &OpenGate)?);
     }
     let replies = Replies::new(rt.alloc(), &script)?;
-    let table = run_threads(rt, catalogue, &manager, readers, &script, &replies)?;
+    let left = run_managed(rt, catalogue, &table, readers, &script, &replies)?;
     let mut text = replies.text(rt.alloc(), &script)?;
-    text.extend_from_slice(&table)?;
+    text.extend_from_slice(&left)?;
     Ok(text)
 }
 

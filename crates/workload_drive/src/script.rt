@@ -1,6 +1,10 @@
 //! A script: lines of workers, each worker on a thread of its own.
 
 mod acts;
+mod by_caller;
+mod by_manager;
+mod calls;
+mod course;
 mod entries;
 mod listing;
 mod replies;
@@ -10,4 +14,4 @@ mod worker;
 
 pub use replies::Replies;
 pub use tasks::{Script, read_script};
-pub use threads::{Gate, OpenGate, WorkFault, run_threads};
+pub use threads::{Gate, OpenGate, WorkFault, run_managed, run_threads};

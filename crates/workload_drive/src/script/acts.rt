@@ -3,9 +3,11 @@ ghost use Rattle.std.specs.Prelude.{◌≡◌};
 ghost use Rattle.std.specs.Option.{option_map};
 ghost use Rattle.text_parts.specs.Text.{texts_of};
 ghost use Rattle.workload_drive.specs.Script.{deed_text, deed_of, named_act_of, is_works};
+ghost use Rattle.workload_drive.specs.Calls.{first_of, second_of};
 ghost use Rattle.workload_drive.specs.ForProofs.{named_act_in};
 
 use crate::statement::marked;
+use dep_index::Call;
 use text_parts::is_same;
 
 /// A change of the table, of one call or two.
@@ -44,6 +46,31 @@ pub(crate) enum Act {
 pub(crate) struct NamedAct<'a> {
     pub(crate) act: Act,
     pub(crate) name: &'a [u8],
+}
+
+impl Change {
+    /// Its first call.
+    pub(super) fn first(self, slot: usize) -> Call
+        ensures { result ≡ first_of self slot }
+    {
+        match self {
+            Change::Load => Call::BeginLoad(slot),
+            Change::Remove => Call::BeginRemove(slot),
+            Change::Drain => Call::BeginDrain(slot),
+            Change::Finish => Call::EndRemove(slot),
+        }
+    }
+
+    /// The call that is made where the first was Done.
+    pub(super) fn second(self, slot: usize) -> Option<Call>
+        ensures { result ≡ second_of self slot }
+    {
+        match self {
+            Change::Load => Some(Call::EndLoad(slot, true)),
+            Change::Remove => Some(Call::EndRemove(slot)),
+            Change::Drain | Change::Finish => None,
+        }
+    }
 }
 
 impl Act {

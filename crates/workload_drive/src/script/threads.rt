@@ -1,17 +1,22 @@
 //! The workers of a script, each on a thread of its own.
+ghost use denote.Param.Send.{IsSync, IsSend};
 ghost use Rattle.std.specs.Prelude.{◌≡◌, All};
 ghost use Rattle.root_row.specs.Seats.{IsOf};
 ghost use Rattle.workload_drive.specs.declared.script.threads.WorkFault.TheVariants as work_faults;
 
+use super::by_caller::{ManagedCalls, managed_workers};
+use super::by_manager::{ManagerCalls, manager_workers};
+use super::calls::{Asks, Calls};
+use super::course::Course;
 use super::listing::listing;
 use super::tasks::Script;
-use super::worker::{Worker, make};
+use super::worker::{Worker, make_change};
 use dep_index::{Catalogue, Reply};
+use managed_table::ManagedTable;
 use module_table::Manager;
 use proc_modules::push_number;
 use std::alloc::AllocError;
 use std::sync::Wait;
-use std::sync::atomic::{AtomicBool, AtomicUsize, Ordering};
 use std::thread;
 use std::thread::Threads;
 use thiserror::Error;
@@ -62,54 +67,18 @@ impl From<AllocError> for WorkFault {
     }
 }
 
-/// What the workers have come to together.
-#[derive(Drop)]
-struct Course {
-    /// How many lines were made.
-    calls: AtomicUsize,
-    /// Whether the gate let a line not begin.
-    shut: AtomicBool,
-    /// Whether a thread could not be started.
-    missing: AtomicBool,
-}
-
-impl Course {
-    fn new() -> Course {
-        Course {
-            calls: AtomicUsize::new(0),
-            shut: AtomicBool::new(false),
-            missing: AtomicBool::new(false),
-        }
-    }
-
-    fn count(&self) {
-        self.calls.fetch_add(1, Ordering::SeqCst);
-    }
-
-    /// How many lines were made, where nothing stopped a worker.
-    fn calls(&self) -> Result<usize, WorkFault> {
-        if self.missing.load(Ordering::SeqCst) {
-            return Err(WorkFault::Spawn);
-        }
-        if self.shut.load(Ordering::SeqCst) {
-            return Err(WorkFault::Gate);
-        }
-        Ok(self.calls.load(Ordering::SeqCst))
-    }
-}
-
 /// Makes the lines of a worker, in order.
-fn work<R: Wait, G: Gate>(
+fn work<R: Wait, C: Calls + Drop, A: Asks + Drop, G: Gate>(
     rt: &R,
-    mut worker: Worker<'_>,
+    mut worker: Worker<C, A>,
     script: &Script,
     gate: &G,
     course: &Course,
 ) {
-    let number = worker.number();
+    let number = worker.number;
     for (line, task) in script.tasks(number).iter().enumerate() {
         if !gate.before(number, line) {
-            course.shut.store(true, Ordering::SeqCst);
+            course.shut();
             return;
         }
         if let Some(reply) = worker.perform(rt, *task) {
@@ -120,49 +89,69 @@ fn work<R: Wait, G: Gate>(
 }
 
 /// Starts the workers, and waits until all have ended.
-fn work_all<R: Threads + Wait + Sync, G: Gate + Sync>(
+fn work_all<
+    R: Threads + Wait + Sync,
+    C: Calls + Drop + Send,
+    A: Asks + Drop + Send,
+    G: Gate + Sync,
+>(rt: &R, workers: Vec<Worker<C, A>>, script: &Script, gate: &G, course: &Course) {
+    thread::scope(
+        thread::scope_env(),
+        rt,
+        move |scope|
+            requires { IsSync R.row × IsSync G.row × IsSend C.row × IsSend A.row }
+        {
+            for worker in workers {
+                if scope
+                    .spawn(move || work(rt, worker, script, gate, course))
+                    .is_err()
+                {
+                    course.lack();
+                }
+            }
+        },
+    );
+}
+
+/// Makes the changes of a script that come before its workers.
+fn open<R: Wait, C: Calls, G: Gate>(
     rt: &R,
-    workers: Vec<Worker<'_>>,
+    calls: &mut C,
     script: &Script,
     gate: &G,
     course: &Course,
 ) {
-    thread::scope(thread::scope_env(), rt, move |scope| {
-        for worker in workers {
-            if scope
-                .spawn(move || work(rt, worker, script, gate, course))
-                .is_err()
-            {
-                course.missing.store(true, Ordering::SeqCst);
-            }
-        }
-    });
-}
-
-/// A worker for each reader.
-fn workers_of<'a, R: AllocGlobal>(
-    rt: &R,
-    manager: &'a Manager,
-    readers: Vec<Reader>,
-) -> Result<Vec<Worker<'a>>, AllocError>
-    requires { All (IsOf manager.now) readers.items }
-{
-    let mut workers = Vec::new(rt.alloc());
-    for reader in readers {
-        let number = workers.len();
-        workers.push(Worker::new(manager, reader, number))?;
-    }
-    Ok(workers)
-}
-
-/// Makes the changes of a script that come before its workers.
-fn open<R: Wait, G: Gate>(rt: &R, manager: &Manager, script: &Script, gate: &G, course: &Course) {
     for (line, opening) in script.opening().iter().enumerate() {
-        if let Some(reply) = make(rt, manager, opening.change, opening.slot) {
+        if let Some(reply) = make_change(rt, calls, opening.change, opening.slot) {
             course.count();
             gate.opened(line, reply);
         }
     }
+}
+
+/// Runs a script by these workers, and lists what is left.
+fn run<
+    R: AllocGlobal + Threads + Wait + Sync,
+    C: Calls + Drop + Send,
+    A: Asks + Drop + Send,
+    G: Gate + Sync,
+>(
+    rt: &R,
+    catalogue: &Catalogue,
+    calls: &mut C,
+    workers: Vec<Worker<C, A>>,
+    script: &Script,
+    gate: &G,
+) -> Result<Vec<u8>, WorkFault> {
+    let course = Course::new();
+    open(rt, calls, script, gate, &course);
+    work_all(rt, workers, script, gate, &course);
+    let made = course.calls()?;
+    let mut text = listing(rt, catalogue, calls)?;
+    text.extend_from_slice(b"calls ")?;
+    push_number(&mut text, made)?;
+    text.extend_from_slice(b"\n")?;
+    Ok(text)
 }
 
 /// Runs a script on a manager: first the changes that come before the workers, then each worker's lines in order, on a
@@ -182,14 +171,35 @@ pub fn run_threads<R: AllocGlobal + Threads + Wait + Sync, G: Gate + Sync>(
 ) -> Result<Vec<u8>, WorkFault>
     requires { All (IsOf manager.now) readers.items }
 {
-    let course = Course::new();
-    let workers = workers_of(rt, manager, readers)?;
-    open(rt, manager, script, gate, &course);
-    work_all(rt, workers, script, gate, &course);
-    let calls = course.calls()?;
-    let mut text = listing(rt, catalogue, manager)?;
-    text.extend_from_slice(b"calls ")?;
-    push_number(&mut text, calls)?;
-    text.extend_from_slice(b"\n")?;
-    Ok(text)
+    let workers = manager_workers(rt, manager, readers)?;
+    run(
+        rt,
+        catalogue,
+        &mut ManagerCalls { manager },
+        workers,
+        script,
+        gate,
+    )
+}
+
+/// As `run_threads`, on a managed table: each worker has a caller, so each call that returns is made once.
+pub fn run_managed<R: AllocGlobal + Threads + Wait + Sync, G: Gate + Sync>(
+    rt: &R,
+    catalogue: &Catalogue,
+    table: &ManagedTable,
+    readers: Vec<Reader>,
+    script: &Script,
+    gate: &G,
+) -> Result<Vec<u8>, WorkFault>
+    requires { All (IsOf table.now.row) readers.items }
+{
+    let workers = managed_workers(rt, table, readers)?;
+    run(
+        rt,
+        catalogue,
+        &mut ManagedCalls::of(table),
+        workers,
+        script,
+        gate,
+    )
 }

@@ -1,0 +1,68 @@
+-- The calls of a script's lines.
+use Rattle.std.specs.Prelude.{◌≡◌, ℕ, true, Option, Some, None}
+use Rattle.dep_index.specs.declared.calls.Call.{Call}
+use Rattle.dep_index.specs.declared.calls.Call.TheVariants as calls
+use Rattle.dep_index.specs.declared.calls.Reply.{Reply}
+use Rattle.dep_index.specs.declared.calls.Reply.TheVariants.{Done}
+use Rattle.root_row.specs.Seats.{RowIs}
+use Rattle.root_row.specs.declared.view.SeatName.TheVariants as seats
+use Rattle.managed_table.specs.Callers.{CallerIs}
+use Rattle.managed_table.specs.Turns.{MadeOneCall}
+use Rattle.workload_drive.specs.declared.script.acts.Change.{Change}
+use Rattle.workload_drive.specs.declared.script.acts.Change.TheVariants.{Load, Remove, Drain, Finish}
+use Rattle.workload_drive.specs.declared.script.acts.Deed.{Deed}
+use Rattle.workload_drive.specs.declared.script.acts.Deed.TheVariants.{Get, Put, Query, Make}
+
+-- the worker's leaf made this one call, in one turn of the caller, who did nothing else
+abbrev pub LeafMadeOnce : RowIs → ℕ → Call → Reply → CallerIs → CallerIs → Type 0
+LeafMadeOnce row worker call reply old new =
+    MadeOneCall row worker (seats.Leaf worker) call reply old.leaves.pass new.leaves.pass × (new.book ≡ old.book)
+
+-- the book did
+abbrev pub BookMadeOnce : RowIs → Call → Reply → CallerIs → CallerIs → Type 0
+BookMadeOnce row call reply old new =
+    MadeOneCall row 0 seats.Book call reply old.book.pass new.book.pass × (new.leaves ≡ old.leaves)
+
+-- the managed call was made once, by the worker's leaf or by the book
+abbrev pub WasMadeOnce : RowIs → Call → Reply → CallerIs → CallerIs → Type 0
+WasMadeOnce row (calls.Get worker slot) = LeafMadeOnce row worker (calls.Get worker slot)
+WasMadeOnce row (calls.Put worker slot) = LeafMadeOnce row worker (calls.Put worker slot)
+WasMadeOnce row (calls.InUse slot) = BookMadeOnce row (calls.InUse slot)
+WasMadeOnce row (calls.BeginLoad slot) = BookMadeOnce row (calls.BeginLoad slot)
+WasMadeOnce row (calls.EndLoad slot ok) = BookMadeOnce row (calls.EndLoad slot ok)
+WasMadeOnce row (calls.BeginDrain slot) = BookMadeOnce row (calls.BeginDrain slot)
+WasMadeOnce row (calls.BeginRemove slot) = BookMadeOnce row (calls.BeginRemove slot)
+WasMadeOnce row (calls.EndRemove slot) = BookMadeOnce row (calls.EndRemove slot)
+
+-- the first call of a change
+abbrev pub first_of : Change → ℕ → Call
+first_of Load slot = calls.BeginLoad slot
+first_of Remove slot = calls.BeginRemove slot
+first_of Drain slot = calls.BeginDrain slot
+first_of Finish slot = calls.EndRemove slot
+
+-- the call that is made where the first was Done
+abbrev pub second_of : Change → ℕ → Option Call
+second_of Load slot = Some (calls.EndLoad slot true)
+second_of Remove slot = Some (calls.EndRemove slot)
+second_of Drain slot = None
+second_of Finish slot = None
+
+-- where the first call had this reply: the second was made and answered so, or there is none and that is the reply
+abbrev pub Ended : {T : Type 0} → (T → Call → Reply → T → Type 0) → Option Call → Reply → Reply → T → T → Type 0
+Ended made (Some call) Done reply between new = made between call reply new
+Ended made second first reply between new = (reply ≡ first) × (new ≡ between)
+
+-- the calls of a change were made, each once, and it was answered so
+pub record ChangeMade {T : Type 0} (made : T → Call → Reply → T → Type 0) (change : Change) (slot : ℕ) (reply : Reply) (old new : T) : Type 0 where
+  pub first : Reply
+  pub between : T
+  pub begun : made old (first_of change slot) first between
+  pub ended : Ended made (second_of change slot) first reply between new
+
+-- the calls of a worker's line were made, each once, and it was answered so; a query is none of them
+abbrev pub LineMade : {T : Type 0} → (T → Call → Reply → T → Type 0) → ℕ → Deed → ℕ → Reply → T → T → Type 0
+LineMade made worker Get slot reply old new = made old (calls.Get worker slot) reply new
+LineMade made worker Put slot reply old new = made old (calls.Put worker slot) reply new
+LineMade made worker Query slot reply old new = new ≡ old
+LineMade made worker (Make change) slot reply old new = ChangeMade made change slot reply old new
