@@ -10,6 +10,7 @@ fn main() {
     let name = std::env::args().nth(1).unwrap_or_default();
     match name.as_str() {
         "leaves" => leaves::measure(),
+        "managed" => manager::measure_padded(),
         "manager" => manager::measure(),
         "patterns" => patterns::measure(),
         "plans" => plans::measure(),

@@ -66,3 +66,11 @@ pub fn measure() {
     pairs::measure(name, "one_atomic", |_| OneAtomic(pairs::words()));
     pairs::measure(name, "mutex_hash_map", |_| OneMap(Mutex::new(HashMap::new())));
 }
+
+/// The padded one alone, beside managed calls; and with a crowd of threads, more than there are processors.
+pub fn measure_padded() {
+    let name = "managed_pairs";
+    let new = |workers| SameShape::<Padded<_>, Padded<_>>::new(workers, true);
+    pairs::measure(name, "same_shape_padded", new);
+    pairs::measure_crowd(name, "same_shape_padded", new);
+}

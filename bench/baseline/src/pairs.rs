@@ -123,7 +123,7 @@ impl Modules {
         match self {
             Modules::One => 0..1,
             Modules::Eight => 0..COUNT,
-            Modules::Own => worker..worker + 1,
+            Modules::Own => worker % COUNT..worker % COUNT + 1,
         }
     }
 }
@@ -172,14 +172,23 @@ fn measure_modules<T: Table>(name: &str, kind: &str, table: &T, workers: &mut [T
     }
 }
 
+/// Measures so many threads that call for the workers of a table, in turn.
+fn measure_threads<T: Table>(name: &str, kind: &str, table: &T, workers: usize, threads: usize) {
+    let mut workers: Vec<T::Worker> = (0..threads).map(|thread| table.worker(thread % workers)).collect();
+    for modules in [Modules::One, Modules::Eight, Modules::Own] {
+        measure_modules(name, kind, table, &mut workers, modules);
+    }
+}
+
 /// Measures a table that `new` makes for a number of workers.
 pub fn measure<T: Table>(name: &str, kind: &str, new: impl Fn(usize) -> T) {
     let processors = thread::available_parallelism().map_or(1, |count| count.get());
     for count in [1, 2, 4].into_iter().filter(|count| *count <= processors) {
-        let table = new(count);
-        let mut workers: Vec<T::Worker> = (0..count).map(|number| table.worker(number)).collect();
-        for modules in [Modules::One, Modules::Eight, Modules::Own] {
-            measure_modules(name, kind, &table, &mut workers, modules);
-        }
+        measure_threads(name, kind, &new(count), count, count);
     }
+}
+
+/// Measures sixteen threads that call for four workers.
+pub fn measure_crowd<T: Table>(name: &str, kind: &str, new: impl Fn(usize) -> T) {
+    measure_threads(name, kind, &new(4), 4, 16);
 }

@@ -6,7 +6,7 @@ ghost use Rattle.root_row.specs.Views.{worker_of};
 ghost use Rattle.root_row.specs.Made.{new_book, new_leaf};
 ghost use Rattle.dep_index.specs.Catalogue.{modules_of};
 
-use crate::workers::{COUNT, SlotRange, Worker, measure_counts, measure_workers};
+use crate::workers::{COUNT, Figure, SlotRange, Worker, measure_counts, measure_workers};
 use anyhow::{Result, bail};
 use crossbeam_utils::CachePadded;
 use dep_index::Catalogue;
@@ -99,7 +99,11 @@ fn measure_row<R: Print + Clock + AllocGlobal + Threads + Wait + Sync>(
     let mut book = Book::new(rt.alloc(), seat, catalogue)?;
     load_all(row, &mut book)?;
     let mut leaves = leaves_of(rt.alloc(), row, seats)?;
-    measure_workers(rt, "leaf_pairs", &mut leaves)
+    let figure = Figure {
+        name: "leaf_pairs",
+        kind: "",
+    };
+    measure_workers(rt, figure, &mut leaves)
 }
 
 /// Loads all modules.

@@ -8,6 +8,7 @@ mod leaves;
 mod listing;
 mod load;
 mod machine;
+mod managed;
 mod manager;
 mod patterns;
 mod plans;
@@ -23,12 +24,13 @@ use std::process::ExitCode;
 type Benchmark = (&'static str, fn(&HostRuntime) -> Result<()>);
 
 fn main(rt: HostRuntime) -> Result<ExitCode> {
-    let all: [Benchmark; 9] = [
+    let all: [Benchmark; 10] = [
         ("catalogue", |rt| catalogue::measure(rt)),
         ("configuration", |rt| configuration::measure(rt)),
         ("leaves", |rt| leaves::measure(rt)),
         ("listing", |rt| listing::measure(rt)),
         ("machine", |rt| machine::measure(rt)),
+        ("managed", |rt| managed::measure(rt)),
         ("manager", |rt| manager::measure(rt)),
         ("patterns", |rt| patterns::measure(rt)),
         ("plans", |rt| plans::measure(rt)),

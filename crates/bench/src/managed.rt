@@ -1,0 +1,127 @@
+//! Pairs of a get and a put by managed calls, each caller in a thread of its own, and beside each figure the same through a
+//! manager. At last a crowd: sixteen threads that call for four workers.
+ghost use Rattle.managed_table.specs.Callers.{IsCallerOf};
+
+use crate::manager;
+use crate::texts::plain_catalogue;
+use crate::workers::{
+    COUNT, CROWD, CROWDED, Figure, SlotRange, Worker, measure_counts, measure_workers,
+};
+use anyhow::{Result, ensure};
+use dep_index::Catalogue;
+use managed_table::{Caller, ManagedTable};
+use std::rt::Clock;
+use std::sync::Wait;
+use std::thread::Threads;
+
+const OURS: Figure = Figure {
+    name: "managed_pairs",
+    kind: "",
+};
+
+const BESIDE: Figure = Figure {
+    name: "managed_pairs",
+    kind: "@manager",
+};
+
+/// A thread that calls a managed table for a worker.
+#[derive(Drop)]
+struct ManagedWorker<'a> {
+    table: &'a ManagedTable,
+    caller: Caller,
+    number: usize,
+    ghost own: { IsCallerOf table.now caller },
+}
+
+impl Worker for ManagedWorker<'_> {
+    fn get<R: Wait>(&mut self, rt: &R, slot: usize) {
+        let _ = self.table.get(rt, &mut self.caller, self.number, slot);
+    }
+
+    fn put<R: Wait>(&mut self, rt: &R, slot: usize) {
+        let _ = self.table.put(rt, &mut self.caller, self.number, slot);
+    }
+
+    // In a function of its own the loop keeps its registers.
+    #[inline(never)]
+    fn make_pairs<R: Wait>(&mut self, rt: &R, range: SlotRange, rounds: u64) {
+        for _ in 0..rounds {
+            self.make_round(rt, range);
+        }
+    }
+}
+
+impl<'a> ManagedWorker<'a> {
+    fn of(table: &'a ManagedTable, number: usize) -> ManagedWorker<'a> {
+        let caller = table.caller();
+        ManagedWorker {
+            table,
+            caller,
+            number,
+        }
+    }
+
+    /// A reference to each is taken and given back.
+    fn make_round<R: Wait>(&mut self, rt: &R, range: SlotRange) {
+        for slot in range.from..range.to {
+            self.make_pair(rt, slot);
+        }
+    }
+
+    fn make_pair<R: Wait>(&mut self, rt: &R, slot: usize) {
+        let _ = self.table.get(rt, &mut self.caller, self.number, slot);
+        let _ = self.table.put(rt, &mut self.caller, self.number, slot);
+    }
+
+    /// Loads a module. Whether that was done.
+    fn is_loaded<R: Wait>(&mut self, rt: &R, slot: usize) -> bool {
+        let begun = self.table.begin_load(rt, &mut self.caller, slot);
+        let ended = self.table.end_load(rt, &mut self.caller, slot, true);
+        begun == Some(Ok(())) && ended == Some(Ok(()))
+    }
+}
+
+pub fn measure<R: Print + Clock + AllocGlobal + Threads + Wait + Sync>(rt: &R) -> Result<()> {
+    let measure = |catalogue: &Catalogue, workers| measure_both(rt, catalogue, workers, workers);
+    measure_counts(rt, measure)?;
+    let catalogue = plain_catalogue(rt.alloc(), COUNT)?;
+    measure_both(rt, &catalogue, CROWDED, CROWD)
+}
+
+/// Measures so many threads that call for so many workers.
+fn measure_both<R: Print + Clock + AllocGlobal + Threads + Wait + Sync>(
+    rt: &R,
+    catalogue: &Catalogue,
+    workers: u8,
+    threads: u8,
+) -> Result<()> {
+    measure_count(rt, catalogue, workers, threads)?;
+    manager::measure_count(rt, BESIDE, catalogue, workers, threads)
+}
+
+fn measure_count<R: Print + Clock + AllocGlobal + Threads + Wait + Sync>(
+    rt: &R,
+    catalogue: &Catalogue,
+    workers: u8,
+    threads: u8,
+) -> Result<()> {
+    let (table, _readers) = ManagedTable::new(rt.alloc(), catalogue, usize::from(workers))?;
+    ensure!(are_loaded(rt, &table), "a module is not loaded");
+    let mut all = Vec::new(rt.alloc());
+    for thread in 0..threads {
+        let number = usize::from(thread) % table.workers().max(1);
+        all.push(ManagedWorker::of(&table, number))?;
+    }
+    measure_workers(rt, OURS, &mut all)
+}
+
+/// Loads all modules. Whether that was done.
+fn are_loaded<R: Wait>(rt: &R, table: &ManagedTable) -> bool {
+    let mut worker = ManagedWorker::of(table, 0);
+    for slot in 0..COUNT {
+        if !worker.is_loaded(rt, slot) {
+            return false;
+        }
+    }
+    true
+}
