@@ -1,5 +1,5 @@
 -- What was written and answered, one step on.
-use Rattle.std.proofs.Common.{◌≡◌, ℕ, ◌≤◌, ◌+◌, ◌-◌, List, [], ◌∷◌, ◌++◌, length, take, drop, refl, sym, ap, ◌∙◌, Option, Some, None}
+use Rattle.std.proofs.Common.{arith, ◌≡◌, ℕ, ◌≤◌, ◌+◌, ◌-◌, ◌^◌, List, [], ◌∷◌, ◌++◌, length, take, drop, refl, sym, ap, ◌∙◌, Option, Some, None}
 use Rattle.std.specs.Io.KnownBytes.{Appends, IsAtEnd}
 use Rattle.std.proofs.Math.Seq.{take-add}
 use Rattle.std.proofs.lemmas.List.Elements.{All-append, All-cons, All-nil}
@@ -12,10 +12,10 @@ use Rattle.modprobe.specs.Lines.{AtHand, IfTold, GivesCut, GivesCuts, AllEnded, 
 use Rattle.modprobe.proofs.CutLemmas.{is_long_line, cuts_none, cuts_more, cuts_in_hand, cuts_all}
 use Rattle.dep_index.specs.Table.{Table}
 use Rattle.modprobe.specs.Setup.{Setup}
-use Rattle.modprobe.specs.Session.{line_reply, answer}
+use Rattle.modprobe.specs.Session.{line_reply, answer, errors_of, error_count}
 use Rattle.modprobe.specs.Run.{Answered, AllShort, StandsAfter, run_fault_of}
 use Rattle.std.proofs.Common.{All, false, Ok, inl, subst}
-use Rattle.std.specs.Prelude.{◌&&◌, ◌≢◌, nat_lt}
+use Rattle.std.specs.Prelude.{◌&&◌, ◌≢◌, nat_lt, min}
 use Rattle.std.proofs.lemmas.Bool.{ne_eqb, false≢true}
 use Rattle.modprobe.specs.Device.{write_failed}
 
@@ -48,6 +48,35 @@ answer-more s t (first ∷ done) line =
 pub table-more : (s : Setup) (t : Table) (done : List Line) (line : Line) → (answer s t (texts (done ++ line ∷ []))).1 ≡ (line_reply s (answer s t (texts done)).1 line.text).1
 table-more s t [] line = refl
 table-more s t (first ∷ done) line = table-more s (line_reply s t first.text).1 done line
+
+-- One more line: its reply is one more error, or none.
+pub error_count-more : (s : Setup) (t : Table) (done : List Line) (line : Line) → error_count s t (texts (done ++ line ∷ [])) ≡ error_count s t (texts done) + errors_of (line_reply s (answer s t (texts done)).1 line.text).0
+error_count-more s t [] line = omega arith
+error_count-more s t (first ∷ done) line =
+    let next = (line_reply s t first.text).1 in
+    let later = error_count-more s next done line in
+    omega (arith, later)
+
+pub counted_more : (s : Setup) (start table : Table) (done : List Line) (line : Line) (reply : List ℕ) (errors errors' : ℕ)
+    → errors ≡ min (error_count s start (texts done)) (2 ^ 64 - 1) → table ≡ (answer s start (texts done)).1 → reply ≡ (line_reply s table line.text).0
+    → errors' ≡ min (errors + errors_of reply) (2 ^ 64 - 1) → errors' ≡ min (error_count s start (texts (done ++ line ∷ []))) (2 ^ 64 - 1)
+counted_more s start table done line reply errors errors' before after is next =
+    let more = error_count-more s start done line in
+    let same : errors_of reply ≡ errors_of (line_reply s (answer s start (texts done)).1 line.text).0 = ap errors_of is ∙ ap (λ t. errors_of (line_reply s t line.text).0) after in
+    omega (arith, before, next, more, same)
+
+-- No line was counted.
+pub none_counted : (s : Setup) (start : Table) → 0 ≡ min (error_count s start (texts [])) (2 ^ 64 - 1)
+none_counted s start = omega arith
+
+-- All lines were counted.
+pub all_counted : (s : Setup) (start : Table) (text left : Option (List ℕ)) (done : List Line) (errors : ℕ)
+    → errors ≡ min (error_count s start (texts done)) (2 ^ 64 - 1) → GivesCuts text left done → IsAtEnd left
+    → IfTold text (λ t. errors ≡ min (error_count s start (lines t)) (2 ^ 64 - 1))
+all_counted s start None left done errors counted gives e = tt
+all_counted s start (Some x) None done errors counted gives e = absurd gives
+all_counted s start (Some x) (Some y) done errors counted gives e =
+    subst (λ ls. errors ≡ min (error_count s start ls) (2 ^ 64 - 1)) (cuts_all x y done gives e) counted
 
 pub short-more : (done : List Line) (line : Line) → AllShort (texts done) → length line.text ≤ 65535 → AllShort (texts (done ++ line ∷ []))
 short-more done line before short =

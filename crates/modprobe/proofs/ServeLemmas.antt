@@ -1,5 +1,6 @@
 -- A session that came to its end, or stopped, from the setup of the input and the run.
-use Rattle.std.proofs.Common.{◌≡◌, ℕ, Bool, true, false, List, [], ◌∷◌, refl, sym, subst, Option, Some, None}
+use Rattle.std.specs.Prelude.{min}
+use Rattle.std.proofs.Common.{◌≡◌, ℕ, ◌-◌, ◌^◌, Bool, true, false, List, [], ◌∷◌, refl, sym, subst, Option, Some, None}
 use Rattle.std.specs.Str.Lines.{lines}
 use Rattle.std.specs.Io.KnownBytes.{Appends, IsAtEnd}
 use Rattle.text_parts.specs.Text.{cut_lines}
@@ -9,9 +10,9 @@ use Rattle.modprobe.specs.declared.fault.RunFault.{RunFault}
 use Rattle.modprobe.specs.Lines.{IfTold, AtHand, left_of}
 use Rattle.modprobe.specs.Setup.{Setup}
 use Rattle.modprobe.specs.SetupInput.{GivesSetup}
-use Rattle.modprobe.specs.Session.{answer}
+use Rattle.modprobe.specs.Session.{answer, error_count}
 use Rattle.modprobe.specs.Run.{AllShort, StandsAfter}
-use Rattle.modprobe.specs.Serve.{opening_of, AnswersInput, StopsInSession}
+use Rattle.modprobe.specs.Serve.{opening_of, AnswersInput, CountsErrors, StopsInSession}
 
 pub stops_in_session : (workers : ℕ) (fault : RunFault) (old middle : Option (List ℕ)) (s : Setup) (start : Table) (hand : AtHand) (held written : Option (List ℕ)) (table : Table)
     → GivesSetup old middle s → start ≡ opening_of s workers → StandsAfter fault s start middle hand held written table
@@ -30,6 +31,15 @@ answers_input workers (Some old) (Some middle) s start held written gives opens 
     let same = sym (lines_have_texts middle) in
     let P : List (List ℕ) → Type 0 = λ ls. Appends held written (answer s (opening_of s workers) ls).0 in
     (s, cut_lines middle, gives, subst AllShort same short, subst P same (rw opens at wrote))
+
+pub counts_errors : (workers : ℕ) (old middle : Option (List ℕ)) (s : Setup) (start : Table) (errors : ℕ)
+    → GivesSetup old middle s → start ≡ opening_of s workers → IfTold middle (λ text. errors ≡ min (error_count s start (lines text)) (2 ^ 64 - 1))
+    → IfTold old (λ input. CountsErrors workers input errors)
+counts_errors workers None middle s start errors gives opens counted = tt
+counts_errors workers (Some old) None s start errors gives opens counted = absurd gives
+counts_errors workers (Some old) (Some middle) s start errors gives opens counted =
+    let P : List (List ℕ) → Type 0 = λ ls. errors ≡ min (error_count s (opening_of s workers) ls) (2 ^ 64 - 1) in
+    (s, cut_lines middle, gives, subst P (sym (lines_have_texts middle)) (rw opens at counted))
 
 -- Where nothing is left for further lines, the source is at its end.
 pub source_end : (at_end : Bool) (unused : List ℕ) (told : Option (List ℕ)) → (at_end ≡ true → IsAtEnd told) → IsAtEnd (left_of at_end unused told) → IsAtEnd told

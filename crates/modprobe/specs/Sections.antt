@@ -32,6 +32,14 @@ add_bytes Alias bytes parts = record parts { alias_text = parts.alias_text ++ by
 add_bytes Conf bytes parts = record parts { conf_text = parts.conf_text ++ bytes }
 add_bytes Session bytes parts = parts
 
+-- the text of a section; the session has none
+abbrev pub text_in : Section → Parts → List ℕ
+text_in Catalogue parts = parts.catalogue_text
+text_in Dep parts = parts.dep_text
+text_in Alias parts = parts.alias_text
+text_in Conf parts = parts.conf_text
+text_in Session parts = []
+
 -- a line of more than 65,535 bytes, without its end
 abbrev pub is_long : List ℕ → Bool
 is_long line = nat_lt 65535 (length line)

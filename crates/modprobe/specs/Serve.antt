@@ -1,5 +1,5 @@
 -- What a whole session answers.
-use Rattle.std.specs.Prelude.{◌≡◌, ℕ, Bool, false, List, Option, Some, Result, Ok, Err}
+use Rattle.std.specs.Prelude.{◌≡◌, ℕ, ◌-◌, ◌^◌, min, Bool, false, List, Option, Some, Result, Ok, Err}
 use Rattle.std.specs.Io.KnownBytes.{Appends, Keeps}
 use Rattle.text_parts.specs.Text.{Line, cut_lines}
 use Rattle.dep_index.specs.Table.{Table}
@@ -10,7 +10,7 @@ use Rattle.modprobe.specs.declared.fault.ServeFault.TheVariants as serve_fault
 use Rattle.modprobe.specs.declared.fault.RunFault.{RunFault}
 use Rattle.modprobe.specs.Lines.{IfTold, AtHand, texts}
 use Rattle.modprobe.specs.Setup.{Setup}
-use Rattle.modprobe.specs.Session.{answer}
+use Rattle.modprobe.specs.Session.{answer, error_count}
 use Rattle.modprobe.specs.SetupInput.{setup_of, Refuses, SetupStops}
 use Rattle.modprobe.specs.Run.{AllShort, StandsAfter, is_read, is_write, is_turns}
 use Rattle.modprobe.specs.ForProofs.{is_read_code, is_turns_code}
@@ -24,6 +24,12 @@ abbrev pub AnswersInput : ℕ → List ℕ → Option (List ℕ) → Option (Lis
 AnswersInput workers input held written =
     (s : Setup) × (session : List Line) × (setup_of input ≡ Ok (s, session)) × AllShort (texts session)
     × Appends held written (answer s (opening_of s workers) (texts session)).0
+
+-- the input has a setup, and of the replies to its session so many are errors, where 2^64 - 1 stand for all that are more
+abbrev pub CountsErrors : ℕ → List ℕ → ℕ → Type 0
+CountsErrors workers input errors =
+    (s : Setup) × (session : List Line) × (setup_of input ≡ Ok (s, session))
+    × (errors ≡ min (error_count s (opening_of s workers) (texts session)) (2 ^ 64 - 1))
 
 -- the input has a setup, and its session stopped as a run does
 abbrev pub StopsInSession : ℕ → RunFault → List ℕ → Option (List ℕ) → Option (List ℕ) → Option (List ℕ) → Type 0

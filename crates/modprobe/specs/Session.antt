@@ -1,5 +1,7 @@
 -- What a session answers: the reply to each line, and the table after it.
-use Rattle.std.specs.Prelude.{ℕ, nat_lt, if◌then◌else◌, List, [], ◌∷◌, ◌++◌, length, codes, Option, Some, None}
+use Rattle.std.specs.Prelude.{ℕ, ◌+◌, nat_lt, nat_eq, Bool, ◌&&◌, slice_index, if◌then◌else◌, List, [], ◌∷◌, ◌++◌, length, codes, Option, Some, None}
+use Rattle.std.specs.List.{starts_with}
+use Rattle.std.specs.Char.{is_ascii_uppercase}
 use Rattle.dep_index.specs.Table.{Table, is_held}
 use Rattle.dep_index.specs.Catalogue.{slot_named}
 use Rattle.dep_index.specs.declared.calls.Call.{Call}
@@ -73,3 +75,16 @@ before_rest text rest = (text ++ rest.0, rest.1)
 abbrev pub answer : Setup → Table → List (List ℕ) → List ℕ × Table
 answer s t [] = ([], t)
 answer s t (line ∷ lines) = before_rest (line_reply s t line).0 (answer s (line_reply s t line).1 lines)
+
+-- a reply is an error: `error `, and then the capital letter that a code begins with; no listing has one there
+abbrev pub is_error : List ℕ → Bool
+is_error reply = starts_with nat_eq reply (codes "error ") && is_ascii_uppercase (slice_index reply 6)
+
+-- how many errors a reply is
+abbrev pub errors_of : List ℕ → ℕ
+errors_of reply = if is_error reply then 1 else 0
+
+-- how many of the replies to lines are errors
+abbrev pub error_count : Setup → Table → List (List ℕ) → ℕ
+error_count s t [] = 0
+error_count s t (line ∷ lines) = errors_of (line_reply s t line).0 + error_count s (line_reply s t line).1 lines

@@ -1,10 +1,10 @@
 //! A session: each line is read and answered, and its reply is written.
-ghost use Rattle.std.specs.Prelude.{◌≡◌, false, IfOk, IfErr, OnOk, OnErr, is_err};
+ghost use Rattle.std.specs.Prelude.{◌≡◌, ◌+◌, ◌-◌, ◌^◌, min, false, IfOk, IfErr, OnOk, OnErr, is_err};
 ghost use Rattle.std.specs.Io.KnownBytes.{Appends, IsAtEnd};
 ghost use Rattle.std.specs.Str.Lines.{lines as lines_of};
 ghost use Rattle.dep_index.specs.Catalogue.{modules_of};
 ghost use Rattle.modprobe.specs.Lines.{bytes_left, hand_of, IfTold, StopsForTurns, SpendsTurns, HasTrueEnd};
-ghost use Rattle.modprobe.specs.Session.{answer};
+ghost use Rattle.modprobe.specs.Session.{answer, is_error, errors_of, error_count};
 ghost use Rattle.modprobe.specs.Run.{AllShort, WritesPart, StandsAfter, is_read, is_write};
 
 use crate::device::{Failed, Sink, Source};
@@ -12,6 +12,7 @@ use crate::fault::RunFault;
 use crate::lines::Lines;
 use crate::session::Session;
 use crate::setup::Setup;
+use crate::watch::{Refused, Watch};
 use seq_table::Modules;
 use std::alloc::Global;
 
@@ -33,18 +34,49 @@ fn write_all<W: Sink>(writer: &mut W, bytes: &[u8]) -> Result<(), Failed>
     Ok(())
 }
 
+/// Whether a reply is an error.
+fn is_error(reply: &[u8]) -> bool
+    ensures { result ≡ is_error reply.now }
+{
+    reply.starts_with(b"error ") && reply.len() > 6 && reply[6].is_ascii_uppercase()
+}
+
+/// How many errors there are with this reply to a line, which the watch is told of if it is one.
+fn count_reply<M: Modules, T: Watch>(
+    errors: u64,
+    session: &Session<'_, '_, M>,
+    line: &[u8],
+    reply: &[u8],
+    watch: &mut T,
+) -> u64
+    ensures { result ≡ min (errors + errors_of reply.now) (2 ^ 64 - 1) }
+{
+    if !is_error(reply) {
+        return errors;
+    }
+    watch.refusal(&Refused {
+        setup: session.setup,
+        table: session.table,
+        line,
+        reply,
+    });
+    errors.saturating_add(1)
+}
+
 /// Answers each line that is left, up to the end of the input or a fault. `Read` and `Write` come where the device
 /// fails in this call, `Turns` where the source was read as often as `lines` may, `LongLine` at a line of more than
 /// 65,535 bytes, `Memory` where there is none. After a fault all lines before the one in hand are answered, and of the
 /// reply to that one a front part is written after `Write`, and nothing after the others. The table has the effect of
 /// the line in hand after `Write` alone. Each read of the source takes one turn of `lines`.
-pub fn run<R: Source, W: Sink, M: Modules>(
+/// It answers how many replies were errors, 2^64 - 1 of them at most, and tells the watch of each line and of each error.
+pub fn run_watched<R: Source, W: Sink, M: Modules, T: Watch>(
     alloc: Global,
     setup: &Setup,
     lines: &mut Lines<'_, R>,
     writer: &mut W,
     table: &mut M,
-) -> Result<(), RunFault>
+    watch: &mut T,
+) -> Result<u64, RunFault>
     requires reader_works { R.has_failed lines.old.reader.now ≡ false }
     requires writer_works { W.has_failed writer.old ≡ false }
     requires over { M.catalogue table.old ≡ modules_of setup.now.catalogue }
@@ -54,6 +86,8 @@ pub fn run<R: Source, W: Sink, M: Modules>(
         Appends (W.contents writer.old) (W.contents writer.new) (answer setup.now (M.table table.old) (lines_of text)).0)) }
     ensures table { OnOk result (IfTold (bytes_left R.remaining lines.old) (λ text.
         M.table table.new ≡ (answer setup.now (M.table table.old) (lines_of text)).1)) }
+    ensures errors { IfOk result (λ errors. IfTold (bytes_left R.remaining lines.old) (λ text.
+        errors ≡ min (error_count setup.now (M.table table.old) (lines_of text)) (2 ^ 64 - 1))) }
     ensures short { OnOk result (IfTold (bytes_left R.remaining lines.old) (λ text. AllShort (lines_of text))) }
     ensures all_read { OnOk result (IsAtEnd (bytes_left R.remaining lines.new)) }
     ensures end { HasTrueEnd R.remaining lines.old → HasTrueEnd R.remaining lines.new }
@@ -74,9 +108,12 @@ pub fn run<R: Source, W: Sink, M: Modules>(
     ensures over { M.catalogue table.new ≡ M.catalogue table.old }
 {
     let mut session = Session { setup, table };
+    let mut errors = 0;
     while lines.next_line()? {
+        watch.line();
         let reply = session.reply(alloc, lines.line())?;
         write_all(writer, reply.as_slice())?;
+        errors = count_reply(errors, &session, lines.line(), reply.as_slice(), watch);
     }
-    Ok(())
+    Ok(errors)
 }

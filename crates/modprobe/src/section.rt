@@ -1,18 +1,19 @@
 //! The sections of an input before its session.
 ghost use Rattle.std.specs.Prelude.{◌≡◌, ◌++◌, false, OnOk, IfOk, IfErr, None};
 ghost use Rattle.modprobe.specs.Lines.{bytes_left, IfTold, IsPaid, StopsForTurns, SpendsTurns, HasTrueEnd};
-ghost use Rattle.modprobe.specs.Sections.{section_of, no_parts, add_bytes, sections};
+ghost use Rattle.modprobe.specs.Sections.{section_of, no_parts, add_bytes, text_in, sections};
 ghost use Rattle.modprobe.specs.SetupInput.{SetupStops};
 ghost use Rattle.modprobe.specs.ForProofs.{is_session, parts_of, GivesSections, StopsAs, HasLine, is_setup_read};
 
 use crate::device::Source;
 use crate::fault::{SetupCode, SetupFault};
 use crate::lines::Lines;
+use crate::watch::Watch;
 use std::alloc::{AllocError, Global};
 
-/// A section of the input.
-#[derive(Clone, Copy, Drop)]
-pub(crate) enum Section {
+/// A section of the input, by the line that begins it.
+#[derive(Clone, Copy, Debug, PartialEq, Eq, Drop)]
+pub enum Section {
     Catalogue,
     Dep,
     Alias,
@@ -46,7 +47,7 @@ fn is_session(section: Section) -> bool
 
 /// The texts of the sections, each joined of all sections of its kind.
 #[derive(Drop)]
-pub(crate) struct Texts {
+pub struct Texts {
     pub(crate) catalogue: Vec<u8>,
     pub(crate) dep: Vec<u8>,
     pub(crate) alias: Vec<u8>,
@@ -54,7 +55,7 @@ pub(crate) struct Texts {
 }
 
 impl Texts {
-    fn new(alloc: Global) -> Texts
+    pub(crate) fn new(alloc: Global) -> Texts
         ensures { parts_of result ≡ no_parts }
     {
         Texts {
@@ -62,6 +63,19 @@ impl Texts {
             dep: Vec::new(alloc),
             alias: Vec::new(alloc),
             conf: Vec::new(alloc),
+        }
+    }
+
+    /// The text of a section; a session has none.
+    pub fn text(&self, section: Section) -> &[u8]
+        ensures { result.now ≡ text_in section (parts_of self.now) }
+    {
+        match section {
+            Section::Catalogue => &self.catalogue,
+            Section::Dep => &self.dep,
+            Section::Alias => &self.alias,
+            Section::Conf => &self.conf,
+            Section::Session => &[],
         }
     }
 
@@ -86,14 +100,17 @@ impl Texts {
     }
 }
 
-/// Reads the sections, up to the first `%session` line or the end.
-pub(crate) fn read_texts<R: Source>(
-    alloc: Global,
+/// Reads the sections to `texts`, up to the first `%session` line or the end, and tells the watch of each line and each
+/// section.
+pub(crate) fn read_texts<R: Source, T: Watch>(
     lines: &mut Lines<'_, R>,
-) -> Result<Texts, SetupFault>
-    requires { R.has_failed lines.old.reader.now ≡ false }
+    texts: &mut Texts,
+    watch: &mut T,
+) -> Result<(), SetupFault>
+    requires works { R.has_failed lines.old.reader.now ≡ false }
+    requires empty { parts_of texts.old ≡ no_parts }
     ensures same_reader { lines.new.reader.ghost_name ≡ lines.old.reader.ghost_name }
-    ensures sections { IfOk result (λ texts. GivesSections (bytes_left R.remaining lines.old) (bytes_left R.remaining lines.new) (parts_of texts)) }
+    ensures sections { OnOk result (GivesSections (bytes_left R.remaining lines.old) (bytes_left R.remaining lines.new) (parts_of texts.new)) }
     ensures refused { IfErr result (λ fault. IfTold (bytes_left R.remaining lines.old) (λ text. StopsAs fault.code text)) }
     ensures stops { IfErr result (λ fault. SetupStops fault.code (bytes_left R.remaining lines.old) (R.remaining lines.new.reader.now) lines.new.line.items) }
     ensures line { IfErr result (λ fault. HasLine fault) }
@@ -103,12 +120,13 @@ pub(crate) fn read_texts<R: Source>(
     ensures counted { SpendsTurns R.read_count lines.old lines.new }
     ensures end { HasTrueEnd R.remaining lines.old → HasTrueEnd R.remaining lines.new }
 {
-    let mut texts = Texts::new(alloc);
     let mut current = None;
     while lines.next_line()? {
         if let Some(section) = section_of(lines.line()) {
+            watch.line();
+            watch.section(section);
             if is_session(section) {
-                return Ok(texts);
+                return Ok(());
             }
             current = Some(section);
         } else {
@@ -118,8 +136,9 @@ pub(crate) fn read_texts<R: Source>(
                     line: Some(1),
                 });
             };
+            watch.line();
             texts.push_line(section, lines.line(), lines.ending())?;
         }
     }
-    Ok(texts)
+    Ok(())
 }

@@ -1,15 +1,16 @@
 //! A whole session: the sections of the input, and the session over an opening table.
-ghost use Rattle.std.specs.Prelude.{◌≡◌, ◌+◌, ◌≤◌, false, true, OnOk, IfErr};
+ghost use Rattle.std.specs.Prelude.{◌≡◌, ◌+◌, ◌≤◌, false, true, OnOk, IfOk, IfErr};
 ghost use Rattle.std.specs.Io.KnownBytes.{IsAtEnd};
 ghost use Rattle.modprobe.specs.Lines.{bytes_left, IfTold, GaveAtLeast, SpendsTurns, HasTrueEnd};
-ghost use Rattle.modprobe.specs.Serve.{AnswersInput, ServeStands, failed_reading, failed_writing, ran_out_of_turns};
+ghost use Rattle.modprobe.specs.Serve.{AnswersInput, CountsErrors, ServeStands, failed_reading, failed_writing, ran_out_of_turns};
 
 use crate::device::{Sink, Source};
 use crate::fault::ServeFault;
 use crate::lines::Lines;
 use crate::piece::Buffer;
-use crate::runs::run;
-use crate::setup::read_setup;
+use crate::runs::run_watched;
+use crate::setup::read_setup_watched;
+use crate::watch::Watch;
 use seq_table::Table;
 use std::alloc::Global;
 
@@ -17,17 +18,19 @@ use std::alloc::Global;
 pub const TURNS: u64 = 16_777_216;
 
 /// Reads the sections, and answers the session over a table in which every module is absent.
-fn serve_lines<R: Source, W: Sink>(
+fn serve_lines<R: Source, W: Sink, T: Watch>(
     alloc: Global,
     workers: usize,
     lines: &mut Lines<'_, R>,
     writer: &mut W,
-) -> Result<(), ServeFault>
+    watch: &mut T,
+) -> Result<u64, ServeFault>
     requires workers { workers ≤ 64 }
     requires reader_works { R.has_failed lines.old.reader.now ≡ false }
     requires writer_works { W.has_failed writer.old ≡ false }
     ensures answered { OnOk result (IfTold (bytes_left R.remaining lines.old) (λ input.
         AnswersInput workers input (W.contents writer.old) (W.contents writer.new))) }
+    ensures errors { IfOk result (λ errors. IfTold (bytes_left R.remaining lines.old) (λ input. CountsErrors workers input errors)) }
     ensures all_read { OnOk result (HasTrueEnd R.remaining lines.old → IsAtEnd (R.remaining lines.new.reader.now)) }
     ensures stands { IfErr result (λ fault. ServeStands workers fault (bytes_left R.remaining lines.old)
         (R.remaining lines.new.reader.now) (W.contents writer.old) (W.contents writer.new)) }
@@ -38,22 +41,31 @@ fn serve_lines<R: Source, W: Sink>(
     ensures counted { SpendsTurns R.read_count lines.old lines.new }
     ensures same_reader { lines.new.reader.ghost_name ≡ lines.old.reader.ghost_name }
 {
-    let setup = read_setup(alloc, lines)?;
+    let setup = read_setup_watched(alloc, lines, watch)?;
     let mut table = Table::new(alloc, setup.catalogue(), workers)?;
-    run(alloc, &setup, lines, writer, &mut table)?;
-    Ok(())
+    let errors = run_watched(alloc, &setup, lines, writer, &mut table, watch)?;
+    Ok(errors)
+}
+
+/// Tells the watch of the line that is in hand at a fault.
+fn tell_stop<T: Watch>(answer: &Result<u64, ServeFault>, line: &[u8], watch: &mut T) {
+    if answer.is_err() {
+        watch.stop(line);
+    }
 }
 
 /// Answers a whole input: reads its sections, makes a table of so many workers in which every module is absent, and
 /// answers the lines of its session. `Setup`: the input has no setup, or could not be read up to its session; nothing
 /// is written then. `Run`: the session stopped, as `run` says. `Memory`: there is none for the lines or the table, and
 /// nothing is written. It reads 16,777,216 times at most, and as often where it answers a fault of turns.
-pub fn serve<R: Source, W: Sink>(
+/// It answers how many replies were errors, 2^64 - 1 of them at most. The watch is told what `Watch` says.
+pub fn serve_watched<R: Source, W: Sink, T: Watch>(
     alloc: Global,
     workers: usize,
     reader: &mut R,
     writer: &mut W,
-) -> Result<(), ServeFault>
+    watch: &mut T,
+) -> Result<u64, ServeFault>
     requires workers { workers ≤ 64 }
     requires reader_works { R.has_failed reader.old ≡ false }
     requires writer_works { W.has_failed writer.old ≡ false }
@@ -61,6 +73,7 @@ pub fn serve<R: Source, W: Sink>(
     // At the end of the input: the answer to its session, and nothing else. The source is at its end.
     ensures answered { OnOk result (IfTold (R.remaining reader.old) (λ input.
         AnswersInput workers input (W.contents writer.old) (W.contents writer.new))) }
+    ensures errors { IfOk result (λ errors. IfTold (R.remaining reader.old) (λ input. CountsErrors workers input errors)) }
     ensures all_read { OnOk result (IsAtEnd (R.remaining reader.new)) }
 
     // What stands after each fault.
@@ -79,7 +92,8 @@ pub fn serve<R: Source, W: Sink>(
 {
     let buffer = Buffer::new(alloc)?;
     let mut lines = Lines::new(alloc, buffer, reader, TURNS);
-    let result = serve_lines(alloc, workers, &mut lines, writer);
+    let result = serve_lines(alloc, workers, &mut lines, writer, watch);
+    tell_stop(&result, lines.line(), watch);
     let reader = lines.into_reader();
     // No effect at run time. The proof reads what the reader is left as from this use.
     let _ = &*reader;

@@ -3,12 +3,14 @@ ghost use Rattle.std.specs.Prelude.{◌≡◌, ◌≤◌, false, length, IfOk, I
 ghost use Rattle.modprobe.specs.Lines.{bytes_left, IfTold, IsPaid, StopsForTurns, SpendsTurns, HasTrueEnd};
 ghost use Rattle.modprobe.specs.Setup.{name_at};
 ghost use Rattle.modprobe.specs.SetupInput.{setup_of, GivesSetup, Refuses, SetupStops};
-ghost use Rattle.modprobe.specs.ForProofs.{HasLine, is_setup_read};
+ghost use Rattle.modprobe.specs.Sections.{no_parts};
+ghost use Rattle.modprobe.specs.ForProofs.{HasLine, is_setup_read, parts_of};
 
 use crate::device::Source;
 use crate::fault::{SetupCode, SetupFault};
 use crate::lines::Lines;
-use crate::section::read_texts;
+use crate::section::{Texts, read_texts};
+use crate::watch::Watch;
 use alias_match::{Aliases, read_aliases};
 use dep_index::{Catalogue, DepIndex, read_catalogue, read_dep};
 use load_plan::Sources;
@@ -58,14 +60,14 @@ impl Setup {
     }
 
     /// What modules.alias says.
-    pub(crate) fn aliases(&self) -> &Aliases
+    pub fn aliases(&self) -> &Aliases
         ensures { result.now ≡ self.now.aliases }
     {
         &self.aliases
     }
 
     /// What modprobe.d says.
-    pub(crate) fn configuration(&self) -> &Conf
+    pub fn configuration(&self) -> &Conf
         ensures { result.now ≡ self.now.configuration }
     {
         &self.configuration
@@ -84,12 +86,57 @@ impl Setup {
     }
 }
 
+/// Reads the sections to these texts, and what they say.
+fn set_up<R: Source, T: Watch>(
+    alloc: Global,
+    lines: &mut Lines<'_, R>,
+    texts: &mut Texts,
+    watch: &mut T,
+) -> Result<Setup, SetupFault>
+    requires empty { parts_of texts.old ≡ no_parts }
+    requires works { R.has_failed lines.old.reader.now ≡ false }
+    ensures setup { IfOk result (λ s.
+        GivesSetup (bytes_left R.remaining lines.old) (bytes_left R.remaining lines.new) s) }
+    ensures refused { IfErr result (λ fault.
+        IfTold (bytes_left R.remaining lines.old) (λ input. Refuses fault (setup_of input))) }
+    ensures stops { IfErr result (λ fault. SetupStops fault.code (bytes_left R.remaining lines.old)
+        (R.remaining lines.new.reader.now) lines.new.line.items) }
+    ensures read { R.has_failed lines.new.reader.now ≡ is_setup_read result }
+    ensures turns { IfErr result (λ fault.
+        fault.code ≡ SetupCode.Turns → StopsForTurns R.remaining lines.old lines.new) }
+    ensures paid { OnOk result (IsPaid R.remaining lines.old lines.new) }
+    ensures counted { SpendsTurns R.read_count lines.old lines.new }
+    ensures end { HasTrueEnd R.remaining lines.old → HasTrueEnd R.remaining lines.new }
+    ensures same_reader { lines.new.reader.ghost_name ≡ lines.old.reader.ghost_name }
+{
+    read_texts(lines, texts, watch)?;
+    Ok(Setup {
+        catalogue: read_catalogue(alloc, &texts.catalogue)?,
+        dependencies: read_dep(alloc, &texts.dep)?,
+        aliases: read_aliases(alloc, &texts.alias)?,
+        configuration: read_conf(alloc, &texts.conf)?,
+    })
+}
+
+/// Gives the texts of the sections to the watch, and shows it the setup.
+fn tell_setup<T: Watch>(setup: &Result<Setup, SetupFault>, texts: Texts, watch: &mut T) {
+    watch.texts(texts);
+    if let Ok(setup) = setup {
+        watch.setup(setup);
+    }
+}
+
 /// Reads the sections of an input, up to the first `%session` line or the end, and what they say: `lines` then gives the
 /// lines of the session. B1: a line stands before the first section line, which is told as it is read. C1 to C4: the
 /// first fault of the catalogue, at its line of the joined text. M1 to M3: the catalogue has none, and this is the first of
 /// modules.dep. LongLine: a line of more than 65,535 bytes. Read: the source failed. Turns: it was read as often as
 /// `lines` may. Memory: there is none. Each read of the source takes one turn of `lines`.
-pub fn read_setup<R: Source>(alloc: Global, lines: &mut Lines<'_, R>) -> Result<Setup, SetupFault>
+/// The watch is told of each line and each section, and then of the texts and the setup.
+pub fn read_setup_watched<R: Source, T: Watch>(
+    alloc: Global,
+    lines: &mut Lines<'_, R>,
+    watch: &mut T,
+) -> Result<Setup, SetupFault>
     requires { R.has_failed lines.old.reader.now ≡ false }
     ensures setup { IfOk result (λ s.
         GivesSetup (bytes_left R.remaining lines.old) (bytes_left R.remaining lines.new) s) }
@@ -105,11 +152,8 @@ pub fn read_setup<R: Source>(alloc: Global, lines: &mut Lines<'_, R>) -> Result<
     ensures end { HasTrueEnd R.remaining lines.old → HasTrueEnd R.remaining lines.new }
     ensures same_reader { lines.new.reader.ghost_name ≡ lines.old.reader.ghost_name }
 {
-    let texts = read_texts(alloc, lines)?;
-    Ok(Setup {
-        catalogue: read_catalogue(alloc, &texts.catalogue)?,
-        dependencies: read_dep(alloc, &texts.dep)?,
-        aliases: read_aliases(alloc, &texts.alias)?,
-        configuration: read_conf(alloc, &texts.conf)?,
-    })
+    let mut texts = Texts::new(alloc);
+    let setup = set_up(alloc, lines, &mut texts, watch);
+    tell_setup(&setup, texts, watch);
+    setup
 }

@@ -7,8 +7,8 @@ use Rattle.modprobe.proofs.SetupLemmas.{SectionsGoOn}
 use Rattle.modprobe.proofs.section.read_texts.Given as goal
 
 -- what is left goes on as the input does, and the lines before it are done
-abbrev pub invariant-loop-texts : goal.invariant-loop-texts
-invariant-loop-texts g l = record {
+abbrev pub invariant-loop-lines : goal.invariant-loop-lines
+invariant-loop-lines g l = record {
   works : g.R.Source.has_failed l.lines.reader.now ≡ false;
   same_reader : l.lines.reader.ghost_name ≡ l.fn.lines.reader.ghost_name;
   paid : IsPaid g.R.Source.remaining l.fn.lines l.lines;
@@ -19,5 +19,5 @@ invariant-loop-texts g l = record {
       × (steps_of None no_parts done ≡ go l.current (parts_of l.texts)) × (l.lines.at_end ≡ false → AllEnded done);
 }
 
-abbrev pub decreases-loop-texts : goal.decreases-loop-texts
-decreases-loop-texts g l = steps_left l.lines
+abbrev pub decreases-loop-lines : goal.decreases-loop-lines
+decreases-loop-lines g l = steps_left l.lines

@@ -5,7 +5,7 @@ use Rattle.modprobe.specs.ForProofs.{parts_of}
 use Rattle.modprobe.proofs.MemoryLemmas.{memory_refuses}
 use Rattle.modprobe.proofs.NameLemmas.{short_names}
 use Rattle.modprobe.proofs.SetupLemmas.{gives_setup}
-use Rattle.modprobe.proofs.setup.read_setup.Goals as goal
+use Rattle.modprobe.proofs.setup.set_up.Goals as goal
 
 pub returns-clause-setup : goal.returns-clause-setup
 returns-clause-setup g c =
@@ -16,7 +16,7 @@ returns-clause-setup g c =
       aliases = c.in_ok-read_aliases.field-0;
       configuration = c.in_ok-read_conf.field-0;
     } in
-    gives_setup (left c.args.lines.now) (left c.read_texts.new.lines) (parts_of c.in_ok-texts.texts) s c.in_ok-texts.ensures.sections
+    gives_setup (left c.args.lines.now) (left c.read_texts.new.lines) (parts_of c.read_texts.new.texts) s c.in_ok-read_texts.ensures.sections
     (rw c.deref.ensures.value at c.in_ok-read_catalogue.ensures)
     (rw c.deref-2.ensures.value at c.in_ok-read_dep.ensures)
     (rw c.deref-3.ensures.value at c.in_ok-read_aliases.ensures)
@@ -38,7 +38,7 @@ returns-in_err-read_conf-clause-stops g c =
 pub returns-in_err-read_conf-clause-read : goal.returns-in_err-read_conf-clause-read
 returns-in_err-read_conf-clause-read g c =
     let p = err_from_is_err_and c.from_residual-in_err-read_conf.result c.from_residual-in_err-read_conf.ensures.1 in
-    rw (p.1, p.2) c.in_ok-texts.ensures.read
+    rw (p.1, p.2) c.in_ok-read_texts.ensures.read
 
 pub returns-in_err-read_conf-clause-turns : goal.returns-in_err-read_conf-clause-turns
 returns-in_err-read_conf-clause-turns g c =
