@@ -1,22 +1,23 @@
 -- What stands before standard input.
 use Rattle.std.specs.Prelude.{ℕ, List, ◌++◌, if◌then◌else◌, codes, Option, Some, None}
 use Rattle.std.specs.Str.{bytes_eq}
-use Rattle.modsh_drive.specs.declared.words.Section.{Section}
-use Rattle.modsh_drive.specs.declared.words.Section.TheVariants.{Catalogue, Dependencies, Aliases, Configuration}
+use Rattle.modprobe.specs.declared.section.Section.{Section}
+use Rattle.modprobe.specs.declared.section.Section.TheVariants.{Catalogue, Dep, Alias, Conf, Session}
 
 -- the section that a word names before its `=`
 abbrev pub section_named : List ℕ → Option Section
 section_named name =
     if bytes_eq name (codes "catalogue") then Some Catalogue
-    else (if bytes_eq name (codes "dep") then Some Dependencies
-    else (if bytes_eq name (codes "alias") then Some Aliases
-    else (if bytes_eq name (codes "conf") then Some Configuration else None)))
+    else (if bytes_eq name (codes "dep") then Some Dep
+    else (if bytes_eq name (codes "alias") then Some Alias
+    else (if bytes_eq name (codes "conf") then Some Conf else None)))
 
 abbrev pub section_line : Section → List ℕ
 section_line Catalogue = codes "%catalogue\n"
-section_line Dependencies = codes "%dep\n"
-section_line Aliases = codes "%alias\n"
-section_line Configuration = codes "%conf\n"
+section_line Dep = codes "%dep\n"
+section_line Alias = codes "%alias\n"
+section_line Conf = codes "%conf\n"
+section_line Session = codes "%session\n"
 
 -- a section of a file's bytes: its line, the bytes as they are, and a line feed
 abbrev pub section_text : Section → List ℕ → List ℕ

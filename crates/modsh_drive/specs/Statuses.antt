@@ -1,5 +1,5 @@
 -- How the program ends.
-use Rattle.std.specs.Prelude.{◌≡◌, ◌≢◌, ℕ, Bool, List, Option, if◌then◌else◌, Result, Ok, Err}
+use Rattle.std.specs.Prelude.{◌≡◌, ◌≢◌, ℕ, nat_lt, Bool, not, ◌&&◌, ◌||◌, List, Option, if◌then◌else◌, Result, Ok, Err}
 use Rattle.modprobe.specs.declared.fault.ServeFault.{ServeFault}
 use Rattle.modprobe.specs.declared.fault.ServeFault.TheVariants as serve_fault
 use Rattle.modprobe.specs.declared.fault.SetupCode.{SetupCode}
@@ -30,10 +30,10 @@ status_of (serve_fault.Setup fault) = setup_status fault.code
 status_of (serve_fault.Run fault) = Fault
 status_of serve_fault.Memory = Fault
 
--- the status after a session, of which a reply may have been an error that is to count
-abbrev pub status_after : Result (Unit {0}) ServeFault → Bool → Status
-status_after (Ok _) has_error = if has_error then ErrorReply else Done
-status_after (Err fault) has_error = status_of fault
+-- the status after a session with so many error replies: these count where that is asked for, and so does an input without a session
+abbrev pub status_after : Result ℕ ServeFault → Bool → Bool → Status
+status_after (Ok errors) fail has_session = if fail && (nat_lt 0 errors || not has_session) then ErrorReply else Done
+status_after (Err fault) fail has_session = status_of fault
 
 -- how a program without arguments ends: where all is done, what was written grew by the answer of one worker's session; and no
 -- error counts

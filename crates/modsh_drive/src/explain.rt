@@ -1,11 +1,14 @@
-//! What people are told of a fault, in lines that begin with two spaces.
+//! What explains a message to people, in lines that begin with two spaces.
 
-use crate::hints::{hint_of, path_hint, word_hint};
-use crate::places::{PlacedLine, place_of};
-use crate::words::Section;
-use modprobe::{LONGEST_LINE, RunFault, ServeFault, SetupCode, SetupFault};
+use crate::hints::{Faulty, hint_of, path_hint, word_hint};
+use crate::notes::note_idle;
+use crate::places::Place;
+use crate::witness::Witness;
+use modprobe::{RunFault, Section, ServeFault, SetupCode, SetupFault, Texts};
 use program_frame::{Shown, tell_hint, tell_sentence};
+use std::alloc::Global;
 use std::io::Write;
+use text_parts::whole_lines;
 
 const READ: &str = "Standard input could not be read.";
 
@@ -16,6 +19,8 @@ const MEMORY: &str = "There was no memory.";
 const TURNS: &str = "A session has read its input 16,777,216 times.";
 
 const LONG_LINE: &str = "A line of the input has more than 65,535 bytes.";
+
+const NO_SESSION: &str = "The input has no line %session, and so no command.";
 
 fn setup_sentence(code: SetupCode) -> &'static str {
     match code {
@@ -44,42 +49,95 @@ fn run_sentence(fault: RunFault) -> &'static str {
     }
 }
 
-/// The section in whose lines a code counts; none are those before all sections.
+/// The section in whose text the line of a code is counted.
 fn section_of(code: SetupCode) -> Option<Section> {
     match code {
         SetupCode::C1 | SetupCode::C2 | SetupCode::C3 | SetupCode::C4 => Some(Section::Catalogue),
-        SetupCode::M1 | SetupCode::M2 | SetupCode::M3 => Some(Section::Dependencies),
+        SetupCode::M1 | SetupCode::M2 | SetupCode::M3 => Some(Section::Dep),
         _ => None,
     }
 }
 
-/// The place among the lines of that of a fault.
-fn place_of_fault(fault: &SetupFault, lines: &[PlacedLine<'_>]) -> Option<usize> {
-    if matches!(fault.code, SetupCode::LongLine) {
-        return lines.iter().position(|line| line.text.len() > LONGEST_LINE);
+/// Tells where a line stands, and its bytes.
+fn tell_line<E: Write>(place: Place<'_>, line: &[u8], errors: &mut E) {
+    let text = Shown(line);
+    let _ = writeln!(errors, "  {place}: {text}");
+}
+
+/// Explains a fault in a line of a section's text, by its number.
+fn explain_text<E: Write>(
+    code: SetupCode,
+    section: Section,
+    number: u64,
+    texts: &Texts,
+    witness: &Witness<'_>,
+    errors: &mut E,
+) {
+    let text = texts.text(section);
+    let before = number.saturating_sub(1) as usize;
+    let line = whole_lines(text).nth(before).unwrap_or(b"");
+    tell_line(witness.places.in_section(section, number), line, errors);
+    tell_sentence(setup_sentence(code), errors);
+    let faulty = Faulty { text, before, line };
+    tell_hint(hint_of(code, &faulty), errors);
+}
+
+/// Explains a fault of the sections.
+fn explain_setup<E: Write>(fault: &SetupFault, witness: &Witness<'_>, errors: &mut E) {
+    let section = section_of(fault.code);
+    if let (Some(section), Some(number), Some(texts)) = (section, fault.line, &witness.texts) {
+        return explain_text(fault.code, section, number, texts, witness, errors);
     }
-    place_of(lines, section_of(fault.code), fault.line? as usize)
-}
-
-/// Tells where the line of a fault stands, its bytes, what is wrong, and what may have been meant.
-fn explain_setup<E: Write>(fault: &SetupFault, lines: &[PlacedLine<'_>], errors: &mut E) {
-    let place = place_of_fault(fault, lines).unwrap_or(lines.len());
-    let Some(line) = lines.get(place) else {
-        return tell_sentence(setup_sentence(fault.code), errors);
-    };
-    let before = lines.get(..place).unwrap_or(&[]);
-    let text = Shown(line.text);
-    let _ = writeln!(errors, "  {line}: {text}");
+    if matches!(fault.code, SetupCode::B1 | SetupCode::LongLine) {
+        tell_in_hand(witness, errors);
+    }
     tell_sentence(setup_sentence(fault.code), errors);
-    tell_hint(hint_of(fault.code, before, line.text), errors);
+    let faulty = Faulty {
+        text: b"",
+        before: 0,
+        line: witness.in_hand.as_slice(),
+    };
+    tell_hint(hint_of(fault.code, &faulty), errors);
 }
 
-/// Explains a fault of an input whose lines before the session are these.
-pub(crate) fn explain<E: Write>(fault: &ServeFault, lines: &[PlacedLine<'_>], errors: &mut E) {
+/// Tells the line behind those that were read, which was in hand.
+fn tell_in_hand<E: Write>(witness: &Witness<'_>, errors: &mut E) {
+    let place = witness.places.of_line(witness.lines.saturating_add(1));
+    tell_line(place, witness.in_hand.as_slice(), errors);
+}
+
+fn explain_fault<E: Write>(fault: &ServeFault, witness: &Witness<'_>, errors: &mut E) {
     match fault {
-        ServeFault::Setup(fault) => explain_setup(fault, lines, errors),
-        ServeFault::Run(fault) => tell_sentence(run_sentence(*fault), errors),
+        ServeFault::Setup(fault) => explain_setup(fault, witness, errors),
+        ServeFault::Run(fault) => {
+            if matches!(fault, RunFault::LongLine) {
+                tell_in_hand(witness, errors);
+            }
+            tell_sentence(run_sentence(*fault), errors);
+        }
         ServeFault::Memory => tell_sentence(MEMORY, errors),
+    }
+}
+
+/// Tells all that is told after a session: its fault, and lines without effect.
+pub(crate) fn explain<E: Write>(
+    alloc: Global,
+    answer: &Result<u64, ServeFault>,
+    witness: &Witness<'_>,
+    errors: &mut E,
+) {
+    match answer {
+        Err(fault) => explain_fault(fault, witness, errors),
+        Ok(_) if !witness.has_session => tell_sentence(NO_SESSION, errors),
+        Ok(_) => {}
+    }
+    let noted = match &witness.texts {
+        Some(texts) => note_idle(alloc, texts, &witness.places, errors),
+        None => Ok(()),
+    };
+    let _ = errors.write_all(witness.notes.as_slice());
+    if noted.is_err() || witness.is_short {
+        let _ = writeln!(errors, "modsh: note: there was no memory to explain more");
     }
 }
 

@@ -3,7 +3,7 @@ ghost use Rattle.std.specs.Prelude.{◌≡◌, ◌++◌, [], OnOk};
 ghost use Rattle.modprobe.specs.Lines.{IfTold};
 ghost use Rattle.modsh_drive.specs.Inputs.{section_text};
 
-use crate::words::{Section, add_section};
+use crate::words::{NamedFile, add_section};
 use std::alloc::Global;
 use std::io;
 use std::io::Read;
@@ -33,18 +33,16 @@ impl<'a> JoinedFiles<'a> {
     }
 
     /// Adds what a file has left to read as a section.
-    pub(crate) fn add<F: Read>(
-        &mut self,
-        section: Section,
-        path: &'a str,
-        file: &mut F,
-    ) -> io::Result<()>
+    pub(crate) fn add<F: Read>(&mut self, named: NamedFile<'a>, file: &mut F) -> io::Result<()>
         ensures { OnOk result (IfTold (F.remaining file.old) (λ bytes.
-            self.new.text.items ≡ self.old.text.items ++ section_text section bytes)) }
+            self.new.text.items ≡ self.old.text.items ++ section_text named.entry.section bytes)) }
     {
-        add_section(&mut self.text, section, file)?;
+        add_section(&mut self.text, named.section, file)?;
         let end = self.text.len();
-        self.files.push(File { path, end })?;
+        self.files.push(File {
+            path: named.path,
+            end,
+        })?;
         Ok(())
     }
 

@@ -1,10 +1,16 @@
 //! What people may have meant by a line that is refused.
 
-use crate::places::PlacedLine;
-use crate::words::Section;
 use modprobe::SetupCode;
 use program_frame::first_word;
-use text_parts::{is_comment, is_same};
+use text_parts::{is_comment, is_same, whole_lines};
+
+/// A line that is refused, and so many lines of its section's text before it.
+#[derive(Clone, Copy, Drop)]
+pub(crate) struct Faulty<'a> {
+    pub(crate) text: &'a [u8],
+    pub(crate) before: usize,
+    pub(crate) line: &'a [u8],
+}
 
 /// The first words of commands.
 const COMMANDS: [&[u8]; 11] = [
@@ -103,43 +109,40 @@ fn section_hint(line: &[u8]) -> Option<&'static str> {
     word_in_section_hint(first_word(line))
 }
 
-/// Whether a line is a module line of the catalogue.
-fn is_module(line: &PlacedLine<'_>) -> bool {
-    line.is_in(Some(Section::Catalogue)) && is_same(first_word(line.text), b"module")
+/// Whether there is a module line before this line of a catalogue.
+fn is_behind_module(faulty: &Faulty<'_>) -> bool {
+    let mut before = whole_lines(faulty.text).take(faulty.before);
+    before.any(|line| is_same(first_word(line), b"module"))
 }
 
-/// What is likely wrong with a line of no form in a catalogue, after these lines.
-fn catalogue_hint(before: &[PlacedLine<'_>], line: &[u8]) -> Option<&'static str> {
-    let word = first_word(line);
+/// What is likely wrong with a line of no form in a catalogue.
+fn catalogue_hint(faulty: &Faulty<'_>) -> Option<&'static str> {
+    let word = first_word(faulty.line);
     if word.is_empty() {
         return None;
     }
     let Some(form) = form_hint(word) else {
-        return section_hint(line).or(Some(
+        return section_hint(faulty.line).or(Some(
             "a line of a catalogue begins with module, size, exports, needs, param or permanent",
         ));
     };
     let is_placed = is_same(word, b"module") || is_same(word, b"version");
-    if is_placed || before.iter().any(|line| is_module(line)) {
+    if is_placed || is_behind_module(faulty) {
         Some(form)
     } else {
         Some("a module line comes first")
     }
 }
 
-/// What is likely wrong with a line that is refused with this code, after these lines.
-pub(crate) fn hint_of(
-    code: SetupCode,
-    before: &[PlacedLine<'_>],
-    line: &[u8],
-) -> Option<&'static str> {
+/// What is likely wrong with a line that is refused with this code.
+pub(crate) fn hint_of(code: SetupCode, faulty: &Faulty<'_>) -> Option<&'static str> {
     match code {
-        SetupCode::C1 => catalogue_hint(before, line),
+        SetupCode::C1 => catalogue_hint(faulty),
         SetupCode::C2 => Some("- and _ are the same in names"),
         SetupCode::C4 => Some("a catalogue that begins with version 3 holds 65,535 modules"),
-        SetupCode::M1 => section_hint(line),
+        SetupCode::M1 => section_hint(faulty.line),
         SetupCode::B1 => {
-            let likely = section_hint(line);
+            let likely = section_hint(faulty.line);
             likely.or(Some("begin the input with a section line, such as %catalogue"))
         }
         _ => None,

@@ -5,12 +5,13 @@ mod asked;
 mod explain;
 mod files;
 mod hints;
-mod kept;
+mod messages;
 mod notes;
 mod output;
 mod places;
 mod program;
 mod status;
+mod witness;
 mod words;
 
 pub use output::Output;

@@ -1,15 +1,15 @@
 //! What people are told of lines and words that have no effect.
 ghost use Rattle.std.specs.Prelude.{◌<◌, length};
 
-use crate::places::{PlacedLine, place_of, text_of};
-use crate::words::Section;
+use crate::places::Places;
 use alias_match::{IdleLine, NoEffect, idle_aliases};
-use dep_index::{CatError, Catalogue, Param, read_catalogue};
-use modprobe_conf::{Conf, idle_settings, read_conf};
+use dep_index::Param;
+use modprobe::{Section, Setup, Texts};
+use modprobe_conf::idle_settings;
 use program_frame::Shown;
 use std::alloc::{AllocError, Global};
 use std::io::Write;
-use text_parts::Name;
+use text_parts::{Name, whole_lines};
 
 fn reason(why: NoEffect) -> &'static str {
     match why {
@@ -19,20 +19,25 @@ fn reason(why: NoEffect) -> &'static str {
     }
 }
 
-/// Tells each line of a section that has no effect.
+/// Tells each line of a section's text that has no effect.
 fn note_lines<E: Write>(
-    lines: &[PlacedLine<'_>],
     section: Section,
+    text: &[u8],
     idle: &[IdleLine],
+    places: &Places<'_>,
     errors: &mut E,
 ) {
+    let mut lines = whole_lines(text);
+    let mut next = 1;
     for own in idle {
-        let place = place_of(lines, Some(section), own.number).unwrap_or(lines.len());
-        if let Some(line) = lines.get(place) {
-            let why = reason(own.why);
-            let text = Shown(line.text);
-            let _ = writeln!(errors, "modsh: note: {line}: no effect, {why}: {text}");
-        }
+        let Some(line) = lines.nth(own.number.saturating_sub(next)) else {
+            return;
+        };
+        next = own.number.saturating_add(1);
+        let place = places.in_section(section, own.number as u64);
+        let why = reason(own.why);
+        let text = Shown(line);
+        let _ = writeln!(errors, "modsh: note: {place}: no effect, {why}: {text}");
     }
 }
 
@@ -51,18 +56,17 @@ fn defines(alloc: Global, params: &[Param], word: &[u8]) -> Result<bool, AllocEr
 }
 
 /// Tells the words of options lines of the module in a slot whose parameters it does not define.
-fn note_words<E: Write>(
+fn note_words_of<E: Write>(
     alloc: Global,
-    catalogue: &Catalogue,
-    configuration: &Conf,
+    setup: &Setup,
     slot: usize,
     errors: &mut E,
 ) -> Result<(), AllocError>
-    requires { slot < length catalogue.now }
+    requires { slot < length setup.now.catalogue }
 {
-    let name = catalogue.name(slot);
-    for word in configuration.options(name) {
-        if !defines(alloc, catalogue.params(slot), word.as_bytes())? {
+    let name = setup.catalogue().name(slot);
+    for word in setup.configuration().options(name) {
+        if !defines(alloc, setup.catalogue().params(slot), word.as_bytes())? {
             let (name, word) = (Shown(name), Shown(word.as_bytes()));
             let _ = writeln!(
                 errors,
@@ -73,55 +77,29 @@ fn note_words<E: Write>(
     Ok(())
 }
 
-/// Tells all lines of aliases and of the configuration that have no effect.
-fn note_all_lines<E: Write>(
+/// Tells the words of options lines that no module takes.
+pub(crate) fn note_words<E: Write>(
     alloc: Global,
-    lines: &[PlacedLine<'_>],
+    setup: &Setup,
     errors: &mut E,
 ) -> Result<(), AllocError> {
-    let aliases = text_of(alloc, lines, Section::Aliases)?;
-    let settings = text_of(alloc, lines, Section::Configuration)?;
-    note_lines(
-        lines,
-        Section::Aliases,
-        &idle_aliases(alloc, &aliases)?,
-        errors,
-    );
-    note_lines(
-        lines,
-        Section::Configuration,
-        &idle_settings(alloc, &settings)?,
-        errors,
-    );
-    Ok(())
-}
-
-/// Tells all words of options lines that no module takes. Of a catalogue that is refused nothing is told.
-fn note_all_words<E: Write>(
-    alloc: Global,
-    lines: &[PlacedLine<'_>],
-    errors: &mut E,
-) -> Result<(), AllocError> {
-    let descriptions = text_of(alloc, lines, Section::Catalogue)?;
-    let catalogue = match read_catalogue(alloc, &descriptions) {
-        Ok(catalogue) => catalogue,
-        Err(CatError::Memory) => return Err(AllocError),
-        Err(_) => return Ok(()),
-    };
-    let settings = text_of(alloc, lines, Section::Configuration)?;
-    let configuration = read_conf(alloc, &settings)?;
-    for slot in 0..catalogue.len() {
-        note_words(alloc, &catalogue, &configuration, slot, errors)?;
+    for slot in 0..setup.catalogue().len() {
+        note_words_of(alloc, setup, slot, errors)?;
     }
     Ok(())
 }
 
-/// Tells the lines before the session that have no effect, by file and line, and the words that no module takes.
+/// Tells the lines of aliases and of the configuration that have no effect, by file and line.
 pub(crate) fn note_idle<E: Write>(
     alloc: Global,
-    lines: &[PlacedLine<'_>],
+    texts: &Texts,
+    places: &Places<'_>,
     errors: &mut E,
 ) -> Result<(), AllocError> {
-    note_all_lines(alloc, lines, errors)?;
-    note_all_words(alloc, lines, errors)
+    let (aliases, settings) = (texts.text(Section::Alias), texts.text(Section::Conf));
+    let idle = idle_aliases(alloc, aliases)?;
+    note_lines(Section::Alias, aliases, &idle, places, errors);
+    let idle = idle_settings(alloc, settings)?;
+    note_lines(Section::Conf, settings, &idle, places, errors);
+    Ok(())
 }

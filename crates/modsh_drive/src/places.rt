@@ -1,32 +1,19 @@
-//! The lines of an input before its session, and where each of them stands.
+//! Where the lines of an input stand, by file and number.
 
 use crate::files::JoinedFiles;
-use crate::words::{Section, section_named};
+use modprobe::Section;
 use program_frame::Shown;
 use std::alloc::{AllocError, Global};
 use std::fmt;
-use text_parts::{is_same, whole_lines};
 
-/// A line of a section, or one before the first section line.
+/// Where a line stands: its file, or none for standard input, and its number there, from 1.
 #[derive(Clone, Copy, Drop)]
-pub(crate) struct PlacedLine<'a> {
-    /// The file that it stands in; none is standard input.
+pub(crate) struct Place<'a> {
     path: Option<&'a str>,
-    /// Its number there, from 1.
-    number: usize,
-    section: Option<Section>,
-    /// Its bytes without the end.
-    pub(crate) text: &'a [u8],
+    number: u64,
 }
 
-impl PlacedLine<'_> {
-    /// Whether it is a line of this section, or with none, one before all sections.
-    pub(crate) fn is_in(&self, section: Option<Section>) -> bool {
-        self.section == section
-    }
-}
-
-impl fmt::Display for PlacedLine<'_> {
+impl fmt::Display for Place<'_> {
     fn fmt<W: fmt::Write>(&self, f: &mut fmt::Formatter<W>) -> fmt::Result {
         let path = Shown(self.path.unwrap_or("standard input").as_bytes());
         let number = self.number;
@@ -34,101 +21,96 @@ impl fmt::Display for PlacedLine<'_> {
     }
 }
 
-/// The section that a line begins.
-fn section_begun(line: &[u8]) -> Option<Section> {
-    match line {
-        [b'%', name @ ..] => section_named(name),
-        _ => None,
-    }
+/// A file, and how many lines its section has, with its section line.
+#[derive(Clone, Copy, Drop)]
+struct FileLines<'a> {
+    path: &'a str,
+    count: u64,
 }
 
-/// Lines as they are placed one by one.
+/// A section, and the number of its section line among the lines of the input.
+#[derive(Clone, Copy, Drop)]
+struct Begun {
+    section: Section,
+    number: u64,
+}
+
+/// The files of an input, and where its sections begin.
 #[derive(Drop)]
-struct Placing<'a> {
-    lines: Vec<PlacedLine<'a>>,
-    section: Option<Section>,
-    has_session: bool,
+pub(crate) struct Places<'a> {
+    files: Vec<FileLines<'a>>,
+    sections: Vec<Begun>,
 }
 
-impl<'a> Placing<'a> {
-    /// Adds the lines of a text before a session, of which the first has this number.
-    fn add_all(
-        &mut self,
-        path: Option<&'a str>,
-        first: usize,
-        text: &'a [u8],
-    ) -> Result<(), AllocError> {
-        for (i, text) in whole_lines(text).enumerate() {
-            self.has_session |= is_same(text, b"%session");
-            if self.has_session {
-                return Ok(());
-            }
-            match section_begun(text) {
-                Some(section) => self.section = Some(section),
-                None => self.lines.push(PlacedLine {
-                    path,
-                    number: first.saturating_add(i),
-                    section: self.section,
-                    text,
-                })?,
+fn count_feeds(text: &[u8]) -> u64 {
+    text.iter().filter(|byte| **byte == b'\n').count() as u64
+}
+
+impl<'a> Places<'a> {
+    /// Those of an input that nothing is known of.
+    pub(crate) fn new(alloc: Global) -> Places<'a> {
+        Places {
+            files: Vec::new(alloc),
+            sections: Vec::new(alloc),
+        }
+    }
+
+    /// Adds the files, which stand first.
+    pub(crate) fn add_files(&mut self, files: &JoinedFiles<'a>) -> Result<(), AllocError> {
+        for i in 0..files.len() {
+            if let Some((path, text)) = files.file(i) {
+                let count = count_feeds(text);
+                self.files.push(FileLines { path, count })?;
             }
         }
         Ok(())
     }
-}
 
-/// The lines before the session of the input that the files and these bytes of standard input are, in order, without
-/// section lines.
-pub(crate) fn placed_lines<'a>(
-    alloc: Global,
-    files: &'a JoinedFiles<'a>,
-    kept: &'a [u8],
-) -> Result<Vec<PlacedLine<'a>>, AllocError> {
-    let mut placing = Placing {
-        lines: Vec::new(alloc),
-        section: None,
-        has_session: false,
-    };
-    for i in 0..files.len() {
-        // The section line of a file is its line 0.
-        if let Some((path, text)) = files.file(i) {
-            placing.add_all(Some(path), 0, text)?;
-        }
+    /// Adds a section whose section line has this number.
+    pub(crate) fn begin(&mut self, section: Section, number: u64) -> Result<(), AllocError> {
+        self.sections.push(Begun { section, number })?;
+        Ok(())
     }
-    placing.add_all(None, 1, kept)?;
-    Ok(placing.lines)
-}
 
-/// The place among the lines of that of this number, from 1, of a section.
-pub(crate) fn place_of(
-    lines: &[PlacedLine<'_>],
-    section: Option<Section>,
-    number: usize,
-) -> Option<usize> {
-    let mut left = number;
-    for (i, line) in lines.iter().enumerate() {
-        if line.is_in(section) {
-            if left <= 1 {
-                return Some(i);
+    /// Where the line of this number stands. The section line of a file is its line 0.
+    pub(crate) fn of_line(&self, number: u64) -> Place<'a> {
+        let mut left = number;
+        for file in &self.files {
+            if left <= file.count {
+                return Place {
+                    path: Some(file.path),
+                    number: left.saturating_sub(1),
+                };
             }
-            left -= 1;
+            left = left.saturating_sub(file.count);
+        }
+        Place {
+            path: None,
+            number: left,
         }
     }
-    None
+
+    /// Where the line of this number, from 1, of a section's joined text stands.
+    pub(crate) fn in_section(&self, section: Section, number: u64) -> Place<'a> {
+        let mut left = number;
+        for (i, begun) in self.sections.iter().enumerate() {
+            let next = self.sections.get(i.saturating_add(1));
+            let count = lines_between(begun, next);
+            if begun.section == section {
+                if left <= count {
+                    return self.of_line(begun.number.saturating_add(left));
+                }
+                left = left.saturating_sub(count);
+            }
+        }
+        self.of_line(number)
+    }
 }
 
-/// The text of a section, as the lines say it. Each gets both bytes of a line's end, so that its own last byte stays.
-pub(crate) fn text_of(
-    alloc: Global,
-    lines: &[PlacedLine<'_>],
-    section: Section,
-) -> Result<Vec<u8>, AllocError> {
-    let mut text = Vec::new(alloc);
-    for line in lines {
-        if line.is_in(Some(section)) {
-            text.extend_from_slice(line.text)?;
-            text.extend_from_slice(b"\r\n")?;
-        }
+/// How many lines a section has before the next one; the last has as many as there are.
+fn lines_between(begun: &Begun, next: Option<&Begun>) -> u64 {
+    match next {
+        Some(next) => next.number.saturating_sub(begun.number).saturating_sub(1),
+        None => u64::MAX,
     }
-    Ok(text)
 }

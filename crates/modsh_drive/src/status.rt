@@ -21,13 +21,18 @@ fn status_of(fault: &ServeFault) -> Status
     }
 }
 
-/// The status after a session, of which a reply may have been an error that is to count.
-pub(crate) fn status_after(answer: &Result<(), ServeFault>, has_error: bool) -> Status
-    ensures { result ≡ status_after answer.now has_error }
+/// The status after a session with so many error replies, which count as an error where that is asked for. So does an
+/// input without a session.
+pub(crate) fn status_after(
+    answer: &Result<u64, ServeFault>,
+    fail: bool,
+    has_session: bool,
+) -> Status
+    ensures { result ≡ status_after answer.now fail has_session }
 {
     match answer {
-        Ok(()) if has_error => Status::ErrorReply,
-        Ok(()) => Status::Done,
+        Ok(errors) if fail && (*errors > 0 || !has_session) => Status::ErrorReply,
+        Ok(_) => Status::Done,
         Err(fault) => status_of(fault),
     }
 }

@@ -3,17 +3,9 @@ ghost use Rattle.std.specs.Prelude.{◌≡◌, ◌++◌, OnOk};
 ghost use Rattle.modprobe.specs.Lines.{IfTold};
 ghost use Rattle.modsh_drive.specs.Inputs.{section_named, section_line, section_text};
 
+use modprobe::Section;
 use std::io;
 use std::io::Read;
-
-/// A section that a file may be.
-#[derive(Clone, Copy, Debug, PartialEq, Eq, Drop)]
-pub(crate) enum Section {
-    Catalogue,
-    Dependencies,
-    Aliases,
-    Configuration,
-}
 
 /// The section that a word names before its `=`.
 pub(crate) fn section_named(name: &[u8]) -> Option<Section>
@@ -22,22 +14,31 @@ pub(crate) fn section_named(name: &[u8]) -> Option<Section>
     if name == b"catalogue".as_slice() {
         Some(Section::Catalogue)
     } else if name == b"dep".as_slice() {
-        Some(Section::Dependencies)
+        Some(Section::Dep)
     } else if name == b"alias".as_slice() {
-        Some(Section::Aliases)
+        Some(Section::Alias)
     } else if name == b"conf".as_slice() {
-        Some(Section::Configuration)
+        Some(Section::Conf)
     } else {
         None
     }
 }
 
-/// The section and the path of a word of the form `NAME=PATH`.
-pub(crate) fn section_and_path(word: &str) -> Option<(Section, &str)> {
-    let (name, path) = word.split_once('=')?;
-    match section_named(name.as_bytes()) {
-        Some(section) => Some((section, path)),
-        None => None,
+/// A file that a word names, and the section that it is.
+#[derive(Clone, Copy, Drop)]
+pub(crate) struct NamedFile<'a> {
+    pub(crate) section: Section,
+    pub(crate) path: &'a str,
+}
+
+impl<'a> NamedFile<'a> {
+    /// The file of a word of the form `NAME=PATH`.
+    pub(crate) fn of(word: &'a str) -> Option<NamedFile<'a>> {
+        let (name, path) = word.split_once('=')?;
+        match section_named(name.as_bytes()) {
+            Some(section) => Some(NamedFile { section, path }),
+            None => None,
+        }
     }
 }
 
@@ -46,9 +47,10 @@ fn section_line(section: Section) -> &'static [u8]
 {
     match section {
         Section::Catalogue => b"%catalogue\n",
-        Section::Dependencies => b"%dep\n",
-        Section::Aliases => b"%alias\n",
-        Section::Configuration => b"%conf\n",
+        Section::Dep => b"%dep\n",
+        Section::Alias => b"%alias\n",
+        Section::Conf => b"%conf\n",
+        Section::Session => b"%session\n",
     }
 }
 
