@@ -4,3 +4,4 @@ pub mod ProbeLemmas
 pub mod TextLemmas
 pub mod RemovalLemmas
 pub mod GroupLemmas
+pub mod WayLemmas

@@ -1,5 +1,5 @@
 -- What a set of objects has.
-use Rattle.std.proofs.Common.{◌≡◌, List, [], ◌∷◌, ◌++◌, Bool, true, false, ◌||◌, cond, map, refl, sym, ap, ◌∙◌, Option, Some, None, Vec, ℕ}
+use Rattle.std.proofs.Common.{◌≡◌, List, [], ◌∷◌, ◌++◌, Bool, true, false, ◌||◌, cond, refl, ap, ◌∙◌, Option, Some, None, Vec, ℕ}
 use Rattle.std.proofs.lemmas.List.{map-append}
 use Rattle.std.specs.Global.{Global}
 use Rattle.std.specs.List.{list_any}

@@ -3,7 +3,7 @@ use Rattle.std.proofs.Common.{◌≡◌, Result, Ok, Err, OnOk, ℕ, zero, suc, 
 use Rattle.std.proofs.lemmas.List.{map-append, reverse-append}
 use Rattle.kmod_query.specs.declared.object.Object.{Object as CodeObject}
 use Rattle.kmod_query.specs.declared.probes.Task.{Task as CodeTask}
-use Rattle.kmod_query.specs.declared.probes.Task.TheVariants.{Add, Fill}
+use Rattle.kmod_query.specs.declared.probes.Task.TheVariants.{Add}
 use Rattle.kmod_query.specs.Facts.{Facts}
 use Rattle.kmod_query.specs.Objects.{Object, by_name, has, object_of, objects_of, with_object}
 use Rattle.kmod_query.specs.Probes.{Task, probe, fill, add, before_of, after_of, first_tasks, fill_tasks, probe_list, probe_tasks, run, step_limit}

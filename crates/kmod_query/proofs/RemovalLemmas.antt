@@ -1,9 +1,8 @@
 -- The steps of a removal.
-use Rattle.std.proofs.Common.{◌≡◌, ℕ, zero, suc, ◌+◌, ◌-◌, ◌<◌, Bool, true, false, cond, not, ◌||◌, List, [], ◌∷◌, ◌++◌, map, reverse, take as first, drop, length, refl, sym, ◌∙◌, ap, arith, append_assoc, append-nil, Vec}
-use Rattle.std.proofs.lemmas.List.{map-append, reverse-append, length-map}
+use Rattle.std.proofs.Common.{◌≡◌, ℕ, zero, suc, ◌+◌, ◌-◌, ◌<◌, Bool, true, false, cond, ◌||◌, List, [], ◌∷◌, ◌++◌, map, reverse, drop, length, refl, sym, ◌∙◌, ap, arith, append_assoc, append-nil}
+use Rattle.std.proofs.lemmas.List.{map-append, reverse-append}
 use Rattle.indexmap.proofs.ReorderLemmas.{map-reverse}
 use Rattle.std.specs.Borrow.{Bor}
-use Rattle.std.specs.Global.{Global}
 use Rattle.text_parts.specs.Text.{texts_of}
 use Rattle.std.specs.List.{list_any}
 use Rattle.std.specs.Str.{bytes_eq}
@@ -11,16 +10,15 @@ use Rattle.kmod_query.specs.declared.object.Object.{Object as CodeObject}
 use Rattle.kmod_query.specs.declared.query.Query.{Query}
 use Rattle.kmod_query.specs.declared.answer.Failure.{Failure}
 use Rattle.kmod_query.specs.declared.answer.Failure.TheVariants.{InUse}
-use Rattle.kmod_query.specs.declared.removal.Course.{Course}
 use Rattle.kmod_query.specs.declared.removal.Removal.{Removal}
 use Rattle.kmod_query.specs.declared.removal.Removal.TheVariants.{Take, Release, Leave}
 use Rattle.kmod_query.specs.declared.removal.Step.{Step}
 use Rattle.kmod_query.specs.Answers.{Answer, nothing, said, and_also}
 use Rattle.kmod_query.specs.Facts.{Facts}
-use Rattle.kmod_query.specs.Objects.{Object, names_of, object_of, objects_of}
+use Rattle.kmod_query.specs.Objects.{Object, object_of, objects_of}
 use Rattle.kmod_query.specs.Probes.{step_limit}
 use Rattle.kmod_query.specs.Removal.{Task, Verdict, remove, pass, refuse, take, release, leave, by_verdict, front_of, has_ended, is_in_use, remove_name, remove_names, refused, removal_lines, removed_after, removed_before, run_removal, take_each, taken_tasks, verdict}
-use Rattle.kmod_query.specs.Removals.{Moves, after, removal_of, removals_of}
+use Rattle.kmod_query.specs.Removals.{after, removal_of, removals_of, with_name}
 
 pub removals-push : (tasks : List Removal) (task : Removal) → removals_of (tasks ++ task ∷ []) ≡ removal_of task ∷ removals_of tasks
 removals-push tasks task = ap reverse (map-append removal_of tasks (task ∷ [])) ∙ reverse-append (map removal_of tasks) (removal_of task ∷ [])
@@ -128,35 +126,19 @@ Goes-release facts query soft o way ts now step free e saying n =
     ∙ ap (λ l. and_also (said (removal_lines facts query o)) (run_removal facts query n way l)) (sym e)
     ∙ sym (saying (run_removal facts query n way now))
 
-length-names : (way : List (Vec ℕ Global)) → length (names_of way) ≡ length way
-length-names [] = refl
-length-names (own ∷ way) = ap suc (length-names way)
-
-first-names : (n : ℕ) (way : List (Vec ℕ Global)) → names_of (first n way) ≡ first n (names_of way)
-first-names zero way = refl
-first-names (suc n) [] = refl
-first-names (suc n) (own ∷ way) = ap (λ l. own.items ∷ l) (first-names n way)
-
-pub Goes-leave : (facts : Facts) (query : Query) (way on : List (Vec ℕ Global)) (k : ℕ) (ts : List Task) (step : Step) → on ≡ first (k - 1) way → length way ≡ k → ((later : Answer) → after step later ≡ later) → Goes facts query leave (names_of way) ts (names_of on) ts step
-Goes-leave facts query way on k ts step e count silent n =
-    run-leave facts query n (names_of way) ts
-    ∙ ap (λ w. run_removal facts query n w ts) (ap (λ m. first (m - 1) (names_of way)) (length-names way ∙ count) ∙ sym (first-names (k - 1) way) ∙ ap names_of (sym e))
-    ∙ sym (silent (run_removal facts query n (names_of on) ts))
-
-any-names : (name : List ℕ) (way : List (Vec ℕ Global)) → list_any (λ (own : Vec ℕ Global). bytes_eq name own.items) way ≡ list_any (bytes_eq name) (names_of way)
-any-names name [] = refl
-any-names name (own ∷ way) = ap (λ b. bytes_eq name own.items || b) (any-names name way)
+pub Goes-leave : (facts : Facts) (query : Query) (way on : List (List ℕ)) (ts : List Task) (step : Step) → on ≡ front_of way → ((later : Answer) → after step later ≡ later) → Goes facts query leave way ts on ts step
+Goes-leave facts query way on ts step e silent n =
+    run-leave facts query n way ts
+    ∙ ap (λ w. run_removal facts query n w ts) (sym e)
+    ∙ sym (silent (run_removal facts query n on ts))
 
 -- what a call told of the way
-pub on_way : (name told : List ℕ) (way read : List (Vec ℕ Global)) (result b : Bool) → told ≡ name → read ≡ way → result ≡ list_any (λ (own : Vec ℕ Global). bytes_eq told own.items) read → result ≡ b → list_any (bytes_eq name) (names_of way) ≡ b
-on_way name told way read result b e f g h =
-    sym (any-names name way)
-    ∙ ap (λ l. list_any (λ (own : Vec ℕ Global). bytes_eq name own.items) l) (sym f)
-    ∙ ap (λ (n : List ℕ). list_any (λ (own : Vec ℕ Global). bytes_eq n own.items) read) (sym e)
-    ∙ sym g ∙ h
+pub on_way : (name told : List ℕ) (way : List (List ℕ)) (result b : Bool) → told ≡ name → result ≡ list_any (bytes_eq told) way → result ≡ b → list_any (bytes_eq name) way ≡ b
+on_way name told way result b e g h = ap (λ (n : List ℕ). list_any (bytes_eq n) way) (sym e) ∙ sym g ∙ h
 
-pub way-push : (old new : List (Vec ℕ Global)) (own : Vec ℕ Global) (name : List ℕ) → new ≡ old ++ own ∷ [] → own.items ≡ name → names_of new ≡ names_of old ++ name ∷ []
-way-push old new own name e f = ap names_of e ∙ map-append (λ (n : Vec ℕ Global). n.items) old (own ∷ []) ∙ ap (λ (n : List ℕ). names_of old ++ n ∷ []) f
+-- a module that was not on the way is its last now
+pub way-enter : (way on : List (List ℕ)) (name told : List ℕ) → list_any (bytes_eq name) way ≡ false → on ≡ with_name way told → told ≡ name → on ≡ way ++ name ∷ []
+way-enter way on name told unknown e f = e ∙ ap (with_name way) f ∙ ap (λ b. cond b way (way ++ name ∷ [])) unknown
 
 or-assoc : (a b c : Bool) → ((a || b) || c) ≡ (a || (b || c))
 or-assoc true b c = refl
@@ -186,13 +168,13 @@ limit-is = refl
 abbrev pub Answers : Facts → Query → ℕ → List (List ℕ) → List Task → Answer → Answer → Type 0
 Answers facts query k way ts answer whole = and_also answer (run_removal facts query (step_limit - k) way ts) ≡ whole
 
-pub Answers-begin : (facts : Facts) (query : Query) (k : ℕ) (way : List (Vec ℕ Global)) (o own : CodeObject) (stack : List Removal) (answer : Answer) → way ≡ [] → stack ≡ [] ++ Take false own ∷ [] → object_of own ≡ object_of o → answer ≡ nothing → k ≡ 0
-    → Answers facts query k (names_of way) (removals_of stack) answer (run_removal facts query step_limit [] (take false (object_of o) ∷ []))
+pub Answers-begin : (facts : Facts) (query : Query) (k : ℕ) (way : List (List ℕ)) (o own : CodeObject) (stack : List Removal) (answer : Answer) → way ≡ [] → stack ≡ [] ++ Take false own ∷ [] → object_of own ≡ object_of o → answer ≡ nothing → k ≡ 0
+    → Answers facts query k way (removals_of stack) answer (run_removal facts query step_limit [] (take false (object_of o) ∷ []))
 Answers-begin facts query k way o own stack answer w s same a zero_is =
     let e : step_limit - k ≡ step_limit = omega (arith, zero_is) in
-    ap (λ (x : Answer). and_also x (run_removal facts query (step_limit - k) (names_of way) (removals_of stack))) a
-    ∙ ap (λ n. run_removal facts query n (names_of way) (removals_of stack)) e
-    ∙ ap (λ l. run_removal facts query step_limit (names_of l) (removals_of stack)) w
+    ap (λ (x : Answer). and_also x (run_removal facts query (step_limit - k) way (removals_of stack))) a
+    ∙ ap (λ n. run_removal facts query n way (removals_of stack)) e
+    ∙ ap (λ l. run_removal facts query step_limit l (removals_of stack)) w
     ∙ ap (λ l. run_removal facts query step_limit [] (removals_of l)) s
     ∙ ap (λ (x : Object). run_removal facts query step_limit [] (take false x ∷ [])) same
 

@@ -1,5 +1,5 @@
 -- What --showconfig tells: the lines of the configuration, kind by kind, and the lines of the indexes.
-use Rattle.std.specs.Prelude.{ℕ, Bool, if◌then◌else◌, ◌==◌, List, [], ◌∷◌, ◌++◌, length, fold, codes}
+use Rattle.std.specs.Prelude.{ℕ, if◌then◌else◌, ◌==◌, List, [], ◌∷◌, ◌++◌, length, fold, codes}
 use Rattle.std.specs.List.{flat_map}
 use Rattle.kmod_names.specs.declared.alias_table.AliasEntry.{AliasEntry}
 use Rattle.kmod_conf.specs.declared.line.NameLine.{NameLine}

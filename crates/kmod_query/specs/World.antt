@@ -6,7 +6,7 @@ use Rattle.kmod_conf.specs.declared.line.SoftdepLine.{SoftdepLine}
 use Rattle.kmod_conf.specs.declared.line.TextLine.{TextLine}
 use Rattle.kmod_conf.specs.LookUps.{has_install_named, has_remove_named, install_of, is_blacklisted, matching_aliases, options_of, remove_of, softdep_of}
 use Rattle.kmod_index.specs.Builtins.{is_among}
-use Rattle.kmod_index.specs.Dependencies.{Dependencies, hard_needs, line_of}
+use Rattle.kmod_index.specs.Dependencies.{hard_needs, line_of}
 use Rattle.kmod_index.specs.Lines.{Keyed, lines_of_key}
 use Rattle.kmod_index.specs.Tries.{in_order, matching_lines}
 use Rattle.kmod_query.specs.declared.world.World.{World}

@@ -3,9 +3,9 @@ ghost use Rattle.std.specs.Prelude.{◌≡◌, IfOk};
 ghost use Rattle.kmod_query.specs.AnswerOf.{answer_of};
 
 use crate::answer::Answer;
-use crate::loading::answer_names;
+use crate::loaded_names::answer_names;
 use crate::query::{Ask, Query};
-use crate::removal::remove_names;
+use crate::removed_names::remove_names;
 use crate::shown::shown;
 use crate::world::World;
 use std::alloc::{AllocError, Global};

@@ -1,24 +1,22 @@
-//! What names are answered that are to be removed.
+//! What is answered of an object that is to be removed.
 ghost use Rattle.std.specs.Prelude.{◌≡◌, ◌++◌, true, map, reverse, IfOk, OnOk};
-ghost use Rattle.std.specs.List.{list_any};
-ghost use Rattle.std.specs.Str.{bytes_eq};
 ghost use Rattle.kmod_query.specs.Objects.{object_of, objects_of};
-ghost use Rattle.text_parts.specs.Text.{texts_of};
-ghost use Rattle.kmod_query.specs.Answers.{Answer, nothing};
-ghost use Rattle.kmod_query.specs.Removal.{has_ended, refused, release, remove_found, remove_name, remove_names, remove_object};
-ghost use Rattle.kmod_query.specs.Removal.{remove_objects, removed_after, removed_before, take, take_each, taken_tasks};
+ghost use Rattle.kmod_query.specs.Answers.{Answer};
+ghost use Rattle.kmod_query.specs.Removal.{refused, release, remove_object};
+ghost use Rattle.kmod_query.specs.Removal.{removed_after, removed_before, take, take_each, taken_tasks};
 ghost use Rattle.kmod_query.specs.Removals.{Moves, after, removal_of, removals_of};
 ghost use Rattle.kmod_query.specs.World.{facts_of};
 
 use crate::answer::{Answer, Failure};
-use crate::look_up::{found, soft_items};
+use crate::look_up::soft_items;
 use crate::object::Object;
 use crate::query::Query;
-use crate::removal_check::{Verdict, is_fatal, is_in_use, judge, removal_lines};
-use crate::world::{World, normal};
+use crate::removal_check::{Verdict, is_fatal, is_in_use, judge};
+use crate::removal_lines::removal_lines;
+use crate::way::Way;
+use crate::world::World;
 use kmod_names::Text;
 use std::alloc::{AllocError, Global};
-use text_parts::is_same;
 
 /// What is to be done: take an object, which is a soft item or not, let it go once its soft items after it are gone, or
 /// leave the way.
@@ -32,7 +30,7 @@ enum Removal {
 /// Where a run is: the modules whose soft items are being removed, and what is to be done, the next task last.
 #[derive(Drop)]
 struct Course {
-    way: Vec<Vec<u8>>,
+    way: Way,
     stack: Vec<Removal>,
 }
 
@@ -41,12 +39,6 @@ struct Course {
 struct Step {
     answer: Answer,
     ended: bool,
-}
-
-fn is_on_way(way: &[Vec<u8>], name: &[u8]) -> bool
-    ensures { result ≡ list_any (λ own. bytes_eq name.now own.items) way.now }
-{
-    way.iter().any(|own| is_same(name, own))
 }
 
 fn removed_before(
@@ -157,12 +149,12 @@ fn take(
 ) -> Result<Step, AllocError>
     ensures { IfOk result (Moves (facts_of world.now) query.now (take soft (object_of object)) course.old course.new) }
 {
-    if is_on_way(&course.way, &object.name) {
+    if course.way.has(&object.name) {
         return Ok(silent(alloc));
     }
     match judge(alloc, world, query, soft, &object)? {
         Verdict::Remove => {
-            course.way.push(Vec::from_slice(alloc, &object.name)?)?;
+            course.way.enter(alloc, &object.name)?;
             push_taken(alloc, world, query, soft, &mut course.stack, object)?;
             Ok(silent(alloc))
         }
@@ -208,14 +200,14 @@ fn make(
         Removal::Take(soft, object) => take(alloc, world, query, soft, object, course),
         Removal::Release(soft, object) => release(alloc, world, query, soft, &object, course),
         Removal::Leave => {
-            course.way.pop();
+            course.way.leave();
             Ok(silent(alloc))
         }
     }
 }
 
 /// What is answered of one object that is to be removed.
-fn remove_object(
+pub(crate) fn remove_object(
     alloc: Global,
     world: &World,
     query: &Query,
@@ -224,7 +216,7 @@ fn remove_object(
     ensures { IfOk result (λ answer. answer ≡ remove_object (facts_of world.now) query.now (object_of object.now)) }
 {
     let mut course = Course {
-        way: Vec::new(alloc),
+        way: Way::new(alloc),
         stack: Vec::new(alloc),
     };
     course
@@ -242,87 +234,6 @@ fn remove_object(
                 }
             }
         }
-    }
-    Ok(answer)
-}
-
-/// The modules of a name one after another, up to the first that is refused.
-fn remove_objects(
-    alloc: Global,
-    world: &World,
-    query: &Query,
-    objects: &[Object],
-) -> Result<Answer, AllocError>
-    ensures { IfOk result (λ answer. answer ≡ remove_objects (facts_of world.now) query.now nothing (objects_of objects.now)) }
-{
-    let mut answer = Answer::nothing(alloc);
-    let mut rest = objects;
-    'objects: while let Some((object, later)) = rest.split_first() {
-        if answer.has_failed() {
-            return Ok(answer);
-        }
-        answer = answer.and_then(remove_object(alloc, world, query, object)?)?;
-        rest = later;
-    }
-    Ok(answer)
-}
-
-fn remove_found(
-    alloc: Global,
-    world: &World,
-    query: &Query,
-    word: &[u8],
-    found: &[Object],
-) -> Result<Answer, AllocError>
-    ensures { IfOk result (λ answer. answer ≡ remove_found (facts_of world.now) query.now word.now (objects_of found.now)) }
-{
-    if found.is_empty() {
-        return Answer::failing(alloc, Failure::NothingToRemove(Text::new(alloc, word)?));
-    }
-    remove_objects(alloc, world, query, found)
-}
-
-fn remove_name(
-    alloc: Global,
-    world: &World,
-    query: &Query,
-    word: &[u8],
-) -> Result<Answer, AllocError>
-    ensures { IfOk result (λ answer. answer ≡ remove_name (facts_of world.now) query.now word.now ((facts_of world.now).normal word.now)) }
-{
-    match normal(alloc, world, word)? {
-        Some(name) => {
-            let found = found(alloc, world, name.as_bytes())?;
-            remove_found(alloc, world, query, word, &found)
-        }
-        None => Ok(Answer::silent_failure(alloc)),
-    }
-}
-
-fn has_ended(query: &Query, answer: &Answer) -> bool
-    ensures { result ≡ has_ended query.now answer.now.failures }
-{
-    match answer.failures().first() {
-        Some(_) => is_fatal(query),
-        None => false,
-    }
-}
-
-/// What names are answered that are to be removed, one after another, up to a message that ends the program.
-pub(crate) fn remove_names(
-    alloc: Global,
-    world: &World,
-    query: &Query,
-    words: &[&[u8]],
-) -> Result<Answer, AllocError>
-    ensures { IfOk result (λ answer. answer ≡ remove_names (facts_of world.now) query.now nothing (texts_of words.now)) }
-{
-    let mut answer = Answer::nothing(alloc);
-    'words: for word in words {
-        if has_ended(query, &answer) {
-            return Ok(answer);
-        }
-        answer = answer.and_also(remove_name(alloc, world, query, word)?)?;
     }
     Ok(answer)
 }

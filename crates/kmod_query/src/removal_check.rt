@@ -1,11 +1,10 @@
-//! Whether an object can be removed, and the lines that remove it.
-ghost use Rattle.std.specs.Prelude.{◌≡◌, ◌++◌, ◌∷◌, [], codes, nat_eq, IfOk, is_some, option_copied};
-ghost use Rattle.std.specs.List.{flat_map, starts_with};
-ghost use Rattle.kmod_query.specs.Objects.{names_of, object_of};
+//! Whether an object can be removed.
+ghost use Rattle.std.specs.Prelude.{◌≡◌, IfOk, option_copied};
+ghost use Rattle.kmod_query.specs.Objects.{object_of};
 ghost use Rattle.kmod_query.specs.Removal.{absent_verdict, builtin_verdict, counts_state, has_no_users, has_no_users_by, has_users};
 ghost use Rattle.kmod_query.specs.Removal.{has_users_by, is_absent, is_fatal, is_in_use, is_remove, is_show_removal, is_unknown_state};
-ghost use Rattle.kmod_query.specs.Removal.{option_mark, removal_command, removal_lines, removal_lines_by, rmmod_line, shows_removal};
-ghost use Rattle.kmod_query.specs.Removal.{unmarked, unused_line, verdict};
+ghost use Rattle.kmod_query.specs.Removal.{removal_command, shows_removal};
+ghost use Rattle.kmod_query.specs.Removal.{verdict};
 ghost use Rattle.kmod_query.specs.Verdicts.{verdict_of};
 ghost use Rattle.kmod_query.specs.World.{facts_of};
 
@@ -14,7 +13,7 @@ use crate::lines::is_built_in;
 use crate::object::Object;
 use crate::query::{Ask, Query};
 use crate::states::{ModuleState, ModuleStatus};
-use crate::world::{World, needs_of, remove_of, status_of};
+use crate::world::{World, remove_of, status_of};
 use kmod_names::Text;
 use std::alloc::{AllocError, Global};
 
@@ -52,7 +51,7 @@ fn is_show_removal(ask: Ask) -> bool
     }
 }
 
-fn shows_removal(query: &Query) -> bool
+pub(crate) fn shows_removal(query: &Query) -> bool
     ensures { result ≡ shows_removal query.now }
 {
     is_show_removal(query.ask) || query.verbosity > 4
@@ -65,7 +64,7 @@ pub(crate) fn is_fatal(query: &Query) -> bool
     !query.all && 2 <= query.verbosity
 }
 
-fn removal_command<'a>(
+pub(crate) fn removal_command<'a>(
     alloc: Global,
     world: &World<'a>,
     query: &Query,
@@ -140,7 +139,7 @@ fn has_no_users_by(users: Option<u64>) -> bool
     }
 }
 
-fn has_no_users(status: Option<ModuleStatus>) -> bool
+pub(crate) fn has_no_users(status: Option<ModuleStatus>) -> bool
     ensures { result ≡ has_no_users status }
 {
     match status {
@@ -201,99 +200,4 @@ pub(crate) fn is_in_use(
         counts_state(alloc, world, query, &object.name)?
             && has_users(status_of(world, &object.name)),
     )
-}
-
-fn starts_with_mark(text: &[u8]) -> bool
-    ensures { result ≡ starts_with nat_eq text.now option_mark }
-{
-    text.starts_with(b"$CMDLINE_OPTS")
-}
-
-/// A command without the mark that stands for options.
-fn unmarked(alloc: Global, command: &[u8]) -> Result<Vec<u8>, AllocError>
-    ensures { IfOk result (λ text. text.items ≡ unmarked command.now) }
-{
-    let mut text = Vec::new(alloc);
-    let mut skipped = 0usize;
-    let mut rest = command;
-    'bytes: while let Some((byte, later)) = rest.split_first() {
-        if skipped > 0 {
-            skipped -= 1;
-        } else if starts_with_mark(rest) {
-            skipped = 12;
-        } else {
-            text.push(*byte)?;
-        }
-        rest = later;
-    }
-    Ok(text)
-}
-
-fn rmmod_line(alloc: Global, name: &[u8]) -> Result<Vec<u8>, AllocError>
-    ensures { IfOk result (λ text. text.items ≡ rmmod_line name.now) }
-{
-    let mut text = Vec::from_slice(alloc, b"rmmod ")?;
-    text.extend_from_slice(name)?;
-    text.push(b'\n')?;
-    Ok(text)
-}
-
-fn unused_line(alloc: Global, world: &World, name: &[u8]) -> Result<Vec<u8>, AllocError>
-    ensures { IfOk result (λ text. text.items ≡ unused_line (facts_of world.now) name.now) }
-{
-    if has_no_users(status_of(world, name)) {
-        return rmmod_line(alloc, name);
-    }
-    Ok(Vec::new(alloc))
-}
-
-/// The lines that remove those of the modules that have no users.
-fn unused_lines(alloc: Global, world: &World, names: &[Vec<u8>]) -> Result<Vec<u8>, AllocError>
-    ensures { IfOk result (λ text. text.items ≡ flat_map (unused_line (facts_of world.now)) (names_of names.now)) }
-{
-    let mut lines = Vec::new(alloc);
-    'names: for name in names {
-        let mut own = unused_line(alloc, world, name)?;
-        lines.append(&mut own)?;
-    }
-    Ok(lines)
-}
-
-fn command_line(alloc: Global, command: &[u8]) -> Result<Vec<u8>, AllocError>
-    ensures { IfOk result (λ text. text.items ≡ codes "remove " ++ unmarked command.now ++ (10 ∷ [])) }
-{
-    let mut text = Vec::from_slice(alloc, b"remove ")?;
-    let mut own = unmarked(alloc, command)?;
-    text.append(&mut own)?;
-    text.push(b'\n')?;
-    Ok(text)
-}
-
-fn module_lines(alloc: Global, world: &World, object: &Object) -> Result<Vec<u8>, AllocError>
-    ensures { IfOk result (λ text. text.items ≡ rmmod_line (object_of object.now).name
-        ++ flat_map (unused_line (facts_of world.now)) ((facts_of world.now).needs (object_of object.now).name)) }
-{
-    let mut lines = rmmod_line(alloc, &object.name)?;
-    let needs = needs_of(alloc, world, &object.name)?;
-    let mut others = unused_lines(alloc, world, &needs)?;
-    lines.append(&mut others)?;
-    Ok(lines)
-}
-
-/// The lines that remove an object.
-pub(crate) fn removal_lines(
-    alloc: Global,
-    world: &World,
-    query: &Query,
-    object: &Object,
-) -> Result<Vec<u8>, AllocError>
-    ensures { IfOk result (λ text. text.items ≡ removal_lines (facts_of world.now) query.now (object_of object.now)) }
-{
-    if !shows_removal(query) {
-        return Ok(Vec::new(alloc));
-    }
-    match removal_command(alloc, world, query, &object.name)? {
-        Some(command) => command_line(alloc, command),
-        None => module_lines(alloc, world, object),
-    }
 }

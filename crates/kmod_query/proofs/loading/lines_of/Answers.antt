@@ -1,4 +1,4 @@
-use Rattle.std.proofs.Common.{◌≡◌, ◌≤◌, ◌∙◌, ap, arith, length, sym}
+use Rattle.std.proofs.Common.{◌≤◌, ◌∙◌, arith, length}
 use Rattle.kmod_query.specs.Loading.{line_unless_passed}
 use Rattle.kmod_query.specs.Objects.{object_of}
 use Rattle.kmod_query.specs.World.{facts_of}

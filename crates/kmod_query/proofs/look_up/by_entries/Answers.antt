@@ -1,4 +1,4 @@
-use Rattle.std.proofs.Common.{◌≡◌, ◌≤◌, ◌∙◌, arith, length, ℕ, List, false}
+use Rattle.std.proofs.Common.{◌≤◌, ◌∙◌, arith, length, ℕ, List, false}
 use Rattle.std.specs.Borrow.{Bor}
 use Rattle.kmod_names.specs.declared.alias_table.AliasEntry.{AliasEntry}
 use Rattle.kmod_query.specs.LookUp.{by_one_alias}

@@ -1,4 +1,4 @@
-use Rattle.std.proofs.Common.{◌≡◌, ◌≤◌, ◌∙◌, arith, length}
+use Rattle.std.proofs.Common.{◌≤◌, ◌∙◌, arith, length}
 use Rattle.std.specs.Borrow.{Bor}
 use Rattle.kmod_index.specs.Lines.{Keyed}
 use Rattle.kmod_query.specs.LookUp.{by_one_alias}

@@ -1,4 +1,4 @@
-use Rattle.std.proofs.Common.{◌≡◌, [], fold, take, List, ℕ}
+use Rattle.std.proofs.Common.{◌≡◌, [], fold, take}
 use Rattle.kmod_query.specs.Lines.{joined}
 use Rattle.kmod_query.proofs.parameters.join.Given as goal
 

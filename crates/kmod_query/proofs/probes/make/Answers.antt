@@ -1,4 +1,4 @@
-use Rattle.std.proofs.Common.{◌≡◌, ◌∙◌, ap, sym, map, not, true, false, Bool, refl, [], ◌∷◌}
+use Rattle.std.proofs.Common.{◌∙◌, ap, sym, [], ◌∷◌}
 use Rattle.std.proofs.lemmas.List.{map-append}
 use Rattle.kmod_query.specs.Objects.{has, object_of, objects_of}
 use Rattle.kmod_query.specs.Stacks.{stack_of}

@@ -1,9 +1,8 @@
-use Rattle.std.proofs.Common.{◌≡◌, ℕ, ◌<◌, ◌-◌, ◌∙◌, ap, sym, arith, length, refl, [], List}
-use Rattle.kmod_query.specs.Objects.{object_of, objects_of}
-use Rattle.kmod_query.specs.Probes.{probe_list}
+use Rattle.std.proofs.Common.{◌≡◌, ◌<◌, ◌-◌, ap, arith, length}
+use Rattle.kmod_query.specs.Objects.{objects_of}
 use Rattle.kmod_query.specs.Stacks.{stack_of}
 use Rattle.kmod_query.specs.World.{facts_of}
-use Rattle.kmod_query.proofs.ProbeLemmas.{Gives-done, Gives-end, Gives-made, begun, none_left}
+use Rattle.kmod_query.proofs.ProbeLemmas.{Gives-done, Gives-end, Gives-made, none_left}
 use Rattle.kmod_query.proofs.probes.probe_list.Goals as goal
 
 pub returns-in-None : goal.returns-in-None

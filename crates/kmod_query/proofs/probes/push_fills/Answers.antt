@@ -1,5 +1,4 @@
 use Rattle.std.proofs.Common.{◌≡◌, refl, arith, length}
-use Rattle.kmod_query.specs.declared.probes.Task.TheVariants.{Fill}
 use Rattle.kmod_query.specs.Objects.{by_name}
 use Rattle.kmod_query.specs.Probes.{fill}
 use Rattle.kmod_query.proofs.ProbeLemmas.{push_all, push_more}

@@ -1,6 +1,6 @@
-use Rattle.std.proofs.Common.{◌≡◌, ◌∷◌, take}
+use Rattle.std.proofs.Common.{◌≡◌, take}
 use Rattle.std.specs.List.{flat_map}
-use Rattle.kmod_query.specs.Shown.{alias_line, blacklist_line, softdep_line, text_line}
+use Rattle.kmod_query.specs.Shown.{alias_line}
 use Rattle.kmod_query.proofs.shown.alias_lines.Given as goal
 
 abbrev pub invariant-all : goal.invariant-all

@@ -1,6 +1,6 @@
-use Rattle.std.proofs.Common.{◌≡◌, ◌∷◌, take}
+use Rattle.std.proofs.Common.{◌≡◌, take}
 use Rattle.std.specs.List.{flat_map}
-use Rattle.kmod_query.specs.Shown.{alias_line, blacklist_line, softdep_line, text_line}
+use Rattle.kmod_query.specs.Shown.{blacklist_line}
 use Rattle.kmod_query.proofs.shown.blacklist_lines.Given as goal
 
 abbrev pub invariant-all : goal.invariant-all

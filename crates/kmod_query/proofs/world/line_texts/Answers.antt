@@ -1,4 +1,4 @@
-use Rattle.std.proofs.Common.{◌≡◌, ◌≤◌, ◌∙◌, arith, length}
+use Rattle.std.proofs.Common.{◌≤◌, ◌∙◌, arith, length}
 use Rattle.std.specs.Borrow.{Bor}
 use Rattle.kmod_conf.specs.declared.line.TextLine.{TextLine}
 use Rattle.kmod_query.specs.World.{text_of}

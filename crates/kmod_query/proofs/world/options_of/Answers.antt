@@ -1,4 +1,4 @@
-use Rattle.std.proofs.Common.{◌≡◌, ◌∙◌, ap, map, List, ℕ, Option}
+use Rattle.std.proofs.Common.{◌∙◌, ap, map, List, ℕ, Option}
 use Rattle.std.specs.Prelude.{option_map}
 use Rattle.std.specs.Borrow.{Bor}
 use Rattle.kmod_conf.specs.declared.line.TextLine.{TextLine}

@@ -1,5 +1,4 @@
-use Rattle.std.proofs.Common.{◌≡◌, ◌++◌, [], ◌∙◌, sym, ap}
-use Rattle.std.specs.List.{flat_map}
+use Rattle.std.proofs.Common.{sym}
 use Rattle.kmod_query.proofs.GroupLemmas.{texts-pairs}
 use Rattle.kmod_query.proofs.groups.Groups.text.Goals as goal
 

@@ -1,5 +1,5 @@
 use Rattle.std.proofs.Common.{◌∙◌, sym, ap, not}
-use Rattle.kmod_query.specs.Objects.{has, object_of, objects_of, with_object}
+use Rattle.kmod_query.specs.Objects.{has, objects_of, with_object}
 use Rattle.kmod_query.proofs.MetLemmas.{has-objects, objects-insert_key}
 use Rattle.kmod_query.proofs.object.Met.insert.Goals as goal
 

@@ -2,7 +2,7 @@ use Rattle.std.proofs.Common.{◌≡◌, take, fold, []}
 use Rattle.kmod_query.specs.Answers.{and_also, nothing}
 use Rattle.kmod_query.specs.Loading.{answer_name}
 use Rattle.kmod_query.specs.World.{facts_of}
-use Rattle.kmod_query.proofs.loading.answer_each.Given as goal
+use Rattle.kmod_query.proofs.loaded_names.answer_each.Given as goal
 
 abbrev pub invariant-words : goal.invariant-words
 invariant-words l = l.answer ≡ fold (λ answer word. and_also answer (answer_name (facts_of l.world) l.query [] word.now)) nothing (take l.word-index l.words)

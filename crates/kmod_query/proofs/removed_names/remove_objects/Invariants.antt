@@ -3,7 +3,7 @@ use Rattle.kmod_query.specs.Answers.{nothing}
 use Rattle.kmod_query.specs.Objects.{objects_of}
 use Rattle.kmod_query.specs.Removal.{remove_objects}
 use Rattle.kmod_query.specs.World.{facts_of}
-use Rattle.kmod_query.proofs.removal.remove_objects.Given as goal
+use Rattle.kmod_query.proofs.removed_names.remove_objects.Given as goal
 
 abbrev pub invariant-objects : goal.invariant-objects
 invariant-objects l = remove_objects (facts_of l.world) l.query l.answer (objects_of l.rest) ≡ remove_objects (facts_of l.world) l.query nothing (objects_of l.fn.objects)

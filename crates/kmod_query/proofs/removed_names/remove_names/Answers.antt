@@ -2,7 +2,7 @@ use Rattle.std.proofs.Common.{◌≡◌, ◌<◌, ◌∙◌, arith, length, sym,
 use Rattle.kmod_query.specs.Removal.{has_ended}
 use Rattle.kmod_query.specs.World.{facts_of}
 use Rattle.kmod_query.proofs.RemovalLemmas.{names-ended}
-use Rattle.kmod_query.proofs.removal.remove_names.Goals as goal
+use Rattle.kmod_query.proofs.removed_names.remove_names.Goals as goal
 
 pub returns-then-has_ended : goal.returns-then-has_ended
 returns-then-has_ended c =

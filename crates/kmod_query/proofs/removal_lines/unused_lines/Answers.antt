@@ -1,9 +1,9 @@
-use Rattle.std.proofs.Common.{◌≡◌, ◌≤◌, ◌∙◌, arith, length, Vec, ℕ}
+use Rattle.std.proofs.Common.{◌≤◌, ◌∙◌, arith, length, Vec, ℕ}
 use Rattle.std.specs.Global.{Global}
 use Rattle.kmod_query.specs.Removal.{unused_line}
 use Rattle.kmod_query.specs.World.{facts_of}
 use Rattle.kmod_query.proofs.TextLemmas.{flat_map-all}
-use Rattle.kmod_query.proofs.removal_check.unused_lines.Goals as goal
+use Rattle.kmod_query.proofs.removal_lines.unused_lines.Goals as goal
 
 pub returns : goal.returns
 returns c =
