@@ -1,2 +1,3 @@
 pub mod FirstLemmas
 pub mod EntryLemmas
+pub mod ListLemmas

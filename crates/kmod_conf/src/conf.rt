@@ -7,7 +7,8 @@ ghost use Rattle.kmod_conf.specs.LookUps.{options_of, remove_of, softdep_of};
 use crate::command_list::CommandList;
 use crate::entry::Entry;
 use crate::line::{NameLine, SoftdepLine, TextLine};
-use crate::look_up::{is_named, options_in};
+use crate::name_list::NameList;
+use crate::option_list::OptionList;
 use crate::softdep_list::SoftdepList;
 use crate::wrapped_lines::WrappedLines;
 use kmod_names::{AliasEntry, AliasTable, Place};
@@ -19,8 +20,8 @@ use std::marker::Model;
 #[derive(Drop)]
 pub struct Conf {
     aliases: AliasTable,
-    blacklist: Vec<NameLine>,
-    options: Vec<TextLine>,
+    blacklist: NameList,
+    options: OptionList,
     installs: CommandList,
     removes: CommandList,
     softdeps: SoftdepList,
@@ -34,8 +35,8 @@ impl Model for Conf {
 
     ghost view = { λ c. record {
       aliases = c.aliases;
-      blacklist = c.blacklist.items;
-      options = c.options.items;
+      blacklist = c.blacklist;
+      options = c.options;
       installs = c.installs;
       removes = c.removes;
       softdeps = c.softdeps;
@@ -50,8 +51,8 @@ impl Conf {
     {
         Conf {
             aliases: AliasTable::new(alloc),
-            blacklist: Vec::new(alloc),
-            options: Vec::new(alloc),
+            blacklist: NameList::new(alloc),
+            options: OptionList::new(alloc),
             installs: CommandList::new(alloc),
             removes: CommandList::new(alloc),
             softdeps: SoftdepList::new(alloc),
@@ -64,8 +65,8 @@ impl Conf {
     {
         match entry {
             Entry::Alias(line) => self.aliases.push(alloc, line)?,
-            Entry::Blacklist(line) => self.blacklist.push(line)?,
-            Entry::Options(line) => self.options.push(line)?,
+            Entry::Blacklist(line) => self.blacklist.push(alloc, line)?,
+            Entry::Options(line) => self.options.push(alloc, line)?,
             Entry::Install(line) => self.installs.push(alloc, line)?,
             Entry::Remove(line) => self.removes.push(alloc, line)?,
             Entry::Softdep(line) => self.softdeps.push(alloc, line)?,
@@ -103,13 +104,13 @@ impl Conf {
     pub fn blacklist(&self) -> &[NameLine]
         ensures { result.now ≡ self.now.blacklist }
     {
-        &self.blacklist
+        self.blacklist.lines()
     }
 
     pub fn options(&self) -> &[TextLine]
         ensures { result.now ≡ self.now.options }
     {
-        &self.options
+        self.options.lines()
     }
 
     pub fn installs(&self) -> &[TextLine]
@@ -180,14 +181,14 @@ impl Conf {
         ensures { IfOk result (λ found. map (λ line. line.now) found.items
             ≡ options_of self.now name.now (option_map (λ own. own.now) alias.entry)) }
     {
-        options_in(alloc, &self.options, name, alias)
+        self.options.of(alloc, name, alias)
     }
 
     /// Whether a blacklist line has just this name.
     pub fn is_blacklisted(&self, name: &[u8]) -> bool
         ensures { result ≡ is_blacklisted self.now name.now }
     {
-        is_named(&self.blacklist, name)
+        self.blacklist.has(name)
     }
 
     /// Whether an install line has just this name.

@@ -12,7 +12,7 @@ use Rattle.kmod_names.proofs.PlaceLemmas.{told, all_at_places}
 use Rattle.kmod_index.specs.Builtins.{is_among}
 use Rattle.kmod_index.specs.ForProofs.{key_of, pointed}
 use Rattle.kmod_index.specs.Lines.{Keyed, lines_of_key}
-use Rattle.kmod_index.specs.Places.{ArePlaces, places_in}
+use Rattle.kmod_names.specs.Places.{ArePlaces, places_in}
 use Rattle.kmod_index.specs.Tries.{matching_lines, pattern_of}
 
 pub found_by_key : (result : Result (Vec (Bor Keyed) Global) AllocError) (at lines inside : List Keyed) (places key : List ℕ) (pairs : List (List ℕ × List ℕ))

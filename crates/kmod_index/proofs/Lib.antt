@@ -1,5 +1,4 @@
 pub mod PartLemmas
-pub mod KeyLemmas
 pub mod LineLemmas
 pub mod FoundLemmas
 pub mod TrieLemmas

@@ -1,5 +1,4 @@
 pub mod Parts
-pub mod Places
 pub mod Dependencies
 pub mod Lines
 pub mod Aliases

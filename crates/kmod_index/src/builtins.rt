@@ -3,10 +3,9 @@ ghost use Rattle.std.specs.Prelude.{◌≡◌, ◌++◌, slice_index, IfOk, OnOk
 ghost use Rattle.std.specs.Option.{option_to_list};
 ghost use Rattle.text_parts.specs.Text.{is_letter};
 ghost use Rattle.kmod_index.specs.Builtins.{builtin_name, builtin_names, is_among};
-ghost use Rattle.kmod_index.specs.Places.{ArePlaces};
+ghost use Rattle.kmod_names.specs.Places.{ArePlaces};
 
-use crate::key_places::KeyPlaces;
-use kmod_names::{Text, name_of_path};
+use kmod_names::{KeyPlaces, Text, name_of_path};
 use std::alloc::{AllocError, Global};
 use std::marker::Model;
 use text_parts::whole_lines;
@@ -20,7 +19,7 @@ pub struct Builtins {
 
 impl Model for Builtins {
     ghost use Rattle.std.specs.Prelude.{List, ℕ};
-    ghost use Rattle.kmod_index.specs.Places.{ArePlaces};
+    ghost use Rattle.kmod_names.specs.Places.{ArePlaces};
 
     ghost Value = { List (List ℕ) };
 

@@ -6,7 +6,6 @@ mod builtins;
 mod dep_line;
 mod index;
 mod index_line;
-mod key_places;
 mod modinfo;
 mod modules_dep;
 mod parts;

@@ -2,11 +2,10 @@
 ghost use Rattle.std.specs.Prelude.{◌≡◌, ◌++◌, map, slice_get, IfOk, OnOk, option_copied};
 ghost use Rattle.std.specs.Option.{option_to_list};
 ghost use Rattle.kmod_index.specs.Dependencies.{dependencies_of, dependencies_of_line, hard_needs, line_of, name_of};
-ghost use Rattle.kmod_index.specs.Places.{ArePlaces};
+ghost use Rattle.kmod_names.specs.Places.{ArePlaces};
 
 use crate::dep_line::DepLine;
-use crate::key_places::KeyPlaces;
-use kmod_names::Text;
+use kmod_names::{KeyPlaces, Text};
 use std::alloc::{AllocError, Global};
 use std::marker::Model;
 use text_parts::whole_lines;
@@ -21,7 +20,7 @@ pub struct ModulesDep {
 impl Model for ModulesDep {
     ghost use Rattle.std.specs.Prelude.{List, map};
     ghost use Rattle.kmod_index.specs.Dependencies.{Dependencies, name_of};
-    ghost use Rattle.kmod_index.specs.Places.{ArePlaces};
+    ghost use Rattle.kmod_names.specs.Places.{ArePlaces};
 
     ghost Value = { List Dependencies };
 

@@ -3,10 +3,10 @@ ghost use Rattle.std.specs.Prelude.{◌≡◌, ◌++◌, map, IfOk, OnOk};
 ghost use Rattle.std.specs.Option.{option_to_list};
 ghost use Rattle.kmod_index.specs.Lines.{keyed_lines, keyed_of_line, lines_of_key};
 ghost use Rattle.kmod_index.specs.ForProofs.{key_of, pointed};
-ghost use Rattle.kmod_index.specs.Places.{ArePlaces};
+ghost use Rattle.kmod_names.specs.Places.{ArePlaces};
 
 use crate::index_line::{IndexLine, lines_at};
-use crate::key_places::KeyPlaces;
+use kmod_names::KeyPlaces;
 use std::alloc::{AllocError, Global};
 use std::marker::Model;
 use text_parts::whole_lines;
@@ -22,7 +22,7 @@ impl Model for Symbols {
     ghost use Rattle.std.specs.Prelude.{List, map};
     ghost use Rattle.kmod_index.specs.ForProofs.{key_of};
     ghost use Rattle.kmod_index.specs.Lines.{Keyed};
-    ghost use Rattle.kmod_index.specs.Places.{ArePlaces};
+    ghost use Rattle.kmod_names.specs.Places.{ArePlaces};
 
     ghost Value = { List Keyed };
 

@@ -2,3 +2,5 @@ pub mod NameLemmas
 pub mod PlaceLemmas
 pub mod PatternLemmas
 pub mod TableLemmas
+pub mod KeyLemmas
+pub mod MergeLemmas

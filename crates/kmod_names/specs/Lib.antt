@@ -1,3 +1,4 @@
 pub mod Names
 pub mod Patterns
 pub mod Aliases
+pub mod Places

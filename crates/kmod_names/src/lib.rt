@@ -2,12 +2,14 @@
 #![tactic(auto)]
 
 mod alias_table;
+mod key_places;
 mod names;
 mod pattern_list;
 mod place;
 mod text;
 
 pub use alias_table::{AliasEntry, AliasTable};
+pub use key_places::KeyPlaces;
 pub use names::{name_of_path, normal_alias};
 pub use pattern_list::{PatternList, matches_pattern};
 pub use place::Place;

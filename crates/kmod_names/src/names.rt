@@ -32,7 +32,7 @@ fn is_set_after(is_set: bool, byte: u8) -> bool
 pub fn normal_alias(alloc: Global, text: &[u8]) -> Result<Option<Text>, AllocError>
     ensures { IfOk result (λ found. found ≡ normal_alias text.now) }
 {
-    let mut normal = Vec::new(alloc);
+    let mut normal = Vec::with_capacity(alloc, text.len())?;
     let mut is_set = false;
     let mut rest = text;
     while let Some((byte, later)) = rest.split_first() {

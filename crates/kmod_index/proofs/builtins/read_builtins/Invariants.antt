@@ -1,7 +1,7 @@
 use Rattle.std.proofs.Common.{◌≡◌, ◌++◌, length}
 use Rattle.std.specs.List.{filter_map}
 use Rattle.kmod_index.specs.Builtins.{builtin_name, builtin_names}
-use Rattle.kmod_index.specs.Places.{ArePlaces}
+use Rattle.kmod_names.specs.Places.{ArePlaces}
 use Rattle.kmod_index.proofs.builtins.read_builtins.Given as goal
 
 abbrev pub invariant-lines : goal.invariant-lines

@@ -2,7 +2,7 @@ use Rattle.std.proofs.Common.{◌≡◌, ◌≤◌, ◌+◌, ◌++◌, length, m
 use Rattle.std.specs.List.{enumerate_from, filter_map}
 use Rattle.kmod_index.specs.Lines.{keyed_lines, keyed_of_line}
 use Rattle.kmod_index.specs.ForProofs.{key_of}
-use Rattle.kmod_index.specs.Places.{ArePlaces}
+use Rattle.kmod_names.specs.Places.{ArePlaces}
 use Rattle.kmod_index.proofs.symbols.read_symbols.Given as goal
 
 abbrev pub invariant-lines : goal.invariant-lines

@@ -1,6 +1,6 @@
 use Rattle.std.proofs.Common.{◌∙◌, ap, slice_get, Some, None}
 use Rattle.kmod_index.specs.Dependencies.{line_of, name_of}
-use Rattle.kmod_index.proofs.KeyLemmas.{first_of_key}
+use Rattle.kmod_names.proofs.KeyLemmas.{first_of_key}
 use Rattle.kmod_index.proofs.modules_dep.ModulesDep.find.Goals as goal
 
 pub returns-in-Some : goal.returns-in-Some

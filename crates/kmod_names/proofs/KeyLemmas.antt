@@ -1,5 +1,5 @@
 -- A hashed map tells the places of each key as its pairs do.
-use Rattle.std.proofs.Common.{◌≡◌, ℕ, ◌+◌, List, [], ◌∷◌, ◌++◌, true, false, cond, length, map, slice_get, Option, Some, None, Vec, refl, sym, ◌∙◌, ap, subst, arith, inl, inr}
+use Rattle.std.proofs.Common.{◌≡◌, ℕ, ◌+◌, List, [], ◌∷◌, ◌++◌, true, false, cond, length, map, slice_get, Option, Some, None, Result, Ok, Err, OnErr, Vec, refl, sym, ◌∙◌, ap, subst, arith, inl, inr}
 use Rattle.std.specs.Global.{Global}
 use Rattle.std.specs.Option.{unwrap_or}
 use Rattle.std.specs.Str.{bytes_eq}
@@ -10,7 +10,7 @@ use Rattle.std.proofs.lemmas.List.{append-nil, map-append, length-map}
 use Rattle.std.proofs.lemmas.Slice.Eq.{bytes_eq-Decides}
 use Rattle.indexmap.specs.IndexMap.{insert_entry}
 use Rattle.kmod_names.proofs.PlaceLemmas.{told, place_if, places_where-push, at_place, first_place, at_first}
-use Rattle.kmod_index.specs.Places.{ArePlaces, places_in, with_place}
+use Rattle.kmod_names.specs.Places.{ArePlaces, places_in, with_place}
 
 abbrev pub Pair : Type 0
 Pair = Vec ℕ Global × Vec ℕ Global
@@ -64,6 +64,27 @@ place_added grown entries key was is nothing own place pushed found empty named 
     ap (map pair_of) put
     ∙ put_pairs entries key is place (pushed ∙ ap (λ l. l ++ place ∷ []) before)
     ∙ ap (λ n. with_place (map pair_of entries) n place) named
+
+kept_pairs : (entries : List Pair) (key places : Vec ℕ Global) (other : List ℕ)
+    → places.items ≡ items_or (lookup (λ k. bytes_eq key.items k.items) entries)
+    → places_in (map pair_of (insert_entry (λ a b. bytes_eq a.items b.items) entries key places)) other ≡ places_in (map pair_of entries) other
+kept_pairs [] key places other h = elim (told (bytes_eq other key.items)) [ inl t ↦ rw t h | inr t ↦ rw t refl ]
+kept_pairs (entry ∷ entries) key places other h = elim (told (bytes_eq key.items entry.0.items)) [
+  | inl t ↦ rw t (ap (λ l. cond (bytes_eq other entry.0.items) l (places_in (map pair_of entries) other)) (rw t at h))
+  | inr t ↦ rw t (ap (λ l. cond (bytes_eq other entry.0.items) entry.1.items l) (kept_pairs entries key places other (rw t at h)))
+]
+
+-- the places of a key stand in the map again as they were
+pub places_kept : (grown entries : List Pair) (key was is nothing : Vec ℕ Global)
+    → is.items ≡ was.items
+    → was ≡ unwrap_or (lookup (λ k. bytes_eq key.items k.items) entries) nothing
+    → nothing.items ≡ []
+    → grown ≡ insert_entry (λ a b. bytes_eq a.items b.items) entries key is
+    → (other : List ℕ) → places_in (map pair_of grown) other ≡ places_in (map pair_of entries) other
+places_kept grown entries key was is nothing same found empty put other =
+    let before : is.items ≡ items_or (lookup (λ k. bytes_eq key.items k.items) entries) =
+    same ∙ ap (λ v. v.items) found ∙ or_nothing (lookup (λ k. bytes_eq key.items k.items) entries) nothing empty in
+    ap (λ l. places_in (map pair_of l) other) put ∙ kept_pairs entries key is other before
 
 same_key : (a b : List ℕ) → bytes_eq a b ≡ true → a ≡ b
 same_key a b t = grind (arith, bytes_eq-Decides a b)
@@ -128,3 +149,11 @@ pub first_of_key : {X : Type 0} (f : X → List ℕ) (pairs : List (List ℕ × 
     → ArePlaces pairs (map f items) → first ≡ slice_get (places_in pairs key) 0 → at_place items first ≡ find (λ x. bytes_eq key (f x)) items
 first_of_key f pairs items key first h is =
     ap (at_place items) (is ∙ ap (λ l. slice_get l 0) (h key) ∙ first_place (bytes_eq key) 0 (map f items)) ∙ at_first f (bytes_eq key) items
+
+pub on_err : {T E : Type 0} {P : Type 0} (r : Result T E) → P → OnErr r P
+on_err (Ok x) h = tt
+on_err (Err e) h = h
+
+-- no key has other places than before
+pub ArePlaces-kept : (old new : List (List ℕ × List ℕ)) (keys : List (List ℕ)) → ((other : List ℕ) → places_in new other ≡ places_in old other) → ArePlaces old keys → ArePlaces new keys
+ArePlaces-kept old new keys kept are key = kept key ∙ are key

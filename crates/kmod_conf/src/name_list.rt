@@ -1,0 +1,64 @@
+//! Lines with names, and whether one has a name.
+ghost use Rattle.std.specs.Prelude.{◌≡◌, ◌∷◌, ◌++◌, [], OnOk, OnErr};
+ghost use Rattle.std.specs.List.{list_any};
+ghost use Rattle.std.specs.Str.{bytes_eq};
+
+use crate::line::NameLine;
+use kmod_names::KeyPlaces;
+use std::alloc::{AllocError, Global};
+use std::marker::Model;
+
+/// Lines with names in the order of the texts, found by a hash of their names.
+#[derive(Drop)]
+pub(crate) struct NameList {
+    lines: Vec<NameLine>,
+    places: KeyPlaces,
+}
+
+impl Model for NameList {
+    ghost use Rattle.std.specs.Prelude.{List, map};
+    ghost use Rattle.kmod_names.specs.Places.{ArePlaces};
+    ghost use Rattle.kmod_conf.specs.declared.line.NameLine.{NameLine};
+
+    ghost Value = { List NameLine };
+
+    ghost view = { λ l. l.lines.items };
+
+    ghost invariant = { λ l. ArePlaces l.places (map (λ line. line.name) l.lines.items) };
+}
+
+impl NameList {
+    pub(crate) fn new(alloc: Global) -> NameList
+        ensures { result ≡ [] }
+    {
+        NameList {
+            lines: Vec::new(alloc),
+            places: KeyPlaces::new(alloc),
+        }
+    }
+
+    /// Adds a line behind the others. Where memory runs out the list stays as it was.
+    pub(crate) fn push(&mut self, alloc: Global, line: NameLine) -> Result<(), AllocError>
+        ensures ok { OnOk result (self.new ≡ self.old ++ line ∷ []) }
+        ensures err { OnErr result (self.new ≡ self.old) }
+    {
+        self.lines.reserve(1)?;
+        self.places
+            .add(alloc, line.name.as_bytes(), self.lines.len())?;
+        self.lines.push(line)?;
+        Ok(())
+    }
+
+    pub(crate) fn lines(&self) -> &[NameLine]
+        ensures { result.now ≡ self.now }
+    {
+        &self.lines
+    }
+
+    /// Whether some line has just this name.
+    pub(crate) fn has(&self, name: &[u8]) -> bool
+        ensures { result ≡ list_any (λ line. bytes_eq line.name name.now) self.now }
+    {
+        !self.places.of(name).is_empty()
+    }
+}
