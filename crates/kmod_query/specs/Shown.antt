@@ -33,9 +33,13 @@ spaced words = flat_map (λ word. 32 ∷ word) words
 abbrev pub marked : List ℕ → List (List ℕ) → List ℕ
 marked mark words = if length words == 0 then [] else mark ++ spaced words
 
+-- with a blank between them where there are both
+abbrev pub soft_items : List ℕ → List ℕ → List ℕ
+soft_items pre post = if length post == 0 then pre else joined pre post
+
 abbrev pub softdep_line : SoftdepLine → List ℕ
 softdep_line own =
-    line (codes "softdep ") own.name (joined (marked (codes "pre:") own.items.pre) (marked (codes "post:") own.items.post))
+    line (codes "softdep ") own.name (soft_items (marked (codes "pre:") own.items.pre) (marked (codes "post:") own.items.post))
 
 -- the lines of the configuration, kind by kind
 abbrev pub shown_configuration : Configuration → List ℕ

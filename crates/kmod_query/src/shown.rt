@@ -87,7 +87,9 @@ fn softdep_line(alloc: Global, own: &SoftdepLine) -> Result<Vec<u8>, AllocError>
 {
     let mut items = marked(alloc, b"pre:", own.items.pre())?;
     let post = marked(alloc, b"post:", own.items.post())?;
-    push_joined(&mut items, &post)?;
+    if !post.is_empty() {
+        push_joined(&mut items, &post)?;
+    }
     line(alloc, b"softdep ", own.name.as_bytes(), &items)
 }
 
