@@ -1,0 +1,42 @@
+-- Which query a command line asks.
+use Rattle.std.specs.Prelude.{◌≡◌, ℕ, Bool, true, false, List, Option, Some, None}
+use Rattle.text_parts.specs.Text.{texts_of}
+use Rattle.kmod_query.specs.declared.query.Ask.{Ask}
+use Rattle.kmod_query.specs.declared.query.Ask.TheVariants as asks
+use Rattle.kmod_query.specs.declared.query.Query.{Query}
+use Rattle.gz_modprobe_drive.specs.declared.switches.Switches.{Switches}
+use Rattle.gz_modprobe_drive.specs.declared.wishes.Wish.{Wish}
+use Rattle.gz_modprobe_drive.specs.declared.wishes.Wish.TheVariants as wishes
+
+-- what a wish asks; none where it is refused
+abbrev pub ask_of : Wish → Option Ask
+ask_of wishes.ShowConfig = Some asks.ShowConfig
+ask_of wishes.ShowDepends = Some asks.ShowDepends
+ask_of wishes.DryRun = Some asks.DryRun
+ask_of wishes.Resolve = Some asks.Resolve
+ask_of wishes.Remove = Some asks.Remove
+ask_of wishes.ShowRemoval = Some asks.ShowRemoval
+ask_of wishes.NoName = None
+ask_of wishes.ShowModule = None
+ask_of wishes.RemoveHolders = None
+ask_of wishes.Load = None
+ask_of wishes.Removal = None
+
+-- what is asked, as the options and the words of a command line say
+pub record IsQueryOf (wish : Wish) (switches : Switches) (given : List (List ℕ)) (query : Query) : Type 0 where
+  pub ask : ask_of wish ≡ Some query.ask
+  pub all : query.all ≡ switches.all
+  pub use_blacklist : query.use_blacklist ≡ switches.use_blacklist
+  pub ignore_commands : query.ignore_commands ≡ switches.ignore_commands
+  pub first_time : query.first_time ≡ switches.first_time
+  pub verbosity : query.verbosity ≡ switches.verbosity
+  pub words : texts_of query.words.now ≡ given
+
+-- states count for a dry run and for a removal
+abbrev pub asks_states : Ask → Bool
+asks_states asks.DryRun = true
+asks_states asks.Remove = true
+asks_states asks.ShowRemoval = true
+asks_states asks.ShowDepends = false
+asks_states asks.Resolve = false
+asks_states asks.ShowConfig = false

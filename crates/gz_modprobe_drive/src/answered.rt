@@ -1,0 +1,81 @@
+//! An answer, from the texts of a machine to a stream.
+ghost use Rattle.std.specs.Prelude.{◌≡◌, IfOk, IsTrue};
+ghost use Rattle.std.specs.Io.KnownBytes.{Appends};
+ghost use Rattle.kmod_query.specs.AnswerOf.{answer_of};
+ghost use Rattle.gz_modprobe_drive.specs.Texts.{IsConfOf};
+ghost use Rattle.gz_modprobe_drive.specs.Answered.{IsAnswer, said_by, status_of};
+
+use crate::texts::Machine;
+use kmod_conf::Conf;
+use kmod_query::{Answer, Query, World, answer_to};
+use std::alloc::{AllocError, Global};
+use std::io::Write;
+
+/// An answer, and whether its output was written.
+#[derive(Drop)]
+pub(crate) struct Answered {
+    pub(crate) answer: Answer,
+    pub(crate) is_written: bool,
+}
+
+impl Answered {
+    /// The exit status: 1 where a name failed, or the output was not written.
+    pub(crate) fn status(&self) -> u8
+        ensures { result ≡ status_of self.now.answer self.now.is_written }
+    {
+        if self.answer.has_failed() || !self.is_written {
+            1
+        } else {
+            0
+        }
+    }
+}
+
+/// Writes a text to its end. Whether that went well is answered.
+fn writes<O: Write>(output: &mut O, text: &[u8]) -> bool
+    ensures { IsTrue result → Appends (O.contents output.old) (O.contents output.new) text.now }
+{
+    match output.write_all(text) {
+        Ok(()) => output.flush().is_ok(),
+        Err(_) => false,
+    }
+}
+
+/// Answers a query of a world, and writes the answer's output. Only want of memory refuses.
+fn answer_world<O: Write>(
+    alloc: Global,
+    world: &World<'_>,
+    query: &Query<'_>,
+    output: &mut O,
+) -> Result<Answered, AllocError>
+    ensures answer { IfOk result (λ own. own.answer ≡ answer_of world.now query.now) }
+    ensures written { IfOk result (λ own. IsTrue own.is_written → Appends (O.contents output.old) (O.contents output.new) own.answer.output) }
+{
+    let answer = answer_to(alloc, world, query)?;
+    let is_written = writes(output, answer.output());
+    Ok(Answered { answer, is_written })
+}
+
+/// Answers a query from the texts and states of a machine, and writes the answer's output. `conf` is what its configuration
+/// says. Only want of memory refuses.
+#[tactic(auto, unfolding(crate::specs::Answered::said_by))]
+pub(crate) fn answer_machine<O: Write>(
+    alloc: Global,
+    machine: &Machine,
+    conf: &Conf,
+    query: &Query<'_>,
+    output: &mut O,
+) -> Result<Answered, AllocError>
+    requires { IsConfOf machine.now.conf conf.now }
+    ensures answer { IfOk result (λ own. IsAnswer (said_by machine.now) query.now own.answer) }
+    ensures written { IfOk result (λ own. IsTrue own.is_written → Appends (O.contents output.old) (O.contents output.new) own.answer.output) }
+{
+    let index = machine.modules.index(alloc)?;
+    let world = World {
+        conf,
+        index: &index,
+        states: &machine.states,
+        directory: &machine.directory,
+    };
+    answer_world(alloc, &world, query, output)
+}

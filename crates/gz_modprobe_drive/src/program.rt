@@ -1,0 +1,101 @@
+//! The program over any words, files and streams.
+ghost use Rattle.std.specs.Prelude.{◌≤◌, IfOk};
+
+use crate::answering::answer_query;
+use crate::answers::query_of;
+use crate::asked::Asked;
+use crate::endings::first_ending;
+use crate::host::Host;
+use crate::messages::Messages;
+use crate::refusals::{end_early, is_refused};
+use crate::variable::variable_words;
+use crate::words::read_words;
+use std::alloc::{AllocError, Global};
+use std::env::Env;
+use std::io::Write;
+use std::rt::Files;
+
+/// Answers what is asked. The status is answered.
+fn answer_asked<R: Files + Env + AllocGlobal, O: Write, E: Write>(
+    rt: &R,
+    asked: &Asked<'_>,
+    output: &mut O,
+    errors: &mut E,
+) -> Result<u8, AllocError>
+    ensures { IfOk result (λ status. status ≤ 1) }
+{
+    let name = asked.words.first().copied().unwrap_or(b"");
+    let wish = asked.switches.wish(!asked.words.is_empty());
+    if is_refused(wish, name, errors) {
+        return Ok(1);
+    }
+    let mut messages = Messages {
+        errors,
+        verbosity: asked.switches.verbosity,
+    };
+    let Some(query) = query_of(wish, asked.switches, &asked.words) else {
+        return Ok(1);
+    };
+    let host = Host {
+        rt,
+        root: asked.root.unwrap_or(b""),
+    };
+    answer_query(&host, asked, &query, output, &mut messages)
+}
+
+/// The words of the variable, and those of the command line behind them.
+fn all_words(alloc: Global, words: &[Vec<u8>], options: &[u8]) -> Result<Vec<Vec<u8>>, AllocError> {
+    let mut all = variable_words(alloc, options)?;
+    for word in words {
+        all.push(Vec::from_slice(alloc, word)?)?;
+    }
+    Ok(all)
+}
+
+fn slices(alloc: Global, words: &[Vec<u8>]) -> Result<Vec<&[u8]>, AllocError> {
+    let mut all = Vec::new(alloc);
+    for word in words {
+        all.push(word.as_slice())?;
+    }
+    Ok(all)
+}
+
+/// Runs the program on its words and the text of MODPROBE_OPTIONS. The status is answered.
+fn run<R: Files + Env + AllocGlobal, O: Write, E: Write>(
+    rt: &R,
+    words: &[Vec<u8>],
+    options: Option<&[u8]>,
+    output: &mut O,
+    errors: &mut E,
+) -> Result<u8, AllocError>
+    ensures { IfOk result (λ status. status ≤ 1) }
+{
+    let own = all_words(rt.alloc(), words, options.unwrap_or(b""))?;
+    let all = slices(rt.alloc(), &own)?;
+    let items = read_words(rt.alloc(), &all)?;
+    if let Some(ending) = first_ending(&items) {
+        return Ok(end_early(ending, output, errors));
+    }
+    let asked = Asked::by(rt.alloc(), &items)?;
+    answer_asked(rt, &asked, output, errors)
+}
+
+/// Runs the program on its words, without its own name, and the text of MODPROBE_OPTIONS. It writes the answer to
+/// `output`, and messages to `errors`. The exit status is answered: 0, or 1 where something failed or was refused.
+pub fn drive<R: Files + Env + AllocGlobal, O: Write, E: Write>(
+    rt: &R,
+    words: &[Vec<u8>],
+    options: Option<&[u8]>,
+    output: &mut O,
+    errors: &mut E,
+) -> u8
+    ensures { result ≤ 1 }
+{
+    match run(rt, words, options, output, errors) {
+        Ok(status) => status,
+        Err(_) => {
+            let _ = errors.write_all(b"gz-modprobe: FATAL: out of memory\n");
+            1
+        }
+    }
+}
