@@ -5,3 +5,4 @@ pub mod TextLemmas
 pub mod RemovalLemmas
 pub mod GroupLemmas
 pub mod WayLemmas
+pub mod LawLemmas

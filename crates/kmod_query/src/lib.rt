@@ -4,6 +4,7 @@
 mod answer;
 mod answering;
 mod groups;
+mod laws;
 mod lines;
 mod loaded_names;
 mod loading;
@@ -23,6 +24,9 @@ mod world;
 
 pub use answer::{Answer, Failure};
 pub use answering::answer_to;
+pub use laws::{
+    blacklisted_modules_are_not_loaded, names_are_answered_in_turn, show_depends_ignores_states,
+};
 pub use query::{Ask, Query};
 pub use states::{ModuleState, ModuleStatus, States};
 pub use world::World;
