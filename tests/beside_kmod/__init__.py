@@ -1,0 +1,1 @@
+"""gz-modprobe beside kmod's modprobe: folders of modules, a change of root, queries, and what differs."""

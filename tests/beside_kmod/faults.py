@@ -1,0 +1,107 @@
+"""The faults of kmod 30 that gz-modprobe does not copy, and how they are recognised."""
+
+import ctypes
+import re
+
+SOFTDEP = "soft items are read or shown wrong"
+ENDLESS = "a removal never ends"
+NOT_UTF8 = "a file of modprobe.d whose name is no UTF-8 is not read"
+NAMED = "a command of the line that has the very name, before one whose pattern matches"
+BLANKS = b" \t\n\v\f\r"
+
+
+def logical_lines(text):
+    """Pairs of a line as it stands and as modprobe reads it: backslashes join lines, or are dropped."""
+    lines, raw, read, at = [], b"", b"", 0
+    while at < len(text):
+        letter = text[at : at + 1]
+        raw += letter
+        at += 1
+        if letter == b"\\":
+            raw += text[at : at + 1]
+            read += text[at : at + 1].replace(b"\n", b"")
+            at += 1
+        elif letter == b"\n":
+            lines.append((raw, read))
+            raw = read = b""
+        else:
+            read += letter
+    return lines + ([(raw, read)] if raw else [])
+
+
+def items_of(rest):
+    """The words after pre: and after post:."""
+    found, mark = {b"pre:": [], b"post:": []}, None
+    for word in re.split(b"[%b]+" % BLANKS, rest):
+        if word in found:
+            mark = word
+        elif word and mark:
+            found[mark].append(word)
+    return found
+
+
+def mended_line(raw, read):
+    """A softdep line with single blanks and its marks in order, so that no fault of kmod can be met. Others as they are."""
+    read = read.split(b"\0")[0]
+    parts = re.fullmatch(rb"[ \t]*softdep[ \t]+([^ \t]+)[ \t](.+)", read, re.S)
+    if parts is None:
+        return raw
+    words = [parts[1]]
+    for mark, items in items_of(parts[2]).items():
+        words += [mark, *items] if items else []
+    words += [] if len(words) > 1 else [b"pre:"]
+    return b"softdep " + b" ".join(words).replace(b"\\", b"\\\\") + b"\n"
+
+
+def mended(text):
+    return b"".join(mended_line(*it) for it in logical_lines(text))
+
+
+def is_configuration(path):
+    return path.endswith((b".conf", b"/modules.softdep", b"/modprobe.d")) or path.startswith(b"/own")
+
+
+def with_right_softdeps(files):
+    """The files that change when the faults of soft items are mended."""
+    texts = {path: it for path, it in files.items() if is_configuration(path) and isinstance(it, bytes)}
+    return {path: mended(it) for path, it in texts.items() if mended(it) != it}
+
+
+def without_odd_names(files):
+    """The files that gz-modprobe can't open by their names, empty."""
+    return {path: b"" for path, it in files.items() if it and isinstance(it, bytes) and not path.decode(errors="replace").encode() == path}
+
+
+def with_both(files):
+    return {**with_right_softdeps(files), **without_odd_names(files)}
+
+
+# What kmod is asked over once more, and what is known where it then answers as gz-modprobe does.
+MENDS = ((SOFTDEP, with_right_softdeps), (NOT_UTF8, without_odd_names), (NOT_UTF8, with_both))
+
+
+def shown_right(output):
+    """kmod's configuration with the blank before post: that it forgets."""
+    return re.sub(rb"^(softdep \S+ pre: .*\S)(?<! )post: ", rb"\1 post: ", output, flags=re.M)
+
+
+
+def matches(pattern, name):
+    return ctypes.CDLL(None).fnmatch(pattern, name, 0) == 0
+
+
+def commands(configuration, kind):
+    """The install or remove lines of a shown configuration: pairs of a name and a command."""
+    found = re.findall(rb"^%b (\S*) (.*)$" % kind, configuration.split(b"\n\n")[0], re.M)
+    return [(name, command) for name, command in found]
+
+
+def first_commands(output, configuration):
+    """kmod's lines with the command of the first line that matches, in place of the first with the very name."""
+    for kind in (b"install", b"remove"):
+        lines = commands(configuration, kind)
+        for name, command in lines:
+            first = next(it for pattern, it in lines if matches(pattern, name))
+            if first != command:
+                output = output.replace(kind + b" " + command, kind + b" " + first)
+    return output
