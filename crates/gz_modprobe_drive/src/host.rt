@@ -5,6 +5,10 @@ use std::io::{self, ErrorKind, Read};
 use std::rt::Files;
 use std::{fs, str};
 
+/// The room for a folder's names. The system refuses a read whose room the next name does not fit in (getdents64(2)), so
+/// it has to be enough for all: some 200,000 names.
+const ROOM_FOR_NAMES: usize = 4_194_304;
+
 /// The files below a folder that stands for `/`.
 #[derive(Drop)]
 pub(crate) struct Host<'a, R> {
@@ -61,7 +65,7 @@ impl<R: Files + AllocGlobal> Host<'_, R> {
         let Ok(text) = str::from_utf8(&place) else {
             return Err(io::Error::from(ErrorKind::InvalidFilename));
         };
-        let mut bytes = Vec::new(self.rt.alloc());
+        let mut bytes = Vec::with_capacity(self.rt.alloc(), ROOM_FOR_NAMES)?;
         let mut folder = self.rt.open_dir(text)?;
         folder.read_to_end(&mut bytes)?;
         let mut names = Vec::new(self.rt.alloc());

@@ -24,9 +24,8 @@ fn answer_asked<R: Files + Env + AllocGlobal, O: Write, E: Write>(
 ) -> Result<u8, AllocError>
     ensures { IfOk result (λ status. status ≤ 1) }
 {
-    let name = asked.words.first().copied().unwrap_or(b"");
     let wish = asked.switches.wish(!asked.words.is_empty());
-    if is_refused(wish, name, errors) {
+    if is_refused(wish, errors) {
         return Ok(1);
     }
     let mut messages = Messages {

@@ -118,25 +118,20 @@ pub(crate) fn end_early<O: Write, E: Write>(
     }
 }
 
-/// Tells that nothing is loaded or removed, and how to see what would be done. The words are those of such a query.
-fn tell_hint<E: Write>(what: &[u8], words: &[u8], name: &[u8], errors: &mut E) {
+/// Tells that nothing is loaded or removed, and how to see what would be done. No word of the command line is shown: a
+/// name may hold what a shell would do.
+fn tell_hint<E: Write>(what: &[u8], words: &[u8], errors: &mut E) {
     write_parts(
         errors,
         b"gz-modprobe: ERROR: nothing is ",
         what,
-        b" here: 'gz-modprobe ",
+        b" here: the same words with -n -v show what would be done, and 'gz-modprobe ",
     );
-    write_parts(
-        errors,
-        words,
-        name,
-        b"' shows what would be done, and 'gz-modprobe ",
-    );
-    write_parts(errors, words, name, b" | sh' does it\n");
+    write_parts(errors, words, b"NAME", b" | sh' does it\n");
 }
 
 /// Tells why a wish is not answered, where it is not. It is shown at any verbosity.
-pub(crate) fn is_refused<E: Write>(wish: Wish, name: &[u8], errors: &mut E) -> bool
+pub(crate) fn is_refused<E: Write>(wish: Wish, errors: &mut E) -> bool
     ensures { result ≡ is_none (ask_of wish) }
 {
     match wish {
@@ -152,8 +147,8 @@ pub(crate) fn is_refused<E: Write>(wish: Wish, name: &[u8], errors: &mut E) -> b
         Wish::RemoveHolders => {
             tell_line(errors, b"ERROR: ", b"--remove-holders", b" is not answered");
         }
-        Wish::Load => tell_hint(b"loaded", b"-n -v ", name, errors),
-        Wish::Removal => tell_hint(b"removed", b"-r -n -v ", name, errors),
+        Wish::Load => tell_hint(b"loaded", b"-n -v ", errors),
+        Wish::Removal => tell_hint(b"removed", b"-r -n -v ", errors),
         _ => return false,
     }
     true
