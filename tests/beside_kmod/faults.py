@@ -7,6 +7,8 @@ SOFTDEP = "soft items are read or shown wrong"
 ENDLESS = "a removal never ends"
 NOT_UTF8 = "a file of modprobe.d whose name is no UTF-8 is not read"
 NAMED = "a command of the line that has the very name, before one whose pattern matches"
+WAIT = "a removal with --wait passes over what is in use"
+OVERWRITTEN = "MODPROBE_OPTIONS with several words in quotes is overwritten"
 BLANKS = b" \t\n\v\f\r"
 
 
@@ -85,9 +87,38 @@ def shown_right(output):
     return re.sub(rb"^(softdep \S+ pre: .*\S)(?<! )post: ", rb"\1 post: ", output, flags=re.M)
 
 
-
 def matches(pattern, name):
     return ctypes.CDLL(None).fnmatch(pattern, name, 0) == 0
+
+
+def words_of_variable(text):
+    """The words of MODPROBE_OPTIONS: single blanks divide them, and a word that begins with a quote ends at its closing one."""
+    words, word, at = [], b"", 0
+    while at < len(text):
+        letter = text[at : at + 1]
+        close = text.find(letter, at + 1) if letter in b"\"'" else at
+        if letter == b" " or (close > at and not word):
+            words.append(word or text[at + 1 : close])
+            word = b""
+        elif close < 0:
+            word, close = word + text[at:], len(text)
+        else:
+            word += text[at + 1 : close] if close > at else letter
+        at = close + 1
+    return words + ([word] if word else [])
+
+
+def without_variable(words, environment):
+    """The words with those of MODPROBE_OPTIONS before them, where kmod has no room for so many and overwrites their text. Else None."""
+    text = environment.get(b"MODPROBE_OPTIONS", b"")
+    before = words_of_variable(text)
+    return [*before, *words] if len(before) > text.count(b" ") + 2 else None
+
+
+def without_waiting(words):
+    """The words with a last --wait whose number is 0: kmod then asks who uses a module that it removes."""
+    at = words.index(b"--") if b"--" in words else len(words)
+    return [*words[:at], b"--wait=0", *words[at:]]
 
 
 def commands(configuration, kind):

@@ -16,8 +16,12 @@ from .stage import OWN, Link, write_files
 
 # What kmod says to its own developers, where in its sources it says a thing, and what is said in other words.
 DEVELOPERS = re.compile(rb"^(?:modprobe|libkmod): (?:INFO|DEBUG|NOTICE)|^modprobe: ERROR: \.\./libkmod|^==\d+==WARNING")
+STATE = re.compile(rb"^modprobe: ERROR: \.\./libkmod/\S+ \w+\(\) unknown \S+/initstate: '[^']*'\n", re.M)
 SOURCES = re.compile(rb"^libkmod: ERROR \S+\.c:\d+ \w+: ")
-OWN_WORDS = re.compile(rb"deprecated and not parsed|starting with '(?:include|config)'|NOTICE: there is no folder|no UTF-8")
+OWN_WORDS = re.compile(
+    rb"deprecated and not parsed|starting with '(?:include|config)'|Ignoring bad option on kernel command line"
+    rb"|NOTICE: there is no folder|no UTF-8"
+)
 LINES = 40
 
 
@@ -41,7 +45,7 @@ def shown(said):
 
 def messages(errors):
     """Standard error without what may differ: the program's name, places in kmod's sources, what is for developers."""
-    lines = [SOURCES.sub(b"modprobe: ERROR: ", it) for it in errors.split(b"\n") if it and not DEVELOPERS.match(it)]
+    lines = [SOURCES.sub(b"modprobe: ERROR: ", it) for it in STATE.sub(b"", errors).split(b"\n") if it and not DEVELOPERS.match(it)]
     return [re.sub(rb"^gz[-_]modprobe: ", b"modprobe: ", it) for it in lines if not OWN_WORDS.search(it)]
 
 
@@ -104,6 +108,13 @@ class Judge:
         """The named fault of kmod by which the answers differ, or None."""
         if theirs.status < 0 and ours.status >= 0:
             return faults.ENDLESS
+        if plain := faults.without_variable(words, environment):
+            words, environment = plain, {}
+            if self.agree(self.stage.ask("modprobe", words), ours):
+                return faults.OVERWRITTEN
+        words = faults.without_waiting(words)
+        if self.agree(self.stage.ask("modprobe", words, environment), ours):
+            return faults.WAIT
         files = files_below(self.stage.root)
         for fault, mend in faults.MENDS:
             changed = mend(files)
