@@ -151,6 +151,16 @@ class Maker:
             return FOLDER
         return writer.text(self.dice.choice((1, 3, 8)))
 
+    def write_others(self):
+        """Now and then more names than fit into what is read of a folder at once, as real machines have them."""
+        if self.chance(0.3):
+            for number in range(self.dice.randrange(200)):
+                self.world.files[b"/sys/module/other_%d/parameters/x" % number] = b"1\n"
+        folder = self.dice.choice(CONFIGURED)
+        if self.chance(0.2) and not isinstance(self.world.files.get(folder), (bytes, Link)):
+            for number in range(self.dice.randrange(100)):
+                self.world.files[folder + b"/other-%d.conf" % number] = b"options other x=%d\n" % number
+
     def write_machine(self):
         """What the kernel says: the release, its command line, the modules that are loaded."""
         dice, world = self.dice, self.world
@@ -159,6 +169,7 @@ class Maker:
         if self.chance(0.7):
             before = dice.choice((b"", b"", b"", b"", b"z" * 4060 + b" "))
             world.files[b"/proc/cmdline"] = before + Writer(dice, self.known).command_line()
+        self.write_others()
         loaded = dice.choice((0, 0.3, 0.9))
         for name in world.modules + self.builtins + [b"nothing"]:
             if self.chance(loaded):
