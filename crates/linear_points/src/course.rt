@@ -13,9 +13,9 @@ ghost use Rattle.linear_points.specs.Noted.{calls_at};
 
 use crate::intervals::{self, Interval};
 use crate::point::{Point, PointsError};
-use crate::{replays, runs};
+use crate::runs;
 use dep_index::Catalogue;
-use seq_table::Table;
+use seq_table::{Table, perform};
 use std::alloc::{AllocError, Global};
 use step_core::{Event, Step};
 
@@ -141,7 +141,7 @@ impl Course {
         ensures over { table.new.catalogue ≡ table.old.catalogue }
     {
         let interval = &self.intervals[point.call];
-        let answered = replays::perform(table, interval.call);
+        let answered = perform(table, interval.call);
         answered == point.reply
     }
 }

@@ -7,7 +7,6 @@ mod intervals;
 pub mod laws;
 mod linear;
 mod point;
-mod replays;
 mod runs;
 
 pub use checker::check_points;

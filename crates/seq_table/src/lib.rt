@@ -3,7 +3,9 @@
 
 mod counts;
 mod modules;
+mod performing;
 mod table;
 
 pub use modules::Modules;
+pub use performing::perform;
 pub use table::Table;

@@ -4,26 +4,7 @@ ghost use Rattle.dep_index.specs.Calls.{reply, next, IsInRange};
 ghost use Rattle.dep_index.specs.Laws.{IsLawful};
 
 use dep_index::{Call, Reply};
-use seq_table::Modules;
-
-/// Makes the call, whichever it is.
-fn perform<M: Modules>(table: &mut M, call: Call) -> Reply
-    requires { IsInRange (length (M.catalogue table.old)) (length (M.table table.old).rows) call }
-    ensures answers { result ≡ reply (M.catalogue table.old) (M.table table.old) call }
-    ensures becomes { M.table table.new ≡ next (M.catalogue table.old) (M.table table.old) call }
-    ensures over { M.catalogue table.new ≡ M.catalogue table.old }
-{
-    match call {
-        Call::Get(worker, slot) => Reply::of(table.get(worker, slot)),
-        Call::Put(worker, slot) => Reply::of(table.put(worker, slot)),
-        Call::InUse(slot) => Reply::of_query(table.in_use(slot)),
-        Call::BeginLoad(slot) => Reply::of(table.begin_load(slot)),
-        Call::EndLoad(slot, ok) => Reply::of(table.end_load(slot, ok)),
-        Call::BeginDrain(slot) => Reply::of(table.begin_drain(slot)),
-        Call::BeginRemove(slot) => Reply::of(table.begin_remove(slot)),
-        Call::EndRemove(slot) => Reply::of(table.end_remove(slot)),
-    }
-}
+use seq_table::{Modules, perform};
 
 /// Whichever table it is, a call answers and leaves what the one-thread table does. One that is refused, or only asks,
 /// changes nothing. And whatever calls were made before, the table is lawful: its order has each module of the table

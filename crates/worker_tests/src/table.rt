@@ -4,7 +4,7 @@
 ghost use Rattle.std.specs.Prelude.{◌≤◌};
 
 use dep_index::{Call, ModuleState, Reply, Slots};
-use seq_table::{Modules, Table};
+use seq_table::{Modules, Table, perform};
 use std::alloc::{AllocError, Global};
 use std::test::Fail;
 
@@ -115,18 +115,10 @@ fn reply_to(table: &mut Table, call: Call) -> Option<Reply> {
     if call.slot() >= table.slots() {
         return None;
     }
-    let reply = match call {
-        Call::Get(worker, _) | Call::Put(worker, _) if worker >= table.workers() => return None,
-        Call::Get(worker, slot) => Reply::of(table.get(worker, slot)),
-        Call::Put(worker, slot) => Reply::of(table.put(worker, slot)),
-        Call::InUse(slot) => Reply::of_query(table.in_use(slot)),
-        Call::BeginLoad(slot) => Reply::of(table.begin_load(slot)),
-        Call::EndLoad(slot, ok) => Reply::of(table.end_load(slot, ok)),
-        Call::BeginDrain(slot) => Reply::of(table.begin_drain(slot)),
-        Call::BeginRemove(slot) => Reply::of(table.begin_remove(slot)),
-        Call::EndRemove(slot) => Reply::of(table.end_remove(slot)),
-    };
-    Some(reply)
+    match call {
+        Call::Get(worker, _) | Call::Put(worker, _) if worker >= table.workers() => None,
+        _ => Some(perform(table, call)),
+    }
 }
 
 /// Makes the calls in order, and names the first that answers otherwise.

@@ -1,16 +1,16 @@
-//! One call on the one-thread table.
+//! One call on a table, whichever table and call it is.
 ghost use Rattle.std.specs.Prelude.{◌≡◌, length};
 ghost use Rattle.dep_index.specs.Calls.{reply, next, IsInRange};
 
+use crate::modules::Modules;
 use dep_index::{Call, Reply};
-use seq_table::{Modules, Table};
 
 /// Makes the call, and says what it answers.
-pub fn perform(table: &mut Table, call: Call) -> Reply
-    requires { IsInRange (length table.old.catalogue) (length table.old.table.rows) call }
-    ensures answers { result ≡ reply table.old.catalogue table.old.table call }
-    ensures becomes { table.new.table ≡ next table.old.catalogue table.old.table call }
-    ensures over { table.new.catalogue ≡ table.old.catalogue }
+pub fn perform<M: Modules>(table: &mut M, call: Call) -> Reply
+    requires { IsInRange (length (M.catalogue table.old)) (length (M.table table.old).rows) call }
+    ensures answers { result ≡ reply (M.catalogue table.old) (M.table table.old) call }
+    ensures becomes { M.table table.new ≡ next (M.catalogue table.old) (M.table table.old) call }
+    ensures over { M.catalogue table.new ≡ M.catalogue table.old }
 {
     match call {
         Call::Get(worker, slot) => Reply::of(table.get(worker, slot)),
