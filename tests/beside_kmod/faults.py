@@ -13,7 +13,7 @@ BLANKS = b" \t\n\v\f\r"
 
 
 def logical_lines(text):
-    """Pairs of a line as it stands and as modprobe reads it: backslashes join lines, or are dropped."""
+    """Pairs of a line as it stands and as modprobe reads it: a backslash joins lines or is dropped, and one that ends the text is read as the byte 255."""
     lines, raw, read, at = [], b"", b"", 0
     while at < len(text):
         letter = text[at : at + 1]
@@ -21,7 +21,7 @@ def logical_lines(text):
         at += 1
         if letter == b"\\":
             raw += text[at : at + 1]
-            read += text[at : at + 1].replace(b"\n", b"")
+            read += text[at : at + 1].replace(b"\n", b"") if at < len(text) else b"\xff"
             at += 1
         elif letter == b"\n":
             lines.append((raw, read))
