@@ -4,3 +4,5 @@ pub mod PatternLemmas
 pub mod TableLemmas
 pub mod KeyLemmas
 pub mod MergeLemmas
+pub mod LiteralLemmas
+pub mod FindLemmas

@@ -1,5 +1,5 @@
 -- The places of what passes one test or another are those of both, merged.
-use Rattle.std.proofs.Common.{◌≡◌, ◌≤◌, ◌<◌, ℕ, suc, ◌+◌, Bool, true, false, ◌||◌, cond, nat_le, nat_lt, List, [], ◌∷◌, ◌++◌, drop, take, Vec, Result, Ok, Err, IfOk, refl, sym, ◌∙◌, ap, arith, inl, inr}
+use Rattle.std.proofs.Common.{◌≡◌, ◌≤◌, ℕ, suc, ◌+◌, Bool, true, false, ◌||◌, nat_le, nat_lt, List, [], ◌∷◌, ◌++◌, drop, take, Vec, Result, Ok, Err, IfOk, refl, ◌∙◌, ap, arith, inl, inr}
 use Rattle.std.specs.Global.{Global}
 use Rattle.std.specs.List.{prefix_len}
 use Rattle.std.specs.declared.alloc.AllocError.{AllocError}
@@ -82,7 +82,7 @@ own_first k xs ys h = rw (none_below k ys h, all_above k ys h) refl
 both : (k : ℕ) (xs ys : List ℕ) → BeginsAt (suc k) ys → merged (k ∷ xs) (k ∷ ys) ≡ k ∷ merged xs ys
 both k xs ys h = rw (own_below k ys, own_above k ys h) refl
 
-merged-places : {X : Type 0} (p q : X → Bool) (k : ℕ) (xs : List X) → merged (places_where p k xs) (places_where q k xs) ≡ places_where (λ x. p x || q x) k xs
+pub merged-places : {X : Type 0} (p q : X → Bool) (k : ℕ) (xs : List X) → merged (places_where p k xs) (places_where q k xs) ≡ places_where (λ x. p x || q x) k xs
 merged-places p q k [] = refl
 merged-places p q k (x ∷ xs) =
     let later : BeginsAt (suc k) (places_where q (suc k) xs) = begins q (suc k) xs in

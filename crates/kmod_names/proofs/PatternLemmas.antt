@@ -1,16 +1,15 @@
 -- What is read matches as the texts of the patterns do.
-use Rattle.std.proofs.Common.{◌≡◌, ℕ, ◌+◌, false, List, [], ◌∷◌, ◌++◌, codes, length, Option, Some, None, Result, Ok, Err, refl, sym, ◌∙◌, ap, arith, length-append, nat_le, ◌&&◌, ◌||◌}
+use Rattle.std.proofs.Common.{◌≡◌, ℕ, false, List, [], ◌∷◌, codes, Option, Some, None, Result, Ok, Err, refl, ◌∙◌, ap, arith, nat_le, ◌&&◌, ◌||◌}
 use Rattle.std.proofs.lemmas.Bool.Decides.{nat_tests}
 use Rattle.std.specs.Option.{option_map}
-use Rattle.std.specs.Result.{IfOk, OnOk, is_err, result_ok}
+use Rattle.std.specs.Result.{IfOk, result_ok}
 use Rattle.std.specs.declared.alloc.AllocError.{AllocError}
 use Rattle.alias_match.specs.declared.alias.Alias.{Alias}
 use Rattle.alias_match.specs.declared.read.PatternError.{PatternError}
-use Rattle.alias_match.specs.Aliases.{alias_of, matching_places}
+use Rattle.alias_match.specs.Aliases.{alias_of}
 use Rattle.alias_match.specs.Pattern.{Piece, one_of, is_end, is_match}
 use Rattle.alias_match.specs.Reading.{pattern_of}
-use Rattle.kmod_names.specs.Patterns.{IsReadAs, MatchesNothing, ReadsEach, matches_pattern, matches_read, pattern_places}
-use Rattle.kmod_names.proofs.PlaceLemmas.{place_if, places_where-push}
+use Rattle.kmod_names.specs.Patterns.{IsReadAs, MatchesNothing, matches_read}
 
 read_is : (read : Result (List Piece) PatternError) (pieces : List Piece) (text : List ℕ) → Some pieces ≡ result_ok read → is_match pieces text ≡ matches_read read text
 read_is (Ok own) pieces text h = let same : pieces ≡ own = cc in ap (λ ps. is_match ps text) same
@@ -54,24 +53,3 @@ pieces_of_alias (Some pieces) target = refl
 pub read_pattern_is : (made : Result (Option Alias) AllocError) (pattern : List ℕ) → IfOk made (λ found. found ≡ alias_of (codes "alias" ∷ pattern ∷ [] ∷ [])) → IfOk made (λ found. option_map (λ alias. alias.pattern) found ≡ result_ok (pattern_of pattern))
 read_pattern_is (Err e) pattern h = tt
 read_pattern_is (Ok found) pattern h = ap (λ o. option_map (λ (alias : Alias). alias.pattern) o) h ∙ pieces_of_alias (result_ok (pattern_of pattern)) []
-
--- one pattern more, and what it is read as
-pub ReadsEach-push : (patterns : List (List ℕ)) (read : List Alias) (pattern : List ℕ) (alias : Alias) → ReadsEach patterns read → IsReadAs pattern alias.pattern → ReadsEach (patterns ++ pattern ∷ []) (read ++ alias ∷ [])
-ReadsEach-push patterns read pattern alias h is = record {
-  as_many = length-append read (alias ∷ []) ∙ ap (λ n. n + 1) h.as_many ∙ sym (length-append patterns (pattern ∷ []));
-  same = same;
-}
-  where
-    same : (text : List ℕ) → matching_places (read ++ alias ∷ []) text ≡ pattern_places (patterns ++ pattern ∷ []) text
-    same text =
-        places_where-push (λ own. is_match own.pattern text) 0 read alias
-        ∙ ap (λ l. l ++ place_if (is_match alias.pattern text) (0 + length read)) (h.same text)
-        ∙ ap (λ b. pattern_places patterns text ++ place_if b (0 + length read)) (is text)
-        ∙ ap (λ n. pattern_places patterns text ++ place_if (matches_pattern pattern text) (0 + n)) h.as_many
-        ∙ sym (places_where-push (λ own. matches_pattern own text) 0 patterns pattern)
-
-pub pushed : (patterns more : List (List ℕ)) (read grown : List Alias) (pattern own : List ℕ) (alias : Alias) (added : Result (Unit {0}) AllocError)
-    → ReadsEach patterns read → IsReadAs pattern alias.pattern → more ≡ patterns ++ own ∷ [] → own ≡ pattern → OnOk added (grown ≡ read ++ alias ∷ []) → is_err added ≡ false
-    → ReadsEach more grown
-pushed patterns more read grown pattern own alias (Err e) h is adds same grows ok = absurd (cc)
-pushed patterns more read grown pattern own alias (Ok x) h is adds same grows ok = rw (adds, same, grows) (ReadsEach-push patterns read pattern alias h is)

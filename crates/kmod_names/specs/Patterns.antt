@@ -1,9 +1,8 @@
 -- Patterns by their texts, after fnmatch(3).
-use Rattle.std.specs.Prelude.{◌≡◌, ℕ, Bool, false, List, length, Option, Result, Ok, Err}
+use Rattle.std.specs.Prelude.{◌≡◌, ℕ, Bool, false, List, Option, Result, Ok, Err}
 use Rattle.std.specs.List.{position_from}
-use Rattle.alias_match.specs.declared.alias.Alias.{Alias}
 use Rattle.alias_match.specs.declared.read.PatternError.{PatternError}
-use Rattle.alias_match.specs.Aliases.{matching_places, places_where}
+use Rattle.alias_match.specs.Aliases.{places_where}
 use Rattle.alias_match.specs.Pattern.{Piece, is_match}
 use Rattle.alias_match.specs.Reading.{pattern_of}
 
@@ -22,11 +21,6 @@ pattern_places patterns text = places_where (λ pattern. matches_pattern pattern
 -- the place of the first that matches
 abbrev pub first_pattern : List (List ℕ) → List ℕ → Option ℕ
 first_pattern patterns text = position_from (λ pattern. matches_pattern pattern text) 0 patterns
-
--- what is read matches as the patterns' texts do
-pub record ReadsEach (patterns : List (List ℕ)) (read : List Alias) : Type 0 where
-  pub as_many : length read ≡ length patterns
-  pub same : (text : List ℕ) → matching_places read text ≡ pattern_places patterns text
 
 -- a pattern of these pieces matches as the text does
 abbrev pub IsReadAs : List ℕ → List Piece → Type 0

@@ -52,7 +52,11 @@ fn those_above(places: &[usize], place: usize) -> &[usize]
 }
 
 /// The places of two lists in rising order, each once; in both lists they are so.
-fn merged(alloc: Global, first: &[usize], second: &[usize]) -> Result<Vec<usize>, AllocError>
+pub(crate) fn merged(
+    alloc: Global,
+    first: &[usize],
+    second: &[usize],
+) -> Result<Vec<usize>, AllocError>
     ensures { IfOk result (λ places. places.items ≡ merged first.now second.now) }
 {
     let mut places = Vec::new(alloc);

@@ -1,31 +1,78 @@
 //! Patterns in order, and those that match a text.
-ghost use Rattle.std.specs.Prelude.{◌≡◌, ◌∷◌, ◌++◌, [], codes, length, option_map, IfOk, OnOk, OnErr};
+ghost use Rattle.std.specs.Prelude.{◌≡◌, ◌∷◌, ◌++◌, [], codes, false, length, option_map, slice_get, true, IfOk, OnOk, OnErr};
+ghost use Rattle.std.specs.List.{filter_map, list_any};
 ghost use Rattle.std.specs.Result.{result_ok};
+ghost use Rattle.std.specs.Str.{bytes_eq};
 ghost use Rattle.alias_match.specs.Reading.{pattern_of};
 ghost use Rattle.kmod_names.specs.Patterns.{IsReadAs, MatchesNothing, first_pattern, matches_pattern, pattern_places};
+ghost use Rattle.kmod_names.specs.ForProofs.{is_literal, is_special};
 
+use crate::key_places::{KeyPlaces, merged};
 use crate::text::Text;
 use alias_match::{Alias, AliasList};
 use std::alloc::{AllocError, Global};
 use std::marker::Model;
+use text_parts::is_same;
 
-/// Patterns in order, given as their texts. Those that match a text are found fast, by their beginnings. A pattern
-/// that cannot be read is kept, and matches nothing. Contracts see the list of the texts.
+/// Patterns in order, given as their texts. Those that match a text are found fast: literal ones by a hash, the others by
+/// their beginnings. A pattern that cannot be read is kept, and matches nothing. Contracts see the list of the texts.
 #[derive(Drop)]
 pub struct PatternList {
     patterns: Vec<Text>,
-    read: AliasList,
+    literals: KeyPlaces,
+    others: AliasList,
+    other_places: Vec<usize>,
 }
 
 impl Model for PatternList {
     ghost use Rattle.std.specs.Prelude.{ℕ, List};
-    ghost use Rattle.kmod_names.specs.Patterns.{ReadsEach};
+    ghost use Rattle.kmod_names.specs.ForProofs.{FindsEach};
 
     ghost Value = { List (List ℕ) };
 
     ghost view = { λ l. l.patterns.items };
 
-    ghost invariant = { λ l. ReadsEach l.patterns.items l.read };
+    ghost invariant = { λ l. FindsEach l.patterns.items l.literals l.others l.other_places.items };
+}
+
+/// Whether a byte of a pattern may stand for another byte than itself.
+fn is_special(byte: u8) -> bool
+    ensures { result ≡ is_special byte }
+{
+    matches!(byte, b'*' | b'-' | b'?' | b'[' | b'\\')
+}
+
+fn has_special(pattern: &[u8]) -> bool
+    ensures { result ≡ list_any is_special pattern.now }
+{
+    pattern.iter().any(|byte| is_special(*byte))
+}
+
+/// Whether each byte of a pattern stands for itself.
+fn is_literal(pattern: &[u8]) -> bool
+    ensures { result ≡ is_literal pattern.now }
+{
+    !has_special(pattern)
+}
+
+/// The item at a place, None behind the last.
+fn item_at(items: &[usize], place: usize) -> Option<usize>
+    ensures { result ≡ slice_get items.now place }
+{
+    items.get(place).copied()
+}
+
+/// What stands at the places.
+fn items_at(alloc: Global, items: &[usize], places: &[usize]) -> Result<Vec<usize>, AllocError>
+    ensures { IfOk result (λ found. found.items ≡ filter_map (slice_get items.now) places.now) }
+{
+    let mut found = Vec::new(alloc);
+    for place in places {
+        if let Some(item) = item_at(items, *place) {
+            found.push(item)?;
+        }
+    }
+    Ok(found)
 }
 
 /// The alias of a pattern, None where the pattern cannot be read.
@@ -70,8 +117,36 @@ impl PatternList {
     {
         PatternList {
             patterns: Vec::new(alloc),
-            read: AliasList::new(alloc),
+            literals: KeyPlaces::new(alloc),
+            others: AliasList::new(alloc),
+            other_places: Vec::new(alloc),
         }
+    }
+
+    fn push_literal(&mut self, alloc: Global, own: Text) -> Result<(), AllocError>
+        requires { is_literal own ≡ true }
+        ensures ok { OnOk result (self.new ≡ self.old ++ own ∷ []) }
+        ensures err { OnErr result (self.new ≡ self.old) }
+    {
+        self.patterns.reserve(1)?;
+        self.literals
+            .add(alloc, own.as_bytes(), self.patterns.len())?;
+        self.patterns.push(own)?;
+        Ok(())
+    }
+
+    fn push_other(&mut self, alloc: Global, own: Text) -> Result<(), AllocError>
+        requires { is_literal own ≡ false }
+        ensures ok { OnOk result (self.new ≡ self.old ++ own ∷ []) }
+        ensures err { OnErr result (self.new ≡ self.old) }
+    {
+        let alias = alias_for(alloc, own.as_bytes())?;
+        self.patterns.reserve(1)?;
+        self.other_places.reserve(1)?;
+        self.others.push(alloc, alias)?;
+        self.other_places.push(self.patterns.len())?;
+        self.patterns.push(own)?;
+        Ok(())
     }
 
     /// Adds a pattern behind the others. Where memory runs out the list stays as it was.
@@ -80,13 +155,11 @@ impl PatternList {
         ensures err { OnErr result (self.new ≡ self.old) }
     {
         let own = Text::new(alloc, pattern)?;
-        let alias = alias_for(alloc, pattern)?;
-        self.patterns.push(own)?;
-        let added = self.read.push(alloc, alias);
-        if added.is_err() {
-            self.patterns.pop();
+        if is_literal(pattern) {
+            self.push_literal(alloc, own)
+        } else {
+            self.push_other(alloc, own)
         }
-        added
     }
 
     /// How many patterns there are.
@@ -96,11 +169,26 @@ impl PatternList {
         self.patterns.len()
     }
 
+    /// Whether some pattern has just this text.
+    pub fn has(&self, pattern: &[u8]) -> bool
+        ensures { result ≡ list_any (λ own. bytes_eq own pattern.now) self.now }
+    {
+        if is_literal(pattern) {
+            !self.literals.of(pattern).is_empty()
+        } else {
+            self.patterns
+                .iter()
+                .any(|own| is_same(own.as_bytes(), pattern))
+        }
+    }
+
     /// The places, from 0, of the patterns that match the text, in rising order. Only want of memory refuses.
     pub fn places(&self, alloc: Global, text: &[u8]) -> Result<Vec<usize>, AllocError>
         ensures { IfOk result (λ places. places.items ≡ pattern_places self.now text.now) }
     {
-        self.read.matching_places(alloc, text)
+        let others = self.others.matching_places(alloc, text)?;
+        let places = items_at(alloc, &self.other_places, &others)?;
+        merged(alloc, self.literals.of(text), &places)
     }
 
     /// The place of the first pattern that matches the text. Only want of memory refuses.
