@@ -1,6 +1,7 @@
 -- The line at the place of the first name that matches is the first whose name matches.
-use Rattle.std.proofs.Common.{◌≡◌, ℕ, List, map, Option, ◌∙◌, ap}
-use Rattle.std.specs.List.{find}
+use Rattle.std.proofs.Common.{◌≡◌, ℕ, Bool, ◌||◌, List, [], ◌∷◌, map, Option, refl, ◌∙◌, ap}
+use Rattle.std.specs.List.{find, list_any}
+use Rattle.std.specs.Str.{bytes_eq}
 use Rattle.kmod_names.specs.Patterns.{first_pattern, matches_pattern}
 use Rattle.kmod_names.proofs.PlaceLemmas.{at_first, at_place}
 
@@ -10,3 +11,13 @@ first_found f inside lines names name found h same all =
     ap (at_place inside) (h ∙ ap (λ l. first_pattern l name) same)
     ∙ at_first f (λ pattern. matches_pattern pattern name) inside
     ∙ ap (find (λ x. matches_pattern (f x) name)) all
+
+any-map : {X Y : Type 0} (f : X → Y) (p : Y → Bool) (xs : List X) → list_any p (map f xs) ≡ list_any (λ x. p (f x)) xs
+any-map f p [] = refl
+any-map f p (x ∷ xs) = ap (λ later. p (f x) || later) (any-map f p xs)
+
+-- some line has the name that some name is
+pub name_found : {X : Type 0} (f : X → List ℕ) (inside lines : List X) (names : List (List ℕ)) (name : List ℕ) (found : Bool)
+    → found ≡ list_any (λ own. bytes_eq own name) names → names ≡ map f inside → inside ≡ lines → found ≡ list_any (λ x. bytes_eq (f x) name) lines
+name_found f inside lines names name found h same all =
+    h ∙ ap (list_any (λ own. bytes_eq own name)) same ∙ any-map f (λ own. bytes_eq own name) inside ∙ ap (list_any (λ x. bytes_eq (f x) name)) all

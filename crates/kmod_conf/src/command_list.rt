@@ -1,13 +1,11 @@
 //! The lines of commands, and the first that concerns a module.
 ghost use Rattle.std.specs.Prelude.{◌≡◌, ◌∷◌, ◌++◌, [], IfOk, OnOk, OnErr, option_copied, slice_get};
-ghost use Rattle.std.specs.Str.{bytes_eq};
 ghost use Rattle.kmod_conf.specs.LookUps.{first_line, has_named};
 
 use crate::line::TextLine;
 use kmod_names::PatternList;
 use std::alloc::{AllocError, Global};
 use std::marker::Model;
-use text_parts::is_same;
 
 /// Lines of install or of remove in the order of the texts, with their names as patterns.
 #[derive(Drop)]
@@ -75,8 +73,6 @@ impl CommandList {
     pub(crate) fn has_named(&self, name: &[u8]) -> bool
         ensures { result ≡ has_named self.now name.now }
     {
-        self.lines
-            .iter()
-            .any(|line| is_same(line.name.as_bytes(), name))
+        self.names.has(name)
     }
 }
