@@ -89,7 +89,7 @@ Status = List ℕ → Option ModuleStatus
 abbrev with_states : Facts → Status → Facts
 with_states facts status = record facts { status = status }
 
-flat_map-same : {A : Type 0} (f g : A → List ℕ) → ((x : A) → f x ≡ g x) → (xs : List A) → flat_map f xs ≡ flat_map g xs
+pub flat_map-same : {A : Type 0} (f g : A → List ℕ) → ((x : A) → f x ≡ g x) → (xs : List A) → flat_map f xs ≡ flat_map g xs
 flat_map-same f g h [] = refl
 flat_map-same f g h (x ∷ xs) = ap (λ l. l ++ flat_map f xs) (h x) ∙ ap (λ l. g x ++ l) (flat_map-same f g h xs)
 
@@ -107,7 +107,7 @@ run-states facts status (suc n) met (probe o ∷ tasks) =
 run-states facts status (suc n) met (fill o ∷ tasks) = run-states facts status n met (fill_tasks facts o ++ tasks)
 run-states facts status (suc n) met (add o ∷ tasks) = ap (λ l. o ∷ l) (run-states facts status n met tasks)
 
-not_passed : (facts : Facts) (query : Query) (object : Object) → query.ask ≡ ShowDepends → is_passed facts query object ≡ false
+pub not_passed : (facts : Facts) (query : Query) (object : Object) → query.ask ≡ ShowDepends → is_passed facts query object ≡ false
 not_passed facts query object h = ap (λ ask. not (is_show_depends ask) && is_in_kernel facts object) h
 
 passed-states : (facts : Facts) (status : Status) (query : Query) (object : Object) → query.ask ≡ ShowDepends → is_passed (with_states facts status) query object ≡ is_passed facts query object

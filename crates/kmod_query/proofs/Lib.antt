@@ -6,3 +6,4 @@ pub mod RemovalLemmas
 pub mod GroupLemmas
 pub mod WayLemmas
 pub mod LawLemmas
+pub mod OrderLemmas

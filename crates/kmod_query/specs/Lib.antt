@@ -13,3 +13,4 @@ pub mod Removals
 pub mod Shown
 pub mod World
 pub mod AnswerOf
+pub mod Order

@@ -1,10 +1,13 @@
 //! The laws of answers.
-ghost use Rattle.std.specs.Prelude.{◌≡◌, ◌++◌, ◌∷◌, [], ℕ, List, true, is_some, map};
+ghost use Rattle.std.specs.Prelude.{◌≡◌, ◌++◌, ◌∷◌, [], ℕ, Bool, List, false, true, is_some, map};
 ghost use Rattle.std.specs.List.{flat_map, list_any};
 ghost use Rattle.kmod_query.specs.AnswerOf.{answer_of};
 ghost use Rattle.kmod_query.specs.Facts.{Facts};
-ghost use Rattle.kmod_query.specs.Loading.{answer_names, load};
-ghost use Rattle.kmod_query.specs.Objects.{Object};
+ghost use Rattle.kmod_query.specs.Lines.{load_line};
+ghost use Rattle.kmod_query.specs.Loading.{answer_names, is_barred, load};
+ghost use Rattle.kmod_query.specs.Objects.{Object, by_name};
+ghost use Rattle.kmod_query.specs.Order.{StandInOrder, is_done};
+ghost use Rattle.kmod_query.specs.Probes.{first_tasks, probe_list, step_limit};
 ghost use Rattle.kmod_query.specs.declared.query.Ask.TheVariants.{ShowDepends};
 ghost use Rattle.kmod_query.specs.declared.query.Query.{Query};
 ghost use Rattle.kmod_query.specs.declared.world.World.{World};
@@ -39,4 +42,16 @@ pub fn blacklisted_modules_are_not_loaded()
     ensures name { (facts : Facts) (query : Query) (parameters : List ℕ) (object : Object)
         → facts.is_blacklisted object.name ≡ true → query.use_blacklist ≡ true
         → (load facts query parameters object).output ≡ [] }
+{}
+
+/// What a module needs hard is loaded before it. What `--show-depends` shows of a module that is not barred are the lines of its
+/// probe list, one after another. In that list stand the modules that it needs hard, in the order of modules.dep turned round, and
+/// then the module; others may stand before, between and after them. It is said of a list that is done within the steps.
+pub fn hard_needs_come_first()
+    ensures order { (facts : Facts) (bare : Bool) (top : Object) → is_done facts step_limit (top ∷ []) (first_tasks facts bare top) ≡ true
+        → StandInOrder (map by_name (facts.needs top.name) ++ top ∷ []) (probe_list facts bare top) }
+    ensures lines { (facts : Facts) (query : Query) (parameters : List ℕ) (top : Object)
+        → query.ask ≡ ShowDepends → is_barred facts query top ≡ false
+        → (load facts query parameters top).output
+        ≡ flat_map (load_line facts query.ignore_commands parameters top) (probe_list facts query.ignore_commands top) }
 {}

@@ -25,7 +25,8 @@ mod world;
 pub use answer::{Answer, Failure};
 pub use answering::answer_to;
 pub use laws::{
-    blacklisted_modules_are_not_loaded, names_are_answered_in_turn, show_depends_ignores_states,
+    blacklisted_modules_are_not_loaded, hard_needs_come_first, names_are_answered_in_turn,
+    show_depends_ignores_states,
 };
 pub use query::{Ask, Query};
 pub use states::{ModuleState, ModuleStatus, States};
