@@ -8,3 +8,4 @@ pub mod Loads
 pub mod Rungs
 pub mod Managed
 pub mod Told
+pub mod Queries
