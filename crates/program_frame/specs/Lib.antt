@@ -1,1 +1,4 @@
 pub mod Ends
+pub mod Folders
+pub mod Paths
+pub mod Sources

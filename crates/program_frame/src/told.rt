@@ -2,6 +2,8 @@
 ghost use Rattle.std.specs.Prelude.{◌≡◌};
 ghost use Rattle.program_frame.specs.declared.status.Status.TheVariants as statuses;
 
+use crate::path::PathFault;
+use crate::source::{InputFault, Source};
 use crate::status::Status;
 use std::io::Write;
 
@@ -22,5 +24,22 @@ pub fn tell_sentence<E: Write>(sentence: &str, errors: &mut E) {
 pub fn tell_hint<E: Write>(hint: Option<&str>, errors: &mut E) {
     if let Some(hint) = hint {
         let _ = writeln!(errors, "  hint: {hint}");
+    }
+}
+
+/// Tells a path that the program of this name does not read, and why.
+pub fn tell_unread<E: Write>(name: &str, path: &str, why: PathFault, errors: &mut E) {
+    let _ = writeln!(errors, "{name}: cannot read {path}: {why}");
+}
+
+/// Tells why the program of this name has no input.
+pub fn tell_no_input<E: Write>(name: &str, source: Source<'_>, fault: InputFault, errors: &mut E) {
+    match (source, fault) {
+        (Source::File(path), InputFault::Path(why)) if why != PathFault::Memory => {
+            tell_unread(name, path, why, errors)
+        }
+        _ => {
+            let _ = writeln!(errors, "{name}: {fault}");
+        }
     }
 }
