@@ -1,4 +1,4 @@
-//! The program of pictures: a report on standard input, its picture on standard output.
+//! The program of pictures: a report in, its picture out.
 #![tactic(auto)]
 
 use program_frame::words;
@@ -11,7 +11,7 @@ fn main(rt: HostRuntime) -> ExitCode {
         Err(status) => return ExitCode::from(status.number()),
     };
     let status = drive(
-        rt.alloc(),
+        &rt,
         &words,
         &mut rt.stdin(),
         &mut rt.stdout(),

@@ -37,9 +37,9 @@ pub struct Entry<'a> {
 
 /// A word, and the words behind it.
 #[derive(Clone, Copy, Drop)]
-struct Found<'w, 'a> {
-    value: &'a [u8],
-    later: &'w [&'a [u8]],
+pub(crate) struct Found<'w, 'a> {
+    pub(crate) value: &'a [u8],
+    pub(crate) later: &'w [&'a [u8]],
 }
 
 /// When a call was made.
@@ -64,7 +64,7 @@ fn is_shown_name(word: &[u8]) -> bool
 }
 
 /// The call that words begin with.
-fn call_of<'w, 'a>(words: &'w [&'a [u8]]) -> Option<Said<'w, 'a>>
+pub(crate) fn call_of<'w, 'a>(words: &'w [&'a [u8]]) -> Option<Said<'w, 'a>>
     ensures { option_map said_in result ≡ call_of (texts_of words.now) }
 {
     let [_, worker, ..] = words else {
@@ -78,7 +78,7 @@ fn call_of<'w, 'a>(words: &'w [&'a [u8]]) -> Option<Said<'w, 'a>>
     }
 }
 
-fn last_of(word: &[u8]) -> Option<Option<u32>>
+pub(crate) fn last_of(word: &[u8]) -> Option<Option<u32>>
     ensures { result ≡ last_of word.now }
 {
     if is_same(word, b"-") {
@@ -87,7 +87,7 @@ fn last_of(word: &[u8]) -> Option<Option<u32>>
     Some(Some(index_of(word)?))
 }
 
-fn effect_of(point: &[u8], reply: &[u8]) -> Option<Option<Effect>>
+pub(crate) fn effect_of(point: &[u8], reply: &[u8]) -> Option<Option<Effect>>
     ensures { result ≡ effect_of point.now reply.now }
 {
     if is_same(point, b"-") && is_same(reply, b"-") {
@@ -110,7 +110,7 @@ fn is_ordered(times: Times) -> bool
 }
 
 /// The word after a mark with which words begin, and the words behind it.
-fn after<'w, 'a>(mark: &[u8], words: &'w [&'a [u8]]) -> Option<Found<'w, 'a>>
+pub(crate) fn after<'w, 'a>(mark: &[u8], words: &'w [&'a [u8]]) -> Option<Found<'w, 'a>>
     ensures { option_map found_in result ≡ after mark.now (texts_of words.now) }
 {
     match words {

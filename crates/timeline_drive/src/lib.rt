@@ -1,15 +1,19 @@
 //! The program of pictures: a report of a schedule in, its picture out.
 #![tactic(auto)]
 
+mod asked;
 mod bars;
 mod captions;
 mod columns;
 mod entries;
 mod escapes;
+mod explain;
+mod flaws;
 mod labels;
 pub mod laws;
 mod layout;
 mod numbers;
+mod other_input;
 mod program;
 mod reports;
 mod svg;

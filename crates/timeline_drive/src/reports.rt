@@ -43,7 +43,7 @@ impl<T: Drop> From<AllocFailed<T>> for ReportFault {
 }
 
 /// The words of a line, which single spaces divide.
-fn words<'a>(alloc: Global, line: &'a [u8]) -> Result<Vec<&'a [u8]>, AllocError>
+pub(crate) fn words<'a>(alloc: Global, line: &'a [u8]) -> Result<Vec<&'a [u8]>, AllocError>
     ensures { IfOk result (λ words. texts_of words.items ≡ slice_split (λ byte. byte == 32) line.now) }
 {
     line.split(|byte| *byte == b' ').collect(alloc)

@@ -1,0 +1,44 @@
+//! What people are told of a report that is refused.
+
+use crate::flaws::flaw_of;
+use crate::other_input::{OtherInput, other_input};
+use crate::reports::words;
+use program_frame::{Shown, tell_sentence};
+use std::alloc::{AllocError, Global};
+use std::io::Write;
+use text_parts::whole_lines;
+
+/// Tells where an input of `workload` stands in place of its report.
+pub(crate) fn tell_other_input<E: Write>(input: &[u8], errors: &mut E) {
+    let _ = match other_input(input) {
+        Some(OtherInput::Schedule) => writeln!(
+            errors,
+            "timeline: this is a schedule; run workload on it and give timeline its report"
+        ),
+        Some(OtherInput::Script) => writeln!(
+            errors,
+            "timeline: this is a script, which has no report; give timeline the report of a schedule"
+        ),
+        None => Ok(()),
+    };
+}
+
+/// Explains why the line of this number, from 1, is refused: its bytes, and what it should be.
+pub(crate) fn explain<E: Write>(
+    alloc: Global,
+    number: usize,
+    input: &[u8],
+    errors: &mut E,
+) -> Result<(), AllocError> {
+    let before = number.saturating_sub(1);
+    let line = whole_lines(input).nth(before).unwrap_or(b"");
+    let text = Shown(line);
+    let _ = writeln!(errors, "  line {number}: {text}");
+    tell_sentence(
+        "A line is not the call of a report that should stand there.",
+        errors,
+    );
+    let flaw = flaw_of(before, &words(alloc, line)?);
+    let _ = writeln!(errors, "  hint: {flaw}");
+    Ok(())
+}
