@@ -2,13 +2,14 @@
 
 use crate::broken::Broken;
 use std::io::{Read, Write};
+use std::rt::Files;
 use std::sync::Wait;
 use std::test::Fail;
 use std::thread::Threads;
 use workload_drive::drive;
 
 /// Whether the program on these streams ends with status 3, and says this.
-fn fails<R: AllocGlobal + Threads + Wait + Sync, I: Read, O: Write>(
+fn fails<R: AllocGlobal + Files + Threads + Wait + Sync, I: Read, O: Write>(
     rt: &R,
     reader: &mut I,
     writer: &mut O,

@@ -1,4 +1,4 @@
-//! The program of schedules and scripts: standard input in, the report out, or what the workers came to.
+//! The program of schedules and scripts: an input in, the report out, or what the workers came to.
 #![tactic(auto)]
 
 use program_frame::words;

@@ -76,7 +76,7 @@ has_place workers after_works (Works worker deed) = nat_lt worker workers
 
 abbrev pub entry_at : ℕ → Act → Option ℕ → Result Entry LineFault
 entry_at line act None = Err (fault_at H2 line)
-entry_at line act (Some slot) = Ok (record { act = act; slot = slot })
+entry_at line act (Some slot) = Ok (record { act = act; slot = slot; line = line })
 
 -- what this line asks; a line of no form, or at no place of its own, comes before a name outside the catalogue
 abbrev pub entry_of : List Description → ℕ → Bool → ℕ → Option NamedAct → Result Entry LineFault
@@ -96,23 +96,30 @@ entries_of modules workers earlier (said ∷ later) =
     then_entry (entry_of modules workers (has_works earlier) said.number (named_act_of said.words))
     (λ entry. entries_of modules workers (earlier ++ entry ∷ []) later)
 
+abbrev pub opening_by : ℕ → ℕ → Act → Option Opening
+opening_by slot line (Opens change) = Some (record { change = change; slot = slot; line = line })
+opening_by slot line (Works worker deed) = None
+
 -- the change that a line is
-abbrev pub opening_in : ℕ → Act → Option Opening
-opening_in slot (Opens change) = Some (record { change = change; slot = slot })
-opening_in slot (Works worker deed) = None
+abbrev pub opening_in : Entry → Option Opening
+opening_in e = opening_by e.slot e.line e.act
+
+abbrev pub task_by : ℕ → ℕ → ℕ → Act → Option Task
+task_by worker slot line (Opens change) = None
+task_by worker slot line (Works other deed) =
+    if other == worker then Some (record { deed = deed; slot = slot; line = line }) else None
 
 -- what this worker does by a line
-abbrev pub task_in : ℕ → ℕ → Act → Option Task
-task_in worker slot (Opens change) = None
-task_in worker slot (Works other deed) = if other == worker then Some (record { deed = deed; slot = slot }) else None
+abbrev pub task_in : ℕ → Entry → Option Task
+task_in worker e = task_by worker e.slot e.line e.act
 
 -- the changes before the workers, in order
 abbrev pub opening_of : List Entry → List Opening
-opening_of entries = filter_map (λ (e : Entry). opening_in e.slot e.act) entries
+opening_of entries = filter_map opening_in entries
 
 -- the lines of a worker, in order
 abbrev pub tasks_of : ℕ → List Entry → List Task
-tasks_of worker entries = filter_map (λ (e : Entry). task_in worker e.slot e.act) entries
+tasks_of worker entries = filter_map (task_in worker) entries
 
 -- a script: its catalogue, its workers, the changes before them, and the lines of each worker
 pub record Script : Type 0 where

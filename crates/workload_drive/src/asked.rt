@@ -1,6 +1,8 @@
 //! What the arguments of the program ask for.
 
-use clap::{Arg, ArgAction, Command, Error as ClapError};
+use crate::script::Numbering;
+use clap::{Arg, ArgAction, ArgMatches, Command, Error as ClapError};
+use program_frame::Source;
 use std::alloc::{AllocError, Global};
 
 /// The version of the program.
@@ -8,7 +10,7 @@ const VERSION: &str = "0.1.0";
 
 /// What stands at the end of the help text.
 const HELP: &str =
-    "Standard input is a schedule, or a script with --threads, each with a catalogue before it:
+    "FILE or standard input is a schedule, or a script with --threads, each with a catalogue before it:
   %catalogue  the modules that there may be
   %schedule   workers N, threads N, and the steps of threads
   %script     workers N, and the lines of workers
@@ -19,49 +21,76 @@ Example:
 
 Exit status:
   0  the report or the table was written
-  2  an argument or the input is refused
+  2  an argument, the file or the input is refused
   3  a read or a write failed, memory ran out, or a thread could not be started";
 
 /// What is asked for.
 #[derive(Clone, Copy, Drop)]
-pub(crate) struct Asked {
+pub(crate) struct Asked<'a> {
+    /// Where the input is read.
+    pub(crate) source: Source<'a>,
     /// Whether the input is a script, which is run on threads.
     pub(crate) threads: bool,
-    /// Whether the reply of each line of a script is written.
-    pub(crate) replies: bool,
+    /// Whether the reply of each line of a script is written, and how its lines are numbered then.
+    pub(crate) replies: Option<Numbering>,
     /// Whether faults are explained.
     pub(crate) explain: bool,
 }
 
+/// An option without a value.
+fn flag<'a>(alloc: Global, name: &'a str, help: &'a str) -> Arg<'a> {
+    Arg::new(alloc, name)
+        .long(name)
+        .action(ArgAction::SetTrue)
+        .help(help)
+}
+
 /// What the program takes.
 fn command<'a>(alloc: Global) -> Result<Command<'a>, AllocError> {
-    let threads = Arg::new(alloc, "threads")
-        .long("threads")
-        .action(ArgAction::SetTrue)
-        .help("Runs a script on threads");
-    let replies = Arg::new(alloc, "replies")
-        .long("replies")
-        .action(ArgAction::SetTrue)
-        .requires_arg("threads")?
-        .help("Writes the reply of each line of a script");
-    let explain = Arg::new(alloc, "explain")
-        .long("explain")
-        .action(ArgAction::SetTrue)
-        .help("Explains a fault on standard error");
+    let threads = flag(alloc, "threads", "Runs a script on threads");
+    let replies = flag(
+        alloc,
+        "replies",
+        "Writes the reply of each line of a script",
+    );
+    let input_lines = flag(
+        alloc,
+        "input-lines",
+        "Numbers the lines of replies as in the input, from 1",
+    );
+    let explain = flag(alloc, "explain", "Explains a fault on standard error");
+    let file = Arg::new(alloc, "file")
+        .value_name("FILE")
+        .action(ArgAction::Set)
+        .help("The input; standard input without it, or where it is -");
     Command::new(alloc, "workload")
         .version(VERSION)
         .after_help(HELP)
         .arg(threads)?
-        .arg(replies)?
-        .arg(explain)
+        .arg(replies.requires_arg("threads")?)?
+        .arg(input_lines.requires_arg("replies")?)?
+        .arg(explain)?
+        .arg(file)
+}
+
+/// How the lines of replies are numbered, where replies are asked for.
+fn numbering_in(matches: &ArgMatches<'_>) -> Option<Numbering> {
+    if !matches.get_flag("replies") {
+        None
+    } else if matches.get_flag("input-lines") {
+        Some(Numbering::OfInput)
+    } else {
+        Some(Numbering::OfWorker)
+    }
 }
 
 /// What the words ask for.
-pub(crate) fn asked_by(alloc: Global, words: &[String]) -> Result<Asked, ClapError> {
+pub(crate) fn asked_by<'a>(alloc: Global, words: &'a [String]) -> Result<Asked<'a>, ClapError> {
     let matches = command(alloc)?.try_get_matches_from(words)?;
     Ok(Asked {
+        source: Source::of(matches.get_str("file")),
         threads: matches.get_flag("threads"),
-        replies: matches.get_flag("replies"),
+        replies: numbering_in(&matches),
         explain: matches.get_flag("explain"),
     })
 }

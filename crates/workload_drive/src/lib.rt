@@ -14,5 +14,5 @@ pub use fault::{LineCode, LineFault, ScheduleFault};
 pub use program::drive;
 pub use schedule::report;
 pub use script::{
-    Gate, OpenGate, Replies, Script, WorkFault, read_script, run_managed, run_threads,
+    Gate, Numbering, OpenGate, Replies, Script, WorkFault, read_script, run_managed, run_threads,
 };

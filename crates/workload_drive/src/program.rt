@@ -1,4 +1,5 @@
 //! The program over any input and output.
+ghost use Rattle.std.specs.Prelude.{◌≤◌};
 
 use crate::asked::{Asked, asked_by};
 use crate::explain::{explain, explain_work};
@@ -6,9 +7,10 @@ use crate::fault::ScheduleFault;
 use crate::schedule::report;
 use crate::script::{OpenGate, Replies, WorkFault, read_script, run_managed};
 use managed_table::ManagedTable;
-use program_frame::{Status, StreamFault, end_by, read_input, write_text};
+use program_frame::{InputFault, Status, StreamFault, end_by, tell_no_input, write_text};
 use std::alloc::{AllocError, Global};
 use std::io::{Read, Write};
+use std::rt::Files;
 use std::sync::Wait;
 use std::thread::Threads;
 use thiserror::Error;
@@ -17,7 +19,9 @@ use thiserror::Error;
 #[derive(Clone, Copy, Debug, Drop, Error)]
 enum Fault {
     #[error("{0}")]
-    Stream(#[from] StreamFault),
+    Read(#[from] InputFault),
+    #[error("{0}")]
+    Write(#[from] StreamFault),
     #[error("out of memory")]
     Memory(#[from] AllocError),
     #[error("{0}")]
@@ -28,6 +32,7 @@ enum Fault {
 
 fn status_of(fault: Fault) -> Status {
     match fault {
+        Fault::Read(fault) => fault.status(),
         Fault::Input(ScheduleFault::Line(_) | ScheduleFault::Step { .. }) => Status::Refused,
         _ => Status::Fault,
     }
@@ -36,31 +41,31 @@ fn status_of(fault: Fault) -> Status {
 /// What the workers of a script come to, on a managed table of its own, after their replies where these are asked for.
 fn script_text<R: AllocGlobal + Threads + Wait + Sync>(
     rt: &R,
-    asked: Asked,
+    asked: Asked<'_>,
     input: &[u8],
 ) -> Result<Vec<u8>, Fault> {
     let script = read_script(rt.alloc(), input)?;
     let catalogue = script.catalogue();
     let (table, readers) = ManagedTable::new(rt.alloc(), catalogue, script.workers())?;
-    if !asked.replies {
+    let Some(numbering) = asked.replies else {
         return Ok(run_managed(rt, catalogue, &table, readers, &script, &OpenGate)?);
-    }
+    };
     let replies = Replies::new(rt.alloc(), &script)?;
     let left = run_managed(rt, catalogue, &table, readers, &script, &replies)?;
-    let mut text = replies.text(rt.alloc(), &script)?;
+    let mut text = replies.text(rt.alloc(), &script, numbering)?;
     text.extend_from_slice(&left)?;
     Ok(text)
 }
 
 /// Reads the input and writes its report, or what its script comes to on threads.
-fn write_answer<R: AllocGlobal + Threads + Wait + Sync, I: Read, O: Write>(
+fn write_answer<R: AllocGlobal + Files + Threads + Wait + Sync, I: Read, O: Write>(
     rt: &R,
-    asked: Asked,
+    asked: Asked<'_>,
     reader: &mut I,
     input: &mut Vec<u8>,
     writer: &mut O,
 ) -> Result<(), Fault> {
-    *input = read_input(rt.alloc(), reader)?;
+    *input = asked.source.read(rt, reader)?;
     let text = if asked.threads {
         script_text(rt, asked, input)?
     } else {
@@ -71,7 +76,10 @@ fn write_answer<R: AllocGlobal + Threads + Wait + Sync, I: Read, O: Write>(
 }
 
 /// Tells a fault in one line, and then for people, where that is asked for.
-fn tell<E: Write>(alloc: Global, asked: Asked, fault: Fault, input: &[u8], errors: &mut E) {
+fn tell<E: Write>(alloc: Global, asked: Asked<'_>, fault: Fault, input: &[u8], errors: &mut E) {
+    if let Fault::Read(fault) = fault {
+        return tell_no_input("workload", asked.source, fault, errors);
+    }
     let _ = writeln!(errors, "workload: {fault}");
     match fault {
         Fault::Input(fault) if asked.explain => explain(alloc, asked.threads, fault, input, errors),
@@ -81,9 +89,9 @@ fn tell<E: Write>(alloc: Global, asked: Asked, fault: Fault, input: &[u8], error
 }
 
 /// Reads the input and writes what it comes to. A fault is told.
-fn answer<R: AllocGlobal + Threads + Wait + Sync, I: Read, O: Write, E: Write>(
+fn answer<R: AllocGlobal + Files + Threads + Wait + Sync, I: Read, O: Write, E: Write>(
     rt: &R,
-    asked: Asked,
+    asked: Asked<'_>,
     reader: &mut I,
     writer: &mut O,
     errors: &mut E,
@@ -99,15 +107,18 @@ fn answer<R: AllocGlobal + Threads + Wait + Sync, I: Read, O: Write, E: Write>(
 }
 
 /// Runs the program on these words, the first of which is its own name, and answers its status: 0 where the report, or
-/// with `--threads` what the script comes to, was written, 2 where an argument or the input is refused, 3 for a fault.
-/// What is refused, and what failed, is said on `errors`; help goes to `writer`.
-pub fn drive<R: AllocGlobal + Threads + Wait + Sync, I: Read, O: Write, E: Write>(
+/// with `--threads` what the script comes to, was written, 2 where an argument, the file or the input is refused, 3 for a
+/// fault. The input is the file that a word names, else that of `reader`. What is refused, and what failed, is said on
+/// `errors`; help goes to `writer`.
+pub fn drive<R: AllocGlobal + Files + Threads + Wait + Sync, I: Read, O: Write, E: Write>(
     rt: &R,
     words: &[String],
     reader: &mut I,
     writer: &mut O,
     errors: &mut E,
-) -> u8 {
+) -> u8
+    ensures { result ≤ 3 }
+{
     let status = match asked_by(rt.alloc(), words) {
         Ok(asked) => answer(rt, asked, reader, writer, errors),
         Err(error) => end_by("workload", &error, writer, errors),

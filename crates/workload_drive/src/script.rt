@@ -12,6 +12,6 @@ mod tasks;
 mod threads;
 mod worker;
 
-pub use replies::Replies;
+pub use replies::{Numbering, Replies};
 pub use tasks::{Script, read_script};
 pub use threads::{Gate, OpenGate, WorkFault, run_managed, run_threads};

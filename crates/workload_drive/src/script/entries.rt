@@ -13,36 +13,40 @@ use dep_index::Catalogue;
 use std::alloc::{AllocError, Global};
 use text_parts::Name;
 
-/// A change that is made before any worker begins, and the slot of its module.
+/// A change that is made before any worker begins, the slot of its module, and the number of its line in the input.
 #[derive(Clone, Copy, Drop)]
 pub(crate) struct Opening {
     pub(crate) change: Change,
     pub(crate) slot: usize,
+    pub(crate) line: usize,
 }
 
-/// A worker's line: what is done, and the slot of its module.
+/// A worker's line: what is done, the slot of its module, and its number in the input.
 #[derive(Clone, Copy, Drop)]
 pub(crate) struct Task {
     pub(crate) deed: Deed,
     pub(crate) slot: usize,
+    pub(crate) line: usize,
 }
 
-/// A line: what it does, and the slot of its module.
+/// A line: what it does, the slot of its module, and its number in the input, from 1.
 #[derive(Clone, Copy, Drop)]
 pub(crate) struct Entry {
     pub(crate) act: Act,
     pub(crate) slot: usize,
+    pub(crate) line: usize,
 }
 
 impl Entry {
     /// The change before the workers that the line is.
     fn opening(self) -> Option<Opening>
-        ensures { result ≡ opening_in self.slot self.act }
+        ensures { result ≡ opening_in self }
     {
         match self.act {
             Act::Opens(change) => Some(Opening {
                 change,
                 slot: self.slot,
+                line: self.line,
             }),
             Act::Works(_, _) => None,
         }
@@ -50,12 +54,13 @@ impl Entry {
 
     /// What a worker does by the line.
     fn task(self, worker: usize) -> Option<Task>
-        ensures { result ≡ task_in worker self.slot self.act }
+        ensures { result ≡ task_in worker self }
     {
         match self.act {
             Act::Works(other, deed) if other == worker => Some(Task {
                 deed,
                 slot: self.slot,
+                line: self.line,
             }),
             _ => None,
         }
@@ -86,6 +91,7 @@ fn entry_at(
         Some(slot) => Ok(Entry {
             act: asked.act,
             slot,
+            line,
         }),
         None => Err(ScheduleFault::at(LineCode::H2, line)),
     }

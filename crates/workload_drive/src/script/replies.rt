@@ -1,4 +1,6 @@
 //! The replies of a script, line by line.
+ghost use Rattle.std.specs.Prelude.{◌≡◌};
+ghost use Rattle.workload_drive.specs.Replies.{line_number};
 
 use super::acts::Deed;
 use super::tasks::Script;
@@ -9,6 +11,27 @@ use dep_index::Reply;
 use proc_modules::push_number;
 use std::alloc::{AllocError, Global};
 use std::sync::OnceLock;
+
+/// How the lines of a script are numbered.
+#[derive(Clone, Copy, Debug, PartialEq, Eq, Drop)]
+pub enum Numbering {
+    /// From 0, among the lines before the workers or among those of one worker.
+    OfWorker,
+    /// From 1, among all lines of the input, as its faults are.
+    OfInput,
+}
+
+impl Numbering {
+    /// The number of the line at a place of its worker, which has this number in the input.
+    fn line_number(self, place: usize, line: usize) -> usize
+        ensures { result ≡ line_number self place line }
+    {
+        match self {
+            Numbering::OfWorker => place,
+            Numbering::OfInput => line,
+        }
+    }
+}
 
 /// The reply of each line of a script, once it was made: those before the workers, and those of each worker. As a gate it
 /// lets every line begin, and notes its reply.
@@ -39,12 +62,17 @@ impl Replies {
     }
 
     /// A line for each line of the script that was made: those before the workers, and then those of each worker, in their
-    /// order. Each has who made it, its number, from 0, what it is, and its reply.
-    pub fn text(&self, alloc: Global, script: &Script) -> Result<Vec<u8>, AllocError> {
+    /// order. Each has who made it, its number, what it is, and its reply.
+    pub fn text(
+        &self,
+        alloc: Global,
+        script: &Script,
+        numbering: Numbering,
+    ) -> Result<Vec<u8>, AllocError> {
         let mut text = Vec::new(alloc);
-        push_opening(&mut text, script, &self.opening)?;
+        push_opening(&mut text, script, numbering, &self.opening)?;
         for (worker, places) in self.workers.iter().enumerate() {
-            push_worker(&mut text, script, worker, places)?;
+            push_worker(&mut text, script, numbering, worker, places)?;
         }
         Ok(text)
     }
@@ -93,10 +121,12 @@ fn push_reply(
 fn push_opening(
     text: &mut Vec<u8>,
     script: &Script,
+    numbering: Numbering,
     places: &[OnceLock<Reply>],
 ) -> Result<(), AllocError> {
-    for (line, (opening, place)) in script.opening().iter().zip(places).enumerate() {
+    for (i, (opening, place)) in script.opening().iter().zip(places).enumerate() {
         if let Some(reply) = place.get() {
+            let line = numbering.line_number(i, opening.line);
             let name = name_at(script.catalogue(), opening.slot);
             text.extend_from_slice(b"opening")?;
             push_reply(text, line, Deed::Make(opening.change), name, *reply)?;
@@ -109,11 +139,13 @@ fn push_opening(
 fn push_worker(
     text: &mut Vec<u8>,
     script: &Script,
+    numbering: Numbering,
     worker: usize,
     places: &[OnceLock<Reply>],
 ) -> Result<(), AllocError> {
-    for (line, (task, place)) in script.tasks(worker).iter().zip(places).enumerate() {
+    for (i, (task, place)) in script.tasks(worker).iter().zip(places).enumerate() {
         if let Some(reply) = place.get() {
+            let line = numbering.line_number(i, task.line);
             let name = name_at(script.catalogue(), task.slot);
             text.extend_from_slice(b"w")?;
             push_number(text, worker)?;
