@@ -3,6 +3,7 @@
 use crate::explain::{explain, explain_path, explain_word};
 use crate::witness::Witness;
 use modprobe::ServeFault;
+use program_frame::PathFault;
 use std::alloc::Global;
 use std::io::Write;
 
@@ -14,12 +15,22 @@ pub(crate) fn tell_bad_word<E: Write>(word: &str, explains: bool, errors: &mut E
     }
 }
 
-/// Tells a path that cannot be read.
-pub(crate) fn tell_unread<E: Write>(path: &str, explains: bool, errors: &mut E) {
-    let _ = writeln!(errors, "modsh: cannot read {path}");
+/// Tells a path that cannot be read, and why.
+pub(crate) fn tell_unread<E: Write>(path: &str, why: PathFault, explains: bool, errors: &mut E) {
+    program_frame::tell_unread("modsh", path, why, errors);
     if explains {
         explain_path(path, errors);
     }
+}
+
+/// Tells a folder in which no file is one of a configuration.
+pub(crate) fn tell_no_configuration<E: Write>(folder: &str, errors: &mut E) {
+    let _ = writeln!(errors, "modsh: no configuration in {folder}");
+}
+
+/// Tells a folder that stands in the folder of a configuration, and is not read.
+pub(crate) fn tell_skipped<E: Write>(folder: &str, errors: &mut E) {
+    let _ = writeln!(errors, "modsh: skipped the folder {folder}");
 }
 
 /// Tells a fault, or that the input has no session.

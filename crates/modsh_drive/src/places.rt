@@ -56,7 +56,7 @@ impl<'a> Places<'a> {
     }
 
     /// Adds the files, which stand first.
-    pub(crate) fn add_files(&mut self, files: &JoinedFiles<'a>) -> Result<(), AllocError> {
+    pub(crate) fn add_files(&mut self, files: &'a JoinedFiles<'_>) -> Result<(), AllocError> {
         for i in 0..files.len() {
             if let Some((path, text)) = files.file(i) {
                 let count = count_feeds(text);

@@ -4,9 +4,11 @@ ghost use Rattle.modprobe.specs.Lines.{IfTold};
 ghost use Rattle.modprobe.specs.Serve.{AnswersInput};
 ghost use Rattle.modsh_drive.specs.Statuses.{EndsPlainly};
 
+mod reading;
+
 use crate::asked::{Asked, matches_of};
 use crate::files::JoinedFiles;
-use crate::messages::{tell_bad_word, tell_end, tell_unread};
+use crate::messages::{tell_bad_word, tell_end};
 use crate::output::Output;
 use crate::status::status_after;
 use crate::witness::Witness;
@@ -15,8 +17,6 @@ use clap::ArgMatches;
 use modprobe::{FromRead, serve_watched};
 use program_frame::{Status, end_by, tell_no_memory};
 use std::alloc::Global;
-use std::fs::File;
-use std::io;
 use std::io::{Read, Write};
 use std::rt::Files;
 
@@ -59,28 +59,12 @@ impl<'a, 'e, E: Write> Program<'a, 'e, E> {
         Ok(named)
     }
 
-    /// Reads a file. One that cannot be read is told.
-    fn read_file<R: Files>(&mut self, rt: &R, named: NamedFile<'a>) -> Result<(), Status> {
-        let added = match File::open(rt, named.path) {
-            Ok(mut file) => self.files.add(named, &mut file),
-            Err(error) => Err(error),
-        };
-        let Err(error) = added else {
-            return Ok(());
-        };
-        if error.kind() == io::ErrorKind::OutOfMemory {
-            return Err(tell_no_memory("modsh", self.errors));
-        }
-        tell_unread(named.path, self.asked.explain, self.errors);
-        Err(Status::Refused)
-    }
-
     /// Takes what clap finds in the words: what they ask for, and the files that they name, which are read.
     fn take_matches<R: Files>(&mut self, rt: &R, matches: &ArgMatches<'a>) -> Result<(), Status> {
         self.asked = Asked::of(matches);
         let named = self.named_files(matches.get_strs("words").unwrap_or(&[]))?;
         for file in &named {
-            self.read_file(rt, *file)?;
+            self.read_named(rt, *file)?;
         }
         Ok(())
     }

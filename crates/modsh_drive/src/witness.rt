@@ -29,7 +29,7 @@ pub(crate) struct Witness<'a> {
 
 impl<'a> Witness<'a> {
     /// Keeps what is needed to explain a session after these files, if that is asked for.
-    pub(crate) fn new(alloc: Global, explains: bool, files: &JoinedFiles<'a>) -> Witness<'a> {
+    pub(crate) fn new(alloc: Global, explains: bool, files: &'a JoinedFiles<'_>) -> Witness<'a> {
         let mut witness = Witness {
             alloc,
             explains,

@@ -24,7 +24,7 @@ pub(crate) fn section_named(name: &[u8]) -> Option<Section>
     }
 }
 
-/// A file that a word names, and the section that it is.
+/// A file that a word names, and the section that it is. A folder of a configuration stands for the files that count in it.
 #[derive(Clone, Copy, Drop)]
 pub(crate) struct NamedFile<'a> {
     pub(crate) section: Section,

@@ -1,0 +1,78 @@
+//! Reads the files that words name.
+
+use super::Program;
+use crate::files::{FilePath, paths_in};
+use crate::messages::{tell_no_configuration, tell_skipped, tell_unread};
+use crate::words::NamedFile;
+use modprobe::Section;
+use program_frame::{PathFault, Status, is_folder, tell_no_memory};
+use std::fs::File;
+use std::io::Write;
+use std::rt::Files;
+
+impl<'a, 'e, E: Write> Program<'a, 'e, E> {
+    /// Tells why a path is not read, and answers how that ends.
+    fn refuse(&mut self, path: &str, why: PathFault) -> Status {
+        if why == PathFault::Memory {
+            return tell_no_memory("modsh", self.errors);
+        }
+        tell_unread(path, why, self.asked.explain, self.errors);
+        Status::Refused
+    }
+
+    /// Reads a file. One that cannot be read is told.
+    fn read_file<R: Files>(
+        &mut self,
+        rt: &R,
+        section: Section,
+        path: FilePath<'a>,
+    ) -> Result<(), Status> {
+        let added = match File::open(rt, path.as_str()) {
+            Ok(mut file) => self.files.add(section, &mut file),
+            Err(error) => Err(error),
+        };
+        if let Err(error) = added {
+            return Err(self.refuse(path.as_str(), PathFault::from(error)));
+        }
+        match self.files.end_file(path) {
+            Ok(()) => Ok(()),
+            Err(_) => Err(tell_no_memory("modsh", self.errors)),
+        }
+    }
+
+    /// Reads the files of a folder that count. A folder among them is told, and where there is none, that is told.
+    fn read_folder<R: Files>(
+        &mut self,
+        rt: &R,
+        section: Section,
+        folder: &str,
+    ) -> Result<(), Status> {
+        let paths = match paths_in(self.alloc, rt, folder) {
+            Ok(paths) => paths,
+            Err(why) => return Err(self.refuse(folder, why)),
+        };
+        if paths.is_empty() {
+            tell_no_configuration(folder, self.errors);
+        }
+        for path in paths {
+            if is_folder(rt, path.as_str()) {
+                tell_skipped(path.as_str(), self.errors);
+            } else {
+                self.read_file(rt, section, path)?;
+            }
+        }
+        Ok(())
+    }
+
+    /// Reads what a word names: a file, or a folder of a configuration.
+    pub(super) fn read_named<R: Files>(
+        &mut self,
+        rt: &R,
+        named: NamedFile<'a>,
+    ) -> Result<(), Status> {
+        if named.section == Section::Conf && is_folder(rt, named.path) {
+            return self.read_folder(rt, named.section, named.path);
+        }
+        self.read_file(rt, named.section, FilePath::Word(named.path))
+    }
+}
