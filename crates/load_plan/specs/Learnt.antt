@@ -1,5 +1,5 @@
 -- Serves proofs alone: what a visit has learnt of hard walks.
-use Rattle.std.specs.Prelude.{◌≡◌, ℕ, ◌<◌, ◌⊎◌, true, false, List, [], ◌∷◌, ◌++◌, length, slice_index_or, Option, None, Some, Contains}
+use Rattle.std.specs.Prelude.{◌≡◌, ℕ, ◌+◌, ◌<◌, ◌⊎◌, true, false, List, [], ◌∷◌, ◌++◌, drop, length, slice_index_or, Option, None, Some, Contains}
 use Rattle.std.specs.List.{list_all}
 use Rattle.load_plan.specs.declared.graph.Target.{Target}
 use Rattle.load_plan.specs.declared.graph.Target.TheVariants.{Slot, Missing}
@@ -101,6 +101,10 @@ IsOnWay way last m = (m ≡ last) ⊎ ((frame : Frame) × Contains way frame × 
 abbrev pub IsWay : List Node → List Frame → ℕ → Type 0
 IsWay graph [] m = Unit {0}
 IsWay graph (frame ∷ frames) m = StandsOn graph frame.slot m × IsWay graph frames frame.slot
+
+-- the target is one of the hard dependencies of the module
+abbrev pub IsHard : List Node → ℕ → Target → Type 0
+IsHard graph m target = (k : ℕ) × (drop k (node_at graph m).hard ≡ target ∷ drop (k + 1) (node_at graph m).hard)
 
 -- what comes next is of the graph, and who is entered is a hard dependency
 abbrev pub IsLesson : List Node → Frame → Lesson → Type 0

@@ -1,16 +1,17 @@
 //! What the hard walk of a module meets, learnt from the hard dependencies up.
-ghost use Rattle.std.specs.Prelude.{◌≡◌, ◌<◌, length, reverse, true, IfOk, OnOk};
-ghost use Rattle.load_plan.specs.Learnt.{IsLesson, IsNew, IsOnWay, IsWay, StaysKnown};
+ghost use Rattle.std.specs.Prelude.{◌≡◌, ◌<◌, length, reverse, true, IfOk, IfSome, OnOk};
+ghost use Rattle.load_plan.specs.Graph.{is_within};
+ghost use Rattle.load_plan.specs.Learnt.{IsHard, IsLesson, IsNew, IsOnWay, IsWay, StaysKnown};
 
-use crate::graph::{DependencyGraph, Target};
+use crate::graph::{DependencyGraph, Phase, Target, target_at};
 use crate::learnt::{Learnt, Told, Verdict};
-use crate::walk::{Frame, Mark, first_left};
+use crate::walk::{Frame, Mark};
 use std::alloc::{AllocError, Global};
 
 /// What is next to learn.
 #[derive(Clone, Copy)]
 enum Lesson {
-    /// Of the same module, from its next hard dependency on.
+    /// Of the same module, from the hard dependency before this one on.
     Stay(Frame),
     /// Of one of its hard dependencies.
     Enter(usize),
@@ -30,7 +31,22 @@ fn is_on_way(learnt: &Learnt, way: &[Frame], last: usize, slot: usize) -> bool
         }
 }
 
-/// Learns of a module of which nothing is known what its first hard dependency that is left tells.
+/// The last hard dependency that is left, and the frame behind it. A visit enters the first ones first, and forgets what
+/// was learnt later than of the module that it enters: so it forgets the least where the first ones are learnt last.
+fn last_left(graph: &DependencyGraph, frame: Frame) -> Option<(&Target, Frame)>
+    requires { frame.slot < length graph.now }
+    ensures hard { IfSome result (λ x. IsHard graph.entry.now frame.slot x.0.now) }
+    ensures within { IfSome result (λ x. is_within (length graph.entry.now) x.0.now ≡ true) }
+    ensures next { IfSome result (λ x. x.1.slot ≡ frame.slot) }
+{
+    let hard = graph.targets(frame.slot, Phase::Hard);
+    let behind = hard.len().checked_sub(frame.walked)?;
+    let target = target_at(hard, behind.checked_sub(1)?)?;
+    let walked = frame.walked + 1;
+    Some((target, Frame { walked, ..frame }))
+}
+
+/// Learns of a module of which nothing is known what its last hard dependency that is left tells.
 fn learn_new(
     graph: &DependencyGraph,
     marks: &[Mark],
@@ -51,7 +67,7 @@ fn learn_new(
         learnt.verdicts[frame.slot] = Verdict::Faulty;
         return Ok(Lesson::Back);
     }
-    match first_left(graph, frame) {
+    match last_left(graph, frame) {
         None => {
             learnt.settle(graph, marks, frame.slot)?;
             Ok(Lesson::Back)
@@ -78,7 +94,7 @@ fn learn_new(
     }
 }
 
-/// Learns of a module what its first hard dependency that is left tells. What is known stays true.
+/// Learns of a module what its last hard dependency that is left tells. What is known stays true.
 fn learn(
     graph: &DependencyGraph,
     marks: &[Mark],
