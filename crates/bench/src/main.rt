@@ -4,6 +4,7 @@
 mod catalogue;
 mod configuration;
 mod figure;
+mod growth;
 mod leaves;
 mod listing;
 mod load;
@@ -13,6 +14,8 @@ mod manager;
 mod patterns;
 mod plans;
 mod points;
+mod processor;
+mod shapes;
 mod texts;
 mod workers;
 
@@ -24,9 +27,10 @@ use std::process::ExitCode;
 type Benchmark = (&'static str, fn(&HostRuntime) -> Result<()>);
 
 fn main(rt: HostRuntime) -> Result<ExitCode> {
-    let all: [Benchmark; 10] = [
+    let all: [Benchmark; 11] = [
         ("catalogue", |rt| catalogue::measure(rt)),
         ("configuration", |rt| configuration::measure(rt)),
+        ("growth", |rt| growth::measure(rt)),
         ("leaves", |rt| leaves::measure(rt)),
         ("listing", |rt| listing::measure(rt)),
         ("machine", |rt| machine::measure(rt)),
