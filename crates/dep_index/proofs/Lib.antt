@@ -15,3 +15,5 @@ pub mod ExportLemmas
 pub mod DraftLemmas
 pub mod NeedLemmas
 pub mod PathLemmas
+pub mod OrderLemmas
+pub mod UserLemmas

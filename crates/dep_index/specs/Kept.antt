@@ -1,10 +1,9 @@
 -- What a book keeps. It serves proofs alone.
-use Rattle.std.specs.Prelude.{ℕ, ◌≤◌, length}
-use Rattle.std.specs.Global.{Vec}
-use Rattle.std.specs.Vec.{vec_capacity}
+use Rattle.std.specs.Prelude.{◌≡◌, List, ◌≤◌, length}
 use Rattle.dep_index.specs.declared.states.ModuleState.{ModuleState}
+use Rattle.dep_index.specs.Ordered.{Ordered}
 
 -- the order has room for every slot, and a slot's number is short
-pub record HasRoom (states : Vec ModuleState) (order : Vec ℕ) : Type 0 where
-  pub few : length states.items ≤ 65535
-  pub room : length states.items ≤ vec_capacity order
+pub record HasRoom (states : List ModuleState) (order : Ordered) : Type 0 where
+  pub few : length states ≤ 65535
+  pub room : order.room ≡ length states

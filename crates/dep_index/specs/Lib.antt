@@ -16,3 +16,4 @@ pub mod Directives
 pub mod Drafts
 pub mod Marks
 pub mod Kept
+pub mod Ordered

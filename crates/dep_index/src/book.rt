@@ -1,11 +1,13 @@
 //! The book of a table: the states of all slots, and the order of loading.
-ghost use Rattle.std.specs.Prelude.{ℕ, ◌≡◌, ◌<◌, [], true, length, slice_index, IfOk};
-ghost use Rattle.dep_index.specs.Table.{state_of, users};
+ghost use Rattle.std.specs.Prelude.{ℕ, ◌≡◌, ◌<◌, ◌==◌, ◌&&◌, [], true, length, slice_index, IfOk};
+ghost use Rattle.std.specs.List.{list_any};
+ghost use Rattle.dep_index.specs.Table.{state_of, needs_slot, users, has_users};
 ghost use Rattle.dep_index.specs.Calls.{slot_of, book_refusal, unload_refusal, book_effect, opening, with_state, without};
 ghost use Rattle.dep_index.specs.Refusals.{refusal_of, begin_load_refusal, end_load_refusal, begin_drain_refusal, begin_remove_refusal, end_remove_refusal};
 ghost use Rattle.dep_index.specs.declared.calls.Call.TheVariants.{BeginLoad, EndLoad, EndRemove};
 
 use crate::calls::{Call, Reply};
+use crate::order::Order;
 use crate::reads;
 use crate::refusals::{
     BeginDrainError, BeginLoadError, BeginRemoveError, EndLoadError, EndRemoveError, Refusal,
@@ -17,12 +19,13 @@ use std::marker::Model;
 
 /// The states of all slots, and the order of loading. Contracts see them as the definition's book.
 ///
-/// Its order has room for every slot, so that no load takes memory. The catalogue is its caller's: each refusal that
+/// Its order has room for every slot, so that no load takes memory, and a module enters and leaves it in the same time
+/// however many are loaded. The catalogue is its caller's: each refusal that
 /// asks for needs or marks takes the slots.
 #[derive(Drop)]
 pub struct Book {
     states: Vec<ModuleState>,
-    order: Vec<u16>,
+    order: Order,
 }
 
 impl Model for Book {
@@ -32,9 +35,16 @@ impl Model for Book {
 
     ghost use Rattle.dep_index.specs.Kept.{HasRoom};
 
-    ghost view = { λ b. record { states = b.states.items; order = b.order.items } };
+    ghost view = { λ b. record { states = b.states.items; order = b.order.slots } };
 
-    ghost invariant = { λ b. HasRoom b.states b.order };
+    ghost invariant = { λ b. HasRoom b.states.items b.order };
+}
+
+/// Whether one of the users needs the slot, and stands in the order.
+fn any_loaded(order: &Order, slots: &Slots, slot: usize, users: &[u16]) -> bool
+    ensures { result ≡ list_any (λ u. list_any (λ s. s == u) order.now.slots && needs_slot slots.now slot u) users.now }
+{
+    users.iter().any(|user| order.holds(*user) && reads::needs_slot(slots, slot, *user))
 }
 
 impl Book {
@@ -45,7 +55,7 @@ impl Book {
         let count = slots.len();
         Ok(Book {
             states: vec![in alloc; ModuleState::Absent; count]?,
-            order: Vec::with_capacity(alloc, count)?,
+            order: Order::new(alloc, count)?,
         })
     }
 
@@ -68,17 +78,21 @@ impl Book {
         requires { place < length self.now.order }
         ensures { result ≡ slice_index self.now.order place }
     {
-        self.order[place] as usize
+        self.order.at(place) as usize
     }
 
     /// How many modules of the table need the slot.
     pub fn user_count(&self, slots: &Slots, slot: usize) -> usize
         ensures { result ≡ length (users slots.now self.now slot) }
     {
-        self.order
-            .iter()
-            .filter(|user| reads::needs_slot(slots, slot, **user))
-            .count()
+        self.order.user_count(slots, slot)
+    }
+
+    /// Whether a module of the table needs the slot.
+    fn has_users(&self, slots: &Slots, slot: usize) -> bool
+        ensures { result ≡ has_users slots.now self.now slot }
+    {
+        any_loaded(&self.order, slots, slot, slots.users(slot))
     }
 
     /// Why no load of the slot begins; None where one does.
@@ -116,7 +130,7 @@ impl Book {
         let state = self.state(slot);
         if reads::is_absent(state) {
             Some(BeginDrainError::NoEntry)
-        } else if reads::has_users(slots, &self.order, slot) {
+        } else if self.has_users(slots, slot) {
             Some(BeginDrainError::NeededBy)
         } else if !reads::is_live(state) {
             Some(BeginDrainError::NotLive)
@@ -171,10 +185,7 @@ impl Book {
         ensures { self.new ≡ book_effect self.old (BeginLoad slot) }
     {
         self.states[slot] = ModuleState::Loading;
-        match self.order.push(slot as u16) {
-            Ok(()) => {}
-            Err(_) => unreachable!(),
-        }
+        self.order.push(slot as u16);
     }
 
     /// The slot has a new state; the order stays.
@@ -191,7 +202,7 @@ impl Book {
         ensures { self.new ≡ without self.old slot }
     {
         self.states[slot] = ModuleState::Absent;
-        reads::forget(&mut self.order, slot);
+        self.order.forget(slot as u16);
     }
 
     /// Writes a call that is not refused.

@@ -14,6 +14,7 @@ mod exporters;
 mod faults;
 pub mod laws;
 mod needs;
+mod order;
 mod params;
 mod paths;
 pub mod reads;
