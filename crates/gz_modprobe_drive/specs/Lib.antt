@@ -10,3 +10,6 @@ pub mod Wishes
 pub mod Answered
 pub mod Texts
 pub mod Queries
+pub mod Findings
+pub mod Told
+pub mod Sys

@@ -5,6 +5,8 @@ ghost use Rattle.kmod_query.specs.AnswerOf.{answer_of};
 ghost use Rattle.gz_modprobe_drive.specs.Texts.{IsConfOf};
 ghost use Rattle.gz_modprobe_drive.specs.Answered.{IsAnswer, said_by, status_of};
 
+use crate::explaining::explanation;
+use crate::messages::{Messages, tell_explanation};
 use crate::texts::Machine;
 use kmod_conf::Conf;
 use kmod_query::{Answer, Query, World, answer_to};
@@ -56,15 +58,29 @@ fn answer_world<O: Write>(
     Ok(Answered { answer, is_written })
 }
 
-/// Answers a query from the texts and states of a machine, and writes the answer's output. `conf` is what its configuration
-/// says. Only want of memory refuses.
+/// Tells why an answer is as it is, where that is asked for.
+fn explain<E: Write>(
+    alloc: Global,
+    machine: &Machine,
+    world: &World<'_>,
+    query: &Query<'_>,
+    messages: &mut Messages<'_, E>,
+) {
+    if messages.explains {
+        tell_explanation(explanation(alloc, machine, world, query), messages);
+    }
+}
+
+/// Answers a query from the texts and states of a machine, and writes the answer's output, whether it is explained or not.
+/// `conf` is what the machine's configuration says. Only want of memory refuses.
 #[tactic(auto, unfolding(crate::specs::Answered::said_by))]
-pub(crate) fn answer_machine<O: Write>(
+pub(crate) fn answer_machine<O: Write, E: Write>(
     alloc: Global,
     machine: &Machine,
     conf: &Conf,
     query: &Query<'_>,
     output: &mut O,
+    messages: &mut Messages<'_, E>,
 ) -> Result<Answered, AllocError>
     requires { IsConfOf machine.now.conf conf.now }
     ensures answer { IfOk result (λ own. IsAnswer (said_by machine.now) query.now own.answer) }
@@ -77,5 +93,7 @@ pub(crate) fn answer_machine<O: Write>(
         states: &machine.states,
         directory: &machine.directory,
     };
-    answer_world(alloc, &world, query, output)
+    let answered = answer_world(alloc, &world, query, output)?;
+    explain(alloc, machine, &world, query, messages);
+    Ok(answered)
 }

@@ -5,12 +5,13 @@ ghost use Rattle.gz_modprobe_drive.specs.Texts.{IsConfOf};
 use crate::answered::answer_machine;
 use crate::answers::{asks_states, tell_failure};
 use crate::asked::Asked;
-use crate::host::{Host, Kind};
-use crate::machine::{COMMAND_LINE, directory, read_configuration, read_modules};
+use crate::host::{Host, Kind, joined};
+use crate::machine::{directory, read_configuration, read_modules};
 use crate::messages::{Level, Messages};
 use crate::sys::module_states;
 use crate::texts::{ConfTexts, Machine};
 use kmod_conf::{Conf, NameLine};
+use kmod_names::name_of_path;
 use kmod_query::{Answer, Ask, Failure, Query, States};
 use std::alloc::{AllocError, Global};
 use std::env::Env;
@@ -38,14 +39,6 @@ fn tell_bad_line<E: Write>(
     Ok(())
 }
 
-/// The path of the source that has a number: a file, or the kernel's command line behind the files.
-fn path_of(texts: &ConfTexts, source: usize) -> &[u8] {
-    match texts.files.get(source) {
-        Some(file) => &file.path,
-        None => COMMAND_LINE,
-    }
-}
-
 /// Tells the lines of the configuration that say nothing.
 fn tell_bad_lines<E: Write>(
     alloc: Global,
@@ -54,7 +47,7 @@ fn tell_bad_lines<E: Write>(
     messages: &mut Messages<'_, E>,
 ) -> Result<(), AllocError> {
     for line in conf.bad() {
-        tell_bad_line(alloc, path_of(texts, line.place.source), line, messages)?;
+        tell_bad_line(alloc, texts.path(line.place.source), line, messages)?;
     }
     Ok(())
 }
@@ -69,7 +62,42 @@ fn is_not_found(answer: &Answer) -> bool {
     false
 }
 
-/// Tells why names were not answered, and that their folder of modules is missing.
+/// Tells what is wrong with a folder of modules: it is missing, or it has no modules.dep.
+fn tell_folder<R: Files + AllocGlobal, E: Write>(
+    host: &Host<'_, R>,
+    directory: &[u8],
+    messages: &mut Messages<'_, E>,
+) -> Result<(), AllocError> {
+    if host.kind(directory)? != Kind::Folder {
+        messages.tell(Level::Notice, b"there is no folder ", directory, b"", b"");
+        return Ok(());
+    }
+    let file = joined(host.rt.alloc(), directory, b"/modules.dep", b"")?;
+    if host.kind(&file)? == Kind::Nothing {
+        let why = b", which depmod(8) writes";
+        messages.tell(Level::Notice, b"there is no file ", &file, why, b"");
+    }
+    Ok(())
+}
+
+/// Tells that a name which was not found is a path.
+fn tell_path<E: Write>(
+    alloc: Global,
+    failure: &Failure,
+    messages: &mut Messages<'_, E>,
+) -> Result<(), AllocError> {
+    if let Failure::NotFound(word) = failure {
+        let word = word.as_bytes();
+        if word.contains(&b'/') {
+            let name = name_of_path(alloc, word)?;
+            let text = b" is a path: the name of its module is ";
+            messages.tell(Level::Notice, word, text, name.as_bytes(), b"");
+        }
+    }
+    Ok(())
+}
+
+/// Tells why names were not answered, and what is wrong with their folder of modules.
 fn tell_failures<R: Files + AllocGlobal, E: Write>(
     host: &Host<'_, R>,
     answer: &Answer,
@@ -79,9 +107,10 @@ fn tell_failures<R: Files + AllocGlobal, E: Write>(
 ) -> Result<(), AllocError> {
     for failure in answer.failures() {
         tell_failure(failure, query, directory, messages);
+        tell_path(host.rt.alloc(), failure, messages)?;
     }
-    if is_not_found(answer) && host.kind(directory)? != Kind::Folder {
-        messages.tell(Level::Notice, b"there is no folder ", directory, b"", b"");
+    if is_not_found(answer) {
+        tell_folder(host, directory, messages)?;
     }
     Ok(())
 }
@@ -98,7 +127,7 @@ fn answer_read<R: Files + AllocGlobal, O: Write, E: Write>(
     requires { IsConfOf machine.now.conf conf.now }
     ensures { IfOk result (λ status. status ≤ 1) }
 {
-    let answered = answer_machine(host.rt.alloc(), machine, conf, query, output)?;
+    let answered = answer_machine(host.rt.alloc(), machine, conf, query, output, messages)?;
     if !answered.is_written {
         let text = b"standard output cannot be written";
         messages.tell_always(Level::Error, text, b"", b"", b"");
@@ -108,9 +137,13 @@ fn answer_read<R: Files + AllocGlobal, O: Write, E: Write>(
 }
 
 /// The states of the machine's modules, where they count.
-fn states_for<R: Files + AllocGlobal>(host: &Host<'_, R>, ask: Ask) -> Result<States, AllocError> {
+fn states_for<R: Files + AllocGlobal, E: Write>(
+    host: &Host<'_, R>,
+    ask: Ask,
+    messages: &mut Messages<'_, E>,
+) -> Result<States, AllocError> {
     if asks_states(ask) {
-        module_states(host)
+        module_states(host, messages)
     } else {
         Ok(States::new(host.rt.alloc()))
     }
@@ -140,7 +173,7 @@ fn read_machine<R: Files + AllocGlobal, E: Write>(
     ensures { IfOk result (λ machine. machine.conf ≡ conf) }
 {
     let modules = read_modules(host, &directory, messages)?;
-    let states = states_for(host, ask)?;
+    let states = states_for(host, ask, messages)?;
     Ok(Machine {
         conf,
         modules,

@@ -18,7 +18,7 @@ pub(crate) enum Ending<'a> {
     Refused(Fault<'a>),
 }
 
-fn is_space(byte: u8) -> bool
+pub(crate) fn is_space(byte: u8) -> bool
     ensures { result ≡ is_space byte }
 {
     byte == b' ' || (9 <= byte && byte <= 13)
@@ -30,7 +30,7 @@ fn is_octal(byte: u8) -> bool
     b'0' <= byte && byte <= b'7'
 }
 
-fn is_digit(byte: u8) -> bool
+pub(crate) fn is_digit(byte: u8) -> bool
     ensures { result ≡ is_digit byte }
 {
     b'0' <= byte && byte <= b'9'
@@ -42,7 +42,7 @@ fn is_hexadecimal(byte: u8) -> bool
     is_digit(byte) || (b'a' <= byte && byte <= b'f') || (b'A' <= byte && byte <= b'F')
 }
 
-fn behind_spaces(text: &[u8]) -> &[u8]
+pub(crate) fn behind_spaces(text: &[u8]) -> &[u8]
     ensures { result.now ≡ behind_spaces text.entry.now }
 {
     let mut rest = text;

@@ -65,7 +65,7 @@ fn add_file(files: &mut Vec<File>, file: File) -> Result<(), AllocError>
 }
 
 /// The file of a name in a folder.
-fn file_in(alloc: Global, path: &[u8], name: &[u8]) -> Result<File, AllocError>
+pub(crate) fn file_in(alloc: Global, path: &[u8], name: &[u8]) -> Result<File, AllocError>
     ensures { IfOk result (λ file. file_of file ≡ file_in path.now name.now) }
 {
     let mut own = Vec::from_slice(alloc, path)?;

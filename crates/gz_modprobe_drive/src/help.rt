@@ -34,6 +34,7 @@ Options of queries:
   -d, --dirname=DIR           Look for lib/modules below DIR
   -S, --set-version=VERSION   The release in place of that of the machine
       --root=DIR              Read all files, of /etc, /sys and /proc too, below DIR
+      --explain               Say on standard error which lines gave the answer
 
 General options:
   -q, --quiet                 Tell no faults
@@ -42,7 +43,7 @@ General options:
   -h, --help                  Show this help
 
 Accepted without effect: -f, --force, --force-modversion, --force-vermagic,
--s, --syslog, -w, --wait=MSEC, and --explain, which is not there yet.
+-s, --syslog and -w, --wait=MSEC.
 Options of MODPROBE_OPTIONS come first.
 
 Example, all that would be done for a device, done by a shell:

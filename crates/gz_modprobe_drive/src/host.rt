@@ -54,6 +54,7 @@ impl<R: Files + AllocGlobal> Host<'_, R> {
         Ok(match fs::metadata(self.rt, text) {
             Ok(found) if found.is_dir() => Kind::Folder,
             Ok(_) => Kind::File,
+            Err(error) if error.kind() == ErrorKind::OutOfMemory => return Err(AllocError),
             Err(_) => Kind::Nothing,
         })
     }

@@ -1,11 +1,12 @@
 //! The texts of the machine that is asked.
 
 use crate::asked::Asked;
-use crate::files::File;
+use crate::files::{File, counted_files};
+use crate::hidden_files::hidden_files;
 use crate::host::{Host, joined};
 use crate::messages::{Level, Messages, reason};
-use crate::sources::configuration_files;
-use crate::texts::{ConfTexts, ModuleTexts, TextFile};
+use crate::sources::configuration_sources;
+use crate::texts::{COMMAND_LINE, ConfTexts, ModuleTexts, TextFile};
 use std::alloc::AllocError;
 use std::env::{self, Env};
 use std::io::{self, ErrorKind, Write};
@@ -13,11 +14,8 @@ use std::rt::Files;
 
 const RELEASE: &[u8] = b"/proc/sys/kernel/osrelease";
 
-/// Where the kernel keeps its command line.
-pub(crate) const COMMAND_LINE: &[u8] = b"/proc/cmdline";
-
 /// Tells that a file was not read. Want of memory is no such fault.
-fn tell_unread<E: Write>(
+pub(crate) fn tell_unread<E: Write>(
     path: &[u8],
     error: &io::Error,
     messages: &mut Messages<'_, E>,
@@ -86,6 +84,7 @@ fn before<R: Files + Env + AllocGlobal>(
             b"/",
             b"",
         ),
+        Err(error) if error.kind() == ErrorKind::OutOfMemory => Err(AllocError),
         _ => joined(alloc, b"//", b"", b""),
     }
 }
@@ -134,10 +133,17 @@ pub(crate) fn read_configuration<R: Files + AllocGlobal, E: Write>(
     paths: &[&[u8]],
     messages: &mut Messages<'_, E>,
 ) -> Result<ConfTexts, AllocError> {
-    let files = configuration_files(host, directory, paths, messages)?;
+    let sources = configuration_sources(host, directory, paths, messages)?;
+    let files = counted_files(host.rt.alloc(), &sources)?;
+    let hidden = if messages.explains {
+        hidden_files(host.rt.alloc(), &sources, &files)?
+    } else {
+        Vec::new(host.rt.alloc())
+    };
     Ok(ConfTexts {
         files: read_files(host, files, messages)?,
         command_line: text_of(host, COMMAND_LINE, messages)?,
+        hidden,
     })
 }
 

@@ -1,4 +1,5 @@
 //! What people are told on standard error, in the form of kmod.
+use std::alloc::AllocError;
 use std::io::{self, ErrorKind, Write};
 
 /// How grave a message is.
@@ -49,6 +50,8 @@ pub(crate) fn tell_line<E: Write>(errors: &mut E, first: &[u8], second: &[u8], t
 pub(crate) struct Messages<'a, E> {
     pub(crate) errors: &'a mut E,
     pub(crate) verbosity: u64,
+    /// Whether it is told why an answer is as it is.
+    pub(crate) explains: bool,
 }
 
 impl<E: Write> Messages<'_, E> {
@@ -78,6 +81,22 @@ impl<E: Write> Messages<'_, E> {
         write_parts(self.errors, b"gz-modprobe: ", level.word(), first);
         write_parts(self.errors, second, third, fourth);
         let _ = self.errors.write_all(b"\n");
+    }
+}
+
+/// Tells why an answer is as it is, where that is known.
+pub(crate) fn tell_explanation<E: Write>(
+    found: Result<Vec<u8>, AllocError>,
+    messages: &mut Messages<'_, E>,
+) {
+    match found {
+        Ok(lines) => {
+            let _ = messages.errors.write_all(&lines);
+        }
+        Err(_) => {
+            let text = b"out of memory: the answer is not explained";
+            messages.tell_always(Level::Error, text, b"", b"", b"");
+        }
     }
 }
 

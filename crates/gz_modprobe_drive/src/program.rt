@@ -5,8 +5,8 @@ use crate::answering::answer_query;
 use crate::answers::query_of;
 use crate::asked::Asked;
 use crate::endings::first_ending;
-use crate::host::Host;
-use crate::messages::Messages;
+use crate::host::{Host, Kind};
+use crate::messages::{Level, Messages};
 use crate::refusals::{end_early, is_refused};
 use crate::variable::variable_words;
 use crate::words::read_words;
@@ -14,6 +14,19 @@ use std::alloc::{AllocError, Global};
 use std::env::Env;
 use std::io::Write;
 use std::rt::Files;
+
+/// Tells that the folder of `--root` is none, where it is none. Whether it was told is answered.
+fn is_rootless<R: Files + AllocGlobal, E: Write>(
+    host: &Host<'_, R>,
+    messages: &mut Messages<'_, E>,
+) -> Result<bool, AllocError> {
+    if host.root.is_empty() || host.kind(b"/")? == Kind::Folder {
+        return Ok(false);
+    }
+    let text = b"there is no folder ";
+    messages.tell_always(Level::Fatal, text, host.root, b", which --root names", b"");
+    Ok(true)
+}
 
 /// Answers what is asked. The status is answered.
 fn answer_asked<R: Files + Env + AllocGlobal, O: Write, E: Write>(
@@ -31,6 +44,7 @@ fn answer_asked<R: Files + Env + AllocGlobal, O: Write, E: Write>(
     let mut messages = Messages {
         errors,
         verbosity: asked.switches.verbosity,
+        explains: asked.switches.explain,
     };
     let Some(query) = query_of(wish, asked.switches, &asked.words) else {
         return Ok(1);
@@ -39,6 +53,9 @@ fn answer_asked<R: Files + Env + AllocGlobal, O: Write, E: Write>(
         rt,
         root: asked.root.unwrap_or(b""),
     };
+    if is_rootless(&host, &mut messages)? {
+        return Ok(1);
+    }
     answer_query(&host, asked, &query, output, &mut messages)
 }
 

@@ -1,6 +1,6 @@
 //! The files of the configuration, as they lie on the machine.
 
-use crate::files::{File, Source, counted_files, counts};
+use crate::files::{Source, counts};
 use crate::host::{Host, Kind, joined, last_name};
 use crate::messages::{Level, Messages, reason};
 use std::alloc::AllocError;
@@ -54,15 +54,20 @@ fn names_in<R: Files + AllocGlobal, E: Write>(
     Ok(names)
 }
 
-/// Adds the source of a path: a folder, a file, or nothing.
+/// Adds the source of a path: a folder, a file, or nothing, which is told of a path that was named.
 fn add_source<R: Files + AllocGlobal, E: Write>(
     host: &Host<'_, R>,
     path: &[u8],
+    is_named: bool,
     sources: &mut Vec<Source>,
     messages: &mut Messages<'_, E>,
 ) -> Result<(), AllocError> {
     let alloc = host.rt.alloc();
     match host.kind(path)? {
+        Kind::Nothing if is_named => {
+            let text = b"there is no configuration ";
+            messages.tell(Level::Warning, text, path, b"", b"");
+        }
         Kind::Nothing => {}
         Kind::Folder => {
             let names = names_in(host, path, messages)?;
@@ -80,31 +85,32 @@ fn add_source<R: Files + AllocGlobal, E: Write>(
 fn add_sources<R: Files + AllocGlobal, E: Write>(
     host: &Host<'_, R>,
     paths: &[&[u8]],
+    are_named: bool,
     sources: &mut Vec<Source>,
     messages: &mut Messages<'_, E>,
 ) -> Result<(), AllocError> {
     for path in paths {
-        add_source(host, *path, sources, messages)?;
+        add_source(host, *path, are_named, sources, messages)?;
     }
     Ok(())
 }
 
-/// The files of the configuration in the order in which they are read: modules.softdep of the folder of modules, and the
-/// files of these paths, or of the folders of modprobe.d.
-pub(crate) fn configuration_files<R: Files + AllocGlobal, E: Write>(
+/// The sources of the configuration by their rank: modules.softdep of the folder of modules, and these paths, or the
+/// folders of modprobe.d.
+pub(crate) fn configuration_sources<R: Files + AllocGlobal, E: Write>(
     host: &Host<'_, R>,
     directory: &[u8],
     paths: &[&[u8]],
     messages: &mut Messages<'_, E>,
-) -> Result<Vec<File>, AllocError> {
+) -> Result<Vec<Source>, AllocError> {
     let alloc = host.rt.alloc();
     let mut sources = Vec::new(alloc);
     let own = joined(alloc, directory, b"/modules.softdep", b"")?;
     sources.push(Source::Single(Vec::from_slice(alloc, b"modules.softdep")?, own))?;
     if paths.is_empty() {
-        add_sources(host, &FOLDERS, &mut sources, messages)?;
+        add_sources(host, &FOLDERS, false, &mut sources, messages)?;
     } else {
-        add_sources(host, paths, &mut sources, messages)?;
+        add_sources(host, paths, true, &mut sources, messages)?;
     }
-    counted_files(alloc, &sources)
+    Ok(sources)
 }

@@ -1,41 +1,83 @@
 //! The states of modules, as /sys/module has them (sysfs(5)).
+ghost use Rattle.std.specs.Prelude.{◌≡◌, ◌≤◌, length};
+ghost use Rattle.std.specs.List.{prefix_len};
+ghost use Rattle.text_parts.specs.Text.{is_digit};
+ghost use Rattle.gz_modprobe_drive.specs.Sys.{begins_with_space, count_of, number_of, state_of};
 
+use crate::endings::{behind_spaces, is_digit, is_space};
 use crate::host::{Host, Kind, joined};
+use crate::machine::tell_unread;
+use crate::messages::Messages;
 use kmod_query::{ModuleState, ModuleStatus, States};
 use std::alloc::AllocError;
+use std::io::{ErrorKind, Write};
 use std::rt::Files;
+use text_parts::{is_same, number_within};
 
 const MODULES: &[u8] = b"/sys/module";
 
 /// The state that a text of `initstate` tells.
-fn state_of(text: &[u8]) -> ModuleState {
-    if text == b"live\n".as_slice() {
+fn state_of(text: &[u8]) -> ModuleState
+    ensures { result ≡ state_of text.now }
+{
+    if is_same(text, b"live\n") {
         ModuleState::Live
-    } else if text == b"coming\n".as_slice() {
+    } else if is_same(text, b"coming\n") {
         ModuleState::Coming
-    } else if text == b"going\n".as_slice() {
+    } else if is_same(text, b"going\n") {
         ModuleState::Going
     } else {
         ModuleState::Other
     }
 }
 
-/// Decimal digits that white space follows, as strtol(3) reads them.
-fn count_of(text: &[u8]) -> Option<u64> {
-    let mut number: Option<u64> = None;
-    for byte in text {
-        if byte.is_ascii_digit() {
-            let digit = u64::from(*byte - b'0');
-            number = Some(number.unwrap_or(0).saturating_mul(10).saturating_add(digit));
-        } else if byte.is_ascii_whitespace() {
-            if number.is_some() {
-                return number;
-            }
-        } else {
-            return None;
-        }
+/// How many digits stand at the beginning.
+fn digit_count(text: &[u8]) -> usize
+    ensures value { result ≡ prefix_len is_digit text.now }
+    ensures within { result ≤ length text.now }
+{
+    text.iter().take_while(|byte| is_digit(**byte)).count()
+}
+
+fn begins_with_space(text: &[u8]) -> bool
+    ensures { result ≡ begins_with_space text.now }
+{
+    match text.first() {
+        Some(byte) => is_space(*byte),
+        None => false,
     }
-    None
+}
+
+/// The digits at the beginning, where white space follows them.
+fn number_of(text: &[u8]) -> Option<u64>
+    ensures { result ≡ number_of text.now }
+{
+    let count = digit_count(text);
+    if begins_with_space(&text[count..]) {
+        number_within(u64::MAX, &text[..count])
+    } else {
+        None
+    }
+}
+
+/// The number that a text of `refcnt` tells, of at most ten digits, as the kernel writes an `int`.
+fn count_of(text: &[u8]) -> Option<u64>
+    ensures { result ≡ count_of text.now }
+{
+    number_of(behind_spaces(text))
+}
+
+/// The text of a file of a module's folder; None where it has none that can be read.
+fn text_in<R: Files + AllocGlobal>(
+    host: &Host<'_, R>,
+    folder: &[u8],
+    name: &[u8],
+) -> Result<Option<Vec<u8>>, AllocError> {
+    match host.read(&joined(host.rt.alloc(), folder, b"/", name)?) {
+        Ok(text) => Ok(Some(text)),
+        Err(error) if error.kind() == ErrorKind::OutOfMemory => Err(AllocError),
+        Err(_) => Ok(None),
+    }
 }
 
 /// What the folder of a module tells; None where it tells nothing.
@@ -43,29 +85,41 @@ fn status_of<R: Files + AllocGlobal>(
     host: &Host<'_, R>,
     folder: &[u8],
 ) -> Result<Option<ModuleStatus>, AllocError> {
-    let alloc = host.rt.alloc();
-    let state = match host.read(&joined(alloc, folder, b"/initstate", b"")?) {
-        Ok(text) => state_of(&text),
-        Err(_) if host.kind(folder)? == Kind::Folder => ModuleState::Folder,
-        Err(_) => return Ok(None),
+    let state = match text_in(host, folder, b"initstate")? {
+        Some(text) => state_of(&text),
+        None if host.kind(folder)? == Kind::Folder => ModuleState::Folder,
+        None => return Ok(None),
     };
-    let users = match host.read(&joined(alloc, folder, b"/refcnt", b"")?) {
-        Ok(text) => count_of(&text),
-        Err(_) => None,
+    let users = match text_in(host, folder, b"refcnt")? {
+        Some(text) => count_of(&text),
+        None => None,
     };
     Ok(Some(ModuleStatus { state, users }))
 }
 
-/// The states of all modules that /sys/module has.
-pub(crate) fn module_states<R: Files + AllocGlobal>(
+/// The names in /sys/module. One that is not there has none; one that cannot be read is told.
+fn module_names<R: Files + AllocGlobal, E: Write>(
     host: &Host<'_, R>,
+    messages: &mut Messages<'_, E>,
+) -> Result<Vec<Vec<u8>>, AllocError> {
+    match host.names(MODULES) {
+        Ok(names) => Ok(names),
+        Err(error) if error.kind() == ErrorKind::NotFound => Ok(Vec::new(host.rt.alloc())),
+        Err(error) => {
+            tell_unread(MODULES, &error, messages)?;
+            Ok(Vec::new(host.rt.alloc()))
+        }
+    }
+}
+
+/// The states of all modules that /sys/module has.
+pub(crate) fn module_states<R: Files + AllocGlobal, E: Write>(
+    host: &Host<'_, R>,
+    messages: &mut Messages<'_, E>,
 ) -> Result<States, AllocError> {
     let alloc = host.rt.alloc();
     let mut states = States::new(alloc);
-    let Ok(names) = host.names(MODULES) else {
-        return Ok(states);
-    };
-    for name in names.iter() {
+    for name in module_names(host, messages)?.iter() {
         let folder = joined(alloc, MODULES, b"/", name)?;
         if let Some(status) = status_of(host, &folder)? {
             states.set(alloc, name, status)?;

@@ -7,11 +7,21 @@ use kmod_index::{Index, IndexTexts};
 use kmod_query::States;
 use std::alloc::{AllocError, Global};
 
+/// Where the kernel keeps its command line.
+pub(crate) const COMMAND_LINE: &[u8] = b"/proc/cmdline";
+
 /// A file of the configuration.
 #[derive(Drop)]
 pub(crate) struct TextFile {
     pub(crate) path: Vec<u8>,
     pub(crate) text: Vec<u8>,
+}
+
+/// A file of the configuration that does not count, and the one of its name that does.
+#[derive(Drop)]
+pub(crate) struct HiddenFile {
+    pub(crate) path: Vec<u8>,
+    pub(crate) by: Vec<u8>,
 }
 
 /// The texts of a configuration.
@@ -20,6 +30,8 @@ pub(crate) struct ConfTexts {
     /// In the order in which they count.
     pub(crate) files: Vec<TextFile>,
     pub(crate) command_line: Option<Vec<u8>>,
+    /// The files that are not read, where an answer is explained.
+    pub(crate) hidden: Vec<HiddenFile>,
 }
 
 /// The texts of a folder of modules; one that is not there is empty.
@@ -86,6 +98,14 @@ fn add_files(alloc: Global, conf: &mut Conf, files: &[TextFile]) -> Result<(), A
 }
 
 impl ConfTexts {
+    /// The path of the source of a number: a file, or the kernel's command line behind the files.
+    pub(crate) fn path(&self, source: usize) -> &[u8] {
+        match self.files.get(source) {
+            Some(file) => &file.path,
+            None => COMMAND_LINE,
+        }
+    }
+
     /// What the files say, one after another, and then the kernel's command line. A place has the number of its file, and
     /// the command line has the number behind them. Only want of memory refuses.
     #[tactic(auto, unfolding(crate::specs::Texts::conf_of))]

@@ -1,0 +1,29 @@
+-- What the files of /sys/module say (sysfs(5)).
+use Rattle.std.specs.Prelude.{ℕ, Bool, false, List, [], ◌∷◌, take, drop, codes, if◌then◌else◌, Option, None}
+use Rattle.std.specs.List.{prefix_len}
+use Rattle.std.specs.Str.{bytes_eq}
+use Rattle.text_parts.specs.Text.{is_digit, number_within}
+use Rattle.kmod_query.specs.declared.states.ModuleState.{ModuleState}
+use Rattle.kmod_query.specs.declared.states.ModuleState.TheVariants.{Live, Coming, Going, Other}
+use Rattle.gz_modprobe_drive.specs.Endings.{behind_spaces, is_space}
+
+-- the state that a text of `initstate` tells
+abbrev pub state_of : List ℕ → ModuleState
+state_of text =
+    if bytes_eq text (codes "live\n") then Live
+    else (if bytes_eq text (codes "coming\n") then Coming
+    else (if bytes_eq text (codes "going\n") then Going else Other))
+
+abbrev pub begins_with_space : List ℕ → Bool
+begins_with_space [] = false
+begins_with_space (byte ∷ rest) = is_space byte
+
+-- the digits at the beginning, where white space follows them
+abbrev pub number_of : List ℕ → Option ℕ
+number_of text =
+    if begins_with_space (drop (prefix_len is_digit text) text)
+    then number_within 18446744073709551615 (take (prefix_len is_digit text) text) else None
+
+-- the number that a text of `refcnt` tells, as strtol(3) reads it: white space, decimal digits, white space
+abbrev pub count_of : List ℕ → Option ℕ
+count_of text = number_of (behind_spaces text)
