@@ -7,3 +7,4 @@ pub mod Shown
 pub mod Callers
 pub mod Owned
 pub mod Hearing
+pub mod Calls

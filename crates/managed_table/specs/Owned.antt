@@ -1,9 +1,10 @@
--- A caller alone, without its table.
-use Rattle.std.specs.Prelude.{◌≡◌, ◌<◌, ◌≤◌, ◌⊎◌, ℕ, Option, MatchOption}
+-- A caller alone, without its table, and a teller.
+use Rattle.std.specs.Prelude.{◌≡◌, ◌<◌, ◌≤◌, ◌⊎◌, ℕ, [], Option, Some, None, MatchOption}
 use Rattle.dep_index.specs.Table.{Table}
-use Rattle.root_row.specs.Seats.{RowIs}
+use Rattle.root_row.specs.Seats.{RowIs, Seated}
 use Rattle.root_row.specs.World.{slots}
 use Rattle.managed_table.specs.Callers.{CallerIs}
+use Rattle.managed_table.specs.Turns.{no_row}
 use Rattle.managed_table.specs.Shown.{HasLoadedAt, HasNoneAt}
 
 abbrev pub row_of : CallerIs → RowIs
@@ -26,3 +27,12 @@ IsWithin caller worker slot = (worker < (row_of caller).world.workers) × (slot 
 -- the module that stands at this place in the order of loading, or none
 abbrev pub Has : ℕ → Option ℕ → Table → Type 0
 Has place found table = MatchOption found (HasNoneAt place table) (λ slot. HasLoadedAt place slot table)
+
+-- a teller's reader; it has none while it is in a call
+abbrev pub reader_in : Option Seated → Seated
+reader_in None = record { row = no_row.id; view = record { world = no_row.world; members = [] }; steps = [] }
+reader_in (Some reader) = reader
+
+-- neither the caller nor the teller was changed
+abbrev pub AreAsBefore : CallerIs → CallerIs → Seated → Seated → Type 0
+AreAsBefore caller caller' teller teller' = (caller' ≡ caller) × (teller' ≡ teller)

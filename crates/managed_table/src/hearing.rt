@@ -5,7 +5,7 @@ use std::sync::Wait;
 use use_indicator::{Leaf, Reader};
 
 impl ManagedTable {
-    ghost use Rattle.std.specs.Prelude.{◌≡◌, ◌<◌};
+    ghost use Rattle.std.specs.Prelude.{◌≡◌, ◌<◌, MatchBool};
     ghost use Rattle.std.specs.Fn.{FnOnceReturnsAtMut};
     ghost use Rattle.root_row.specs.Seats.{IsOf};
     ghost use Rattle.managed_table.specs.Kept.{seen, leaf_fits};
@@ -48,6 +48,59 @@ impl ManagedTable {
     {
         let row = &self.row;
         self.book_turn(rt, caller, |book| book.hear(row, reader))
+    }
+
+    /// As `meet_leaf`, but it never waits. False: the lock was taken at each of so many tries, and the caller and the reader are
+    /// as they were.
+    pub(crate) fn try_meet_leaf(
+        &self,
+        caller: &mut Caller,
+        worker: usize,
+        reader: Reader,
+        tries: u32,
+    ) -> (bool, Reader)
+        requires own { IsCallerOf self.now caller.old }
+        requires reader_own { IsOf self.now.row reader }
+        requires inside { worker < self.now.row.world.workers }
+        ensures own { IsCallerOf self.now caller.new }
+        ensures reader_own { IsOf self.now.row result.1 }
+        ensures met { MatchBool result.0 (LeafMet self.now worker caller.old caller.new reader.view result.1.view) ((caller.new ≡ caller.old) × (result.1 ≡ reader)) }
+        ensures book { caller.new.book ≡ caller.old.book }
+    {
+        let row = &self.row;
+        let seat = &mut caller.leaves;
+        if !self.leaves.take_within(seat, worker, tries) {
+            return (false, reader);
+        }
+        let reader = self
+            .leaves
+            .lend(seat, worker, |leaf| reader.hear_leaf(row, leaf));
+        self.leaves.let_go(seat, worker);
+        (true, reader)
+    }
+
+    /// The same of the book and the reader.
+    pub(crate) fn try_meet_book(
+        &self,
+        caller: &mut Caller,
+        reader: Reader,
+        tries: u32,
+    ) -> (bool, Reader)
+        requires own { IsCallerOf self.now caller.old }
+        requires reader_own { IsOf self.now.row reader }
+        ensures own { IsCallerOf self.now caller.new }
+        ensures reader_own { IsOf self.now.row result.1 }
+        ensures met { MatchBool result.0 (BookMet self.now caller.old caller.new reader.view result.1.view) ((caller.new ≡ caller.old) × (result.1 ≡ reader)) }
+        ensures leaves { caller.new.leaves ≡ caller.old.leaves }
+    {
+        let row = &self.row;
+        let seat = &mut caller.book;
+        if !self.book.take_within(seat, 0, tries) {
+            return (false, reader);
+        }
+        let reader = self.book.lend(seat, 0, |book| book.hear(row, reader));
+        self.book.let_go(seat, 0);
+        (true, reader)
     }
 
     // One turn of the lock of the worker's leaf.

@@ -3,6 +3,7 @@
 
 mod book_calls;
 mod caller;
+mod calls;
 mod hearing;
 mod keyed;
 mod leaf_calls;
@@ -11,12 +12,15 @@ mod making;
 mod meeting;
 mod own_caller;
 mod own_caller_book;
+mod own_caller_meeting;
 mod plays;
 mod rule;
 mod table;
+mod teller;
 mod tries;
 pub mod view;
 
 pub use caller::Caller;
 pub use own_caller::OwnCaller;
 pub use table::ManagedTable;
+pub use teller::Teller;

@@ -1,6 +1,7 @@
 //! A caller that owns a share of its table.
 use crate::caller::Caller;
 use crate::table::ManagedTable;
+use crate::teller::{Teller, tellers_of};
 use dep_index::{Call, Catalogue, GetError, PutError};
 use std::alloc::{AllocError, Global};
 use std::marker::Model;
@@ -28,12 +29,14 @@ impl Model for OwnCaller {
 }
 
 impl OwnCaller {
-    ghost use Rattle.std.specs.Prelude.{◌≡◌, ◌<◌, [], IfOk, IfSome, IfNone, MatchOption};
+    ghost use Rattle.std.specs.Prelude.{◌≡◌, ◌<◌, [], All, IfOk, IfSome, IfNone, MatchOption};
     ghost use Rattle.std.specs.Arc.{arc_value};
     ghost use Rattle.dep_index.specs.Catalogue.{modules_of};
     ghost use Rattle.dep_index.specs.Words.{closed};
     ghost use Rattle.dep_index.specs.Refusals.{reply_of, get_refusal, put_refusal};
     ghost use Rattle.root_row.specs.World.{slots};
+    ghost use Rattle.root_row.specs.Made.{new_reader, AreNew};
+    ghost use Rattle.root_row.specs.Seats.{IsOf};
     ghost use Rattle.root_row.specs.declared.view.SeatName.TheVariants as name_is;
     ghost use Rattle.managed_table.specs.Turns.{MadeOneCall, MadeNoCall};
     ghost use Rattle.managed_table.specs.Shown.{HoldsSoOften};
@@ -52,6 +55,23 @@ impl OwnCaller {
     {
         let (table, _readers) = ManagedTable::new(alloc, catalogue, workers)?;
         Ok(OwnCaller::of(Arc::new(alloc, table)?))
+    }
+
+    /// The same, with a teller for each worker.
+    pub fn with_tellers(
+        alloc: Global,
+        catalogue: &Catalogue,
+        workers: usize,
+    ) -> Result<(OwnCaller, Vec<Teller>), AllocError>
+        requires few_workers { workers < closed }
+        ensures world { IfOk result (λ r. (row_of r.0).world ≡ record { catalogue = modules_of catalogue.now; workers = workers }) }
+        ensures new { IfOk result (λ r. (r.0.leaves.pass.turns ≡ []) × (r.0.book.pass.turns ≡ [])) }
+        ensures tellers { IfOk result (λ r. AreNew (new_reader (row_of r.0).id (row_of r.0).world) workers r.1.items) }
+        ensures own { IfOk result (λ r. All (IsOf (row_of r.0)) r.1.items) }
+    {
+        let (table, readers) = ManagedTable::new(alloc, catalogue, workers)?;
+        let tellers = tellers_of(alloc, readers)?;
+        Ok((OwnCaller::of(Arc::new(alloc, table)?), tellers))
     }
 
     fn of(table: Arc<ManagedTable, Global>) -> OwnCaller

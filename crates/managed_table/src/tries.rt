@@ -38,7 +38,7 @@ impl<T: Keyed + Drop> Locks<T> {
 
     // Takes the lock in at most so many tries.
     #[inline(always)]
-    fn take_within(&self, seat: &mut Seat<T, Passes>, lock: usize, tries: u32) -> bool
+    pub(crate) fn take_within(&self, seat: &mut Seat<T, Passes>, lock: usize, tries: u32) -> bool
         requires inside { lock < self.now.table.shared.key.locks }
         requires free { IsFree self.now.table.shared.table_id self.now.table.shared.key.row.value seat.old }
         ensures id { seat.new.table_id ≡ seat.old.table_id }
@@ -54,7 +54,7 @@ impl<T: Keyed + Drop> Locks<T> {
 
     // Lets go of a lock that nobody waits for.
     #[inline(always)]
-    fn let_go(&self, seat: &mut Seat<T, Passes>, lock: usize)
+    pub(crate) fn let_go(&self, seat: &mut Seat<T, Passes>, lock: usize)
         requires inside { lock < self.now.table.shared.key.locks }
         requires id { seat.old.table_id ≡ self.now.table.shared.table_id }
         requires row { (pass_of seat.old.me.0).row.value ≡ self.now.table.shared.key.row.value }
