@@ -1,15 +1,14 @@
 -- Two managed calls, of which the second was told of the first.
-use Rattle.std.proofs.Common.{◌≡◌, ⊎_elim, inl, ℕ, List, [], ◌∷◌, ◌++◌, length, refl, sym, ap, ◌∙◌, subst, append_assoc, arith}
+use Rattle.std.proofs.Common.{◌≡◌, ◌⊎◌, ℕ, List, [], ◌∷◌, ◌++◌, length, refl, sym, ap, ◌∙◌, subst, append_assoc}
 use Rattle.std.proofs.lemmas.List.{map-append}
 use mathlib.Core.Option.{some}
 use lib.ListN.{get_elem?}
 use Rattle.atomic_table.proofs.Lists.{at_last}
 use Rattle.dep_index.specs.declared.calls.Call.{Call}
-use Rattle.dep_index.specs.declared.calls.Call.TheVariants.{Get, Put, InUse, BeginLoad, EndLoad, BeginDrain, BeginRemove, EndRemove}
+use Rattle.dep_index.specs.declared.calls.Call.TheVariants.{Get, BeginDrain, BeginRemove, EndRemove}
 use Rattle.dep_index.specs.declared.calls.Reply.{Reply}
 use Rattle.dep_index.specs.History.{Answer}
 use Rattle.root_row.specs.declared.view.SeatAnswer.{SeatAnswer}
-use Rattle.root_row.specs.declared.view.World.{World}
 use Rattle.root_row.specs.declared.view.View.{View}
 use Rattle.root_row.specs.Seats.{RowIs}
 use Rattle.root_row.specs.Views.{seen_of}
@@ -17,19 +16,8 @@ use Rattle.root_row.specs.History.{answer_of, answers_in, seat_answer, StartsWit
 use Rattle.managed_table.specs.Callers.{CallerIs}
 use Rattle.managed_table.specs.Turns.{turn}
 use Rattle.managed_table.proofs.Keeping.{starts_trans}
-use Rattle.theorems.specs.Managed.{seat_for, lock_of, elsewhere, turns_of, WasMadeOnce, CannotBeMade}
-use Rattle.theorems.specs.Told.{CanBeMade, MadeNone, MadeAndTold, HeardAndMade, WereMadeInOrder, FindsItGone, MetAt}
-
--- a call in range is made
-pub is_made : (world : World) (call : Call) → CanBeMade world call → CannotBeMade world call → ⊥
-is_made world (Get w m) can cannot = ⊎_elim (λ a. let b = can.0 in omega arith) (λ a. let b = can.1 in omega arith) cannot
-is_made world (Put w m) can cannot = ⊎_elim (λ a. let b = can.0 in omega arith) (λ a. let b = can.1 in omega arith) cannot
-is_made world (InUse m) can cannot = can
-is_made world (BeginLoad m) can cannot = omega arith
-is_made world (EndLoad m ok) can cannot = omega arith
-is_made world (BeginDrain m) can cannot = omega arith
-is_made world (BeginRemove m) can cannot = omega arith
-is_made world (EndRemove m) can cannot = omega arith
+use Rattle.theorems.specs.Managed.{seat_for, lock_of, elsewhere, turns_of, WasMadeOnce}
+use Rattle.theorems.specs.Told.{MadeNone, MadeAndTold, HeardAndMade, WereMadeInOrder, FindsItGone, MetAt}
 
 module _ (row : RowIs) (call : Call) (old new : CallerIs) (reader reader' : View) (met : MetAt row call old new reader reader') (other : elsewhere (seat_for call) new ≡ elsewhere (seat_for call) old) where
   made_none : MadeNone call old new
@@ -78,10 +66,10 @@ in_order row first reply old new second reply' old' new' reader reader' one othe
 answers_more : (l m : List SeatAnswer) → answers_in (l ++ m) ≡ answers_in l ++ answers_in m
 answers_more l m = map-append answer_of l m
 
-pub finds_it_gone : (row : RowIs) (slot worker : ℕ) (removal get : Reply) (old new old' new' : CallerIs)
-    → WereMadeInOrder row (BeginRemove slot) removal old new (Get worker slot) get old' new' → FindsItGone row slot worker removal get old new old' new'
-finds_it_gone row slot worker removal get old new old' new' t done =
-    (t, λ not_again. t.other.none_after before (since ++ last ∷ []) since [] (record { call = BeginRemove slot; reply = removal }) last slot worker is (inl refl) done refl not_again refl)
+pub finds_it_gone : (row : RowIs) (removal : Call) (slot worker : ℕ) (reply get : Reply) (old new old' new' : CallerIs) → (removal ≡ BeginRemove slot) ⊎ ((removal ≡ EndRemove slot) ⊎ (removal ≡ BeginDrain slot))
+    → WereMadeInOrder row removal reply old new (Get worker slot) get old' new' → FindsItGone row removal slot worker reply get old new old' new'
+finds_it_gone row removal slot worker reply get old new old' new' removes t done =
+    (t, λ not_again. t.other.none_after before (since ++ last ∷ []) since [] (record { call = removal; reply = reply }) last slot worker is removes done refl not_again refl)
   where
     before : List Answer
     before = answers_in (t.one.before ++ t.one.others)
@@ -93,7 +81,7 @@ finds_it_gone row slot worker removal get old new old' new' t done =
     last = record { call = Get worker slot; reply = get }
 
     removed : List Answer
-    removed = record { call = BeginRemove slot; reply = removal } ∷ []
+    removed = record { call = removal; reply = reply } ∷ []
 
     is : answers_in t.other.after ≡ before ++ (removed ++ (since ++ last ∷ []))
     is = ap answers_in t.order ∙ answers_more (t.one.after ++ t.since) _ ∙ ap (λ l. l ++ last ∷ []) (answers_more t.one.after t.since ∙ ap (λ l. l ++ since) (ap answers_in t.one.ends ∙ answers_more (t.one.before ++ t.one.others) _))

@@ -1,5 +1,5 @@
 -- What one managed call was.
-use Rattle.std.specs.Prelude.{◌≡◌, ◌⊎◌, ℕ, ◌≤◌, List, [], ◌∷◌, ◌++◌}
+use Rattle.std.specs.Prelude.{◌≡◌, ℕ, ◌<◌, List, [], ◌∷◌, ◌++◌}
 use mathlib.Core.Option as core
 use lib.ListN.{get_elem?}
 use Rattle.dep_index.specs.declared.calls.Call.{Call}
@@ -61,16 +61,16 @@ pub record WasMadeOnce (row : RowIs) (call : Call) (reply : Reply) (old new : Ca
   pub unheld : RemovesUnheld row.world.catalogue row.world.workers (answers_in after)
   pub none_after : GetsNoneAfter (answers_in after)
 
--- the worker or the slot is out of range, or the call is a query
-abbrev pub CannotBeMade : World → Call → Type 0
-CannotBeMade world (Get w m) = (world.workers ≤ w) ⊎ (slots world ≤ m)
-CannotBeMade world (Put w m) = (world.workers ≤ w) ⊎ (slots world ≤ m)
-CannotBeMade world (InUse m) = Unit {0}
-CannotBeMade world (BeginLoad m) = slots world ≤ m
-CannotBeMade world (EndLoad m ok) = slots world ≤ m
-CannotBeMade world (BeginDrain m) = slots world ≤ m
-CannotBeMade world (BeginRemove m) = slots world ≤ m
-CannotBeMade world (EndRemove m) = slots world ≤ m
+-- the call is no query, and its worker and its slot are in range
+abbrev pub CanBeMade : World → Call → Type 0
+CanBeMade world (Get w m) = (w < world.workers) × (m < slots world)
+CanBeMade world (Put w m) = (w < world.workers) × (m < slots world)
+CanBeMade world (InUse m) = ⊥
+CanBeMade world (BeginLoad m) = m < slots world
+CanBeMade world (EndLoad m ok) = m < slots world
+CanBeMade world (BeginDrain m) = m < slots world
+CanBeMade world (BeginRemove m) = m < slots world
+CanBeMade world (EndRemove m) = m < slots world
 
 -- The caller had one turn more, whose history ends with the removal of m. Before it no reference to m was held by any worker, and
 -- no module of the table needed it; and in each legal history that begins with it no get of m succeeds until m is loaded again.

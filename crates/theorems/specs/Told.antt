@@ -1,14 +1,12 @@
 -- Two managed calls, of which the second was begun when a reader had told of the first.
-use Rattle.std.specs.Prelude.{◌≡◌, ◌<◌, ℕ, List, [], ◌∷◌, ◌++◌}
+use Rattle.std.specs.Prelude.{◌≡◌, ℕ, List, [], ◌∷◌, ◌++◌}
 use Rattle.dep_index.specs.declared.calls.Call.{Call}
-use Rattle.dep_index.specs.declared.calls.Call.TheVariants.{Get, Put, InUse, BeginLoad, EndLoad, BeginDrain, BeginRemove, EndRemove}
+use Rattle.dep_index.specs.declared.calls.Call.TheVariants.{Get}
 use Rattle.dep_index.specs.declared.calls.Reply.{Reply}
 use Rattle.dep_index.specs.declared.calls.Reply.TheVariants.{Done, NotLive}
-use Rattle.root_row.specs.declared.view.World.{World}
 use Rattle.root_row.specs.declared.view.SeatAnswer.{SeatAnswer}
 use Rattle.root_row.specs.declared.view.View.{View}
 use Rattle.root_row.specs.Seats.{RowIs}
-use Rattle.root_row.specs.World.{slots}
 use Rattle.root_row.specs.History.{seat_answer, answers_in, own_answers, StartsWith}
 use Rattle.root_row.specs.Views.{seen_of}
 use Rattle.managed_table.specs.Callers.{CallerIs}
@@ -16,17 +14,6 @@ use Rattle.managed_table.specs.Hearing.{Met}
 use Rattle.managed_table.specs.declared.view.Turn.{Turn}
 use Rattle.theorems.specs.Safety.{NotLoadedAgain}
 use Rattle.theorems.specs.Managed.{seat_for, lock_of, here, elsewhere, turns_of, WasMadeOnce}
-
--- the call is no query, and its worker and its slot are in range
-abbrev pub CanBeMade : World → Call → Type 0
-CanBeMade world (Get w m) = (w < world.workers) × (m < slots world)
-CanBeMade world (Put w m) = (w < world.workers) × (m < slots world)
-CanBeMade world (InUse m) = ⊥
-CanBeMade world (BeginLoad m) = m < slots world
-CanBeMade world (EndLoad m ok) = m < slots world
-CanBeMade world (BeginDrain m) = m < slots world
-CanBeMade world (BeginRemove m) = m < slots world
-CanBeMade world (EndRemove m) = m < slots world
 
 -- The caller had one turn more at the lock of the call's seat, in which the seat made no call
 pub record MadeNone (call : Call) (old new : CallerIs) : Type 0 where
@@ -62,11 +49,11 @@ pub record WereMadeInOrder (row : RowIs) (first : Call) (reply : Reply) (old new
   pub since : List SeatAnswer
   pub order : other.after ≡ (one.after ++ since) ++ seat_answer (seat_for second) second reply' ∷ []
 
--- Where the removal was answered Ok, the get is answered NotLive, unless a load of the module ended well between the two
-abbrev pub FindsItGone : RowIs → ℕ → ℕ → Reply → Reply → CallerIs → CallerIs → CallerIs → CallerIs → Type 0
-FindsItGone row slot worker removal get old new old' new' =
-    removal ≡ Done
-    → (t : WereMadeInOrder row (BeginRemove slot) removal old new (Get worker slot) get old' new')
+-- Where this removal of the slot was answered Ok, the get is answered NotLive, unless a load of the module ended well between the two
+abbrev pub FindsItGone : RowIs → Call → ℕ → ℕ → Reply → Reply → CallerIs → CallerIs → CallerIs → CallerIs → Type 0
+FindsItGone row removal slot worker reply get old new old' new' =
+    reply ≡ Done
+    → (t : WereMadeInOrder row removal reply old new (Get worker slot) get old' new')
     × (NotLoadedAgain slot (answers_in t.since) → get ≡ NotLive)
 
 -- the seat that makes the call, and the reader, heard of each other in one turn of the caller

@@ -1,10 +1,9 @@
 //! Managed calls, which any thread makes.
-ghost use Rattle.std.specs.Prelude.{◌≡◌, IfSome, IfNone, OnOk};
+ghost use Rattle.std.specs.Prelude.{◌≡◌, ◌↔◌, IsSome, IfSome, IfNone, OnOk};
 ghost use Rattle.dep_index.specs.Refusals.{reply_of, begin_remove_refusal};
 ghost use Rattle.managed_table.specs.Callers.{IsCallerOf};
-ghost use Rattle.theorems.specs.Managed.{WasMadeOnce, CannotBeMade, LeftUnused};
+ghost use Rattle.theorems.specs.Managed.{WasMadeOnce, CanBeMade, LeftUnused};
 
-use crate::managed_calls;
 use dep_index::laws::legal_is_safe;
 use dep_index::{BeginRemoveError, Call, Reply};
 use managed_table::{Caller, ManagedTable};
@@ -24,19 +23,12 @@ pub fn managed_calls_are_made_once<R: Wait>(
 ) -> Option<Reply>
     requires own { IsCallerOf table.now caller.old }
     ensures own { IsCallerOf table.now caller.new }
+    ensures made { IsSome result ↔ CanBeMade table.now.row.world call }
     ensures once { IfSome result (λ reply. WasMadeOnce table.now.row call reply caller.old caller.new) }
-    ensures not_made { IfNone result (CannotBeMade table.now.row.world call × (caller.new ≡ caller.old)) }
+    ensures not_made { IfNone result (caller.new ≡ caller.old) }
 {
-    match call {
-        Call::Get(worker, slot) => managed_calls::get(rt, table, caller, worker, slot),
-        Call::Put(worker, slot) => managed_calls::put(rt, table, caller, worker, slot),
-        Call::InUse(_) => None,
-        Call::BeginLoad(slot) => managed_calls::begin_load(rt, table, caller, slot),
-        Call::EndLoad(slot, ok) => managed_calls::end_load(rt, table, caller, slot, ok),
-        Call::BeginDrain(slot) => managed_calls::begin_drain(rt, table, caller, slot),
-        Call::BeginRemove(slot) => managed_calls::begin_remove(rt, table, caller, slot),
-        Call::EndRemove(slot) => managed_calls::end_remove(rt, table, caller, slot),
-    }
+    legal_is_safe();
+    table.make(rt, caller, call)
 }
 
 /// A managed removal that was begun with Ok found no reference by any worker, through whichever caller it was taken, and no

@@ -1,9 +1,12 @@
 //! Managed calls of which a reader tells. What the reader has seen is what one caller told of a call, and another hears.
+//!
+//! Premises of each claim: the callers and the reader are of this table; the calls are no queries, and their workers and slots are in
+//! range; the steps on all words are in one order (sequentially consistent atomics). A function may not return.
 ghost use Rattle.std.specs.Prelude.{◌≡◌};
 ghost use Rattle.root_row.specs.Seats.{IsOf};
 ghost use Rattle.managed_table.specs.Callers.{IsCallerOf};
-ghost use Rattle.theorems.specs.Managed.{WasMadeOnce, seat_for, elsewhere};
-ghost use Rattle.theorems.specs.Told.{CanBeMade, MadeAndTold, HeardAndMade, WereMadeInOrder, FindsItGone, MetAt};
+ghost use Rattle.theorems.specs.Managed.{WasMadeOnce, CanBeMade, seat_for, elsewhere};
+ghost use Rattle.theorems.specs.Told.{MadeAndTold, HeardAndMade, WereMadeInOrder, FindsItGone, MetAt};
 
 use crate::managed::managed_calls_are_made_once;
 use dep_index::{Call, Reply};
@@ -12,10 +15,7 @@ use std::sync::Wait;
 use use_indicator::Reader;
 
 /// A managed call was made exactly once. Then, in one turn more, its caller told a reader: what the reader has seen begins with
-/// the history of the call. It may not return.
-///
-/// Premises: the caller and the reader are of this table; the call is no query, and its worker and its slot are in range; the
-/// steps on all words are in one order (sequentially consistent atomics).
+/// the history of the call.
 pub fn managed_calls_are_told<R: Wait>(
     rt: &R,
     table: &ManagedTable,
@@ -35,7 +35,7 @@ pub fn managed_calls_are_told<R: Wait>(
     (reply, told)
 }
 
-/// A managed call whose caller was told by a reader was made exactly once, after all that the reader had seen. Premises as above.
+/// A managed call whose caller was told by a reader was made exactly once, after all that the reader had seen.
 pub fn managed_calls_follow_what_was_told<R: Wait>(
     rt: &R,
     table: &ManagedTable,
@@ -57,7 +57,6 @@ pub fn managed_calls_follow_what_was_told<R: Wait>(
 
 /// Order in real time, across locks. A call was made and its caller told a reader. The reader was handed to another caller, which
 /// heard of it at its own lock and then made a call. Then the history of the second call begins with that of the first.
-/// Premises as above.
 pub fn calls_told_are_in_order<R: Wait>(
     rt: &R,
     table: &ManagedTable,
@@ -83,7 +82,7 @@ pub fn calls_told_are_in_order<R: Wait>(
 }
 
 /// A get that was told of a removal which was answered Ok finds the module gone: it is answered NotLive, unless a load of the
-/// module ended well between the two. Premises as above.
+/// module ended well between the two.
 pub fn gets_told_of_a_removal_find_it_gone<R: Wait>(
     rt: &R,
     table: &ManagedTable,
@@ -100,7 +99,7 @@ pub fn gets_told_of_a_removal_find_it_gone<R: Wait>(
     ensures remover_own { IsCallerOf table.now remover.new }
     ensures user_own { IsCallerOf table.now user.new }
     ensures reader_own { IsOf table.now.row result.2 }
-    ensures gone { FindsItGone table.now.row slot worker result.0 result.1 remover.old remover.new user.old user.new }
+    ensures gone { FindsItGone table.now.row (Call.BeginRemove slot) slot worker result.0 result.1 remover.old remover.new user.old user.new }
 {
     let removal = Call::BeginRemove(slot);
     let get = Call::Get(worker, slot);

@@ -4,35 +4,10 @@ use Rattle.dep_index.specs.declared.calls.Call.{Call}
 use Rattle.dep_index.specs.declared.calls.Call.TheVariants as calls
 use Rattle.dep_index.specs.declared.calls.Reply.{Reply}
 use Rattle.dep_index.specs.declared.calls.Reply.TheVariants.{Done}
-use Rattle.root_row.specs.Seats.{RowIs}
-use Rattle.root_row.specs.declared.view.SeatName.TheVariants as seats
-use Rattle.managed_table.specs.Callers.{CallerIs}
-use Rattle.managed_table.specs.Turns.{MadeOneCall}
 use Rattle.workload_drive.specs.declared.script.acts.Change.{Change}
 use Rattle.workload_drive.specs.declared.script.acts.Change.TheVariants.{Load, Remove, Drain, Finish}
 use Rattle.workload_drive.specs.declared.script.acts.Deed.{Deed}
 use Rattle.workload_drive.specs.declared.script.acts.Deed.TheVariants.{Get, Put, Query, Make}
-
--- the worker's leaf made this one call, in one turn of the caller, who did nothing else
-abbrev pub LeafMadeOnce : RowIs → ℕ → Call → Reply → CallerIs → CallerIs → Type 0
-LeafMadeOnce row worker call reply old new =
-    MadeOneCall row worker (seats.Leaf worker) call reply old.leaves.pass new.leaves.pass × (new.book ≡ old.book)
-
--- the book did
-abbrev pub BookMadeOnce : RowIs → Call → Reply → CallerIs → CallerIs → Type 0
-BookMadeOnce row call reply old new =
-    MadeOneCall row 0 seats.Book call reply old.book.pass new.book.pass × (new.leaves ≡ old.leaves)
-
--- the managed call was made once, by the worker's leaf or by the book
-abbrev pub WasMadeOnce : RowIs → Call → Reply → CallerIs → CallerIs → Type 0
-WasMadeOnce row (calls.Get worker slot) = LeafMadeOnce row worker (calls.Get worker slot)
-WasMadeOnce row (calls.Put worker slot) = LeafMadeOnce row worker (calls.Put worker slot)
-WasMadeOnce row (calls.InUse slot) = BookMadeOnce row (calls.InUse slot)
-WasMadeOnce row (calls.BeginLoad slot) = BookMadeOnce row (calls.BeginLoad slot)
-WasMadeOnce row (calls.EndLoad slot ok) = BookMadeOnce row (calls.EndLoad slot ok)
-WasMadeOnce row (calls.BeginDrain slot) = BookMadeOnce row (calls.BeginDrain slot)
-WasMadeOnce row (calls.BeginRemove slot) = BookMadeOnce row (calls.BeginRemove slot)
-WasMadeOnce row (calls.EndRemove slot) = BookMadeOnce row (calls.EndRemove slot)
 
 -- the first call of a change
 abbrev pub first_of : Change → ℕ → Call

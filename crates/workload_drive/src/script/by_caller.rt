@@ -1,8 +1,8 @@
 //! The calls of a script as managed calls.
-ghost use Rattle.std.specs.Prelude.{◌≡◌, All, IfSome};
+ghost use Rattle.std.specs.Prelude.{◌≡◌, All};
 ghost use Rattle.root_row.specs.Seats.{IsOf};
 ghost use Rattle.managed_table.specs.Callers.{IsCallerOf};
-ghost use Rattle.workload_drive.specs.Calls.{WasMadeOnce};
+ghost use Rattle.managed_table.specs.Calls.{CallMade};
 
 use super::calls::{Asks, Calls};
 use super::worker::Worker;
@@ -37,79 +37,15 @@ impl<'a> ManagedCalls<'a> {
     }
 }
 
-/// A call of the worker's leaf.
-fn leaf_call<R: Wait>(
-    rt: &R,
-    table: &ManagedTable,
-    caller: &mut Caller,
-    call: Call,
-) -> Option<Reply>
-    requires own { IsCallerOf table.now caller.old }
-    ensures own { IsCallerOf table.now caller.new }
-    ensures once { IfSome result (λ reply. WasMadeOnce table.now.row call reply caller.old caller.new) }
-{
-    match call {
-        Call::Get(worker, slot) => Some(Reply::of(table.get(rt, caller, worker, slot)?)),
-        Call::Put(worker, slot) => Some(Reply::of(table.put(rt, caller, worker, slot)?)),
-        _ => None,
-    }
-}
-
-/// A call of the book that loads.
-fn load_call<R: Wait>(
-    rt: &R,
-    table: &ManagedTable,
-    caller: &mut Caller,
-    call: Call,
-) -> Option<Reply>
-    requires own { IsCallerOf table.now caller.old }
-    ensures own { IsCallerOf table.now caller.new }
-    ensures once { IfSome result (λ reply. WasMadeOnce table.now.row call reply caller.old caller.new) }
-{
-    match call {
-        Call::BeginLoad(slot) => Some(Reply::of(table.begin_load(rt, caller, slot)?)),
-        Call::EndLoad(slot, ok) => Some(Reply::of(table.end_load(rt, caller, slot, ok)?)),
-        _ => None,
-    }
-}
-
-/// A call of the book that takes a module away.
-fn removal_call<R: Wait>(
-    rt: &R,
-    table: &ManagedTable,
-    caller: &mut Caller,
-    call: Call,
-) -> Option<Reply>
-    requires own { IsCallerOf table.now caller.old }
-    ensures own { IsCallerOf table.now caller.new }
-    ensures once { IfSome result (λ reply. WasMadeOnce table.now.row call reply caller.old caller.new) }
-{
-    match call {
-        Call::BeginDrain(slot) => Some(Reply::of(table.begin_drain(rt, caller, slot)?)),
-        Call::BeginRemove(slot) => Some(Reply::of(table.begin_remove(rt, caller, slot)?)),
-        Call::EndRemove(slot) => Some(Reply::of(table.end_remove(rt, caller, slot)?)),
-        _ => None,
-    }
-}
-
 impl Calls for ManagedCalls<'_> {
-    ghost made = { λ old call reply new. (new.table ≡ old.table) × WasMadeOnce old.table.now.row call reply old.caller new.caller };
+    ghost made = { λ old call reply new. (new.table ≡ old.table) × CallMade old.table.now call reply old.caller new.caller };
 
     fn workers(&self) -> usize {
         self.table.workers()
     }
 
     fn make<R: Wait>(&mut self, rt: &R, call: Call) -> Option<Reply> {
-        match call {
-            Call::Get(_, _) | Call::Put(_, _) => leaf_call(rt, self.table, &mut self.caller, call),
-            Call::InUse(_) => None,
-            Call::BeginLoad(_) | Call::EndLoad(_, _) => {
-                load_call(rt, self.table, &mut self.caller, call)
-            }
-            Call::BeginDrain(_) | Call::BeginRemove(_) | Call::EndRemove(_) => {
-                removal_call(rt, self.table, &mut self.caller, call)
-            }
-        }
+        self.table.make(rt, &mut self.caller, call)
     }
 
     fn held<R: Wait>(&mut self, rt: &R, worker: usize, slot: usize) -> Option<u32> {
