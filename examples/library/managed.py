@@ -1,6 +1,7 @@
 """Managed calls from Python threads, by ctypes: managed.py [libgourzhiel.so]
 
-Each thread has a caller, and calls for whichever worker it is told. No thread owns a worker.
+Each thread has a caller, and calls for whichever worker it is told. No thread owns a worker. At last a teller carries the
+order of a removal to a get, which finds the module gone.
 """
 
 import ctypes
@@ -27,7 +28,7 @@ def declared(path):
     for name, result, *arguments in (
         ("catalogue_read", number, c_char_p, size, handle, POINTER(size)),
         ("catalogue_free", None, Handle),
-        ("managed_new", number, handle, size, handle),
+        ("managed_new_with_tellers", number, handle, handle, handle, size),
         ("caller_new", number, handle, handle),
         ("caller_get", number, handle, size, size, number),
         ("caller_put", number, handle, size, size, number),
@@ -37,6 +38,9 @@ def declared(path):
         ("caller_begin_remove", number, handle, size, number),
         ("caller_end_remove", number, handle, size, number),
         ("caller_state", number, handle, size, number),
+        ("caller_meet_leaf", number, handle, size, number, handle),
+        ("caller_meet_book", number, handle, number, handle),
+        ("teller_free", None, Handle),
         ("caller_free", None, Handle),
     ):
         call = getattr(gz, f"gz_{name}")
@@ -94,11 +98,18 @@ def remove(caller):
     expect("its end", caller.call("end_remove", SND, TRIES), DONE)
 
 
+def tell(remover, user, teller):
+    """The user's next get for worker 0 comes after what the remover did: it was told of it."""
+    expect("the book's meeting", remover.call("meet_book", TRIES, byref(teller)), DONE)
+    expect("the worker's meeting", user.call("meet_leaf", 0, TRIES, byref(teller)), DONE)
+    expect("get after the removal", user.call("get", 0, SND, TRIES), NOT_LIVE)
+
+
 def main():
     gz = declared(sys.argv[1] if len(sys.argv) > 1 else "libgourzhiel.so")
-    catalogue, first, line = Handle(), Handle(), c_size_t()
+    catalogue, first, line, tellers = Handle(), Handle(), c_size_t(), (Handle * WORKERS)()
     expect("read", gz.gz_catalogue_read(TEXT, len(TEXT), byref(catalogue), byref(line)), DONE)
-    expect("new", gz.gz_managed_new(byref(catalogue), WORKERS, byref(first)), DONE)
+    expect("new", gz.gz_managed_new_with_tellers(byref(catalogue), byref(first), tellers, WORKERS), DONE)
     gz.gz_catalogue_free(catalogue)
     loader = Caller(gz, first)
     load(loader)
@@ -115,7 +126,10 @@ def main():
         expect("references left", count.value, 0)
     remove(loader)
     expect("state", loader.call("state", SND, TRIES), ABSENT)
+    tell(loader, callers[0], tellers[0])
     print(f"{THREADS} threads had the module {had} times for {WORKERS} workers, and none is left")
+    for teller in tellers:
+        gz.gz_teller_free(teller)
     for caller in [*callers, loader]:
         caller.free()
 

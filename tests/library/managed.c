@@ -121,6 +121,56 @@ static void outside(gz_caller *caller)
     CHECK(gz_call_state(caller, SIZE_MAX), GZ_OUT_OF_RANGE);
 }
 
+/* A get is told of a removal by another caller, which had been told of the put before it. */
+static void tells(gz_caller *one, gz_caller *other, gz_teller *teller)
+{
+    CHECK(gz_call_get(one, 1, PCM), GZ_DONE);
+    CHECK(gz_call_meet_leaf(one, 1, teller), GZ_DONE);
+    CHECK(gz_call_meet_book(other, teller), GZ_DONE);
+    CHECK(gz_call_begin_remove(other, PCM), GZ_IN_USE);
+    CHECK(gz_call_put(one, 1, PCM), GZ_DONE);
+    CHECK(gz_call_meet_leaf(one, 1, teller), GZ_DONE);
+    CHECK(gz_call_meet_book(other, teller), GZ_DONE);
+    CHECK(gz_call_begin_remove(other, PCM), GZ_DONE);
+    CHECK(gz_call_meet_book(other, teller), GZ_DONE);
+    CHECK(gz_call_meet_leaf(one, 1, teller), GZ_DONE);
+    CHECK(gz_call_get(one, 1, PCM), GZ_NOT_LIVE);
+    CHECK(gz_call_meet_leaf(one, WORKERS, teller), GZ_OUT_OF_RANGE);
+    CHECK(gz_call_meet_leaf(one, SIZE_MAX, teller), GZ_OUT_OF_RANGE);
+    CHECK(gz_caller_meet_leaf(one, 0, 0, teller), GZ_BUSY);
+    CHECK(gz_caller_meet_book(one, 0, teller), GZ_BUSY);
+    CHECK(gz_caller_meet_leaf(one, WORKERS, 0, teller), GZ_OUT_OF_RANGE);
+    CHECK(gz_caller_meet_leaf(one, 0, 1, teller), GZ_DONE);
+    CHECK(gz_caller_meet_book(one, 1, teller), GZ_DONE);
+    CHECK(gz_call_end_remove(other, PCM), GZ_DONE);
+}
+
+/* A table with a teller for each worker. A teller may live longer. */
+static void tellers(gz_catalogue *catalogue)
+{
+    gz_caller one = GZ_EMPTY, other = GZ_EMPTY, none = GZ_EMPTY;
+    gz_teller all[WORKERS] = { GZ_EMPTY, GZ_EMPTY };
+    CHECK(gz_new_managed_with_tellers(catalogue, &none, NULL, 0), GZ_DONE);
+    CHECK(gz_workers(&none), 0);
+    gz_free_caller(&none);
+    CHECK(gz_new_managed_with_tellers(catalogue, &one, all, WORKERS), GZ_DONE);
+    CHECK(one.at && all[0].at && all[1].at, 1);
+    CHECK(gz_workers(&one), WORKERS);
+    CHECK(gz_new_caller(&one, &other), GZ_DONE);
+    load(&one, SND);
+    load(&one, PCM);
+    tells(&one, &other, &all[1]);
+    load(&other, PCM);
+    tells(&other, &one, &all[0]);
+    gz_free_caller(&one);
+    gz_free_caller(&other);
+    for (int i = 0; i < WORKERS; i++) {
+        gz_free_teller(&all[i]);
+        gz_free_teller(&all[i]);
+        CHECK(all[i].at == NULL, 1);
+    }
+}
+
 /* A call of no try is busy, and changes nothing. */
 static void busy(gz_caller *caller)
 {
@@ -153,6 +203,7 @@ int main(void)
     CHECK(one.at == NULL, 1);
     CHECK(gz_new_managed(&catalogue, WORKERS, &one), GZ_DONE);
     CHECK(gz_new_managed(&catalogue, 0, &apart), GZ_DONE);
+    tellers(&catalogue);
     gz_free_catalogue(&catalogue);
     CHECK(gz_new_caller(&one, &other), GZ_DONE);
     CHECK(gz_workers(&other), WORKERS);

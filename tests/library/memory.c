@@ -88,21 +88,27 @@ static bool is_filled(const struct table *table, bool wanted)
     return is;
 }
 
-/* A managed table's first caller, and a further one. */
+/* A managed table's first caller, and a further one; and the first caller of another, with its tellers. */
 struct callers {
-    gz_caller first, further;
+    gz_caller first, further, told;
+    gz_teller tellers[LEAVES];
 };
 
 static gz_number make_managed(gz_catalogue *catalogue, struct callers *callers)
 {
     gz_number number = gz_new_managed(catalogue, LEAVES, &callers->first);
-    return number ? number : gz_new_caller(&callers->first, &callers->further);
+    if (number == GZ_DONE)
+        number = gz_new_caller(&callers->first, &callers->further);
+    return number ? number : gz_new_managed_with_tellers(catalogue, &callers->told, callers->tellers, LEAVES);
 }
 
 static void free_callers(struct callers *callers)
 {
     gz_free_caller(&callers->first);
     gz_free_caller(&callers->further);
+    gz_free_caller(&callers->told);
+    for (int i = 0; i < LEAVES; i++)
+        gz_free_teller(&callers->tellers[i]);
 }
 
 /* Reads and makes with some allocations refused, and frees what was made. */
@@ -110,7 +116,7 @@ static bool is_sound(long from, long to)
 {
     gz_catalogue catalogue = GZ_EMPTY;
     struct table table = { .book = GZ_EMPTY };
-    struct callers callers = { GZ_EMPTY, GZ_EMPTY };
+    struct callers callers = { .first = GZ_EMPTY };
     refuse(from, to);
     gz_number number = read_text(&catalogue);
     bool is = (number == GZ_DONE) == (catalogue.at != NULL) && (number == GZ_DONE || number == GZ_OUT_OF_MEMORY);
@@ -120,8 +126,10 @@ static bool is_sound(long from, long to)
     }
     if (number == GZ_DONE) {
         number = make_managed(&catalogue, &callers);
-        is = is && (number == GZ_DONE || number == GZ_OUT_OF_MEMORY) && (callers.further.at != NULL) == (number == GZ_DONE);
-        is = is && (callers.first.at != NULL || number != GZ_DONE);
+        is = is && (number == GZ_DONE || number == GZ_OUT_OF_MEMORY) && (callers.told.at != NULL) == (number == GZ_DONE);
+        is = is && ((callers.first.at && callers.further.at) || number != GZ_DONE);
+        for (int i = 0; i < LEAVES; i++)
+            is = is && (callers.tellers[i].at != NULL) == (number == GZ_DONE);
     }
     refuse(-1, -1);
     free_callers(&callers);
@@ -158,10 +166,17 @@ static bool managed_calls_take_none(gz_caller *caller)
     return is && gz_call_loaded(caller, &slot) == GZ_DONE && slot == 0;
 }
 
-static bool calls_take_no_memory(struct table *table, gz_caller *caller)
+/* And of meetings. */
+static bool meetings_take_none(struct callers *callers)
+{
+    bool is = gz_call_meet_leaf(&callers->told, 1, &callers->tellers[0]) == GZ_DONE;
+    return is && gz_call_meet_book(&callers->told, &callers->tellers[0]) == GZ_DONE;
+}
+
+static bool calls_take_no_memory(struct table *table, struct callers *callers)
 {
     refuse(0, 1000);
-    bool is = parts_take_none(table) && managed_calls_take_none(caller) && made == 0;
+    bool is = parts_take_none(table) && managed_calls_take_none(&callers->further) && meetings_take_none(callers) && made == 0;
     refuse(-1, -1);
     return is;
 }
@@ -172,12 +187,12 @@ int main(void)
         return fails("all allowed", 0);
     gz_catalogue catalogue = GZ_EMPTY;
     struct table table = { .book = GZ_EMPTY };
-    struct callers callers = { GZ_EMPTY, GZ_EMPTY };
+    struct callers callers = { .first = GZ_EMPTY };
     refuse(-1, -1);
     if (read_text(&catalogue) || make(&catalogue, &table) || make_managed(&catalogue, &callers))
         return fails("all allowed", 0);
     long last = made;
-    if (!calls_take_no_memory(&table, &callers.further))
+    if (!calls_take_no_memory(&table, &callers))
         return fails("calls that take no memory", 0);
     free_callers(&callers);
     free_table(&table);

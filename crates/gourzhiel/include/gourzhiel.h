@@ -15,6 +15,7 @@
  * a leaf by its number, and for the book:
  *
  *     gz_caller caller = GZ_EMPTY;         makes all calls: one to a thread
+ *     gz_teller teller = GZ_EMPTY;         carries what was seen at one lock to the next
  *
  * What a caller owes. The library is proved against its contracts; nobody proves a caller. Otherwise the behaviour is
  * undefined:
@@ -22,6 +23,7 @@
  *     no full one. The gz_free_ calls also take an empty one.
  *   - A handle is in one call at a time. Handles of one table may be in calls of several threads at once.
  *   - A handle is moved, not copied: after `b = a` only b is used. After gz_free_ it is empty.
+ *   - A teller meets callers of its own table.
  *   - A hand-over of a handle to another thread is ordered by a lock, a thread's start or join, or a seq_cst atomic.
  *   - Lengths are true, and what a pointer points to is not changed by others during the call.
  *   - No call from a signal handler, and none in the forked child of a process with threads.
@@ -54,8 +56,8 @@
 extern "C" {
 #endif
 
-/* The version of this header. gz_version tells that of the library: 1 has no managed calls. */
-#define GZ_VERSION 2
+/* The version of this header. gz_version tells that of the library: 1 has no managed calls, 2 no tellers. */
+#define GZ_VERSION 3
 
 typedef enum gz_number {
     GZ_DONE = 0,            /* the call is made */
@@ -96,6 +98,7 @@ typedef struct gz_book { void *at; } gz_book;
 typedef struct gz_leaf { void *at; } gz_leaf;
 typedef struct gz_reader { void *at; } gz_reader;
 typedef struct gz_caller { void *at; } gz_caller;
+typedef struct gz_teller { void *at; } gz_teller;
 
 #define GZ_EMPTY { NULL }
 
@@ -131,6 +134,7 @@ size_t gz_book_loaded(gz_book *book);
 uint32_t gz_book_loaded_at(gz_book *book, size_t place, size_t *slot);
 void gz_book_free(gz_book book);
 uint32_t gz_managed_new(gz_catalogue *catalogue, size_t workers, gz_caller *caller);
+uint32_t gz_managed_new_with_tellers(gz_catalogue *catalogue, gz_caller *caller, gz_teller *tellers, size_t workers);
 uint32_t gz_caller_new(gz_caller *caller, gz_caller *further);
 size_t gz_caller_workers(gz_caller *caller);
 uint32_t gz_caller_get(gz_caller *caller, size_t worker, size_t slot, uint32_t tries);
@@ -144,7 +148,10 @@ uint32_t gz_caller_end_remove(gz_caller *caller, size_t slot, uint32_t tries);
 uint32_t gz_caller_state(gz_caller *caller, size_t slot, uint32_t tries);
 uint32_t gz_caller_loaded(gz_caller *caller, uint32_t tries, size_t *count);
 uint32_t gz_caller_loaded_at(gz_caller *caller, size_t place, uint32_t tries, size_t *slot);
+uint32_t gz_caller_meet_leaf(gz_caller *caller, size_t worker, uint32_t tries, gz_teller *teller);
+uint32_t gz_caller_meet_book(gz_caller *caller, uint32_t tries, gz_teller *teller);
 void gz_caller_free(gz_caller caller);
+void gz_teller_free(gz_teller teller);
 
 /* What a call of a table orders. The library's atomics are sequentially consistent: of two calls on one table the later
  * sees what was written before the earlier. The thread sanitizer does not see into the library, so it is told here. It is

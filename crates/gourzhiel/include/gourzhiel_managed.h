@@ -17,6 +17,14 @@ static inline gz_number gz_new_managed(gz_catalogue *catalogue, size_t workers, 
     return (gz_number)gz_managed_new(catalogue, workers, caller);
 }
 
+/* The same, with a teller for each worker, in `workers` empty handles. */
+static inline gz_number gz_new_managed_with_tellers(gz_catalogue *catalogue, gz_caller *caller, gz_teller *tellers,
+                                                    size_t workers)
+{
+    gz_teller no_teller = GZ_EMPTY;
+    return (gz_number)gz_managed_new_with_tellers(catalogue, caller, workers ? tellers : &no_teller, workers);
+}
+
 /* A further caller of the same table, in an empty handle. Each thread has one of its own. GZ_OUT_OF_MEMORY. */
 static inline gz_number gz_new_caller(gz_caller *caller, gz_caller *further)
 {
@@ -142,6 +150,31 @@ static inline gz_number gz_call_user(gz_caller *caller, gz_catalogue *catalogue,
             return GZ_DONE;
         }
     return GZ_OUT_OF_RANGE;
+}
+
+/* A teller carries order from lock to lock. After a call, let its caller and a teller meet at the lock of that call: the
+ * worker's, or the book's. Hand the teller over, let the next caller meet it at the lock of its own call, and make that
+ * call: its history begins with that of the first. A meeting makes no call and changes no answer: by it the library's
+ * contract says which of the two calls came first. The teller is of the caller's table. */
+
+/* The worker's leaf and the teller hear of each other. GZ_OUT_OF_RANGE: the worker is none of the table. */
+static inline gz_number gz_call_meet_leaf(gz_caller *caller, size_t worker, gz_teller *teller)
+{
+    GZ_WAIT_FOR(gz_caller_meet_leaf(caller, worker, GZ_TRIES, teller));
+}
+
+/* The book and the teller hear of each other. */
+static inline gz_number gz_call_meet_book(gz_caller *caller, gz_teller *teller)
+{
+    GZ_WAIT_FOR(gz_caller_meet_book(caller, GZ_TRIES, teller));
+}
+
+/* Frees the teller, and empties the handle. It may live longer than its table. */
+static inline void gz_free_teller(gz_teller *teller)
+{
+    if (teller->at)
+        gz_teller_free(*teller);
+    teller->at = NULL;
 }
 
 /* Frees the caller, and empties the handle. The last caller frees the table; what its workers still hold ends with it. */

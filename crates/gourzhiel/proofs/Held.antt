@@ -24,6 +24,9 @@ use Rattle.gourzhiel.specs.contracts.handles.GzReader as GzReader
 use Rattle.managed_table.specs.contracts.own_caller.OwnCaller as Caller
 use Rattle.managed_table.proofs.own_caller.OwnCaller.TheLaws as caller
 use Rattle.gourzhiel.specs.contracts.handles.GzCaller as GzCaller
+use Rattle.managed_table.specs.contracts.teller.Teller as Teller
+use Rattle.managed_table.proofs.teller.Teller.TheLaws as teller
+use Rattle.gourzhiel.specs.contracts.handles.GzTeller as GzTeller
 use Rattle.gourzhiel.proofs.Held.Form.{Handle}
 pub mod Form
 pub mod Lend
@@ -100,6 +103,21 @@ abbrev pub the_caller : Handle of_caller
 the_caller = record {
   name = GzCaller.the_type.name;
   base = GzCaller.the_row;
+  is_full = λ h. h.full;
+  box = λ h. record { ptr = h.at; alloc = h.alloc; value = h.held };
+  full_of = λ d. record { at = d.ptr; alloc = d.alloc; full = true; held = d.value };
+  filled = λ d. (refl, refl);
+  full = λ h. ap (λ (x : Bool). record { at = h.at; alloc = h.alloc; full = x; held = h.held });
+  owns = λ d vs. refl;
+}
+
+abbrev pub of_teller : Bx
+of_teller = boxed Teller.the_row teller.the_row_laws
+
+abbrev pub the_teller : Handle of_teller
+the_teller = record {
+  name = GzTeller.the_type.name;
+  base = GzTeller.the_row;
   is_full = λ h. h.full;
   box = λ h. record { ptr = h.at; alloc = h.alloc; value = h.held };
   full_of = λ d. record { at = d.ptr; alloc = d.alloc; full = true; held = d.value };

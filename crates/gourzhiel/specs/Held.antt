@@ -12,6 +12,7 @@ use Rattle.module_table.specs.contracts.own_book.OwnBook as Book
 use Rattle.module_table.specs.contracts.own_leaf.OwnLeaf as Leaf
 use Rattle.module_table.specs.contracts.own_reader.OwnReader as Reader
 use Rattle.managed_table.specs.contracts.own_caller.OwnCaller as Caller
+use Rattle.managed_table.specs.contracts.teller.Teller as Teller
 
 abbrev pub held_owns : (R : RattleType) → Bool → Global → Ptr → R.Denot → Fml
 held_owns R true alloc at held = box_owns (ghosts.dealloc_token alloc) R at held
@@ -46,3 +47,9 @@ caller_owns = held_owns Caller.the_row
 
 abbrev pub caller_coded : Coded Caller.the_row.Denot
 caller_coded = Caller.the_row.coded
+
+abbrev pub teller_owns : Bool → Global → Ptr → Teller.the_row.Denot → Fml
+teller_owns = held_owns Teller.the_row
+
+abbrev pub teller_coded : Coded Teller.the_row.Denot
+teller_coded = Teller.the_row.coded

@@ -17,6 +17,9 @@ use Rattle.managed_table.specs.Callers.{CallerIs}
 use Rattle.managed_table.specs.contracts.own_caller.OwnCaller as OwnCaller
 use Rattle.gourzhiel.specs.declared.handles.GzCaller.{GzCaller}
 use Rattle.gourzhiel.specs.contracts.handles.GzCaller as GzCaller-row
+use Rattle.managed_table.specs.contracts.teller.Teller as Teller
+use Rattle.gourzhiel.specs.declared.handles.GzTeller.{GzTeller}
+use Rattle.gourzhiel.specs.contracts.handles.GzTeller as GzTeller-row
 use Rattle.dep_index.specs.contracts.catalogue.Catalogue as OwnCatalogue
 use Rattle.gourzhiel.specs.declared.handles.GzCatalogue.{GzCatalogue}
 use Rattle.gourzhiel.specs.contracts.handles.GzCatalogue as GzCatalogue-row
@@ -35,3 +38,6 @@ CatalogueLent h r = Lends GzCatalogue-row.the_row OwnCatalogue.the_row h r (λ w
 
 abbrev pub CallerLent : MutBor GzCaller → MutBor CallerIs → Fml
 CallerLent h r = Lends GzCaller-row.the_row OwnCaller.the_row h r (λ w. record { at = h.now.at; alloc = h.now.alloc; full = true; held = w })
+
+abbrev pub TellerLent : MutBor GzTeller → MutBor Seated → Fml
+TellerLent h r = Lends GzTeller-row.the_row Teller.the_row h r (λ w. record { at = h.now.at; alloc = h.now.alloc; full = true; held = w })

@@ -5,3 +5,4 @@ pub mod Lent
 pub mod Naming
 pub mod Making
 pub mod Called
+pub mod Meeting

@@ -4,11 +4,11 @@ ghost use Rattle.std.specs.Prelude.{◌≡◌, Bool, true, List};
 ghost use Rattle.dep_index.specs.Catalogue.{Description};
 ghost use Rattle.root_row.specs.Seats.{Seated};
 ghost use Rattle.managed_table.specs.Callers.{CallerIs};
-ghost use Rattle.gourzhiel.specs.Held.{book_coded, book_owns, caller_coded, caller_owns, catalogue_coded, catalogue_owns, leaf_coded, leaf_owns, reader_coded, reader_owns};
+ghost use Rattle.gourzhiel.specs.Held.{book_coded, book_owns, caller_coded, caller_owns, catalogue_coded, catalogue_owns, leaf_coded, leaf_owns, reader_coded, reader_owns, teller_coded, teller_owns};
 
 use crate::parts::Parts;
 use dep_index::Catalogue;
-use managed_table::OwnCaller;
+use managed_table::{OwnCaller, Teller};
 use module_table::{OwnBook, OwnLeaf, OwnReader};
 use std::alloc::Global;
 use std::marker::Model;
@@ -242,3 +242,49 @@ impl GzCaller {
 }
 
 unsafe impl Send for GzCaller {}
+
+/// The handle of a teller of a managed table.
+#[repr(C)]
+#[derive(Drop)]
+pub struct GzTeller {
+    at: *mut u8,
+    alloc: Global,
+    pub ghost full: { Bool },
+    pub ghost held: { Seated } by { teller_coded },
+}
+
+impl Model for GzTeller {
+    ghost also_owns = { λ h. teller_owns h.full h.alloc h.at h.held };
+}
+
+impl GzTeller {
+    ghost use Rattle.std.specs.Borrow.{sem};
+    ghost use Rattle.gourzhiel.specs.Lent.{TellerLent};
+
+    pub fn of_parts(parts: Parts<Teller, Global>) -> GzTeller
+        ensures { (result.full ≡ true) × (result.held ≡ parts.value) }
+    {
+        let Parts { at, alloc } = parts;
+        let at = at as *mut u8;
+        GzTeller { at, alloc }
+    }
+
+    pub fn into_parts(self) -> Parts<Teller, Global>
+        requires { self.full ≡ true }
+        ensures { result.value ≡ self.held }
+    {
+        let GzTeller { at, alloc } = self;
+        let at = at as *mut Teller;
+        Parts { at, alloc }
+    }
+
+    pub fn lend(&mut self) -> &mut Teller
+        requires full { self.old.full ≡ true }
+        ensures* writes_back { sem 𝓛 (TellerLent self.entry result) }
+        ensures value { result.now ≡ self.old.held }
+    {
+        unsafe { &mut *(self.at as *mut Teller) }
+    }
+}
+
+unsafe impl Send for GzTeller {}

@@ -6,6 +6,7 @@ mod book_reads;
 mod caller_book_calls;
 mod caller_book_reads;
 mod caller_calls;
+mod caller_meetings;
 mod catalogue_calls;
 mod handles;
 mod leaf_calls;
@@ -15,6 +16,7 @@ mod numbers;
 mod parts;
 mod reader_calls;
 mod table_calls;
+mod teller_making;
 mod version;
 
 pub use book_calls::{
@@ -30,13 +32,15 @@ pub use caller_book_reads::{gz_caller_loaded, gz_caller_loaded_at, gz_caller_sta
 pub use caller_calls::{
     gz_caller_free, gz_caller_get, gz_caller_held, gz_caller_put, gz_caller_workers,
 };
+pub use caller_meetings::{gz_caller_meet_book, gz_caller_meet_leaf, gz_teller_free};
 pub use catalogue_calls::{
     gz_catalogue_free, gz_catalogue_len, gz_catalogue_name, gz_catalogue_need, gz_catalogue_read,
     gz_catalogue_slot,
 };
-pub use handles::{GzBook, GzCaller, GzCatalogue, GzLeaf, GzReader};
+pub use handles::{GzBook, GzCaller, GzCatalogue, GzLeaf, GzReader, GzTeller};
 pub use leaf_calls::{gz_leaf_free, gz_leaf_get, gz_leaf_held, gz_leaf_put};
 pub use managed_calls::{gz_caller_new, gz_managed_new};
 pub use reader_calls::{gz_reader_free, gz_reader_in_use};
 pub use table_calls::gz_table_new;
+pub use teller_making::gz_managed_new_with_tellers;
 pub use version::gz_version;

@@ -1,0 +1,10 @@
+-- The handle of a teller: `into_parts`.
+use mathlib.Core.Path.{refl}
+use Rattle.gourzhiel.proofs.Held.{of_teller, the_teller}
+use Rattle.gourzhiel.proofs.Held.Parts.{into_parts}
+use Rattle.gourzhiel.specs.contracts.handles.GzTeller.into_parts.Key.{name as #self}
+use Rattle.gourzhiel.proofs.handles.GzTeller.into_parts.Statement.{statement}
+use Rattle.gourzhiel.proofs.handles.GzTeller.into_parts.Code.{unfolded}
+
+pub into_parts_spec : {M : Type 1} → statement M
+into_parts_spec 𝓤 𝓛 𝓜 𝓡 wired = into_parts of_teller the_teller 𝓤 𝓛 𝓜 𝓡 (record { last = λ x. tt; left = λ x f. refl }) #self (unfolded 𝓤 𝓛.H 𝓜 𝓡 wired)
