@@ -1,0 +1,72 @@
+//! Lines of a text, joined where a backslash ends one.
+ghost use Rattle.std.specs.Prelude.{◌≡◌, ◌∷◌, ◌-◌, [], length, take, IfOk, MatchOption, true, false};
+ghost use Rattle.std.specs.Str.Lines.{lines};
+ghost use Rattle.modprobe_conf.specs.Configuration.{ends_with_backslash, joined_lines};
+
+use bstr::Lines;
+use std::alloc::AllocError;
+use std::marker::Model;
+use text_parts::whole_lines;
+
+/// The joined lines of a text that are left, each with the number of its first line.
+#[derive(Drop)]
+pub(crate) struct JoinedLines<'a> {
+    lines: Lines<'a>,
+    number: usize,
+}
+
+impl<'a> Model for JoinedLines<'a> {
+    ghost use Rattle.std.specs.Prelude.{ℕ, List, ◌+◌, ◌<◌, ◌^◌, length};
+    ghost use Rattle.modprobe_conf.specs.Configuration.{joined_lines};
+
+    ghost Value = { List (ℕ × List ℕ) };
+
+    ghost view = { λ joined. joined_lines joined.number joined.lines };
+
+    ghost invariant = { λ joined. joined.number + length joined.lines < 2 ^ 64 };
+}
+
+/// The line without the backslash at its end, where it has one.
+fn before_backslash(line: &[u8]) -> Option<&[u8]>
+    ensures { MatchOption result
+        (ends_with_backslash line.entry.now ≡ false)
+        (λ front. (ends_with_backslash line.entry.now ≡ true)
+        × (front.now ≡ take (length line.entry.now - 1) line.entry.now)) }
+{
+    match line.split_last() {
+        Some((last, front)) if *last == b'\\' => Some(front),
+        _ => None,
+    }
+}
+
+impl<'a> JoinedLines<'a> {
+    pub(crate) fn new(text: &'a [u8]) -> JoinedLines<'a>
+        ensures { result ≡ joined_lines 1 (lines text.now) }
+    {
+        JoinedLines {
+            lines: whole_lines(text),
+            number: 1,
+        }
+    }
+
+    /// Puts the next joined line into `line`, and answers its number.
+    pub(crate) fn next_line(&mut self, line: &mut Vec<u8>) -> Result<Option<usize>, AllocError>
+        ensures { IfOk result (λ found. MatchOption found
+            (self.old ≡ [])
+            (λ number. self.old ≡ (number, line.new.items) ∷ self.new)) }
+    {
+        line.clear();
+        let first = self.number;
+        let mut is_begun = false;
+        'pieces: while let Some(piece) = self.lines.next() {
+            self.number += 1;
+            let Some(front) = before_backslash(piece) else {
+                line.extend_from_slice(piece)?;
+                return Ok(Some(first));
+            };
+            line.extend_from_slice(front)?;
+            is_begun = true;
+        }
+        Ok(if is_begun { Some(first) } else { None })
+    }
+}

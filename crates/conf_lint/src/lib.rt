@@ -1,0 +1,14 @@
+//! Which lines of a configuration are about nothing.
+#![tactic(auto)]
+
+mod joined_lines;
+mod known;
+mod lines;
+mod named;
+mod note;
+mod setting;
+mod words;
+
+pub use known::Known;
+pub use lines::lint;
+pub use note::{Note, NoteKind};
