@@ -1,1 +1,2 @@
 pub mod Notes
+pub mod Laws

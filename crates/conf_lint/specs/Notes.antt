@@ -1,5 +1,5 @@
 -- Which lines of a configuration are about nothing: what they name is not there, or says nothing where it stands.
-use Rattle.std.specs.Prelude.{ℕ, nat_lt, nat_eq, Bool, not, if◌then◌else◌, ◌||◌, ◌==◌, List, [], ◌∷◌, ◌++◌, map, filter, length, codes, Option, Some, None, is_some}
+use Rattle.std.specs.Prelude.{ℕ, nat_lt, nat_eq, Bool, false, not, if◌then◌else◌, ◌||◌, ◌==◌, List, [], ◌∷◌, ◌++◌, map, filter, length, codes, Option, Some, None, is_some}
 use Rattle.std.specs.List.{list_any}
 use Rattle.std.specs.Option.{option_map}
 use Rattle.std.specs.Str.{bytes_eq}
@@ -9,11 +9,11 @@ use Rattle.dep_index.specs.Catalogue.{description_at, slot_named}
 use Rattle.dep_index.specs.declared.params.Param.{Param}
 use Rattle.alias_match.specs.declared.alias.Alias.{Alias}
 use Rattle.alias_match.specs.Aliases.{alias_of, matching}
-use Rattle.modprobe_conf.specs.Configuration.{Line, options, softdep, joined_lines, line_from}
+use Rattle.modprobe_conf.specs.Configuration.{Line, blacklist, install, remove, options, softdep, joined_lines, line_from, has_install_line, has_remove_line}
 use Rattle.load_plan.specs.Parameters.{is_valid_word}
 use Rattle.conf_lint.specs.declared.known.Known.{Known}
 use Rattle.conf_lint.specs.declared.setting.Setting.{Setting}
-use Rattle.conf_lint.specs.declared.setting.Setting.TheVariants.{Plain, Options, Softdep}
+use Rattle.conf_lint.specs.declared.setting.Setting.TheVariants.{Blacklist, Command, Options, Softdep}
 use Rattle.conf_lint.specs.declared.note.Note.{Note}
 use Rattle.conf_lint.specs.declared.note.NoteKind.{NoteKind}
 use Rattle.conf_lint.specs.declared.note.NoteKind.TheVariants.{UnknownName, PatternName, UnknownTarget, LaterSoftdep, RefusedValue, PatternItem}
@@ -37,13 +37,15 @@ is_alias known name =
 
 -- what a line says of its module
 abbrev pub setting_of : Line → Setting
+setting_of blacklist = Blacklist
+setting_of install = Command
+setting_of remove = Command
 setting_of (options ws) = Options
 setting_of (softdep items) = Softdep
-setting_of _ = Plain
 
 -- the same by its first word and the words behind its name, if they say anything: a blacklist line alone needs none
 abbrev pub setting_said : List ℕ → List (List ℕ) → Option Setting
-setting_said w [] = if bytes_eq w (codes "blacklist") then Some Plain else None
+setting_said w [] = if bytes_eq w (codes "blacklist") then Some Blacklist else None
 setting_said w (x ∷ xs) = option_map setting_of (line_from w (x ∷ xs))
 
 -- each word that the parameters of a module refuse
@@ -61,26 +63,46 @@ softdep_notes number slots slot ws =
 
 -- of a line of a module
 abbrev pub module_notes : Known → ℕ → List ℕ → ℕ → Setting → List (List ℕ) → List Note
-module_notes known number slots slot Plain ws = []
+module_notes known number slots slot Blacklist ws = []
+module_notes known number slots slot Command ws = []
 module_notes known number slots slot Options ws = value_notes number (description_at known.catalogue.now slot).params ws
 module_notes known number slots slot Softdep ws = softdep_notes number slots slot ws
 
+-- the command of an install or remove line is `true` or `false`, by which a module is kept out or in
+abbrev pub does_nothing : List (List ℕ) → Bool
+does_nothing [] = false
+does_nothing (w ∷ ws) =
+    bytes_eq w (codes "true") || bytes_eq w (codes "/bin/true") || bytes_eq w (codes "/usr/bin/true")
+    || bytes_eq w (codes "false") || bytes_eq w (codes "/bin/false") || bytes_eq w (codes "/usr/bin/false")
+
+-- an install or remove line has the name, for which modprobe(8) runs its command whether a module has it or not
+abbrev pub is_command : Known → List ℕ → Bool
+is_command known name = has_install_line known.configuration.now name || has_remove_line known.configuration.now name
+
+-- a name that no module has stands for something: an alias matches it, or a command is run for it
+abbrev pub is_answered : Known → List ℕ → Setting → List (List ℕ) → Bool
+is_answered known name Command ws = is_alias known name || not (does_nothing ws)
+is_answered known name Blacklist ws = is_alias known name || is_command known name
+is_answered known name Options ws = is_alias known name || is_command known name
+is_answered known name Softdep ws = is_alias known name || is_command known name
+
 -- of a line of a name that no module has
-abbrev pub nameless_notes : Known → ℕ → List ℕ → List Note
-nameless_notes known number name =
+abbrev pub nameless_notes : Known → ℕ → List ℕ → Setting → List (List ℕ) → List Note
+nameless_notes known number name setting ws =
     if has_pattern name then note number PatternName ∷ []
-    else (if is_alias known name then [] else note number UnknownName ∷ [])
+    else (if is_answered known name setting ws then [] else note number UnknownName ∷ [])
 
 -- of a line of a name, which a module has or none
 abbrev pub named_notes : Known → ℕ → List ℕ → List ℕ → Option ℕ → Setting → List (List ℕ) → List Note
-named_notes known number slots name None setting ws = nameless_notes known number name
+named_notes known number slots name None setting ws = nameless_notes known number name setting ws
 named_notes known number slots name (Some slot) setting ws = module_notes known number slots slot setting ws
 
--- of an alias: its target has to be a module, since an alias leads to no other alias; `off` is no name, but how modules are kept from one
+-- Of an alias: its target has to be a module, since an alias leads to no other alias, or a name for which a command is run. The target
+-- `off` is no name, but how modules are kept from the alias.
 abbrev pub target_notes : Known → ℕ → Option Alias → List Note
 target_notes known number None = []
 target_notes known number (Some alias) =
-    if bytes_eq alias.target (codes "off") || is_some (slot_named known.catalogue.now alias.target) then []
+    if bytes_eq alias.target (codes "off") || is_some (slot_named known.catalogue.now alias.target) || is_command known alias.target then []
     else note number UnknownTarget ∷ []
 
 abbrev pub said_notes : Known → ℕ → List ℕ → List ℕ → Option Setting → List (List ℕ) → List Note

@@ -3,6 +3,7 @@
 
 mod joined_lines;
 mod known;
+pub mod laws;
 mod lines;
 mod named;
 mod note;

@@ -5,7 +5,7 @@ ghost use Rattle.dep_index.specs.Catalogue.{slot_named};
 ghost use Rattle.alias_match.specs.Aliases.{alias_of};
 ghost use Rattle.conf_lint.specs.Notes.{module_notes, named_notes, nameless_notes, note, softdep_notes, target_notes, with_setting, with_slot};
 
-use crate::known::{Known, is_alias};
+use crate::known::{Known, is_answered, is_command};
 use crate::note::{Note, NoteKind};
 use crate::setting::Setting;
 use crate::words::{has_pattern, note_patterns, note_values};
@@ -53,20 +53,20 @@ impl Found {
         &mut self,
         alloc: Global,
         known: &Known<'_>,
-        number: usize,
         name: &[u8],
+        line: &NamedLine<'_, '_>,
     ) -> Result<(), AllocError>
-        ensures notes { OnOk result (self.new.notes.items
-            ≡ self.old.notes.items ++ nameless_notes known.now number name.now) }
+        ensures notes { OnOk result (self.new.notes.items ≡ self.old.notes.items
+            ++ nameless_notes known.now line.now.number name.now line.now.setting (texts_of line.now.words.now)) }
         ensures softdeps { self.new.softdeps ≡ self.old.softdeps }
     {
         if has_pattern(name) {
-            return self.push(number, NoteKind::PatternName);
+            return self.push(line.number, NoteKind::PatternName);
         }
-        if is_alias(alloc, known, name)? {
+        if is_answered(alloc, known, name, line.setting, line.words)? {
             return Ok(());
         }
-        self.push(number, NoteKind::UnknownName)
+        self.push(line.number, NoteKind::UnknownName)
     }
 
     /// A softdep line of the module in the slot.
@@ -103,7 +103,7 @@ impl Found {
             ≡ with_setting self.old.softdeps.keys (Some slot) (Some line.now.setting)) }
     {
         match line.setting {
-            Setting::Plain => Ok(()),
+            Setting::Blacklist | Setting::Command => Ok(()),
             Setting::Options => note_values(
                 alloc,
                 known.catalogue,
@@ -132,7 +132,7 @@ impl Found {
     {
         match known.catalogue.slot(name) {
             Some(slot) => self.add_of_module(alloc, known, slot, line),
-            None => self.add_nameless(alloc, known, line.number, name),
+            None => self.add_nameless(alloc, known, name, line),
         }
     }
 
@@ -152,7 +152,8 @@ impl Found {
             return Ok(());
         };
         let target = alias.target.as_bytes();
-        if is_same(target, b"off") || known.catalogue.slot(target).is_some() {
+        let is_module = known.catalogue.slot(target).is_some();
+        if is_same(target, b"off") || is_module || is_command(known, target) {
             return Ok(());
         }
         self.push(number, NoteKind::UnknownTarget)
