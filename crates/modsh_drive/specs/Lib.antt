@@ -1,2 +1,3 @@
 pub mod Statuses
 pub mod Inputs
+pub mod Holders

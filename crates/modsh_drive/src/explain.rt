@@ -3,10 +3,9 @@
 use crate::hints::{Faulty, hint_of, path_hint, word_hint};
 use crate::notes::note_idle;
 use crate::places::Place;
-use crate::witness::Witness;
+use crate::witness::Kept;
 use modprobe::{RunFault, Section, ServeFault, SetupCode, SetupFault, Texts};
 use program_frame::{Shown, tell_hint, tell_sentence};
-use std::alloc::Global;
 use std::io::Write;
 use text_parts::whole_lines;
 
@@ -70,48 +69,48 @@ fn explain_text<E: Write>(
     section: Section,
     number: u64,
     texts: &Texts,
-    witness: &Witness<'_>,
+    kept: &Kept<'_>,
     errors: &mut E,
 ) {
     let text = texts.text(section);
     let before = number.saturating_sub(1) as usize;
     let line = whole_lines(text).nth(before).unwrap_or(b"");
-    tell_line(witness.places.in_section(section, number), line, errors);
+    tell_line(kept.places.in_section(section, number), line, errors);
     tell_sentence(setup_sentence(code), errors);
     let faulty = Faulty { text, before, line };
     tell_hint(hint_of(code, &faulty), errors);
 }
 
 /// Explains a fault of the sections.
-fn explain_setup<E: Write>(fault: &SetupFault, witness: &Witness<'_>, errors: &mut E) {
+fn explain_setup<E: Write>(fault: &SetupFault, kept: &Kept<'_>, errors: &mut E) {
     let section = section_of(fault.code);
-    if let (Some(section), Some(number), Some(texts)) = (section, fault.line, &witness.texts) {
-        return explain_text(fault.code, section, number, texts, witness, errors);
+    if let (Some(section), Some(number), Some(texts)) = (section, fault.line, &kept.texts) {
+        return explain_text(fault.code, section, number, texts, kept, errors);
     }
     if matches!(fault.code, SetupCode::B1 | SetupCode::LongLine) {
-        tell_in_hand(witness, errors);
+        tell_in_hand(kept, errors);
     }
     tell_sentence(setup_sentence(fault.code), errors);
     let faulty = Faulty {
         text: b"",
         before: 0,
-        line: witness.in_hand.as_slice(),
+        line: kept.in_hand.as_slice(),
     };
     tell_hint(hint_of(fault.code, &faulty), errors);
 }
 
 /// Tells the line behind those that were read, which was in hand.
-fn tell_in_hand<E: Write>(witness: &Witness<'_>, errors: &mut E) {
-    let place = witness.places.of_line(witness.lines.saturating_add(1));
-    tell_line(place, witness.in_hand.as_slice(), errors);
+fn tell_in_hand<E: Write>(kept: &Kept<'_>, errors: &mut E) {
+    let place = kept.places.of_line(kept.lines.saturating_add(1));
+    tell_line(place, kept.in_hand.as_slice(), errors);
 }
 
-fn explain_fault<E: Write>(fault: &ServeFault, witness: &Witness<'_>, errors: &mut E) {
+fn explain_fault<E: Write>(fault: &ServeFault, kept: &Kept<'_>, errors: &mut E) {
     match fault {
-        ServeFault::Setup(fault) => explain_setup(fault, witness, errors),
+        ServeFault::Setup(fault) => explain_setup(fault, kept, errors),
         ServeFault::Run(fault) => {
             if matches!(fault, RunFault::LongLine) {
-                tell_in_hand(witness, errors);
+                tell_in_hand(kept, errors);
             }
             tell_sentence(run_sentence(*fault), errors);
         }
@@ -120,23 +119,18 @@ fn explain_fault<E: Write>(fault: &ServeFault, witness: &Witness<'_>, errors: &m
 }
 
 /// Tells all that is told after a session: its fault, and lines without effect.
-pub(crate) fn explain<E: Write>(
-    alloc: Global,
-    answer: &Result<u64, ServeFault>,
-    witness: &Witness<'_>,
-    errors: &mut E,
-) {
+pub(crate) fn explain<E: Write>(answer: &Result<u64, ServeFault>, kept: &Kept<'_>, errors: &mut E) {
     match answer {
-        Err(fault) => explain_fault(fault, witness, errors),
-        Ok(_) if !witness.has_session => tell_sentence(NO_SESSION, errors),
+        Err(fault) => explain_fault(fault, kept, errors),
+        Ok(_) if !kept.has_session => tell_sentence(NO_SESSION, errors),
         Ok(_) => {}
     }
-    let noted = match &witness.texts {
-        Some(texts) => note_idle(alloc, texts, &witness.places, errors),
+    let noted = match &kept.texts {
+        Some(texts) => note_idle(kept.alloc, texts, &kept.places, errors),
         None => Ok(()),
     };
-    let _ = errors.write_all(witness.notes.as_slice());
-    if noted.is_err() || witness.is_short {
+    let _ = errors.write_all(kept.notes.as_slice());
+    if noted.is_err() || kept.is_short {
         let _ = writeln!(errors, "modsh: note: there was no memory to explain more");
     }
 }

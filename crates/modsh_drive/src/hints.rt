@@ -1,5 +1,6 @@
 //! What people may have meant by a line that is refused.
 
+use crate::commands::form_of;
 use modprobe::SetupCode;
 use program_frame::first_word;
 use text_parts::{is_comment, is_same, whole_lines};
@@ -11,21 +12,6 @@ pub(crate) struct Faulty<'a> {
     pub(crate) before: usize,
     pub(crate) line: &'a [u8],
 }
-
-/// The first words of commands.
-const COMMANDS: [&[u8]; 11] = [
-    b"insmod",
-    b"rmmod",
-    b"modprobe",
-    b"plan",
-    b"drain",
-    b"get",
-    b"put",
-    b"query",
-    b"lsmod",
-    b"proc",
-    b"modinfo",
-];
 
 /// What lines of a catalogue that name symbols have to have.
 const SYMBOLS: &str = "exports and needs have one or more symbols";
@@ -80,7 +66,7 @@ fn word_in_section_hint(word: &[u8]) -> Option<&'static str> {
         Some("a section line is %catalogue, %dep, %alias, %conf or %session, and nothing else")
     } else if word.get(..3) == Some(b"\xef\xbb\xbf".as_slice()) {
         Some("the text begins with a byte order mark: save it without")
-    } else if is_among(word, &COMMANDS) {
+    } else if form_of(word).is_some() {
         Some("this is a command of a session: is %session missing before it?")
     } else if form_hint(word).is_some() {
         Some(

@@ -2,15 +2,25 @@
 #![tactic(auto)]
 
 mod asked;
+mod causes;
+mod commands;
 mod explain;
 mod files;
 mod hints;
+mod holders;
+mod lists;
 mod messages;
+mod near;
 mod notes;
 mod output;
+mod parameters;
 mod places;
 mod program;
+mod refusals;
 mod status;
+mod texts;
+mod values;
+mod ways;
 mod witness;
 mod words;
 

@@ -1,10 +1,9 @@
 //! The messages of the program, a line each, with what explains it.
 
 use crate::explain::{explain, explain_path, explain_word};
-use crate::witness::Witness;
+use crate::witness::Kept;
 use modprobe::ServeFault;
 use program_frame::PathFault;
-use std::alloc::Global;
 use std::io::Write;
 
 /// Tells a word that has not its form.
@@ -34,25 +33,24 @@ pub(crate) fn tell_skipped<E: Write>(folder: &str, errors: &mut E) {
 }
 
 /// Tells a fault, or that the input has no session.
-fn tell_answer<E: Write>(answer: &Result<u64, ServeFault>, witness: &Witness<'_>, errors: &mut E) {
+fn tell_answer<E: Write>(answer: &Result<u64, ServeFault>, kept: &Kept<'_>, errors: &mut E) {
     let _ = match answer {
         Err(fault) => writeln!(errors, "modsh: {fault}"),
-        Ok(_) if witness.lines == 0 => writeln!(errors, "modsh: the input is empty"),
-        Ok(_) if !witness.has_session => writeln!(errors, "modsh: the input has no line %session"),
+        Ok(_) if kept.lines == 0 => writeln!(errors, "modsh: the input is empty"),
+        Ok(_) if !kept.has_session => writeln!(errors, "modsh: the input has no line %session"),
         Ok(_) => Ok(()),
     };
 }
 
 /// Tells how a session ended, and what explains it.
 pub(crate) fn tell_end<E: Write>(
-    alloc: Global,
     answer: &Result<u64, ServeFault>,
-    witness: &Witness<'_>,
     explains: bool,
+    kept: &Kept<'_>,
     errors: &mut E,
 ) {
-    tell_answer(answer, witness, errors);
+    tell_answer(answer, kept, errors);
     if explains {
-        explain(alloc, answer, witness, errors);
+        explain(answer, kept, errors);
     }
 }

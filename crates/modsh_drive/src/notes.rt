@@ -1,15 +1,15 @@
 //! What people are told of lines and words that have no effect.
 ghost use Rattle.std.specs.Prelude.{◌<◌, length};
 
+use crate::parameters::kind_of;
 use crate::places::Places;
 use alias_match::{IdleLine, NoEffect, idle_aliases};
-use dep_index::Param;
 use modprobe::{Section, Setup, Texts};
 use modprobe_conf::idle_settings;
 use program_frame::Shown;
 use std::alloc::{AllocError, Global};
 use std::io::Write;
-use text_parts::{Name, whole_lines};
+use text_parts::whole_lines;
 
 fn reason(why: NoEffect) -> &'static str {
     match why {
@@ -41,20 +41,6 @@ fn note_lines<E: Write>(
     }
 }
 
-/// Whether one of the parameters has the name that a word of an options line begins with.
-fn defines(alloc: Global, params: &[Param], word: &[u8]) -> Result<bool, AllocError> {
-    let end = word
-        .iter()
-        .position(|byte| *byte == b'=')
-        .unwrap_or(word.len());
-    let name = Name::new(alloc, word.get(..end).unwrap_or(word))?;
-    Ok(
-        params
-            .iter()
-            .any(|param| param.name.as_bytes() == name.as_bytes()),
-    )
-}
-
 /// Tells the words of options lines of the module in a slot whose parameters it does not define.
 fn note_words_of<E: Write>(
     alloc: Global,
@@ -66,7 +52,8 @@ fn note_words_of<E: Write>(
 {
     let name = setup.catalogue().name(slot);
     for word in setup.configuration().options(name) {
-        if !defines(alloc, setup.catalogue().params(slot), word.as_bytes())? {
+        let params = setup.catalogue().params(slot);
+        if kind_of(alloc, params, word.as_bytes())?.is_none() {
             let (name, word) = (Shown(name), Shown(word.as_bytes()));
             let _ = writeln!(
                 errors,

@@ -21,6 +21,27 @@ impl fmt::Display for Place<'_> {
     }
 }
 
+/// The place of a line of a session, which mostly stands in standard input.
+#[derive(Clone, Copy, Drop)]
+pub(crate) struct SessionPlace<'a>(Place<'a>);
+
+impl fmt::Display for SessionPlace<'_> {
+    fn fmt<W: fmt::Write>(&self, f: &mut fmt::Formatter<W>) -> fmt::Result {
+        let Place { path, number } = self.0;
+        match path {
+            Some(_) => write!(f, "{}", self.0),
+            None => write!(f, "line {number}"),
+        }
+    }
+}
+
+impl<'a> Place<'a> {
+    /// The place of a line of a session.
+    pub(crate) fn in_session(self) -> SessionPlace<'a> {
+        SessionPlace(self)
+    }
+}
+
 /// A file, and how many lines its section has, with its section line.
 #[derive(Clone, Copy, Drop)]
 struct FileLines<'a> {

@@ -1,5 +1,6 @@
 //! The program over any input and output.
 ghost use Rattle.std.specs.Prelude.{◌≡◌, ◌≢◌, ◌≤◌, ◌++◌, [], false, length, IsOk, OnOk};
+ghost use Rattle.std.specs.Io.KnownBytes.{Keeps};
 ghost use Rattle.modprobe.specs.Lines.{IfTold};
 ghost use Rattle.modprobe.specs.Serve.{AnswersInput};
 ghost use Rattle.modsh_drive.specs.Statuses.{EndsPlainly};
@@ -8,7 +9,7 @@ mod reading;
 
 use crate::asked::{Asked, matches_of};
 use crate::files::JoinedFiles;
-use crate::messages::{tell_bad_word, tell_end};
+use crate::messages::tell_bad_word;
 use crate::output::Output;
 use crate::status::status_after;
 use crate::witness::Witness;
@@ -95,19 +96,15 @@ impl<'a, 'e, E: Write> Program<'a, 'e, E> {
         ensures answered { result ≡ Status.Done → IfTold (I.remaining reader) (λ input.
             AnswersInput self.old.asked.workers (self.old.files.text.items ++ input) (O.contents writer.old.writer) (O.contents writer.new.writer)) }
         ensures error { self.old.asked.fail ≡ false → result ≢ Status.ErrorReply }
+        ensures silent { result ≡ Status.Refused → Keeps (O.contents writer.old.writer) (O.contents writer.new.writer) }
     {
-        let mut witness = Witness::new(self.alloc, self.asked.explain, &self.files);
+        let explains = self.asked.explain;
+        let mut witness = Witness::new(self.alloc, explains, &self.files, self.errors);
         let mut source = FromRead::new(self.files.text().chain(reader));
         let workers = self.asked.workers;
         let answer = serve_watched(self.alloc, workers, &mut source, writer, &mut witness);
-        tell_end(
-            self.alloc,
-            &answer,
-            &witness,
-            self.asked.explain,
-            self.errors,
-        );
-        status_after(&answer, self.asked.fail, witness.has_session)
+        witness.finish(&answer);
+        status_after(&answer, self.asked.fail, witness.kept.has_session)
     }
 }
 

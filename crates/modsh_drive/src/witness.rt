@@ -1,19 +1,30 @@
 //! What is kept of a session to explain it.
+ghost use Rattle.std.specs.Prelude.{◌≡◌, ◌≢◌, ◌+◌, ◌<◌, ◌^◌, ◌++◌, ◌||◌, false, true, is_err, length, min, take, Some};
 
 use crate::files::JoinedFiles;
+use crate::messages::tell_end;
 use crate::notes::note_words;
 use crate::places::Places;
-use modprobe::{Section, Setup, Texts, Watch};
+use crate::refusals::tell_refusal;
+use modprobe::{Refused, Section, ServeFault, Setup, Texts, Watch};
+use seq_table::Modules;
 use std::alloc::{AllocError, Global};
+use std::io::Write;
 
 /// How much of a line that is in hand at a fault is kept: what is shown, and whether it has more.
 const MOST_KEPT: usize = 64;
 
+/// The front of a line that is kept.
+fn front_of(line: &[u8]) -> &[u8]
+    ensures { result.now ≡ take (min (length line.entry.now) 64) line.entry.now }
+{
+    &line[..line.len().min(MOST_KEPT)]
+}
+
 /// What is kept to explain a session, where that is asked for, and in any case whether it began.
 #[derive(Drop)]
-pub(crate) struct Witness<'a> {
-    alloc: Global,
-    explains: bool,
+pub(crate) struct Kept<'a> {
+    pub(crate) alloc: Global,
     /// How many lines of the input were read.
     pub(crate) lines: u64,
     pub(crate) has_session: bool,
@@ -23,16 +34,14 @@ pub(crate) struct Witness<'a> {
     pub(crate) in_hand: Vec<u8>,
     /// The notes of words that no module takes, as they are told.
     pub(crate) notes: Vec<u8>,
-    /// Whether there was no memory to keep all of this.
+    /// Whether there was no memory to keep or to tell all of this.
     pub(crate) is_short: bool,
 }
 
-impl<'a> Witness<'a> {
-    /// Keeps what is needed to explain a session after these files, if that is asked for.
-    pub(crate) fn new(alloc: Global, explains: bool, files: &'a JoinedFiles<'_>) -> Witness<'a> {
-        let mut witness = Witness {
+impl<'a> Kept<'a> {
+    fn new(alloc: Global) -> Kept<'a> {
+        Kept {
             alloc,
-            explains,
             lines: 0,
             has_session: false,
             places: Places::new(alloc),
@@ -40,51 +49,109 @@ impl<'a> Witness<'a> {
             in_hand: Vec::new(alloc),
             notes: Vec::new(alloc),
             is_short: false,
-        };
-        if explains {
-            let added = witness.places.add_files(files);
-            witness.mind(added);
         }
-        witness
+    }
+
+    /// Keeps the front of a line.
+    fn keep_line(&mut self, line: &[u8])
+        ensures { self.new.is_short ≡ false →
+            self.new.in_hand.items ≡ self.old.in_hand.items ++ take (min (length line.now) 64) line.now }
+    {
+        match self.in_hand.extend_from_slice(front_of(line)) {
+            Ok(()) => {}
+            Err(_) => self.is_short = true,
+        }
     }
 
     /// Notes that there was no memory for something.
-    fn mind(&mut self, kept: Result<(), AllocError>) {
+    fn mind(&mut self, kept: Result<(), AllocError>)
+        ensures { self.new ≡ record self.old { is_short = self.old.is_short || is_err kept } }
+    {
         self.is_short |= kept.is_err();
     }
 }
 
-impl Watch for Witness<'_> {
-    fn line(&mut self) {
-        self.lines = self.lines.saturating_add(1);
-    }
+/// A watch over a session. Where it explains, it keeps what that takes, and tells at once why a command is refused.
+#[derive(Drop)]
+pub(crate) struct Witness<'a, 'e, E> {
+    explains: bool,
+    pub(crate) kept: Kept<'a>,
+    pub(crate) errors: &'e mut E,
+}
 
-    fn section(&mut self, section: Section) {
-        self.has_session |= section == Section::Session;
-        if self.explains {
-            let begun = self.places.begin(section, self.lines);
-            self.mind(begun);
+impl<'a, 'e, E: Write> Witness<'a, 'e, E> {
+    /// A watch over a session after these files.
+    pub(crate) fn new(
+        alloc: Global,
+        explains: bool,
+        files: &'a JoinedFiles<'_>,
+        errors: &'e mut E,
+    ) -> Witness<'a, 'e, E> {
+        let mut kept = Kept::new(alloc);
+        if explains {
+            let added = kept.places.add_files(files);
+            kept.mind(added);
+        }
+        Witness {
+            explains,
+            kept,
+            errors,
         }
     }
 
-    fn stop(&mut self, line: &[u8]) {
+    /// Tells how the session ended, and what explains it.
+    pub(crate) fn finish(&mut self, answer: &Result<u64, ServeFault>) {
+        tell_end(answer, self.explains, &self.kept, self.errors);
+    }
+}
+
+impl<E: Write> Watch for Witness<'_, '_, E> {
+    fn line(&mut self)
+        ensures { self.old.kept.lines + 1 < 2 ^ 64 → self.new.kept.lines ≡ self.old.kept.lines + 1 }
+    {
+        self.kept.lines = self.kept.lines.saturating_add(1);
+    }
+
+    fn section(&mut self, section: Section)
+        ensures begun { section ≡ Section.Session → self.new.kept.has_session ≡ true }
+        ensures same { section ≢ Section.Session → self.new.kept.has_session ≡ self.old.kept.has_session }
+    {
+        self.kept.has_session |= section == Section::Session;
         if self.explains {
-            let front = line.get(..MOST_KEPT).unwrap_or(line);
-            let kept = self.in_hand.extend_from_slice(front);
-            self.mind(kept);
+            let lines = self.kept.lines;
+            let begun = self.kept.places.begin(section, lines);
+            self.kept.mind(begun);
         }
     }
 
-    fn texts(&mut self, texts: Texts) {
+    fn stop(&mut self, line: &[u8])
+        ensures { self.old.explains ≡ true → self.new.kept.is_short ≡ false →
+            self.new.kept.in_hand.items ≡ self.old.kept.in_hand.items ++ take (min (length line.now) 64) line.now }
+    {
         if self.explains {
-            self.texts = Some(texts);
+            self.kept.keep_line(line);
+        }
+    }
+
+    fn texts(&mut self, texts: Texts)
+        ensures { self.old.explains ≡ true → self.new.kept.texts ≡ Some texts }
+    {
+        if self.explains {
+            self.kept.texts = Some(texts);
         }
     }
 
     fn setup(&mut self, setup: &Setup) {
         if self.explains {
-            let noted = note_words(self.alloc, setup, &mut self.notes);
-            self.mind(noted);
+            let noted = note_words(self.kept.alloc, setup, &mut self.kept.notes);
+            self.kept.mind(noted);
+        }
+    }
+
+    fn refusal<M: Modules>(&mut self, refused: &Refused<'_, M>) {
+        if self.explains {
+            let told = tell_refusal(refused, &self.kept, self.errors);
+            self.kept.mind(told);
         }
     }
 }

@@ -1,5 +1,7 @@
 //! The words of the program: sections of its input that are read from files.
-ghost use Rattle.std.specs.Prelude.{◌≡◌, ◌++◌, OnOk};
+ghost use Rattle.std.specs.Prelude.{◌≡◌, ◌++◌, ◌⊎◌, length, IfNone, IfSome, OnOk};
+ghost use Rattle.std.specs.List.{after_first, before_first, position_or_len};
+ghost use Rattle.load_plan.specs.Parameters.{is_equals};
 ghost use Rattle.modprobe.specs.Lines.{IfTold};
 ghost use Rattle.modsh_drive.specs.Inputs.{section_named, section_line, section_text};
 
@@ -32,8 +34,12 @@ pub(crate) struct NamedFile<'a> {
 }
 
 impl<'a> NamedFile<'a> {
-    /// The file of a word of the form `NAME=PATH`.
-    pub(crate) fn of(word: &'a str) -> Option<NamedFile<'a>> {
+    /// The file of a word of the form `NAME=PATH`, whose path may have equals signs too.
+    pub(crate) fn of(word: &'a str) -> Option<NamedFile<'a>>
+        ensures section { IfSome result (λ file. section_named (before_first is_equals word.entry.now) ≡ Some file.section) }
+        ensures path { IfSome result (λ file. file.path.now ≡ after_first is_equals word.entry.now) }
+        ensures none { IfNone result (section_named (before_first is_equals word.entry.now) ≡ None ⊎ (position_or_len is_equals word.entry.now ≡ length word.entry.now)) }
+    {
         let (name, path) = word.split_once('=')?;
         match section_named(name.as_bytes()) {
             Some(section) => Some(NamedFile { section, path }),

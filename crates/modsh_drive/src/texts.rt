@@ -1,0 +1,93 @@
+//! Lines of the sections' texts that a refusal comes from.
+
+use program_frame::first_word;
+use std::alloc::{AllocError, Global};
+use text_parts::{Name, is_same, whole_lines, words};
+
+/// Whether the second word of a line is this name.
+fn is_of(alloc: Global, line: &[u8], name: &[u8]) -> Result<bool, AllocError> {
+    let words = words(alloc, line)?;
+    match words.get(1) {
+        Some(word) => Ok(is_same(Name::new(alloc, word)?.as_bytes(), name)),
+        None => Ok(false),
+    }
+}
+
+/// The number of the first line of a configuration that begins with this word and is of this name. A line that a backslash
+/// joins to others has the number of the first of them.
+pub(crate) fn setting_line(
+    alloc: Global,
+    text: &[u8],
+    word: &[u8],
+    name: &[u8],
+) -> Result<Option<u64>, AllocError> {
+    let (mut number, mut joined) = (1u64, Vec::new(alloc));
+    let mut count = 0u64;
+    for line in whole_lines(text) {
+        count = count.saturating_add(1);
+        if let Some(front) = line.strip_suffix(b"\\") {
+            joined.extend_from_slice(front)?;
+            continue;
+        }
+        joined.extend_from_slice(line)?;
+        if is_same(first_word(&joined), word) && is_of(alloc, &joined, name)? {
+            return Ok(Some(number));
+        }
+        joined.clear();
+        number = count.saturating_add(1);
+    }
+    Ok(None)
+}
+
+/// Adds the symbols that a line of the module says it needs.
+fn add_needs<'a>(
+    alloc: Global,
+    needed: &mut Vec<&'a [u8]>,
+    line: &'a [u8],
+) -> Result<(), AllocError> {
+    for symbol in words(alloc, line)?.get(1..).unwrap_or(&[]) {
+        if !needed.iter().any(|own| is_same(own, symbol)) {
+            needed.push(*symbol)?;
+        }
+    }
+    Ok(())
+}
+
+/// The symbols that a module needs by a catalogue, each once, in their order.
+fn needs_in<'a>(alloc: Global, text: &'a [u8], name: &[u8]) -> Result<Vec<&'a [u8]>, AllocError> {
+    let (mut needed, mut is_own) = (Vec::new(alloc), false);
+    for line in whole_lines(text) {
+        let word = first_word(line);
+        if is_same(word, b"module") {
+            is_own = is_of(alloc, line, name)?;
+        } else if is_own && is_same(word, b"needs") {
+            add_needs(alloc, &mut needed, line)?;
+        }
+    }
+    Ok(needed)
+}
+
+/// Takes from these symbols those that a line exports.
+fn remove_exports(alloc: Global, needed: &mut Vec<&[u8]>, line: &[u8]) -> Result<(), AllocError> {
+    for symbol in words(alloc, line)?.get(1..).unwrap_or(&[]) {
+        if let Some(place) = needed.iter().position(|own| is_same(own, symbol)) {
+            needed.remove(place);
+        }
+    }
+    Ok(())
+}
+
+/// The first symbol of a module by a catalogue that no module there exports.
+pub(crate) fn unknown_symbol<'a>(
+    alloc: Global,
+    text: &'a [u8],
+    name: &[u8],
+) -> Result<Option<&'a [u8]>, AllocError> {
+    let mut needed = needs_in(alloc, text, name)?;
+    for line in whole_lines(text) {
+        if is_same(first_word(line), b"exports") {
+            remove_exports(alloc, &mut needed, line)?;
+        }
+    }
+    Ok(needed.first().copied())
+}
