@@ -1,5 +1,5 @@
 -- How the program ends.
-use Rattle.std.specs.Prelude.{◌≡◌, ◌≢◌, ℕ, nat_lt, Bool, not, ◌&&◌, ◌||◌, List, Option, if◌then◌else◌, Result, Ok, Err}
+use Rattle.std.specs.Prelude.{◌≡◌, ◌≢◌, ℕ, nat_lt, ◌==◌, Bool, not, ◌&&◌, ◌||◌, List, Option, if◌then◌else◌, Result, Ok, Err}
 use Rattle.modprobe.specs.declared.fault.ServeFault.{ServeFault}
 use Rattle.modprobe.specs.declared.fault.ServeFault.TheVariants as serve_fault
 use Rattle.modprobe.specs.declared.fault.SetupCode.{SetupCode}
@@ -29,6 +29,10 @@ abbrev pub status_of : ServeFault → Status
 status_of (serve_fault.Setup fault) = setup_status fault.code
 status_of (serve_fault.Run fault) = Fault
 status_of serve_fault.Memory = Fault
+
+-- the status after a lint that told so many notes
+abbrev pub status_of_lint : ℕ → Status
+status_of_lint notes = if notes == 0 then Done else ErrorReply
 
 -- the status after a session with so many error replies: these count where that is asked for, and so does an input without a session
 abbrev pub status_after : Result ℕ ServeFault → Bool → Bool → Status

@@ -22,7 +22,7 @@ Example:
 
 Exit status:
   0  the input was answered to its end
-  1  with --fail, a reply was an error
+  1  with --fail, a reply was an error; with --lint, a line was listed
   2  an argument, a file or a section is refused
   3  a read or a write failed, memory ran out, or a limit was reached";
 
@@ -42,6 +42,12 @@ fn command<'a>(alloc: Global) -> Result<Command<'a>, AllocError> {
         .long("fail")
         .action(ArgAction::SetTrue)
         .help("Ends with status 1 where a reply was an error");
+    let lint = Arg::new(alloc, "lint")
+        .long("lint")
+        .action(ArgAction::SetTrue)
+        .help(
+            "Lists lines without effect or about nothing, on standard error, and answers no command",
+        );
     let words = Arg::new(alloc, "words")
         .value_name("WORD")
         .num_args(0..)
@@ -53,6 +59,7 @@ fn command<'a>(alloc: Global) -> Result<Command<'a>, AllocError> {
         .arg(workers)?
         .arg(explain)?
         .arg(fail)?
+        .arg(lint)?
         .arg(words)
 }
 
@@ -73,6 +80,8 @@ pub(crate) struct Asked {
     pub(crate) explain: bool,
     /// Whether a reply that is an error makes the status 1.
     pub(crate) fail: bool,
+    /// Whether lines of the sections are listed that have no effect or are about nothing, and no command is answered.
+    pub(crate) lint: bool,
     ghost few: { workers ≤ 64 },
 }
 
@@ -83,11 +92,13 @@ impl Asked {
     pub(crate) fn plain() -> Asked
         ensures workers { result.workers ≡ 1 }
         ensures fail { result.fail ≡ false }
+        ensures lint { result.lint ≡ false }
     {
         Asked {
             workers: 1,
             explain: false,
             fail: false,
+            lint: false,
         }
     }
 
@@ -101,6 +112,7 @@ impl Asked {
             workers,
             explain: matches.get_flag("explain"),
             fail: matches.get_flag("fail"),
+            lint: matches.get_flag("lint"),
         }
     }
 }

@@ -1,11 +1,12 @@
 //! What explains a message to people, in lines that begin with two spaces.
 
 use crate::hints::{Faulty, hint_of, path_hint, word_hint};
-use crate::notes::note_idle;
+use crate::notes::{note_about, note_idle};
 use crate::places::Place;
 use crate::witness::Kept;
 use modprobe::{RunFault, Section, ServeFault, SetupCode, SetupFault, Texts};
 use program_frame::{Shown, tell_hint, tell_sentence};
+use std::alloc::AllocError;
 use std::io::Write;
 use text_parts::whole_lines;
 
@@ -118,21 +119,38 @@ fn explain_fault<E: Write>(fault: &ServeFault, kept: &Kept<'_>, errors: &mut E) 
     }
 }
 
-/// Tells all that is told after a session: its fault, and lines without effect.
+/// Tells all that is told after a session: its fault, lines without effect, and lines about nothing.
 pub(crate) fn explain<E: Write>(answer: &Result<u64, ServeFault>, kept: &Kept<'_>, errors: &mut E) {
     match answer {
         Err(fault) => explain_fault(fault, kept, errors),
         Ok(_) if !kept.has_session => tell_sentence(NO_SESSION, errors),
         Ok(_) => {}
     }
-    let noted = match &kept.texts {
+    let idle = match &kept.texts {
         Some(texts) => note_idle(kept.alloc, texts, &kept.places, errors),
-        None => Ok(()),
+        None => Ok(0),
     };
     let _ = errors.write_all(kept.notes.as_slice());
-    if noted.is_err() || kept.is_short {
+    let about = match &kept.texts {
+        Some(texts) => note_about(kept.alloc, &kept.about, texts, &kept.places, errors),
+        None => Ok(()),
+    };
+    if idle.is_err() || about.is_err() || kept.is_short {
         let _ = writeln!(errors, "modsh: note: there was no memory to explain more");
     }
+}
+
+/// Tells the notes of a lint, and answers how many there are. No memory refuses, also where there was none to keep them.
+pub(crate) fn tell_lint<E: Write>(kept: &Kept<'_>, errors: &mut E) -> Result<usize, AllocError> {
+    let Some(texts) = &kept.texts else {
+        return Ok(0);
+    };
+    let idle = note_idle(kept.alloc, texts, &kept.places, errors)?;
+    note_about(kept.alloc, &kept.about, texts, &kept.places, errors)?;
+    if kept.is_short {
+        return Err(AllocError);
+    }
+    Ok(idle.saturating_add(kept.about.len()))
 }
 
 /// Explains a word that has not its form.

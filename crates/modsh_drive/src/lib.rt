@@ -17,6 +17,7 @@ mod parameters;
 mod places;
 mod program;
 mod refusals;
+mod sections;
 mod status;
 mod texts;
 mod values;

@@ -11,6 +11,7 @@ use crate::asked::{Asked, matches_of};
 use crate::files::JoinedFiles;
 use crate::messages::tell_bad_word;
 use crate::output::Output;
+use crate::sections::read_sections;
 use crate::status::status_after;
 use crate::witness::Witness;
 use crate::words::NamedFile;
@@ -35,6 +36,7 @@ impl<'a, 'e, E: Write> Program<'a, 'e, E> {
     fn new(alloc: Global, errors: &'e mut E) -> Program<'a, 'e, E>
         ensures workers { result.asked.workers ≡ 1 }
         ensures fail { result.asked.fail ≡ false }
+        ensures lint { result.asked.lint ≡ false }
         ensures files { result.files.text.items ≡ [] }
     {
         Program {
@@ -106,11 +108,22 @@ impl<'a, 'e, E: Write> Program<'a, 'e, E> {
         witness.finish(&answer);
         status_after(&answer, self.asked.fail, witness.kept.has_session)
     }
+
+    /// Reads the sections of the files and the reader, and tells each line of them that has no effect or is about nothing.
+    /// No command is answered.
+    fn lint<I: Read + Drop>(&mut self, reader: I) -> Status {
+        let mut witness = Witness::new(self.alloc, true, &self.files, self.errors);
+        let text = self.files.text();
+        let mut source = FromRead::new(text.chain(reader));
+        let read = read_sections(self.alloc, &mut source, &mut witness);
+        witness.finish_lint(read)
+    }
 }
 
 /// Runs the program on these words, the first of which is its own name, and answers its status: 0 at the end of the
-/// input, 1 there where a reply was an error and `--fail` is asked for, 2 where an argument, a file or the setup is
-/// refused, 3 for a fault. What is refused, and what failed, is said on `errors`; help goes to `writer`.
+/// input, 1 there where a reply was an error and `--fail` is asked for, or `--lint` tells a line, 2 where an argument, a
+/// file or the setup is refused, 3 for a fault. What is refused, what failed, and what `--lint` tells is said on `errors`;
+/// help goes to `writer`.
 pub fn drive<R: Files + AllocGlobal, I: Read + Drop, O: Write, E: Write>(
     rt: &R,
     words: &[String],
@@ -124,6 +137,7 @@ pub fn drive<R: Files + AllocGlobal, I: Read + Drop, O: Write, E: Write>(
 {
     let mut program = Program::new(rt.alloc(), errors);
     match program.take(rt, words, writer) {
+        Ok(()) if program.asked.lint => program.lint(reader).number(),
         Ok(()) => program.answer(reader, writer).number(),
         Err(status) => status.number(),
     }

@@ -1,6 +1,6 @@
 //! The status after a session.
 ghost use Rattle.std.specs.Prelude.{◌≡◌};
-ghost use Rattle.modsh_drive.specs.Statuses.{status_of, status_after};
+ghost use Rattle.modsh_drive.specs.Statuses.{status_of, status_after, status_of_lint};
 
 use modprobe::{ServeFault, SetupCode, SetupFault};
 use program_frame::Status;
@@ -34,5 +34,16 @@ pub(crate) fn status_after(
         Ok(errors) if fail && (*errors > 0 || !has_session) => Status::ErrorReply,
         Ok(_) => Status::Done,
         Err(fault) => status_of(fault),
+    }
+}
+
+/// The status after a lint that told so many notes.
+pub(crate) fn status_of_lint(notes: usize) -> Status
+    ensures { result ≡ status_of_lint notes }
+{
+    if notes == 0 {
+        Status::Done
+    } else {
+        Status::ErrorReply
     }
 }

@@ -1,12 +1,16 @@
 //! What is kept of a session to explain it.
 ghost use Rattle.std.specs.Prelude.{◌≡◌, ◌≢◌, ◌+◌, ◌<◌, ◌^◌, ◌++◌, ◌||◌, false, true, is_err, length, min, take, Some};
 
+use crate::explain::tell_lint;
 use crate::files::JoinedFiles;
 use crate::messages::tell_end;
 use crate::notes::note_words;
 use crate::places::Places;
 use crate::refusals::tell_refusal;
+use crate::status::{status_after, status_of_lint};
+use conf_lint::{Known, Note, lint};
 use modprobe::{Refused, Section, ServeFault, Setup, Texts, Watch};
+use program_frame::{Status, tell_no_memory};
 use seq_table::Modules;
 use std::alloc::{AllocError, Global};
 use std::io::Write;
@@ -34,6 +38,8 @@ pub(crate) struct Kept<'a> {
     pub(crate) in_hand: Vec<u8>,
     /// The notes of words that no module takes, as they are told.
     pub(crate) notes: Vec<u8>,
+    /// The notes of lines that are about nothing.
+    pub(crate) about: Vec<Note>,
     /// Whether there was no memory to keep or to tell all of this.
     pub(crate) is_short: bool,
 }
@@ -48,6 +54,7 @@ impl<'a> Kept<'a> {
             texts: None,
             in_hand: Vec::new(alloc),
             notes: Vec::new(alloc),
+            about: Vec::new(alloc),
             is_short: false,
         }
     }
@@ -59,6 +66,22 @@ impl<'a> Kept<'a> {
     {
         match self.in_hand.extend_from_slice(front_of(line)) {
             Ok(()) => {}
+            Err(_) => self.is_short = true,
+        }
+    }
+
+    /// Keeps the notes of lines that are about nothing.
+    fn lint(&mut self, setup: &Setup) {
+        let Some(texts) = &self.texts else {
+            return;
+        };
+        let known = Known {
+            catalogue: setup.catalogue(),
+            aliases: setup.aliases(),
+            configuration: setup.configuration(),
+        };
+        match lint(self.alloc, &known, texts.text(Section::Conf)) {
+            Ok(notes) => self.about = notes,
             Err(_) => self.is_short = true,
         }
     }
@@ -103,6 +126,19 @@ impl<'a, 'e, E: Write> Witness<'a, 'e, E> {
     pub(crate) fn finish(&mut self, answer: &Result<u64, ServeFault>) {
         tell_end(answer, self.explains, &self.kept, self.errors);
     }
+
+    /// Tells the fault of sections, or else the notes of a lint, and answers how that ends.
+    pub(crate) fn finish_lint(&mut self, read: Result<(), ServeFault>) -> Status {
+        if let Err(fault) = read {
+            let answer = Err(fault);
+            self.finish(&answer);
+            return status_after(&answer, false, true);
+        }
+        match tell_lint(&self.kept, self.errors) {
+            Ok(count) => status_of_lint(count),
+            Err(_) => tell_no_memory("modsh", self.errors),
+        }
+    }
 }
 
 impl<E: Write> Watch for Witness<'_, '_, E> {
@@ -145,6 +181,7 @@ impl<E: Write> Watch for Witness<'_, '_, E> {
         if self.explains {
             let noted = note_words(self.kept.alloc, setup, &mut self.kept.notes);
             self.kept.mind(noted);
+            self.kept.lint(setup);
         }
     }
 
