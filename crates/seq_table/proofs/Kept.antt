@@ -1,14 +1,15 @@
 -- A table is kept by each call.
-use Rattle.std.proofs.Common.{◌≡◌, ℕ, zero, suc, ◌<◌, true, false, leb, List, [], ◌∷◌, length, get_or, refl, sym, ap, subst, arith}
-use Rattle.std.proofs.Math.ListN.{set}
+use Rattle.std.proofs.Common.{◌≡◌, ℕ, zero, suc, ◌<◌, true, false, leb, List, [], ◌∷◌, length, get_or, ◌≤◌, refl, sym, ap, subst, ◌∙◌, arith}
+use Rattle.std.proofs.Math.ListN.{set, replicate}
+use Rattle.std.proofs.lemmas.List.{length-replicate}
 use Rattle.std.proofs.lemmas.Bool.{lt-leb}
 use Rattle.std.specs.Global.{Vec}
 use Rattle.dep_index.specs.declared.calls.Call.{Call}
 use Rattle.dep_index.specs.declared.calls.Call.TheVariants.{Get}
 use Rattle.dep_index.specs.Table.{Module, Book, Table, is_live, state_of, count_of}
-use Rattle.dep_index.specs.Calls.{next, effect, IsInRange}
+use Rattle.dep_index.specs.Calls.{next, effect, opening, IsInRange}
 use Rattle.dep_index.specs.Laws.{IsShaped, IsLawful}
-use Rattle.dep_index.proofs.RunLaws.{next_lawful, next_shaped}
+use Rattle.dep_index.proofs.RunLaws.{next_lawful, next_shaped, opening_lawful, opening_shaped}
 use Rattle.seq_table.specs.Rows.{rows_of, table_of, IsKept}
 
 pub get_or-rows_of : (rows : List (Vec ℕ)) (w : ℕ) (d : Vec ℕ) → w < length rows → get_or (rows_of rows) w [] ≡ (get_or rows w d).items
@@ -44,3 +45,19 @@ kept_after catalogue book book' rows rows' call kept range is same =
 pub get_becomes : (catalogue : List Module) (table : Table) (w m : ℕ) → is_live (state_of table.book m) ≡ true → count_of table w m < 65535
     → next catalogue table (Get w m) ≡ effect table (Get w m)
 get_becomes catalogue table w m live few = let room : leb 65535 (count_of table w m) ≡ false = lt-leb _ _ few in rw (live, room) refl
+
+-- the opening table is kept
+pub opening_kept : (catalogue : List Module) (workers : ℕ) (book : Book) (rows : Vec (Vec ℕ)) → length catalogue ≤ 65535 → workers ≤ 64
+    → book ≡ (opening catalogue 0).book → rows_of rows.items ≡ replicate workers (replicate (length catalogue) 0) → IsKept catalogue book rows
+opening_kept catalogue workers book rows few small opens zeros =
+    record {
+      slots = few;
+      workers = rw len small;
+      shape = rw len (subst (λ (t : Table). IsShaped (length catalogue) workers t) (sym same) (opening_shaped catalogue workers));
+      lawful = subst (λ (t : Table). IsLawful catalogue t) (sym same) (opening_lawful catalogue workers);
+    } where
+      len : length rows.items ≡ workers
+      len = sym (length-rows_of rows.items) ∙ ap length zeros ∙ length-replicate workers (replicate (length catalogue) 0)
+
+      same : table_of book rows.items ≡ opening catalogue workers
+      same = ap (λ (b : Book). table_of b rows.items) opens ∙ ap (λ (r : List (List ℕ)). record { book = (opening catalogue 0).book; rows = r }) zeros
