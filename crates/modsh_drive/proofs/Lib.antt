@@ -1,1 +1,2 @@
+pub mod EndLemmas
 pub mod HolderLemmas

@@ -1,11 +1,12 @@
 -- How the program ends.
-use Rattle.std.specs.Prelude.{◌≡◌, ◌≢◌, ℕ, nat_lt, ◌==◌, Bool, not, ◌&&◌, ◌||◌, List, Option, if◌then◌else◌, Result, Ok, Err}
+use Rattle.std.specs.Prelude.{◌≡◌, ◌≢◌, ℕ, nat_lt, ◌==◌, Bool, true, false, not, ◌&&◌, ◌||◌, List, Option, Some, if◌then◌else◌, Result, Ok, Err}
 use Rattle.modprobe.specs.declared.fault.ServeFault.{ServeFault}
 use Rattle.modprobe.specs.declared.fault.ServeFault.TheVariants as serve_fault
 use Rattle.modprobe.specs.declared.fault.SetupCode.{SetupCode}
 use Rattle.modprobe.specs.declared.fault.SetupCode.TheVariants.{C1, C2, C3, C4, M1, M2, M3, B1, Read, Memory, Turns, LongLine}
 use Rattle.modprobe.specs.Lines.{IfTold}
-use Rattle.modprobe.specs.Serve.{AnswersInput}
+use Rattle.modprobe.specs.Serve.{AnswersInput, CountsErrors, ServeStands}
+use Rattle.program_frame.specs.Ends.{number_of}
 use Rattle.program_frame.specs.declared.status.Status.{Status}
 use Rattle.program_frame.specs.declared.status.Status.TheVariants.{Done, ErrorReply, Refused, Fault}
 
@@ -39,13 +40,21 @@ abbrev pub status_after : Result ℕ ServeFault → Bool → Bool → Status
 status_after (Ok errors) fail has_session = if fail && (nat_lt 0 errors || not has_session) then ErrorReply else Done
 status_after (Err fault) fail has_session = status_of fault
 
--- how a program without arguments ends: where all is done, what was written grew by the answer of one worker's session; and no
--- error counts
-abbrev pub AnswersPlainly : Option (List ℕ) → Option (List ℕ) → Option (List ℕ) → Status → Type 0
-AnswersPlainly told held written status =
-    (status ≡ Done → IfTold told (λ input. AnswersInput 1 input held written)) × (status ≢ ErrorReply)
+-- a session of so many workers over an input stopped at a fault that has this status
+abbrev pub StopsAs : ℕ → List ℕ → Option (List ℕ) → Option (List ℕ) → Status → Type 0
+StopsAs workers input held written status =
+    (fault : ServeFault) × (ungiven : Option (List ℕ)) × (status ≡ status_of fault) × ServeStands workers fault (Some input) ungiven held written
 
--- the same by the status that it answers
+-- How a run over an input ends with each status: all of it was answered, and with 0 no error counts; or it stopped at a
+-- fault. What people are told, and whether they asked for more, is no part of it.
+abbrev pub Ends : ℕ → Bool → List ℕ → Option (List ℕ) → Option (List ℕ) → Status → Type 0
+Ends workers fail input held written Done =
+    AnswersInput workers input held written × (fail ≡ true → CountsErrors workers input 0)
+Ends workers fail input held written ErrorReply = AnswersInput workers input held written × (fail ≡ true)
+Ends workers fail input held written Refused = StopsAs workers input held written Refused
+Ends workers fail input held written Fault = StopsAs workers input held written Fault
+
+-- the same of a program without arguments, which has one worker and for which no error counts
 abbrev pub EndsPlainly : Option (List ℕ) → Option (List ℕ) → Option (List ℕ) → ℕ → Type 0
 EndsPlainly told held written number =
-    (number ≡ 0 → IfTold told (λ input. AnswersInput 1 input held written)) × (number ≢ 1)
+    (status : Status) × (number ≡ number_of status) × (status ≢ ErrorReply) × IfTold told (λ input. Ends 1 false input held written status)

@@ -1,7 +1,9 @@
 //! Where replies go.
-ghost use Rattle.std.specs.Prelude.{◌≡◌, false};
+ghost use Rattle.std.specs.Prelude.{◌≡◌, ◌≢◌, false};
 
+use clap::Error as ClapError;
 use modprobe::{Failed, Sink};
+use program_frame::{Status, end_by};
 use std::io::Write;
 
 /// A writer to which replies go. It tells what the writer tells, and each error of the writer is a failure.
@@ -22,9 +24,11 @@ impl<W: Write> Output<W> {
         }
     }
 
-    /// The writer itself, for texts that are no replies.
-    pub(crate) fn writer(&mut self) -> &mut W {
-        &mut self.writer
+    /// Ends the program where its words ask for no work. Only help and the version are written.
+    pub(crate) fn end_by<E: Write>(&mut self, error: &ClapError, errors: &mut E) -> Status
+        ensures { result ≢ Status.Done → self.new ≡ self.old }
+    {
+        end_by("modsh", error, &mut self.writer, errors)
     }
 }
 

@@ -1,9 +1,8 @@
 //! The program over any input and output.
-ghost use Rattle.std.specs.Prelude.{◌≡◌, ◌≢◌, ◌≤◌, ◌++◌, [], false, length, IsOk, OnOk};
+ghost use Rattle.std.specs.Prelude.{◌≡◌, ◌≢◌, ◌≤◌, ◌++◌, [], false, length, IsOk, IfErr, OnOk};
 ghost use Rattle.std.specs.Io.KnownBytes.{Keeps};
 ghost use Rattle.modprobe.specs.Lines.{IfTold};
-ghost use Rattle.modprobe.specs.Serve.{AnswersInput};
-ghost use Rattle.modsh_drive.specs.Statuses.{EndsPlainly};
+ghost use Rattle.modsh_drive.specs.Statuses.{Ends, EndsPlainly};
 
 mod reading;
 
@@ -16,8 +15,8 @@ use crate::status::status_after;
 use crate::witness::Witness;
 use crate::words::NamedFile;
 use clap::ArgMatches;
-use modprobe::{FromRead, serve_watched};
-use program_frame::{Status, end_by, tell_no_memory};
+use modprobe::{FromRead, Source, serve_watched};
+use program_frame::{Status, tell_no_memory};
 use std::alloc::Global;
 use std::io::{Read, Write};
 use std::rt::Files;
@@ -29,6 +28,26 @@ struct Program<'a, 'e, E> {
     asked: Asked,
     files: JoinedFiles<'a>,
     errors: &'e mut E,
+}
+
+/// Answers a source as it is asked for. What the watch tells is no part of what is written.
+fn answer_source<R: Source, O: Write, E: Write>(
+    alloc: Global,
+    asked: Asked,
+    source: &mut R,
+    writer: &mut Output<O>,
+    witness: &mut Witness<'_, '_, E>,
+) -> Status
+    requires reader_works { R.has_failed source.old ≡ false }
+    requires writer_works { writer.old.failed ≡ false }
+    ensures ends { IfTold (R.remaining source.old) (λ input.
+        Ends asked.workers asked.fail input (O.contents writer.old.writer) (O.contents writer.new.writer) result) }
+    ensures error { asked.fail ≡ false → result ≢ Status.ErrorReply }
+    ensures silent { result ≡ Status.Refused → Keeps (O.contents writer.old.writer) (O.contents writer.new.writer) }
+{
+    let answer = serve_watched(alloc, asked.workers, source, writer, witness);
+    witness.finish(&answer);
+    status_after(&answer, asked.fail, witness.kept.has_session)
 }
 
 impl<'a, 'e, E: Write> Program<'a, 'e, E> {
@@ -82,31 +101,29 @@ impl<'a, 'e, E: Write> Program<'a, 'e, E> {
         ensures plain { length words.now ≤ 1 →
             IsOk result × (self.new.asked ≡ self.old.asked) × (self.new.files ≡ self.old.files) }
         ensures kept { OnOk result (writer.new ≡ writer.old) }
+        ensures silent { IfErr result (λ status. status ≢ Status.Done → writer.new ≡ writer.old) }
     {
         if words.len() <= 1 {
             return Ok(());
         }
         match matches_of(self.alloc, words) {
             Ok(matches) => self.take_matches(rt, &matches),
-            Err(error) => Err(end_by("modsh", &error, writer.writer(), self.errors)),
+            Err(error) => Err(writer.end_by(&error, self.errors)),
         }
     }
 
     /// Answers the files and the reader.
     fn answer<I: Read + Drop, O: Write>(&mut self, reader: I, writer: &mut Output<O>) -> Status
         requires { writer.old.failed ≡ false }
-        ensures answered { result ≡ Status.Done → IfTold (I.remaining reader) (λ input.
-            AnswersInput self.old.asked.workers (self.old.files.text.items ++ input) (O.contents writer.old.writer) (O.contents writer.new.writer)) }
+        ensures ends { IfTold (I.remaining reader) (λ input. Ends self.old.asked.workers self.old.asked.fail
+            (self.old.files.text.items ++ input) (O.contents writer.old.writer) (O.contents writer.new.writer) result) }
         ensures error { self.old.asked.fail ≡ false → result ≢ Status.ErrorReply }
         ensures silent { result ≡ Status.Refused → Keeps (O.contents writer.old.writer) (O.contents writer.new.writer) }
     {
         let explains = self.asked.explain;
         let mut witness = Witness::new(self.alloc, explains, &self.files, self.errors);
         let mut source = FromRead::new(self.files.text().chain(reader));
-        let workers = self.asked.workers;
-        let answer = serve_watched(self.alloc, workers, &mut source, writer, &mut witness);
-        witness.finish(&answer);
-        status_after(&answer, self.asked.fail, witness.kept.has_session)
+        answer_source(self.alloc, self.asked, &mut source, writer, &mut witness)
     }
 
     /// Reads the sections of the files and the reader, and tells each line of them that has no effect or is about nothing.
@@ -133,6 +150,7 @@ pub fn drive<R: Files + AllocGlobal, I: Read + Drop, O: Write, E: Write>(
 ) -> u8
     requires { writer.old.failed ≡ false }
     ensures status { result ≤ 3 }
+    ensures silent { result ≡ 2 → Keeps (O.contents writer.old.writer) (O.contents writer.new.writer) }
     ensures plain { length words.now ≤ 1 → EndsPlainly (I.remaining reader) (O.contents writer.old.writer) (O.contents writer.new.writer) result }
 {
     let mut program = Program::new(rt.alloc(), errors);
