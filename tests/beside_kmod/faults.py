@@ -132,7 +132,8 @@ def first_commands(output, configuration):
     for kind in (b"install", b"remove"):
         lines = commands(configuration, kind)
         for name, command in lines:
-            first = next(it for pattern, it in lines if matches(pattern, name))
+            # A name in brackets need not match itself.
+            first = next((it for pattern, it in lines if matches(pattern, name)), command)
             if first != command:
                 output = output.replace(kind + b" " + command, kind + b" " + first)
     return output
