@@ -83,13 +83,13 @@ third_version =
 
 good_values : list_all (λ word. are_valid (description_at third_version 0) (word ∷ [])) (
     codes "b=0xff" ∷ codes "s=-32768,32767,0" ∷ codes "s=007" ∷ codes "l=-9223372036854775808" ∷ codes "u=0XFFFFFFFFFFFFFFFF" ∷ codes "h=4294967295"
-    ∷ codes "i" ∷ codes "i=n" ∷ codes "f=Y,0" ∷ []
+    ∷ codes "i=n" ∷ codes "f=Y,0" ∷ []
     ) ≡ true
 good_values = refl
 
 bad_values : list_any (λ word. are_valid (description_at third_version 0) (word ∷ [])) (
     codes "b=256" ∷ codes "b=-1" ∷ codes "b" ∷ codes "s=1,,2" ∷ codes "s=1,2," ∷ codes "s=" ∷ codes "s" ∷ codes "s=32768" ∷ codes "l=9223372036854775808"
-    ∷ codes "u=18446744073709551616" ∷ codes "u=+1" ∷ codes "h=0x100000000" ∷ codes "h=0x" ∷ codes "i=maybe" ∷ codes "f" ∷ codes "f=y, n" ∷ []
+    ∷ codes "u=18446744073709551616" ∷ codes "u=+1" ∷ codes "h=0x100000000" ∷ codes "h=0x" ∷ codes "i=maybe" ∷ codes "i" ∷ codes "f" ∷ codes "f=y, n" ∷ []
     ) ≡ false
 bad_values = refl
 

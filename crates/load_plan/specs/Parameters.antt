@@ -88,10 +88,10 @@ takes_one Hexint value = is_unsigned 4294967295 value
 takes_one Boolean value = is_bool value
 takes_one Invbool value = is_bool value
 
--- whether a parameter of the type may stand without a value, which is then true
+-- whether a parameter of the type may stand without a value, which is then true: the types that kernel/params.c marks
+-- KERNEL_PARAM_OPS_FL_NOARG
 abbrev pub may_stand_alone : Scalar → Bool
 may_stand_alone Boolean = true
-may_stand_alone Invbool = true
 may_stand_alone _ = false
 
 abbrev pub is_comma : ℕ → Bool

@@ -117,7 +117,7 @@ fn takes_each(scalar: Scalar, values: &[u8]) -> bool
 fn may_stand_alone(scalar: Scalar) -> bool
     ensures { result ≡ may_stand_alone scalar }
 {
-    matches!(scalar, Scalar::Bool | Scalar::Invbool)
+    matches!(scalar, Scalar::Bool)
 }
 
 /// Whether a parameter takes a value, or no value.

@@ -129,7 +129,7 @@ const KIND_WORDS: [(&str, bool); 47] = [
     ("hexint=17", true),
     ("hexint=ff", false),
     ("hexint=0x100000000", false),
-    ("invbool", true),
+    ("invbool", false),
     ("invbool=N", true),
     ("invbool=2", false),
     ("invbool=", false),
