@@ -20,8 +20,7 @@ use std::marker::Model;
 /// The states of all slots, and the order of loading. Contracts see them as the definition's book.
 ///
 /// Its order has room for every slot, so that no load takes memory, and a module enters and leaves it in the same time
-/// however many are loaded. The catalogue is its caller's: each refusal that
-/// asks for needs or marks takes the slots.
+/// however many are loaded. The catalogue is its caller's: each refusal that asks for needs or marks takes the slots.
 #[derive(Drop)]
 pub struct Book {
     states: Vec<ModuleState>,

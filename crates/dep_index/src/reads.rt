@@ -1,7 +1,5 @@
-//! Reads of states, needs and the order of loading.
-ghost use Rattle.std.specs.Prelude.{◌≡◌, ◌==◌, not, find, slice_index_or, filter};
-ghost use Rattle.std.specs.List.{list_any};
-ghost use Rattle.std.specs.Vec.{vec_capacity};
+//! Reads of states and needs.
+ghost use Rattle.std.specs.Prelude.{◌≡◌, not, find, slice_index_or};
 ghost use Rattle.dep_index.specs.Table.{is_absent, is_loading, is_live, is_draining, is_unloading, needs_slot};
 
 use crate::slots::Slots;
@@ -65,19 +63,4 @@ pub fn needs_slot(slots: &Slots, slot: usize, user: u16) -> bool
 {
     let user = user as usize;
     user < slots.len() && slots.needs(user).iter().any(|need| *need as usize == slot)
-}
-
-/// Whether a module of the order needs the slot.
-pub fn has_users(slots: &Slots, order: &[u16], slot: usize) -> bool
-    ensures { result ≡ list_any (needs_slot slots.now slot) order.now }
-{
-    order.iter().any(|user| needs_slot(slots, slot, *user))
-}
-
-/// The slot leaves the order; the room stays.
-pub fn forget(order: &mut Vec<u16>, slot: usize)
-    ensures after { order.new.items ≡ filter (λ s. not (s == slot)) order.old.items }
-    ensures capacity { vec_capacity order.new ≡ vec_capacity order.old }
-{
-    order.retain(|other| *other as usize != slot);
 }
