@@ -149,14 +149,16 @@ module _ (draft : Draft) (o : Open) (m : ℕ) (x : Directive) (is : draft.last �
   change_meets (Err e) o' ls h = refused_also e _ _ change_refused h
 
 -- the open module stands behind the earlier ones
-pub closed_modules : (draft : Draft) (o : Open) (es : List (Vec ℕ Global × Details)) → draft.last ≡ Some o → IsSound draft
-    → es ≡ insert_entry (λ (a b : Vec ℕ Global). bytes_eq a.items b.items) draft.earlier.entries o.name o.details → descriptions_in es ++ [] ≡ modules_read draft
-closed_modules draft o es is sound after =
-    let fresh : has_name (descriptions_in draft.earlier.entries) o.name.items ≡ false = subst (λ l. IsNew (descriptions_in draft.earlier.entries) l) is sound.is_new in
-    let absent : lookup (λ (k : Vec ℕ Global). bytes_eq o.name.items k.items) draft.earlier.entries ≡ None = none_from _ (name_found o.name.items draft.earlier.entries ∙ fresh) in
+pub closed_modules : (draft : Draft) (o : Open) (entry : Vec ℕ Global × Details) (es : List (Vec ℕ Global × Details)) → draft.last ≡ Some o → IsSound draft → description_of entry ≡ open_in o
+    → es ≡ insert_entry (λ (a b : Vec ℕ Global). bytes_eq a.items b.items) draft.earlier.entries entry.0 entry.1 → descriptions_in es ++ [] ≡ modules_read draft
+closed_modules draft o entry es is sound same after =
+    let fresh : has_name (descriptions_in draft.earlier.entries) entry.0.items ≡ false =
+    ap (has_name (descriptions_in draft.earlier.entries)) (ap (λ (d : Description). d.name) same) ∙ subst (λ l. IsNew (descriptions_in draft.earlier.entries) l) is sound.is_new in
+    let absent : lookup (λ (k : Vec ℕ Global). bytes_eq entry.0.items k.items) draft.earlier.entries ≡ None = none_from _ (name_found entry.0.items draft.earlier.entries ∙ fresh) in
     append-nil (descriptions_in es)
-    ∙ ap descriptions_in (after ∙ insert_entry-new (λ (a b : Vec ℕ Global). bytes_eq a.items b.items) draft.earlier o.name o.details absent)
-    ∙ map-append description_of draft.earlier.entries ((o.name, o.details) ∷ [])
+    ∙ ap descriptions_in (after ∙ insert_entry-new (λ (a b : Vec ℕ Global). bytes_eq a.items b.items) draft.earlier entry.0 entry.1 absent)
+    ∙ map-append description_of draft.earlier.entries (entry ∷ [])
+    ∙ ap (λ d. descriptions_in draft.earlier.entries ++ d ∷ []) same
     ∙ ap (λ l. descriptions_in draft.earlier.entries ++ last_in l) (sym is)
 
 -- a module that begins, with none open before

@@ -17,3 +17,4 @@ pub mod NeedLemmas
 pub mod PathLemmas
 pub mod OrderLemmas
 pub mod UserLemmas
+pub mod ParamLemmas

@@ -28,4 +28,13 @@ descriptions_in entries = map description_of entries
 
 -- the module that is open, as a description
 abbrev pub open_in : Open → Description
-open_in open_module = description_in open_module.name.items open_module.details
+open_in open_module =
+    record {
+      name = open_module.name.items;
+      size = open_module.size;
+      exports = open_module.exports;
+      needed_symbols = open_module.needed_symbols;
+      params = open_module.params;
+      softneeds = open_module.softneeds.items;
+      permanent = open_module.permanent;
+    }

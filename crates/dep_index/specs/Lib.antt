@@ -17,3 +17,4 @@ pub mod Drafts
 pub mod Marks
 pub mod Kept
 pub mod Ordered
+pub mod ParamNames

@@ -1,11 +1,9 @@
 //! What the lines behind a `module` line say of it.
 ghost use Rattle.std.specs.Prelude.{◌≡◌, [], ◌∷◌, ◌++◌, Some, Ok, OnOk, MatchResult};
-ghost use Rattle.std.specs.List.{list_any};
-ghost use Rattle.std.specs.Str.{bytes_eq};
 ghost use Rattle.text_parts.specs.Text.{texts_of};
 ghost use Rattle.dep_index.specs.Catalogue.{described, sized, change};
 ghost use Rattle.dep_index.specs.Catalogue as spec;
-ghost use Rattle.dep_index.specs.Descriptions.{open_in};
+ghost use Rattle.dep_index.specs.Descriptions.{description_of, open_in};
 ghost use Rattle.dep_index.specs.Directives.{directive_in};
 ghost use Rattle.dep_index.specs.Exports.{export_links, change_links};
 ghost use Rattle.dep_index.specs.Faults.{IsMade};
@@ -13,11 +11,12 @@ ghost use Rattle.dep_index.specs.Faults.{IsMade};
 use crate::directives::Directive;
 use crate::exporters::Exporters;
 use crate::faults::Refused;
+use crate::param_list::ParamList;
 use crate::params::{Param, ParamKind};
 use crate::symbols::Symbols;
 use crate::versions::Version;
 use std::alloc::{AllocError, Global};
-use text_parts::{Name, is_same};
+use text_parts::Name;
 
 /// What a catalogue says of a module beside its name.
 #[derive(Drop)]
@@ -34,16 +33,12 @@ pub(crate) struct Details {
 #[derive(Drop)]
 pub(crate) struct Open {
     pub(crate) name: Vec<u8>,
-    pub(crate) details: Details,
-}
-
-/// Whether a parameter of the name stands already.
-fn has_param(params: &[Param], name: &[u8]) -> bool
-    ensures { result ≡ list_any (λ p. bytes_eq name.now p.name) params.now }
-{
-    params
-        .iter()
-        .any(|param| is_same(name, param.name.as_bytes()))
+    pub(crate) size: Option<u32>,
+    pub(crate) exports: Symbols,
+    pub(crate) needed_symbols: Symbols,
+    pub(crate) params: ParamList,
+    pub(crate) softneeds: Vec<Name>,
+    pub(crate) permanent: bool,
 }
 
 impl Open {
@@ -52,46 +47,74 @@ impl Open {
     {
         Open {
             name,
-            details: Details {
-                size: None,
-                exports: Symbols::new(alloc),
-                needed_symbols: Symbols::new(alloc),
-                params: Vec::new(alloc),
-                softneeds: Vec::new(alloc),
-                permanent: false,
-            },
+            size: None,
+            exports: Symbols::new(alloc),
+            needed_symbols: Symbols::new(alloc),
+            params: ParamList::new(alloc),
+            softneeds: Vec::new(alloc),
+            permanent: false,
         }
+    }
+
+    /// Its name, and what was said of it beside.
+    pub(crate) fn close(self) -> (Vec<u8>, Details)
+        ensures { description_of result ≡ open_in self }
+    {
+        let Open {
+            name,
+            size,
+            exports,
+            needed_symbols,
+            params,
+            softneeds,
+            permanent,
+        } = self;
+        let details = Details {
+            size,
+            exports,
+            needed_symbols,
+            params: params.into_vec(),
+            softneeds,
+            permanent,
+        };
+        (name, details)
     }
 
     fn set_size(&mut self, n: u32) -> Result<(), Refused>
         ensures { IsMade result (sized (open_in self.old) (open_in self.old).size n) (open_in self.new) }
     {
-        if self.details.size.is_some() {
+        if self.size.is_some() {
             return Err(Refused::Bad);
         }
-        self.details.size = Some(n);
+        self.size = Some(n);
         Ok(())
     }
 
     fn need(&mut self, symbols: &[&[u8]]) -> Result<(), AllocError>
         ensures { OnOk result (open_in self.new ≡ record (open_in self.old) { needed_symbols = (open_in self.old).needed_symbols ++ texts_of symbols.now }) }
     {
-        self.details.needed_symbols.push_all(symbols)
+        self.needed_symbols.push_all(symbols)
     }
 
     fn soften(&mut self, mut names: Vec<Name>) -> Result<(), AllocError>
         ensures { OnOk result (open_in self.new ≡ record (open_in self.old) { softneeds = (open_in self.old).softneeds ++ names.items }) }
     {
-        self.details.softneeds.append(&mut names)
+        self.softneeds.append(&mut names)
     }
 
-    fn define(&mut self, version: Version, name: Name, kind: ParamKind) -> Result<(), Refused>
+    fn define(
+        &mut self,
+        alloc: Global,
+        version: Version,
+        name: Name,
+        kind: ParamKind,
+    ) -> Result<(), Refused>
         ensures { IsMade result (change version [] (open_in self.old) (spec.param name kind)) (open_in self.new) }
     {
-        if !version.has_kind(kind) || has_param(&self.details.params, name.as_bytes()) {
+        if !version.has_kind(kind) || self.params.has(name.as_bytes()) {
             return Err(Refused::Bad);
         }
-        self.details.params.push(Param { name, kind })?;
+        self.params.push(alloc, Param { name, kind })?;
         Ok(())
     }
 
@@ -103,12 +126,12 @@ impl Open {
     ) -> Result<(), Refused>
         ensures { IsMade result (export_links exporters.old slot (open_in self.old) (texts_of symbols.now)) (open_in self.new, exporters.new) }
     {
-        self.details.exports.reserve(symbols)?;
+        self.exports.reserve(symbols)?;
         for symbol in symbols {
             if !exporters.add(symbol, slot)? {
                 return Err(Refused::TwiceExported);
             }
-            self.details.exports.push(symbol)?;
+            self.exports.push(symbol)?;
         }
         Ok(())
     }
@@ -116,6 +139,7 @@ impl Open {
     /// Takes what a line says of this module in the slot.
     pub(crate) fn change<'a>(
         &mut self,
+        alloc: Global,
         version: Version,
         exporters: &mut Exporters<'a>,
         slot: u16,
@@ -135,8 +159,8 @@ impl Open {
                 }
                 self.soften(names)?
             }
-            Directive::Param(name, kind) => self.define(version, name, kind)?,
-            Directive::Permanent => self.details.permanent = true,
+            Directive::Param(name, kind) => self.define(alloc, version, name, kind)?,
+            Directive::Permanent => self.permanent = true,
         }
         Ok(())
     }

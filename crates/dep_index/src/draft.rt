@@ -81,7 +81,8 @@ impl<'a> Draft<'a> {
         ensures closed { OnOk result (self.new.last ≡ None) }
         ensures exporters { self.new.exporters ≡ self.old.exporters }
     {
-        if let Some(Open { name, details }) = self.last.take() {
+        if let Some(open) = self.last.take() {
+            let (name, details) = open.close();
             self.earlier.insert(name, details)?;
         }
         Ok(())
@@ -116,7 +117,7 @@ impl<'a> Draft<'a> {
         Ok(())
     }
 
-    fn change(&mut self, directive: Directive<'_, 'a>) -> Result<(), Refused>
+    fn change(&mut self, alloc: Global, directive: Directive<'_, 'a>) -> Result<(), Refused>
         requires sound { IsSound self.old }
         ensures { let changed = change_last self.old.version [] (modules_read self.old) (directive_in directive.entry) in
             DraftIsMade result (with_modules (draft_in self.old) changed) self.new }
@@ -126,7 +127,7 @@ impl<'a> Draft<'a> {
         };
         self.begun = true;
         let slot = self.earlier.len() as u16;
-        open.change(self.version, &mut self.exporters, slot, directive)
+        open.change(alloc, self.version, &mut self.exporters, slot, directive)
     }
 
     fn apply(&mut self, alloc: Global, directive: Directive<'_, 'a>) -> Result<(), Refused>
@@ -136,7 +137,7 @@ impl<'a> Draft<'a> {
         match directive {
             Directive::Version(version) => self.set_version(version),
             Directive::Module(name) => self.begin(alloc, name),
-            other => self.change(other),
+            other => self.change(alloc, other),
         }
     }
 

@@ -15,6 +15,7 @@ mod faults;
 pub mod laws;
 mod needs;
 mod order;
+mod param_list;
 mod params;
 mod paths;
 pub mod reads;
