@@ -19,7 +19,7 @@ class Format:
 
 
 # The standard types of include/linux/moduleparam.h. There are arrays of all but charp.
-SCALARS = ["byte", "short", "ushort", "int", "uint", "long", "ulong", "hexint", "bool", "invbool"]
+SCALARS = ["byte", "short", "ushort", "int", "uint", "long", "ulong", "ullong", "hexint", "bool", "bint", "invbool"]
 WORDS = {it: it for it in [*SCALARS, "charp"]} | {f"array of {it}": f"{it}[]" for it in SCALARS}
 FORMATS = {
     2: Format(version=2, modules=1024, kinds={it: it for it in ("int", "bool", "charp")}),

@@ -69,9 +69,11 @@ scalar_of word =
     else (if bytes_eq word (codes "uint") then Some scalar.Uint
     else (if bytes_eq word (codes "long") then Some scalar.Long
     else (if bytes_eq word (codes "ulong") then Some scalar.Ulong
+    else (if bytes_eq word (codes "ullong") then Some scalar.Ullong
     else (if bytes_eq word (codes "hexint") then Some scalar.Hexint
     else (if bytes_eq word (codes "bool") then Some scalar.Bool
-    else (if bytes_eq word (codes "invbool") then Some scalar.Invbool else None)))))))))
+    else (if bytes_eq word (codes "bint") then Some scalar.Bint
+    else (if bytes_eq word (codes "invbool") then Some scalar.Invbool else None)))))))))))
 
 -- the word has `[]` at its end
 abbrev pub is_array : List ℕ → Bool

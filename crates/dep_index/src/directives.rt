@@ -119,10 +119,14 @@ fn scalar(word: &[u8]) -> Option<Scalar>
         Some(Scalar::Long)
     } else if is_same(word, b"ulong") {
         Some(Scalar::Ulong)
+    } else if is_same(word, b"ullong") {
+        Some(Scalar::Ullong)
     } else if is_same(word, b"hexint") {
         Some(Scalar::Hexint)
     } else if is_same(word, b"bool") {
         Some(Scalar::Bool)
+    } else if is_same(word, b"bint") {
+        Some(Scalar::Bint)
     } else if is_same(word, b"invbool") {
         Some(Scalar::Invbool)
     } else {

@@ -19,10 +19,14 @@ pub enum Scalar {
     Long,
     /// A whole number of 64 bits.
     Ulong,
+    /// A whole number of 64 bits, on every machine.
+    Ullong,
     /// A whole number of 32 bits, which the kernel shows in hexadecimal.
     Hexint,
     /// A truth value.
     Bool,
+    /// A truth value, which the kernel keeps in an `int`.
+    Bint,
     /// A truth value, which the kernel keeps turned round.
     Invbool,
 }

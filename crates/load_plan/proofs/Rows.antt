@@ -78,18 +78,18 @@ abbrev third_version : List Description
 third_version =
     catalogue (
     codes "version 3" ∷ codes "module a" ∷ codes "param b byte" ∷ codes "param s short[]" ∷ codes "param l long" ∷ codes "param u ulong"
-    ∷ codes "param h hexint" ∷ codes "param i invbool" ∷ codes "param f bool[]" ∷ []
+    ∷ codes "param h hexint" ∷ codes "param i invbool" ∷ codes "param f bool[]" ∷ codes "param m ullong" ∷ codes "param j bint" ∷ []
     )
 
 good_values : list_all (λ word. are_valid (description_at third_version 0) (word ∷ [])) (
     codes "b=0xff" ∷ codes "s=-32768,32767,0" ∷ codes "s=007" ∷ codes "l=-9223372036854775808" ∷ codes "u=0XFFFFFFFFFFFFFFFF" ∷ codes "h=4294967295"
-    ∷ codes "i=n" ∷ codes "f=Y,0" ∷ []
+    ∷ codes "i=n" ∷ codes "f=Y,0" ∷ codes "m=18446744073709551615" ∷ codes "j" ∷ codes "j=N" ∷ []
     ) ≡ true
 good_values = refl
 
 bad_values : list_any (λ word. are_valid (description_at third_version 0) (word ∷ [])) (
     codes "b=256" ∷ codes "b=-1" ∷ codes "b" ∷ codes "s=1,,2" ∷ codes "s=1,2," ∷ codes "s=" ∷ codes "s" ∷ codes "s=32768" ∷ codes "l=9223372036854775808"
-    ∷ codes "u=18446744073709551616" ∷ codes "u=+1" ∷ codes "h=0x100000000" ∷ codes "h=0x" ∷ codes "i=maybe" ∷ codes "i" ∷ codes "f" ∷ codes "f=y, n" ∷ []
+    ∷ codes "u=18446744073709551616" ∷ codes "u=+1" ∷ codes "h=0x100000000" ∷ codes "h=0x" ∷ codes "i=maybe" ∷ codes "i" ∷ codes "f" ∷ codes "f=y, n" ∷ codes "m=-1" ∷ codes "m" ∷ codes "j=2" ∷ []
     ) ≡ false
 bad_values = refl
 

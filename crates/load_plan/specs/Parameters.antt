@@ -8,7 +8,7 @@ use Rattle.dep_index.specs.Catalogue.{Description}
 use Rattle.dep_index.specs.declared.params.ParamKind.{ParamKind}
 use Rattle.dep_index.specs.declared.params.ParamKind.TheVariants.{Charp, One, Array}
 use Rattle.dep_index.specs.declared.params.Scalar.{Scalar}
-use Rattle.dep_index.specs.declared.params.Scalar.TheVariants.{Byte, Short, Ushort, Int, Uint, Long, Ulong, Hexint, Bool as Boolean, Invbool}
+use Rattle.dep_index.specs.declared.params.Scalar.TheVariants.{Byte, Short, Ushort, Int, Uint, Long, Ulong, Ullong, Hexint, Bool as Boolean, Bint, Invbool}
 use Rattle.dep_index.specs.declared.params.Param.{Param}
 use Rattle.load_plan.specs.declared.values.Base.{Base}
 use Rattle.load_plan.specs.declared.values.Base.TheVariants.{Decimal, Hexadecimal}
@@ -84,14 +84,17 @@ takes_one Int value = is_signed 2147483647 value
 takes_one Uint value = is_unsigned 4294967295 value
 takes_one Long value = is_signed 9223372036854775807 value
 takes_one Ulong value = is_unsigned 18446744073709551615 value
+takes_one Ullong value = is_unsigned 18446744073709551615 value
 takes_one Hexint value = is_unsigned 4294967295 value
 takes_one Boolean value = is_bool value
+takes_one Bint value = is_bool value
 takes_one Invbool value = is_bool value
 
 -- whether a parameter of the type may stand without a value, which is then true: the types that kernel/params.c marks
 -- KERNEL_PARAM_OPS_FL_NOARG
 abbrev pub may_stand_alone : Scalar → Bool
 may_stand_alone Boolean = true
+may_stand_alone Bint = true
 may_stand_alone _ = false
 
 abbrev pub is_comma : ℕ → Bool

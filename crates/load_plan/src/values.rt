@@ -100,8 +100,8 @@ fn takes_one(scalar: Scalar, value: &[u8]) -> bool
         Scalar::Int => is_signed(2_147_483_647, value),
         Scalar::Uint | Scalar::Hexint => is_unsigned(4_294_967_295, value),
         Scalar::Long => is_signed(9_223_372_036_854_775_807, value),
-        Scalar::Ulong => is_unsigned(18_446_744_073_709_551_615, value),
-        Scalar::Bool | Scalar::Invbool => is_bool(value),
+        Scalar::Ulong | Scalar::Ullong => is_unsigned(18_446_744_073_709_551_615, value),
+        Scalar::Bool | Scalar::Bint | Scalar::Invbool => is_bool(value),
     }
 }
 
@@ -117,7 +117,7 @@ fn takes_each(scalar: Scalar, values: &[u8]) -> bool
 fn may_stand_alone(scalar: Scalar) -> bool
     ensures { result ≡ may_stand_alone scalar }
 {
-    matches!(scalar, Scalar::Bool)
+    matches!(scalar, Scalar::Bool | Scalar::Bint)
 }
 
 /// Whether a parameter takes a value, or no value.

@@ -23,8 +23,10 @@ fn scalar_word(scalar: Scalar) -> &'static str {
         Scalar::Uint => "uint",
         Scalar::Long => "long",
         Scalar::Ulong => "ulong",
+        Scalar::Ullong => "ullong",
         Scalar::Hexint => "hexint",
         Scalar::Bool => "bool",
+        Scalar::Bint => "bint",
         Scalar::Invbool => "invbool",
     }
 }

@@ -4,7 +4,7 @@ use Rattle.std.specs.List.{join_with_byte}
 use Rattle.dep_index.specs.declared.params.ParamKind.{ParamKind}
 use Rattle.dep_index.specs.declared.params.ParamKind.TheVariants.{Charp, One, Array}
 use Rattle.dep_index.specs.declared.params.Scalar.{Scalar}
-use Rattle.dep_index.specs.declared.params.Scalar.TheVariants.{Byte, Short, Ushort, Int, Uint, Long, Ulong, Hexint, Bool, Invbool}
+use Rattle.dep_index.specs.declared.params.Scalar.TheVariants.{Byte, Short, Ushort, Int, Uint, Long, Ulong, Ullong, Hexint, Bool, Bint, Invbool}
 use Rattle.dep_index.specs.declared.params.Param.{Param}
 use Rattle.dep_index.specs.Catalogue.{Description, description_at, needs_of}
 use Rattle.proc_modules.specs.Listings.{left_in, name_of, names_of, size_of}
@@ -22,8 +22,10 @@ scalar_text Int = codes "int"
 scalar_text Uint = codes "uint"
 scalar_text Long = codes "long"
 scalar_text Ulong = codes "ulong"
+scalar_text Ullong = codes "ullong"
 scalar_text Hexint = codes "hexint"
 scalar_text Bool = codes "bool"
+scalar_text Bint = codes "bint"
 scalar_text Invbool = codes "invbool"
 
 -- a kind of parameter as a catalogue writes it

@@ -21,8 +21,10 @@ fn scalar_text(scalar: Scalar) -> &'static [u8]
         Scalar::Uint => b"uint",
         Scalar::Long => b"long",
         Scalar::Ulong => b"ulong",
+        Scalar::Ullong => b"ullong",
         Scalar::Hexint => b"hexint",
         Scalar::Bool => b"bool",
+        Scalar::Bint => b"bint",
         Scalar::Invbool => b"invbool",
     }
 }

@@ -17,8 +17,10 @@ fn scalar_text(scalar: Scalar) -> &'static [u8] {
         Scalar::Uint => b" uint",
         Scalar::Long => b" long",
         Scalar::Ulong => b" ulong",
+        Scalar::Ullong => b" ullong",
         Scalar::Hexint => b" hexint",
         Scalar::Bool => b" bool",
+        Scalar::Bint => b" bint",
         Scalar::Invbool => b" invbool",
     }
 }
@@ -113,13 +115,13 @@ const MODULES: [(&str, &[u8], &[u8]); 7] = [
     ),
     (
         "version 3 has softneeds, and all kinds of parameters",
-        b"version 3\nmodule a\nsoftneeds b\nparam c charp\nparam b byte\nparam s short\nparam t ushort\nparam i int\nparam u uint\nparam l long\nparam m ulong\nparam h hexint\nparam f bool\nparam g invbool\n",
-        b"a: size 0, needs [], softneeds b, param c charp, param b byte, param s short, param t ushort, param i int, param u uint, param l long, param m ulong, param h hexint, param f bool, param g invbool\n",
+        b"version 3\nmodule a\nsoftneeds b\nparam c charp\nparam b byte\nparam s short\nparam t ushort\nparam i int\nparam u uint\nparam l long\nparam m ulong\nparam n ullong\nparam h hexint\nparam f bool\nparam j bint\nparam g invbool\n",
+        b"a: size 0, needs [], softneeds b, param c charp, param b byte, param s short, param t ushort, param i int, param u uint, param l long, param m ulong, param n ullong, param h hexint, param f bool, param j bint, param g invbool\n",
     ),
     (
         "version 3 has arrays of all kinds but texts",
-        b"version 3\nmodule a\nparam b byte[]\nparam s short[]\nparam t ushort[]\nparam i int[]\nparam u uint[]\nparam l long[]\nparam m ulong[]\nparam h hexint[]\nparam f bool[]\nparam g invbool[]\n",
-        b"a: size 0, needs [], softneeds, param b byte array, param s short array, param t ushort array, param i int array, param u uint array, param l long array, param m ulong array, param h hexint array, param f bool array, param g invbool array\n",
+        b"version 3\nmodule a\nparam b byte[]\nparam s short[]\nparam t ushort[]\nparam i int[]\nparam u uint[]\nparam l long[]\nparam m ulong[]\nparam n ullong[]\nparam h hexint[]\nparam f bool[]\nparam j bint[]\nparam g invbool[]\n",
+        b"a: size 0, needs [], softneeds, param b byte array, param s short array, param t ushort array, param i int array, param u uint array, param l long array, param m ulong array, param n ullong array, param h hexint array, param f bool array, param j bint array, param g invbool array\n",
     ),
 ];
 

@@ -84,10 +84,10 @@ fn texts_and_names_with_a_dash(rt: HostRuntime) {
 
 /// Two modules: one has a parameter of each kind of version 3, by the kind's name, and the other has their arrays.
 const KINDS: &[u8] =
-    b"version 3\nmodule one\nparam byte byte\nparam short short\nparam ushort ushort\nparam int int\nparam uint uint\nparam long long\nparam ulong ulong\nparam hexint hexint\nparam bool bool\nparam invbool invbool\nmodule many\nparam byte byte[]\nparam short short[]\nparam ulong ulong[]\nparam bool bool[]\n";
+    b"version 3\nmodule one\nparam byte byte\nparam short short\nparam ushort ushort\nparam int int\nparam uint uint\nparam long long\nparam ulong ulong\nparam ullong ullong\nparam hexint hexint\nparam bool bool\nparam bint bint\nparam invbool invbool\nmodule many\nparam byte byte[]\nparam short short[]\nparam ulong ulong[]\nparam bool bool[]\n";
 
 /// A word, and whether the first module takes it.
-const KIND_WORDS: [(&str, bool); 47] = [
+const KIND_WORDS: [(&str, bool); 56] = [
     ("byte=0", true),
     ("byte=255", true),
     ("byte=0xfF", true),
@@ -134,6 +134,15 @@ const KIND_WORDS: [(&str, bool); 47] = [
     ("invbool=2", false),
     ("invbool=", false),
     ("bool", true),
+    ("ullong=18446744073709551615", true),
+    ("ullong=0xFFFFFFFFFFFFFFFF", true),
+    ("ullong=18446744073709551616", false),
+    ("ullong=-1", false),
+    ("ullong", false),
+    ("bint", true),
+    ("bint=N", true),
+    ("bint=2", false),
+    ("bint=", false),
     ("byte=1,2", false),
 ];
 
