@@ -11,7 +11,7 @@ use Rattle.std.proofs.lemmas.Map.Made.{is_some-lookup}
 use Rattle.indexmap.specs.IndexMap.{insert_entry}
 use Rattle.indexmap.proofs.CallerLemmas.{insert_entry-new}
 use Rattle.dep_index.specs.Catalogue as spec
-use Rattle.dep_index.specs.Catalogue.{Description, Refusal, Directive, bad, duplicate, twice_exported, too_many, version, begin, size, exports, needs, softneeds, param, permanent, has_name, is_exported, exports_symbol, change, change_last, export_each, sized, with_last, with_modules, described, most_modules, has_kind, limit, apply}
+use Rattle.dep_index.specs.Catalogue.{Description, Refusal, Directive, bad, duplicate, twice_exported, too_many, version, begin, size, exports, needs, softneeds, param, permanent, has_name, is_exported, exports_symbol, change, change_last, export_each, sized, with_last, with_modules, described, most_modules, has_kind, defined, limit, apply}
 use Rattle.dep_index.specs.declared.versions.Version.{Version}
 use Rattle.dep_index.specs.declared.versions.Version.TheVariants as text
 use Rattle.dep_index.specs.declared.details.Details.{Details}
@@ -94,11 +94,11 @@ keeps_name text.Two es last (softneeds ns) d h = named last (record last { softn
 keeps_name text.Three es last (softneeds ns) d h = named last (record last { softneeds = last.softneeds ++ ns }) d refl h
 keeps_name v es last (param name kind) d h = at (not (has_kind v kind) || list_any (λ p. bytes_eq name p.name) last.params) h where
   more : Description
-  more = record last { params = last.params ++ (record { name = name; kind = kind } ∷ []) }
+  more = record last { params = last.params ++ (defined v name kind ∷ []) }
 
-  at : (b : Bool) → cond b (Err bad) (Ok (record last { params = last.params ++ (record { name = name; kind = kind } ∷ []) })) ≡ Ok d → d.name ≡ last.name
+  at : (b : Bool) → cond b (Err bad) (Ok (record last { params = last.params ++ (defined v name kind ∷ []) })) ≡ Ok d → d.name ≡ last.name
   at true k = absurd (cc)
-  at false k = named last (record last { params = last.params ++ (record { name = name; kind = kind } ∷ []) }) d refl k
+  at false k = named last (record last { params = last.params ++ (defined v name kind ∷ []) }) d refl k
 keeps_name v es last permanent d h = named last (record last { permanent = true }) d refl h
 
 -- the draft with its open module changed

@@ -5,7 +5,7 @@ use Rattle.std.specs.Str.{bytes_eq}
 use Rattle.std.proofs.lemmas.Bool.Decides.{nat_tests}
 use Rattle.std.proofs.lemmas.List.{append_assoc, append-nil, map-append}
 use Rattle.std.proofs.lemmas.List.Folds.{list_any-append}
-use Rattle.dep_index.specs.Catalogue.{Description, Refusal, Directive, twice_exported, bad, version, begin, size, exports, needs, softneeds, param, permanent, exports_symbol, is_exported, exporter, has_kind, change, export_each, sized}
+use Rattle.dep_index.specs.Catalogue.{Description, Refusal, Directive, twice_exported, bad, version, begin, size, exports, needs, softneeds, param, permanent, exports_symbol, is_exported, exporter, has_kind, defined, change, export_each, sized}
 use Rattle.dep_index.specs.declared.versions.Version.{Version}
 use Rattle.dep_index.specs.declared.versions.Version.TheVariants as text
 use Rattle.dep_index.specs.Exports.{Link, slot_at, links_from, links_of, export_links, with_links, change_links}
@@ -121,9 +121,9 @@ change_linked text.One earlier last (softneeds ns) = refl
 change_linked text.Two earlier last (softneeds ns) = kept earlier last (record last { softneeds = last.softneeds ++ ns }) refl
 change_linked text.Three earlier last (softneeds ns) = kept earlier last (record last { softneeds = last.softneeds ++ ns }) refl
 change_linked v earlier last (param name kind) =
-    elim (not (has_kind v kind) || list_any (λ p. bytes_eq name p.name) last.params) as (λ t. with_links (links_of (earlier ++ last ∷ [])) (cond t (Err bad) (Ok (record last { params = last.params ++ (record { name = name; kind = kind } ∷ []) })))
-    ≡ linked earlier (cond t (Err bad) (Ok (record last { params = last.params ++ (record { name = name; kind = kind } ∷ []) })))) [
+    elim (not (has_kind v kind) || list_any (λ p. bytes_eq name p.name) last.params) as (λ t. with_links (links_of (earlier ++ last ∷ [])) (cond t (Err bad) (Ok (record last { params = last.params ++ (defined v name kind ∷ []) })))
+    ≡ linked earlier (cond t (Err bad) (Ok (record last { params = last.params ++ (defined v name kind ∷ []) })))) [
       | true ↦ refl
-      | false ↦ kept earlier last (record last { params = last.params ++ (record { name = name; kind = kind } ∷ []) }) refl
+      | false ↦ kept earlier last (record last { params = last.params ++ (defined v name kind ∷ []) }) refl
     ]
 change_linked v earlier last permanent = kept earlier last (record last { permanent = true }) refl

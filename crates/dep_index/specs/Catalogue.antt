@@ -170,6 +170,16 @@ has_kind text.One kind = is_first_kind kind
 has_kind text.Two kind = is_first_kind kind
 has_kind text.Three kind = true
 
+-- quotes round the value of a text's parameter are no part of it
+abbrev pub drops_quotes : Version → Bool
+drops_quotes text.One = false
+drops_quotes text.Two = false
+drops_quotes text.Three = true
+
+-- a parameter that a line of the text defines
+abbrev pub defined : Version → List ℕ → ParamKind → Param
+defined v name kind = record { name = name; kind = kind; drops_quotes = drops_quotes v }
+
 -- what was read so far: whether a line that is not ignored came, the version of the text, and the descriptions in
 -- order, the last one open
 pub record Draft : Type 0 where
@@ -235,7 +245,7 @@ change v earlier last (softneeds ns) =
 change v earlier last (param name kind) =
     if not (has_kind v kind) || list_any (λ p. bytes_eq name p.name) last.params
     then Err bad
-    else Ok (record last { params = last.params ++ (record { name = name; kind = kind } ∷ []) })
+    else Ok (record last { params = last.params ++ (defined v name kind ∷ []) })
 change v earlier last permanent = Ok (record last { permanent = true })
 
 -- the last of the modules changes; where there is none the line is bad

@@ -114,7 +114,13 @@ impl Open {
         if !version.has_kind(kind) || self.params.has(name.as_bytes()) {
             return Err(Refused::Bad);
         }
-        self.params.push(alloc, Param { name, kind })?;
+        let drops_quotes = version.drops_quotes();
+        let param = Param {
+            name,
+            kind,
+            drops_quotes,
+        };
+        self.params.push(alloc, param)?;
         Ok(())
     }
 

@@ -49,4 +49,6 @@ pub struct Param {
     pub name: Name,
     /// What values it takes.
     pub kind: ParamKind,
+    /// Whether it takes its value without the quotes round it, as in a text of version 3.
+    pub drops_quotes: bool,
 }

@@ -1,6 +1,6 @@
 //! The versions of a catalogue text.
 ghost use Rattle.std.specs.Prelude.{◌≡◌};
-ghost use Rattle.dep_index.specs.Catalogue.{most_modules, has_softneeds, has_kind};
+ghost use Rattle.dep_index.specs.Catalogue.{most_modules, has_softneeds, has_kind, drops_quotes};
 
 use crate::params::{ParamKind, Scalar};
 
@@ -42,6 +42,16 @@ impl Version {
                 ParamKind::Charp | ParamKind::One(Scalar::Int | Scalar::Bool) => true,
                 ParamKind::One(_) | ParamKind::Array(_) => false,
             },
+            Version::Three => true,
+        }
+    }
+
+    /// Whether quotes round the value of a parameter are no part of it.
+    pub(crate) fn drops_quotes(self) -> bool
+        ensures { result ≡ drops_quotes self }
+    {
+        match self {
+            Version::One | Version::Two => false,
             Version::Three => true,
         }
     }

@@ -1,5 +1,5 @@
 -- Which words of a command are good values of a module's parameters, as init_module(2) takes them.
-use Rattle.std.specs.Prelude.{ℕ, ◌+◌, ◌-◌, ◌*◌, Bool, true, false, if◌then◌else◌, ◌&&◌, ◌||◌, ◌==◌, nat_le, List, [], ◌∷◌, drop, position, Option, Some, None}
+use Rattle.std.specs.Prelude.{ℕ, ◌+◌, ◌-◌, ◌*◌, Bool, true, false, if◌then◌else◌, ◌&&◌, ◌||◌, ◌==◌, nat_le, List, [], ◌∷◌, length, codes, take, drop, position, Option, Some, None}
 use Rattle.std.specs.List.{list_all, before_first, slice_split}
 use Rattle.std.specs.Option.{option_map}
 use Rattle.std.specs.Str.{bytes_eq}
@@ -97,6 +97,21 @@ may_stand_alone Boolean = true
 may_stand_alone Bint = true
 may_stand_alone _ = false
 
+-- a value without a quote at its end
+abbrev pub without_last_quote : List ℕ → List ℕ
+without_last_quote value =
+    if bytes_eq (drop (length value - 1) value) (codes "\"") then take (length value - 1) value else value
+
+-- a value without the quotes round it, as next_arg of lib/cmdline.c takes them off: one that it begins with, and then
+-- one that it ends with
+abbrev pub without_quotes : List ℕ → List ℕ
+without_quotes [] = []
+without_quotes (byte ∷ bytes) = if byte == 34 then without_last_quote bytes else byte ∷ bytes
+
+-- the value as the parameter takes it
+abbrev pub as_taken : Param → Option (List ℕ) → Option (List ℕ)
+as_taken p value = if p.drops_quotes then option_map without_quotes value else value
+
 abbrev pub is_comma : ℕ → Bool
 is_comma byte = byte == 44
 
@@ -112,7 +127,7 @@ takes (Array scalar) (Some value) = list_all (takes_one scalar) (slice_split is_
 -- a parameter that the module does not define is ignored
 abbrev pub takes_named : List Param → List ℕ → Option (List ℕ) → Bool
 takes_named [] name value = true
-takes_named (p ∷ ps) name value = if bytes_eq name p.name then takes p.kind value else takes_named ps name value
+takes_named (p ∷ ps) name value = if bytes_eq name p.name then takes p.kind (as_taken p value) else takes_named ps name value
 
 abbrev pub is_valid_word : List Param → List ℕ → Bool
 is_valid_word params word = takes_named params (normal_form (name_of word)) (value_of word)

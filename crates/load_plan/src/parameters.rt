@@ -7,7 +7,7 @@ ghost use Rattle.text_parts.specs.Text.{normal_form, texts_of};
 ghost use Rattle.dep_index.specs.Catalogue.{description_at};
 ghost use Rattle.load_plan.specs.Parameters.{are_valid, is_equals, is_valid_word, name_of, takes_named, value_of};
 
-use crate::values::takes;
+use crate::values::{as_taken, takes};
 use dep_index::{Catalogue, Param};
 
 fn equals_at(word: &[u8]) -> Option<usize>
@@ -51,7 +51,7 @@ fn takes_word(params: &[Param], word: &[u8]) -> bool
     let (name, value) = split_word(word);
     for param in params {
         if is_named(name, param.name.as_bytes()) {
-            return takes(param.kind, value);
+            return takes(param.kind, as_taken(param, value));
         }
     }
     true

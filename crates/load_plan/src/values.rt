@@ -2,9 +2,10 @@
 ghost use Rattle.std.specs.Prelude.{◌≡◌, ◌<◌, ◌≤◌, ◌^◌, IfSome};
 ghost use Rattle.std.specs.List.{list_all, slice_split};
 ghost use Rattle.std.specs.Option.{option_copied, option_map};
-ghost use Rattle.load_plan.specs.Parameters.{at_most, digit_of, is_bool, is_comma, is_signed, is_unsigned, magnitude, may_stand_alone, number_of, radix, takes, takes_one};
+ghost use Rattle.load_plan.specs.Parameters.{as_taken, at_most, digit_of, is_bool, is_comma, is_signed, is_unsigned, magnitude, may_stand_alone, number_of, radix, takes, takes_one, without_last_quote, without_quotes};
 
-use dep_index::{ParamKind, Scalar};
+use dep_index::{Param, ParamKind, Scalar};
+use text_parts::is_same;
 
 /// The base of a number's digits.
 #[derive(Clone, Copy, Debug, PartialEq, Eq)]
@@ -118,6 +119,34 @@ fn may_stand_alone(scalar: Scalar) -> bool
     ensures { result ≡ may_stand_alone scalar }
 {
     matches!(scalar, Scalar::Bool | Scalar::Bint)
+}
+
+/// The value without a quote at its end.
+fn without_last_quote(value: &[u8]) -> &[u8]
+    ensures { result.now ≡ without_last_quote value.entry.now }
+{
+    let (front, back) = value.split_at(value.len().saturating_sub(1));
+    if is_same(back, b"\"") { front } else { value }
+}
+
+/// The value without the quotes round it, as the kernel takes them off.
+fn without_quotes(value: &[u8]) -> &[u8]
+    ensures { result.now ≡ without_quotes value.entry.now }
+{
+    match value.split_first() {
+        Some((b'"', bytes)) => without_last_quote(bytes),
+        _ => value,
+    }
+}
+
+/// The value as the parameter takes it.
+pub(crate) fn as_taken<'a>(param: &Param, value: Option<&'a [u8]>) -> Option<&'a [u8]>
+    ensures { option_map (λ bytes. bytes.now) result ≡ as_taken param.now (option_map (λ bytes. bytes.now) value.entry) }
+{
+    match value {
+        Some(value) if param.drops_quotes => Some(without_quotes(value)),
+        _ => value,
+    }
 }
 
 /// Whether a parameter takes a value, or no value.

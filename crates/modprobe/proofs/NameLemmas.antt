@@ -8,7 +8,7 @@ use Rattle.std.proofs.lemmas.List.{length-map}
 use Rattle.std.proofs.lemmas.Bool.{false≢true, leb-true}
 use Rattle.dep_index.specs.declared.params.ParamKind.{ParamKind}
 use Rattle.text_parts.specs.Text.{is_name, normal_form, number_within, is_comment, words}
-use Rattle.dep_index.specs.Catalogue.{Description, described, Directive, version, begin, size, exports, needs, softneeds, param, permanent, Refusal, bad, duplicate, twice_exported, too_many, has_name, has_softneeds, has_kind, limit, is_exported, exports_symbol, kind_of, with_size, with_kind, begin_of, size_of, some_symbols, some_names, param_of, alone, version_of, directive_of, Draft, no_draft, sized, with_last, export_each, change, change_last, with_modules, apply, apply_some, read_words, read_line, then_lines, read_lines, modules_read, catalogue_of}
+use Rattle.dep_index.specs.Catalogue.{Description, described, Directive, version, begin, size, exports, needs, softneeds, param, permanent, Refusal, bad, duplicate, twice_exported, too_many, has_name, has_softneeds, has_kind, defined, limit, is_exported, exports_symbol, kind_of, with_size, with_kind, begin_of, size_of, some_symbols, some_names, param_of, alone, version_of, directive_of, Draft, no_draft, sized, with_last, export_each, change, change_last, with_modules, apply, apply_some, read_words, read_line, then_lines, read_lines, modules_read, catalogue_of}
 
 -- each name is short
 abbrev Names : List Description → Type 0
@@ -137,7 +137,7 @@ change-name draft earlier last (size n) = sized-name last last.size n
 change-name draft earlier last (exports ss) = export-name last earlier ss last.name refl
 change-name draft earlier last (needs ss) = refl
 change-name draft earlier last (softneeds ns) = pick (KeepsName last.name) (has_softneeds draft.version) (Ok (record last { softneeds = last.softneeds ++ ns })) (Err bad) refl tt
-change-name draft earlier last (param name kind) = pick (KeepsName last.name) (not (has_kind draft.version kind) || list_any (λ p. bytes_eq name p.name) last.params) (Err bad) (Ok (record last { params = last.params ++ (record { name = name; kind = kind } ∷ []) })) tt refl
+change-name draft earlier last (param name kind) = pick (KeepsName last.name) (not (has_kind draft.version kind) || list_any (λ p. bytes_eq name p.name) last.params) (Err bad) (Ok (record last { params = last.params ++ (defined draft.version name kind ∷ []) })) tt refl
 change-name draft earlier last permanent = refl
 
 with_last-names : (earlier : List Description) (name : List ℕ) (r : Result Description Refusal) → Names earlier → length name ≤ 55 → KeepsName name r → GoodList (with_last earlier r)

@@ -23,7 +23,7 @@ fn takes(alloc: Global, catalogue: &[u8], slot: usize, words: &[&[u8]]) -> Optio
 }
 
 /// A word behind another one, and whether the second module takes both.
-const LEVEL_WORDS: [(&str, bool); 26] = [
+const LEVEL_WORDS: [(&str, bool); 28] = [
     ("debug", true),
     ("debug=Y", true),
     ("debug=0", true),
@@ -50,6 +50,8 @@ const LEVEL_WORDS: [(&str, bool); 26] = [
     ("level=--1", false),
     ("level=99999999999999999999999999", false),
     ("level=1=2", false),
+    ("level=\"3\"", false),
+    ("debug=\"y\"", false),
 ];
 
 #[test]
@@ -87,7 +89,7 @@ const KINDS: &[u8] =
     b"version 3\nmodule one\nparam byte byte\nparam short short\nparam ushort ushort\nparam int int\nparam uint uint\nparam long long\nparam ulong ulong\nparam ullong ullong\nparam hexint hexint\nparam bool bool\nparam bint bint\nparam invbool invbool\nmodule many\nparam byte byte[]\nparam short short[]\nparam ulong ulong[]\nparam bool bool[]\n";
 
 /// A word, and whether the first module takes it.
-const KIND_WORDS: [(&str, bool); 56] = [
+const KIND_WORDS: [(&str, bool); 65] = [
     ("byte=0", true),
     ("byte=255", true),
     ("byte=0xfF", true),
@@ -144,6 +146,15 @@ const KIND_WORDS: [(&str, bool); 56] = [
     ("bint=2", false),
     ("bint=", false),
     ("byte=1,2", false),
+    ("int=\"3\"", true),
+    ("int=\"3", true),
+    ("int=3\"", false),
+    ("int=\"\"", false),
+    ("int=\"", false),
+    ("int=\"\"3\"\"", false),
+    ("int=\"1 2\"", false),
+    ("invbool=\"N\"", true),
+    ("bool=\"\"", false),
 ];
 
 #[test]
@@ -156,7 +167,7 @@ fn kinds_of_version_3(rt: HostRuntime) {
 }
 
 /// A word, and whether the module of the arrays takes it.
-const ARRAY_WORDS: [(&str, bool); 16] = [
+const ARRAY_WORDS: [(&str, bool); 18] = [
     ("byte=7", true),
     ("byte=0,255,0x10", true),
     ("byte=0,256,1", false),
@@ -167,6 +178,8 @@ const ARRAY_WORDS: [(&str, bool); 16] = [
     ("byte=,1", false),
     ("byte=1,,2", false),
     ("byte=1, 2", false),
+    ("byte=\"1,2\"", true),
+    ("byte=\"1\",\"2\"", false),
     ("short=-1,1", true),
     ("ulong=18446744073709551615,0", true),
     ("bool=y,N,0", true),
