@@ -21,7 +21,7 @@ use Rattle.alias_match.specs.ForProofs.{KeepsEach, is_match_at, is_some_match, m
 use Rattle.alias_match.proofs.Deciding.{match_yes}
 use Rattle.alias_match.proofs.Members.{told, nothing_in, kept_by_filter, passes_filter}
 use Rattle.alias_match.proofs.Walked.{has_place}
-use Rattle.alias_match.proofs.Rising.{rising_matches, rising_places}
+use Rattle.alias_match.proofs.Rising.{matches_taken}
 
 less_of : (n k : ℕ) → suc n ≤ suc k → nat_eq n k ≡ false → suc n ≤ k
 less_of n k le apart = omega (arith, other)
@@ -101,12 +101,7 @@ sorted_each numbers aliases text given sorted once keeps is same distinct i = (
 )
 
 -- what is at the places of matches
-pub matching_found : (result : Result (Vec (Bor Alias) Global) AllocError) (entries aliases : List Alias) (text places at : List ℕ) → IfOk result (λ found. map (λ alias. alias.now) found.items ≡ filter_map (slice_get entries) at) → entries ≡ aliases → at ≡ places → IsStrictlyIncreasing places → ((i : ℕ) → Contains places i ↔ (is_match_at aliases text i ≡ true)) → IfOk result (λ found. map (λ alias. alias.now) found.items ≡ matching aliases text)
-matching_found (Err e) entries aliases text places at h same here rising each = tt
-matching_found (Ok found) entries aliases text places at h same here rising each =
-    h ∙ ap (λ l. filter_map (slice_get l) at) same ∙ ap (filter_map (slice_get aliases)) here ∙ rising_matches aliases text places rising each
-
--- the places of matches
-pub places_found : (result : Result (Vec ℕ Global) AllocError) (aliases : List Alias) (text : List ℕ) → IfOk result (λ places. IsStrictlyIncreasing places.items) → IfOk result (λ places. (i : ℕ) → Contains places.items i ↔ (is_match_at aliases text i ≡ true)) → IfOk result (λ places. places.items ≡ matching_places aliases text)
-places_found (Err e) aliases text rising each = tt
-places_found (Ok places) aliases text rising each = rising_places aliases text places.items rising each
+pub matching_found : (result : Result (Vec (Bor Alias) Global) AllocError) (entries aliases : List Alias) (text places : List ℕ) → IfOk result (λ found. map (λ alias. alias.now) found.items ≡ filter_map (slice_get entries) places) → entries ≡ aliases → places ≡ matching_places aliases text → IfOk result (λ found. map (λ alias. alias.now) found.items ≡ matching aliases text)
+matching_found (Err e) entries aliases text places h same here = tt
+matching_found (Ok found) entries aliases text places h same here =
+    h ∙ ap (λ l. filter_map (slice_get l) places) same ∙ ap (filter_map (slice_get aliases)) here ∙ matches_taken aliases text

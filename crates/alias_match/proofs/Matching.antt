@@ -1,5 +1,7 @@
 -- The laws by which a walk with one place to return to decides whether a pattern matches.
-use Rattle.std.proofs.Common.{◌≡◌, ℕ, ◌≤◌, ◌⊎◌, inl, inr, true, false, nat_eq, Option, Some, None, List, [], ◌∷◌, ◌++◌, length, refl, sym, ◌∙◌, ap, subst, arith, eqb-true, eq-eqb}
+use Rattle.std.proofs.Common.{◌≡◌, ℕ, suc, ◌≤◌, ◌⊎◌, inl, inr, Bool, true, false, not, nat_eq, drop, Option, Some, None, List, [], ◌∷◌, ◌++◌, length, refl, sym, ◌∙◌, ap, subst, arith, eqb-true, eq-eqb}
+use Rattle.std.specs.List.{prefix_len}
+use Rattle.alias_match.specs.ForProofs.{count_before, next_end}
 use Rattle.alias_match.specs.Pattern.{Piece, byte, any_byte, run, one_of, Matches, holds}
 
 -- u is an end of s
@@ -216,8 +218,39 @@ Keeps-over {all} {text} {back} {ps} {s} k over stuck m =
     let k1 : Keeps all text back ps [] = subst (λ x. Keeps all text back ps x) over k in
     elim (k1.onward m) [ inl now ↦ stuck now | inr old ↦ Later-none back ps k1.way stuck old ]
 
-pub Keeps-again : {all : List Piece} {text : List ℕ} {back : Option Place} {a c ps : List Piece} {t u s : List ℕ} → Keeps all text back ps s → (b : ℕ) → back ≡ Some (a, t) → t ≡ b ∷ u → c ≡ a → IsStuck ps s → Keeps all text (Some (c, u)) c u
-Keeps-again {all} {text} {back} {a} {c} {ps} {t} {u} {s} k b place split same stuck =
-    let e : back ≡ Some (c, b ∷ u) = cc in
-    let k1 : Keeps all text (Some (c, b ∷ u)) ps s = subst (λ x. Keeps all text x ps s) e k in
-    Keeps-back k1 stuck
+told : (b : Bool) → (b ≡ true) ⊎ (b ≡ false)
+told true = inl refl
+told false = inr refl
+
+none_before : (own b : ℕ) (s : List ℕ) → nat_eq own b ≡ true → count_before own (b ∷ s) ≡ 0
+none_before own b s t = rw t refl
+
+one_before : (own b : ℕ) (s : List ℕ) → nat_eq own b ≡ false → count_before own (b ∷ s) ≡ suc (count_before own s)
+one_before own b s f = rw f (omega arith)
+
+-- where the pieces begin with a byte, no end is a match before the first that begins with it
+Keeps-skip : {all : List Piece} {text : List ℕ} (own : ℕ) (ps : List Piece) (s : List ℕ) → Keeps all text (Some (byte own ∷ ps, s)) (byte own ∷ ps) s → Keeps all text (Some (byte own ∷ ps, drop (count_before own s) s)) (byte own ∷ ps) (drop (count_before own s) s)
+Keeps-skip own ps [] k = k
+Keeps-skip {all} {text} own ps (b ∷ s) k = elim (told (nat_eq own b)) [
+  | inl t ↦ subst (λ n. Keeps all text (Some (byte own ∷ ps, drop n (b ∷ s))) (byte own ∷ ps) (drop n (b ∷ s))) (sym (none_before own b s t)) k
+  | inr f ↦
+      subst (λ n. Keeps all text (Some (byte own ∷ ps, drop n (b ∷ s))) (byte own ∷ ps) (drop n (b ∷ s))) (sym (one_before own b s f))
+      (Keeps-skip own ps s (Keeps-back k (no_match (byte own) ps b s tt f)))
+]
+
+Keeps-next : {all : List Piece} {text : List ℕ} (ps : List Piece) (s : List ℕ) → Keeps all text (Some (ps, s)) ps s → Keeps all text (Some (ps, next_end ps s)) ps (next_end ps s)
+Keeps-next [] s k = k
+Keeps-next (byte own ∷ ps) s k = Keeps-skip own ps s k
+Keeps-next (any_byte ∷ ps) s k = k
+Keeps-next (run ∷ ps) s k = k
+Keeps-next (one_of negated members ∷ ps) s k = k
+
+pub Keeps-behind : {all : List Piece} {text : List ℕ} {back : Option Place} {ps qs : List Piece} {s t : List ℕ} → Keeps all text back (run ∷ ps) s → t ≡ next_end ps s → qs ≡ ps → Keeps all text (Some (ps, t)) qs t
+Keeps-behind {all} {text} {back} {ps} {qs} {s} {t} k is same =
+    rw (is, same) (Keeps-next ps s (Keeps-run k))
+
+pub Keeps-again : {all : List Piece} {text : List ℕ} {back : Option Place} {a c ps : List Piece} {t u s v : List ℕ} → Keeps all text back ps s → (b : ℕ) → back ≡ Some (a, t) → t ≡ b ∷ u → c ≡ a → v ≡ next_end a u → IsStuck ps s → Keeps all text (Some (c, v)) c v
+Keeps-again {all} {text} {back} {a} {c} {ps} {t} {u} {s} {v} k b place split same is stuck =
+    let e : back ≡ Some (a, b ∷ u) = cc in
+    let k1 : Keeps all text (Some (a, b ∷ u)) ps s = subst (λ x. Keeps all text x ps s) e k in
+    rw (same, is) (Keeps-next a u (Keeps-back k1 stuck))

@@ -126,7 +126,6 @@ rising_places aliases text places rising each =
     (λ x m. let r : (i : ℕ) × (x ≡ i + 0) × (is_match_at aliases text i ≡ true) = of_match 0 aliases text x m in
     let e : r.0 ≡ x = omega (arith, r.1) in (each x).1 (subst (λ z. is_match_at aliases text z ≡ true) e r.2))
 
-pub rising_matches : (aliases : List Alias) (text places : List ℕ) → IsStrictlyIncreasing places → ((i : ℕ) → Contains places i ↔ (is_match_at aliases text i ≡ true)) → filter_map (slice_get aliases) places ≡ matching aliases text
-rising_matches aliases text places rising each =
-    ap (filter_map (slice_get aliases)) (rising_places aliases text places rising each)
-    ∙ taken aliases 0 aliases text (λ i. ap (slice_get aliases) (omega arith))
+-- the aliases at the places of the matches
+pub matches_taken : (aliases : List Alias) (text : List ℕ) → filter_map (slice_get aliases) (matching_places aliases text) ≡ matching aliases text
+matches_taken aliases text = taken aliases 0 aliases text (λ i. ap (slice_get aliases) (omega arith))

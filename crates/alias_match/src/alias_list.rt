@@ -1,22 +1,21 @@
 //! Aliases in the order of their lines, and those that match a text.
-ghost use Rattle.std.specs.Prelude.{◌≡◌, ◌<◌, ◌↔◌, ℕ, suc, ◌∷◌, ◌++◌, [], filter, length, map, slice_get, take, true, Contains};
+ghost use Rattle.std.specs.Prelude.{◌≡◌, ◌<◌, suc, ◌∷◌, ◌++◌, [], filter, length, map, slice_get, take};
 ghost use Rattle.std.specs.Prelude.{IfOk, OnOk, OnErr, Some, None, nat_le, if◌then◌else◌, option_copied};
 ghost use Rattle.std.specs.List.{filter_map};
-ghost use Rattle.std.specs.List.Sorted.{IsStrictlyIncreasing};
 ghost use Rattle.alias_match.specs.Aliases.{matching, matching_places};
 ghost use Rattle.alias_match.specs.ForProofs.{is_match_at, matches_below, matches_under, places_of};
 
 use crate::alias::Alias;
-use crate::marks::{Marks, mark};
+use crate::hash_table::{HashTable, mark};
 use std::alloc::{AllocError, Global};
 use std::marker::Model;
 
-/// Aliases in the order of their lines. Those that match a text are found by the marks of the text, since a pattern
-/// matches no text without the pattern's mark.
+/// Aliases in the order of their lines. Those that match a text are found by a hash table, whose keys are the marks of their
+/// patterns: a pattern matches no text without the pattern's mark.
 #[derive(Drop)]
 pub struct AliasList {
     entries: Vec<Alias>,
-    marks: Marks,
+    table: HashTable,
 }
 
 impl Model for AliasList {
@@ -28,7 +27,7 @@ impl Model for AliasList {
 
     ghost view = { λ l. l.entries.items };
 
-    ghost invariant = { λ l. KeepsEach l.marks l.entries.items };
+    ghost invariant = { λ l. KeepsEach l.table l.entries.items };
 }
 
 /// The first bytes of a text, None where it has fewer.
@@ -59,58 +58,58 @@ fn is_match_at(entries: &[Alias], text: &[u8], place: usize) -> bool
     }
 }
 
-/// Adds those that are kept under a mark and match the text.
-fn add_marked(
+/// Adds the places of a key at which an alias matches the text.
+fn add_of_key(
     entries: &[Alias],
-    marks: &Marks,
+    table: &HashTable,
     text: &[u8],
-    number: u64,
+    key: u64,
     found: &mut Vec<usize>,
 ) -> Result<(), AllocError>
-    ensures { OnOk result (found.new.items ≡ found.old.items ++ filter (is_match_at entries.now text.now) (places_of number marks.now)) }
+    ensures { OnOk result (found.new.items ≡ found.old.items ++ filter (is_match_at entries.now text.now) (places_of key table.now)) }
 {
-    let mut next = marks.last(number);
+    let mut next = table.last(key);
     'places: while let Some(place) = next {
         if is_match_at(entries, text, place) {
             found.push(place)?;
         }
-        next = marks.before(number, place);
+        next = table.before(key, place);
     }
     Ok(())
 }
 
-/// Adds those that are kept under the mark of the first bytes of the text, as many as given, and match.
-fn add_under(
+/// The same, where the key is the mark of the first bytes of the text, as many as given.
+fn add_of_front(
     entries: &[Alias],
-    marks: &Marks,
+    table: &HashTable,
     text: &[u8],
     count: usize,
     found: &mut Vec<usize>,
 ) -> Result<(), AllocError>
     ensures { OnOk result (found.new.items
-        ≡ found.old.items ++ matches_under entries.now marks.now text.now count) }
+        ≡ found.old.items ++ matches_under entries.now table.now text.now count) }
 {
     if let Some(beginning) = front(text, count) {
-        add_marked(entries, marks, text, mark(beginning), found)?;
+        add_of_key(entries, table, text, mark(beginning), found)?;
     }
     Ok(())
 }
 
-/// The places of the aliases that match, of those that are kept under a mark of the text.
-fn matches_by(
+/// The places of the aliases that match, for each mark of the text.
+fn places_by_marks(
     alloc: Global,
     entries: &[Alias],
-    marks: &Marks,
+    table: &HashTable,
     text: &[u8],
 ) -> Result<Vec<usize>, AllocError>
     ensures { IfOk result (λ found. found.items
-        ≡ matches_below entries.now marks.now text.now (suc (length text.now))) }
+        ≡ matches_below entries.now table.now text.now (suc (length text.now))) }
 {
     let mut found = Vec::new(alloc);
     for count in 0..text.len() {
-        add_under(entries, marks, text, count, &mut found)?;
+        add_of_front(entries, table, text, count, &mut found)?;
     }
-    add_under(entries, marks, text, text.len(), &mut found)?;
+    add_of_front(entries, table, text, text.len(), &mut found)?;
     Ok(found)
 }
 
@@ -137,7 +136,7 @@ impl AliasList {
     {
         AliasList {
             entries: Vec::new(alloc),
-            marks: Marks::new(alloc),
+            table: HashTable::new(alloc),
         }
     }
 
@@ -146,9 +145,9 @@ impl AliasList {
         ensures ok { OnOk result (self.new ≡ self.old ++ alias ∷ []) }
         ensures err { OnErr result (self.new ≡ self.old) }
     {
-        let number = alias.pattern.mark();
+        let key = alias.pattern.mark();
         self.entries.push(alias)?;
-        let added = self.marks.add(alloc, number);
+        let added = self.table.add(alloc, key);
         if added.is_err() {
             self.entries.pop();
         }
@@ -170,30 +169,21 @@ impl AliasList {
         &self.entries[i]
     }
 
-    /// The places of the aliases that match, each once and in rising order.
-    fn places_of_matches(&self, alloc: Global, text: &[u8]) -> Result<Vec<usize>, AllocError>
-        ensures rising { IfOk result (λ places. IsStrictlyIncreasing places.items) }
-        ensures each { IfOk result (λ places.
-            (i : ℕ) → Contains places.items i ↔ (is_match_at self.now text.now i ≡ true)) }
-    {
-        let mut places = matches_by(alloc, &self.entries, &self.marks, text)?;
-        places.sort_unstable();
-        places.dedup();
-        Ok(places)
-    }
-
     /// The places, from 0, of the aliases whose patterns match the text, in rising order. Only want of memory refuses.
     pub fn matching_places(&self, alloc: Global, text: &[u8]) -> Result<Vec<usize>, AllocError>
         ensures { IfOk result (λ places. places.items ≡ matching_places self.now text.now) }
     {
-        self.places_of_matches(alloc, text)
+        let mut places = places_by_marks(alloc, &self.entries, &self.table, text)?;
+        places.sort_unstable();
+        places.dedup();
+        Ok(places)
     }
 
     /// The aliases whose patterns match the text, in the order of the lines. Only want of memory refuses.
     pub fn matching(&self, alloc: Global, text: &[u8]) -> Result<Vec<&Alias>, AllocError>
         ensures { IfOk result (λ found. map (λ alias. alias.now) found.items ≡ matching self.now text.now) }
     {
-        let places = self.places_of_matches(alloc, text)?;
+        let places = self.matching_places(alloc, text)?;
         aliases_at(alloc, &self.entries, &places)
     }
 }

@@ -43,7 +43,7 @@ impl<'a> Model for Set<'a> {
 }
 
 /// Whether the members with which a text begins hold a byte.
-#[inline(always)]
+#[inline(never)]
 fn is_member(members: &[u8], byte: u8) -> bool
     requires { IsSet members.now }
     ensures { result ≡ list_any (in_range byte) (members_of members.now) }
@@ -66,7 +66,7 @@ fn is_member(members: &[u8], byte: u8) -> bool
 
 impl<'a> Set<'a> {
     /// The set that stands behind its bracket, and what follows it.
-    #[inline(always)]
+    #[inline(never)]
     pub fn read(text: &'a [u8]) -> Result<(Set<'a>, &'a [u8]), PatternError>
         ensures value { MatchResult result
             (λ x. HasItem 91 text.entry.now (Ok (x.0, x.1.now)))

@@ -1,12 +1,12 @@
 //! Shell patterns, and whether they match a text.
-ghost use Rattle.std.specs.Prelude.{◌≡◌, ◌↔◌, ◌∷◌, [], IsTrue, MatchOption};
-ghost use Rattle.alias_match.specs.Pattern.{Matches};
+ghost use Rattle.std.specs.Prelude.{◌≡◌, ◌≢◌, ◌↔◌, ◌≤◌, ◌∷◌, ◌++◌, [], ℕ, List, length, map, IsTrue, MatchOption};
+ghost use Rattle.alias_match.specs.Pattern.{Matches, byte};
 ghost use Rattle.alias_match.specs.Marks.{IsMarkOf};
-ghost use Rattle.alias_match.specs.ForProofs.{IsStep, IsLater};
+ghost use Rattle.alias_match.specs.ForProofs.{IsStep, IsLater, count_before, next_end};
 ghost use Rattle.alias_match.specs.Reading.{Gives, Reads};
 
 use crate::item::{Item, Items};
-use crate::read::{PatternError, check};
+use crate::read::{PatternError, check_from_plain};
 use crate::runs::longest_run_mark;
 use std::alloc::Global;
 use std::marker::Model;
@@ -15,18 +15,20 @@ use std::marker::Model;
 #[derive(Debug, Drop)]
 pub struct Pattern {
     text: Vec<u8>,
+    /// How many bytes of the text stand for themselves, from the first on. A match compares them at once.
+    plain: usize,
 }
 
 impl Model for Pattern {
     ghost use Rattle.std.specs.Prelude.{List};
     ghost use Rattle.alias_match.specs.Pattern.{Piece};
-    ghost use Rattle.alias_match.specs.Reading.{IsPattern, pieces_of};
+    ghost use Rattle.alias_match.specs.Reading.{BeginsPlainly, pieces_of};
 
     ghost Value = { List Piece };
 
     ghost view = { λ p. pieces_of p.text.items };
 
-    ghost invariant = { λ p. IsPattern p.text.items };
+    ghost invariant = { λ p. BeginsPlainly p.text.items p.plain };
 }
 
 /// What stands behind the last run, and the end of the text at which it was tried last.
@@ -36,13 +38,35 @@ struct Retry<'p, 't> {
     text: &'t [u8],
 }
 
+/// How many bytes stand before the first that is this one.
+#[inline(always)]
+fn count_before(own: u8, text: &[u8]) -> usize
+    ensures value { result ≡ count_before own text.now }
+    ensures within { result ≤ length text.now }
+{
+    text.iter().take_while(|byte| own != **byte).count()
+}
+
+/// The end of the text at which the items are tried next: where they begin with a byte, the first that begins with it.
+#[inline(always)]
+fn next_end<'t>(items: &Items, text: &'t [u8]) -> &'t [u8]
+    ensures end { result.now ≡ next_end items.now text.entry.now }
+    ensures shorter { length result.now ≤ length text.entry.now }
+{
+    match items.again().split_first() {
+        Some((Item::Byte(own), _)) => &text[count_before(own, text)..],
+        _ => text,
+    }
+}
+
 impl<'p, 't> Retry<'p, 't> {
-    /// The same items, at the next end of the text.
+    /// The same items, at the next end of the text behind its first byte.
     #[inline(always)]
     fn later(self) -> Option<Retry<'p, 't>>
         ensures { MatchOption result (self.entry.text.now ≡ []) (IsLater self.entry) }
     {
-        let (_, text) = self.text.split_first()?;
+        let (_, rest) = self.text.split_first()?;
+        let text = next_end(&self.items, rest);
         Some(Retry {
             items: self.items,
             text,
@@ -99,14 +123,62 @@ fn next_step<'p, 't>(items: Items<'p>, text: &'t [u8]) -> Step<'p, 't>
     step_at(items, *byte, later)
 }
 
+/// What follows the front in a text that begins with it.
+#[inline(always)]
+fn strip_front<'t>(text: &'t [u8], front: &[u8]) -> Option<&'t [u8]>
+    ensures { MatchOption result
+        ((rest : List ℕ) → text.entry.now ≢ front.now ++ rest)
+        (λ rest. text.entry.now ≡ front.now ++ rest.now) }
+{
+    text.strip_prefix(front)
+}
+
+/// Whether the whole text is a joining of one text from each item, in order.
+fn items_match(pattern: Items, text: &[u8]) -> bool
+    ensures { IsTrue result ↔ Matches pattern.entry text.now }
+{
+    let mut items = pattern.again();
+    let mut rest = text;
+    let mut retry: Option<Retry> = None;
+    'walk: loop {
+        match next_step(items, rest) {
+            Step::Run(after) => {
+                rest = next_end(&after, rest);
+                items = after.again();
+                retry = Some(Retry {
+                    items: after,
+                    text: rest,
+                });
+            }
+            Step::Taken(after, later) => {
+                items = after;
+                rest = later;
+            }
+            Step::Over => return true,
+            Step::Short => return false,
+            Step::Stuck => {
+                let Some(last) = retry else {
+                    return false;
+                };
+                let Some(next) = last.later() else {
+                    return false;
+                };
+                items = next.items.again();
+                rest = next.text;
+                retry = Some(next);
+            }
+        }
+    }
+}
+
 impl Pattern {
     /// The pattern that the text is (glob(7)), or its first fault from the left; `Memory` where memory runs out.
     pub fn read(alloc: Global, text: &[u8]) -> Result<Pattern, PatternError>
         ensures { Gives (λ pattern. pattern) result (Reads text.now) }
     {
-        check(text)?;
+        let plain = check_from_plain(text)?;
         let text = Vec::from_slice(alloc, text)?;
-        Ok(Pattern { text })
+        Ok(Pattern { text, plain })
     }
 
     #[inline(always)]
@@ -123,41 +195,24 @@ impl Pattern {
         longest_run_mark(self.items())
     }
 
+    /// The bytes at the beginning that stand for themselves, and the items behind them.
+    #[inline(always)]
+    fn parts(&self) -> (&[u8], Items)
+        ensures { self.now ≡ map (λ b. byte b) result.0.now ++ result.1 }
+    {
+        let (front, behind) = self.text.split_at(self.plain);
+        (front, Items::of(behind))
+    }
+
     /// Whether the whole text, byte for byte as it stands, is a joining of one text from each item, in order.
     /// It takes no memory.
     pub fn matches(&self, text: &[u8]) -> bool
         ensures { IsTrue result ↔ Matches self.now text.now }
     {
-        let mut items = self.items();
-        let mut rest = text;
-        let mut retry: Option<Retry> = None;
-        'walk: loop {
-            match next_step(items, rest) {
-                Step::Run(after) => {
-                    items = after.again();
-                    retry = Some(Retry {
-                        items: after,
-                        text: rest,
-                    });
-                }
-                Step::Taken(after, later) => {
-                    items = after;
-                    rest = later;
-                }
-                Step::Over => return true,
-                Step::Short => return false,
-                Step::Stuck => {
-                    let Some(last) = retry else {
-                        return false;
-                    };
-                    let Some(next) = last.later() else {
-                        return false;
-                    };
-                    items = next.items.again();
-                    rest = next.text;
-                    retry = Some(next);
-                }
-            }
+        let (front, items) = self.parts();
+        match strip_front(text, front) {
+            Some(rest) => items_match(items, rest),
+            None => false,
         }
     }
 }

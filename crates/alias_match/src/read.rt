@@ -1,6 +1,7 @@
 //! How a pattern is read from its text. Reading takes no memory.
-ghost use Rattle.std.specs.Prelude.{◌≡◌, ◌≢◌, true, ◌≤◌, ◌∷◌, length, false, Ok, Err, IfOk, MatchOption, MatchResult};
-ghost use Rattle.alias_match.specs.Reading.{HasItem, HasMembers, IsPattern, Reads, closes, class_mark, letter, member};
+ghost use Rattle.std.specs.Prelude.{◌≡◌, ◌≤◌, ◌∷◌, length, false, Ok, Err, IfOk, MatchOption, MatchResult};
+ghost use Rattle.std.specs.List.{prefix_len};
+ghost use Rattle.alias_match.specs.Reading.{BeginsPlainly, HasItem, HasMembers, IsPattern, Reads, closes, class_mark, is_plain, letter, member};
 ghost use Rattle.alias_match.specs.Reading.{members_of, negates, after_sign, range, plain_item, undashed};
 ghost use Rattle.alias_match.specs.ForProofs.{piece};
 
@@ -205,7 +206,7 @@ fn next_plain_item(first: u8, rest: &[u8]) -> Result<(Item, &[u8]), PatternError
 /// Whether a byte is none of the five that may not stand for themselves. It is asked first, for speed.
 #[inline(always)]
 fn is_plain(byte: u8) -> bool
-    ensures { result ≡ true → (byte ≢ 42) × (byte ≢ 45) × (byte ≢ 63) × (byte ≢ 91) × (byte ≢ 92) }
+    ensures { result ≡ is_plain byte }
 {
     !matches!(byte, b'*' | b'-' | b'?' | b'[' | b'\\')
 }
@@ -229,7 +230,7 @@ pub(crate) fn next_item(first: u8, rest: &[u8]) -> Result<(Item, &[u8]), Pattern
 }
 
 /// Whether the text is a pattern, or else its first fault from the left.
-pub(crate) fn check(text: &[u8]) -> Result<(), PatternError>
+fn check(text: &[u8]) -> Result<(), PatternError>
     ensures { MatchResult result (λ _. IsPattern text.now) (λ e. Reads text.now (Err e)) }
 {
     let mut rest = text;
@@ -238,4 +239,23 @@ pub(crate) fn check(text: &[u8]) -> Result<(), PatternError>
         rest = after;
     }
     Ok(())
+}
+
+/// How many bytes at the beginning stand for themselves.
+fn count_plain(text: &[u8]) -> usize
+    ensures value { result ≡ prefix_len is_plain text.now }
+    ensures within { result ≤ length text.now }
+{
+    text.iter().take_while(|byte| is_plain(**byte)).count()
+}
+
+/// How many bytes at the beginning of a pattern stand for themselves, or the text's first fault from the left.
+pub(crate) fn check_from_plain(text: &[u8]) -> Result<usize, PatternError>
+    ensures checked { MatchResult result (λ _. IsPattern text.now) (λ e. Reads text.now (Err e)) }
+    ensures plain { IfOk result (λ count. BeginsPlainly text.now count) }
+{
+    let count = count_plain(text);
+    let (_, rest) = text.split_at(count);
+    check(rest)?;
+    Ok(count)
 }

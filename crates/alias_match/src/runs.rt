@@ -3,8 +3,8 @@ ghost use Rattle.std.specs.Prelude.{◌≡◌, ◌≤◌, drop, length};
 ghost use Rattle.alias_match.specs.Pattern.{literal_beginning};
 ghost use Rattle.alias_match.specs.Marks.{IsMarkOf, mark};
 
+use crate::hash_table::{MARK_BYTES, with_digit};
 use crate::item::{Item, Items};
-use crate::marks::{MARK_BYTES, with_digit};
 
 /// The single bytes with which items begin.
 #[derive(Drop)]

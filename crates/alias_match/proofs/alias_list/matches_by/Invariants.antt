@@ -1,6 +1,0 @@
-use Rattle.std.proofs.Common.{◌≡◌}
-use Rattle.alias_match.specs.ForProofs.{matches_below}
-use Rattle.alias_match.proofs.alias_list.matches_by.Given as goal
-
-abbrev pub invariant-loop-count : goal.invariant-loop-count
-invariant-loop-count l = l.found.items ≡ matches_below l.entries l.marks l.text l.count

@@ -1,0 +1,6 @@
+use Rattle.std.proofs.Common.{◌≡◌}
+use Rattle.alias_match.specs.ForProofs.{matches_below}
+use Rattle.alias_match.proofs.alias_list.places_by_marks.Given as goal
+
+abbrev pub invariant-loop-count : goal.invariant-loop-count
+invariant-loop-count l = l.found.items ≡ matches_below l.entries l.table l.text l.count

@@ -1,9 +1,0 @@
-use Rattle.std.proofs.Common.{rules, ◌≡◌, length, ◌∙◌}
-use Rattle.alias_match.proofs.Linked.{appended_chained}
-use Rattle.alias_match.proofs.marks.Marks.add.Goals as goal
-
-pub chain-requires-clause-chained : goal.chain-requires-clause-chained
-chain-requires-clause-chained c =
-    let all : c.len-place.result ≡ length c.self.inside.links.items = search rules in
-    appended_chained c.self.inside.ends.items c.deref_mut.result.now c.self.inside.links.items c.deref_mut-then-place-len.result.now (record { number = c.args.number; before = 0 }) c.len-place.result
-    (rw all c.self.invariant.chained) all c.deref_mut.ensures.value (c.deref_mut-then-place-len.ensures.value ∙ c.in_ok-push.ensures.items)
