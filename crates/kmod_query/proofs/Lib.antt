@@ -1,5 +1,6 @@
 pub mod KnownLemmas
 pub mod MetLemmas
+pub mod SoftLemmas
 pub mod ProbeLemmas
 pub mod TextLemmas
 pub mod RemovalLemmas

@@ -3,6 +3,7 @@
 
 mod answer;
 mod answering;
+mod fronts;
 mod groups;
 mod laws;
 mod lines;
@@ -18,6 +19,7 @@ mod removal_check;
 mod removal_lines;
 mod removed_names;
 mod shown;
+mod soft_lists;
 mod states;
 mod way;
 mod world;

@@ -1,11 +1,11 @@
 //! The lines that load a module, with its options.
 ghost use Rattle.std.specs.Prelude.{◌≡◌, ◌++◌, ◌∷◌, [], codes, IfOk, option_copied};
+ghost use Rattle.kmod_query.specs.Facts.{Facts};
 ghost use Rattle.kmod_query.specs.Lines.{command_of, has_soft_items, is_built_in, is_commandless, is_in_kernel, is_live};
 ghost use Rattle.kmod_query.specs.Lines.{is_live_state, line, line_by, load_line, option_text, own_parameters};
 ghost use Rattle.kmod_query.specs.Objects.{alias_of, object_of};
 ghost use Rattle.kmod_query.specs.World.{facts_of};
 
-use crate::look_up::soft_items;
 use crate::object::Object;
 use crate::parameters::{join, push_joined};
 use crate::states::{ModuleState, ModuleStatus};
@@ -61,27 +61,12 @@ pub(crate) fn is_in_kernel(world: &World, object: &Object) -> bool
     is_built_in(world, object) || is_live(status_of(world, &object.name))
 }
 
-fn has_soft_items(alloc: Global, world: &World, name: &[u8]) -> Result<bool, AllocError>
-    ensures { IfOk result (λ has. has ≡ has_soft_items (facts_of world.now) name.now) }
-{
-    let items = soft_items(alloc, world, name)?;
-    Ok(items.before.len() > 0 || items.after.len() > 0)
-}
-
 /// Whether the install line of an object is passed over.
-fn is_commandless(
-    alloc: Global,
-    world: &World,
-    bare: bool,
-    top: &Object,
-    object: &Object,
-) -> Result<bool, AllocError>
-    ensures { IfOk result (λ passed. passed ≡ is_commandless (facts_of world.now) bare (object_of top.now) (object_of object.now)) }
+fn is_commandless(bare: bool, top: &Object, object: &Object, has_soft: bool) -> bool
+    ensures { (facts : Facts) → has_soft ≡ has_soft_items facts (object_of object.now).name
+        → result ≡ is_commandless facts bare (object_of top.now) (object_of object.now) }
 {
-    if bare && object.is_same(top) {
-        return Ok(true);
-    }
-    has_soft_items(alloc, world, &object.name)
+    (bare && object.is_same(top)) || has_soft
 }
 
 fn command_of<'a>(
@@ -90,10 +75,12 @@ fn command_of<'a>(
     bare: bool,
     top: &Object,
     object: &Object,
+    has_soft: bool,
 ) -> Result<Option<&'a [u8]>, AllocError>
+    requires { has_soft ≡ has_soft_items (facts_of world.now) (object_of object.now).name }
     ensures { IfOk result (λ command. option_copied command ≡ command_of (facts_of world.now) bare (object_of top.now) (object_of object.now)) }
 {
-    if is_commandless(alloc, world, bare, top, object)? {
+    if is_commandless(bare, top, object, has_soft) {
         return Ok(None);
     }
     install_of(alloc, world, &object.name)
@@ -157,7 +144,7 @@ fn own_parameters<'a>(top: &Object, object: &Object, parameters: &'a [u8]) -> &'
     }
 }
 
-/// The line of an object in the load of another.
+/// The line of an object in the load of another; `has_soft` says whether it has soft items.
 pub(crate) fn load_line(
     alloc: Global,
     world: &World,
@@ -165,10 +152,12 @@ pub(crate) fn load_line(
     parameters: &[u8],
     top: &Object,
     object: &Object,
+    has_soft: bool,
 ) -> Result<Vec<u8>, AllocError>
+    requires { has_soft ≡ has_soft_items (facts_of world.now) (object_of object.now).name }
     ensures { IfOk result (λ text. text.items ≡ load_line (facts_of world.now) bare parameters.now (object_of top.now) (object_of object.now)) }
 {
-    let command = command_of(alloc, world, bare, top, object)?;
+    let command = command_of(alloc, world, bare, top, object, has_soft)?;
     let path = path_of(alloc, world, &object.name)?;
     let options = option_text(
         alloc,

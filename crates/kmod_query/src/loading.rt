@@ -1,17 +1,20 @@
 //! What is answered of an object that is to be loaded or resolved.
 ghost use Rattle.std.specs.Prelude.{◌≡◌, ◌++◌, ◌∷◌, [], IfOk, is_some};
 ghost use Rattle.std.specs.List.{flat_map};
+ghost use Rattle.kmod_query.specs.Lines.{has_soft_items};
 ghost use Rattle.kmod_query.specs.Loading.{already, answer_object};
 ghost use Rattle.kmod_query.specs.Loading.{is_barred, is_passed, is_resolve, is_show_depends, line_unless_passed, load, load_lines};
 ghost use Rattle.kmod_query.specs.Loading.{shows_lines};
 ghost use Rattle.kmod_query.specs.Objects.{alias_of, object_of, objects_of};
+ghost use Rattle.kmod_query.specs.Stacks.{AreSoftLists};
 ghost use Rattle.kmod_query.specs.World.{facts_of};
 
 use crate::answer::{Answer, Failure};
 use crate::lines::{is_in_kernel, load_line};
 use crate::object::Object;
-use crate::probes::probe_list;
+use crate::probes::{LoadList, probe_list};
 use crate::query::{Ask, Query};
+use crate::soft_lists::SoftLists;
 use crate::world::{World, is_blacklisted};
 use kmod_names::Text;
 use std::alloc::{AllocError, Global};
@@ -79,16 +82,26 @@ fn line_unless_passed(
     parameters: &[u8],
     top: &Object,
     object: &Object,
+    has_soft: bool,
 ) -> Result<Vec<u8>, AllocError>
+    requires { has_soft ≡ has_soft_items (facts_of world.now) (object_of object.now).name }
     ensures { IfOk result (λ text. text.items ≡ line_unless_passed (facts_of world.now) query.now parameters.now (object_of top.now) (object_of object.now)) }
 {
     if is_passed(world, query, object) {
         return Ok(Vec::new(alloc));
     }
-    load_line(alloc, world, query.ignore_commands, parameters, top, object)
+    load_line(
+        alloc,
+        world,
+        query.ignore_commands,
+        parameters,
+        top,
+        object,
+        has_soft,
+    )
 }
 
-/// The lines of the objects, in the load of one.
+/// The lines of the objects, in the load of one, by the soft items that were looked up.
 fn lines_of(
     alloc: Global,
     world: &World,
@@ -96,12 +109,15 @@ fn lines_of(
     parameters: &[u8],
     top: &Object,
     list: &[Object],
+    soft: &mut SoftLists,
 ) -> Result<Vec<u8>, AllocError>
+    requires { AreSoftLists (facts_of world.now) soft.old }
     ensures { IfOk result (λ text. text.items ≡ flat_map (line_unless_passed (facts_of world.now) query.now parameters.now (object_of top.now)) (objects_of list.now)) }
 {
     let mut lines = Vec::new(alloc);
     'objects: for object in list {
-        let mut own = line_unless_passed(alloc, world, query, parameters, top, object)?;
+        let has_soft = soft.has_items(alloc, world, &object.name)?;
+        let mut own = line_unless_passed(alloc, world, query, parameters, top, object, has_soft)?;
         lines.append(&mut own)?;
     }
     Ok(lines)
@@ -117,8 +133,8 @@ fn load_lines(
 ) -> Result<Vec<u8>, AllocError>
     ensures { IfOk result (λ text. text.items ≡ load_lines (facts_of world.now) query.now parameters.now (object_of top.now)) }
 {
-    let list = probe_list(alloc, world, query.ignore_commands, top)?;
-    lines_of(alloc, world, query, parameters, top, &list)
+    let LoadList { list, mut soft } = probe_list(alloc, world, query.ignore_commands, top)?;
+    lines_of(alloc, world, query, parameters, top, &list, &mut soft)
 }
 
 /// What is answered where the kernel has the object.

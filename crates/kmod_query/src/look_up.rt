@@ -180,6 +180,13 @@ fn look_up_each(alloc: Global, world: &World, words: &[Text]) -> Result<Vec<Obje
     Ok(found)
 }
 
+/// The side of a module on which soft items stand.
+#[derive(Clone, Copy, Debug, PartialEq, Eq)]
+pub(crate) enum Place {
+    Before,
+    After,
+}
+
 /// The soft items of a module.
 #[derive(Drop)]
 pub(crate) struct SoftItems {

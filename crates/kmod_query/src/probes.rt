@@ -1,36 +1,56 @@
 //! What is loaded for a module, in order.
-ghost use Rattle.std.specs.Prelude.{◌≡◌, ◌++◌, ◌∷◌, map, IfOk, OnOk};
+ghost use Rattle.std.specs.Prelude.{◌≡◌, ◌<◌, ◌++◌, ◌∷◌, [], map, IfOk, OnOk};
+ghost use Rattle.kmod_query.specs.Facts.{Facts};
 ghost use Rattle.kmod_query.specs.Objects.{by_name, names_of, object_of, objects_of};
-ghost use Rattle.kmod_query.specs.Probes.{fill, fill_tasks, first_tasks, probe, probe_list, probe_tasks};
-ghost use Rattle.kmod_query.specs.Stacks.{Steps, stack_of, task_of};
+ghost use Rattle.kmod_query.specs.Probes.{add, fill, fill_tasks, first_tasks, probe, probe_list};
+ghost use Rattle.kmod_query.specs.Stacks.{AreFronts, AreSoftLists, Falls, IsAt, IsFront, Makes, rest_of, soft_of, stack_of, task_of};
 ghost use Rattle.kmod_query.specs.World.{facts_of};
 
-use crate::look_up::soft_items;
+use crate::fronts::Fronts;
+use crate::look_up::Place;
 use crate::object::{Met, Object};
+use crate::soft_lists::{Found, SoftLists};
 use crate::world::{World, needs_of};
 use std::alloc::{AllocError, Global};
 
-/// What is to be done: probe an object, fill in its module with its soft items, or add it to the list.
+/// The soft items on one side of a module, from an index on.
+#[derive(Drop)]
+struct Rest {
+    name: Vec<u8>,
+    place: Place,
+    from: usize,
+}
+
+/// What is to be done: probe soft items one after another, fill in a module with its soft items, or add it to the list.
 #[derive(Drop)]
 enum Task {
-    Probe(Object),
+    Soft(Rest),
     Fill(Object),
     Add(Object),
 }
 
-/// Probes of the objects, before what is to be done already.
-fn push_probes(stack: &mut Vec<Task>, mut objects: Vec<Object>) -> Result<(), AllocError>
-    ensures { OnOk result (stack_of stack.new.items ≡ map probe (objects_of objects.items) ++ stack_of stack.old.items) }
-{
-    'objects: while let Some(object) = objects.pop() {
-        stack.push(Task::Probe(object))?;
-    }
-    Ok(())
+/// How far a run is: what was met, what was found of soft items, what is to be done, the next task last, what is out,
+/// and how many steps are left.
+#[derive(Drop)]
+struct Course {
+    met: Met,
+    soft: SoftLists,
+    fronts: Fronts,
+    stack: Vec<Task>,
+    list: Vec<Object>,
+    left: u64,
+}
+
+/// What is loaded, in order, and the soft items that were looked up for it.
+#[derive(Drop)]
+pub(crate) struct LoadList {
+    pub(crate) list: Vec<Object>,
+    pub(crate) soft: SoftLists,
 }
 
 /// The modules of these names are filled in, before what is to be done already.
 fn push_fills(stack: &mut Vec<Task>, mut names: Vec<Vec<u8>>) -> Result<(), AllocError>
-    ensures { OnOk result (stack_of stack.new.items ≡ map (λ name. fill (by_name name)) (names_of names.items) ++ stack_of stack.old.items) }
+    ensures { OnOk result ((facts : Facts) → stack_of facts stack.new.items ≡ map (λ name. fill (by_name name)) (names_of names.items) ++ stack_of facts stack.old.items) }
 {
     'names: while let Some(name) = names.pop() {
         let object = Object {
@@ -43,19 +63,27 @@ fn push_fills(stack: &mut Vec<Task>, mut names: Vec<Vec<u8>>) -> Result<(), Allo
     Ok(())
 }
 
-/// What fills in an object, before what is to be done already.
-fn push_fill(
-    alloc: Global,
-    world: &World,
-    stack: &mut Vec<Task>,
-    object: Object,
-) -> Result<(), AllocError>
-    ensures { OnOk result (stack_of stack.new.items ≡ fill_tasks (facts_of world.now) (object_of object) ++ stack_of stack.old.items) }
+/// All soft items on one side of a module.
+fn all_soft(alloc: Global, place: Place, name: &[u8]) -> Result<Rest, AllocError>
+    ensures { IfOk result (λ rest. (facts : Facts) → rest_of facts rest ≡ map probe (soft_of facts place name.now)) }
 {
-    let items = soft_items(alloc, world, &object.name)?;
-    push_probes(stack, items.after)?;
+    Ok(Rest {
+        name: Vec::from_slice(alloc, name)?,
+        place,
+        from: 0,
+    })
+}
+
+/// What fills in an object, before what is to be done already.
+fn push_fill(alloc: Global, stack: &mut Vec<Task>, object: Object) -> Result<(), AllocError>
+    ensures { OnOk result ((facts : Facts) → stack_of facts stack.new.items ≡ fill_tasks facts (object_of object) ++ stack_of facts stack.old.items) }
+{
+    let before = all_soft(alloc, Place::Before, &object.name)?;
+    let after = all_soft(alloc, Place::After, &object.name)?;
+    stack.push(Task::Soft(after))?;
     stack.push(Task::Add(object))?;
-    push_probes(stack, items.before)
+    stack.push(Task::Soft(before))?;
+    Ok(())
 }
 
 /// What probes an object that was not met, before what is to be done already; without its soft items where it is bare.
@@ -66,7 +94,7 @@ fn push_probe(
     stack: &mut Vec<Task>,
     object: Object,
 ) -> Result<(), AllocError>
-    ensures { OnOk result (stack_of stack.new.items ≡ first_tasks (facts_of world.now) bare (object_of object) ++ stack_of stack.old.items) }
+    ensures { OnOk result (stack_of (facts_of world.now) stack.new.items ≡ first_tasks (facts_of world.now) bare (object_of object) ++ stack_of (facts_of world.now) stack.old.items) }
 {
     let needs = needs_of(alloc, world, &object.name)?;
     stack.push(if bare {
@@ -77,32 +105,125 @@ fn push_probe(
     push_fills(stack, needs)
 }
 
-/// Makes one step.
-fn make(
+fn add(own: Object, course: &mut Course) -> Result<(), AllocError>
+    ensures made { OnOk result ((facts : Facts) → Makes facts (add (object_of own) ∷ []) course.old course.new) }
+    ensures falls { OnOk result (Falls course.old course.new) }
+{
+    course.left = course.left.saturating_sub(1);
+    course.list.push(own)?;
+    Ok(())
+}
+
+fn fill(alloc: Global, own: Object, course: &mut Course) -> Result<(), AllocError>
+    ensures made { OnOk result ((facts : Facts) → Makes facts (fill (object_of own) ∷ []) course.old course.new) }
+    ensures falls { OnOk result (Falls course.old course.new) }
+{
+    course.left = course.left.saturating_sub(1);
+    push_fill(alloc, &mut course.stack, own)
+}
+
+/// Passes over items that were met, up to the index `front`. Their steps are counted.
+fn pass(rest: Rest, front: usize, course: &mut Course) -> Result<(), AllocError>
+    requires { rest.from < front }
+    ensures made { OnOk result ((facts : Facts) → IsFront course.old.met front (soft_of facts rest.place rest.name.items)
+        → Makes facts (rest_of facts rest) course.old course.new) }
+    ensures falls { OnOk result (Falls course.old course.new) }
+{
+    let count = front - rest.from;
+    course.left = course.left.saturating_sub(count as u64);
+    course.stack.push(Task::Soft(Rest {
+        from: front,
+        ..rest
+    }))?;
+    Ok(())
+}
+
+/// Probes the next soft item, and keeps those behind it.
+fn probe(
     alloc: Global,
     world: &World,
-    task: Task,
-    met: &mut Met,
-    stack: &mut Vec<Task>,
-    list: &mut Vec<Object>,
+    rest: Rest,
+    found: Found,
+    course: &mut Course,
 ) -> Result<(), AllocError>
-    ensures { OnOk result (Steps (facts_of world.now) (task_of task)
-        (record { met = met.old; tasks = stack_of stack.old.items; list = objects_of list.old.items })
-        (record { met = met.new; tasks = stack_of stack.new.items; list = objects_of list.new.items })) }
+    ensures made { OnOk result (IsAt (soft_of (facts_of world.now) rest.place rest.name.items) rest.from found
+        → Makes (facts_of world.now) (rest_of (facts_of world.now) rest) course.old course.new) }
+    ensures falls { OnOk result (Falls course.old course.new) }
+{
+    let Found { object, next } = found;
+    course.left = course.left.saturating_sub(1);
+    let is_new = course.met.insert(alloc, &object)?;
+    course
+        .fronts
+        .meet(alloc, rest.place, &rest.name, rest.from, next)?;
+    course.stack.push(Task::Soft(Rest { from: next, ..rest }))?;
+    if is_new {
+        return push_probe(alloc, world, false, &mut course.stack, object);
+    }
+    Ok(())
+}
+
+/// Probes the soft items that are next.
+fn probe_soft(
+    alloc: Global,
+    world: &World,
+    rest: Rest,
+    course: &mut Course,
+) -> Result<(), AllocError>
+    ensures made { OnOk result (Makes (facts_of world.now) (rest_of (facts_of world.now) rest) course.old course.new) }
+    ensures falls { OnOk result (Falls course.old course.new) }
+{
+    let front = course.fronts.of(rest.place, &rest.name);
+    if rest.from < front {
+        return pass(rest, front, course);
+    }
+    match course
+        .soft
+        .item(alloc, world, rest.place, &rest.name, rest.from)?
+    {
+        Some(found) => probe(alloc, world, rest, found, course),
+        None => Ok(()),
+    }
+}
+
+/// Makes what is next.
+fn make(alloc: Global, world: &World, task: Task, course: &mut Course) -> Result<(), AllocError>
+    ensures made { OnOk result (Makes (facts_of world.now) (task_of (facts_of world.now) task) course.old course.new) }
+    ensures falls { OnOk result (Falls course.old course.new) }
 {
     match task {
-        Task::Add(own) => {
-            list.push(own)?;
-            Ok(())
-        }
-        Task::Fill(own) => push_fill(alloc, world, stack, own),
-        Task::Probe(own) => {
-            if met.insert(alloc, &own)? {
-                return push_probe(alloc, world, false, stack, own);
-            }
-            Ok(())
-        }
+        Task::Soft(rest) => probe_soft(alloc, world, rest, course),
+        Task::Fill(own) => fill(alloc, own, course),
+        Task::Add(own) => add(own, course),
     }
+}
+
+/// Nothing was met, and nothing is to be done.
+fn start(alloc: Global) -> Course
+    ensures met { result.met ≡ [] }
+    ensures soft { (facts : Facts) → AreSoftLists facts result.soft }
+    ensures fronts { (facts : Facts) → AreFronts facts [] result.fronts }
+    ensures stack { result.stack.items ≡ [] }
+    ensures list { result.list.items ≡ [] }
+    ensures left { result.left ≡ 18446744073709551615 }
+{
+    Course {
+        met: Met::new(alloc),
+        soft: SoftLists::new(alloc),
+        fronts: Fronts::new(alloc),
+        stack: Vec::new(alloc),
+        list: Vec::new(alloc),
+        left: u64::MAX,
+    }
+}
+
+/// What is out at the end.
+fn loaded(course: Course) -> LoadList
+    ensures list { result.list ≡ course.list }
+    ensures soft { result.soft ≡ course.soft }
+{
+    let Course { list, soft, .. } = course;
+    LoadList { list, soft }
 }
 
 /// What is loaded for an object, in order; for a bare one without its soft items.
@@ -111,19 +232,18 @@ pub(crate) fn probe_list(
     world: &World,
     bare: bool,
     object: &Object,
-) -> Result<Vec<Object>, AllocError>
-    ensures { IfOk result (λ list. objects_of list.items ≡ probe_list (facts_of world.now) bare (object_of object.now)) }
+) -> Result<LoadList, AllocError>
+    ensures list { IfOk result (λ loaded. objects_of loaded.list.items ≡ probe_list (facts_of world.now) bare (object_of object.now)) }
+    ensures soft { IfOk result (λ loaded. AreSoftLists (facts_of world.now) loaded.soft) }
 {
-    let mut met = Met::new(alloc);
-    met.insert(alloc, object)?;
-    let mut stack = Vec::new(alloc);
-    push_probe(alloc, world, bare, &mut stack, object.copy(alloc)?)?;
-    let mut list = Vec::new(alloc);
-    'tasks: for _step in 0..u64::MAX {
-        match stack.pop() {
-            None => return Ok(list),
-            Some(task) => make(alloc, world, task, &mut met, &mut stack, &mut list)?,
+    let mut course = start(alloc);
+    course.met.insert(alloc, object)?;
+    push_probe(alloc, world, bare, &mut course.stack, object.copy(alloc)?)?;
+    'tasks: while course.left > 0 {
+        match course.stack.pop() {
+            None => return Ok(loaded(course)),
+            Some(task) => make(alloc, world, task, &mut course)?,
         }
     }
-    Ok(list)
+    Ok(loaded(course))
 }
