@@ -1,0 +1,98 @@
+-- What a command line asks for (modprobe(8)).
+use Rattle.std.specs.Prelude.{ℕ, ◌+◌, ◌-◌, ◌^◌, min, true, false, List, [], ◌∷◌, ◌++◌, fold, Option, Some, None, option_map}
+use Rattle.std.specs.Borrow.{Bor}
+use Rattle.text_parts.specs.Text.{texts_of}
+use Rattle.modprobe_words.specs.declared.options.Switch.{Switch as SwitchOption}
+use Rattle.modprobe_words.specs.declared.options.Switch.TheVariants as switch
+use Rattle.modprobe_words.specs.declared.options.Valued.{Valued}
+use Rattle.modprobe_words.specs.declared.options.Valued.TheVariants as valued
+use Rattle.modprobe_words.specs.declared.switches.Switches.{Switches}
+use Rattle.modprobe_words.specs.declared.asked.Asked.{Asked as CodeAsked}
+use Rattle.modprobe_words.specs.Words.{Item, plain, with_value, operand, fault}
+
+-- one option more; `-D` is a dry run too, `-q` sets the verbosity to 0 and `-v` adds 1 to it
+abbrev pub with_switch : Switches → SwitchOption → Switches
+with_switch s switch.All = record s { all = true }
+with_switch s switch.Remove = record s { remove = true }
+with_switch s switch.RemoveHolders = record s { remove_holders = true }
+with_switch s switch.ResolveAlias = record s { resolve = true }
+with_switch s switch.FirstTime = record s { first_time = true }
+with_switch s switch.IgnoreCommands = record s { ignore_commands = true }
+with_switch s switch.UseBlacklist = record s { use_blacklist = true }
+with_switch s switch.ShowDepends = record s { show_depends = true }
+with_switch s switch.ShowConfig = record s { show_config = true }
+with_switch s switch.ShowModversions = record s { show_module = true }
+with_switch s switch.ShowExports = record s { show_module = true }
+with_switch s switch.DryRun = record s { dry_run = true }
+with_switch s switch.Quiet = record s { verbosity = 0 }
+with_switch s switch.Verbose = record s { verbosity = min (s.verbosity + 1) (2 ^ 64 - 1) }
+with_switch s switch.Explain = record s { explain = true }
+with_switch s switch.Force = s
+with_switch s switch.ForceModversion = s
+with_switch s switch.ForceVermagic = s
+with_switch s switch.Syslog = s
+with_switch s switch.Version = s
+with_switch s switch.Help = s
+
+abbrev pub no_switch : Switches
+no_switch =
+    record {
+      all = false;
+      remove = false;
+      remove_holders = false;
+      resolve = false;
+      first_time = false;
+      ignore_commands = false;
+      use_blacklist = false;
+      show_depends = false;
+      show_config = false;
+      show_module = false;
+      dry_run = false;
+      explain = false;
+      verbosity = 4;
+    }
+
+-- options without values, each -C, the last -d, -S and --root, and the other words
+pub record Asked : Type 0 where
+  pub switches : Switches
+  pub configurations : List (List ℕ)
+  pub directory : Option (List ℕ)
+  pub release : Option (List ℕ)
+  pub root : Option (List ℕ)
+  pub words : List (List ℕ)
+
+abbrev pub with_option : Asked → Valued → List ℕ → Asked
+with_option a valued.Wait text = a
+with_option a valued.Config text = record a { configurations = a.configurations ++ text ∷ [] }
+with_option a valued.Dirname text = record a { directory = Some text }
+with_option a valued.SetVersion text = record a { release = Some text }
+with_option a valued.Root text = record a { root = Some text }
+
+abbrev pub with_item : Asked → Item → Asked
+with_item a (plain option) = record a { switches = with_switch a.switches option }
+with_item a (with_value option text) = with_option a option text
+with_item a (operand word) = record a { words = a.words ++ word ∷ [] }
+with_item a (fault why) = a
+
+abbrev pub nothing_asked : Asked
+nothing_asked =
+    record { switches = no_switch; configurations = []; directory = None; release = None; root = None; words = [] }
+
+-- what items ask for, one after another
+abbrev pub asked_by : List Item → Asked
+asked_by items = fold with_item nothing_asked items
+
+-- how contracts see the code's
+abbrev pub text_of : Option (Bor (List ℕ)) → Option (List ℕ)
+text_of text = option_map (λ t. t.now) text
+
+abbrev pub asked_of : CodeAsked → Asked
+asked_of a =
+    record {
+      switches = a.switches;
+      configurations = texts_of a.configurations.items;
+      directory = text_of a.directory;
+      release = text_of a.release;
+      root = text_of a.root;
+      words = texts_of a.words.items;
+    }

@@ -1,0 +1,40 @@
+-- What ends a command line before a query is answered.
+use Rattle.std.specs.Prelude.{ℕ, if◌then◌else◌, List, [], ◌∷◌, Option, Some, None}
+use Rattle.modprobe_words.specs.declared.options.Switch.TheVariants as switch
+use Rattle.modprobe_words.specs.declared.options.Valued.TheVariants as valued
+use Rattle.modprobe_words.specs.declared.endings.Ending.{Ending as CodeEnding}
+use Rattle.modprobe_words.specs.declared.endings.Ending.TheVariants as code_ending
+use Rattle.modprobe_words.specs.Numbers.{is_number}
+use Rattle.modprobe_words.specs.Words.{Item, plain, with_value, operand, fault, Fault, fault_of}
+
+-- the version or the help is asked for, `--wait` has no number, or the words are refused
+pub data Ending : Type 0 where
+  version : Ending
+  help : Ending
+  bad_wait : List ℕ → Ending
+  refused : Fault → Ending
+
+abbrev pub ending_of : Item → Option Ending
+ending_of (plain switch.Version) = Some version
+ending_of (plain switch.Help) = Some help
+ending_of (plain _) = None
+ending_of (with_value valued.Wait text) = if is_number text then None else Some (bad_wait text)
+ending_of (with_value _ text) = None
+ending_of (operand word) = None
+ending_of (fault why) = Some (refused why)
+
+abbrev pub or_later : Option Ending → Option Ending → Option Ending
+or_later None later = later
+or_later (Some first) later = Some first
+
+-- the first item that ends a command line
+abbrev pub first_ending : List Item → Option Ending
+first_ending [] = None
+first_ending (item ∷ items) = or_later (ending_of item) (first_ending items)
+
+-- how contracts see the code's
+abbrev pub seen : CodeEnding → Ending
+seen code_ending.Version = version
+seen code_ending.Help = help
+seen (code_ending.BadWait text) = bad_wait text.now
+seen (code_ending.Refused why) = refused (fault_of why)

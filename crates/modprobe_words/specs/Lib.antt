@@ -1,0 +1,9 @@
+pub mod Options
+pub mod Found
+pub mod Words
+pub mod Numbers
+pub mod Asked
+pub mod Endings
+pub mod Variable
+pub mod Readings
+pub mod Wishes

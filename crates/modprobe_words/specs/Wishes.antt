@@ -1,0 +1,26 @@
+-- What the options of a command line wish for (modprobe(8)). `--showconfig` counts before all others, then
+-- `--show-modversions` and `--show-exports`, then `--remove`, then `--resolve-alias`.
+use Rattle.std.specs.Prelude.{Bool, not, if◌then◌else◌}
+use Rattle.modprobe_words.specs.declared.switches.Switches.{Switches}
+use Rattle.modprobe_words.specs.declared.wishes.Wish.{Wish}
+use Rattle.modprobe_words.specs.declared.wishes.Wish.TheVariants as wish
+
+abbrev pub loads : Switches → Wish
+loads s =
+    if s.resolve then wish.Resolve
+    else (if s.show_depends then wish.ShowDepends
+    else (if s.dry_run then wish.DryRun else wish.Load))
+
+-- a removal is no dry run without `--dry-run` and `--show-depends`
+abbrev pub removes : Switches → Wish
+removes s =
+    if s.remove_holders then wish.RemoveHolders
+    else (if s.show_depends then wish.ShowRemoval
+    else (if s.dry_run then wish.Remove else wish.Removal))
+
+unfoldable pub wish_of : Switches → Bool → Wish
+wish_of s has_name =
+    if s.show_config then wish.ShowConfig
+    else (if not has_name then wish.NoName
+    else (if s.show_module then wish.ShowModule
+    else (if s.remove then removes s else loads s)))

@@ -1,0 +1,55 @@
+//! The words that a program is given, as bytes.
+
+use std::alloc::AllocError;
+use std::env::{Env, FillError};
+
+/// How often a buffer is doubled.
+const TURNS: usize = 20;
+
+/// What is asked of the environment.
+#[derive(Clone, Copy, Drop)]
+enum Asking<'a> {
+    Word(usize),
+    Variable(&'a str),
+}
+
+fn fill<R: Env>(rt: &R, asking: Asking<'_>, buffer: &mut [u8]) -> Result<usize, FillError> {
+    match asking {
+        Asking::Word(at) => rt.arg(at, buffer),
+        Asking::Variable(name) => rt.var(name, buffer),
+    }
+}
+
+/// What is there, None where nothing is.
+fn told<R: Env + AllocGlobal>(rt: &R, asking: Asking<'_>) -> Result<Option<Vec<u8>>, AllocError> {
+    let mut size = 4096usize;
+    for _turn in 0..TURNS {
+        let mut buffer = vec![in rt.alloc(); 0u8; size]?;
+        match fill(rt, asking, &mut buffer) {
+            Ok(length) => {
+                buffer.truncate(length);
+                return Ok(Some(buffer));
+            }
+            Err(FillError::NotPresent) => return Ok(None),
+            Err(FillError::TooLong) => size = size.saturating_mul(2),
+        }
+    }
+    Err(AllocError)
+}
+
+/// The words of the program without its own name. Only want of memory refuses.
+pub fn given_words<R: Env + AllocGlobal>(rt: &R) -> Result<Vec<Vec<u8>>, AllocError> {
+    let mut words = Vec::new(rt.alloc());
+    for at in 1..usize::MAX {
+        match told(rt, Asking::Word(at))? {
+            Some(word) => words.push(word)?,
+            None => break,
+        }
+    }
+    Ok(words)
+}
+
+/// The text of MODPROBE_OPTIONS, where it is set. Only want of memory refuses.
+pub fn given_options<R: Env + AllocGlobal>(rt: &R) -> Result<Option<Vec<u8>>, AllocError> {
+    told(rt, Asking::Variable("MODPROBE_OPTIONS"))
+}

@@ -1,0 +1,76 @@
+//! What a command line asks for.
+ghost use Rattle.std.specs.Prelude.{◌≡◌, IfOk, OnOk};
+ghost use Rattle.modprobe_words.specs.Asked.{asked_by, asked_of, nothing_asked, with_item, with_option};
+ghost use Rattle.modprobe_words.specs.Words.{item_of, items_of};
+
+use crate::items::Item;
+use crate::options::Valued;
+use crate::switches::Switches;
+use std::alloc::{AllocError, Global};
+
+/// What a command line asks for, where its words are not refused.
+#[derive(Drop)]
+pub struct Asked<'a> {
+    pub switches: Switches,
+    /// Each `-C`.
+    pub configurations: Vec<&'a [u8]>,
+    /// The last `-d`.
+    pub directory: Option<&'a [u8]>,
+    /// The last `-S`.
+    pub release: Option<&'a [u8]>,
+    /// The last `--root`.
+    pub root: Option<&'a [u8]>,
+    /// The words that are no options.
+    pub words: Vec<&'a [u8]>,
+}
+
+impl<'a> Asked<'a> {
+    fn new(alloc: Global) -> Asked<'a>
+        ensures { asked_of result ≡ nothing_asked }
+    {
+        Asked {
+            switches: Switches::new(),
+            configurations: Vec::new(alloc),
+            directory: None,
+            release: None,
+            root: None,
+            words: Vec::new(alloc),
+        }
+    }
+
+    fn add_option(&mut self, option: Valued, text: &'a [u8]) -> Result<(), AllocError>
+        ensures { OnOk result (asked_of self.new ≡ with_option (asked_of self.old) option text.entry.now) }
+    {
+        match option {
+            Valued::Wait => {}
+            Valued::Config => self.configurations.push(text)?,
+            Valued::Dirname => self.directory = Some(text),
+            Valued::SetVersion => self.release = Some(text),
+            Valued::Root => self.root = Some(text),
+        }
+        Ok(())
+    }
+
+    fn add(&mut self, item: Item<'a>) -> Result<(), AllocError>
+        ensures { OnOk result (asked_of self.new ≡ with_item (asked_of self.old) (item_of item.entry)) }
+    {
+        match item {
+            Item::Plain(option) => self.switches = self.switches.with(option),
+            Item::WithValue(option, text) => self.add_option(option, text)?,
+            Item::Operand(word) => self.words.push(word)?,
+            Item::Refused(_) => {}
+        }
+        Ok(())
+    }
+
+    /// What items ask for, one after another. Only want of memory refuses.
+    pub fn by(alloc: Global, items: &[Item<'a>]) -> Result<Asked<'a>, AllocError>
+        ensures { IfOk result (λ asked. asked_of asked ≡ asked_by (items_of items.entry.now)) }
+    {
+        let mut asked = Asked::new(alloc);
+        for item in items {
+            asked.add(*item)?;
+        }
+        Ok(asked)
+    }
+}

@@ -1,0 +1,77 @@
+//! Options without values.
+ghost use Rattle.std.specs.Prelude.{◌≡◌};
+ghost use Rattle.modprobe_words.specs.Asked.{no_switch, with_switch};
+
+use crate::options::Switch;
+
+/// Which options without values were given.
+#[derive(Clone, Copy, Debug, Drop)]
+pub struct Switches {
+    pub all: bool,
+    pub remove: bool,
+    pub remove_holders: bool,
+    pub resolve: bool,
+    pub first_time: bool,
+    pub ignore_commands: bool,
+    pub use_blacklist: bool,
+    pub show_depends: bool,
+    pub show_config: bool,
+    /// What the file of a module has is asked for.
+    pub show_module: bool,
+    pub dry_run: bool,
+    pub explain: bool,
+    /// 4 at first.
+    pub verbosity: u64,
+}
+
+impl Switches {
+    pub(crate) fn new() -> Switches
+        ensures { result ≡ no_switch }
+    {
+        Switches {
+            all: false,
+            remove: false,
+            remove_holders: false,
+            resolve: false,
+            first_time: false,
+            ignore_commands: false,
+            use_blacklist: false,
+            show_depends: false,
+            show_config: false,
+            show_module: false,
+            dry_run: false,
+            explain: false,
+            verbosity: 4,
+        }
+    }
+
+    /// One option more.
+    pub(crate) fn with(self, option: Switch) -> Switches
+        ensures { result ≡ with_switch self option }
+    {
+        let mut switches = self;
+        match option {
+            Switch::All => switches.all = true,
+            Switch::Remove => switches.remove = true,
+            Switch::RemoveHolders => switches.remove_holders = true,
+            Switch::ResolveAlias => switches.resolve = true,
+            Switch::FirstTime => switches.first_time = true,
+            Switch::IgnoreCommands => switches.ignore_commands = true,
+            Switch::UseBlacklist => switches.use_blacklist = true,
+            Switch::ShowDepends => switches.show_depends = true,
+            Switch::ShowConfig => switches.show_config = true,
+            Switch::ShowModversions | Switch::ShowExports => switches.show_module = true,
+            Switch::DryRun => switches.dry_run = true,
+            Switch::Quiet => switches.verbosity = 0,
+            Switch::Verbose => switches.verbosity = switches.verbosity.saturating_add(1),
+            Switch::Explain => switches.explain = true,
+            Switch::Force
+            | Switch::ForceModversion
+            | Switch::ForceVermagic
+            | Switch::Syslog
+            | Switch::Version
+            | Switch::Help => {}
+        }
+        switches
+    }
+}

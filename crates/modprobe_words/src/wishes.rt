@@ -1,0 +1,68 @@
+//! What the options of a command line wish for.
+ghost use Rattle.std.specs.Prelude.{◌≡◌};
+ghost use Rattle.modprobe_words.specs.Wishes.{loads, wish_of};
+
+use crate::switches::Switches;
+
+/// What is asked, or why it is not answered.
+#[derive(Clone, Copy, Debug, Drop)]
+pub enum Wish {
+    ShowConfig,
+    ShowDepends,
+    DryRun,
+    Resolve,
+    Remove,
+    /// A removal, whatever is loaded.
+    ShowRemoval,
+    /// No name was given.
+    NoName,
+    /// What the file of a module has.
+    ShowModule,
+    /// Modules that hold one that is to be removed.
+    RemoveHolders,
+    /// A load that is no dry run.
+    Load,
+    /// A removal that is no dry run.
+    Removal,
+}
+
+impl Switches {
+    /// What is wished where nothing is removed.
+    fn loads(self) -> Wish
+        ensures { result ≡ loads self }
+    {
+        if self.resolve {
+            Wish::Resolve
+        } else if self.show_depends {
+            Wish::ShowDepends
+        } else if self.dry_run {
+            Wish::DryRun
+        } else {
+            Wish::Load
+        }
+    }
+
+    /// What is wished, where there is a name or not.
+    #[tactic(auto, unfolding(crate::specs::Wishes::wish_of))]
+    pub fn wish(self, has_name: bool) -> Wish
+        ensures { result ≡ wish_of self has_name }
+    {
+        if self.show_config {
+            Wish::ShowConfig
+        } else if !has_name {
+            Wish::NoName
+        } else if self.show_module {
+            Wish::ShowModule
+        } else if !self.remove {
+            self.loads()
+        } else if self.remove_holders {
+            Wish::RemoveHolders
+        } else if self.show_depends {
+            Wish::ShowRemoval
+        } else if self.dry_run {
+            Wish::Remove
+        } else {
+            Wish::Removal
+        }
+    }
+}
