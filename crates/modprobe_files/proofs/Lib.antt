@@ -1,0 +1,2 @@
+pub mod FileLemmas
+pub mod HiddenLemmas

@@ -1,0 +1,8 @@
+use Rattle.modprobe_files.proofs.HiddenLemmas.{hidden-file, hidden-name}
+use Rattle.modprobe_files.proofs.laws.hidden_files_do_not_count.Goals as goal
+
+pub returns-clause-file : goal.returns-clause-file
+returns-clause-file c = hidden-file
+
+pub returns-clause-name : goal.returns-clause-name
+returns-clause-name c = hidden-name

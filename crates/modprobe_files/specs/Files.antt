@@ -1,0 +1,68 @@
+-- Which files of a configuration count (modprobe.d(5)).
+use Rattle.std.specs.Prelude.{ℕ, Bool, if◌then◌else◌, List, [], ◌∷◌, ◌++◌, map, filter, fold, insert}
+use Rattle.std.specs.Cmp.Lexicographic.{slice_cmp}
+use Rattle.std.specs.Ordering.{is_lt, nat_cmp}
+use Rattle.std.specs.List.{flat_map, list_any, position_or_len}
+use Rattle.std.specs.Str.{bytes_eq}
+use Rattle.program_frame.specs.Folders.{counts}
+use Rattle.modprobe_files.specs.declared.files.File.{File as CodeFile}
+use Rattle.modprobe_files.specs.declared.files.Source.{Source as CodeSource}
+use Rattle.modprobe_files.specs.declared.files.Source.TheVariants as code_source
+use Rattle.modprobe_words.specs.Variable.{bytes_of}
+
+-- a file, and the name by which it stands for others of this name
+pub record File : Type 0 where
+  pub name : List ℕ
+  pub path : List ℕ
+
+-- a file of its own, or a folder with the names of what it holds that is no folder
+pub data Source : Type 0 where
+  single : List ℕ → List ℕ → Source
+  folder : List ℕ → List (List ℕ) → Source
+
+abbrev pub file_in : List ℕ → List ℕ → File
+file_in path name = record { name = name; path = path ++ (47 ∷ name) }
+
+abbrev pub candidates : Source → List File
+candidates (single name path) = record { name = name; path = path } ∷ []
+candidates (folder path names) = map (file_in path) (filter counts names)
+
+abbrev pub is_named : List ℕ → File → Bool
+is_named name file = bytes_eq file.name name
+
+abbrev pub has_name : List File → List ℕ → Bool
+has_name files name = list_any (is_named name) files
+
+-- by their bytes; what ends first comes first
+abbrev pub is_before : List ℕ → List ℕ → Bool
+is_before name other = is_lt (slice_cmp nat_cmp name other)
+
+-- before the first file that has a later name
+abbrev pub in_order : List File → File → List File
+in_order files file = insert files (position_or_len (λ other. is_before file.name other.name) files) file
+
+-- a file of a name that is there already does not count
+abbrev pub with_file : List File → File → List File
+with_file files file = if has_name files file.name then files else in_order files file
+
+-- the files that count, in the order in which they are read
+abbrev pub counted : List File → List File
+counted files = fold with_file [] files
+
+-- the same of sources
+abbrev pub counted_files : List Source → List File
+counted_files sources = counted (flat_map candidates sources)
+
+-- how contracts see the code's
+abbrev pub file_of : CodeFile → File
+file_of f = record { name = f.name.items; path = f.path.items }
+
+abbrev pub files_of : List CodeFile → List File
+files_of files = map file_of files
+
+abbrev pub source_of : CodeSource → Source
+source_of (code_source.Single name path) = single name.items path.items
+source_of (code_source.Folder path names) = folder path.items (bytes_of names.items)
+
+abbrev pub sources_of : List CodeSource → List Source
+sources_of sources = map source_of sources

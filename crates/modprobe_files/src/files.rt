@@ -1,0 +1,117 @@
+//! Which files of a configuration count.
+ghost use Rattle.std.specs.Prelude.{◌≡◌, ◌≤◌, length, IfOk, OnOk, fold};
+ghost use Rattle.std.specs.List.{position_or_len};
+ghost use Rattle.modprobe_words.specs.Variable.{bytes_of};
+ghost use Rattle.modprobe_files.specs.Files.{candidates, counted_files, file_in, file_of, files_of, folder, has_name, is_before, source_of, sources_of, with_file};
+
+use program_frame::counts;
+use std::alloc::{AllocError, Global};
+use text_parts::is_same;
+
+/// A file, and the name by which it stands for others of this name.
+#[derive(Debug, Drop)]
+pub struct File {
+    pub name: Vec<u8>,
+    pub path: Vec<u8>,
+}
+
+/// Where files of a configuration are.
+#[derive(Debug, Drop)]
+pub enum Source {
+    /// A file of its own, by its name and its path.
+    Single(Vec<u8>, Vec<u8>),
+    /// The path of a folder, and the names of all in it that is no folder.
+    Folder(Vec<u8>, Vec<Vec<u8>>),
+}
+
+/// Whether a name stands before another, by their bytes.
+fn is_before(name: &[u8], other: &[u8]) -> bool
+    ensures { result ≡ is_before name.now other.now }
+{
+    name.cmp(&other).is_lt()
+}
+
+fn has_name(files: &[File], name: &[u8]) -> bool
+    ensures { result ≡ has_name (files_of files.now) name.now }
+{
+    files.iter().any(|file| is_same(&file.name, name))
+}
+
+/// The place of the first file that has a later name, or behind the last one.
+fn place_of(files: &[File], name: &[u8]) -> usize
+    ensures place { result ≡ position_or_len (λ other. is_before name.now other.name) (files_of files.now) }
+    ensures bound { result ≤ length files.now }
+{
+    let found = files.iter().position(|file| is_before(name, &file.name));
+    found.unwrap_or(files.len())
+}
+
+/// Adds a file, unless there is one of its name.
+fn add_file(files: &mut Vec<File>, file: File) -> Result<(), AllocError>
+    ensures { OnOk result (files_of files.new.items ≡ with_file (files_of files.old.items) (file_of file)) }
+{
+    if has_name(files, &file.name) {
+        return Ok(());
+    }
+    let at = place_of(files, &file.name);
+    files.insert(at, file)?;
+    Ok(())
+}
+
+/// The file of a name in a folder.
+pub(crate) fn file_in(alloc: Global, path: &[u8], name: &[u8]) -> Result<File, AllocError>
+    ensures { IfOk result (λ file. file_of file ≡ file_in path.now name.now) }
+{
+    let mut own = Vec::from_slice(alloc, path)?;
+    own.push(b'/')?;
+    own.extend_from_slice(name)?;
+    Ok(File {
+        name: Vec::from_slice(alloc, name)?,
+        path: own,
+    })
+}
+
+/// Adds the files of a folder.
+fn add_folder(
+    alloc: Global,
+    files: &mut Vec<File>,
+    path: &[u8],
+    names: &[Vec<u8>],
+) -> Result<(), AllocError>
+    ensures { OnOk result (files_of files.new.items ≡ fold with_file (files_of files.old.items) (candidates (folder path.now (bytes_of names.now)))) }
+{
+    for name in names {
+        if counts(name) {
+            add_file(files, file_in(alloc, path, name)?)?;
+        }
+    }
+    Ok(())
+}
+
+/// Adds the files of a source.
+fn add_source(alloc: Global, files: &mut Vec<File>, source: &Source) -> Result<(), AllocError>
+    ensures { OnOk result (files_of files.new.items ≡ fold with_file (files_of files.old.items) (candidates (source_of source.now))) }
+{
+    match source {
+        Source::Single(name, path) => {
+            let file = File {
+                name: Vec::from_slice(alloc, name)?,
+                path: Vec::from_slice(alloc, path)?,
+            };
+            add_file(files, file)
+        }
+        Source::Folder(path, names) => add_folder(alloc, files, path, names),
+    }
+}
+
+/// The files that count, in the order in which they are read: of files of one name that of the first source, sorted by
+/// the bytes of names. Only want of memory refuses.
+pub fn counted_files(alloc: Global, sources: &[Source]) -> Result<Vec<File>, AllocError>
+    ensures { IfOk result (λ files. files_of files.items ≡ counted_files (sources_of sources.now)) }
+{
+    let mut files = Vec::new(alloc);
+    for source in sources {
+        add_source(alloc, &mut files, source)?;
+    }
+    Ok(files)
+}

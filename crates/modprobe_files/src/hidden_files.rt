@@ -1,0 +1,64 @@
+//! Files of a configuration that do not count, since others of their names come first.
+
+use crate::files::{File, Source, file_in};
+use crate::texts::HiddenFile;
+use program_frame::counts;
+use std::alloc::{AllocError, Global};
+use text_parts::is_same;
+
+/// Notes a file, where the one of its name that counts is another.
+fn add_file(
+    alloc: Global,
+    hidden: &mut Vec<HiddenFile>,
+    files: &[File],
+    own: File,
+) -> Result<(), AllocError> {
+    match files.iter().find(|file| is_same(&file.name, &own.name)) {
+        Some(file) if !is_same(&file.path, &own.path) => {
+            let by = Vec::from_slice(alloc, &file.path)?;
+            let File { name: _name, path } = own;
+            hidden.push(HiddenFile { path, by })?;
+            Ok(())
+        }
+        _ => Ok(()),
+    }
+}
+
+fn add_folder(
+    alloc: Global,
+    hidden: &mut Vec<HiddenFile>,
+    files: &[File],
+    folder: &[u8],
+    names: &[Vec<u8>],
+) -> Result<(), AllocError> {
+    for name in names {
+        if counts(name) {
+            add_file(alloc, hidden, files, file_in(alloc, folder, name)?)?;
+        }
+    }
+    Ok(())
+}
+
+/// The files of sources that are not among those that count. Only want of memory refuses.
+pub(crate) fn hidden_files(
+    alloc: Global,
+    sources: &[Source],
+    files: &[File],
+) -> Result<Vec<HiddenFile>, AllocError> {
+    let mut hidden = Vec::new(alloc);
+    for source in sources {
+        match source {
+            Source::Single(name, path) => {
+                let own = File {
+                    name: Vec::from_slice(alloc, name)?,
+                    path: Vec::from_slice(alloc, path)?,
+                };
+                add_file(alloc, &mut hidden, files, own)?;
+            }
+            Source::Folder(folder, names) => {
+                add_folder(alloc, &mut hidden, files, folder, names)?;
+            }
+        }
+    }
+    Ok(hidden)
+}

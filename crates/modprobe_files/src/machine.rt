@@ -1,0 +1,165 @@
+//! The texts of the machine that is asked.
+
+use crate::faults::tell_unread;
+use crate::files::{File, counted_files};
+use crate::hidden_files::hidden_files;
+use crate::host::{Host, joined};
+use crate::sources::configuration_sources;
+use crate::texts::{COMMAND_LINE, ConfTexts, ModuleTexts, TextFile};
+use modprobe_words::{Asked, Level, Messages};
+use std::alloc::AllocError;
+use std::env::{self, Env};
+use std::io::{ErrorKind, Write};
+use std::rt::Files;
+
+const RELEASE: &[u8] = b"/proc/sys/kernel/osrelease";
+
+/// The text of a file that may be missing. One that cannot be read is told, and has no text.
+fn text_of<R: Files + AllocGlobal, E: Write>(
+    host: &Host<'_, R>,
+    path: &[u8],
+    messages: &mut Messages<'_, E>,
+) -> Result<Option<Vec<u8>>, AllocError> {
+    match host.read(path) {
+        Ok(text) => Ok(Some(text)),
+        Err(error) if matches!(error.kind(), ErrorKind::NotFound | ErrorKind::NotADirectory) => Ok(
+            None,
+        ),
+        Err(error) => {
+            tell_unread(path, &error, messages)?;
+            Ok(None)
+        }
+    }
+}
+
+/// The release of the machine's kernel; None where it is not known, which is told.
+fn release<R: Files + AllocGlobal, E: Write>(
+    host: &Host<'_, R>,
+    messages: &mut Messages<'_, E>,
+) -> Result<Option<Vec<u8>>, AllocError> {
+    match host.read(RELEASE) {
+        Ok(mut text) => {
+            if text.last() == Some(&b'\n') {
+                text.pop();
+            }
+            Ok(Some(text))
+        }
+        Err(error) => {
+            if error.kind() == ErrorKind::OutOfMemory {
+                return Err(AllocError);
+            }
+            let text = b": name a release with -S";
+            messages.tell_always(Level::Error, b"cannot read ", RELEASE, text, b"");
+            Ok(None)
+        }
+    }
+}
+
+/// What stands before a path that does not begin at the root: the current folder, which below another root is `/`.
+fn before<R: Files + Env + AllocGlobal>(
+    host: &Host<'_, R>,
+    path: &[u8],
+) -> Result<Vec<u8>, AllocError> {
+    let alloc = host.rt.alloc();
+    if path.is_empty() || path.starts_with(b"/") {
+        return Ok(Vec::new(alloc));
+    }
+    match env::current_dir(host.rt) {
+        Ok(current) if host.root.is_empty() => joined(
+            alloc,
+            current.as_str().as_bytes(),
+            b"/",
+            b"",
+        ),
+        Err(error) if error.kind() == ErrorKind::OutOfMemory => Err(AllocError),
+        _ => joined(alloc, b"//", b"", b""),
+    }
+}
+
+/// The folder of modules, as it is printed; None where the release is not known, which is told.
+pub fn directory<R: Files + Env + AllocGlobal, E: Write>(
+    host: &Host<'_, R>,
+    asked: &Asked<'_>,
+    messages: &mut Messages<'_, E>,
+) -> Result<Option<Vec<u8>>, AllocError> {
+    let alloc = host.rt.alloc();
+    let own = match asked.release {
+        Some(release) => Some(Vec::from_slice(alloc, release)?),
+        None => release(host, messages)?,
+    };
+    let Some(release) = own else {
+        return Ok(None);
+    };
+    let parent = asked.directory.unwrap_or(b"");
+    let before = before(host, parent)?;
+    let mut path = joined(alloc, &before, parent, b"/lib/modules/")?;
+    path.extend_from_slice(&release)?;
+    Ok(Some(path))
+}
+
+/// Reads the files that count. One that is missing or cannot be read is left out.
+fn read_files<R: Files + AllocGlobal, E: Write>(
+    host: &Host<'_, R>,
+    files: Vec<File>,
+    messages: &mut Messages<'_, E>,
+) -> Result<Vec<TextFile>, AllocError> {
+    let mut texts = Vec::new(host.rt.alloc());
+    for file in files.into_iter() {
+        if let Some(text) = text_of(host, &file.path, messages)? {
+            let File { name: _name, path } = file;
+            texts.push(TextFile { path, text })?;
+        }
+    }
+    Ok(texts)
+}
+
+/// The texts of the configuration: the files that count, and the kernel's command line.
+pub fn read_configuration<R: Files + AllocGlobal, E: Write>(
+    host: &Host<'_, R>,
+    directory: &[u8],
+    paths: &[&[u8]],
+    messages: &mut Messages<'_, E>,
+) -> Result<ConfTexts, AllocError> {
+    let sources = configuration_sources(host, directory, paths, messages)?;
+    let files = counted_files(host.rt.alloc(), &sources)?;
+    let hidden = if messages.explains {
+        hidden_files(host.rt.alloc(), &sources, &files)?
+    } else {
+        Vec::new(host.rt.alloc())
+    };
+    Ok(ConfTexts {
+        files: read_files(host, files, messages)?,
+        command_line: text_of(host, COMMAND_LINE, messages)?,
+        hidden,
+    })
+}
+
+/// The text of a file of a folder; empty where it is missing.
+fn text_in<R: Files + AllocGlobal, E: Write>(
+    host: &Host<'_, R>,
+    directory: &[u8],
+    name: &[u8],
+    messages: &mut Messages<'_, E>,
+) -> Result<Vec<u8>, AllocError> {
+    let alloc = host.rt.alloc();
+    let path = joined(alloc, directory, b"/", name)?;
+    match text_of(host, &path, messages)? {
+        Some(text) => Ok(text),
+        None => Ok(Vec::new(alloc)),
+    }
+}
+
+/// The texts of a folder of modules.
+pub fn read_modules<R: Files + AllocGlobal, E: Write>(
+    host: &Host<'_, R>,
+    directory: &[u8],
+    messages: &mut Messages<'_, E>,
+) -> Result<ModuleTexts, AllocError> {
+    Ok(ModuleTexts {
+        dep: text_in(host, directory, b"modules.dep", messages)?,
+        alias: text_in(host, directory, b"modules.alias", messages)?,
+        symbols: text_in(host, directory, b"modules.symbols", messages)?,
+        builtin: text_in(host, directory, b"modules.builtin", messages)?,
+        builtin_modinfo: text_in(host, directory, b"modules.builtin.modinfo", messages)?,
+    })
+}
