@@ -1,0 +1,8 @@
+use Rattle.std.proofs.Common.{ℕ, ◌+◌, ◌≤◌, length}
+use Rattle.kmod_explain.proofs.named_lines.by_files.Given as goal
+
+abbrev pub invariant-lines : goal.invariant-lines
+invariant-lines l = l.number + length l.lines ≤ length l.fn.text + 1
+
+abbrev pub decreases-lines : goal.decreases-lines
+decreases-lines l = length l.lines

@@ -1,0 +1,5 @@
+use Rattle.std.proofs.Common.{ℕ, length}
+use Rattle.kmod_explain.proofs.near_names.without_beginning.Given as goal
+
+abbrev pub decreases-bytes : goal.decreases-bytes
+decreases-bytes l = length l.left

@@ -1,0 +1,13 @@
+-- What people are told of an answer.
+use Rattle.std.specs.Prelude.{ℕ, Bool, not, ◌==◌, ◌||◌, nat_lt, if◌then◌else◌}
+
+abbrev pub is_control : ℕ → Bool
+is_control byte = nat_lt byte 32 || byte == 127
+
+-- a control character is shown as a question mark
+abbrev pub shown_byte : ℕ → ℕ
+shown_byte byte = if is_control byte then 63 else byte
+
+-- a line feed, or no control character
+abbrev pub is_shown : ℕ → Bool
+is_shown byte = byte == 10 || not (is_control byte)

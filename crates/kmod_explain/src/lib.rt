@@ -1,0 +1,18 @@
+//! Why kmod answers as it does: which line of which file says so.
+#![tactic(auto)]
+
+mod explaining;
+mod finding;
+mod heads;
+mod idle_lines;
+mod named_lines;
+mod near_names;
+mod shown;
+mod sources;
+mod tasks;
+mod told;
+mod told_modules;
+mod told_words;
+
+pub use explaining::explanation;
+pub use sources::{Hidden, Sources};

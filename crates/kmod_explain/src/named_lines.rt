@@ -1,0 +1,62 @@
+//! All lines that are found by their very names.
+
+use crate::heads::{Heads, of_names, of_softdeps, of_texts};
+use kmod_conf::Conf;
+use kmod_names::{KeyPlaces, name_of_path};
+use std::alloc::{AllocError, Global};
+use text_parts::whole_lines;
+
+/// The lines of a configuration by kinds, and those of modules.builtin by their numbers, from 1.
+#[derive(Drop)]
+pub(crate) struct NamedLines<'a> {
+    pub(crate) blacklist: Heads<'a>,
+    pub(crate) installs: Heads<'a>,
+    pub(crate) removes: Heads<'a>,
+    pub(crate) softdeps: Heads<'a>,
+    pub(crate) builtins: KeyPlaces,
+}
+
+/// Adds the number of a line of modules.builtin, where it names a module.
+fn add_file(
+    alloc: Global,
+    numbers: &mut KeyPlaces,
+    number: usize,
+    line: &[u8],
+) -> Result<(), AllocError> {
+    match line.first() {
+        Some(byte) if byte.is_ascii_alphabetic() => {
+            let name = name_of_path(alloc, line)?;
+            numbers.add(alloc, name.as_bytes(), number)
+        }
+        _ => Ok(()),
+    }
+}
+
+/// The numbers of the lines of modules.builtin, by the names of modules.
+fn by_files(alloc: Global, text: &[u8]) -> Result<KeyPlaces, AllocError> {
+    let mut numbers = KeyPlaces::new(alloc);
+    let mut lines = whole_lines(text);
+    let mut number = 1usize;
+    'lines: while let Some(line) = lines.next() {
+        add_file(alloc, &mut numbers, number, line)?;
+        number += 1;
+    }
+    Ok(numbers)
+}
+
+impl<'a> NamedLines<'a> {
+    /// The lines of a configuration and of a text of modules.builtin.
+    pub(crate) fn of(
+        alloc: Global,
+        conf: &'a Conf,
+        builtin: &[u8],
+    ) -> Result<NamedLines<'a>, AllocError> {
+        Ok(NamedLines {
+            blacklist: of_names(alloc, conf.blacklist())?,
+            installs: of_texts(alloc, conf.installs())?,
+            removes: of_texts(alloc, conf.removes())?,
+            softdeps: of_softdeps(alloc, conf.softdeps())?,
+            builtins: by_files(alloc, builtin)?,
+        })
+    }
+}

@@ -1,0 +1,222 @@
+//! What is told of a module: the lines that count for it, and those that do not.
+
+use crate::explaining::Explaining;
+use crate::told::{Saying, Spot};
+use crate::told_words::DEPENDENCIES;
+use kmod_conf::TextLine;
+use kmod_names::{Place, Text};
+use kmod_query::{Ask, ModuleStatus};
+use std::alloc::AllocError;
+use text_parts::is_same;
+
+const MODULES: &[u8] = b"/sys/module";
+
+/// What is told of a line that an earlier one of its kind keeps from counting.
+pub(crate) const LATER: &[u8] = b" line does not count, since another comes first";
+
+impl Explaining<'_> {
+    /// Tells what /sys/module says of a module, and what follows.
+    pub(crate) fn tell_state(
+        &mut self,
+        name: &[u8],
+        state: &[u8],
+        why: &[u8],
+    ) -> Result<(), AllocError> {
+        let what = Saying::with_name(state, why);
+        self.told.say(name, what, Spot::Whole(MODULES))
+    }
+
+    /// Tells that the kernel has a module, and what follows.
+    pub(crate) fn tell_in_kernel(&mut self, name: &[u8], why: &[u8]) -> Result<(), AllocError> {
+        if self.is_live(name) {
+            self.tell_state(name, b"loaded already", why)
+        } else {
+            self.tell_built_in(name, name, why)
+        }
+    }
+
+    /// Tells the blacklist lines of a module.
+    pub(crate) fn tell_blacklist(&mut self, name: &[u8], why: &[u8]) -> Result<(), AllocError> {
+        for place in self.named.blacklist.places(self.alloc, name)?.iter() {
+            let what = Saying::with_name(b"blacklisted", why);
+            self.told.say_of(name, what, *place)?;
+        }
+        Ok(())
+    }
+
+    /// Tells a module that another one needs.
+    fn tell_need(&mut self, name: &[u8], need: &[u8], number: usize) -> Result<(), AllocError> {
+        let what = Saying::with_name(b"needed by ", name);
+        self.told.say(need, what, Spot::Line(DEPENDENCIES, number))?;
+        self.tasks.add_need(self.alloc, need)
+    }
+
+    /// Tells what a module needs.
+    pub(crate) fn tell_needs(&mut self, name: &[u8]) -> Result<(), AllocError> {
+        let index = self.world.index;
+        let Some(line) = index.dependencies().find(name) else {
+            return Ok(());
+        };
+        let needs = line.needed_names(self.alloc)?;
+        for need in needs.iter() {
+            self.tell_need(name, need.as_bytes(), line.number())?;
+        }
+        Ok(())
+    }
+
+    /// Tells the options of a module, and of the alias by which it came.
+    fn tell_options(&mut self, name: &[u8], alias: Option<&[u8]>) -> Result<(), AllocError> {
+        let conf = self.world.conf;
+        for line in conf.options_of(self.alloc, name, alias)?.iter() {
+            let own = line.name.as_bytes();
+            let what = Saying::with_name(b"options ", line.text.as_bytes());
+            let what = if is_same(own, name) {
+                what
+            } else {
+                what.and(b", of the alias ", own)
+            };
+            self.told.say_of(name, what, line.place)?;
+        }
+        Ok(())
+    }
+
+    /// Tells the command of a module, or why it does not count.
+    fn tell_command(
+        &mut self,
+        name: &[u8],
+        words: &[u8],
+        line: Option<&TextLine>,
+        why: &[u8],
+    ) -> Result<(), AllocError> {
+        match line {
+            Some(line) => {
+                let what = Saying::with_name(words, line.text.as_bytes());
+                self.told.say_of(name, what.and(why, b""), line.place)
+            }
+            None => Ok(()),
+        }
+    }
+
+    /// Tells the lines of a module that an earlier one of their kind keeps from counting.
+    fn tell_later(
+        &mut self,
+        name: &[u8],
+        words: &[u8],
+        counting: Option<Place>,
+        places: &[Place],
+    ) -> Result<(), AllocError> {
+        for place in places {
+            if counting != Some(*place) {
+                self.told
+                    .say_of(name, Saying::with_name(words, LATER), *place)?;
+            }
+        }
+        Ok(())
+    }
+
+    /// Tells words of a softdep line. Whether one of them stands for a module is answered.
+    fn tell_items(
+        &mut self,
+        name: &[u8],
+        when: &[u8],
+        words: &[Text],
+        place: Place,
+    ) -> Result<bool, AllocError> {
+        let mut found = false;
+        for word in words {
+            let what = Saying::with_name(when, name);
+            self.told.say_of(word.as_bytes(), what, place)?;
+            found = self.tell_soft(word.as_bytes())? || found;
+        }
+        Ok(found)
+    }
+
+    /// Tells the soft items of a module. Whether it has some is answered.
+    fn tell_softdep(&mut self, name: &[u8]) -> Result<bool, AllocError> {
+        let conf = self.world.conf;
+        let Some(line) = conf.softdep_of(self.alloc, name)? else {
+            return Ok(false);
+        };
+        let before = self.tell_items(name, b"softdep before ", line.items.pre(), line.place)?;
+        let after = self.tell_items(name, b"softdep after ", line.items.post(), line.place)?;
+        let others = self.named.softdeps.places(self.alloc, name)?;
+        self.tell_later(name, b"softdep", Some(line.place), &others)?;
+        Ok(before || after)
+    }
+
+    /// Tells the install lines of a module; why the one that counts is passed over, where it is.
+    fn tell_install(&mut self, name: &[u8], why: &[u8]) -> Result<(), AllocError> {
+        let conf = self.world.conf;
+        let line = conf.install_of(self.alloc, name)?;
+        self.tell_command(name, b"install ", line, why)?;
+        let others = self.named.installs.places(self.alloc, name)?;
+        self.tell_later(name, b"install", line.map(|line| line.place), &others)
+    }
+
+    /// Tells the remove lines of a module; why the one that counts is passed over, where it is.
+    fn tell_remove(&mut self, name: &[u8], why: &[u8]) -> Result<(), AllocError> {
+        let conf = self.world.conf;
+        let line = conf.remove_of(self.alloc, name)?;
+        self.tell_command(name, b"remove ", line, why)?;
+        let others = self.named.removes.places(self.alloc, name)?;
+        self.tell_later(name, b"remove", line.map(|line| line.place), &others)
+    }
+
+    /// Tells what counts for a load of a module.
+    fn tell_loaded(
+        &mut self,
+        name: &[u8],
+        alias: Option<&[u8]>,
+        is_bare: bool,
+    ) -> Result<(), AllocError> {
+        let has_items = !is_bare && self.tell_softdep(name)?;
+        if self.query.ask == Ask::DryRun && self.is_in_kernel(name) {
+            return self.tell_in_kernel(name, b"");
+        }
+        self.tell_options(name, alias)?;
+        let why: &[u8] = match (is_bare, has_items) {
+            (true, _) => b", passed over by -i",
+            (false, true) => b", passed over since it has soft items",
+            (false, false) => b"",
+        };
+        self.tell_install(name, why)
+    }
+
+    /// Tells how many use a module.
+    fn tell_users(&mut self, name: &[u8], status: ModuleStatus) -> Result<(), AllocError> {
+        match status.users {
+            Some(users) if users > 0 => {
+                let number = format!(in self.alloc; "{users}")?;
+                let what = Saying::with_name(b"its count of users is ", number.as_bytes());
+                self.told.say(name, what, Spot::Whole(MODULES))
+            }
+            _ => Ok(()),
+        }
+    }
+
+    /// Tells what counts for a removal of a module.
+    fn tell_removed(&mut self, name: &[u8]) -> Result<(), AllocError> {
+        let is_bare = self.query.ignore_commands;
+        if let Some(status) = self.world.states.of(name) {
+            self.tell_users(name, status)?;
+        }
+        if !is_bare {
+            let _ = self.tell_softdep(name)?;
+        }
+        let why: &[u8] = if is_bare { b", passed over by -i" } else { b"" };
+        self.tell_remove(name, why)
+    }
+
+    /// Tells the lines of a module that count, and those of its name that do not.
+    pub(crate) fn tell_own(
+        &mut self,
+        name: &[u8],
+        alias: Option<&[u8]>,
+        is_bare: bool,
+    ) -> Result<(), AllocError> {
+        match self.query.ask {
+            Ask::Remove | Ask::ShowRemoval => self.tell_removed(name),
+            _ => self.tell_loaded(name, alias, is_bare),
+        }
+    }
+}

@@ -1,0 +1,147 @@
+//! What is told of a word of a command line or of a softdep line.
+
+use crate::explaining::Explaining;
+use crate::finding::Finding;
+use crate::near_names::is_near;
+use crate::told::{Saying, Spot};
+use kmod_index::IndexLine;
+use kmod_names::{AliasEntry, name_of_path};
+use std::alloc::AllocError;
+use text_parts::is_same;
+
+pub(crate) const DEPENDENCIES: &[u8] = b"modules.dep";
+
+const ALIASES: &[u8] = b"modules.alias";
+
+const SYMBOLS: &[u8] = b"modules.symbols";
+
+const BUILTIN: &[u8] = b"modules.builtin";
+
+const BUILTIN_MODINFO: &[u8] = b"modules.builtin.modinfo";
+
+/// How many near names are told.
+const NEAR_NAMES: usize = 3;
+
+impl Explaining<'_> {
+    fn tell_configured(&mut self, word: &[u8], entries: &[&AliasEntry]) -> Result<(), AllocError> {
+        for entry in entries {
+            let pattern = entry.pattern.as_bytes();
+            let what = Saying::with_name(b"alias of ", entry.target.as_bytes());
+            self.told
+                .say_of(word, what.and(b", as ", pattern), entry.place)?;
+        }
+        Ok(())
+    }
+
+    fn tell_exported(&mut self, word: &[u8], lines: &[&IndexLine]) -> Result<(), AllocError> {
+        for line in lines {
+            let what = Saying::with_name(b"exported by ", line.name());
+            self.told
+                .say(word, what, Spot::Line(SYMBOLS, line.number()))?;
+        }
+        Ok(())
+    }
+
+    fn tell_aliased(&mut self, word: &[u8], lines: &[&IndexLine]) -> Result<(), AllocError> {
+        for line in lines {
+            let what = Saying::with_name(b"alias of ", line.name());
+            let spot = Spot::Line(ALIASES, line.number());
+            self.told.say(word, what.and(b", as ", line.key()), spot)?;
+        }
+        Ok(())
+    }
+
+    fn tell_aliased_built_in(
+        &mut self,
+        word: &[u8],
+        lines: &[&IndexLine],
+    ) -> Result<(), AllocError> {
+        for line in lines {
+            let what = Saying::with_name(b"alias of the built-in ", line.name());
+            let spot = Spot::Entry(BUILTIN_MODINFO, line.number());
+            self.told.say(word, what.and(b", as ", line.key()), spot)?;
+        }
+        Ok(())
+    }
+
+    /// Tells the lines of commands of this very name.
+    fn tell_commanded(&mut self, word: &[u8], name: &[u8]) -> Result<(), AllocError> {
+        for place in self.named.installs.places(self.alloc, name)?.iter() {
+            let what = Saying::of(b"name of an install line");
+            self.told.say_of(word, what, *place)?;
+        }
+        for place in self.named.removes.places(self.alloc, name)?.iter() {
+            let what = Saying::of(b"name of a remove line");
+            self.told.say_of(word, what, *place)?;
+        }
+        Ok(())
+    }
+
+    /// Tells the line of a module that is built in.
+    pub(crate) fn tell_built_in(
+        &mut self,
+        word: &[u8],
+        name: &[u8],
+        why: &[u8],
+    ) -> Result<(), AllocError> {
+        let spot = match self.named.builtins.of(name).first() {
+            Some(number) => Spot::Line(BUILTIN, *number),
+            None => Spot::Nowhere,
+        };
+        self.told
+            .say(word, Saying::with_name(b"built in", why), spot)
+    }
+
+    /// Tells why a word, whose normal form is a name, stands for modules, or that it stands for none.
+    pub(crate) fn tell_finding(
+        &mut self,
+        word: &[u8],
+        name: &[u8],
+        finding: &Finding<'_>,
+    ) -> Result<(), AllocError> {
+        match finding {
+            Finding::Configured(entries) => self.tell_configured(word, entries),
+            Finding::Module(line) => {
+                let spot = Spot::Line(DEPENDENCIES, line.number());
+                self.told
+                    .say(word, Saying::with_name(b"module ", line.path()), spot)
+            }
+            Finding::Exported(lines) => self.tell_exported(word, lines),
+            Finding::Commanded => self.tell_commanded(word, name),
+            Finding::Aliased(lines) => self.tell_aliased(word, lines),
+            Finding::BuiltIn => self.tell_built_in(word, name, b""),
+            Finding::AliasedBuiltIn(lines) => self.tell_aliased_built_in(word, lines),
+            Finding::Nothing => {
+                let what = Saying::of(b"no module, alias or built-in has this name");
+                self.told.say(word, what, Spot::Nowhere)
+            }
+        }
+    }
+
+    /// Tells modules whose names are near a file's or another name.
+    fn tell_near_names(&mut self, word: &[u8], name: &[u8]) -> Result<(), AllocError> {
+        let index = self.world.index;
+        let mut left = NEAR_NAMES;
+        for line in index.dependencies().lines() {
+            let own = line.name(self.alloc)?;
+            let own = own.as_bytes();
+            if left > 0 && (is_same(own, name) || is_near(own, name)) {
+                let spot = Spot::Line(DEPENDENCIES, line.number());
+                self.told
+                    .say(word, Saying::with_name(b"there is ", own), spot)?;
+                left -= 1;
+            }
+        }
+        Ok(())
+    }
+
+    /// Tells modules whose names are near a word that stands for none, for the first such words.
+    pub(crate) fn tell_near(&mut self, word: &[u8]) -> Result<(), AllocError> {
+        if self.searches == 0 {
+            return Ok(());
+        }
+        self.searches -= 1;
+        let name = name_of_path(self.alloc, word)?;
+        self.tell_near_names(word, name.as_bytes())
+    }
+}
