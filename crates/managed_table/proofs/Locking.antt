@@ -1,11 +1,12 @@
 -- The steps of a pass are allowed.
-use Rattle.std.proofs.Common.{◌≡◌, ◌≢◌, ℕ, ◌<◌, List, [], ◌∷◌, length, get_or, set, Option, Some, None, ◌==◌, MatchBool, refl, sym, ap, ◌∙◌, subst, inl, inr, arith, replicate, eq-eqb, ne_eqb}
+use Rattle.std.proofs.Common.{◌≡◌, ◌≢◌, ℕ, ◌+◌, ◌-◌, ◌%◌, ◌^◌, ◌<◌, List, [], ◌∷◌, length, get_or, set, eqb, Option, Some, None, ◌==◌, MatchBool, refl, sym, ap, ◌∙◌, subst, inl, inr, arith, replicate, eq-eqb, ne_eqb}
 use Rattle.std.proofs.lemmas.Bool.{cases_eq}
 use Rattle.std.proofs.lemmas.List.{get_or-replicate, length-replicate}
 use mathlib.Core.Option.{some, none, some-ne-none}
 use lib.ListN.{get_elem?}
-use Rattle.atomic_table.specs.Table.{Me, takes, gives, keeps, put_back, rest, opening, step, Allows, Enters}
-use Rattle.atomic_table.proofs.Lists.{set_again, at_map}
+use prog.Atomic.{either}
+use Rattle.atomic_table.specs.Table.{Me, Act, Valid, takes, gives, keeps, put_back, rest, carried_after, opening, step, stepped, Allows, Enters}
+use Rattle.atomic_table.proofs.Lists.{set_again, at_map, exchanged}
 use Rattle.root_row.specs.declared.view.SeatAnswer.{SeatAnswer}
 use Rattle.root_row.specs.Seats.{RowIs}
 use Rattle.root_row.specs.World.{place_of}
@@ -17,7 +18,8 @@ use Rattle.managed_table.specs.declared.view.Pass.{Pass}
 use Rattle.managed_table.specs.declared.view.Passes.{Passes}
 use Rattle.managed_table.specs.declared.rule.Setting.{Setting}
 use Rattle.managed_table.specs.Locks.{Place, Accounts, FitsPass, HasTurn, LocksRule, AreFresh, first_view}
-use Rattle.managed_table.specs.Turns.{taken, alone, pass_of, new_pass, with_turns, turn_of, seen_in_hand, HasTaken, Seizes, Releases, EntersAs}
+use Rattle.managed_table.specs.Turns.{taken, alone, pass_of, new_pass, with_turns, turn_of, seen_in_hand, after_turn, HasTaken, IsSame, Seizes, Releases, LetsGo, EntersAs}
+use Rattle.managed_table.specs.Passes.{HasInHand}
 use Rattle.managed_table.proofs.Places.{place_new}
 use Rattle.managed_table.proofs.Keeping as keeping
 
@@ -66,6 +68,65 @@ module _ {T : Type 0} (row : RowIs) (locks : ℕ) (by : ℕ → SeatName) (fits 
             (keeping.released row locks by fits seen s kept id mine at' w x b has (subst (λ r. fits r w x) (keeping.mine row locks by fits seen s kept id mine at').same_row fit) grows (homes ∙ as_many)),
         (refl, ap rest hand),
       )
+
+-- 1 less, where the word has 64 bits
+to_zero : (n : ℕ) → n ≡ 1 → (n + 18446744073709551615) % 18446744073709551616 ≡ 0
+to_zero n is_one = ap (λ k. (k + 18446744073709551615) % 18446744073709551616) is_one
+
+stays_shut : (n : ℕ) → n < 18446744073709551616 → n ≢ 1 → (n + 18446744073709551615) % 18446744073709551616 ≢ 0
+stays_shut n small marked e = marked (omega arith)
+
+module _ {T : Type 0} (row : RowIs) (locks : ℕ) (by : ℕ → SeatName) (fits : RowIs → ℕ → T → Type 0) (seen : T → List SeatAnswer) (slots' id : ℕ) (me : Me T Passes) (one : me.0 ≡ alone (pass_of me.0)) where
+  abbrev own_pass : Pass
+  own_pass = pass_of me.0
+
+  -- an exchange of 0 leaves any other word
+  pub tries : (w mark : ℕ) → me.1 ≡ [] → own_pass.taken ≡ None → w < locks → mark ≢ 0
+      → Allows (LocksRule row locks by fits seen) slots' id me (place_of w) (λ n. either (eqb n 0) mark n) (Seizes fits seen (step slots' (place_of w) 0 mark none) me)
+  tries w mark empty none_taken inside shut s kept homes at small = exchanged found 0 mark Goal hit miss
+    where
+      found : ℕ
+      found = get_or s.words (place_of w) 0
+
+      Goal : ℕ → Type 0
+      Goal n = (v : Passes) × (a : Act T) × Valid s.homes me.1 a × LocksRule row locks by fits seen (stepped s (place_of w) n id me.1 v a) × Seizes fits seen (step slots' (place_of w) 0 mark none) me (get_or s.words (place_of w) 0) (v, carried_after me.1 a)
+
+      hit : get_or s.words (place_of w) 0 ≡ 0 → Goal mark
+      hit unlocked = seizes row locks by fits seen slots' id me one w mark empty none_taken inside shut s kept homes at small
+
+      miss : get_or s.words (place_of w) 0 ≢ 0 → Goal (get_or s.words (place_of w) 0)
+      miss away = seizes row locks by fits seen slots' id me one w (get_or s.words (place_of w) 0) empty none_taken inside away s kept homes at small
+
+  -- a lock that is waited for stays taken where its word becomes 1 less
+  pub drops : (w : ℕ) (x : T) (b : List SeatAnswer) → me.1 ≡ (w, x) ∷ [] → own_pass.taken ≡ Some (taken w b) → fits own_pass.row.value w x → StartsWith (seen x) b → slots' ≡ locks
+      → Allows (LocksRule row locks by fits seen) slots' id me (place_of w) (λ n. (n + (2 ^ 64 - 1)) % 2 ^ 64) (LetsGo seen (step slots' (place_of w) 1 0 none) me)
+  drops w x b hand has fit grows as_many s kept homes at small = elim (cases_eq (get_or s.words (place_of w) 0) 1) [
+    | inl is_one ↦ (
+        let r = releases row locks by fits seen slots' id me one w x b hand has fit grows as_many s kept homes at small in (
+          r.0,
+          r.1,
+          r.2,
+          subst (λ n. LocksRule row locks by fits seen (stepped s (place_of w) n id me.1 r.0 r.1)) (sym (to_zero (get_or s.words (place_of w) 0) is_one)) r.3,
+          subst (λ t. MatchBool t (Releases seen (step slots' (place_of w) 1 0 none) me (get_or s.words (place_of w) 0) (r.0, carried_after me.1 r.1)) (IsSame me (r.0, carried_after me.1 r.1))) (sym (eq-eqb (get_or s.words (place_of w) 0) 1 is_one)) r.4,
+        ))
+    | inr marked ↦ (
+        let held = (keeping.mine row locks by fits seen s kept id own_pass (at ∙ ap some one)).held (taken w b) has in
+        let less : ℕ = (get_or s.words (place_of w) 0 + 18446744073709551615) % 18446744073709551616 in (
+          me.0,
+          keeps,
+          tt,
+          subst (λ l. LocksRule row locks by fits seen (record { words = set s.words (place_of w) less; homes = s.homes; views = l })) (sym (set_again s.views id me.0 at))
+              (keeping.busy row locks by fits seen s kept w less held.inside (stays_shut (get_or s.words (place_of w) 0) small marked) held.shut),
+          subst (λ t. MatchBool t (Releases seen (step slots' (place_of w) 1 0 none) me (get_or s.words (place_of w) 0) (me.0, me.1)) (IsSame me (me.0, me.1))) (sym (ne_eqb (get_or s.words (place_of w) 0) 1 marked)) (refl, refl),
+        ))
+  ]
+
+module _ {T : Type 0} (seen : T → List SeatAnswer) (me me' : Me T Passes) (same : IsSame me me') where
+  pub still_in_hand : (fits : RowIs → ℕ → T → Type 0) (lock : ℕ) → HasInHand fits seen lock (pass_of me.0) me → HasInHand fits seen lock (pass_of me'.0) me'
+  still_in_hand fits lock = subst (λ (m : Me T Passes). HasInHand fits seen lock (pass_of m.0) m) (λ i. (sym same.0 i, sym same.1 i))
+
+  pub same_turn : after_turn seen me' ≡ after_turn seen me
+  same_turn = ap (λ (m : Me T Passes). after_turn seen m) (λ i. (same.0 i, same.1 i))
 
 pub enters : {T : Type 0} (setting : Setting) (by : ℕ → SeatName) (fits : RowIs → ℕ → T → Type 0) (seen : T → List SeatAnswer) (slots' : ℕ)
     → Enters (LocksRule setting.row.value setting.locks by fits seen) slots' 0 (λ n w. EntersAs {T = T} (step slots' 0 0 0 none) (first_view setting, []) n (w, []))

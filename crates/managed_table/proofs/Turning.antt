@@ -7,8 +7,12 @@ use Rattle.root_row.specs.declared.view.SeatAnswer.{SeatAnswer}
 use Rattle.root_row.specs.Seats.{RowIs}
 use Rattle.managed_table.specs.declared.view.Pass.{Pass}
 use Rattle.managed_table.specs.declared.view.Passes.{Passes}
-use Rattle.managed_table.specs.Turns.{taken, alone, pass_of, with_taken, with_turns, turn_of, seen_in_hand, HasTaken, MadeTurn}
+use Rattle.managed_table.specs.Turns.{taken, alone, pass_of, with_taken, with_turns, turn_of, seen_in_hand, HasTaken, IsSame, MadeTurn}
 use Rattle.managed_table.specs.Passes.{HasInHand, MayActOn, ActedOn}
+
+-- the lock was taken at a later try
+pub took_later : {T : Type 0} (fits : RowIs → ℕ → T → Type 0) (seen : T → List SeatAnswer) (lock : ℕ) (me me1 me2 : Me T Passes) → IsSame me me1 → HasTaken fits seen lock (pass_of me1.0) me2 → HasTaken fits seen lock (pass_of me.0) me2
+took_later fits seen lock me me1 me2 same = subst (λ v. HasTaken fits seen lock (pass_of v) me2) same.0
 
 abbrev in_hand : {T : Type 0} → T → List (ℕ × T) → T
 in_hand d [] = d

@@ -100,6 +100,10 @@ module _ {T : Type 0} where
   abbrev pub Releases : (T → List SeatAnswer) → Step T → Me T Passes → ℕ → Me T Passes → Type 0
   Releases seen st me found me' = (me'.0 ≡ after_turn seen me) × (me'.1 ≡ [])
 
+  -- where the word was the number that is subtracted, the turn is over; else nothing is known
+  abbrev pub LetsGo : (T → List SeatAnswer) → Step T → Me T Passes → ℕ → Me T Passes → Type 0
+  LetsGo seen st me found me' = MatchBool (found == st.first) (Releases seen st me found me') (IsSame me me')
+
   -- a new pass of the same row, which has done nothing
   abbrev pub EntersAs : Step T → Me T Passes → ℕ → Me T Passes → Type 0
   EntersAs st me found me' = (number : ℕ) × (me'.0 ≡ alone (new_pass (pass_of me.0).row.value number))

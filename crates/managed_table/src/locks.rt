@@ -1,5 +1,5 @@
 //! Locks that know whose value lies behind them. A lock that is free has its own value behind it, of its own row.
-ghost use Rattle.std.specs.Prelude.{◌≡◌, ◌≢◌, ◌<◌, ◌∷◌, [], ◌==◌, length, IfOk, MatchBool};
+ghost use Rattle.std.specs.Prelude.{◌≡◌, ◌<◌, ◌∷◌, [], length, IfOk, MatchBool};
 ghost use Rattle.std.specs.Fn.{FnOnceTakesAtMut, FnOnceReturnsAtMut};
 ghost use Rattle.root_row.specs.World.{place_of};
 ghost use Rattle.managed_table.specs.Locks.{AreFresh};
@@ -7,7 +7,7 @@ ghost use Rattle.managed_table.specs.Turns.{HasTaken, MadeTurn, IsSame, pass_of,
 ghost use Rattle.managed_table.specs.Passes.{IsFree, HasInHand, MayActOn, ActedOn};
 
 use crate::keyed::Keyed;
-use crate::plays::{Enter, Release, Seize};
+use crate::plays::{Enter, LetGo, Seize};
 use crate::rule::{OneTurn, Setting};
 use crate::view::Passes;
 use atomic_table::{Refused, Seat, Table};
@@ -21,7 +21,8 @@ pub(crate) const WORDS_APART: usize = 16;
 
 pub(crate) const FREE: u64 = 0;
 
-pub(crate) const HELD: u64 = 1;
+// Less itself it is FREE, and WAITED_FOR less it is not.
+const HELD: u64 = 1;
 
 const WAITED_FOR: u64 = 2;
 
@@ -66,17 +67,27 @@ impl<T: Keyed + Drop> Locks<T> {
         seat
     }
 
-    // Marks the lock, and takes it where it was free.
+    // Takes the lock where it is free, and else leaves it as it is.
     #[inline(always)]
-    pub(crate) fn try_take(&self, seat: &mut Seat<T, Passes>, lock: usize, mark: u64) -> bool
-        requires mark { mark ≢ 0 }
+    pub(crate) fn try_take(&self, seat: &mut Seat<T, Passes>, lock: usize) -> bool
         requires inside { lock < self.now.table.shared.key.locks }
         requires free { IsFree self.now.table.shared.table_id self.now.table.shared.key.row.value seat.old }
         ensures id { seat.new.table_id ≡ seat.old.table_id }
         ensures told { MatchBool result (HasTaken T.fits T.seen lock (pass_of seat.old.me.0) seat.new.me) (IsSame seat.old.me seat.new.me) }
     {
         let shared = &self.table.shared;
-        shared.swap::<Seize<T>>(seat, (lock + 1) * WORDS_APART, mark) == FREE
+        shared.compare_exchange::<Seize<T>>(seat, (lock + 1) * WORDS_APART, FREE, HELD) == FREE
+    }
+
+    // Marks the lock as waited for, and takes it where it was free.
+    fn mark(&self, seat: &mut Seat<T, Passes>, lock: usize) -> bool
+        requires inside { lock < self.now.table.shared.key.locks }
+        requires free { IsFree self.now.table.shared.table_id self.now.table.shared.key.row.value seat.old }
+        ensures id { seat.new.table_id ≡ seat.old.table_id }
+        ensures told { MatchBool result (HasTaken T.fits T.seen lock (pass_of seat.old.me.0) seat.new.me) (IsSame seat.old.me seat.new.me) }
+    {
+        let shared = &self.table.shared;
+        shared.swap::<Seize<T>>(seat, (lock + 1) * WORDS_APART, WAITED_FOR) == FREE
     }
 
     /// Takes a lock, and waits for it where another pass has it.
@@ -87,21 +98,21 @@ impl<T: Keyed + Drop> Locks<T> {
         ensures id { seat.new.table_id ≡ seat.old.table_id }
         ensures taken { HasTaken T.fits T.seen lock (pass_of seat.old.me.0) seat.new.me }
     {
-        if !self.try_take(seat, lock, HELD) {
+        if !self.try_take(seat, lock) {
             self.wait_for(rt, seat, lock);
         }
     }
 
     #[cold]
     #[inline(never)]
-    fn wait_for<R: Wait>(&self, rt: &R, seat: &mut Seat<T, Passes>, lock: usize)
+    pub(crate) fn wait_for<R: Wait>(&self, rt: &R, seat: &mut Seat<T, Passes>, lock: usize)
         requires inside { lock < self.now.table.shared.key.locks }
         requires free { IsFree self.now.table.shared.table_id self.now.table.shared.key.row.value seat.old }
         ensures id { seat.new.table_id ≡ seat.old.table_id }
         ensures taken { HasTaken T.fits T.seen lock (pass_of seat.old.me.0) seat.new.me }
     {
         for _ in rt.forever() {
-            if self.try_take(seat, lock, WAITED_FOR) {
+            if self.mark(seat, lock) {
                 return;
             }
             let shared = &self.table.shared;
@@ -127,9 +138,23 @@ impl<T: Keyed + Drop> Locks<T> {
         act(seat.slot_mut(&self.table.shared, lock))
     }
 
+    // Lets go of the lock where nobody waits for it. Else the pass is as it was.
+    #[inline(always)]
+    fn try_let_go(&self, seat: &mut Seat<T, Passes>, lock: usize) -> bool
+        requires inside { lock < self.now.table.shared.key.locks }
+        requires id { seat.old.table_id ≡ self.now.table.shared.table_id }
+        requires row { (pass_of seat.old.me.0).row.value ≡ self.now.table.shared.key.row.value }
+        requires holds { HasInHand T.fits T.seen lock (pass_of seat.old.me.0) seat.old.me }
+        ensures id { seat.new.table_id ≡ seat.old.table_id }
+        ensures told { MatchBool result ((seat.new.me.0 ≡ after_turn T.seen seat.old.me) × (seat.new.me.1 ≡ [])) (IsSame seat.old.me seat.new.me) }
+    {
+        let shared = &self.table.shared;
+        shared.fetch_sub::<LetGo<T>>(seat, (lock + 1) * WORDS_APART, HELD) == HELD
+    }
+
     /// Lets go of a lock, and wakes one who waits for it.
     #[inline(always)]
-    fn put_back(&self, seat: &mut Seat<T, Passes>, lock: usize)
+    pub(crate) fn put_back(&self, seat: &mut Seat<T, Passes>, lock: usize)
         requires inside { lock < self.now.table.shared.key.locks }
         requires id { seat.old.table_id ≡ self.now.table.shared.table_id }
         requires row { (pass_of seat.old.me.0).row.value ≡ self.now.table.shared.key.row.value }
@@ -137,11 +162,24 @@ impl<T: Keyed + Drop> Locks<T> {
         ensures free { IsFree self.now.table.shared.table_id self.now.table.shared.key.row.value seat.new }
         ensures turn { seat.new.me.0 ≡ after_turn T.seen seat.old.me }
     {
-        let shared = &self.table.shared;
-        let word = (lock + 1) * WORDS_APART;
-        if shared.swap::<Release<T>>(seat, word, FREE) == WAITED_FOR {
-            shared.wake_one(word);
+        if !self.try_let_go(seat, lock) {
+            self.hand_on(seat, lock);
         }
+    }
+
+    // Lets go of a lock that another waits for, and wakes one who does.
+    #[cold]
+    #[inline(never)]
+    fn hand_on(&self, seat: &mut Seat<T, Passes>, lock: usize)
+        requires inside { lock < self.now.table.shared.key.locks }
+        requires id { seat.old.table_id ≡ self.now.table.shared.table_id }
+        requires row { (pass_of seat.old.me.0).row.value ≡ self.now.table.shared.key.row.value }
+        requires holds { HasInHand T.fits T.seen lock (pass_of seat.old.me.0) seat.old.me }
+        ensures free { IsFree self.now.table.shared.table_id self.now.table.shared.key.row.value seat.new }
+        ensures turn { seat.new.me.0 ≡ after_turn T.seen seat.old.me }
+    {
+        self.let_go(seat, lock);
+        self.table.shared.wake_one((lock + 1) * WORDS_APART);
     }
 
     /// One turn: takes the lock, lets `act` work on the value behind it, and lets go.

@@ -24,6 +24,17 @@ impl<T: Keyed> Play<T, Passes> for Release<T> {
     ghost then = { Releases T.seen };
 }
 
+/// The turn is over where nobody waits for the lock.
+pub(crate) struct LetGo<T> {
+    marker: PhantomData<T>,
+}
+
+impl<T: Keyed> Play<T, Passes> for LetGo<T> {
+    ghost use Rattle.managed_table.specs.Turns.{LetsGo};
+
+    ghost then = { LetsGo T.seen };
+}
+
 pub(crate) struct Enter;
 
 impl<T> Play<T, Passes> for Enter {

@@ -106,7 +106,8 @@ impl ManagedTable {
         reader.in_use(&self.row, slot)
     }
 
-    // One turn of the lock of the worker's leaf, where worker and slot are in range.
+    // One turn of the lock of the worker's leaf, where worker and slot are in range. It makes the steps of `Locks::turn` itself:
+    // behind each call that may wait the compiled code has a check.
     #[inline(always)]
     pub(crate) fn leaf_turn<R: Wait, A, F: FnOnce(&mut Leaf) -> A>(
         &self,
@@ -126,7 +127,13 @@ impl ManagedTable {
         if worker >= self.leaves.count() || slot >= self.row.slots() {
             return None;
         }
-        Some(self.leaves.turn(rt, &mut caller.leaves, worker, act))
+        let seat = &mut caller.leaves;
+        if !self.leaves.try_take(seat, worker) {
+            self.leaves.wait_for(rt, seat, worker);
+        }
+        let answer = self.leaves.lend(seat, worker, act);
+        self.leaves.put_back(seat, worker);
+        Some(answer)
     }
 
     // One turn of the book's lock.

@@ -12,7 +12,7 @@ ghost use Rattle.managed_table.specs.Callers.{IsCallerOf};
 
 use crate::caller::Caller;
 use crate::keyed::Keyed;
-use crate::locks::{FREE, HELD, Locks, WORDS_APART};
+use crate::locks::{FREE, Locks, WORDS_APART};
 use crate::plays::Release;
 use crate::table::ManagedTable;
 use crate::view::Passes;
@@ -33,7 +33,7 @@ impl<T: Keyed + Drop> Locks<T> {
         if self.table.shared.peek((lock + 1) * WORDS_APART) != FREE {
             return false;
         }
-        self.try_take(seat, lock, HELD)
+        self.try_take(seat, lock)
     }
 
     // Takes the lock in at most so many tries.

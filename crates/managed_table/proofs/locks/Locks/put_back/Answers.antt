@@ -1,13 +1,9 @@
-use Rattle.std.proofs.Common.{arith}
-use Rattle.managed_table.proofs.Locking.{releases}
+use Rattle.std.proofs.Common.{◌∙◌}
+use Rattle.managed_table.proofs.Locking.{still_in_hand, same_turn}
 use Rattle.managed_table.proofs.locks.Locks.put_back.Goals as goal
 
-pub swap-requires : goal.swap-requires
-swap-requires g c =
-    let inside = c.requires.inside in
-    let wide = c.args.self.now.words_are in
-    let h = c.requires.holds in (
-      c.requires.id,
-      omega arith,
-      releases _ _ _ _ _ _ _ _ h.view c.args.lock h.value h.before h.hand h.has h.fit h.grows c.args.self.now.slots_are,
-    )
+pub hand_on-requires-clause-holds : goal.hand_on-requires-clause-holds
+hand_on-requires-clause-holds g c = still_in_hand _ _ _ c.if-not-try_let_go.ensures.told _ _ c.requires.holds
+
+pub returns-then-not-try_let_go-clause-turn : goal.returns-then-not-try_let_go-clause-turn
+returns-then-not-try_let_go-clause-turn g c = c.hand_on.ensures.turn ∙ same_turn _ _ _ c.if-not-try_let_go.ensures.told
