@@ -1,7 +1,8 @@
 //! The queries of modprobe(8), over the machine's own files.
 #![tactic(auto)]
 
-use gz_modprobe_drive::{drive, given_options, given_words};
+use gz_modprobe_drive::drive;
+use modprobe_words::{given_options, given_words};
 use std::process::ExitCode;
 
 fn main(rt: HostRuntime) -> ExitCode {

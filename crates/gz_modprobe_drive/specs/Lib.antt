@@ -1,15 +1,4 @@
-pub mod Options
-pub mod Found
-pub mod Words
-pub mod Asked
-pub mod Endings
-pub mod Variable
-pub mod Readings
-pub mod Files
-pub mod Wishes
 pub mod Answered
 pub mod Texts
 pub mod Queries
-pub mod Findings
-pub mod Told
 pub mod Sys

@@ -4,9 +4,9 @@ use Rattle.text_parts.specs.Text.{texts_of}
 use Rattle.kmod_query.specs.declared.query.Ask.{Ask}
 use Rattle.kmod_query.specs.declared.query.Ask.TheVariants as asks
 use Rattle.kmod_query.specs.declared.query.Query.{Query}
-use Rattle.gz_modprobe_drive.specs.declared.switches.Switches.{Switches}
-use Rattle.gz_modprobe_drive.specs.declared.wishes.Wish.{Wish}
-use Rattle.gz_modprobe_drive.specs.declared.wishes.Wish.TheVariants as wishes
+use Rattle.modprobe_words.specs.declared.switches.Switches.{Switches}
+use Rattle.modprobe_words.specs.declared.wishes.Wish.{Wish}
+use Rattle.modprobe_words.specs.declared.wishes.Wish.TheVariants as wishes
 
 -- what a wish asks; none where it is refused
 abbrev pub ask_of : Wish → Option Ask

@@ -5,7 +5,7 @@ use Rattle.std.specs.Str.{bytes_eq}
 use Rattle.text_parts.specs.Text.{is_digit, number_within}
 use Rattle.kmod_query.specs.declared.states.ModuleState.{ModuleState}
 use Rattle.kmod_query.specs.declared.states.ModuleState.TheVariants.{Live, Coming, Going, Other}
-use Rattle.gz_modprobe_drive.specs.Endings.{behind_spaces, is_space}
+use Rattle.modprobe_words.specs.Numbers.{behind_spaces, is_space}
 
 -- the state that a text of `initstate` tells
 abbrev pub state_of : List ℕ → ModuleState

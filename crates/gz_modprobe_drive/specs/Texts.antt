@@ -7,9 +7,9 @@ use Rattle.kmod_index.specs.Builtins.{builtin_aliases, builtin_names}
 use Rattle.kmod_index.specs.Dependencies.{dependencies_of}
 use Rattle.kmod_index.specs.Indexes.{Indexes}
 use Rattle.kmod_index.specs.Lines.{keyed_lines}
-use Rattle.gz_modprobe_drive.specs.declared.texts.TextFile.{TextFile}
-use Rattle.gz_modprobe_drive.specs.declared.texts.ConfTexts.{ConfTexts}
-use Rattle.gz_modprobe_drive.specs.declared.texts.ModuleTexts.{ModuleTexts}
+use Rattle.modprobe_files.specs.declared.texts.TextFile.{TextFile}
+use Rattle.modprobe_files.specs.declared.texts.ConfTexts.{ConfTexts}
+use Rattle.modprobe_files.specs.declared.texts.ModuleTexts.{ModuleTexts}
 
 abbrev pub text_in : TextFile → List ℕ
 text_in file = file.text.items

@@ -5,11 +5,11 @@ ghost use Rattle.kmod_query.specs.AnswerOf.{answer_of};
 ghost use Rattle.gz_modprobe_drive.specs.Texts.{IsConfOf};
 ghost use Rattle.gz_modprobe_drive.specs.Answered.{IsAnswer, said_by, status_of};
 
-use crate::explaining::explanation;
-use crate::messages::{Messages, tell_explanation};
-use crate::texts::Machine;
+use crate::explained::explain;
+use crate::texts::{Machine, index_of};
 use kmod_conf::Conf;
 use kmod_query::{Answer, Query, World, answer_to};
+use modprobe_words::Messages;
 use std::alloc::{AllocError, Global};
 use std::io::Write;
 
@@ -58,19 +58,6 @@ fn answer_world<O: Write>(
     Ok(Answered { answer, is_written })
 }
 
-/// Tells why an answer is as it is, where that is asked for.
-fn explain<E: Write>(
-    alloc: Global,
-    machine: &Machine,
-    world: &World<'_>,
-    query: &Query<'_>,
-    messages: &mut Messages<'_, E>,
-) {
-    if messages.explains {
-        tell_explanation(explanation(alloc, machine, world, query), messages);
-    }
-}
-
 /// Answers a query from the texts and states of a machine, and writes the answer's output, whether it is explained or not.
 /// `conf` is what the machine's configuration says. Only want of memory refuses.
 #[tactic(auto, unfolding(crate::specs::Answered::said_by))]
@@ -86,7 +73,7 @@ pub(crate) fn answer_machine<O: Write, E: Write>(
     ensures answer { IfOk result (λ own. IsAnswer (said_by machine.now) query.now own.answer) }
     ensures written { IfOk result (λ own. IsTrue own.is_written → Appends (O.contents output.old) (O.contents output.new) own.answer.output) }
 {
-    let index = machine.modules.index(alloc)?;
+    let index = index_of(alloc, &machine.modules)?;
     let world = World {
         conf,
         index: &index,

@@ -4,15 +4,13 @@ ghost use Rattle.gz_modprobe_drive.specs.Texts.{IsConfOf};
 
 use crate::answered::answer_machine;
 use crate::answers::{asks_states, tell_failure};
-use crate::asked::Asked;
-use crate::host::{Host, Kind, joined};
-use crate::machine::{directory, read_configuration, read_modules};
-use crate::messages::{Level, Messages};
 use crate::sys::module_states;
-use crate::texts::{ConfTexts, Machine};
+use crate::texts::{Machine, conf_of};
 use kmod_conf::{Conf, NameLine};
 use kmod_names::name_of_path;
 use kmod_query::{Answer, Ask, Failure, Query, States};
+use modprobe_files::{ConfTexts, Host, directory, read_configuration, read_modules, tell_folder};
+use modprobe_words::{Asked, Level, Messages};
 use std::alloc::{AllocError, Global};
 use std::env::Env;
 use std::io::Write;
@@ -60,24 +58,6 @@ fn is_not_found(answer: &Answer) -> bool {
         }
     }
     false
-}
-
-/// Tells what is wrong with a folder of modules: it is missing, or it has no modules.dep.
-fn tell_folder<R: Files + AllocGlobal, E: Write>(
-    host: &Host<'_, R>,
-    directory: &[u8],
-    messages: &mut Messages<'_, E>,
-) -> Result<(), AllocError> {
-    if host.kind(directory)? != Kind::Folder {
-        messages.tell(Level::Notice, b"there is no folder ", directory, b"", b"");
-        return Ok(());
-    }
-    let file = joined(host.rt.alloc(), directory, b"/modules.dep", b"")?;
-    if host.kind(&file)? == Kind::Nothing {
-        let why = b", which depmod(8) writes";
-        messages.tell(Level::Notice, b"there is no file ", &file, why, b"");
-    }
-    Ok(())
 }
 
 /// Tells that a name which was not found is a path.
@@ -157,7 +137,7 @@ fn told_conf<E: Write>(
 ) -> Result<Conf, AllocError>
     ensures { IfOk result (IsConfOf texts.now) }
 {
-    let conf = texts.conf(alloc)?;
+    let conf = conf_of(alloc, texts)?;
     tell_bad_lines(alloc, texts, &conf, messages)?;
     Ok(conf)
 }

@@ -3,10 +3,8 @@ ghost use Rattle.std.specs.Prelude.{◌≡◌, IfNone, IfSome, None};
 ghost use Rattle.text_parts.specs.Text.{texts_of};
 ghost use Rattle.gz_modprobe_drive.specs.Queries.{IsQueryOf, ask_of, asks_states};
 
-use crate::messages::{Level, Messages};
-use crate::switches::Switches;
-use crate::wishes::Wish;
 use kmod_query::{Ask, Failure, Query};
+use modprobe_words::{Level, Messages, Switches, Wish};
 use std::io::Write;
 
 /// What a wish asks, where it is a query.

@@ -3,30 +3,13 @@ ghost use Rattle.std.specs.Prelude.{◌≤◌, IfOk};
 
 use crate::answering::answer_query;
 use crate::answers::query_of;
-use crate::asked::Asked;
-use crate::endings::first_ending;
-use crate::host::{Host, Kind};
-use crate::messages::{Level, Messages};
-use crate::refusals::{end_early, is_refused};
-use crate::variable::variable_words;
-use crate::words::read_words;
+use crate::refusals::is_refused;
+use modprobe_files::{Host, is_rootless};
+use modprobe_words::{Asked, Messages, end_early, first_ending, read_words, variable_words};
 use std::alloc::{AllocError, Global};
 use std::env::Env;
 use std::io::Write;
 use std::rt::Files;
-
-/// Tells that the folder of `--root` is none, where it is none. Whether it was told is answered.
-fn is_rootless<R: Files + AllocGlobal, E: Write>(
-    host: &Host<'_, R>,
-    messages: &mut Messages<'_, E>,
-) -> Result<bool, AllocError> {
-    if host.root.is_empty() || host.kind(b"/")? == Kind::Folder {
-        return Ok(false);
-    }
-    let text = b"there is no folder ";
-    messages.tell_always(Level::Fatal, text, host.root, b", which --root names", b"");
-    Ok(true)
-}
 
 /// Answers what is asked. The status is answered.
 fn answer_asked<R: Files + Env + AllocGlobal, O: Write, E: Write>(

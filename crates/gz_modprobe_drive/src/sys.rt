@@ -4,11 +4,9 @@ ghost use Rattle.std.specs.List.{prefix_len};
 ghost use Rattle.text_parts.specs.Text.{is_digit};
 ghost use Rattle.gz_modprobe_drive.specs.Sys.{begins_with_space, count_of, number_of, state_of};
 
-use crate::endings::{behind_spaces, is_digit, is_space};
-use crate::host::{Host, Kind, joined};
-use crate::machine::tell_unread;
-use crate::messages::Messages;
 use kmod_query::{ModuleState, ModuleStatus, States};
+use modprobe_files::{Host, Kind, joined, tell_unread};
+use modprobe_words::{Messages, behind_spaces, is_digit, is_space};
 use std::alloc::AllocError;
 use std::io::{ErrorKind, Write};
 use std::rt::Files;

@@ -5,44 +5,8 @@ ghost use Rattle.gz_modprobe_drive.specs.Texts.{conf_from, conf_of, index_of, te
 use kmod_conf::Conf;
 use kmod_index::{Index, IndexTexts};
 use kmod_query::States;
+use modprobe_files::{ConfTexts, ModuleTexts, TextFile};
 use std::alloc::{AllocError, Global};
-
-/// Where the kernel keeps its command line.
-pub(crate) const COMMAND_LINE: &[u8] = b"/proc/cmdline";
-
-/// A file of the configuration.
-#[derive(Drop)]
-pub(crate) struct TextFile {
-    pub(crate) path: Vec<u8>,
-    pub(crate) text: Vec<u8>,
-}
-
-/// A file of the configuration that does not count, and the one of its name that does.
-#[derive(Drop)]
-pub(crate) struct HiddenFile {
-    pub(crate) path: Vec<u8>,
-    pub(crate) by: Vec<u8>,
-}
-
-/// The texts of a configuration.
-#[derive(Drop)]
-pub(crate) struct ConfTexts {
-    /// In the order in which they count.
-    pub(crate) files: Vec<TextFile>,
-    pub(crate) command_line: Option<Vec<u8>>,
-    /// The files that are not read, where an answer is explained.
-    pub(crate) hidden: Vec<HiddenFile>,
-}
-
-/// The texts of a folder of modules; one that is not there is empty.
-#[derive(Drop)]
-pub(crate) struct ModuleTexts {
-    pub(crate) dep: Vec<u8>,
-    pub(crate) alias: Vec<u8>,
-    pub(crate) symbols: Vec<u8>,
-    pub(crate) builtin: Vec<u8>,
-    pub(crate) builtin_modinfo: Vec<u8>,
-}
 
 /// All that is read for a query.
 #[derive(Drop)]
@@ -97,42 +61,30 @@ fn add_files(alloc: Global, conf: &mut Conf, files: &[TextFile]) -> Result<(), A
     Ok(())
 }
 
-impl ConfTexts {
-    /// The path of the source of a number: a file, or the kernel's command line behind the files.
-    pub(crate) fn path(&self, source: usize) -> &[u8] {
-        match self.files.get(source) {
-            Some(file) => &file.path,
-            None => COMMAND_LINE,
-        }
-    }
-
-    /// What the files say, one after another, and then the kernel's command line. A place has the number of its file, and
-    /// the command line has the number behind them. Only want of memory refuses.
-    #[tactic(auto, unfolding(crate::specs::Texts::conf_of))]
-    pub(crate) fn conf(&self, alloc: Global) -> Result<Conf, AllocError>
-        ensures { IfOk result (λ conf. conf ≡ conf_of self.now) }
-    {
-        let mut conf = Conf::new(alloc);
-        add_files(alloc, &mut conf, &self.files)?;
-        let line = self.command_line.as_ref();
-        add_command_line(alloc, &mut conf, self.files.len(), line)?;
-        Ok(conf)
-    }
+/// What the texts of a configuration say: the files, one after another, and then the kernel's command line. A place has the
+/// number of its file, and the command line has the number behind them. Only want of memory refuses.
+#[tactic(auto, unfolding(crate::specs::Texts::conf_of))]
+pub(crate) fn conf_of(alloc: Global, texts: &ConfTexts) -> Result<Conf, AllocError>
+    ensures { IfOk result (λ conf. conf ≡ conf_of texts.now) }
+{
+    let mut conf = Conf::new(alloc);
+    add_files(alloc, &mut conf, &texts.files)?;
+    let line = texts.command_line.as_ref();
+    add_command_line(alloc, &mut conf, texts.files.len(), line)?;
+    Ok(conf)
 }
 
-impl ModuleTexts {
-    /// What the texts say. Only want of memory refuses.
-    #[tactic(auto, unfolding(crate::specs::Texts::index_of))]
-    pub(crate) fn index(&self, alloc: Global) -> Result<Index, AllocError>
-        ensures { IfOk result (λ index. index ≡ index_of self.now) }
-    {
-        let texts = IndexTexts {
-            dep: &self.dep,
-            alias: &self.alias,
-            symbols: &self.symbols,
-            builtin: &self.builtin,
-            builtin_modinfo: &self.builtin_modinfo,
-        };
-        Index::read(alloc, &texts)
-    }
+/// What the texts of a folder of modules say. Only want of memory refuses.
+#[tactic(auto, unfolding(crate::specs::Texts::index_of))]
+pub(crate) fn index_of(alloc: Global, texts: &ModuleTexts) -> Result<Index, AllocError>
+    ensures { IfOk result (λ index. index ≡ index_of texts.now) }
+{
+    let own = IndexTexts {
+        dep: &texts.dep,
+        alias: &texts.alias,
+        symbols: &texts.symbols,
+        builtin: &texts.builtin,
+        builtin_modinfo: &texts.builtin_modinfo,
+    };
+    Index::read(alloc, &own)
 }

@@ -1,7 +1,0 @@
-use Rattle.std.proofs.Common.{◌≡◌, take}
-use Rattle.gz_modprobe_drive.specs.Asked.{asked_by, asked_of}
-use Rattle.gz_modprobe_drive.specs.Words.{items_of}
-use Rattle.gz_modprobe_drive.proofs.asked.Asked.by.Given as goal
-
-abbrev pub invariant-loop-item : goal.invariant-loop-item
-invariant-loop-item l = asked_of l.asked ≡ asked_by (items_of (take l.item-index l.items))

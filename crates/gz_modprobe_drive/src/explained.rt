@@ -1,0 +1,59 @@
+//! Why an answer is as it is, for people.
+
+use crate::texts::Machine;
+use kmod_explain::{Hidden, Sources, explanation};
+use kmod_query::{Query, World};
+use modprobe_files::HiddenFile;
+use modprobe_words::{Level, Messages};
+use std::alloc::{AllocError, Global};
+use std::io::Write;
+
+fn hidden(alloc: Global, files: &[HiddenFile]) -> Result<Vec<Hidden<'_>>, AllocError> {
+    let mut hidden = Vec::new(alloc);
+    for file in files {
+        hidden.push(Hidden {
+            path: &file.path,
+            by: &file.by,
+        })?;
+    }
+    Ok(hidden)
+}
+
+/// Why the answer to a query of a machine is as it is. Only want of memory refuses.
+fn explained(
+    alloc: Global,
+    machine: &Machine,
+    world: &World<'_>,
+    query: &Query<'_>,
+) -> Result<Vec<u8>, AllocError> {
+    let paths = machine.conf.paths(alloc)?;
+    let hidden = hidden(alloc, &machine.conf.hidden)?;
+    let sources = Sources {
+        paths: &paths,
+        hidden: &hidden,
+        builtin: &machine.modules.builtin,
+    };
+    explanation(alloc, &sources, world, query)
+}
+
+/// Tells why an answer is as it is, where that is asked for.
+pub(crate) fn explain<E: Write>(
+    alloc: Global,
+    machine: &Machine,
+    world: &World<'_>,
+    query: &Query<'_>,
+    messages: &mut Messages<'_, E>,
+) {
+    if !messages.explains {
+        return;
+    }
+    match explained(alloc, machine, world, query) {
+        Ok(lines) => {
+            let _ = messages.errors.write_all(&lines);
+        }
+        Err(_) => {
+            let text = b"out of memory: the answer is not explained";
+            messages.tell_always(Level::Error, text, b"", b"", b"");
+        }
+    }
+}
