@@ -5,13 +5,14 @@ ghost use Rattle.dep_index.specs.Catalogue.{modules_of};
 ghost use Rattle.dep_index.specs.Calls.{reply, next, replies};
 ghost use Rattle.dep_index.specs.Laws.{AllInRange};
 ghost use Rattle.step_core.specs.Run.{call_numbered};
-ghost use Rattle.linear_points.specs.Run.{IsRun, run_events, run_calls};
+ghost use Rattle.linear_points.specs.Run.{IsRun, run_events, run_calls, run_points};
 ghost use Rattle.linear_points.specs.Linearization.{IsWithin, IsAsReturned, HasItsPoint, point_count};
 ghost use Rattle.linear_points.specs.Refused.{IsRefusal};
 ghost use Rattle.linear_points.specs.Interval.{AreIntervals};
 ghost use Rattle.linear_points.specs.Noted.{calls_at};
 
 use crate::intervals::{self, Interval};
+use crate::linear::points_among;
 use crate::point::{Point, PointsError};
 use crate::runs;
 use dep_index::Catalogue;
@@ -163,6 +164,38 @@ pub fn call_intervals(
 {
     let course = Course::of(alloc, catalogue, workers, threads, steps)?;
     Ok(course.into_intervals())
+}
+
+/// The calls of a run: their intervals, by their numbers, and the points of those that took effect, in rising order of
+/// index.
+#[derive(Drop)]
+pub struct Trace {
+    pub intervals: Vec<Interval>,
+    pub points: Vec<Point>,
+}
+
+/// The intervals and the points of a run's calls, of which the steps are made once. `Step` names the first step that the
+/// machine refuses, `Memory` says that there was none.
+pub fn run_trace(
+    alloc: Global,
+    catalogue: &Catalogue,
+    workers: usize,
+    threads: usize,
+    steps: &[Step],
+) -> Result<Trace, PointsError>
+    requires { workers < 2 ^ 32 }
+    ensures run { OnOk result (IsRun (modules_of catalogue.now) workers threads steps.now) }
+    ensures calls { IfOk result (λ found. map (λ i. i.call) found.intervals.items ≡ run_calls (modules_of catalogue.now) workers threads steps.now) }
+    ensures intervals { IfOk result (λ found. AreIntervals (run_events (modules_of catalogue.now) workers threads steps.now) found.intervals.items) }
+    ensures points { IfOk result (λ found. found.points.items ≡ run_points (modules_of catalogue.now) workers threads steps.now) }
+    ensures refused { IfErr result (IsRefusal (modules_of catalogue.now) workers threads steps.now) }
+{
+    let course = Course::of(alloc, catalogue, workers, threads, steps)?;
+    let points = points_among(alloc, &course.events)?;
+    Ok(Trace {
+        intervals: course.into_intervals(),
+        points,
+    })
 }
 
 /// How many points each call has, by its number.

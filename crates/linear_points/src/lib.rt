@@ -10,7 +10,7 @@ mod point;
 mod runs;
 
 pub use checker::check_points;
-pub use course::call_intervals;
+pub use course::{Trace, call_intervals, run_trace};
 pub use intervals::{End, Interval};
 pub use linear::points;
 pub use point::{Point, PointsError};

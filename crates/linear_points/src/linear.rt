@@ -44,7 +44,7 @@ pub fn points(
 }
 
 /// The Point events, with their indices.
-fn points_among(alloc: Global, events: &[Event]) -> Result<Vec<Point>, AllocError>
+pub(crate) fn points_among(alloc: Global, events: &[Event]) -> Result<Vec<Point>, AllocError>
     ensures { IfOk result (λ p. p.items ≡ points_from 0 events.now) }
 {
     let mut found = Vec::new(alloc);

@@ -9,7 +9,7 @@ use super::steps::{Schedule, read_schedule};
 use crate::fault::ScheduleFault;
 use call_words::{ReplyWord, Verb};
 use dep_index::{Call, Catalogue};
-use linear_points::{Interval, Point, call_intervals, points};
+use linear_points::{Interval, Point, run_trace};
 use proc_modules::push_number;
 use std::alloc::{AllocError, Global};
 use step_core::Step;
@@ -149,20 +149,13 @@ pub fn report(alloc: Global, input: &[u8]) -> Result<Vec<u8>, ScheduleFault>
     ensures refused { IfErr result (Refuses input.now) }
 {
     let schedule = read_schedule(alloc, input)?;
-    let points = points(
+    let trace = run_trace(
         alloc,
         &schedule.catalogue,
         schedule.workers,
         schedule.threads,
         &schedule.steps,
     )?;
-    let intervals = call_intervals(
-        alloc,
-        &schedule.catalogue,
-        schedule.workers,
-        schedule.threads,
-        &schedule.steps,
-    )?;
-    let taken = points_by_call(alloc, intervals.len(), &points)?;
-    Ok(lines_of(alloc, &schedule, &intervals, &taken)?)
+    let taken = points_by_call(alloc, trace.intervals.len(), &trace.points)?;
+    Ok(lines_of(alloc, &schedule, &trace.intervals, &taken)?)
 }

@@ -6,13 +6,13 @@ use Rattle.workload_drive.proofs.schedule.reports.report.Goals as goal
 
 pub returns-clause-report : goal.returns-clause-report
 returns-clause-report c =
-    reports c.args.input.now c.in_ok-lines_of.field-0.items (schedule_in c.in_ok-schedule.schedule) c.in_ok-intervals.intervals.items c.deref-4.result.now
-    c.deref-3.result.now c.deref-5.result.now c.len.result c.in_ok-schedule.ensures.value
-    (rw c.deref.ensures.value at c.in_ok-points.ensures.run)
-    (c.deref-3.ensures.value ∙ (rw c.deref.ensures.value at c.in_ok-points.ensures.points))
-    (rw c.deref-2.ensures.value at c.in_ok-intervals.ensures.calls)
-    (rw c.deref-2.ensures.value at c.in_ok-intervals.ensures.intervals)
-    c.deref-4.ensures.value
-    (c.len.ensures ∙ c.in_ok-intervals.intervals.ok.0)
-    (λ k below. ap (λ (t : List (Option Point)). get_or t k None) c.deref-5.ensures.value ∙ c.in_ok-taken.ensures.points k below)
+    reports c.args.input.now c.in_ok-lines_of.field-0.items (schedule_in c.in_ok-schedule.schedule) c.in_ok-trace.trace.intervals.items c.deref-3.result.now
+    c.deref-2.result.now c.deref-4.result.now c.len.result c.in_ok-schedule.ensures.value
+    (rw c.deref.ensures.value at c.in_ok-trace.ensures.run)
+    (c.deref-2.ensures.value ∙ (rw c.deref.ensures.value at c.in_ok-trace.ensures.points))
+    (rw c.deref.ensures.value at c.in_ok-trace.ensures.calls)
+    (rw c.deref.ensures.value at c.in_ok-trace.ensures.intervals)
+    c.deref-3.ensures.value
+    (c.len.ensures ∙ c.in_ok-trace.trace.intervals.ok.0)
+    (λ k below. ap (λ (t : List (Option Point)). get_or t k None) c.deref-4.ensures.value ∙ c.in_ok-taken.ensures.points k below)
     c.in_ok-lines_of.ensures
