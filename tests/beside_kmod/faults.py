@@ -84,7 +84,7 @@ MENDS = ((SOFTDEP, with_right_softdeps), (NOT_UTF8, without_odd_names), (NOT_UTF
 
 def shown_right(output):
     """kmod's configuration with the blank before post: that it forgets."""
-    return re.sub(rb"^(softdep \S+ pre: .*\S)(?<! )post: ", rb"\1 post: ", output, flags=re.M)
+    return re.sub(rb"^(softdep [^ \n]+ pre: .*\S)(?<! )post: ", rb"\1 post: ", output, flags=re.M)
 
 
 def matches(pattern, name):
