@@ -20,7 +20,7 @@ STATE = re.compile(rb"^modprobe: ERROR: \.\./libkmod/\S+ \w+\(\) unknown \S+/ini
 SOURCES = re.compile(rb"^libkmod: ERROR \S+\.c:\d+ \w+: ")
 OWN_WORDS = re.compile(
     rb"deprecated and not parsed|starting with '(?:include|config)'|Ignoring bad option on kernel command line"
-    rb"|NOTICE: there is no folder|no UTF-8"
+    rb"|gz-modprobe: NOTICE: |WARNING: there is no configuration |no UTF-8"
 )
 LINES = 40
 
