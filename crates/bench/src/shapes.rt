@@ -206,8 +206,9 @@ pub fn soft_items_of_a_chain(text: &mut String, size: usize) -> Written {
     let length = root(size);
     catalogue(text, &["x", "s"], size)?;
     text.push_str("module start\n")?;
-    section(text, "dep", size, |text, x| push_link(text, "x", x, size))?;
-    write!(text, "k/x{}.ko:", size.saturating_sub(1))?;
+    let last = size.saturating_sub(1);
+    section(text, "dep", last, |text, x| push_link(text, "x", x, size))?;
+    write!(text, "k/x{last}.ko:")?;
     push_paths(text, "s", 0, length)?;
     text.push_str("\n")?;
     section(text, "conf", size, |text, s| {
