@@ -1,11 +1,13 @@
 -- A mark of a pattern is a mark of each text that it matches.
-use Rattle.std.proofs.Common.{◌≡◌, ℕ, zero, suc, ◌+◌, ◌≤◌, ◌-◌, List, [], ◌∷◌, ◌++◌, length, take, drop, refl, sym, ◌∙◌, ap, subst, arith, length-append, append_assoc}
+use Rattle.std.proofs.Common.{◌≡◌, ℕ, zero, suc, ◌+◌, ◌≤◌, ◌-◌, List, [], ◌∷◌, ◌++◌, length, map, take, drop, refl, sym, ◌∙◌, ap, subst, arith, length-append, append_assoc}
 use Rattle.std.specs.List.{fold}
 use Rattle.std.proofs.Math.Seq.{drop-append-add, drop-nil}
 use Rattle.std.proofs.lemmas.List.{take_at}
-use Rattle.alias_match.specs.Pattern.{Piece, Matches, literal_beginning}
+use Rattle.std.proofs.lemmas.List.Sums.{fold-append}
+use Rattle.alias_match.specs.Pattern.{Piece, Matches, byte, literal_beginning}
 use Rattle.alias_match.specs.Marks.{mark, with_digit, HasMark, IsMarkOf, IsMarked}
 use Rattle.alias_match.proofs.Beginning.{begins_literally}
+use Rattle.alias_match.proofs.Digits.{folded}
 
 -- what follows pieces that match a front matches the rest
 later_match : (n : ℕ) (ps : List Piece) (s : List ℕ) → Matches ps s → (front : List ℕ) × (rest : List ℕ) × (s ≡ front ++ rest) × Matches (drop n ps) rest
@@ -35,6 +37,24 @@ marked ps later (suc n, is, long) s h =
     let more : (front : List ℕ) × (rest : List ℕ) × (s ≡ front ++ rest) × Matches (drop (suc n) ps) rest = later_match (suc n) ps s h in
     behind_front more.0 later s more.1 more.2 (subst (λ l. Matches l more.1) (sym is) more.3) (mark_behind more.0 (literal_beginning later) (long (omega arith)))
 
+pub marked_whole : (ps : List Piece) → IsMarked ps ps
+marked_whole ps = (0, refl, λ some. absurd (some refl))
+
+-- bytes that stand for themselves begin a pattern literally
+literal_beginning-bytes : (front : List ℕ) (ps : List Piece) → literal_beginning (map (λ b. byte b) front ++ ps) ≡ front ++ literal_beginning ps
+literal_beginning-bytes [] ps = refl
+literal_beginning-bytes (b ∷ front) ps = ap (λ l. b ∷ l) (literal_beginning-bytes front ps)
+
+pub marked_front : (front : List ℕ) (ps : List Piece) (number : ℕ) → number ≡ mark (front ++ literal_beginning ps) → IsMarkOf number (map (λ b. byte b) front ++ ps)
+marked_front front ps number is =
+    let all : List Piece = map (λ b. byte b) front ++ ps in
+    let own : number ≡ mark (literal_beginning all) = is ∙ ap mark (sym (literal_beginning-bytes front ps)) in
+    subst (λ n. IsMarkOf n all) (sym own) (marked all all (marked_whole all))
+
+-- digits behind those of a mark
+pub folded_behind : (front later : List ℕ) → fold with_digit (mark front) later ≡ fold with_digit 0 (front ++ later)
+folded_behind front later = ap (λ n. fold with_digit n later) (sym (folded front)) ∙ sym (fold-append with_digit 0 front later)
+
 -- ends of a list
 abbrev pub IsTail : {X : Type 0} → List X → List X → Type 0
 IsTail whole end = (n : ℕ) × (end ≡ drop n whole)
@@ -57,8 +77,8 @@ tail_behind whole end x behind (n, is) split = (suc n, behind_first n whole x be
 pub tail_dropped : {X : Type 0} (whole end : List X) (k : ℕ) → IsTail whole end → IsTail whole (drop k end)
 tail_dropped whole end k (n, is) = (n + k, ap (drop k) is ∙ drop_twice n k whole)
 
+pub tail_behind_front : {X : Type 0} (front later end : List X) (count : ℕ) → end ≡ drop count later → IsTail (front ++ later) end
+tail_behind_front front later end count is = (length front + count, is ∙ sym (drop-append-add front later count))
+
 pub marked_tail : (ps later : List Piece) → IsTail ps later → 8 ≤ length (literal_beginning later) → IsMarked ps later
 marked_tail ps later (n, is) long = (n, is, λ some. long)
-
-pub marked_whole : (ps : List Piece) → IsMarked ps ps
-marked_whole ps = (0, refl, λ some. absurd (some refl))

@@ -150,6 +150,14 @@ impl<'a> Items<'a> {
         Items { text: self.text }
     }
 
+    /// How many bytes their text has.
+    #[inline(always)]
+    pub fn text_len(&self) -> usize
+        ensures { length self.now ≤ result }
+    {
+        self.text.len()
+    }
+
     /// The first item, and those that follow it.
     #[inline(always)]
     pub fn split_first(self) -> Option<(Item<'a>, Items<'a>)>

@@ -181,18 +181,12 @@ impl Pattern {
         Ok(Pattern { text, plain })
     }
 
-    #[inline(always)]
-    fn items(&self) -> Items
-        ensures { result ≡ self.now }
-    {
-        Items::of(&self.text)
-    }
-
     /// A mark that each text has that the pattern matches: that of its longest run of single bytes.
     pub(crate) fn mark(&self) -> u64
         ensures { IsMarkOf result self.now }
     {
-        longest_run_mark(self.items())
+        let (front, items) = self.parts();
+        longest_run_mark(front, items)
     }
 
     /// The bytes at the beginning that stand for themselves, and the items behind them.

@@ -1,9 +1,9 @@
 //! The longest run of single bytes in a pattern.
-ghost use Rattle.std.specs.Prelude.{◌≡◌, ◌≤◌, drop, length};
-ghost use Rattle.alias_match.specs.Pattern.{literal_beginning};
+ghost use Rattle.std.specs.Prelude.{◌≡◌, ◌<◌, ◌≤◌, ◌++◌, drop, length, map, IfSome};
+ghost use Rattle.alias_match.specs.Pattern.{byte, literal_beginning};
 ghost use Rattle.alias_match.specs.Marks.{IsMarkOf, mark};
 
-use crate::hash_table::{MARK_BYTES, with_digit};
+use crate::hash_table::{MARK_BYTES, mark, with_digit};
 use crate::item::{Item, Items};
 
 /// The single bytes with which items begin.
@@ -11,19 +11,20 @@ use crate::item::{Item, Items};
 struct LeadingBytes<'a> {
     /// How many they are.
     count: usize,
-    /// Their mark.
+    /// The mark of these, behind a front.
     mark: u64,
     /// The items behind them, from the first that is no single byte on.
     behind: Items<'a>,
 }
 
-fn leading_bytes<'a>(items: &Items<'a>) -> LeadingBytes<'a>
-    ensures count { result.count ≡ length (literal_beginning items.now) }
-    ensures mark { result.mark ≡ mark (literal_beginning items.now) }
-    ensures behind { result.behind ≡ drop result.count items.now }
+/// The single bytes with which items begin that stand behind a front.
+fn leading_bytes<'a>(front: &[u8], items: Items<'a>) -> LeadingBytes<'a>
+    ensures count { result.count ≡ length (literal_beginning items.entry) }
+    ensures mark { result.mark ≡ mark (front.now ++ literal_beginning items.entry) }
+    ensures behind { result.behind ≡ drop result.count items.entry }
 {
     let mut count = 0usize;
-    let mut mark = 0u64;
+    let mut mark = mark(front);
     let mut rest = items.again();
     'items: while let Some((Item::Byte(byte), after)) = rest.again().split_first() {
         count += 1;
@@ -37,16 +38,30 @@ fn leading_bytes<'a>(items: &Items<'a>) -> LeadingBytes<'a>
     }
 }
 
-/// The mark of the longest run of single bytes. A run behind other items counts only where it fills a mark.
-pub(crate) fn longest_run_mark(items: Items) -> u64
-    ensures { IsMarkOf result items.entry }
+/// The items behind the first, if their text has more bytes than that. Else none of their runs has.
+fn longer_behind_first<'a>(items: Items<'a>, longest: usize) -> Option<Items<'a>>
+    ensures behind { IfSome result (λ after. after ≡ drop 1 items.entry) }
+    ensures shorter { IfSome result (λ after. length after < length items.entry) }
 {
-    let first = leading_bytes(&items);
-    let mut longest = first.count;
+    let (_, after) = items.split_first()?;
+    if after.text_len() > longest {
+        Some(after)
+    } else {
+        None
+    }
+}
+
+/// The mark of the longest run of single bytes in a pattern: bytes that stand for themselves, and items behind them. A run
+/// behind other items counts only where it fills a mark.
+pub(crate) fn longest_run_mark(front: &[u8], items: Items) -> u64
+    ensures { IsMarkOf result (map (λ b. byte b) front.now ++ items.entry) }
+{
+    let first = leading_bytes(front, items);
+    let mut longest = front.len().saturating_add(first.count);
     let mut mark = first.mark;
     let mut rest = first.behind;
-    'runs: while let Some((_, after)) = rest.split_first() {
-        let run = leading_bytes(&after);
+    'runs: while let Some(after) = longer_behind_first(rest, longest) {
+        let run = leading_bytes(&[], after);
         if run.count >= MARK_BYTES && run.count > longest {
             longest = run.count;
             mark = run.mark;

@@ -1,10 +1,20 @@
-use Rattle.std.proofs.Common.{◌≡◌, ◌∷◌, [], ◌∙◌, ap, arith, rules, sym, suc, ◌+◌, drop}
+use Rattle.std.proofs.Common.{◌≡◌, ◌∷◌, ◌++◌, [], ◌∙◌, ap, arith, rules, sym, suc, ◌+◌, drop}
 use Rattle.alias_match.specs.ForProofs.{piece}
 use Rattle.alias_match.specs.Pattern.{byte, literal_beginning}
 use Rattle.alias_match.proofs.Digits.{folded}
-use Rattle.alias_match.proofs.MarkLemmas.{behind_first}
+use Rattle.alias_match.proofs.MarkLemmas.{behind_first, folded_behind}
 use Rattle.alias_match.proofs.runs.leading_bytes.Goals as goal
 use Rattle.alias_match.proofs.runs.leading_bytes.Goals.{in_default, in_default-2}
+
+pub items-init : goal.items-init
+items-init c =
+    let same = c.again-rest.ensures.same in
+    record {
+      counted = rw same (omega arith);
+      marked = rw (same, c.mark-mark.ensures) (folded_behind c.args.front.now (literal_beginning c.args.items));
+      left = same;
+      few = rw same (omega arith);
+    }
 
 pub items-preserved : goal.items-preserved
 items-preserved c =
@@ -15,7 +25,7 @@ items-preserved c =
     record {
       counted = omega (arith, counted);
       marked = rw c.with_digit-mark.ensures (rw split at c.items.invariant.marked);
-      left = behind_first c.items.count _ _ _ (sym split ∙ c.items.invariant.left) ∙ ap (λ n. drop n c.args.items.now) one;
+      left = behind_first c.items.count _ _ _ (sym split ∙ c.items.invariant.left) ∙ ap (λ n. drop n c.args.items) one;
       few = omega (arith, few);
     }
 
@@ -25,4 +35,4 @@ returns-clause-mark c =
       | in_default w ↦ search rules
       | in_default-2 w ↦ search rules
     ] in
-    rw none at c.items.invariant.marked ∙ folded (literal_beginning c.args.items.now)
+    rw none at c.items.invariant.marked ∙ folded (c.args.front.now ++ literal_beginning c.args.items)
