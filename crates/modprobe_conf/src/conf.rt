@@ -5,10 +5,10 @@ ghost use Rattle.alias_match.specs.Aliases.{line_before, matching, words_before}
 ghost use Rattle.alias_match.specs.ForProofs.{nothing_read};
 ghost use Rattle.modprobe_conf.specs.Configuration.{configuration_of, entry_of, options_of, settings_by, settings_of, softdep_of};
 ghost use Rattle.modprobe_conf.specs.Configuration.{has_install_line, has_remove_line, is_blacklisted};
-ghost use Rattle.modprobe_conf.specs.ForProofs.{no_configuration, with_entry, with_lines, entry_seen};
+ghost use Rattle.modprobe_conf.specs.ForProofs.{no_configuration, with_entry, with_lines, entry_seen, joined_text};
 
 use crate::entry::Entry;
-use crate::joined_lines::JoinedLines;
+use crate::joined_lines::{Joined, JoinedLines};
 use crate::name_index::NameIndex;
 use crate::settings::Settings;
 use crate::softdep::Softdep;
@@ -16,7 +16,7 @@ use crate::word::Word;
 use alias_match::{Alias, AliasList, Pattern};
 use std::alloc::{AllocError, Global};
 use std::marker::Model;
-use text_parts::{Name, is_comment, words};
+use text_parts::{Name, find_words, is_comment};
 
 /// What a configuration says: its aliases in file order, what its lines say of each name, and the numbers of the
 /// lines that are skipped. Names are compared as they stand, so give them in normal form.
@@ -51,7 +51,7 @@ impl Conf {
     {
         match entry {
             Entry::Aliased(alias) => self.aliases.push(alloc, alias)?,
-            Entry::Named(name, line) => self.index.add(alloc, &name, line)?,
+            Entry::Named(name, line) => self.index.add(alloc, name, line)?,
         }
         Ok(())
     }
@@ -70,15 +70,40 @@ impl Conf {
         Ok(())
     }
 
-    fn add_line(&mut self, alloc: Global, number: usize, line: &[u8]) -> Result<(), AllocError>
+    fn add_line<'a>(
+        &mut self,
+        alloc: Global,
+        words: &mut Vec<&'a [u8]>,
+        number: usize,
+        line: &'a [u8],
+    ) -> Result<(), AllocError>
         ensures { OnOk result (self.new
             ≡ with_lines self.old (line_before entry_of (number, line.now) nothing_read)) }
     {
         if is_comment(line) {
             return Ok(());
         }
-        let words = words(alloc, line)?;
-        self.add_words(alloc, number, &words)
+        find_words(words, line)?;
+        self.add_words(alloc, number, words)
+    }
+
+    /// Takes a joined line. The words of one that stands in the text are put into `words`, in place of those of an
+    /// earlier line.
+    fn add_joined<'a>(
+        &mut self,
+        alloc: Global,
+        words: &mut Vec<&'a [u8]>,
+        number: usize,
+        line: Joined<'a>,
+        buffer: &[u8],
+    ) -> Result<(), AllocError>
+        ensures { OnOk result (self.new
+            ≡ with_lines self.old (line_before entry_of (number, joined_text line.entry buffer.now) nothing_read)) }
+    {
+        match line {
+            Joined::Whole(line) => self.add_line(alloc, words, number, line),
+            Joined::Several => self.add_line(alloc, &mut Vec::new(alloc), number, buffer),
+        }
     }
 
     /// How many alias lines there are.
@@ -186,9 +211,10 @@ pub fn read_conf(alloc: Global, text: &[u8]) -> Result<Conf, AllocError>
 {
     let mut conf = Conf::new(alloc);
     let mut lines = JoinedLines::new(text);
-    let mut line = Vec::new(alloc);
-    'lines: while let Some(number) = lines.next_line(&mut line)? {
-        conf.add_line(alloc, number, &line)?;
+    let mut words = Vec::new(alloc);
+    let mut buffer = Vec::new(alloc);
+    'lines: while let Some((number, line)) = lines.next_line(&mut buffer)? {
+        conf.add_joined(alloc, &mut words, number, line, &buffer)?;
     }
     Ok(conf)
 }

@@ -29,7 +29,7 @@ fn is_word(word: &[u8], text: &[u8]) -> bool
 fn own_words(alloc: Global, words: &[&[u8]]) -> Result<Vec<Word>, AllocError>
     ensures { IfOk result (λ own. own.items ≡ texts_of words.now) }
 {
-    let mut own = Vec::new(alloc);
+    let mut own = Vec::with_capacity(alloc, words.len())?;
     for word in words {
         own.push(Word::new(alloc, word)?)?;
     }

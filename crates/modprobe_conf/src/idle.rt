@@ -84,9 +84,9 @@ pub fn idle_settings(alloc: Global, text: &[u8]) -> Result<Vec<IdleLine>, AllocE
 {
     let mut idle = Vec::new(alloc);
     let mut lines = JoinedLines::new(text);
-    let mut line = Vec::new(alloc);
-    'lines: while let Some(number) = lines.next_line(&mut line)? {
-        add_line(alloc, &mut idle, number, &line)?;
+    let mut buffer = Vec::new(alloc);
+    'lines: while let Some((number, line)) = lines.next_line(&mut buffer)? {
+        add_line(alloc, &mut idle, number, line.text(&buffer))?;
     }
     Ok(idle)
 }

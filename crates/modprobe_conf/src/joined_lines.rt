@@ -2,11 +2,33 @@
 ghost use Rattle.std.specs.Prelude.{◌≡◌, ◌∷◌, ◌-◌, [], length, take, IfOk, MatchOption, true, false};
 ghost use Rattle.std.specs.Str.Lines.{lines};
 ghost use Rattle.modprobe_conf.specs.Configuration.{ends_with_backslash, joined_lines};
+ghost use Rattle.modprobe_conf.specs.ForProofs.{joined_text};
 
 use bstr::Lines;
 use std::alloc::AllocError;
 use std::marker::Model;
 use text_parts::whole_lines;
+
+/// Where a joined line stands: in the text, if no backslash ends it, or else in a buffer.
+#[derive(Drop)]
+pub(crate) enum Joined<'a> {
+    Whole(&'a [u8]),
+    Several,
+}
+
+impl<'a> Joined<'a> {
+    /// The joined line, which stands in this buffer if it is of several lines.
+    pub(crate) fn text<'b>(self, buffer: &'b [u8]) -> &'b [u8]
+    where
+        'a: 'b,
+        ensures { result.now ≡ joined_text self.entry buffer.entry.now }
+    {
+        match self {
+            Joined::Whole(line) => line,
+            Joined::Several => buffer,
+        }
+    }
+}
 
 /// The joined lines of a text that are left, each with the number of its first line.
 #[derive(Drop)]
@@ -49,24 +71,34 @@ impl<'a> JoinedLines<'a> {
         }
     }
 
-    /// Puts the next joined line into `line`, and answers its number.
-    pub(crate) fn next_line(&mut self, line: &mut Vec<u8>) -> Result<Option<usize>, AllocError>
+    /// The next joined line with its number. One of several lines is put into the buffer.
+    pub(crate) fn next_line(
+        &mut self,
+        buffer: &mut Vec<u8>,
+    ) -> Result<Option<(usize, Joined<'a>)>, AllocError>
         ensures { IfOk result (λ found. MatchOption found
             (self.old ≡ [])
-            (λ number. self.old ≡ (number, line.new.items) ∷ self.new)) }
+            (λ line. self.old ≡ (line.0, joined_text line.1 buffer.new.items) ∷ self.new)) }
     {
-        line.clear();
+        buffer.clear();
         let first = self.number;
         let mut is_begun = false;
         'pieces: while let Some(piece) = self.lines.next() {
             self.number += 1;
             let Some(front) = before_backslash(piece) else {
-                line.extend_from_slice(piece)?;
-                return Ok(Some(first));
+                if !is_begun {
+                    return Ok(Some((first, Joined::Whole(piece))));
+                }
+                buffer.extend_from_slice(piece)?;
+                return Ok(Some((first, Joined::Several)));
             };
-            line.extend_from_slice(front)?;
+            buffer.extend_from_slice(front)?;
             is_begun = true;
         }
-        Ok(if is_begun { Some(first) } else { None })
+        Ok(if is_begun {
+            Some((first, Joined::Several))
+        } else {
+            None
+        })
     }
 }

@@ -43,10 +43,10 @@ impl NameIndex {
     }
 
     /// Adds what a line says of a name.
-    pub(crate) fn add(&mut self, alloc: Global, name: &Name, line: Line) -> Result<(), AllocError>
-        ensures { OnOk result (self.new ≡ with_named self.old name.now (line_of line)) }
+    pub(crate) fn add(&mut self, alloc: Global, name: Name, line: Line) -> Result<(), AllocError>
+        ensures { OnOk result (self.new ≡ with_named self.old name (line_of line)) }
     {
-        let key = Vec::from_slice(alloc, name.as_bytes())?;
+        let key = name.into_bytes();
         let settings = self.settings.entry(key)?.or_insert(Settings::new(alloc));
         settings.add(line)
     }

@@ -59,6 +59,10 @@ impl Settings {
         ensures { OnOk result (self.new
             ≡ record self.old { options = self.old.options ++ words.items }) }
     {
+        if self.options.is_empty() {
+            self.options = words;
+            return Ok(());
+        }
         self.options.append(&mut words)?;
         Ok(())
     }
