@@ -11,9 +11,9 @@ use Rattle.kmod_conf.specs.declared.line.TextLine.{TextLine}
 use Rattle.kmod_conf.specs.declared.line.SoftdepLine.{SoftdepLine}
 use Rattle.kmod_conf.specs.declared.entry.Entry.{Entry}
 use Rattle.kmod_conf.specs.declared.entry.Entry.TheVariants.{Alias, Blacklist, Options, Install, Remove, Softdep, Bad}
-use Rattle.kmod_conf.specs.Lines.{line_text, rest_of, soft_words, word_of, wrapped_lines}
+use Rattle.kmod_conf.specs.Lines.{Wrapped, line_text, rest_of, soft_words, word_of, wrapped_lines}
 
--- the lines of each kind in the order of the texts; of bad lines their first words
+-- the lines of each kind in the order of the texts; of bad lines their first words, and the places of their ends
 pub record Configuration : Type 0 where
   pub aliases : List AliasEntry
   pub blacklist : List NameLine
@@ -83,17 +83,17 @@ known_entry place w text =
     else (if bytes_eq w (codes "blacklist") then blacklist_entry place text
     else (if bytes_eq w (codes "options") then options_entry place text else command_entry place w text))
 
-abbrev pub words_entry : Place → List ℕ → List ℕ → Option Entry
-words_entry place [] text = None
-words_entry place (byte ∷ w) text =
-    Some (unwrap_or (known_entry place (byte ∷ w) text) (Bad (record { name = byte ∷ w; place = place })))
+abbrev pub words_entry : Place → Place → List ℕ → List ℕ → Option Entry
+words_entry place end [] text = None
+words_entry place end (byte ∷ w) text =
+    Some (unwrap_or (known_entry place (byte ∷ w) text) (Bad (record { name = byte ∷ w; place = end })))
 
--- what a line says, up to its first NUL; none is a comment or a line without a word
-abbrev pub text_entry : Place → List ℕ → Option Entry
-text_entry place text = if is_comment text then None else words_entry place (word_of text) (rest_of text)
+-- what a line says, up to its first NUL; none is a comment or a line without a word. A bad line is told by its end.
+abbrev pub text_entry : Place → Place → List ℕ → Option Entry
+text_entry place end text = if is_comment text then None else words_entry place end (word_of text) (rest_of text)
 
-abbrev pub line_entry : Place → List ℕ → Option Entry
-line_entry place line = text_entry place (line_text line)
+abbrev pub line_entry : Place → Place → List ℕ → Option Entry
+line_entry place end line = text_entry place end (line_text line)
 
 -- a line more
 abbrev pub with_entry : Configuration → Entry → Configuration
@@ -109,11 +109,15 @@ abbrev pub with_found : Configuration → Option Entry → Configuration
 with_found conf None = conf
 with_found conf (Some entry) = with_entry conf entry
 
--- the lines of a source, each with its number
-abbrev pub with_lines : Configuration → ℕ → List (ℕ × List ℕ) → Configuration
+-- where a line of a source stands
+abbrev pub place_in : ℕ → ℕ → Place
+place_in source number = record { source = source; line = number }
+
+-- the lines of a source
+abbrev pub with_lines : Configuration → ℕ → List Wrapped → Configuration
 with_lines conf source [] = conf
 with_lines conf source (line ∷ lines) =
-    with_lines (with_found conf (line_entry (record { source = source; line = line.0 }) line.1)) source lines
+    with_lines (with_found conf (line_entry (place_in source line.first) (place_in source line.last) line.text)) source lines
 
 -- a text more
 abbrev pub conf_with_text : Configuration → ℕ → List ℕ → Configuration

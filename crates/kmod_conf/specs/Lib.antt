@@ -1,4 +1,5 @@
 pub mod Lines
+pub mod Wrapping
 pub mod Configuration
 pub mod CommandLine
 pub mod LookUps

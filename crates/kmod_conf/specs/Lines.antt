@@ -8,27 +8,33 @@ use Rattle.text_parts.specs.Text.{is_blank, words}
 abbrev pub is_space : ℕ → Bool
 is_space byte = byte == 32 || nat_le 9 byte && nat_le byte 13
 
--- a begun line that has bytes, at the end of the text
-abbrev pub last_line : ℕ → List ℕ → List (ℕ × List ℕ)
-last_line first [] = []
-last_line first (byte ∷ front) = (first, byte ∷ front) ∷ []
+-- a line, and the numbers of the first and of the last of the lines that are joined in it
+pub record Wrapped : Type 0 where
+  pub first : ℕ
+  pub last : ℕ
+  pub text : List ℕ
 
--- The lines of a text behind a begun one, each with the number of its first line, from the number `here` of the line
--- that is read. A backslash before a line's end joins two lines, and before another byte it is dropped; one that ends
--- the text stands for the byte 255.
-abbrev pub lines_from : ℕ → ℕ → List ℕ → Bool → List ℕ → List (ℕ × List ℕ)
-lines_from first here front is_escaped [] = last_line first (if is_escaped then front ++ 255 ∷ [] else front)
+-- a begun line that has bytes, at the end of the text
+abbrev pub last_line : ℕ → ℕ → List ℕ → List Wrapped
+last_line first here [] = []
+last_line first here (byte ∷ front) = record { first = first; last = here; text = byte ∷ front } ∷ []
+
+-- The lines of a text behind a begun one, whose first line has a number, from the number `here` of the line that is read.
+-- A backslash before a line's end joins two lines, and before another byte it is dropped; one that ends the text stands
+-- for the byte 255.
+abbrev pub lines_from : ℕ → ℕ → List ℕ → Bool → List ℕ → List Wrapped
+lines_from first here front is_escaped [] = last_line first here (if is_escaped then front ++ 255 ∷ [] else front)
 lines_from first here front true (byte ∷ rest) =
     if byte == 10 then lines_from first (here + 1) front false rest else lines_from first here (front ++ byte ∷ []) false rest
 lines_from first here front false (byte ∷ rest) =
-    if byte == 10 then (first, front) ∷ lines_from (here + 1) (here + 1) [] false rest
+    if byte == 10 then record { first = first; last = here; text = front } ∷ lines_from (here + 1) (here + 1) [] false rest
     else (if byte == 92 then lines_from first here front true rest else lines_from first here (front ++ byte ∷ []) false rest)
 
 -- the lines of a text whose first line has a number
-abbrev pub lines_at : ℕ → List ℕ → List (ℕ × List ℕ)
+abbrev pub lines_at : ℕ → List ℕ → List Wrapped
 lines_at number text = lines_from number number [] false text
 
-abbrev pub wrapped_lines : List ℕ → List (ℕ × List ℕ)
+abbrev pub wrapped_lines : List ℕ → List Wrapped
 wrapped_lines text = lines_at 1 text
 
 -- what stands before the first NUL

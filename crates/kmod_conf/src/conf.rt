@@ -1,6 +1,6 @@
 //! A whole configuration.
 ghost use Rattle.std.specs.Prelude.{◌≡◌, ◌∷◌, ◌++◌, [], map, option_map, option_copied, IfOk, OnOk};
-ghost use Rattle.kmod_conf.specs.Configuration.{conf_with_text, no_lines, with_entry};
+ghost use Rattle.kmod_conf.specs.Configuration.{conf_with_text, no_lines, place_in, with_entry};
 ghost use Rattle.kmod_conf.specs.LookUps.{has_install_named, has_remove_named, install_of, is_blacklisted, matching_aliases};
 ghost use Rattle.kmod_conf.specs.LookUps.{options_of, remove_of, softdep_of};
 
@@ -44,6 +44,13 @@ impl Model for Conf {
     } };
 }
 
+/// Where a line of a source stands.
+fn place_in(source: usize, line: usize) -> Place
+    ensures { result ≡ place_in source line }
+{
+    Place { source, line }
+}
+
 impl Conf {
     /// A configuration without lines.
     pub fn new(alloc: Global) -> Conf
@@ -82,12 +89,10 @@ impl Conf {
     {
         let mut lines = WrappedLines::new(text);
         let mut line = Vec::new(alloc);
-        'lines: while let Some(number) = lines.next_line(&mut line)? {
-            let place = Place {
-                source,
-                line: number,
-            };
-            if let Some(entry) = Entry::read(alloc, &line, place)? {
+        'lines: while let Some(numbers) = lines.next_line(&mut line)? {
+            let place = place_in(source, numbers.first);
+            let end = place_in(source, numbers.last);
+            if let Some(entry) = Entry::read(alloc, &line, place, end)? {
                 self.add_entry(alloc, entry)?;
             }
         }
@@ -131,7 +136,7 @@ impl Conf {
         self.softdeps.lines()
     }
 
-    /// The lines that say nothing, each with its first word.
+    /// The lines that say nothing, each with its first word, and the place of the last of the lines that are joined in it.
     pub fn bad(&self) -> &[NameLine]
         ensures { result.now ≡ self.now.bad }
     {

@@ -179,13 +179,14 @@ fn read_known(
 }
 
 impl Entry {
-    /// What a line says, None where it is a comment or has no word.
+    /// What a line says, None where it is a comment or has no word. A bad line is told by its end, as kmod does.
     pub(crate) fn read(
         alloc: Global,
         line: &[u8],
         place: Place,
+        end: Place,
     ) -> Result<Option<Entry>, AllocError>
-        ensures { IfOk result (λ entry. entry ≡ line_entry place line.now) }
+        ensures { IfOk result (λ entry. entry ≡ line_entry place end line.now) }
     {
         let text = line_text(line);
         if is_comment(text) {
@@ -199,6 +200,6 @@ impl Entry {
             return Ok(Some(entry));
         }
         let name = Text::new(alloc, word)?;
-        Ok(Some(Entry::Bad(NameLine { name, place })))
+        Ok(Some(Entry::Bad(NameLine { name, place: end })))
     }
 }

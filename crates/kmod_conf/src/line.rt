@@ -2,7 +2,7 @@
 use crate::softdep::SoftItems;
 use kmod_names::{Place, Text};
 
-/// A name, as a blacklist line has it; or the first word of a line that says nothing.
+/// A name, as a blacklist line has it; or the first word of a line that says nothing, and the place of its end.
 #[derive(Drop)]
 pub struct NameLine {
     pub name: Text,

@@ -1,11 +1,19 @@
 //! Lines of a text, joined where a backslash stands before a line's end.
 ghost use Rattle.std.specs.Prelude.{◌≡◌, ◌∷◌, [], IfOk, MatchOption};
 ghost use Rattle.kmod_conf.specs.Lines.{wrapped_lines};
+ghost use Rattle.kmod_conf.specs.Wrapping.{wrapped};
 
 use std::alloc::AllocError;
 use std::marker::Model;
 
-/// The lines of a text that are left, each with the number of its first line.
+/// The numbers of the first and of the last of the lines that are joined in one.
+#[derive(Clone, Copy)]
+pub(crate) struct Numbers {
+    pub(crate) first: usize,
+    pub(crate) last: usize,
+}
+
+/// The lines of a text that are left.
 #[derive(Drop)]
 pub(crate) struct WrappedLines<'a> {
     rest: &'a [u8],
@@ -13,10 +21,10 @@ pub(crate) struct WrappedLines<'a> {
 }
 
 impl<'a> Model for WrappedLines<'a> {
-    ghost use Rattle.std.specs.Prelude.{ℕ, List, ◌+◌, ◌<◌, ◌^◌, length};
-    ghost use Rattle.kmod_conf.specs.Lines.{lines_at};
+    ghost use Rattle.std.specs.Prelude.{List, ◌+◌, ◌<◌, ◌^◌, length};
+    ghost use Rattle.kmod_conf.specs.Lines.{Wrapped, lines_at};
 
-    ghost Value = { List (ℕ × List ℕ) };
+    ghost Value = { List Wrapped };
 
     ghost view = { λ w. lines_at w.number w.rest.now };
 
@@ -33,11 +41,11 @@ impl<'a> WrappedLines<'a> {
         }
     }
 
-    /// Puts the next line into `line`, and answers the number of its first line.
-    pub(crate) fn next_line(&mut self, line: &mut Vec<u8>) -> Result<Option<usize>, AllocError>
+    /// Puts the next line into `line`, and answers its numbers.
+    pub(crate) fn next_line(&mut self, line: &mut Vec<u8>) -> Result<Option<Numbers>, AllocError>
         ensures { IfOk result (λ found. MatchOption found
             (self.old ≡ [])
-            (λ number. self.old ≡ (number, line.new.items) ∷ self.new)) }
+            (λ numbers. self.old ≡ wrapped numbers line.new.items ∷ self.new)) }
     {
         line.clear();
         let first = self.number;
@@ -45,9 +53,10 @@ impl<'a> WrappedLines<'a> {
         'bytes: while let Some((byte, later)) = self.rest.split_first() {
             self.rest = later;
             if *byte == b'\n' {
+                let last = self.number;
                 self.number += 1;
                 if !is_escaped {
-                    return Ok(Some(first));
+                    return Ok(Some(Numbers { first, last }));
                 }
                 is_escaped = false;
             } else if *byte == b'\\' && !is_escaped {
@@ -60,6 +69,11 @@ impl<'a> WrappedLines<'a> {
         if is_escaped {
             line.push(255)?;
         }
-        Ok(if line.is_empty() { None } else { Some(first) })
+        let last = self.number;
+        Ok(if line.is_empty() {
+            None
+        } else {
+            Some(Numbers { first, last })
+        })
     }
 }
