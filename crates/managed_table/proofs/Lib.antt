@@ -6,4 +6,5 @@ pub mod Turning
 pub mod Answered
 pub mod Fresh
 pub mod Trying
+pub mod InHand
 pub mod Telling

@@ -14,7 +14,7 @@ use Rattle.managed_table.specs.Passes.{HasInHand, MayActOn, ActedOn}
 pub took_later : {T : Type 0} (fits : RowIs → ℕ → T → Type 0) (seen : T → List SeatAnswer) (lock : ℕ) (me me1 me2 : Me T Passes) → IsSame me me1 → HasTaken fits seen lock (pass_of me1.0) me2 → HasTaken fits seen lock (pass_of me.0) me2
 took_later fits seen lock me me1 me2 same = subst (λ v. HasTaken fits seen lock (pass_of v) me2) same.0
 
-abbrev in_hand : {T : Type 0} → T → List (ℕ × T) → T
+abbrev pub in_hand : {T : Type 0} → T → List (ℕ × T) → T
 in_hand d [] = d
 in_hand d (x ∷ xs) = x.1
 

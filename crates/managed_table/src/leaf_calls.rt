@@ -27,8 +27,17 @@ impl ManagedTable {
         ensures call { IfSome result (λ r. LeafMade self.now worker (Call.Get worker slot) (reply_of get_refusal r) caller.old caller.new) }
         ensures book { caller.new.book ≡ caller.old.book }
     {
-        let row = &self.row;
-        self.leaf_turn(rt, caller, worker, slot, |leaf| leaf.get(rt, row, slot))
+        if worker >= self.leaves.count() || slot >= self.row.slots() {
+            return None;
+        }
+        let seat = &mut caller.leaves;
+        if !self.leaves.try_take(seat, worker) {
+            return Some(self.wait_and_get(rt, seat, worker, slot));
+        }
+        if let Some(answer) = self.end_by_get(seat, worker, slot) {
+            return Some(answer);
+        }
+        Some(self.end_by_long_get(rt, seat, worker, slot))
     }
 
     /// As `get`, but the leaf tries at most this many times. The inner None: the worker holds no reference to the slot, each
@@ -69,8 +78,14 @@ impl ManagedTable {
         ensures call { IfSome result (λ r. LeafMade self.now worker (Call.Put worker slot) (reply_of put_refusal r) caller.old caller.new) }
         ensures book { caller.new.book ≡ caller.old.book }
     {
-        let row = &self.row;
-        self.leaf_turn(rt, caller, worker, slot, |leaf| leaf.put(row, slot))
+        if worker >= self.leaves.count() || slot >= self.row.slots() {
+            return None;
+        }
+        let seat = &mut caller.leaves;
+        if !self.leaves.try_take(seat, worker) {
+            return Some(self.wait_and_put(rt, seat, worker, slot));
+        }
+        Some(self.end_by_put(seat, worker, slot))
     }
 
     /// How often the worker holds the module. The turn makes no call.

@@ -16,6 +16,7 @@ mod own_caller_meeting;
 mod plays;
 mod rule;
 mod table;
+mod taken;
 mod teller;
 mod tries;
 pub mod view;
