@@ -235,6 +235,11 @@ fn check(text: &[u8]) -> Result<(), PatternError>
 {
     let mut rest = text;
     'items: while let Some((first, after)) = rest.split_first() {
+        // Most bytes are passed over here, in few steps.
+        if is_plain(*first) {
+            rest = after;
+            continue;
+        }
         let (_, after) = next_item(*first, after)?;
         rest = after;
     }
