@@ -7,4 +7,5 @@ pub mod RemovalLemmas
 pub mod GroupLemmas
 pub mod WayLemmas
 pub mod LawLemmas
+pub mod ReasonLemmas
 pub mod OrderLemmas

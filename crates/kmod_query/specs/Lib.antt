@@ -13,4 +13,5 @@ pub mod Removals
 pub mod Shown
 pub mod World
 pub mod AnswerOf
+pub mod Reasons
 pub mod Order

@@ -90,3 +90,9 @@ Makes facts tasks old new = (whole : List Object) → 0 < old.left → Stands fa
 -- fewer steps are left, or the tasks were none
 abbrev pub Falls : Course → Course → Type 0
 Falls old new = 0 < old.left → (new.left < old.left) ⊎ ((new.left ≡ old.left) × (length new.stack.items ≡ length old.stack.items))
+
+-- a run has ended: what is out is the whole
+abbrev pub Ends : Facts → Course → Course → Type 0
+Ends facts old new =
+    (whole : List Object) → Stands facts [] old whole
+    → record { list : objects_of new.list.items ≡ whole; soft : AreSoftLists facts new.soft }

@@ -3,6 +3,7 @@
 
 mod answer;
 mod answering;
+mod finding;
 mod fronts;
 mod groups;
 mod laws;
@@ -26,10 +27,13 @@ mod world;
 
 pub use answer::{Answer, Failure};
 pub use answering::answer_to;
+pub use finding::Finding;
 pub use laws::{
     blacklisted_modules_are_not_loaded, hard_needs_come_first, names_are_answered_in_turn,
     show_depends_ignores_states,
 };
+pub use look_up::find_name;
+pub use object::Object;
 pub use query::{Ask, Query};
 pub use states::{ModuleState, ModuleStatus, States};
 pub use world::World;

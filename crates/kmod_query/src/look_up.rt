@@ -1,161 +1,136 @@
-//! Which modules a name stands for.
+//! Which list has a name, and which modules it stands for.
 #![tactic(auto, unfolding(crate::specs::World::facts_of))]
 
-ghost use Rattle.std.specs.Prelude.{◌≡◌, IfOk, map};
-ghost use Rattle.kmod_query.specs.LookUp.{aliased, built_in, by_alias, by_one_alias, by_patterns, by_symbol, commanded, exporting, found, is_symbol};
-ghost use Rattle.kmod_query.specs.LookUp.{itself, loadable, look_up, look_up_each};
-ghost use Rattle.kmod_query.specs.Objects.{object_of, objects_of};
-ghost use Rattle.kmod_query.specs.Probes.{after_of, before_of};
-ghost use Rattle.kmod_query.specs.World.{facts_of, name_of, pair_of};
+ghost use Rattle.std.specs.Prelude.{◌≡◌, map, IfOk};
 ghost use Rattle.kmod_index.specs.ForProofs.{pointed};
+ghost use Rattle.kmod_query.specs.LookUp.{found, look_up, look_up_each};
+ghost use Rattle.kmod_query.specs.Objects.{objects_of};
+ghost use Rattle.kmod_query.specs.Probes.{after_of, before_of};
+ghost use Rattle.kmod_query.specs.Reasons.{aliased_reason, built_in_reason, commanded_reason, exported_reason, exporters_of};
+ghost use Rattle.kmod_query.specs.Reasons.{found_by, module_reason, reason_of, said_by};
+ghost use Rattle.kmod_query.specs.World.{facts_of, name_of};
 
+use crate::finding::Finding;
 use crate::object::Object;
-use crate::world::{World, is_builtin, is_commanded, is_loadable, normal};
+use crate::world::{World, is_builtin, is_commanded, normal};
 use kmod_index::IndexLine;
-use kmod_names::{AliasEntry, Text};
+use kmod_names::Text;
 use std::alloc::{AllocError, Global};
 
-fn object_by_alias(
+/// The lines of modules.symbols of a name, where it is that of a symbol.
+fn exporters<'a>(
     alloc: Global,
+    world: &World<'a>,
     name: &[u8],
-    alias: &[u8],
-    builtin: bool,
-) -> Result<Object, AllocError>
-    ensures { IfOk result (λ object. object_of object ≡ by_one_alias alias.now builtin name.now) }
+) -> Result<Vec<&'a IndexLine>, AllocError>
+    ensures { IfOk result (λ lines. map name_of (pointed lines.items) ≡ exporters_of (facts_of world.now) name.now) }
 {
-    Ok(Object {
-        name: Vec::from_slice(alloc, name)?,
-        alias: Some(Vec::from_slice(alloc, alias)?),
-        builtin,
-    })
-}
-
-/// The targets of aliases of the configuration.
-fn by_entries(alloc: Global, entries: &[&AliasEntry]) -> Result<Vec<Object>, AllocError>
-    ensures { IfOk result (λ objects. objects_of objects.items ≡ by_patterns (map pair_of (map (λ entry. entry.now) entries.now))) }
-{
-    let mut found = Vec::new(alloc);
-    'entries: for entry in entries {
-        let object = object_by_alias(
-            alloc,
-            entry.target.as_bytes(),
-            entry.pattern.as_bytes(),
-            false,
-        )?;
-        found.push(object)?;
+    if name.starts_with(b"symbol:") {
+        world.index.symbols().of_key(alloc, name)
+    } else {
+        Ok(Vec::new(alloc))
     }
-    Ok(found)
 }
 
-/// The modules of lines that an alias found.
-fn by_lines(
+fn find_built_in<'a>(
     alloc: Global,
-    alias: &[u8],
-    builtin: bool,
-    lines: &[&IndexLine],
-) -> Result<Vec<Object>, AllocError>
-    ensures { IfOk result (λ objects. objects_of objects.items ≡ by_alias alias.now builtin (map name_of (pointed lines.now))) }
+    world: &World<'a>,
+    name: &[u8],
+) -> Result<Finding<'a>, AllocError>
+    ensures { IfOk result (λ finding. said_by world.now finding ≡ built_in_reason (facts_of world.now) name.now) }
 {
-    let mut found = Vec::new(alloc);
-    'lines: for line in lines {
-        found.push(object_by_alias(alloc, line.name(), alias, builtin)?)?;
-    }
-    Ok(found)
-}
-
-/// The name itself, where it is known.
-fn itself(alloc: Global, known: bool, name: &[u8]) -> Result<Vec<Object>, AllocError>
-    ensures { IfOk result (λ objects. objects_of objects.items ≡ itself known name.now) }
-{
-    let mut found = Vec::new(alloc);
-    if known {
-        found.push(Object {
-            name: Vec::from_slice(alloc, name)?,
-            alias: None,
-            builtin: false,
-        })?;
-    }
-    Ok(found)
-}
-
-fn built_in(alloc: Global, world: &World, name: &[u8]) -> Result<Vec<Object>, AllocError>
-    ensures { IfOk result (λ objects. objects_of objects.items ≡ built_in (facts_of world.now) name.now) }
-{
-    let first = itself(alloc, is_builtin(world, name), name)?;
-    if first.len() > 0 {
-        return Ok(first);
+    if is_builtin(world, name) {
+        return Ok(Finding::BuiltIn);
     }
     let lines = world.index.builtin_aliases(alloc, name)?;
-    by_lines(alloc, name, true, &lines)
+    if lines.len() > 0 {
+        return Ok(Finding::AliasedBuiltIn(lines));
+    }
+    Ok(Finding::Nothing)
 }
 
-fn aliased(alloc: Global, world: &World, name: &[u8]) -> Result<Vec<Object>, AllocError>
-    ensures { IfOk result (λ objects. objects_of objects.items ≡ aliased (facts_of world.now) name.now) }
+fn find_aliased<'a>(
+    alloc: Global,
+    world: &World<'a>,
+    name: &[u8],
+) -> Result<Finding<'a>, AllocError>
+    ensures { IfOk result (λ finding. said_by world.now finding ≡ aliased_reason (facts_of world.now) name.now) }
 {
     let lines = world.index.aliases().matching(alloc, name)?;
-    let first = by_lines(alloc, name, false, &lines)?;
-    if first.len() > 0 {
-        return Ok(first);
+    if lines.len() > 0 {
+        return Ok(Finding::Aliased(lines));
     }
-    built_in(alloc, world, name)
+    find_built_in(alloc, world, name)
 }
 
-fn commanded(alloc: Global, world: &World, name: &[u8]) -> Result<Vec<Object>, AllocError>
-    ensures { IfOk result (λ objects. objects_of objects.items ≡ commanded (facts_of world.now) name.now) }
+fn find_commanded<'a>(
+    alloc: Global,
+    world: &World<'a>,
+    name: &[u8],
+) -> Result<Finding<'a>, AllocError>
+    ensures { IfOk result (λ finding. said_by world.now finding ≡ commanded_reason (facts_of world.now) name.now) }
 {
-    let first = itself(alloc, is_commanded(world, name), name)?;
-    if first.len() > 0 {
-        return Ok(first);
+    if is_commanded(world, name) {
+        return Ok(Finding::Commanded);
     }
-    aliased(alloc, world, name)
+    find_aliased(alloc, world, name)
 }
 
-fn is_symbol(name: &[u8]) -> bool
-    ensures { result ≡ is_symbol name.now }
+fn find_exported<'a>(
+    alloc: Global,
+    world: &World<'a>,
+    name: &[u8],
+) -> Result<Finding<'a>, AllocError>
+    ensures { IfOk result (λ finding. said_by world.now finding ≡ exported_reason (facts_of world.now) name.now) }
 {
-    name.starts_with(b"symbol:")
+    let lines = exporters(alloc, world, name)?;
+    if lines.len() > 0 {
+        return Ok(Finding::Exported(lines));
+    }
+    find_commanded(alloc, world, name)
 }
 
-fn by_symbol(alloc: Global, world: &World, name: &[u8]) -> Result<Vec<Object>, AllocError>
-    ensures { IfOk result (λ objects. objects_of objects.items ≡ by_symbol (facts_of world.now) name.now) }
+fn find_module<'a>(alloc: Global, world: &World<'a>, name: &[u8]) -> Result<Finding<'a>, AllocError>
+    ensures { IfOk result (λ finding. said_by world.now finding ≡ module_reason (facts_of world.now) name.now) }
 {
-    if !is_symbol(name) {
-        return Ok(Vec::new(alloc));
+    match world.index.dependencies().find(name) {
+        Some(line) => Ok(Finding::Module(line)),
+        None => find_exported(alloc, world, name),
     }
-    let lines = world.index.symbols().of_key(alloc, name)?;
-    by_lines(alloc, name, false, &lines)
 }
 
-fn exporting(alloc: Global, world: &World, name: &[u8]) -> Result<Vec<Object>, AllocError>
-    ensures { IfOk result (λ objects. objects_of objects.items ≡ exporting (facts_of world.now) name.now) }
+fn find_configured<'a>(
+    alloc: Global,
+    world: &World<'a>,
+    name: &[u8],
+) -> Result<Finding<'a>, AllocError>
+    ensures { IfOk result (λ finding. said_by world.now finding ≡ reason_of (facts_of world.now) name.now) }
 {
-    let first = by_symbol(alloc, world, name)?;
-    if first.len() > 0 {
-        return Ok(first);
+    let entries = world.conf.matching_aliases(alloc, name)?;
+    if entries.len() > 0 {
+        return Ok(Finding::Configured(entries));
     }
-    commanded(alloc, world, name)
+    find_module(alloc, world, name)
 }
 
-fn loadable(alloc: Global, world: &World, name: &[u8]) -> Result<Vec<Object>, AllocError>
-    ensures { IfOk result (λ objects. objects_of objects.items ≡ loadable (facts_of world.now) name.now) }
+/// The first list that has a name in normal form, in the order in which `answer_to` looks it up (modprobe(8)). The name
+/// stands for the modules of that list. Only want of memory refuses.
+pub fn find_name<'a>(
+    alloc: Global,
+    world: &World<'a>,
+    name: &[u8],
+) -> Result<Finding<'a>, AllocError>
+    ensures list { IfOk result (λ finding. said_by world.now finding ≡ reason_of (facts_of world.now) name.now) }
+    ensures modules { IfOk result (λ finding. found_by name.now finding ≡ found (facts_of world.now) name.now) }
 {
-    let first = itself(alloc, is_loadable(world, name), name)?;
-    if first.len() > 0 {
-        return Ok(first);
-    }
-    exporting(alloc, world, name)
+    find_configured(alloc, world, name)
 }
 
 /// What a name in normal form stands for.
 pub(crate) fn found(alloc: Global, world: &World, name: &[u8]) -> Result<Vec<Object>, AllocError>
     ensures { IfOk result (λ objects. objects_of objects.items ≡ found (facts_of world.now) name.now) }
 {
-    let entries = world.conf.matching_aliases(alloc, name)?;
-    let first = by_entries(alloc, &entries)?;
-    if first.len() > 0 {
-        return Ok(first);
-    }
-    loadable(alloc, world, name)
+    find_name(alloc, world, name)?.objects(alloc, name)
 }
 
 /// What a word stands for.

@@ -9,10 +9,10 @@ use std::marker::Model;
 /// A module, and the alias by which it was found, where it was by one. `builtin` says that this was an alias of
 /// modules.builtin.modinfo.
 #[derive(Debug, Drop, PartialEq, Eq, Hash)]
-pub(crate) struct Object {
-    pub(crate) name: Vec<u8>,
-    pub(crate) alias: Option<Vec<u8>>,
-    pub(crate) builtin: bool,
+pub struct Object {
+    pub name: Vec<u8>,
+    pub alias: Option<Vec<u8>>,
+    pub builtin: bool,
 }
 
 fn copy_alias(alloc: Global, alias: &Option<Vec<u8>>) -> Result<Option<Vec<u8>>, AllocError>

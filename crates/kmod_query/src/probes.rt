@@ -3,7 +3,7 @@ ghost use Rattle.std.specs.Prelude.{◌≡◌, ◌<◌, ◌++◌, ◌∷◌, [],
 ghost use Rattle.kmod_query.specs.Facts.{Facts};
 ghost use Rattle.kmod_query.specs.Objects.{by_name, names_of, object_of, objects_of};
 ghost use Rattle.kmod_query.specs.Probes.{add, fill, fill_tasks, first_tasks, probe, probe_list};
-ghost use Rattle.kmod_query.specs.Stacks.{AreFronts, AreSoftLists, Falls, IsAt, IsFront, Makes, rest_of, soft_of, stack_of, task_of};
+ghost use Rattle.kmod_query.specs.Stacks.{AreFronts, AreSoftLists, Ends, Falls, IsAt, IsFront, Makes, Stands, rest_of, soft_of, stack_of, task_of};
 ghost use Rattle.kmod_query.specs.World.{facts_of};
 
 use crate::fronts::Fronts;
@@ -226,6 +226,29 @@ fn loaded(course: Course) -> LoadList
     LoadList { list, soft }
 }
 
+/// A run that begins with an object: it is met, and what probes it is to be done.
+fn begun(alloc: Global, world: &World, bare: bool, object: &Object) -> Result<Course, AllocError>
+    ensures { IfOk result (λ course. Stands (facts_of world.now) [] course (probe_list (facts_of world.now) bare (object_of object.now))) }
+{
+    let mut course = start(alloc);
+    course.met.insert(alloc, object)?;
+    push_probe(alloc, world, bare, &mut course.stack, object.copy(alloc)?)?;
+    Ok(course)
+}
+
+/// Makes all that is to be done, as far as the steps that are left go.
+fn finish(alloc: Global, world: &World, course: &mut Course) -> Result<(), AllocError>
+    ensures { OnOk result (Ends (facts_of world.now) course.old course.new) }
+{
+    'tasks: while course.left > 0 {
+        match course.stack.pop() {
+            None => return Ok(()),
+            Some(task) => make(alloc, world, task, course)?,
+        }
+    }
+    Ok(())
+}
+
 /// What is loaded for an object, in order; for a bare one without its soft items.
 pub(crate) fn probe_list(
     alloc: Global,
@@ -236,14 +259,7 @@ pub(crate) fn probe_list(
     ensures list { IfOk result (λ loaded. objects_of loaded.list.items ≡ probe_list (facts_of world.now) bare (object_of object.now)) }
     ensures soft { IfOk result (λ loaded. AreSoftLists (facts_of world.now) loaded.soft) }
 {
-    let mut course = start(alloc);
-    course.met.insert(alloc, object)?;
-    push_probe(alloc, world, bare, &mut course.stack, object.copy(alloc)?)?;
-    'tasks: while course.left > 0 {
-        match course.stack.pop() {
-            None => return Ok(loaded(course)),
-            Some(task) => make(alloc, world, task, &mut course)?,
-        }
-    }
+    let mut course = begun(alloc, world, bare, object)?;
+    finish(alloc, world, &mut course)?;
     Ok(loaded(course))
 }

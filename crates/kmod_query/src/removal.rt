@@ -1,8 +1,9 @@
 //! What is answered of an object that is to be removed.
 ghost use Rattle.std.specs.Prelude.{◌≡◌, ◌++◌, true, map, reverse, IfOk, OnOk};
 ghost use Rattle.kmod_query.specs.Objects.{object_of, objects_of};
+ghost use Rattle.kmod_query.specs.Probes.{step_limit};
 ghost use Rattle.kmod_query.specs.Answers.{Answer};
-ghost use Rattle.kmod_query.specs.Removal.{refused, release, remove_object};
+ghost use Rattle.kmod_query.specs.Removal.{refused, release, remove_object, run_removal};
 ghost use Rattle.kmod_query.specs.Removal.{removed_after, removed_before, take, take_each, taken_tasks};
 ghost use Rattle.kmod_query.specs.Removals.{Moves, after, removal_of, removals_of};
 ghost use Rattle.kmod_query.specs.World.{facts_of};
@@ -206,6 +207,31 @@ fn make(
     }
 }
 
+/// What all that is to be done answers, as far as the steps that may be made go.
+fn finish(
+    alloc: Global,
+    world: &World,
+    query: &Query,
+    course: &mut Course,
+) -> Result<Answer, AllocError>
+    ensures { IfOk result (λ answer. answer ≡ run_removal (facts_of world.now) query.now step_limit course.old.way (removals_of course.old.stack.items)) }
+{
+    let mut answer = Answer::nothing(alloc);
+    'tasks: for _step in 0..u64::MAX {
+        match course.stack.pop() {
+            None => return Ok(answer),
+            Some(task) => {
+                let Step { answer: own, ended } = make(alloc, world, query, task, course)?;
+                answer = answer.and_also(own)?;
+                if ended {
+                    return Ok(answer);
+                }
+            }
+        }
+    }
+    Ok(answer)
+}
+
 /// What is answered of one object that is to be removed.
 pub(crate) fn remove_object(
     alloc: Global,
@@ -219,21 +245,7 @@ pub(crate) fn remove_object(
         way: Way::new(alloc),
         stack: Vec::new(alloc),
     };
-    course
-        .stack
-        .push(Removal::Take(false, object.copy(alloc)?))?;
-    let mut answer = Answer::nothing(alloc);
-    'tasks: for _step in 0..u64::MAX {
-        match course.stack.pop() {
-            None => return Ok(answer),
-            Some(task) => {
-                let Step { answer: own, ended } = make(alloc, world, query, task, &mut course)?;
-                answer = answer.and_also(own)?;
-                if ended {
-                    return Ok(answer);
-                }
-            }
-        }
-    }
-    Ok(answer)
+    let own = object.copy(alloc)?;
+    course.stack.push(Removal::Take(false, own))?;
+    finish(alloc, world, query, &mut course)
 }

@@ -12,6 +12,13 @@ use kmod_index::Index;
 use kmod_names::{AliasEntry, Text};
 use std::alloc::{AllocError, Global};
 
+/// Adds lines behind others.
+fn push_lines(lines: &mut Vec<u8>, mut own: Vec<u8>) -> Result<(), AllocError>
+    ensures { OnOk result (lines.new.items ≡ lines.old.items ++ own.items) }
+{
+    lines.append(&mut own)
+}
+
 fn push_blacklist(lines: &mut Vec<u8>, own: &NameLine) -> Result<(), AllocError>
     ensures { OnOk result (lines.new.items ≡ lines.old.items ++ blacklist_line own.now) }
 {
@@ -35,8 +42,8 @@ fn text_lines(alloc: Global, verb: &[u8], all: &[TextLine]) -> Result<Vec<u8>, A
 {
     let mut lines = Vec::new(alloc);
     'all: for own in all {
-        let mut one = line(alloc, verb, own.name.as_bytes(), own.text.as_bytes())?;
-        lines.append(&mut one)?;
+        let one = line(alloc, verb, own.name.as_bytes(), own.text.as_bytes())?;
+        push_lines(&mut lines, one)?;
     }
     Ok(lines)
 }
@@ -46,13 +53,13 @@ fn alias_lines(alloc: Global, all: &[AliasEntry]) -> Result<Vec<u8>, AllocError>
 {
     let mut lines = Vec::new(alloc);
     'all: for own in all {
-        let mut one = line(
+        let one = line(
             alloc,
             b"alias ",
             own.pattern.as_bytes(),
             own.target.as_bytes(),
         )?;
-        lines.append(&mut one)?;
+        push_lines(&mut lines, one)?;
     }
     Ok(lines)
 }
@@ -98,8 +105,8 @@ fn softdep_lines(alloc: Global, all: &[SoftdepLine]) -> Result<Vec<u8>, AllocErr
 {
     let mut lines = Vec::new(alloc);
     'all: for own in all {
-        let mut one = softdep_line(alloc, own)?;
-        lines.append(&mut one)?;
+        let one = softdep_line(alloc, own)?;
+        push_lines(&mut lines, one)?;
     }
     Ok(lines)
 }
@@ -109,16 +116,16 @@ fn shown_configuration(alloc: Global, conf: &Conf) -> Result<Vec<u8>, AllocError
     ensures { IfOk result (λ text. text.items ≡ shown_configuration conf.now) }
 {
     let mut lines = blacklist_lines(alloc, conf.blacklist())?;
-    let mut installs = text_lines(alloc, b"install ", conf.installs())?;
-    lines.append(&mut installs)?;
-    let mut removes = text_lines(alloc, b"remove ", conf.removes())?;
-    lines.append(&mut removes)?;
-    let mut aliases = alias_lines(alloc, conf.aliases())?;
-    lines.append(&mut aliases)?;
-    let mut options = text_lines(alloc, b"options ", conf.options())?;
-    lines.append(&mut options)?;
-    let mut softdeps = softdep_lines(alloc, conf.softdeps())?;
-    lines.append(&mut softdeps)?;
+    let installs = text_lines(alloc, b"install ", conf.installs())?;
+    push_lines(&mut lines, installs)?;
+    let removes = text_lines(alloc, b"remove ", conf.removes())?;
+    push_lines(&mut lines, removes)?;
+    let aliases = alias_lines(alloc, conf.aliases())?;
+    push_lines(&mut lines, aliases)?;
+    let options = text_lines(alloc, b"options ", conf.options())?;
+    push_lines(&mut lines, options)?;
+    let softdeps = softdep_lines(alloc, conf.softdeps())?;
+    push_lines(&mut lines, softdeps)?;
     Ok(lines)
 }
 
@@ -128,9 +135,9 @@ pub(crate) fn shown(alloc: Global, conf: &Conf, index: &Index) -> Result<Vec<u8>
 {
     let mut lines = shown_configuration(alloc, conf)?;
     lines.extend_from_slice(b"\n# End of configuration files. Dumping indexes now:\n\n")?;
-    let mut aliases = shown_index(alloc, index.aliases().lines())?;
-    lines.append(&mut aliases)?;
-    let mut symbols = shown_index(alloc, index.symbols().lines())?;
-    lines.append(&mut symbols)?;
+    let aliases = shown_index(alloc, index.aliases().lines())?;
+    push_lines(&mut lines, aliases)?;
+    let symbols = shown_index(alloc, index.symbols().lines())?;
+    push_lines(&mut lines, symbols)?;
     Ok(lines)
 }

@@ -1,7 +1,7 @@
 //! What the machine's texts and states say.
 #![tactic(auto, unfolding(crate::specs::World::facts_of))]
 
-ghost use Rattle.std.specs.Prelude.{◌≡◌, ◌==◌, IfOk, is_some, map, option_copied, option_map, slice_index};
+ghost use Rattle.std.specs.Prelude.{◌≡◌, ◌==◌, IfOk, map, option_copied, option_map, slice_index};
 ghost use Rattle.text_parts.specs.Text.{texts_of};
 ghost use Rattle.kmod_query.specs.Objects.{alias_of, names_of, object_of};
 ghost use Rattle.kmod_query.specs.World.{facts_of, file_of, text_of};
@@ -51,15 +51,6 @@ pub(crate) fn normal(alloc: Global, world: &World, word: &[u8]) -> Result<Option
 {
     let _ = world;
     normal_alias(alloc, word)
-}
-
-pub(crate) fn is_loadable(world: &World, name: &[u8]) -> bool
-    ensures { result ≡ (facts_of world.now).is_loadable name.now }
-{
-    match world.index.dependencies().find(name) {
-        Some(_) => true,
-        None => false,
-    }
 }
 
 pub(crate) fn is_commanded(world: &World, name: &[u8]) -> bool

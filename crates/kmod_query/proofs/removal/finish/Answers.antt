@@ -3,7 +3,7 @@ use Rattle.kmod_query.specs.Answers.{and_also}
 use Rattle.kmod_query.specs.Removals.{removals_of}
 use Rattle.kmod_query.specs.World.{facts_of}
 use Rattle.kmod_query.proofs.RemovalLemmas.{Answers-done, Answers-end, Answers-ended, Answers-more}
-use Rattle.kmod_query.proofs.removal.remove_object.Goals as goal
+use Rattle.kmod_query.proofs.removal.finish.Goals as goal
 
 pub returns-in-None : goal.returns-in-None
 returns-in-None c =

@@ -4,7 +4,7 @@ use Rattle.kmod_names.specs.declared.alias_table.AliasEntry.{AliasEntry}
 use Rattle.kmod_query.specs.LookUp.{by_one_alias}
 use Rattle.kmod_query.specs.World.{pair_of}
 use Rattle.kmod_query.proofs.TextLemmas.{map-all}
-use Rattle.kmod_query.proofs.look_up.by_entries.Goals as goal
+use Rattle.kmod_query.proofs.finding.by_entries.Goals as goal
 
 pub returns : goal.returns
 returns c =
