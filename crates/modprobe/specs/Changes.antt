@@ -39,7 +39,7 @@ abbrev pub end_of_load : Setup → ℕ → Bool → Table → Change
 end_of_load s slot true t = call_change s code_of slot (call.EndLoad slot true) t
 end_of_load s slot false t = call_change s code_of slot (call.EndLoad slot false) t then (λ u. (refuse Einval (name_at s slot), u))
 
--- a load is two calls; behind the first the words of the parameters are looked at
+-- a load is two calls; after the first the words of the parameters are looked at
 abbrev pub one_load : Setup → ℕ → List (List ℕ) → Table → Change
 one_load s slot words t =
     call_change s code_of slot (call.BeginLoad slot) t then (λ u. end_of_load s slot (are_valid (description_at s.catalogue slot) words) u)

@@ -22,9 +22,29 @@ left_of at_end unused told = option_map (λ rest. if at_end then [] else unused 
 abbrev pub bytes_left : {R : Type 0} → (R → Option (List ℕ)) → Lines R → Option (List ℕ)
 bytes_left remaining s = left_of s.at_end s.piece (remaining s.reader.now)
 
--- the same behind the bytes of the line in hand
+-- the same after the bytes of the line in hand
 abbrev pub text_left : {R : Type 0} → (R → Option (List ℕ)) → Lines R → Option (List ℕ)
 text_left remaining s = option_map (λ rest. s.line.items ++ rest) (bytes_left remaining s)
+
+-- the source that they are read from
+abbrev pub source_of : {R : Type 0} → Lines R → R
+source_of s = s.reader.now
+
+-- both read one source, which is lent to them
+abbrev pub SameReader : {R : Type 0} → Lines R → Lines R → Type 0
+SameReader old new = new.reader.ghost_name ≡ old.reader.ghost_name
+
+-- how often it may be read
+abbrev pub turns_of : {R : Type 0} → Lines R → ℕ
+turns_of s = s.turns
+
+-- its end was not found yet
+abbrev pub IsGoing : {R : Type 0} → Lines R → Type 0
+IsGoing s = s.at_end ≡ false
+
+-- the line in hand, without its end
+abbrev pub line_of : {R : Type 0} → Lines R → List ℕ
+line_of s = s.line.items
 
 -- no byte that was read is unused, and the source is not known to be at its end
 abbrev pub IsDrained : {R : Type 0} → Lines R → Type 0

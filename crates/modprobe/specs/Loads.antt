@@ -76,7 +76,7 @@ abbrev pub removals : Setup → List (List ℕ) → Table → Change
 removals s [] t = (None, t)
 removals s (plan ∷ plans) t = plan_removal s plan t then (λ u. removals s plans u)
 
--- the removal plans of these modules, in order, behind those that stand there, or the first refusal
+-- the removal plans of these modules, in order, after those that stand there, or the first refusal
 abbrev pub removal_plans_of : Setup → List (List ℕ) → List (List ℕ) → Result (List (List ℕ)) PlanError
 removal_plans_of s plans [] = Ok plans
 removal_plans_of s plans (target ∷ targets) =

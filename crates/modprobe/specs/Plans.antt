@@ -22,7 +22,7 @@ if_some name (target ∷ targets) = Ok (target ∷ targets)
 abbrev pub targets_of : Setup → List ℕ → Result (List (List ℕ)) PlanError
 targets_of s name = if_some name (found s.catalogue s.configuration s.aliases.entries name)
 
--- the items of the plans of these modules, in order, behind those that stand there, or the first refusal
+-- the items of the plans of these modules, in order, after those that stand there, or the first refusal
 abbrev pub items_of_plans : Setup → List (List ℕ) → List Item → List (List ℕ) → Result (List Item) PlanError
 items_of_plans s words items [] = Ok items
 items_of_plans s words items (target ∷ targets) =

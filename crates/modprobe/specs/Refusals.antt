@@ -59,7 +59,7 @@ abbrev pub unload_code : Reply → Code
 unload_code reply_is.NotLive = Ebusy
 unload_code r = code_of r
 
--- why there is no plan; no plan is refused for want of memory
+-- why there is no plan; running out of memory is no refusal
 abbrev pub plan_refusal : PlanError → Refusal
 plan_refusal (plan_error.Cycle name) = record { code = Cycle; name = name }
 plan_refusal (plan_error.Install name) = record { code = Install; name = name }

@@ -15,7 +15,7 @@ use Rattle.modprobe.specs.Session.{line_reply, answer}
 abbrev pub AllShort : List (List ℕ) → Type 0
 AllShort lines = All (λ line. length line ≤ 65535) lines
 
--- These lines of the text were answered, over the table at the start: the text behind them is left, what was written
+-- These lines of the text were answered, over the table at the start: the text after them is left, what was written
 -- grew by their answer and by nothing else, and the table is the answer's.
 pub record Answered (s : Setup) (start : Table) (text left : Option (List ℕ)) (held written : Option (List ℕ)) (table : Table) (done : List Line) : Type 0 where
   pub gives : GivesCuts text left done
@@ -40,7 +40,7 @@ StoppedAtLongLine s start text held written table =
 abbrev pub line_in : AtHand → Line
 line_in hand = record { text = hand.line; ending = hand.ending }
 
--- memory ran out in a line, or behind it: all lines before it were answered, and it changed nothing
+-- memory ran out in a line, or after it: all lines before it were answered, and it changed nothing
 abbrev pub StoppedForMemory : Setup → Table → Option (List ℕ) → AtHand → Option (List ℕ) → Option (List ℕ) → Table → Type 0
 StoppedForMemory s start text hand held written table =
     (done : List Line) × (rest : Option (List ℕ)) × Answered s start text rest held written table done × AllEnded done

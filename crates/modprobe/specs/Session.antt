@@ -16,7 +16,7 @@ use Rattle.modprobe.specs.Changes.{Change, call_change, one_load, one_removal}
 use Rattle.modprobe.specs.Plans.{whole_plan, plan_text}
 use Rattle.modprobe.specs.Loads as loads
 
--- what a change is request_reply
+-- what a change is answered
 abbrev pub change_text : Option Refusal → List ℕ
 change_text None = codes "ok" ++ 10 ∷ []
 change_text (Some r) = refusal_line r

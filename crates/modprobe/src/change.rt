@@ -58,7 +58,7 @@ impl<'s, 't, M: Modules> Session<'s, 't, M> {
         }
     }
 
-    /// Removes a module (delete_module(2)); of one that drains the removal is ended.
+    /// Removes a module (delete_module(2)), or ends the removal of one that drains.
     pub(crate) fn remove(&mut self, slot: usize) -> Result<(), Refusal>
         requires { slot < length self.old.setup.now.catalogue }
         ensures { Makes self.old self.new (refusal_in self.old.setup.now result) (λ s t. one_removal s slot t) }

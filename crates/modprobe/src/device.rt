@@ -61,9 +61,9 @@ pub trait Sink {
 /// fails once it has answered 2^64 - 1 of them.
 #[derive(Drop)]
 pub struct FromRead<R> {
-    reader: R,
-    answered: u64,
-    failed: bool,
+    pub reader: R,
+    pub answered: u64,
+    pub failed: bool,
 }
 
 impl<R: Read> FromRead<R> {
@@ -110,8 +110,8 @@ impl<R: Read> Source for FromRead<R> {
 /// A writer of std's. It tells what the writer tells, and each error of the writer is a failure.
 #[derive(Drop)]
 pub struct FromWrite<W> {
-    writer: W,
-    failed: bool,
+    pub writer: W,
+    pub failed: bool,
 }
 
 impl<W: Write> FromWrite<W> {

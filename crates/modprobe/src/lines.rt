@@ -60,7 +60,7 @@ impl<'a, R: Source> Lines<'a, R> {
     ghost use Rattle.std.specs.Str.Lines.{strip_carriage_return};
     ghost use Rattle.text_parts.specs.Text.{ended};
     ghost use Rattle.modprobe.specs.Lines.{bytes_left, text_left, ending_bytes, HasNoFeed, EndsLine, steps_left, is_read_fault};
-    ghost use Rattle.modprobe.specs.Lines.{SpendsTurns, HasTrueEnd};
+    ghost use Rattle.modprobe.specs.Lines.{SpendsTurns, HasTrueEnd, source_of, SameReader, turns_of, IsGoing, line_of};
     ghost use Rattle.modprobe.specs.Lines.{Fetched, SameSource, StoppedTaking, GaveLine, FoundEnd, StoppedReading};
 
     /// The lines of what `reader` has left, over at most `turns` reads. It reads nothing, and can't fail: the buffer was
@@ -68,11 +68,11 @@ impl<'a, R: Source> Lines<'a, R> {
     pub fn new(alloc: Global, buffer: Buffer, reader: &'a mut R, turns: u64) -> Lines<'a, R>
         requires { R.has_failed reader.old ≡ false }
         ensures same_reader { result.reader.ghost_name ≡ reader.entry.ghost_name }
-        ensures works { R.has_failed result.reader.now ≡ false }
+        ensures works { R.has_failed (source_of result) ≡ false }
         ensures bytes { bytes_left R.remaining result ≡ R.remaining reader.old }
-        ensures value { result.reader.now ≡ reader.old }
-        ensures going { result.at_end ≡ false }
-        ensures turns { result.turns ≡ turns }
+        ensures value { source_of result ≡ reader.old }
+        ensures going { IsGoing result }
+        ensures turns { turns_of result ≡ turns }
     {
         Lines {
             reader,
@@ -102,7 +102,7 @@ impl<'a, R: Source> Lines<'a, R> {
 
     /// The line that was read last.
     pub fn line(&self) -> &[u8]
-        ensures { result.now ≡ self.now.line.items }
+        ensures { result.now ≡ line_of self.now }
     {
         self.line.as_slice()
     }
@@ -120,9 +120,9 @@ impl<'a, R: Source> Lines<'a, R> {
 
     // Reads a piece where none is left of the last one. It answers whether there is one.
     fn fetch(&mut self) -> Result<bool, LineFault>
-        requires { R.has_failed self.old.reader.now ≡ false }
-        ensures same_reader { self.new.reader.ghost_name ≡ self.old.reader.ghost_name }
-        ensures failed { R.has_failed self.new.reader.now ≡ is_read_fault result }
+        requires { R.has_failed (source_of self.old) ≡ false }
+        ensures same_reader { SameReader self.old self.new }
+        ensures failed { R.has_failed (source_of self.new) ≡ is_read_fault result }
         ensures fetched { Fetched R.remaining self.old self.new result }
         ensures counted { SpendsTurns R.read_count self.old self.new }
         ensures end { HasTrueEnd R.remaining self.old → HasTrueEnd R.remaining self.new }
@@ -192,9 +192,9 @@ impl<'a, R: Source> Lines<'a, R> {
     /// Turns: a further read is needed, and none is left. LongLine: the line has more than 65,535 bytes without its end.
     /// Memory: there is none for the line. After a fault the lines are not to be used again.
     pub fn next_line(&mut self) -> Result<bool, LineFault>
-        requires { R.has_failed self.old.reader.now ≡ false }
-        ensures same_reader { self.new.reader.ghost_name ≡ self.old.reader.ghost_name }
-        ensures failed { R.has_failed self.new.reader.now ≡ is_read_fault result }
+        requires { R.has_failed (source_of self.old) ≡ false }
+        ensures same_reader { SameReader self.old self.new }
+        ensures failed { R.has_failed (source_of self.new) ≡ is_read_fault result }
         ensures gave { result ≡ Ok true → GaveLine R.remaining self.old self.new }
         ensures ended { result ≡ Ok false → FoundEnd R.remaining self.old self.new }
         ensures stopped { IfErr result (λ fault. StoppedReading fault R.remaining self.old self.new) }

@@ -27,7 +27,7 @@ impl Model for Buffer {
 }
 
 impl Buffer {
-    /// Takes the memory. It fails for want of it alone.
+    /// Takes the memory. It fails only if there is none.
     pub fn new(alloc: Global) -> Result<Buffer, AllocError>
         ensures { IfOk result (λ room. room ≡ 4096) }
     {

@@ -3,7 +3,7 @@ ghost use Rattle.std.specs.Prelude.{◌≡◌, ◌+◌, ◌-◌, ◌^◌, min, f
 ghost use Rattle.std.specs.Io.KnownBytes.{Appends, IsAtEnd};
 ghost use Rattle.std.specs.Str.Lines.{lines as lines_of};
 ghost use Rattle.dep_index.specs.Catalogue.{modules_of};
-ghost use Rattle.modprobe.specs.Lines.{bytes_left, hand_of, IfTold, StopsForTurns, SpendsTurns, HasTrueEnd};
+ghost use Rattle.modprobe.specs.Lines.{bytes_left, hand_of, IfTold, StopsForTurns, SpendsTurns, HasTrueEnd, source_of, SameReader};
 ghost use Rattle.modprobe.specs.Session.{answer, is_error, errors_of, error_count};
 ghost use Rattle.modprobe.specs.Run.{AllShort, WritesPart, StandsAfter, is_read, is_write};
 
@@ -63,12 +63,15 @@ fn count_reply<M: Modules, T: Watch>(
     errors.saturating_add(1)
 }
 
-/// Answers each line that is left, up to the end of the input or a fault. `Read` and `Write` come where the device
-/// fails in this call, `Turns` where the source was read as often as `lines` may, `LongLine` at a line of more than
-/// 65,535 bytes, `Memory` where there is none. After a fault all lines before the one in hand are answered, and of the
-/// reply to that one a front part is written after `Write`, and nothing after the others. The table has the effect of
-/// the line in hand after `Write` alone. Each read of the source takes one turn of `lines`.
-/// It answers how many replies were errors, 2^64 - 1 of them at most, and tells the watch of each line and of each error.
+/// Answers each line that is left, up to the end of the input or a fault. Each read of the source takes one turn of `lines`.
+///
+/// - `Read`, `Write`: the device failed in this call. `Memory`: there is none.
+/// - `Turns`: the source was read as often as `lines` may. `LongLine`: a line has more than 65,535 bytes.
+///
+/// After a fault all lines before the one in hand are answered. `Write` comes after the line in hand has had its effect on
+/// the table, and a front part of its reply is written. After any other fault it has no effect and no reply.
+///
+/// It answers how many replies were errors, 2^64 - 1 at most, and tells the watch of each line and of each error.
 pub fn run_watched<R: Source, W: Sink, M: Modules, T: Watch>(
     alloc: Global,
     setup: &Setup,
@@ -77,7 +80,7 @@ pub fn run_watched<R: Source, W: Sink, M: Modules, T: Watch>(
     table: &mut M,
     watch: &mut T,
 ) -> Result<u64, RunFault>
-    requires reader_works { R.has_failed lines.old.reader.now ≡ false }
+    requires reader_works { R.has_failed (source_of lines.old) ≡ false }
     requires writer_works { W.has_failed writer.old ≡ false }
     requires over { M.catalogue table.old ≡ modules_of setup.now.catalogue }
 
@@ -97,14 +100,14 @@ pub fn run_watched<R: Source, W: Sink, M: Modules, T: Watch>(
         (hand_of R.remaining lines.new) (W.contents writer.old) (W.contents writer.new) (M.table table.new)) }
 
     // When each fault comes.
-    ensures read { R.has_failed lines.new.reader.now ≡ is_read result }
+    ensures read { R.has_failed (source_of lines.new) ≡ is_read result }
     ensures write { W.has_failed writer.new ≡ is_write result }
     ensures turns { result ≡ Err RunFault.Turns → StopsForTurns R.remaining lines.old lines.new }
 
     // Each turn is one read.
     ensures counted { SpendsTurns R.read_count lines.old lines.new }
 
-    ensures same_reader { lines.new.reader.ghost_name ≡ lines.old.reader.ghost_name }
+    ensures same_reader { SameReader lines.old lines.new }
     ensures over { M.catalogue table.new ≡ M.catalogue table.old }
 {
     let mut session = Session { setup, table };

@@ -1,6 +1,6 @@
 //! The sections of an input before its session.
 ghost use Rattle.std.specs.Prelude.{◌≡◌, ◌++◌, false, OnOk, IfOk, IfErr, None};
-ghost use Rattle.modprobe.specs.Lines.{bytes_left, IfTold, IsPaid, StopsForTurns, SpendsTurns, HasTrueEnd};
+ghost use Rattle.modprobe.specs.Lines.{bytes_left, IfTold, IsPaid, StopsForTurns, SpendsTurns, HasTrueEnd, source_of, SameReader, line_of};
 ghost use Rattle.modprobe.specs.Sections.{section_of, no_parts, add_bytes, text_in, sections};
 ghost use Rattle.modprobe.specs.SetupInput.{SetupStops};
 ghost use Rattle.modprobe.specs.ForProofs.{is_session, parts_of, GivesSections, StopsAs, HasLine, is_setup_read};
@@ -107,14 +107,14 @@ pub(crate) fn read_texts<R: Source, T: Watch>(
     texts: &mut Texts,
     watch: &mut T,
 ) -> Result<(), SetupFault>
-    requires works { R.has_failed lines.old.reader.now ≡ false }
+    requires works { R.has_failed (source_of lines.old) ≡ false }
     requires empty { parts_of texts.old ≡ no_parts }
-    ensures same_reader { lines.new.reader.ghost_name ≡ lines.old.reader.ghost_name }
+    ensures same_reader { SameReader lines.old lines.new }
     ensures sections { OnOk result (GivesSections (bytes_left R.remaining lines.old) (bytes_left R.remaining lines.new) (parts_of texts.new)) }
     ensures refused { IfErr result (λ fault. IfTold (bytes_left R.remaining lines.old) (λ text. StopsAs fault.code text)) }
-    ensures stops { IfErr result (λ fault. SetupStops fault.code (bytes_left R.remaining lines.old) (R.remaining lines.new.reader.now) lines.new.line.items) }
+    ensures stops { IfErr result (λ fault. SetupStops fault.code (bytes_left R.remaining lines.old) (R.remaining (source_of lines.new)) (line_of lines.new)) }
     ensures line { IfErr result (λ fault. HasLine fault) }
-    ensures read { R.has_failed lines.new.reader.now ≡ is_setup_read result }
+    ensures read { R.has_failed (source_of lines.new) ≡ is_setup_read result }
     ensures turns { IfErr result (λ fault. fault.code ≡ SetupCode.Turns → StopsForTurns R.remaining lines.old lines.new) }
     ensures paid { OnOk result (IsPaid R.remaining lines.old lines.new) }
     ensures counted { SpendsTurns R.read_count lines.old lines.new }

@@ -1,7 +1,7 @@
 //! A whole session: the sections of the input, and the session over an opening table.
 ghost use Rattle.std.specs.Prelude.{◌≡◌, ◌+◌, ◌≤◌, false, true, OnOk, IfOk, IfErr};
 ghost use Rattle.std.specs.Io.KnownBytes.{IsAtEnd};
-ghost use Rattle.modprobe.specs.Lines.{bytes_left, IfTold, GaveAtLeast, SpendsTurns, HasTrueEnd};
+ghost use Rattle.modprobe.specs.Lines.{bytes_left, IfTold, GaveAtLeast, SpendsTurns, HasTrueEnd, source_of, SameReader, turns_of};
 ghost use Rattle.modprobe.specs.Serve.{AnswersInput, CountsErrors, ServeStands, failed_reading, failed_writing, ran_out_of_turns};
 
 use crate::device::{Sink, Source};
@@ -26,20 +26,20 @@ fn serve_lines<R: Source, W: Sink, T: Watch>(
     watch: &mut T,
 ) -> Result<u64, ServeFault>
     requires workers { workers ≤ 64 }
-    requires reader_works { R.has_failed lines.old.reader.now ≡ false }
+    requires reader_works { R.has_failed (source_of lines.old) ≡ false }
     requires writer_works { W.has_failed writer.old ≡ false }
     ensures answered { OnOk result (IfTold (bytes_left R.remaining lines.old) (λ input.
         AnswersInput workers input (W.contents writer.old) (W.contents writer.new))) }
     ensures errors { IfOk result (λ errors. IfTold (bytes_left R.remaining lines.old) (λ input. CountsErrors workers input errors)) }
-    ensures all_read { OnOk result (HasTrueEnd R.remaining lines.old → IsAtEnd (R.remaining lines.new.reader.now)) }
+    ensures all_read { OnOk result (HasTrueEnd R.remaining lines.old → IsAtEnd (R.remaining (source_of lines.new))) }
     ensures stands { IfErr result (λ fault. ServeStands workers fault (bytes_left R.remaining lines.old)
-        (R.remaining lines.new.reader.now) (W.contents writer.old) (W.contents writer.new)) }
-    ensures read { R.has_failed lines.new.reader.now ≡ failed_reading result }
+        (R.remaining (source_of lines.new)) (W.contents writer.old) (W.contents writer.new)) }
+    ensures read { R.has_failed (source_of lines.new) ≡ failed_reading result }
     ensures write { W.has_failed writer.new ≡ failed_writing result }
     ensures turns { ran_out_of_turns result ≡ true →
-        (lines.new.turns ≡ 0) × GaveAtLeast lines.old.turns (R.remaining lines.old.reader.now) (R.remaining lines.new.reader.now) }
+        (turns_of lines.new ≡ 0) × GaveAtLeast (turns_of lines.old) (R.remaining (source_of lines.old)) (R.remaining (source_of lines.new)) }
     ensures counted { SpendsTurns R.read_count lines.old lines.new }
-    ensures same_reader { lines.new.reader.ghost_name ≡ lines.old.reader.ghost_name }
+    ensures same_reader { SameReader lines.old lines.new }
 {
     let setup = read_setup_watched(alloc, lines, watch)?;
     let mut table = Table::new(alloc, setup.catalogue(), workers)?;

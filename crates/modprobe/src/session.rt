@@ -4,7 +4,7 @@ ghost use Rattle.dep_index.specs.Catalogue.{modules_of};
 ghost use Rattle.modprobe.specs.Plans.{whole_plan, plan_text};
 
 use crate::action::Answer;
-use crate::command::{Action, Command, Request, parse};
+use crate::command::{Command, Request, parse};
 use crate::refusal::Code;
 use crate::reply::{details, error_line, items_text, plan_refusal, render, room};
 use crate::request::whole_plan;
@@ -35,9 +35,8 @@ fn plan_text(alloc: Global, setup: &Setup, name: Name) -> Result<Vec<u8>, AllocE
 impl<'s, 't, M: Modules> Session<'s, 't, M> {
     ghost use Rattle.std.specs.Prelude.{OnErr};
     ghost use Rattle.text_parts.specs.Text.{texts_of};
-    ghost use Rattle.modprobe.specs.Session.{change_reply, request_reply, command_reply, line_reply};
+    ghost use Rattle.modprobe.specs.Session.{change_reply, request_reply, line_reply};
     ghost use Rattle.modprobe.specs.Loads.{modprobe, modprobe_remove};
-    ghost use Rattle.modprobe.specs.Commands.{by_words};
     ghost use Rattle.modprobe.specs.ForProofs.{request_from};
     ghost use Rattle.modprobe.specs.Sessions.{Makes, Becomes};
 
@@ -51,15 +50,7 @@ impl<'s, 't, M: Modules> Session<'s, 't, M> {
             return Ok(Vec::new(alloc));
         }
         let words = words(alloc, line)?;
-        self.reply_to_words(alloc, &words)
-    }
-
-    /// Makes what the words of a line ask for.
-    fn reply_to_words(&mut self, alloc: Global, words: &[&[u8]]) -> Result<Vec<u8>, AllocError>
-        ensures reply { IfOk result (λ text. Makes self.old self.new text.items (λ s t. command_reply s (by_words (texts_of words.now)) t)) }
-        ensures unchanged { OnErr result (Becomes self.old self.new (λ s t. t)) }
-    {
-        match parse(alloc, words)? {
+        match parse(alloc, &words)? {
             Command::Nothing => Ok(Vec::new(alloc)),
             Command::Malformed(first) => error_line(alloc, Code::Syntax, first),
             Command::ByName(name, request) => self.reply_by_name(alloc, name, request),
@@ -79,26 +70,20 @@ impl<'s, 't, M: Modules> Session<'s, 't, M> {
         ensures unchanged { OnErr result (Becomes self.old self.new (λ s t. t)) }
     {
         match request {
-            Request::Act(action) => self.act(alloc, &name, action),
+            Request::Act(action) => {
+                let Some(slot) = self.setup.catalogue().slot(name.as_bytes()) else {
+                    return error_line(alloc, Code::Enoent, name.as_bytes());
+                };
+                let mut text = room(alloc, b"")?;
+                let answer = self.act_on(slot, action);
+                render(&mut text, self.setup, answer);
+                Ok(text)
+            }
             Request::Modinfo => details(alloc, self.setup, &name),
             Request::Plan => plan_text(alloc, self.setup, name),
             Request::Modprobe(words) => self.modprobe(alloc, name, words),
             Request::ModprobeRemove => self.modprobe_remove(alloc, name),
         }
-    }
-
-    /// Makes an action on the module of a name.
-    fn act(&mut self, alloc: Global, name: &Name, action: Action<'_>) -> Result<Vec<u8>, AllocError>
-        ensures reply { IfOk result (λ text. Makes self.old self.new text.items (λ s t. request_reply s name.now (request_from (Request.Act action.entry)) t)) }
-        ensures unchanged { OnErr result (Becomes self.old self.new (λ s t. t)) }
-    {
-        let Some(slot) = self.setup.catalogue().slot(name.as_bytes()) else {
-            return error_line(alloc, Code::Enoent, name.as_bytes());
-        };
-        let mut text = room(alloc, b"")?;
-        let answer = self.act_on(slot, action);
-        render(&mut text, self.setup, answer);
-        Ok(text)
     }
 
     /// Loads the modules of a name (modprobe(8)). All is planned before the first change.

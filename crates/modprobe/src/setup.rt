@@ -1,6 +1,6 @@
 //! What a session knows besides its table.
 ghost use Rattle.std.specs.Prelude.{◌≡◌, ◌≤◌, false, length, IfOk, IfErr, OnOk};
-ghost use Rattle.modprobe.specs.Lines.{bytes_left, IfTold, IsPaid, StopsForTurns, SpendsTurns, HasTrueEnd};
+ghost use Rattle.modprobe.specs.Lines.{bytes_left, IfTold, IsPaid, StopsForTurns, SpendsTurns, HasTrueEnd, source_of, SameReader, line_of};
 ghost use Rattle.modprobe.specs.Setup.{name_at};
 ghost use Rattle.modprobe.specs.SetupInput.{setup_of, GivesSetup, Refuses, SetupStops};
 ghost use Rattle.modprobe.specs.Sections.{no_parts};
@@ -94,20 +94,20 @@ fn set_up<R: Source, T: Watch>(
     watch: &mut T,
 ) -> Result<Setup, SetupFault>
     requires empty { parts_of texts.old ≡ no_parts }
-    requires works { R.has_failed lines.old.reader.now ≡ false }
+    requires works { R.has_failed (source_of lines.old) ≡ false }
     ensures setup { IfOk result (λ s.
         GivesSetup (bytes_left R.remaining lines.old) (bytes_left R.remaining lines.new) s) }
     ensures refused { IfErr result (λ fault.
         IfTold (bytes_left R.remaining lines.old) (λ input. Refuses fault (setup_of input))) }
     ensures stops { IfErr result (λ fault. SetupStops fault.code (bytes_left R.remaining lines.old)
-        (R.remaining lines.new.reader.now) lines.new.line.items) }
-    ensures read { R.has_failed lines.new.reader.now ≡ is_setup_read result }
+        (R.remaining (source_of lines.new)) (line_of lines.new)) }
+    ensures read { R.has_failed (source_of lines.new) ≡ is_setup_read result }
     ensures turns { IfErr result (λ fault.
         fault.code ≡ SetupCode.Turns → StopsForTurns R.remaining lines.old lines.new) }
     ensures paid { OnOk result (IsPaid R.remaining lines.old lines.new) }
     ensures counted { SpendsTurns R.read_count lines.old lines.new }
     ensures end { HasTrueEnd R.remaining lines.old → HasTrueEnd R.remaining lines.new }
-    ensures same_reader { lines.new.reader.ghost_name ≡ lines.old.reader.ghost_name }
+    ensures same_reader { SameReader lines.old lines.new }
 {
     read_texts(lines, texts, watch)?;
     Ok(Setup {
@@ -137,20 +137,20 @@ pub fn read_setup_watched<R: Source, T: Watch>(
     lines: &mut Lines<'_, R>,
     watch: &mut T,
 ) -> Result<Setup, SetupFault>
-    requires { R.has_failed lines.old.reader.now ≡ false }
+    requires { R.has_failed (source_of lines.old) ≡ false }
     ensures setup { IfOk result (λ s.
         GivesSetup (bytes_left R.remaining lines.old) (bytes_left R.remaining lines.new) s) }
     ensures refused { IfErr result (λ fault.
         IfTold (bytes_left R.remaining lines.old) (λ input. Refuses fault (setup_of input))) }
     ensures stops { IfErr result (λ fault. SetupStops fault.code (bytes_left R.remaining lines.old)
-        (R.remaining lines.new.reader.now) lines.new.line.items) }
-    ensures read { R.has_failed lines.new.reader.now ≡ is_setup_read result }
+        (R.remaining (source_of lines.new)) (line_of lines.new)) }
+    ensures read { R.has_failed (source_of lines.new) ≡ is_setup_read result }
     ensures turns { IfErr result (λ fault.
         fault.code ≡ SetupCode.Turns → StopsForTurns R.remaining lines.old lines.new) }
     ensures paid { OnOk result (IsPaid R.remaining lines.old lines.new) }
     ensures counted { SpendsTurns R.read_count lines.old lines.new }
     ensures end { HasTrueEnd R.remaining lines.old → HasTrueEnd R.remaining lines.new }
-    ensures same_reader { lines.new.reader.ghost_name ≡ lines.old.reader.ghost_name }
+    ensures same_reader { SameReader lines.old lines.new }
 {
     let mut texts = Texts::new(alloc);
     let setup = set_up(alloc, lines, &mut texts, watch);

@@ -3,7 +3,7 @@ ghost use Rattle.std.specs.Prelude.{◌≡◌, ◌+◌, ◌≤◌, false, true, 
 ghost use Rattle.std.specs.Io.KnownBytes.{Appends, IsAtEnd};
 ghost use Rattle.std.specs.Str.Lines.{lines as lines_of};
 ghost use Rattle.dep_index.specs.Catalogue.{modules_of};
-ghost use Rattle.modprobe.specs.Lines.{bytes_left, hand_of, IfTold, IsPaid, GaveAtLeast, StopsForTurns, SpendsTurns, HasTrueEnd};
+ghost use Rattle.modprobe.specs.Lines.{bytes_left, hand_of, IfTold, IsPaid, GaveAtLeast, StopsForTurns, SpendsTurns, HasTrueEnd, source_of, SameReader, line_of};
 ghost use Rattle.modprobe.specs.Session.{answer};
 ghost use Rattle.modprobe.specs.SetupInput.{setup_of, GivesSetup, Refuses, SetupStops};
 ghost use Rattle.modprobe.specs.Run.{AllShort, StandsAfter, is_read, is_write};
@@ -28,20 +28,20 @@ impl Watch for Unwatched {}
 
 /// Reads the sections of an input as `read_setup_watched` does, without a watch.
 pub fn read_setup<R: Source>(alloc: Global, lines: &mut Lines<'_, R>) -> Result<Setup, SetupFault>
-    requires { R.has_failed lines.old.reader.now ≡ false }
+    requires { R.has_failed (source_of lines.old) ≡ false }
     ensures setup { IfOk result (λ s.
         GivesSetup (bytes_left R.remaining lines.old) (bytes_left R.remaining lines.new) s) }
     ensures refused { IfErr result (λ fault.
         IfTold (bytes_left R.remaining lines.old) (λ input. Refuses fault (setup_of input))) }
     ensures stops { IfErr result (λ fault. SetupStops fault.code (bytes_left R.remaining lines.old)
-        (R.remaining lines.new.reader.now) lines.new.line.items) }
-    ensures read { R.has_failed lines.new.reader.now ≡ is_setup_read result }
+        (R.remaining (source_of lines.new)) (line_of lines.new)) }
+    ensures read { R.has_failed (source_of lines.new) ≡ is_setup_read result }
     ensures turns { IfErr result (λ fault.
         fault.code ≡ SetupCode.Turns → StopsForTurns R.remaining lines.old lines.new) }
     ensures paid { OnOk result (IsPaid R.remaining lines.old lines.new) }
     ensures counted { SpendsTurns R.read_count lines.old lines.new }
     ensures end { HasTrueEnd R.remaining lines.old → HasTrueEnd R.remaining lines.new }
-    ensures same_reader { lines.new.reader.ghost_name ≡ lines.old.reader.ghost_name }
+    ensures same_reader { SameReader lines.old lines.new }
 {
     read_setup_watched(alloc, lines, &mut Unwatched)
 }
@@ -54,7 +54,7 @@ pub fn run<R: Source, W: Sink, M: Modules>(
     writer: &mut W,
     table: &mut M,
 ) -> Result<(), RunFault>
-    requires reader_works { R.has_failed lines.old.reader.now ≡ false }
+    requires reader_works { R.has_failed (source_of lines.old) ≡ false }
     requires writer_works { W.has_failed writer.old ≡ false }
     requires over { M.catalogue table.old ≡ modules_of setup.now.catalogue }
 
@@ -72,14 +72,14 @@ pub fn run<R: Source, W: Sink, M: Modules>(
         (hand_of R.remaining lines.new) (W.contents writer.old) (W.contents writer.new) (M.table table.new)) }
 
     // When each fault comes.
-    ensures read { R.has_failed lines.new.reader.now ≡ is_read result }
+    ensures read { R.has_failed (source_of lines.new) ≡ is_read result }
     ensures write { W.has_failed writer.new ≡ is_write result }
     ensures turns { result ≡ Err RunFault.Turns → StopsForTurns R.remaining lines.old lines.new }
 
     // Each turn is one read.
     ensures counted { SpendsTurns R.read_count lines.old lines.new }
 
-    ensures same_reader { lines.new.reader.ghost_name ≡ lines.old.reader.ghost_name }
+    ensures same_reader { SameReader lines.old lines.new }
     ensures over { M.catalogue table.new ≡ M.catalogue table.old }
 {
     match run_watched(alloc, setup, lines, writer, table, &mut Unwatched) {

@@ -10,16 +10,16 @@ pub trait Watch {
     /// The next line of the input was read, section lines included.
     fn line(&mut self) {}
 
-    /// That line begins a section.
+    /// The line that was read last begins a section.
     fn section(&mut self, _section: Section) {}
 
-    /// A fault ended it, with this line in hand, or the part of it that was read.
+    /// A fault ended the reading, with this line in hand, or the part of it that was read.
     fn stop(&mut self, _line: &[u8]) {}
 
     /// These are the texts of the sections, as far as they were read, also where that ended with a fault.
     fn texts(&mut self, _texts: Texts) {}
 
-    /// This is what they say.
+    /// This is the setup that the texts make.
     fn setup(&mut self, _setup: &Setup) {}
 
     /// The line that was read last has this reply, which is an error and was written. The table is the one after it.

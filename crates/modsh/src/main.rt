@@ -1,7 +1,7 @@
 //! The session program: standard input in, replies out.
 #![tactic(auto)]
 
-use modsh_drive::{Output, drive};
+use modsh_drive::{FromWrite, drive};
 use program_frame::words;
 use std::process::ExitCode;
 
@@ -10,7 +10,7 @@ fn main(rt: HostRuntime) -> ExitCode {
         Ok(words) => words,
         Err(status) => return ExitCode::from(status.number()),
     };
-    let mut output = Output::new(rt.stdout());
+    let mut output = FromWrite::new(rt.stdout());
     let status = drive(&rt, &words, rt.stdin(), &mut output, &mut rt.stderr());
     ExitCode::from(status)
 }

@@ -1,4 +1,4 @@
-//! Why a command of a session was refused, as people are told behind its code.
+//! Why a command of a session was refused, as people are told after its code.
 ghost use Rattle.std.specs.Prelude.{◌≡◌, ◌<◌, length, IfSome, Some};
 ghost use Rattle.dep_index.specs.Catalogue.{slot_named};
 
@@ -202,7 +202,7 @@ fn tell_module<M: Modules, E: Write>(
     Ok(())
 }
 
-/// Tells why a command was refused, behind its code.
+/// Tells why a command was refused, after its code.
 pub(crate) fn tell_cause<M: Modules, E: Write>(
     cause: &Cause<'_, M>,
     errors: &mut E,

@@ -100,7 +100,7 @@ fn explain_setup<E: Write>(fault: &SetupFault, kept: &Kept<'_>, errors: &mut E) 
     tell_hint(hint_of(fault.code, &faulty), errors);
 }
 
-/// Tells the line behind those that were read, which was in hand.
+/// Tells the line after those that were read, which was in hand.
 fn tell_in_hand<E: Write>(kept: &Kept<'_>, errors: &mut E) {
     let place = kept.places.of_line(kept.lines.saturating_add(1));
     tell_line(place, kept.in_hand.as_slice(), errors);

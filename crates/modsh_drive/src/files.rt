@@ -86,7 +86,7 @@ impl<'a> JoinedFiles<'a> {
         add_section(&mut self.text, section, file)
     }
 
-    /// Notes that all behind the earlier files is the file of this path.
+    /// Notes that all after the earlier files is the file of this path.
     pub(crate) fn end_file(&mut self, path: FilePath<'a>) -> Result<(), AllocError>
         ensures { self.new.text ≡ self.old.text }
     {

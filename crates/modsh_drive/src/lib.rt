@@ -12,7 +12,6 @@ mod lists;
 mod messages;
 mod near;
 mod notes;
-mod output;
 mod parameters;
 mod places;
 mod program;
@@ -25,5 +24,5 @@ mod ways;
 mod witness;
 mod words;
 
-pub use output::Output;
+pub use modprobe::FromWrite;
 pub use program::drive;

@@ -5,7 +5,7 @@ use std::fmt;
 /// How many of them are told.
 const MOST_TOLD: usize = 4;
 
-/// Things in a row, the last of them behind a word: `a`, `a and b`, `a, b and c`. Of more than four the first four are
+/// Things in a row, the last of them after a word: `a`, `a and b`, `a, b and c`. Of more than four the first four are
 /// told, and how many more there are.
 #[derive(Clone, Copy, Drop)]
 pub(crate) struct Row<'a, T> {

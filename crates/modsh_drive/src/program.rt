@@ -9,14 +9,13 @@ mod reading;
 use crate::asked::{Asked, matches_of};
 use crate::files::JoinedFiles;
 use crate::messages::tell_bad_word;
-use crate::output::Output;
 use crate::sections::read_sections;
 use crate::status::status_after;
 use crate::witness::Witness;
 use crate::words::NamedFile;
 use clap::ArgMatches;
-use modprobe::{FromRead, Source, serve_watched};
-use program_frame::{Status, tell_no_memory};
+use modprobe::{FromRead, FromWrite, serve_watched};
+use program_frame::{Status, end_by, tell_no_memory};
 use std::alloc::Global;
 use std::io::{Read, Write};
 use std::rt::Files;
@@ -28,26 +27,6 @@ struct Program<'a, 'e, E> {
     asked: Asked,
     files: JoinedFiles<'a>,
     errors: &'e mut E,
-}
-
-/// Answers a source as it is asked for. What the watch tells is no part of what is written.
-fn answer_source<R: Source, O: Write, E: Write>(
-    alloc: Global,
-    asked: Asked,
-    source: &mut R,
-    writer: &mut Output<O>,
-    witness: &mut Witness<'_, '_, E>,
-) -> Status
-    requires reader_works { R.has_failed source.old ≡ false }
-    requires writer_works { writer.old.failed ≡ false }
-    ensures ends { IfTold (R.remaining source.old) (λ input.
-        Ends asked.workers asked.fail input (O.contents writer.old.writer) (O.contents writer.new.writer) result) }
-    ensures error { asked.fail ≡ false → result ≢ Status.ErrorReply }
-    ensures silent { result ≡ Status.Refused → Keeps (O.contents writer.old.writer) (O.contents writer.new.writer) }
-{
-    let answer = serve_watched(alloc, asked.workers, source, writer, witness);
-    witness.finish(&answer);
-    status_after(&answer, asked.fail, witness.kept.has_session)
 }
 
 impl<'a, 'e, E: Write> Program<'a, 'e, E> {
@@ -96,7 +75,7 @@ impl<'a, 'e, E: Write> Program<'a, 'e, E> {
         &mut self,
         rt: &R,
         words: &'a [String],
-        writer: &mut Output<O>,
+        writer: &mut FromWrite<O>,
     ) -> Result<(), Status>
         ensures plain { length words.now ≤ 1 →
             IsOk result × (self.new.asked ≡ self.old.asked) × (self.new.files ≡ self.old.files) }
@@ -108,22 +87,24 @@ impl<'a, 'e, E: Write> Program<'a, 'e, E> {
         }
         match matches_of(self.alloc, words) {
             Ok(matches) => self.take_matches(rt, &matches),
-            Err(error) => Err(writer.end_by(&error, self.errors)),
+            Err(error) => Err(end_by("modsh", &error, &mut writer.writer, self.errors)),
         }
     }
 
-    /// Answers the files and the reader.
-    fn answer<I: Read + Drop, O: Write>(&mut self, reader: I, writer: &mut Output<O>) -> Status
+    /// Answers the files and the reader, as is asked. What the watch tells is no part of what is written.
+    fn answer<I: Read + Drop, O: Write>(&mut self, reader: I, writer: &mut FromWrite<O>) -> Status
         requires { writer.old.failed ≡ false }
         ensures ends { IfTold (I.remaining reader) (λ input. Ends self.old.asked.workers self.old.asked.fail
             (self.old.files.text.items ++ input) (O.contents writer.old.writer) (O.contents writer.new.writer) result) }
         ensures error { self.old.asked.fail ≡ false → result ≢ Status.ErrorReply }
         ensures silent { result ≡ Status.Refused → Keeps (O.contents writer.old.writer) (O.contents writer.new.writer) }
     {
-        let explains = self.asked.explain;
-        let mut witness = Witness::new(self.alloc, explains, &self.files, self.errors);
+        let asked = self.asked;
+        let mut witness = Witness::new(self.alloc, asked.explain, &self.files, self.errors);
         let mut source = FromRead::new(self.files.text().chain(reader));
-        answer_source(self.alloc, self.asked, &mut source, writer, &mut witness)
+        let answer = serve_watched(self.alloc, asked.workers, &mut source, writer, &mut witness);
+        witness.finish(&answer);
+        status_after(&answer, asked.fail, witness.kept.has_session)
     }
 
     /// Reads the sections of the files and the reader, and tells each line of them that has no effect or is about nothing.
@@ -145,7 +126,7 @@ pub fn drive<R: Files + AllocGlobal, I: Read + Drop, O: Write, E: Write>(
     rt: &R,
     words: &[String],
     reader: I,
-    writer: &mut Output<O>,
+    writer: &mut FromWrite<O>,
     errors: &mut E,
 ) -> u8
     requires { writer.old.failed ≡ false }

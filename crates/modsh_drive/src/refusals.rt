@@ -94,7 +94,7 @@ fn tell_symbol<M: Modules, E: Write>(
     Ok(())
 }
 
-/// Tells why a command was refused, behind its code.
+/// Tells why a command was refused, after its code.
 fn tell_why<M: Modules, E: Write>(
     cause: &Cause<'_, M>,
     kept: &Kept<'_>,

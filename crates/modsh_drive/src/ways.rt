@@ -40,7 +40,7 @@ pub(crate) struct Dependencies<'a> {
 }
 
 impl Dependencies<'_> {
-    /// The slot of the dependency in a place of a module's list, None where it is no module; and None behind the last.
+    /// The slot of the dependency in a place of a module's list, None where it is no module; and None after the last.
     fn at(&self, slot: usize, place: usize) -> Option<Option<usize>> {
         if slot >= self.catalogue.len() {
             return None;

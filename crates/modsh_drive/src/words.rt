@@ -60,7 +60,7 @@ fn section_line(section: Section) -> &'static [u8]
     }
 }
 
-/// Adds a section of a file's bytes, as they are, with a line feed behind them. They are read to where they stay, since
+/// Adds a section of a file's bytes, as they are, with a line feed after them. They are read to where they stay, since
 /// the texts of a kernel's modules have millions.
 pub(crate) fn add_section<F: Read>(
     input: &mut Vec<u8>,
