@@ -19,6 +19,7 @@ pub mod Cuts
 pub mod BySlot
 pub mod OptionWords
 pub mod Reaching
+pub mod Settled
 pub mod LookUpLemmas
 pub mod Lawful
 pub mod Rows

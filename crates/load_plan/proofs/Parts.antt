@@ -29,13 +29,13 @@ each_hard-same p f g same (t ∷ ts) done h =
     ap (λ d. each_hard f (cond (is_done done t) done d) ts) (same done t both.0) ∙ each_hard-same p f g same ts (cond (is_done done t) done (g done t)) both.1
 
 -- what a module of a part names is in the part
-hard_in : (p : ℕ → Bool) (node : Node) → names_in p node ≡ true → list_all (is_target_in p) node.hard ≡ true
+pub hard_in : (p : ℕ → Bool) (node : Node) → names_in p node ≡ true → list_all (is_target_in p) node.hard ≡ true
 hard_in p node h = (and_true (list_all (is_target_in p) node.hard) (list_all (is_target_in p) node.pre) (and_true (list_all (is_target_in p) node.hard && list_all (is_target_in p) node.pre) (list_all (is_target_in p) node.post) h).0).0
 
-pre_in : (p : ℕ → Bool) (node : Node) → names_in p node ≡ true → list_all (is_target_in p) node.pre ≡ true
+pub pre_in : (p : ℕ → Bool) (node : Node) → names_in p node ≡ true → list_all (is_target_in p) node.pre ≡ true
 pre_in p node h = (and_true (list_all (is_target_in p) node.hard) (list_all (is_target_in p) node.pre) (and_true (list_all (is_target_in p) node.hard && list_all (is_target_in p) node.pre) (list_all (is_target_in p) node.post) h).0).1
 
-post_in : (p : ℕ → Bool) (node : Node) → names_in p node ≡ true → list_all (is_target_in p) node.post ≡ true
+pub post_in : (p : ℕ → Bool) (node : Node) → names_in p node ≡ true → list_all (is_target_in p) node.post ≡ true
 post_in p node h = (and_true (list_all (is_target_in p) node.hard && list_all (is_target_in p) node.pre) (list_all (is_target_in p) node.post) h).1
 
 walk-part : (w v : List Node) (p : ℕ → Bool) → IsPart w v p → (tests : Bool) (n : ℕ) (way done : List ℕ) (t : Target) → is_target_in p t ≡ true → walk v tests n way done t ≡ walk w tests n way done t
@@ -47,7 +47,7 @@ walk-part w v p part tests (suc n) way done (Slot m) h =
     ∙ ap (λ r. cond (has done m) (Ok done) (cond (has way m) (Err (Cycle m)) (cond (tests && (node_at w m).installs) (Err (Install m)) (r >>= λ d. Ok (d ++ m ∷ [])))))
     (walk_each-same (is_target_in p) (walk v tests n (m ∷ way)) (walk w tests n (m ∷ way)) (λ d t k. walk-part w v p part tests n (m ∷ way) d t k) (node_at w m).hard done (hard_in p (node_at w m) (part.closed m h)))
 
-hard_walk-part : (w v : List Node) (p : ℕ → Bool) → IsPart w v p → (tests : Bool) (t : Target) → is_target_in p t ≡ true → hard_walk v tests t ≡ hard_walk w tests t
+pub hard_walk-part : (w v : List Node) (p : ℕ → Bool) → IsPart w v p → (tests : Bool) (t : Target) → is_target_in p t ≡ true → hard_walk v tests t ≡ hard_walk w tests t
 hard_walk-part w v p part tests t h =
     ap (λ n. walk v tests n [] [] t) part.long ∙ walk-part w v p part tests (length w) [] [] t h
 

@@ -9,7 +9,7 @@ use Rattle.load_plan.specs.declared.graph.Target.{Target}
 use Rattle.load_plan.specs.declared.graph.Target.TheVariants.{Slot, Missing}
 use Rattle.load_plan.specs.Graph.{Node, node_at, no_node, names_within, is_bounded}
 use Rattle.load_plan.specs.Walk.{has}
-use Rattle.load_plan.specs.Parts.{is_target_in, names_in, IsPart, known_at, unknown, cost, Adds}
+use Rattle.load_plan.specs.Parts.{is_target_in, names_in, IsPart, known_at, unknown, cost, AreClosed, Adds}
 use Rattle.load_plan.proofs.Lists.{and_true, and_makes, has-append, has-last_same, has-last_other}
 
 pub adds-none : (known : List Bool) (left : List ℕ) → Adds known left known left
@@ -87,7 +87,7 @@ targets-missing known ts i t name within at is all =
     list_all_more (is_target_in (known_at known)) ts i t within
     ∙ and_makes (list_all (is_target_in (known_at known)) (take i ts)) (is_target_in (known_at known) (get_or ts i t)) all (ap (is_target_in (known_at known)) (sym at ∙ is))
 
-names_grow : (p q : ℕ → Bool) → ((m : ℕ) → p m ≡ true → q m ≡ true) → (node : Node) → names_in p node ≡ true → names_in q node ≡ true
+pub names_grow : (p q : ℕ → Bool) → ((m : ℕ) → p m ≡ true → q m ≡ true) → (node : Node) → names_in p node ≡ true → names_in q node ≡ true
 names_grow p q grows node h =
     let two : ((list_all (is_target_in p) node.hard && list_all (is_target_in p) node.pre) ≡ true) × (list_all (is_target_in p) node.post ≡ true) = and_true (list_all (is_target_in p) node.hard && list_all (is_target_in p) node.pre) (list_all (is_target_in p) node.post) h in
     let one : (list_all (is_target_in p) node.hard ≡ true) × (list_all (is_target_in p) node.pre ≡ true) = and_true (list_all (is_target_in p) node.hard) (list_all (is_target_in p) node.pre) two.0 in
@@ -96,19 +96,24 @@ names_grow p q grows node h =
     (targets_grow p q grows node.post two.1)
 
 -- What the loop keeps: a module that is known is left, or its node was read, and all that it names is known.
-pub record Reaching (w : List Node) (start : ℕ) (nodes : List Node) (known : List Bool) (left : List ℕ) : Type 0 where
+pub record Reaching (w : List Node) (nodes : List Node) (known : List Bool) (left : List ℕ) : Type 0 where
   pub long : length nodes ≡ length w
   pub known_long : length known ≡ length w
-  pub begun : known_at known start ≡ true
   pub among : (m : ℕ) → has left m ≡ true → known_at known m ≡ true
   pub settled : (m : ℕ) → known_at known m ≡ true → (has left m ≡ true) ⊎ ((node_at nodes m ≡ node_at w m) × (names_in (known_at known) (node_at w m) ≡ true))
   pub bounded : list_all (names_within (length w)) nodes ≡ true
 
 -- who is known is a module of the graph
-known_within : (known : List Bool) (m : ℕ) → known_at known m ≡ true → m < length known
+pub known_within : (known : List Bool) (m : ℕ) → known_at known m ≡ true → m < length known
 known_within [] m h = absurd (cc)
 known_within (b ∷ bs) zero h = omega arith
 known_within (b ∷ bs) (suc m) h = let k : m < length bs = known_within bs m h in omega arith
+
+-- what a flag says of a module
+pub known_from : (known : List Bool) (m : ℕ) (flag : Bool) → m < length known → flag ≡ get_or known m flag → flag ≡ true → known_at known m ≡ true
+known_from [] m flag within is h = absurd (omega arith)
+known_from (b ∷ bs) zero flag within is h = sym is ∙ h
+known_from (b ∷ bs) (suc m) flag within is h = known_from bs m flag (omega arith) is h
 
 none_known : (n m : ℕ) → known_at (replicate n false) m ≡ false
 none_known zero m = refl
@@ -119,25 +124,21 @@ empty_within : (n k : ℕ) → list_all (names_within n) (replicate k no_node) �
 empty_within n zero = refl
 empty_within n (suc k) = empty_within n k
 
-pub Reaching-begin : (w : List Node) (start : ℕ) (nodes : List Node) (known more : List Bool) (left behind : List ℕ) → nodes ≡ replicate (length w) no_node → known ≡ replicate (length w) false → left ≡ [] → Adds known left more behind → known_at more start ≡ true → Reaching w start nodes more behind
-Reaching-begin w start nodes known more left behind empty none nothing adds here = record {
-  long = ap length empty ∙ length-replicate (length w) no_node;
-  known_long = adds.long ∙ ap length none ∙ length-replicate (length w) false;
-  begun = here;
-  among = λ m h. elim (adds.among m h) [
-    | inl k ↦ (let no : has left m ≡ false = ap (λ l. has l m) nothing in absurd (cc))
-    | inr k ↦ k
-  ];
+pub Reaching-begin : (w : List Node) (n : ℕ) (nodes : List Node) (more : List Bool) (behind : List ℕ) → n ≡ length w → nodes ≡ replicate n no_node → Adds (replicate n false) [] more behind → Reaching w nodes more behind
+Reaching-begin w n nodes more behind all empty adds = record {
+  long = ap length empty ∙ length-replicate n no_node ∙ all;
+  known_long = adds.long ∙ length-replicate n false ∙ all;
+  among = λ m h. elim (adds.among m h) [ inl k ↦ absurd (cc) | inr k ↦ k ];
   settled = λ m h. elim (adds.comes m h) [
-    | inl k ↦ (let no : known_at known m ≡ false = ap (λ l. known_at l m) none ∙ none_known (length w) m in absurd (cc))
+    | inl k ↦ (let no : known_at (replicate n false) m ≡ false = none_known n m in absurd (cc))
     | inr k ↦ inl k
   ];
-  bounded = ap (list_all (names_within (length w))) empty ∙ empty_within (length w) (length w);
+  bounded = ap (list_all (names_within (length w))) empty ∙ empty_within (length w) n;
 }
 
 -- what is left is known
-pub Reaching-slot : {w : List Node} {start : ℕ} {nodes : List Node} {known : List Bool} (left : List ℕ) (slot : ℕ) → Reaching w start nodes known (left ++ slot ∷ []) → slot < length w
-Reaching-slot {w} {start} {nodes} {known} left slot r =
+pub Reaching-slot : {w : List Node} {nodes : List Node} {known : List Bool} (left : List ℕ) (slot : ℕ) → Reaching w nodes known (left ++ slot ∷ []) → slot < length w
+Reaching-slot {w} {nodes} {known} left slot r =
     let k : slot < length known = known_within known slot (r.among slot (has-last_same left slot slot refl)) in
     omega (arith, k, r.known_long)
 
@@ -147,11 +148,10 @@ all-set p (x ∷ xs) zero node h k = and_makes (p node) (list_all p xs) k (and_t
 all-set p (x ∷ xs) (suc m) node h k = and_makes (p x) (list_all p (set xs m node)) (and_true (p x) (list_all p xs) h).0 (all-set p xs m node (and_true (p x) (list_all p xs) h).1 k)
 
 -- the last module that is left is read
-pub Reaching-read : {w : List Node} {start : ℕ} {nodes : List Node} {known more : List Bool} {behind : List ℕ} (left : List ℕ) (slot : ℕ) (node : Node) → Reaching w start nodes known (left ++ slot ∷ []) → node ≡ node_at w slot → names_within (length w) node ≡ true → Adds known left more behind → names_in (known_at more) node ≡ true → Reaching w start (set nodes slot node) more behind
-Reaching-read {w} {start} {nodes} {known} {more} {behind} left slot node r is within adds all = record {
+pub Reaching-read : {w : List Node} {nodes : List Node} {known more : List Bool} {behind : List ℕ} (left : List ℕ) (slot : ℕ) (node : Node) → Reaching w nodes known (left ++ slot ∷ []) → node ≡ node_at w slot → names_within (length w) node ≡ true → Adds known left more behind → names_in (known_at more) node ≡ true → Reaching w (set nodes slot node) more behind
+Reaching-read {w} {nodes} {known} {more} {behind} left slot node r is within adds all = record {
   long = length-set nodes slot node ∙ r.long;
   known_long = adds.long ∙ r.known_long;
-  begun = adds.grows start r.begun;
   among = λ m h. elim (adds.among m h) [
     | inl k ↦ adds.grows m (r.among m (has-append left (slot ∷ []) m ∙ ap (λ b. b || has (slot ∷ []) m) k))
     | inr k ↦ k
@@ -173,18 +173,93 @@ Reaching-read {w} {start} {nodes} {known} {more} {behind} left slot node r is wi
     ]
 
 -- nothing is left
-pub Reaching-part : {w : List Node} {start : ℕ} {nodes : List Node} {known : List Bool} → Reaching w start nodes known [] → IsPart w nodes (known_at known)
-Reaching-part {w} {start} {nodes} {known} r = record {
+pub Reaching-part : {w : List Node} {nodes : List Node} {known : List Bool} → Reaching w nodes known [] → IsPart w nodes (known_at known)
+Reaching-part {w} {nodes} {known} r = record {
   long = r.long;
   same = λ m h. elim (r.settled m h) [ inl k ↦ absurd (cc) | inr k ↦ k.0 ];
   closed = λ m h. elim (r.settled m h) [ inl k ↦ absurd (cc) | inr k ↦ k.1 ];
 }
 
-pub Reaching-bounded : {w : List Node} {start : ℕ} {nodes : List Node} {known : List Bool} {left : List ℕ} → Reaching w start nodes known left → is_bounded nodes ≡ true
-Reaching-bounded {w} {start} {nodes} {known} {left} r = ap (λ n. list_all (names_within n) nodes) r.long ∙ r.bounded
+pub Reaching-bounded : {w : List Node} {nodes : List Node} {known : List Bool} {left : List ℕ} → Reaching w nodes known left → is_bounded nodes ≡ true
+Reaching-bounded {w} {nodes} {known} {left} r = ap (λ n. list_all (names_within n) nodes) r.long ∙ r.bounded
 
 -- the last module that is left is taken, and others are added
 pub cost-falls : {known more : List Bool} {behind : List ℕ} (left : List ℕ) (slot : ℕ) → Adds known left more behind → cost more behind < cost known (left ++ slot ∷ [])
 cost-falls {known} {more} {behind} left slot adds =
     let longer : length (left ++ slot ∷ []) ≡ length left + 1 = length-append left (slot ∷ []) in
     omega (arith, adds.ends, longer)
+
+-- What the search for a closed part keeps: a module that is known is left, or it is settled and all that it names is known.
+pub record Closing (w : List Node) (settled known : List Bool) (left : List ℕ) : Type 0 where
+  pub long : length known ≡ length w
+  pub among : (m : ℕ) → has left m ≡ true → known_at known m ≡ true
+  pub each : (m : ℕ) → known_at known m ≡ true → (has left m ≡ true) ⊎ ((known_at settled m ≡ true) × (names_in (known_at known) (node_at w m) ≡ true))
+
+pub Closing-begin : {w : List Node} {settled closed more : List Bool} {left behind : List ℕ} → left ≡ [] → AreClosed w settled closed → Adds closed left more behind → Closing w settled more behind
+Closing-begin {w} {settled} {closed} {more} {left} {behind} nothing a adds = record {
+  long = adds.long ∙ a.long;
+  among = λ m h. elim (adds.among m h) [ inl k ↦ (let no : has left m ≡ false = ap (λ l. has l m) nothing in absurd (cc)) | inr k ↦ k ];
+  each = λ m h. elim (adds.comes m h) [
+    | inl k ↦ inr (a.settled m k, names_grow (known_at closed) (known_at more) adds.grows (node_at w m) (a.names m k))
+    | inr k ↦ inl k
+  ];
+}
+
+pub Closing-slot : {w : List Node} {settled known : List Bool} (left : List ℕ) (slot : ℕ) → Closing w settled known (left ++ slot ∷ []) → slot < length w
+Closing-slot {w} {settled} {known} left slot c =
+    let k : slot < length known = known_within known slot (c.among slot (has-last_same left slot slot refl)) in
+    omega (arith, k, c.long)
+
+-- the last module that is left is settled, and all that it names is known
+pub Closing-read : {w : List Node} {settled known more : List Bool} {behind : List ℕ} (left : List ℕ) (slot : ℕ) → Closing w settled known (left ++ slot ∷ []) → known_at settled slot ≡ true → Adds known left more behind → names_in (known_at more) (node_at w slot) ≡ true → Closing w settled more behind
+Closing-read {w} {settled} {known} {more} {behind} left slot c own adds all = record {
+  long = adds.long ∙ c.long;
+  among = λ m h. elim (adds.among m h) [
+    | inl k ↦ adds.grows m (c.among m (has-append left (slot ∷ []) m ∙ ap (λ b. b || has (slot ∷ []) m) k))
+    | inr k ↦ k
+  ];
+  each = λ m h. elim (adds.comes m h) [ inl k ↦ of_known m k | inr k ↦ inl k ];
+}
+  where
+    of_known : (m : ℕ) → known_at known m ≡ true → (has behind m ≡ true) ⊎ ((known_at settled m ≡ true) × (names_in (known_at more) (node_at w m) ≡ true))
+    of_known m k = elim (eqb_tells m slot) [
+      | inl t ↦ inr (ap (known_at settled) t.1 ∙ own, ap (λ x. names_in (known_at more) (node_at w x)) t.1 ∙ all)
+      | inr t ↦ elim (c.each m k) [
+        | inl j ↦ inl (adds.stays m (sym (has-last_other left slot m t.0) ∙ j))
+        | inr j ↦ inr (j.0, names_grow (known_at known) (known_at more) adds.grows (node_at w m) j.1)
+      ]
+    ]
+
+-- nothing is left
+pub Closing-end : {w : List Node} {settled known : List Bool} → Closing w settled known [] → AreClosed w settled known
+Closing-end {w} {settled} {known} c = record {
+  long = c.long;
+  settled = λ m h. elim (c.each m h) [ inl k ↦ absurd (cc) | inr k ↦ k.0 ];
+  names = λ m h. elim (c.each m h) [ inl k ↦ absurd (cc) | inr k ↦ k.1 ];
+}
+
+-- nothing is closed
+pub none_closed : (w : List Node) (settled : List Bool) (n : ℕ) → n ≡ length w → AreClosed w settled (replicate n false)
+none_closed w settled n all = record {
+  long = length-replicate n false ∙ all;
+  settled = λ m h. (let no : known_at (replicate n false) m ≡ false = none_known n m in absurd (cc));
+  names = λ m h. (let no : known_at (replicate n false) m ≡ false = none_known n m in absurd (cc));
+}
+
+-- one module more is settled
+pub closed-settle : {w : List Node} {settled closed : List Bool} (slot : ℕ) → AreClosed w settled closed → AreClosed w (set settled slot true) closed
+closed-settle {w} {settled} {closed} slot a = record {
+  long = a.long;
+  settled = λ m h. elim (eqb_tells m slot) [
+    | inl t ↦ ap (known_at (set settled slot true)) t.1 ∙ known-same settled slot (omega (arith, known_within settled m (a.settled m h), t.1))
+    | inr t ↦ known-other settled slot m t.1 ∙ a.settled m h
+  ];
+  names = a.names;
+}
+
+-- targets that a module names in each phase
+pub named_in : (p q r : ℕ → Bool) (node : Node) → ((m : ℕ) → p m ≡ true → q m ≡ true) → ((m : ℕ) → q m ≡ true → r m ≡ true) → list_all (is_target_in p) node.hard ≡ true → list_all (is_target_in q) node.pre ≡ true → list_all (is_target_in r) node.post ≡ true → names_in r node ≡ true
+named_in p q r node one two hard pre post =
+    and_makes (list_all (is_target_in r) node.hard && list_all (is_target_in r) node.pre) (list_all (is_target_in r) node.post)
+    (and_makes (list_all (is_target_in r) node.hard) (list_all (is_target_in r) node.pre) (targets_grow p r (λ m h. two m (one m h)) node.hard hard) (targets_grow q r two node.pre pre))
+    post

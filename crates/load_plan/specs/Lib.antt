@@ -14,5 +14,7 @@ pub mod Parts
 pub mod Sources
 pub mod Items
 pub mod OptionWords
+pub mod Reading
+pub mod Outlook
 pub mod LookUp
 pub mod PlanLaws

@@ -32,6 +32,12 @@ unknown false = 1
 abbrev pub cost : List Bool → List ℕ → ℕ
 cost known left = 2 * sum_by unknown known + length left
 
+-- All modules of the part are settled, and name none but themselves.
+pub record AreClosed (graph : List Node) (sure part : List Bool) : Type 0 where
+  pub long : length part ≡ length graph
+  pub settled : (m : ℕ) → known_at part m ≡ true → known_at sure m ≡ true
+  pub names : (m : ℕ) → known_at part m ≡ true → names_in (known_at part) (node_at graph m) ≡ true
+
 -- Some modules more are known, and those are left; what was left is left.
 pub record Adds (known : List Bool) (left : List ℕ) (more : List Bool) (behind : List ℕ) : Type 0 where
   pub long : length more ≡ length known

@@ -1,9 +1,12 @@
 //! What a command loads for a name, and what it removes.
-ghost use Rattle.std.specs.Prelude.{◌≡◌, ◌<◌, length, map, All, IfOk};
+ghost use Rattle.std.specs.Prelude.{◌≡◌, ◌<◌, length, map, true, All, IfOk};
 ghost use Rattle.text_parts.specs.Text.{normal_form, texts_of};
 ghost use Rattle.load_plan.specs.declared.refusal.WalkError.TheVariants.{Refused};
+ghost use Rattle.load_plan.specs.declared.graph.Target.TheVariants.{Slot};
 ghost use Rattle.load_plan.specs.Items.{Answers, error_of, name_at, plan_from, removal_plan_from};
-ghost use Rattle.load_plan.specs.OptionWords.{item_for, AreOptions};
+ghost use Rattle.load_plan.specs.OptionWords.{item_for, plan_for, removal_for, AreOptions};
+ghost use Rattle.load_plan.specs.Parts.{known_at};
+ghost use Rattle.load_plan.specs.Reading.{IsRead};
 ghost use Rattle.load_plan.specs.Results.{IsRefusalWithin};
 ghost use Rattle.load_plan.specs.Sources.{options_from};
 
@@ -75,7 +78,7 @@ impl<T: Drop> From<AllocFailed<T>> for PlanError {
 }
 
 /// The refusal with the name of its module.
-fn error_of(
+pub(crate) fn error_of(
     alloc: Global,
     catalogue: &Catalogue,
     refusal: PlanRefusal,
@@ -95,9 +98,9 @@ fn error_of(
 
 /// The module that a command asks for, and the words of the command.
 #[derive(Clone, Copy)]
-struct Asked<'a, 'b> {
-    slot: usize,
-    words: &'b [&'a [u8]],
+pub(crate) struct Asked<'a, 'b> {
+    pub(crate) slot: usize,
+    pub(crate) words: &'b [&'a [u8]],
 }
 
 /// The words of the options lines of a slot: where they were read, as read.
@@ -154,6 +157,25 @@ fn items_of<'a>(
     Ok(items)
 }
 
+/// The plan of a module that was read.
+pub(crate) fn planned<'a>(
+    alloc: Global,
+    sources: &Sources<'a>,
+    part: &Part<'a>,
+    asked: Asked<'a, '_>,
+) -> Result<Vec<Item<'a>>, PlanError>
+    requires read { IsRead sources.now part.now }
+    requires known { known_at part.now.known.items asked.slot ≡ true }
+    ensures items { Answers (λ items. items.items) result (plan_for sources.now asked.entry) }
+    ensures within { IfOk result (λ items. All (λ item. item.slot < length sources.now.catalogue.now) items.items) }
+{
+    match plan_in(alloc, &part.graph, asked.slot) {
+        Ok(steps) => Ok(items_of(alloc, sources, part, asked, &steps)?),
+        Err(WalkError::Refused(refusal)) => Err(error_of(alloc, sources.catalogue, refusal)?),
+        Err(WalkError::Memory) => Err(PlanError::Memory),
+    }
+}
+
 /// The plan of a name: the modules that are loaded for it, in order. Hard dependencies stand before their users,
 /// none stands twice; soft items stand before or after (modprobe.d(5)), and are passed over where they can't be
 /// loaded. The words of the command are the last words of the name's own module. It is refused at the first module
@@ -173,8 +195,23 @@ pub fn plan<'a>(
         return Err(PlanError::Unknown(name));
     };
     let part = part_from(alloc, sources, slot)?;
-    match plan_in(alloc, &part.graph, slot) {
-        Ok(steps) => Ok(items_of(alloc, sources, &part, Asked { slot, words }, &steps)?),
+    planned(alloc, sources, &part, Asked { slot, words })
+}
+
+/// The removal plan of a module that was read.
+pub(crate) fn removal_planned(
+    alloc: Global,
+    sources: &Sources,
+    part: &Part,
+    slot: usize,
+) -> Result<Vec<usize>, PlanError>
+    requires read { IsRead sources.now part.now }
+    requires known { known_at part.now.known.items slot ≡ true }
+    ensures order { Answers (λ order. order.items) result (removal_for sources.now slot) }
+    ensures within { IfOk result (λ order. All (λ slot. slot < length sources.now.catalogue.now) order.items) }
+{
+    match removal_plan_in(alloc, &part.graph, slot) {
+        Ok(order) => Ok(order),
         Err(WalkError::Refused(refusal)) => Err(error_of(alloc, sources.catalogue, refusal)?),
         Err(WalkError::Memory) => Err(PlanError::Memory),
     }
@@ -195,9 +232,5 @@ pub fn removal_plan(alloc: Global, name: &[u8], sources: &Sources) -> Result<Vec
         return Err(PlanError::Unknown(name));
     };
     let part = part_from(alloc, sources, slot)?;
-    match removal_plan_in(alloc, &part.graph, slot) {
-        Ok(order) => Ok(order),
-        Err(WalkError::Refused(refusal)) => Err(error_of(alloc, sources.catalogue, refusal)?),
-        Err(WalkError::Memory) => Err(PlanError::Memory),
-    }
+    removal_planned(alloc, sources, &part, slot)
 }

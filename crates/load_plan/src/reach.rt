@@ -1,20 +1,20 @@
-//! The part of the dependency graph that a plan reads: what a module reaches over hard dependencies and soft items.
-ghost use Rattle.std.specs.Prelude.{◌≡◌, ◌<◌, length, false, true, IfOk, OnOk};
+//! The part of the dependency graph that plans read: what modules reach over hard dependencies and soft items.
+ghost use Rattle.std.specs.Prelude.{◌≡◌, ◌<◌, ℕ, [], length, replicate, false, true, IfOk, IfSome, OnOk};
 ghost use Rattle.std.specs.List.{list_all};
-ghost use Rattle.load_plan.specs.declared.graph.Target.TheVariants.{Slot};
-ghost use Rattle.load_plan.specs.Graph.{is_within};
+ghost use Rattle.load_plan.specs.Graph.{is_within, node_at};
 ghost use Rattle.load_plan.specs.Cuts.{no_row};
-ghost use Rattle.load_plan.specs.OptionWords.{AreOptions};
-ghost use Rattle.load_plan.specs.Plan.{plan, removal_plan};
 ghost use Rattle.load_plan.specs.Sources.{graph_from};
-ghost use Rattle.load_plan.specs.Parts.{Adds, is_target_in, known_at};
+ghost use Rattle.load_plan.specs.Parts.{Adds, is_target_in, known_at, names_in, AreClosed};
+ghost use Rattle.load_plan.specs.Reading.{IsRead};
 
 use crate::by_slot::BySlot;
 use crate::filled::filled;
-use crate::graph::{DependencyGraph, Row, Target, are_missing};
-use crate::sources::{Sources, add_node};
+use crate::graph::{DependencyGraph, Phase, Row, Target, are_missing};
+use crate::sources::{Sources, add_node, slot_of};
+use dep_index::Catalogue;
 use modprobe_conf::Word;
 use std::alloc::{AllocError, Global};
+use text_parts::Name;
 
 /// A module that names nothing.
 const NOTHING: Row = Row {
@@ -46,7 +46,20 @@ impl Reach {
         Ok(())
     }
 
-    /// Reaches all that a module names.
+    /// Reaches the modules of these names.
+    fn add_names(&mut self, catalogue: &Catalogue, names: &[Name]) -> Result<(), AllocError>
+        requires { length self.old.known.items ≡ length catalogue.now }
+        ensures { OnOk result (Adds self.old.known.items self.old.left.items self.new.known.items self.new.left.items) }
+    {
+        for name in names {
+            if let Some(slot) = slot_of(catalogue, name) {
+                self.add(slot)?;
+            }
+        }
+        Ok(())
+    }
+
+    /// Reaches these targets.
     fn add_targets(&mut self, targets: &[Target]) -> Result<(), AllocError>
         requires { list_all (is_within (length self.old.known.items)) targets.now ≡ true }
         ensures adds { OnOk result (Adds self.old.known.items self.old.left.items self.new.known.items self.new.left.items) }
@@ -60,37 +73,45 @@ impl Reach {
         }
         Ok(())
     }
+
+    /// Reaches all that a module of the graph names.
+    fn add_named(&mut self, graph: &DependencyGraph, slot: usize) -> Result<(), AllocError>
+        requires slot { slot < length graph.now }
+        requires long { length self.old.known.items ≡ length graph.now }
+        ensures adds { OnOk result (Adds self.old.known.items self.old.left.items self.new.known.items self.new.left.items) }
+        ensures all { OnOk result (names_in (known_at self.new.known.items) (node_at graph.now slot) ≡ true) }
+    {
+        self.add_targets(graph.targets(slot, Phase::Hard))?;
+        self.add_targets(graph.targets(slot, Phase::Pre))?;
+        self.add_targets(graph.targets(slot, Phase::Post))?;
+        Ok(())
+    }
 }
 
-/// The dependency graph as far as a module reaches, and by slot the words of the options lines of what was read.
+/// The dependency graph as far as some modules reach, by slot the words of the options lines of what was read, and
+/// which modules those are. The others name nothing in the graph.
 #[derive(Drop)]
 pub(crate) struct Part<'a> {
     pub(crate) graph: DependencyGraph,
     pub(crate) options: BySlot<Option<&'a [Word]>>,
+    pub(crate) known: Vec<bool>,
 }
 
-/// What a module reaches; the modules that it does not reach name nothing in the graph.
-pub(crate) fn part_from<'a>(
+/// What the modules reach that are left to be read.
+fn read_part<'a>(
     alloc: Global,
     sources: &Sources<'a>,
-    start: usize,
+    mut reach: Reach,
 ) -> Result<Part<'a>, AllocError>
-    requires { start < length sources.now.catalogue.now }
-    ensures plans { IfOk result (λ part. plan part.graph (Slot start) ≡ plan (graph_from sources.now) (Slot start)) }
-    ensures removals { IfOk result (λ part. removal_plan part.graph (Slot start) ≡ removal_plan (graph_from sources.now) (Slot start)) }
-    ensures len { IfOk result (λ part. length part.graph ≡ length sources.now.catalogue.now) }
-    ensures options { IfOk result (λ part. AreOptions sources.now part.options) }
+    requires { Adds (replicate (length sources.now.catalogue.now) false) [] reach.known.items reach.left.items }
+    ensures read { IfOk result (IsRead sources.now) }
+    ensures known { IfOk result (λ part. (m : ℕ) → known_at reach.known.items m ≡ true → known_at part.known.items m ≡ true) }
 {
     let count = sources.catalogue.len();
     let mut rows = BySlot::new(alloc, NOTHING, count)?;
     let mut targets = Vec::new(alloc);
     let mut has_soft = false;
     let mut options = BySlot::new(alloc, None, count)?;
-    let mut reach = Reach {
-        known: filled(alloc, false, count)?,
-        left: Vec::new(alloc),
-    };
-    reach.add(start)?;
     'modules: while let Some(slot) = reach.left.pop() {
         let (row, words) = add_node(alloc, sources, slot, &mut targets)?;
         reach.add_targets(&targets[row.hard_from..row.end])?;
@@ -99,5 +120,98 @@ pub(crate) fn part_from<'a>(
         options.set(slot, Some(words))?;
     }
     let graph = DependencyGraph::new(rows, targets, has_soft);
-    Ok(Part { graph, options })
+    Ok(Part {
+        graph,
+        options,
+        known: reach.known,
+    })
+}
+
+/// What a module reaches.
+pub(crate) fn part_from<'a>(
+    alloc: Global,
+    sources: &Sources<'a>,
+    start: usize,
+) -> Result<Part<'a>, AllocError>
+    requires { start < length sources.now.catalogue.now }
+    ensures read { IfOk result (IsRead sources.now) }
+    ensures known { IfOk result (λ part. known_at part.known.items start ≡ true) }
+{
+    let mut reach = Reach {
+        known: filled(alloc, false, sources.catalogue.len())?,
+        left: Vec::new(alloc),
+    };
+    reach.add(start)?;
+    read_part(alloc, sources, reach)
+}
+
+/// What the modules of these names reach.
+pub(crate) fn part_of_names<'a>(
+    alloc: Global,
+    sources: &Sources<'a>,
+    names: &[Name],
+) -> Result<Part<'a>, AllocError>
+    ensures { IfOk result (IsRead sources.now) }
+{
+    let mut reach = Reach {
+        known: filled(alloc, false, sources.catalogue.len())?,
+        left: Vec::new(alloc),
+    };
+    reach.add_names(sources.catalogue, names)?;
+    read_part(alloc, sources, reach)
+}
+
+/// The closed modules and all that one more reaches, if that is settled. Of closed modules all is settled, and they name
+/// none but themselves.
+fn closed_with(
+    alloc: Global,
+    graph: &DependencyGraph,
+    settled: &[bool],
+    closed: &[bool],
+    start: usize,
+) -> Result<Option<Vec<bool>>, AllocError>
+    requires start { start < length graph.now }
+    requires long { length settled.now ≡ length graph.now }
+    requires closed { AreClosed graph.now settled.now closed.now }
+    ensures closed { IfOk result (λ more. IfSome more (λ known. AreClosed graph.now settled.now known.items)) }
+    ensures start { IfOk result (λ more. IfSome more (λ known. known_at known.items start ≡ true)) }
+{
+    let mut reach = Reach {
+        known: Vec::from_slice(alloc, closed)?,
+        left: Vec::new(alloc),
+    };
+    reach.add(start)?;
+    'modules: while let Some(slot) = reach.left.pop() {
+        if !settled[slot] {
+            return Ok(None);
+        }
+        reach.add_named(graph, slot)?;
+    }
+    Ok(Some(reach.known))
+}
+
+/// Closes a module, if all that it reaches is settled, and says whether it is closed.
+pub(crate) fn close(
+    alloc: Global,
+    graph: &DependencyGraph,
+    settled: &[bool],
+    closed: &mut Vec<bool>,
+    start: usize,
+) -> Result<bool, AllocError>
+    requires start { start < length graph.now }
+    requires long { length settled.now ≡ length graph.now }
+    requires closed { AreClosed graph.now settled.now closed.old.items }
+    ensures closed { AreClosed graph.now settled.now closed.new.items }
+    ensures start { IfOk result (λ is. is ≡ true → known_at closed.new.items start ≡ true) }
+{
+    if closed[start] {
+        return Ok(true);
+    }
+    match closed_with(alloc, graph, settled, closed, start)? {
+        Some(more) => {
+            *closed = more;
+            Ok(true)
+        }
+        None => Ok(false),
+    }
 }

@@ -1,28 +1,25 @@
 use Rattle.std.proofs.Common.{◌≡◌, ◌<◌, [], ◌∙◌, ap, arith, length, length-set, replicate, Some, None, sym, true, false}
 use Rattle.std.proofs.lemmas.List.{length-map, length-replicate}
-use Rattle.load_plan.specs.declared.graph.Target.TheVariants.{Slot}
 use Rattle.load_plan.specs.Cuts.{node_in, nodes_in, no_row}
 use Rattle.load_plan.specs.Graph.{is_within, names_within}
 use Rattle.load_plan.specs.Parts.{IsPart, is_target_in, known_at}
-use Rattle.load_plan.specs.Plan.{plan, removal_plan}
 use Rattle.load_plan.specs.Sources.{graph_from, node_from}
 use Rattle.load_plan.proofs.Cuts.{nodes_in-none, none_fit, nodes_in-set, fit-set, if_not, plain-none, plain-set, passes-whole, whole-passes}
 use Rattle.load_plan.proofs.OptionWords.{no_options, options-set}
 use Rattle.load_plan.proofs.Lists.{none_of_length}
-use Rattle.load_plan.proofs.Parts.{plan-part, removal-part}
 use Rattle.load_plan.proofs.Reaching.{Reaching-begin, Reaching-slot, Reaching-read, Reaching-part, Reaching-bounded, cost-falls}
 use Rattle.load_plan.proofs.SourceLemmas.{graph_from-at, length-graph_from, node_from-within}
-use Rattle.load_plan.proofs.reach.part_from.Goals as goal
-use Rattle.load_plan.proofs.reach.part_from.Goals.{then-has_soft, else-has_soft}
+use Rattle.load_plan.proofs.reach.read_part.Goals as goal
+use Rattle.load_plan.proofs.reach.read_part.Goals.{then-has_soft, else-has_soft}
 
 pub modules-init : goal.modules-init
 modules-init c =
-    let long = length-graph_from c.args.sources.now in
     record {
-      reaching = Reaching-begin (graph_from c.args.sources.now) c.args.start (nodes_in c.new-targets.result.items c.in_ok-rows.rows) c.in_ok-filled.field-0.items c.add.new.self.known.items c.new-3.result.items c.add.new.self.left.items
-          (ap (nodes_in c.new-targets.result.items) (c.in_ok-rows.ensures ∙ ap (λ n. replicate n no_row) (c.len-count.ensures.result_is ∙ sym long)) ∙ nodes_in-none c.new-targets.result.items (length (graph_from c.args.sources.now)))
-          (c.in_ok-filled.ensures ∙ ap (λ n. replicate n false) (c.len-count.ensures.result_is ∙ sym long))
-          c.new-3.ensures.items c.in_ok-add.ensures.adds c.in_ok-add.ensures.here;
+      reaching = Reaching-begin (graph_from c.args.sources.now) (length c.args.sources.now.catalogue.now) (nodes_in c.new-targets.result.items c.in_ok-rows.rows) c.args.reach.known.items c.args.reach.left.items
+          (sym (length-graph_from c.args.sources.now))
+          (ap (nodes_in c.new-targets.result.items) (c.in_ok-rows.ensures ∙ ap (λ n. replicate n no_row) c.len-count.ensures.result_is) ∙ nodes_in-none c.new-targets.result.items (length c.args.sources.now.catalogue.now))
+          c.requires;
+      grows = λ m h. h;
       fit = rw (c.in_ok-rows.ensures) (none_fit (length c.new-targets.result.items) c.len-count.result);
       plain = λ _. rw (c.in_ok-rows.ensures) (plain-none c.new-targets.result.items c.len-count.result);
       options = rw (c.in_ok-options.ensures) (no_options c.args.sources.now c.len-count.result);
@@ -68,6 +65,7 @@ modules-preserved c =
           ∙ node_from-within c.args.sources.now c.in-Some.slot)
           c.in_ok-add_targets.ensures.adds
           (passes-whole (is_target_in (known_at c.add_targets.new.self.known.items)) c.in_ok-row.ensures.row (rw c.deref.ensures.value at c.in_ok-add_targets.ensures.all)));
+      grows = λ m h. c.in_ok-add_targets.ensures.adds.grows m (c.modules.invariant.grows m h);
       fit = rw (c.in_ok-set.ensures) (fit-set c.modules.rows c.in-Some.slot of_rows c.modules.invariant.fit c.in_ok-row.ensures.row);
       plain = λ is. rw (c.in_ok-set.ensures) (elim c.if-has_soft.branch [
         | then-has_soft w ↦ absurd (let t : true ≡ false = sym (w.has_soft-is ∙ w.if-has_soft.true) ∙ is in cc)
@@ -84,23 +82,17 @@ modules-smaller c = rw c.in-Some.ensures.items (cost-falls c.pop.new.self.items 
 pub new-graph-requires : goal.new-graph-requires
 new-graph-requires c = record { are_rows = record { bounded = Reaching-bounded c.modules.invariant.reaching; fit = c.modules.invariant.fit }; plain = c.modules.invariant.plain }
 
-pub returns-clause-plans : goal.returns-clause-plans
-returns-clause-plans c =
+pub returns-clause-read : goal.returns-clause-read
+returns-clause-read c =
     let w = graph_from c.args.sources.now in
     let over : c.modules.reach.left.items ≡ [] = none_of_length c.modules.reach.left.items (omega (arith, c.in_default.ensures.cases.0, c.modules.reach.left.ok.0)) in
     let part : IsPart w (nodes_in c.modules.targets.items c.modules.rows) (known_at c.modules.reach.known.items) = Reaching-part (rw over at c.modules.invariant.reaching) in
-    ap (λ g. plan g (Slot c.args.start)) c.new-graph.ensures
-    ∙ plan-part w (nodes_in c.modules.targets.items c.modules.rows) (known_at c.modules.reach.known.items) c.args.start part c.modules.invariant.reaching.begun
+    record {
+      graph = rw c.new-graph.ensures part;
+      long = c.modules.invariant.reaching.known_long ∙ length-graph_from c.args.sources.now;
+      wide = ap length c.new-graph.ensures ∙ c.modules.invariant.reaching.long ∙ length-graph_from c.args.sources.now;
+      options = c.modules.invariant.options;
+    }
 
-pub returns-clause-removals : goal.returns-clause-removals
-returns-clause-removals c =
-    let w = graph_from c.args.sources.now in
-    let over : c.modules.reach.left.items ≡ [] = none_of_length c.modules.reach.left.items (omega (arith, c.in_default.ensures.cases.0, c.modules.reach.left.ok.0)) in
-    let part : IsPart w (nodes_in c.modules.targets.items c.modules.rows) (known_at c.modules.reach.known.items) = Reaching-part (rw over at c.modules.invariant.reaching) in
-    ap (λ g. removal_plan g (Slot c.args.start)) c.new-graph.ensures
-    ∙ removal-part w (nodes_in c.modules.targets.items c.modules.rows) (known_at c.modules.reach.known.items) c.args.start part c.modules.invariant.reaching.begun
-
-pub returns-clause-len : goal.returns-clause-len
-returns-clause-len c =
-    ap length c.new-graph.ensures ∙ c.modules.invariant.reaching.long
-    ∙ length-graph_from c.args.sources.now
+pub returns-clause-known : goal.returns-clause-known
+returns-clause-known c = c.modules.invariant.grows
