@@ -9,3 +9,4 @@ pub mod Rungs
 pub mod Managed
 pub mod Told
 pub mod Queries
+pub mod Files

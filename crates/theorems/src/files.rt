@@ -1,0 +1,23 @@
+//! Which files of a configuration count.
+ghost use Rattle.std.specs.Prelude.{◌≡◌, IfOk};
+ghost use Rattle.modprobe_files.specs.Files.{files_of, sources_of};
+ghost use Rattle.theorems.specs.Files.{HasOneHiddenMore};
+
+use modprobe_files::{File, Source, counted_files, hidden_files_do_not_count};
+use std::alloc::{AllocError, Global};
+
+/// A file that one of its name in an earlier source hides has no influence (modprobe.d(5)): without it the same files count, in the
+/// same order.
+pub fn hidden_files_have_no_influence(
+    alloc: Global,
+    sources: &[Source],
+    others: &[Source],
+) -> Result<(Vec<File>, Vec<File>), AllocError>
+    requires { HasOneHiddenMore (sources_of sources.now) (sources_of others.now) }
+    ensures { IfOk result (λ files. files_of files.0.items ≡ files_of files.1.items) }
+{
+    hidden_files_do_not_count();
+    let first = counted_files(alloc, sources)?;
+    let second = counted_files(alloc, others)?;
+    Ok((first, second))
+}
