@@ -3,173 +3,118 @@ ghost use Rattle.std.specs.Prelude.{◌≡◌, IfOk, true};
 ghost use Rattle.std.specs.List.{list_all};
 ghost use Rattle.kmod_explain.specs.Told.{is_shown};
 
-use crate::finding::{Subject, find};
+use crate::known::Known;
 use crate::named_lines::NamedLines;
 use crate::sources::Sources;
 use crate::tasks::{Task, Tasks};
-use crate::told::{Saying, Spot, Told};
-use indexmap::IndexMap;
-use kmod_names::normal_alias;
-use kmod_query::{Ask, ModuleState, Query, World};
+use crate::told::Told;
+use kmod_query::{Ask, Object, Query, World};
 use std::alloc::{AllocError, Global};
 
-/// How many names are looked for near one that is not found.
-const SEARCHES: usize = 8;
-
-/// An explanation, as far as it is told.
-#[derive(Drop)]
-pub(crate) struct Explaining<'a> {
-    pub(crate) alloc: Global,
-    pub(crate) world: World<'a>,
-    pub(crate) query: Query<'a>,
-    pub(crate) named: NamedLines<'a>,
-    pub(crate) told: Told<'a>,
-    pub(crate) tasks: Tasks,
-    /// The words of softdep lines that were told, each with whether it stands for a module.
-    pub(crate) words: IndexMap<Vec<u8>, bool>,
-    /// How many names may still be looked for.
-    pub(crate) searches: usize,
+/// How many words of a query are names.
+fn name_count(query: &Query<'_>) -> usize {
+    match query.ask {
+        Ask::ShowConfig => 0,
+        Ask::Remove | Ask::ShowRemoval => query.words.len(),
+        Ask::ShowDepends | Ask::DryRun | Ask::Resolve => {
+            if query.all { query.words.len() } else { 1 }
+        }
+    }
 }
 
-impl Explaining<'_> {
-    /// Tells why a word of a softdep line stands for modules, once. Whether it stands for any is answered.
-    pub(crate) fn tell_soft(&mut self, word: &[u8]) -> Result<bool, AllocError> {
-        if let Some(found) = self.words.get(word) {
-            return Ok(*found);
-        }
-        let subjects = self.tell_word(word)?;
-        let found = !subjects.is_empty();
-        for subject in subjects.into_iter() {
-            self.tasks.add(self.alloc, subject)?;
-        }
-        self.words
-            .insert(Vec::from_slice(self.alloc, word)?, found)?;
-        Ok(found)
-    }
-
-    /// Tells why a word stands for modules, which are answered.
-    fn tell_word(&mut self, word: &[u8]) -> Result<Vec<Subject>, AllocError> {
-        let Some(name) = normal_alias(self.alloc, word)? else {
-            let what = Saying::of(b"no name, since a bracket stands alone");
-            self.told.say(word, what, Spot::Nowhere)?;
-            return Ok(Vec::new(self.alloc));
-        };
-        let finding = find(self.alloc, &self.world, name.as_bytes())?;
-        self.tell_finding(word, name.as_bytes(), &finding)?;
-        finding.subjects(self.alloc, name.as_bytes())
-    }
-
-    /// Whether the kernel has a module now.
-    pub(crate) fn is_in_kernel(&self, name: &[u8]) -> bool {
-        self.world.index.is_builtin(name) || self.is_live(name)
-    }
-
-    pub(crate) fn is_live(&self, name: &[u8]) -> bool {
-        match self.world.states.of(name) {
-            Some(status) => status.state == ModuleState::Live,
-            None => false,
-        }
-    }
-
-    fn is_barred(&self, subject: &Subject) -> bool {
-        self.world.conf.is_blacklisted(&subject.name)
-            && (subject.alias.is_some() || self.query.use_blacklist)
-    }
-
+impl Told<'_> {
     /// Begins with a module that is to be loaded.
-    fn begin_load(&mut self, subject: Subject) -> Result<(), AllocError> {
-        let is_dry = self.query.ask == Ask::DryRun;
-        if is_dry && (subject.builtin || self.is_in_kernel(&subject.name)) {
-            return self.tell_in_kernel(&subject.name, b", so nothing is loaded");
+    fn begin_load(&mut self, tasks: &mut Tasks, object: Object) -> Result<(), AllocError> {
+        let is_dry = self.known.query.ask == Ask::DryRun;
+        if is_dry && (object.builtin || self.known.is_in_kernel(&object.name)) {
+            return self.tell_in_kernel(&object.name, b", so nothing is loaded");
         }
-        if self.is_barred(&subject) {
-            return self.tell_blacklist(&subject.name, b", so it is not loaded");
+        if self.known.is_barred(&object) {
+            return self.tell_blacklist(&object.name, b", so it is not loaded");
         }
         let why = b", which does not hold for its own name without -b";
-        self.tell_blacklist(&subject.name, why)?;
-        self.tasks.add(self.alloc, subject)
+        self.tell_blacklist(&object.name, why)?;
+        tasks.add(self.alloc, object)
     }
 
     /// Begins with a module that is to be removed.
-    fn begin_removal(&mut self, subject: Subject) -> Result<(), AllocError> {
-        let is_there = self.world.states.of(&subject.name).is_some();
-        if self.query.ask == Ask::Remove && !is_there {
-            return self.tell_state(&subject.name, b"not loaded", b"");
+    fn begin_removal(&mut self, tasks: &mut Tasks, object: Object) -> Result<(), AllocError> {
+        let is_there = self.known.world.states.of(&object.name).is_some();
+        if self.known.query.ask == Ask::Remove && !is_there {
+            return self.tell_state(&object.name, b"not loaded", b"");
         }
-        self.tasks.add(self.alloc, subject)
+        tasks.add(self.alloc, object)
     }
 
-    fn begin(&mut self, subject: Subject) -> Result<(), AllocError> {
-        match self.query.ask {
-            Ask::ShowDepends | Ask::DryRun => self.begin_load(subject),
-            Ask::Remove | Ask::ShowRemoval => self.begin_removal(subject),
+    fn begin(&mut self, tasks: &mut Tasks, object: Object) -> Result<(), AllocError> {
+        match self.known.query.ask {
+            Ask::ShowDepends | Ask::DryRun => self.begin_load(tasks, object),
+            Ask::Remove | Ask::ShowRemoval => self.begin_removal(tasks, object),
             Ask::Resolve | Ask::ShowConfig => Ok(()),
         }
     }
 
     /// Tells why a name of the command line stands for modules, and begins with them.
-    fn begin_word(&mut self, word: &[u8]) -> Result<(), AllocError> {
-        let subjects = self.tell_word(word)?;
-        if subjects.is_empty() {
-            self.tell_near(word)?;
+    fn begin_word(&mut self, tasks: &mut Tasks, word: &[u8]) -> Result<(), AllocError> {
+        let objects = self.tell_word(word)?;
+        if objects.is_empty() {
+            return self.tell_near(word);
         }
-        for subject in subjects.into_iter() {
-            self.begin(subject)?;
-        }
-        Ok(())
-    }
-
-    /// The words of the query that are names.
-    fn names(&self) -> usize {
-        match self.query.ask {
-            Ask::ShowConfig => 0,
-            Ask::Remove | Ask::ShowRemoval => self.query.words.len(),
-            Ask::ShowDepends | Ask::DryRun | Ask::Resolve => {
-                if self.query.all {
-                    self.query.words.len()
-                } else {
-                    1
-                }
-            }
-        }
-    }
-
-    fn begin_words(&mut self) -> Result<(), AllocError> {
-        let words = self.query.words;
-        for word in words.iter().take(self.names()) {
-            self.begin_word(word)?;
+        for object in objects.into_iter() {
+            self.begin(tasks, object)?;
         }
         Ok(())
     }
 
-    fn tell_task(&mut self, task: &Task, is_bare: bool) -> Result<(), AllocError> {
+    fn begin_words(&mut self, tasks: &mut Tasks) -> Result<(), AllocError> {
+        let words = self.known.query.words;
+        let count = name_count(&self.known.query);
+        for word in words.iter().take(count) {
+            self.begin_word(tasks, word)?;
+        }
+        Ok(())
+    }
+
+    fn tell_task(
+        &mut self,
+        tasks: &mut Tasks,
+        task: &Task,
+        is_bare: bool,
+    ) -> Result<(), AllocError> {
         if task.needs {
-            self.tell_needs(&task.name)
+            self.tell_needs(tasks, &task.name)
         } else {
             let alias = task.alias.as_ref().map(|alias| alias.as_slice());
-            self.tell_own(&task.name, alias, is_bare)
+            self.tell_own(tasks, &task.name, alias, is_bare)
         }
     }
 
     /// Tells what is to be told, and what that leads to. The first ones are of the names that were asked for.
-    fn tell_tasks(&mut self, first: usize) -> Result<(), AllocError> {
+    fn tell_tasks(&mut self, tasks: &mut Tasks, first: usize) -> Result<(), AllocError> {
+        let is_bare = self.known.query.ignore_commands;
         for at in 0..usize::MAX {
-            let Some(task) = self.tasks.copy_at(self.alloc, at)? else {
+            let Some(task) = tasks.copy_at(self.alloc, at)? else {
                 return Ok(());
             };
-            self.tell_task(&task, at < first && self.query.ignore_commands)?;
+            self.tell_task(tasks, &task, at < first && is_bare)?;
         }
         Ok(())
     }
 
+    /// Tells why the words of the query are answered as they are.
+    fn tell_words(&mut self) -> Result<(), AllocError> {
+        let mut tasks = Tasks::new(self.alloc);
+        self.begin_words(&mut tasks)?;
+        let first = tasks.len();
+        self.tell_tasks(&mut tasks, first)
+    }
+
     fn tell_all(&mut self) -> Result<(), AllocError> {
-        self.begin_words()?;
-        let first = self.tasks.len();
-        self.tell_tasks(first)?;
-        if self.query.ask == Ask::ShowConfig {
+        self.tell_words()?;
+        if self.known.query.ask == Ask::ShowConfig {
             self.tell_idle()?;
         }
-        Ok(())
+        self.say_hidden()
     }
 }
 
@@ -183,17 +128,12 @@ pub fn explanation(
 ) -> Result<Vec<u8>, AllocError>
     ensures { IfOk result (λ lines. list_all is_shown lines.items ≡ true) }
 {
-    let mut own = Explaining {
-        alloc,
+    let known = Known {
         world: *world,
         query: *query,
         named: NamedLines::of(alloc, world.conf, sources.builtin)?,
-        told: Told::new(alloc, *sources),
-        tasks: Tasks::new(alloc),
-        words: IndexMap::new(alloc),
-        searches: SEARCHES,
     };
-    own.tell_all()?;
-    own.told.say_hidden()?;
-    Ok(own.told.into_lines())
+    let mut told = Told::new(alloc, known, *sources);
+    told.tell_all()?;
+    Ok(told.into_lines())
 }

@@ -18,35 +18,8 @@ pub(crate) struct Heads<'a> {
     numbers: KeyPlaces,
 }
 
-pub(crate) fn of_names<'a>(alloc: Global, lines: &'a [NameLine]) -> Result<Heads<'a>, AllocError> {
-    let mut heads = Heads::new(alloc);
-    for line in lines {
-        heads.push(alloc, line.name.as_bytes(), line.place)?;
-    }
-    Ok(heads)
-}
-
-pub(crate) fn of_texts<'a>(alloc: Global, lines: &'a [TextLine]) -> Result<Heads<'a>, AllocError> {
-    let mut heads = Heads::new(alloc);
-    for line in lines {
-        heads.push(alloc, line.name.as_bytes(), line.place)?;
-    }
-    Ok(heads)
-}
-
-pub(crate) fn of_softdeps<'a>(
-    alloc: Global,
-    lines: &'a [SoftdepLine],
-) -> Result<Heads<'a>, AllocError> {
-    let mut heads = Heads::new(alloc);
-    for line in lines {
-        heads.push(alloc, line.name.as_bytes(), line.place)?;
-    }
-    Ok(heads)
-}
-
 impl<'a> Heads<'a> {
-    fn new(alloc: Global) -> Heads<'a> {
+    pub(crate) fn new(alloc: Global) -> Heads<'a> {
         Heads {
             all: Vec::new(alloc),
             numbers: KeyPlaces::new(alloc),
@@ -56,6 +29,39 @@ impl<'a> Heads<'a> {
     fn push(&mut self, alloc: Global, name: &'a [u8], place: Place) -> Result<(), AllocError> {
         self.numbers.add(alloc, name, self.all.len())?;
         self.all.push(Head { name, place }).map_err(|_| AllocError)
+    }
+
+    pub(crate) fn add_names(
+        &mut self,
+        alloc: Global,
+        lines: &'a [NameLine],
+    ) -> Result<(), AllocError> {
+        for line in lines {
+            self.push(alloc, line.name.as_bytes(), line.place)?;
+        }
+        Ok(())
+    }
+
+    pub(crate) fn add_texts(
+        &mut self,
+        alloc: Global,
+        lines: &'a [TextLine],
+    ) -> Result<(), AllocError> {
+        for line in lines {
+            self.push(alloc, line.name.as_bytes(), line.place)?;
+        }
+        Ok(())
+    }
+
+    pub(crate) fn add_softdeps(
+        &mut self,
+        alloc: Global,
+        lines: &'a [SoftdepLine],
+    ) -> Result<(), AllocError> {
+        for line in lines {
+            self.push(alloc, line.name.as_bytes(), line.place)?;
+        }
+        Ok(())
     }
 
     /// The places of the lines of a name.

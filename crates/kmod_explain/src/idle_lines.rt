@@ -1,12 +1,11 @@
 //! Lines of the configuration that have no effect.
 
-use crate::explaining::Explaining;
-use crate::finding::{Finding, find};
 use crate::heads::Head;
-use crate::told::Saying;
+use crate::told::{Saying, Told};
 use crate::told_modules::LATER;
 use kmod_conf::{NameLine, SoftdepLine, TextLine};
 use kmod_names::AliasEntry;
+use kmod_query::{Finding, find_name};
 use std::alloc::AllocError;
 
 /// Whether a name holds a mark of a pattern.
@@ -14,26 +13,20 @@ fn is_pattern(name: &[u8]) -> bool {
     name.iter().any(|byte| matches!(*byte, b'*' | b'?' | b'['))
 }
 
-impl Explaining<'_> {
-    /// Whether a line or a text has a module of this name.
-    fn is_module(&self, name: &[u8]) -> bool {
-        self.world.index.dependencies().find(name).is_some()
-            || self.world.index.is_builtin(name)
-            || self.world.conf.has_install_named(name)
-            || self.world.conf.has_remove_named(name)
-    }
-
+impl Told<'_> {
+    /// Whether a name stands for a module.
     fn is_known(&self, name: &[u8]) -> Result<bool, AllocError> {
-        Ok(!matches!(find(self.alloc, &self.world, name)?, Finding::Nothing))
+        let finding = find_name(self.alloc, &self.known.world, name)?;
+        Ok(!matches!(finding, Finding::Nothing))
     }
 
     fn tell_idle_aliases(&mut self, lines: &[AliasEntry]) -> Result<(), AllocError> {
         for line in lines {
             let target = line.target.as_bytes();
-            if !self.is_module(target) {
+            if !self.known.is_module(target) {
                 let what = Saying::with_name(b"alias of ", target);
                 let what = what.and(b", but no module has that name", b"");
-                self.told.say_of(line.pattern.as_bytes(), what, line.place)?;
+                self.say_of(line.pattern.as_bytes(), what, line.place)?;
             }
         }
         Ok(())
@@ -42,9 +35,9 @@ impl Explaining<'_> {
     fn tell_idle_blacklist(&mut self, lines: &[NameLine]) -> Result<(), AllocError> {
         for line in lines {
             let name = line.name.as_bytes();
-            if !self.is_module(name) {
+            if !self.known.is_module(name) {
                 let what = Saying::of(b"blacklisted, but no module has this name");
-                self.told.say_of(name, what, line.place)?;
+                self.say_of(name, what, line.place)?;
             }
         }
         Ok(())
@@ -55,7 +48,7 @@ impl Explaining<'_> {
             let name = line.name.as_bytes();
             if !self.is_known(name)? {
                 let what = Saying::of(b"options, but no module or alias has this name");
-                self.told.say_of(name, what, line.place)?;
+                self.say_of(name, what, line.place)?;
             }
         }
         Ok(())
@@ -64,9 +57,9 @@ impl Explaining<'_> {
     fn tell_idle_softdeps(&mut self, lines: &[SoftdepLine]) -> Result<(), AllocError> {
         for line in lines {
             let name = line.name.as_bytes();
-            if !is_pattern(name) && !self.is_module(name) {
+            if !is_pattern(name) && !self.known.is_module(name) {
                 let what = Saying::of(b"softdep, but no module has this name");
-                self.told.say_of(name, what, line.place)?;
+                self.say_of(name, what, line.place)?;
             }
         }
         Ok(())
@@ -76,23 +69,23 @@ impl Explaining<'_> {
     fn tell_later_lines(&mut self, kind: &[u8], lines: &[Head<'_>]) -> Result<(), AllocError> {
         for line in lines {
             let what = Saying::with_name(kind, LATER);
-            self.told.say_of(line.name, what, line.place)?;
+            self.say_of(line.name, what, line.place)?;
         }
         Ok(())
     }
 
     fn tell_all_later(&mut self) -> Result<(), AllocError> {
-        let installs = self.named.installs.later(self.alloc)?;
+        let installs = self.known.named.installs.later(self.alloc)?;
         self.tell_later_lines(b"install", &installs)?;
-        let removes = self.named.removes.later(self.alloc)?;
+        let removes = self.known.named.removes.later(self.alloc)?;
         self.tell_later_lines(b"remove", &removes)?;
-        let softdeps = self.named.softdeps.later(self.alloc)?;
+        let softdeps = self.known.named.softdeps.later(self.alloc)?;
         self.tell_later_lines(b"softdep", &softdeps)
     }
 
     /// Tells the lines of the configuration that have no effect.
     pub(crate) fn tell_idle(&mut self) -> Result<(), AllocError> {
-        let conf = self.world.conf;
+        let conf = self.known.world.conf;
         self.tell_idle_blacklist(conf.blacklist())?;
         self.tell_idle_aliases(conf.aliases())?;
         self.tell_idle_options(conf.options())?;

@@ -2,9 +2,9 @@
 #![tactic(auto)]
 
 mod explaining;
-mod finding;
 mod heads;
 mod idle_lines;
+mod known;
 mod named_lines;
 mod near_names;
 mod shown;

@@ -1,6 +1,6 @@
 //! All lines that are found by their very names.
 
-use crate::heads::{Heads, of_names, of_softdeps, of_texts};
+use crate::heads::Heads;
 use kmod_conf::Conf;
 use kmod_names::{KeyPlaces, name_of_path};
 use std::alloc::{AllocError, Global};
@@ -32,31 +32,44 @@ fn add_file(
     }
 }
 
-/// The numbers of the lines of modules.builtin, by the names of modules.
-fn by_files(alloc: Global, text: &[u8]) -> Result<KeyPlaces, AllocError> {
-    let mut numbers = KeyPlaces::new(alloc);
+/// Adds the numbers of the lines of modules.builtin, by the names of modules.
+fn add_files(alloc: Global, numbers: &mut KeyPlaces, text: &[u8]) -> Result<(), AllocError> {
     let mut lines = whole_lines(text);
     let mut number = 1usize;
     'lines: while let Some(line) = lines.next() {
-        add_file(alloc, &mut numbers, number, line)?;
+        add_file(alloc, numbers, number, line)?;
         number += 1;
     }
-    Ok(numbers)
+    Ok(())
 }
 
 impl<'a> NamedLines<'a> {
+    fn new(alloc: Global) -> NamedLines<'a> {
+        NamedLines {
+            blacklist: Heads::new(alloc),
+            installs: Heads::new(alloc),
+            removes: Heads::new(alloc),
+            softdeps: Heads::new(alloc),
+            builtins: KeyPlaces::new(alloc),
+        }
+    }
+
+    fn add(&mut self, alloc: Global, conf: &'a Conf, builtin: &[u8]) -> Result<(), AllocError> {
+        self.blacklist.add_names(alloc, conf.blacklist())?;
+        self.installs.add_texts(alloc, conf.installs())?;
+        self.removes.add_texts(alloc, conf.removes())?;
+        self.softdeps.add_softdeps(alloc, conf.softdeps())?;
+        add_files(alloc, &mut self.builtins, builtin)
+    }
+
     /// The lines of a configuration and of a text of modules.builtin.
     pub(crate) fn of(
         alloc: Global,
         conf: &'a Conf,
         builtin: &[u8],
     ) -> Result<NamedLines<'a>, AllocError> {
-        Ok(NamedLines {
-            blacklist: of_names(alloc, conf.blacklist())?,
-            installs: of_texts(alloc, conf.installs())?,
-            removes: of_texts(alloc, conf.removes())?,
-            softdeps: of_softdeps(alloc, conf.softdeps())?,
-            builtins: by_files(alloc, builtin)?,
-        })
+        let mut named = NamedLines::new(alloc);
+        named.add(alloc, conf, builtin)?;
+        Ok(named)
     }
 }

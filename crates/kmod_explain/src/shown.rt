@@ -33,11 +33,23 @@ impl Shown {
     }
 
     /// Adds a text.
-    pub(crate) fn push(&mut self, text: &[u8]) -> Result<(), AllocError> {
+    fn push_text(&mut self, text: &[u8]) -> Result<(), AllocError> {
         for byte in text {
             self.push_byte(*byte)?;
         }
         Ok(())
+    }
+
+    /// Adds the parts of a text, of which each may be empty.
+    pub(crate) fn push(
+        &mut self,
+        first: &[u8],
+        second: &[u8],
+        third: &[u8],
+    ) -> Result<(), AllocError> {
+        self.push_text(first)?;
+        self.push_text(second)?;
+        self.push_text(third)
     }
 
     pub(crate) fn end_line(&mut self) -> Result<(), AllocError> {

@@ -1,27 +1,33 @@
 //! What is to be told of modules, each once.
 
-use crate::finding::Subject;
-use indexmap::IndexSet;
+use indexmap::{IndexMap, IndexSet};
+use kmod_query::Object;
 use std::alloc::{AllocError, Global};
 
 /// A module whose own lines are to be told, with the alias by which it came; or whose needs are.
-#[derive(Debug, Drop, PartialEq, Eq, Hash)]
+#[derive(Drop)]
 pub(crate) struct Task {
     pub(crate) name: Vec<u8>,
     pub(crate) alias: Option<Vec<u8>>,
     pub(crate) needs: bool,
 }
 
+/// The parts of a task, by which it is told from others.
+type Key = (Vec<u8>, Option<Vec<u8>>, bool);
+
 /// Tasks in the order in which they came.
 #[derive(Drop)]
 pub(crate) struct Tasks {
-    all: IndexSet<Task>,
+    all: IndexSet<Key>,
+    /// The words of softdep lines that were told, each with whether it stands for a module.
+    words: IndexMap<Vec<u8>, bool>,
 }
 
 impl Tasks {
     pub(crate) fn new(alloc: Global) -> Tasks {
         Tasks {
             all: IndexSet::new(alloc),
+            words: IndexMap::new(alloc),
         }
     }
 
@@ -31,43 +37,52 @@ impl Tasks {
 
     /// Adds a module that another one needs.
     pub(crate) fn add_need(&mut self, alloc: Global, name: &[u8]) -> Result<(), AllocError> {
-        self.all.insert(Task {
-            name: Vec::from_slice(alloc, name)?,
-            alias: None,
-            needs: false,
-        })?;
+        let name = Vec::from_slice(alloc, name)?;
+        self.all.insert((name, None, false))?;
         Ok(())
     }
 
     /// Adds a module, and then what it needs.
-    pub(crate) fn add(&mut self, alloc: Global, subject: Subject) -> Result<(), AllocError> {
-        let needs = Task {
-            name: Vec::from_slice(alloc, &subject.name)?,
-            alias: None,
-            needs: true,
-        };
-        self.all.insert(Task {
-            name: subject.name,
-            alias: subject.alias,
-            needs: false,
-        })?;
-        self.all.insert(needs)?;
+    pub(crate) fn add(&mut self, alloc: Global, object: Object) -> Result<(), AllocError> {
+        let name = Vec::from_slice(alloc, &object.name)?;
+        self.all.insert((object.name, object.alias, false))?;
+        self.all.insert((name, None, true))?;
         Ok(())
+    }
+
+    /// Whether a word of a softdep line stands for a module, None where it was not told.
+    pub(crate) fn is_found(&self, word: &[u8]) -> Option<bool> {
+        self.words.get(word).copied()
+    }
+
+    /// Adds the modules for which a word of a softdep line stands, which was told. Whether there are any is answered.
+    pub(crate) fn add_word(
+        &mut self,
+        alloc: Global,
+        word: &[u8],
+        objects: Vec<Object>,
+    ) -> Result<bool, AllocError> {
+        let found = !objects.is_empty();
+        for object in objects.into_iter() {
+            self.add(alloc, object)?;
+        }
+        self.words.insert(Vec::from_slice(alloc, word)?, found)?;
+        Ok(found)
     }
 
     /// The task of a number, from 0.
     pub(crate) fn copy_at(&self, alloc: Global, at: usize) -> Result<Option<Task>, AllocError> {
-        let Some(task) = self.all.get_index(at) else {
+        let Some((name, alias, needs)) = self.all.get_index(at) else {
             return Ok(None);
         };
-        let alias = match &task.alias {
+        let alias = match alias {
             Some(alias) => Some(Vec::from_slice(alloc, alias)?),
             None => None,
         };
         Ok(Some(Task {
-            name: Vec::from_slice(alloc, &task.name)?,
+            name: Vec::from_slice(alloc, name)?,
             alias,
-            needs: task.needs,
+            needs: *needs,
         }))
     }
 }

@@ -3,10 +3,14 @@ ghost use Rattle.std.specs.Prelude.{◌≡◌, true};
 ghost use Rattle.std.specs.List.{list_all};
 ghost use Rattle.kmod_explain.specs.Told.{is_shown};
 
+use crate::known::Known;
 use crate::shown::Shown;
 use crate::sources::Sources;
 use kmod_names::Place;
 use std::alloc::{AllocError, Global};
+
+/// For how many words near names are looked for.
+const SEARCHES: usize = 8;
 
 /// Where something stands.
 #[derive(Clone, Copy)]
@@ -57,21 +61,26 @@ impl<'a> Saying<'a> {
     }
 }
 
-/// Lines, one after another.
+/// Lines about what is known, one after another.
 #[derive(Drop)]
 pub(crate) struct Told<'a> {
-    alloc: Global,
+    pub(crate) alloc: Global,
+    pub(crate) known: Known<'a>,
     sources: Sources<'a>,
     lines: Shown,
+    /// For how many words near names may still be looked for.
+    pub(crate) searches: usize,
 }
 
 impl<'a> Told<'a> {
-    /// No lines yet; these are the texts of the configuration that places count.
-    pub(crate) fn new(alloc: Global, sources: Sources<'a>) -> Told<'a> {
+    /// No lines yet; the sources are the texts of the configuration that places count.
+    pub(crate) fn new(alloc: Global, known: Known<'a>, sources: Sources<'a>) -> Told<'a> {
         Told {
             alloc,
+            known,
             sources,
             lines: Shown::new(alloc),
+            searches: SEARCHES,
         }
     }
 
@@ -84,22 +93,15 @@ impl<'a> Told<'a> {
     /// Adds a file and a number of it.
     fn push_number(&mut self, file: &[u8], unit: &[u8], number: usize) -> Result<(), AllocError> {
         let text = format!(in self.alloc; "{number}")?;
-        self.lines.push(b" (")?;
-        self.lines.push(file)?;
-        self.lines.push(unit)?;
-        self.lines.push(text.as_bytes())?;
-        self.lines.push(b")")
+        self.lines.push(b" (", file, unit)?;
+        self.lines.push(text.as_bytes(), b")", b"")
     }
 
     fn push_spot(&mut self, spot: Spot<'_>) -> Result<(), AllocError> {
         match spot {
             Spot::Line(file, number) => self.push_number(file, b" line ", number),
             Spot::Entry(file, number) => self.push_number(file, b" entry ", number),
-            Spot::Whole(file) => {
-                self.lines.push(b" (")?;
-                self.lines.push(file)?;
-                self.lines.push(b")")
-            }
+            Spot::Whole(file) => self.lines.push(b" (", file, b")"),
             Spot::Nowhere => Ok(()),
         }
     }
@@ -111,12 +113,8 @@ impl<'a> Told<'a> {
         what: Saying<'_>,
         spot: Spot<'_>,
     ) -> Result<(), AllocError> {
-        self.lines.push(whom)?;
-        self.lines.push(b": ")?;
-        self.lines.push(what.words)?;
-        self.lines.push(what.name)?;
-        self.lines.push(what.more)?;
-        self.lines.push(what.text)?;
+        self.lines.push(whom, b": ", what.words)?;
+        self.lines.push(what.name, what.more, what.text)?;
         self.push_spot(spot)?;
         self.lines.end_line()
     }

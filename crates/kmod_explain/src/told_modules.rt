@@ -1,7 +1,7 @@
 //! What is told of a module: the lines that count for it, and those that do not.
 
-use crate::explaining::Explaining;
-use crate::told::{Saying, Spot};
+use crate::tasks::Tasks;
+use crate::told::{Saying, Spot, Told};
 use crate::told_words::DEPENDENCIES;
 use kmod_conf::TextLine;
 use kmod_names::{Place, Text};
@@ -14,7 +14,7 @@ const MODULES: &[u8] = b"/sys/module";
 /// What is told of a line that an earlier one of its kind keeps from counting.
 pub(crate) const LATER: &[u8] = b" line does not count, since another comes first";
 
-impl Explaining<'_> {
+impl Told<'_> {
     /// Tells what /sys/module says of a module, and what follows.
     pub(crate) fn tell_state(
         &mut self,
@@ -23,12 +23,12 @@ impl Explaining<'_> {
         why: &[u8],
     ) -> Result<(), AllocError> {
         let what = Saying::with_name(state, why);
-        self.told.say(name, what, Spot::Whole(MODULES))
+        self.say(name, what, Spot::Whole(MODULES))
     }
 
     /// Tells that the kernel has a module, and what follows.
     pub(crate) fn tell_in_kernel(&mut self, name: &[u8], why: &[u8]) -> Result<(), AllocError> {
-        if self.is_live(name) {
+        if self.known.is_live(name) {
             self.tell_state(name, b"loaded already", why)
         } else {
             self.tell_built_in(name, name, why)
@@ -37,36 +37,42 @@ impl Explaining<'_> {
 
     /// Tells the blacklist lines of a module.
     pub(crate) fn tell_blacklist(&mut self, name: &[u8], why: &[u8]) -> Result<(), AllocError> {
-        for place in self.named.blacklist.places(self.alloc, name)?.iter() {
+        for place in self.known.named.blacklist.places(self.alloc, name)?.iter() {
             let what = Saying::with_name(b"blacklisted", why);
-            self.told.say_of(name, what, *place)?;
+            self.say_of(name, what, *place)?;
         }
         Ok(())
     }
 
     /// Tells a module that another one needs.
-    fn tell_need(&mut self, name: &[u8], need: &[u8], number: usize) -> Result<(), AllocError> {
+    fn tell_need(
+        &mut self,
+        tasks: &mut Tasks,
+        name: &[u8],
+        need: &[u8],
+        number: usize,
+    ) -> Result<(), AllocError> {
         let what = Saying::with_name(b"needed by ", name);
-        self.told.say(need, what, Spot::Line(DEPENDENCIES, number))?;
-        self.tasks.add_need(self.alloc, need)
+        self.say(need, what, Spot::Line(DEPENDENCIES, number))?;
+        tasks.add_need(self.alloc, need)
     }
 
     /// Tells what a module needs.
-    pub(crate) fn tell_needs(&mut self, name: &[u8]) -> Result<(), AllocError> {
-        let index = self.world.index;
+    pub(crate) fn tell_needs(&mut self, tasks: &mut Tasks, name: &[u8]) -> Result<(), AllocError> {
+        let index = self.known.world.index;
         let Some(line) = index.dependencies().find(name) else {
             return Ok(());
         };
         let needs = line.needed_names(self.alloc)?;
         for need in needs.iter() {
-            self.tell_need(name, need.as_bytes(), line.number())?;
+            self.tell_need(tasks, name, need.as_bytes(), line.number())?;
         }
         Ok(())
     }
 
     /// Tells the options of a module, and of the alias by which it came.
     fn tell_options(&mut self, name: &[u8], alias: Option<&[u8]>) -> Result<(), AllocError> {
-        let conf = self.world.conf;
+        let conf = self.known.world.conf;
         for line in conf.options_of(self.alloc, name, alias)?.iter() {
             let own = line.name.as_bytes();
             let what = Saying::with_name(b"options ", line.text.as_bytes());
@@ -75,7 +81,7 @@ impl Explaining<'_> {
             } else {
                 what.and(b", of the alias ", own)
             };
-            self.told.say_of(name, what, line.place)?;
+            self.say_of(name, what, line.place)?;
         }
         Ok(())
     }
@@ -91,7 +97,7 @@ impl Explaining<'_> {
         match line {
             Some(line) => {
                 let what = Saying::with_name(words, line.text.as_bytes());
-                self.told.say_of(name, what.and(why, b""), line.place)
+                self.say_of(name, what.and(why, b""), line.place)
             }
             None => Ok(()),
         }
@@ -107,16 +113,25 @@ impl Explaining<'_> {
     ) -> Result<(), AllocError> {
         for place in places {
             if counting != Some(*place) {
-                self.told
-                    .say_of(name, Saying::with_name(words, LATER), *place)?;
+                self.say_of(name, Saying::with_name(words, LATER), *place)?;
             }
         }
         Ok(())
     }
 
+    /// Tells why a word of a softdep line stands for modules, once. Whether it stands for any is answered.
+    fn tell_soft(&mut self, tasks: &mut Tasks, word: &[u8]) -> Result<bool, AllocError> {
+        if let Some(found) = tasks.is_found(word) {
+            return Ok(found);
+        }
+        let objects = self.tell_word(word)?;
+        tasks.add_word(self.alloc, word, objects)
+    }
+
     /// Tells words of a softdep line. Whether one of them stands for a module is answered.
     fn tell_items(
         &mut self,
+        tasks: &mut Tasks,
         name: &[u8],
         when: &[u8],
         words: &[Text],
@@ -125,52 +140,54 @@ impl Explaining<'_> {
         let mut found = false;
         for word in words {
             let what = Saying::with_name(when, name);
-            self.told.say_of(word.as_bytes(), what, place)?;
-            found = self.tell_soft(word.as_bytes())? || found;
+            self.say_of(word.as_bytes(), what, place)?;
+            found = self.tell_soft(tasks, word.as_bytes())? || found;
         }
         Ok(found)
     }
 
     /// Tells the soft items of a module. Whether it has some is answered.
-    fn tell_softdep(&mut self, name: &[u8]) -> Result<bool, AllocError> {
-        let conf = self.world.conf;
+    fn tell_softdep(&mut self, tasks: &mut Tasks, name: &[u8]) -> Result<bool, AllocError> {
+        let conf = self.known.world.conf;
         let Some(line) = conf.softdep_of(self.alloc, name)? else {
             return Ok(false);
         };
-        let before = self.tell_items(name, b"softdep before ", line.items.pre(), line.place)?;
-        let after = self.tell_items(name, b"softdep after ", line.items.post(), line.place)?;
-        let others = self.named.softdeps.places(self.alloc, name)?;
-        self.tell_later(name, b"softdep", Some(line.place), &others)?;
+        let (items, place) = (&line.items, line.place);
+        let before = self.tell_items(tasks, name, b"softdep before ", items.pre(), place)?;
+        let after = self.tell_items(tasks, name, b"softdep after ", items.post(), place)?;
+        let others = self.known.named.softdeps.places(self.alloc, name)?;
+        self.tell_later(name, b"softdep", Some(place), &others)?;
         Ok(before || after)
     }
 
     /// Tells the install lines of a module; why the one that counts is passed over, where it is.
     fn tell_install(&mut self, name: &[u8], why: &[u8]) -> Result<(), AllocError> {
-        let conf = self.world.conf;
+        let conf = self.known.world.conf;
         let line = conf.install_of(self.alloc, name)?;
         self.tell_command(name, b"install ", line, why)?;
-        let others = self.named.installs.places(self.alloc, name)?;
+        let others = self.known.named.installs.places(self.alloc, name)?;
         self.tell_later(name, b"install", line.map(|line| line.place), &others)
     }
 
     /// Tells the remove lines of a module; why the one that counts is passed over, where it is.
     fn tell_remove(&mut self, name: &[u8], why: &[u8]) -> Result<(), AllocError> {
-        let conf = self.world.conf;
+        let conf = self.known.world.conf;
         let line = conf.remove_of(self.alloc, name)?;
         self.tell_command(name, b"remove ", line, why)?;
-        let others = self.named.removes.places(self.alloc, name)?;
+        let others = self.known.named.removes.places(self.alloc, name)?;
         self.tell_later(name, b"remove", line.map(|line| line.place), &others)
     }
 
     /// Tells what counts for a load of a module.
     fn tell_loaded(
         &mut self,
+        tasks: &mut Tasks,
         name: &[u8],
         alias: Option<&[u8]>,
         is_bare: bool,
     ) -> Result<(), AllocError> {
-        let has_items = !is_bare && self.tell_softdep(name)?;
-        if self.query.ask == Ask::DryRun && self.is_in_kernel(name) {
+        let has_items = !is_bare && self.tell_softdep(tasks, name)?;
+        if self.known.query.ask == Ask::DryRun && self.known.is_in_kernel(name) {
             return self.tell_in_kernel(name, b"");
         }
         self.tell_options(name, alias)?;
@@ -188,20 +205,20 @@ impl Explaining<'_> {
             Some(users) if users > 0 => {
                 let number = format!(in self.alloc; "{users}")?;
                 let what = Saying::with_name(b"its count of users is ", number.as_bytes());
-                self.told.say(name, what, Spot::Whole(MODULES))
+                self.say(name, what, Spot::Whole(MODULES))
             }
             _ => Ok(()),
         }
     }
 
     /// Tells what counts for a removal of a module.
-    fn tell_removed(&mut self, name: &[u8]) -> Result<(), AllocError> {
-        let is_bare = self.query.ignore_commands;
-        if let Some(status) = self.world.states.of(name) {
+    fn tell_removed(&mut self, tasks: &mut Tasks, name: &[u8]) -> Result<(), AllocError> {
+        let is_bare = self.known.query.ignore_commands;
+        if let Some(status) = self.known.world.states.of(name) {
             self.tell_users(name, status)?;
         }
         if !is_bare {
-            let _ = self.tell_softdep(name)?;
+            let _ = self.tell_softdep(tasks, name)?;
         }
         let why: &[u8] = if is_bare { b", passed over by -i" } else { b"" };
         self.tell_remove(name, why)
@@ -210,13 +227,14 @@ impl Explaining<'_> {
     /// Tells the lines of a module that count, and those of its name that do not.
     pub(crate) fn tell_own(
         &mut self,
+        tasks: &mut Tasks,
         name: &[u8],
         alias: Option<&[u8]>,
         is_bare: bool,
     ) -> Result<(), AllocError> {
-        match self.query.ask {
-            Ask::Remove | Ask::ShowRemoval => self.tell_removed(name),
-            _ => self.tell_loaded(name, alias, is_bare),
+        match self.known.query.ask {
+            Ask::Remove | Ask::ShowRemoval => self.tell_removed(tasks, name),
+            _ => self.tell_loaded(tasks, name, alias, is_bare),
         }
     }
 }

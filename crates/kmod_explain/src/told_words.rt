@@ -1,11 +1,10 @@
 //! What is told of a word of a command line or of a softdep line.
 
-use crate::explaining::Explaining;
-use crate::finding::Finding;
 use crate::near_names::is_near;
-use crate::told::{Saying, Spot};
+use crate::told::{Saying, Spot, Told};
 use kmod_index::IndexLine;
-use kmod_names::{AliasEntry, name_of_path};
+use kmod_names::{AliasEntry, name_of_path, normal_alias};
+use kmod_query::{Finding, Object, find_name};
 use std::alloc::AllocError;
 use text_parts::is_same;
 
@@ -22,13 +21,30 @@ const BUILTIN_MODINFO: &[u8] = b"modules.builtin.modinfo";
 /// How many near names are told.
 const NEAR_NAMES: usize = 3;
 
-impl Explaining<'_> {
+/// What is said of an alias of a module, or of one that is built in.
+fn alias_of(is_built_in: bool, name: &[u8]) -> Saying<'_> {
+    if is_built_in {
+        Saying::with_name(b"alias of the built-in ", name)
+    } else {
+        Saying::with_name(b"alias of ", name)
+    }
+}
+
+/// Where an alias of a module stands, or of one that is built in.
+fn alias_spot(is_built_in: bool, number: usize) -> Spot<'static> {
+    if is_built_in {
+        Spot::Entry(BUILTIN_MODINFO, number)
+    } else {
+        Spot::Line(ALIASES, number)
+    }
+}
+
+impl Told<'_> {
     fn tell_configured(&mut self, word: &[u8], entries: &[&AliasEntry]) -> Result<(), AllocError> {
         for entry in entries {
             let pattern = entry.pattern.as_bytes();
             let what = Saying::with_name(b"alias of ", entry.target.as_bytes());
-            self.told
-                .say_of(word, what.and(b", as ", pattern), entry.place)?;
+            self.say_of(word, what.and(b", as ", pattern), entry.place)?;
         }
         Ok(())
     }
@@ -36,43 +52,35 @@ impl Explaining<'_> {
     fn tell_exported(&mut self, word: &[u8], lines: &[&IndexLine]) -> Result<(), AllocError> {
         for line in lines {
             let what = Saying::with_name(b"exported by ", line.name());
-            self.told
-                .say(word, what, Spot::Line(SYMBOLS, line.number()))?;
+            self.say(word, what, Spot::Line(SYMBOLS, line.number()))?;
         }
         Ok(())
     }
 
-    fn tell_aliased(&mut self, word: &[u8], lines: &[&IndexLine]) -> Result<(), AllocError> {
-        for line in lines {
-            let what = Saying::with_name(b"alias of ", line.name());
-            let spot = Spot::Line(ALIASES, line.number());
-            self.told.say(word, what.and(b", as ", line.key()), spot)?;
-        }
-        Ok(())
-    }
-
-    fn tell_aliased_built_in(
+    /// Tells the aliases of modules, or those of modules that are built in.
+    fn tell_aliased(
         &mut self,
         word: &[u8],
+        is_built_in: bool,
         lines: &[&IndexLine],
     ) -> Result<(), AllocError> {
         for line in lines {
-            let what = Saying::with_name(b"alias of the built-in ", line.name());
-            let spot = Spot::Entry(BUILTIN_MODINFO, line.number());
-            self.told.say(word, what.and(b", as ", line.key()), spot)?;
+            let what = alias_of(is_built_in, line.name());
+            let spot = alias_spot(is_built_in, line.number());
+            self.say(word, what.and(b", as ", line.key()), spot)?;
         }
         Ok(())
     }
 
     /// Tells the lines of commands of this very name.
     fn tell_commanded(&mut self, word: &[u8], name: &[u8]) -> Result<(), AllocError> {
-        for place in self.named.installs.places(self.alloc, name)?.iter() {
+        for place in self.known.named.installs.places(self.alloc, name)?.iter() {
             let what = Saying::of(b"name of an install line");
-            self.told.say_of(word, what, *place)?;
+            self.say_of(word, what, *place)?;
         }
-        for place in self.named.removes.places(self.alloc, name)?.iter() {
+        for place in self.known.named.removes.places(self.alloc, name)?.iter() {
             let what = Saying::of(b"name of a remove line");
-            self.told.say_of(word, what, *place)?;
+            self.say_of(word, what, *place)?;
         }
         Ok(())
     }
@@ -84,16 +92,15 @@ impl Explaining<'_> {
         name: &[u8],
         why: &[u8],
     ) -> Result<(), AllocError> {
-        let spot = match self.named.builtins.of(name).first() {
+        let spot = match self.known.named.builtins.of(name).first() {
             Some(number) => Spot::Line(BUILTIN, *number),
             None => Spot::Nowhere,
         };
-        self.told
-            .say(word, Saying::with_name(b"built in", why), spot)
+        self.say(word, Saying::with_name(b"built in", why), spot)
     }
 
     /// Tells why a word, whose normal form is a name, stands for modules, or that it stands for none.
-    pub(crate) fn tell_finding(
+    fn tell_finding(
         &mut self,
         word: &[u8],
         name: &[u8],
@@ -103,32 +110,47 @@ impl Explaining<'_> {
             Finding::Configured(entries) => self.tell_configured(word, entries),
             Finding::Module(line) => {
                 let spot = Spot::Line(DEPENDENCIES, line.number());
-                self.told
-                    .say(word, Saying::with_name(b"module ", line.path()), spot)
+                self.say(word, Saying::with_name(b"module ", line.path()), spot)
             }
             Finding::Exported(lines) => self.tell_exported(word, lines),
             Finding::Commanded => self.tell_commanded(word, name),
-            Finding::Aliased(lines) => self.tell_aliased(word, lines),
+            Finding::Aliased(lines) => self.tell_aliased(word, false, lines),
             Finding::BuiltIn => self.tell_built_in(word, name, b""),
-            Finding::AliasedBuiltIn(lines) => self.tell_aliased_built_in(word, lines),
+            Finding::AliasedBuiltIn(lines) => self.tell_aliased(word, true, lines),
             Finding::Nothing => {
                 let what = Saying::of(b"no module, alias or built-in has this name");
-                self.told.say(word, what, Spot::Nowhere)
+                self.say(word, what, Spot::Nowhere)
             }
         }
     }
 
+    /// Tells why a word stands for modules, which are answered.
+    pub(crate) fn tell_word(&mut self, word: &[u8]) -> Result<Vec<Object>, AllocError> {
+        let Some(name) = normal_alias(self.alloc, word)? else {
+            let what = Saying::of(b"no name, since a bracket stands alone");
+            self.say(word, what, Spot::Nowhere)?;
+            return Ok(Vec::new(self.alloc));
+        };
+        self.tell_name(word, name.as_bytes())
+    }
+
+    /// Tells why a word, whose normal form is a name, stands for modules, which are answered.
+    fn tell_name(&mut self, word: &[u8], name: &[u8]) -> Result<Vec<Object>, AllocError> {
+        let finding = find_name(self.alloc, &self.known.world, name)?;
+        self.tell_finding(word, name, &finding)?;
+        finding.objects(self.alloc, name)
+    }
+
     /// Tells modules whose names are near a file's or another name.
     fn tell_near_names(&mut self, word: &[u8], name: &[u8]) -> Result<(), AllocError> {
-        let index = self.world.index;
+        let index = self.known.world.index;
         let mut left = NEAR_NAMES;
         for line in index.dependencies().lines() {
             let own = line.name(self.alloc)?;
             let own = own.as_bytes();
             if left > 0 && (is_same(own, name) || is_near(own, name)) {
                 let spot = Spot::Line(DEPENDENCIES, line.number());
-                self.told
-                    .say(word, Saying::with_name(b"there is ", own), spot)?;
+                self.say(word, Saying::with_name(b"there is ", own), spot)?;
                 left -= 1;
             }
         }

@@ -1,7 +1,0 @@
-use Rattle.std.proofs.Common.{◌≡◌, map, take}
-use Rattle.kmod_query.specs.LookUp.{by_one_alias}
-use Rattle.kmod_explain.specs.Findings.{subject_of}
-use Rattle.kmod_explain.proofs.finding.by_lines.Given as goal
-
-abbrev pub invariant-lines : goal.invariant-lines
-invariant-lines l = map subject_of l.subjects.items ≡ map (λ line. by_one_alias l.alias l.builtin line.now.name) (take l.line-index l.lines)
