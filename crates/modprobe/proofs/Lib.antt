@@ -9,4 +9,6 @@ pub mod ServeLemmas
 pub mod TurnLemmas
 pub mod PlanLemmas
 pub mod ChangeLemmas
+pub mod LoadLemmas
+pub mod SettlingLemmas
 pub mod MemoryLemmas

@@ -6,6 +6,7 @@ pub mod Refusals
 pub mod Changes
 pub mod Plans
 pub mod Loads
+pub mod Settling
 pub mod Session
 pub mod Sections
 pub mod SetupInput

@@ -17,6 +17,7 @@ mod runs;
 mod section;
 mod service;
 mod session;
+mod settling;
 mod setup;
 mod unwatched;
 mod watch;

@@ -1,16 +1,17 @@
 //! What a request by a name needs: the modules that are found for it, and their plans.
-ghost use Rattle.std.specs.Prelude.{◌≡◌, ◌<◌, [], All, IfOk, filter, length, not};
+ghost use Rattle.std.specs.Prelude.{◌≡◌, ◌<◌, [], false, All, IfOk, filter, length, not, replicate};
 ghost use Rattle.text_parts.specs.Text.{texts_of};
 ghost use Rattle.load_plan.specs.Items.{Answers, plan_of, removal_plan_of};
 ghost use Rattle.modprobe.specs.Plans.{targets_of, items_of_plans, whole_plan};
 ghost use Rattle.modprobe.specs.Loads.{has_reached, is_there, load_plan, removal_plans_of, removal_plans};
+ghost use Rattle.modprobe.specs.Settling.{LoadsAs, PlansFor};
 
 use crate::removal::RemovalPlan;
 use crate::session::Session;
 use crate::setup::Setup;
 use dep_index::ModuleState;
 use dep_index::reads::{is_absent, is_live};
-use load_plan::{FindError, Item, PlanError, find, plan, removal_plan};
+use load_plan::{FindError, Item, PlanError, Planner, find};
 use seq_table::Modules;
 use std::alloc::{AllocError, Global};
 use text_parts::Name;
@@ -51,18 +52,32 @@ fn targets_of(alloc: Global, setup: &Setup, name: Name) -> Result<Vec<Name>, Pla
     }
 }
 
-/// The items of the plan of one module, each of a module of the catalogue.
-fn plan_of<'a>(
+/// What plans these modules. No module is settled.
+pub(crate) fn planner_of<'a>(
     alloc: Global,
     setup: &'a Setup,
+    targets: &[Name],
+) -> Result<Planner<'a>, AllocError>
+    ensures plans { IfOk result (PlansFor setup.now) }
+    ensures settled { IfOk result (λ planner. planner.settled ≡ replicate (length setup.now.catalogue) false) }
+{
+    Planner::new(alloc, targets, &setup.sources())
+}
+
+/// The items of the plan of one module, each of a module of the catalogue.
+pub(crate) fn plan_of<'a>(
+    alloc: Global,
+    setup: &Setup,
+    planner: &Planner<'a>,
     words: &[&'a [u8]],
     target: &Name,
 ) -> Result<Vec<Item<'a>>, PlanError>
+    requires { PlansFor setup.now planner.now }
     ensures items { Answers (λ items. items.items) result
         (plan_of setup.now.catalogue setup.now.dependencies setup.now.configuration target.now (texts_of words.now)) }
     ensures within { IfOk result (λ items. All (λ item. item.slot < length setup.now.catalogue) items.items) }
 {
-    plan(alloc, target.as_bytes(), words, &setup.sources())
+    planner.plan(alloc, target, words)
 }
 
 /// The items of the plans of these modules, in order, each with the words.
@@ -75,9 +90,10 @@ fn items_of_plans<'a>(
     ensures items { Answers (λ items. items.items) result (items_of_plans setup.now (texts_of words.now) [] targets.now) }
     ensures within { IfOk result (λ items. All (λ item. item.slot < length setup.now.catalogue) items.items) }
 {
+    let planner = planner_of(alloc, setup, targets)?;
     let mut items = Vec::new(alloc);
     for target in targets {
-        let mut more = plan_of(alloc, setup, words, target)?;
+        let mut more = plan_of(alloc, setup, &planner, words, target)?;
         items.append(&mut more)?;
     }
     Ok(items)
@@ -96,11 +112,17 @@ pub(crate) fn whole_plan<'a>(
 }
 
 /// The removal plan of one module, of modules of the catalogue.
-fn removal_plan_of(alloc: Global, setup: &Setup, target: &Name) -> Result<RemovalPlan, PlanError>
+fn removal_plan_of(
+    alloc: Global,
+    setup: &Setup,
+    planner: &Planner<'_>,
+    target: &Name,
+) -> Result<RemovalPlan, PlanError>
+    requires { PlansFor setup.now planner.now }
     ensures plan { Answers (λ plan. plan) result (removal_plan_of setup.now.catalogue setup.now.dependencies setup.now.configuration target.now) }
     ensures within { IfOk result (λ plan. All (λ slot. slot < length setup.now.catalogue) plan) }
 {
-    let order = removal_plan(alloc, target.as_bytes(), &setup.sources())?;
+    let order = planner.removal_plan(alloc, target)?;
     Ok(RemovalPlan::new(order))
 }
 
@@ -113,9 +135,10 @@ fn removal_plans_of(
     ensures plans { Answers (λ plans. plans.items) result (removal_plans_of setup.now [] targets.now) }
     ensures within { IfOk result (λ plans. All (λ plan. All (λ slot. slot < length setup.now.catalogue) plan) plans.items) }
 {
+    let planner = planner_of(alloc, setup, targets)?;
     let mut plans = Vec::new(alloc);
     for target in targets {
-        plans.push(removal_plan_of(alloc, setup, target)?)?;
+        plans.push(removal_plan_of(alloc, setup, &planner, target)?)?;
     }
     Ok(plans)
 }
@@ -150,7 +173,8 @@ impl<'s, 't, M: Modules> Session<'s, 't, M> {
         Ok(left)
     }
 
-    /// What is planned for a name and words: for each module that is found and not live.
+    /// What to load for a name and words: what is planned for each module that is found and not live, without plans of
+    /// modules that are all live by then.
     pub(crate) fn load_plan<'a>(
         &self,
         alloc: Global,
@@ -159,12 +183,13 @@ impl<'s, 't, M: Modules> Session<'s, 't, M> {
     ) -> Result<Vec<Item<'a>>, PlanError>
     where
         's: 'a,
-        ensures items { Answers (λ items. items.items) result (load_plan self.now.setup.now name (texts_of words.now) (M.table self.now.table.now)) }
+        ensures items { LoadsAs self.now.setup.now (M.table self.now.table.now) (λ items. items.items) result
+            (load_plan self.now.setup.now name (texts_of words.now) (M.table self.now.table.now)) }
         ensures within { IfOk result (λ items. All (λ item. item.slot < length self.now.setup.now.catalogue) items.items) }
     {
         let found = targets_of(alloc, self.setup, name)?;
         let targets = self.without_those_there(alloc, &found, Aim::Live)?;
-        items_of_plans(alloc, self.setup, words, &targets)
+        self.items_to_load(alloc, words, &targets)
     }
 
     /// The removal plans for a name: of each module that is found and not absent.
