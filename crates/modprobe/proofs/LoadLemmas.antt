@@ -5,16 +5,14 @@ use Rattle.std.specs.List.{list_all}
 use Rattle.std.proofs.Math.ListN.{set}
 use Rattle.dep_index.specs.declared.states.ModuleState.{ModuleState}
 use Rattle.dep_index.specs.declared.states.ModuleState.TheVariants.{Absent, Loading, Live}
-use Rattle.dep_index.specs.declared.calls.Call.{Call}
 use Rattle.dep_index.specs.declared.calls.Call.TheVariants.{BeginLoad, EndLoad}
 use Rattle.dep_index.specs.declared.calls.Reply.{Reply}
 use Rattle.dep_index.specs.declared.calls.Reply.TheVariants.{Done, Exists, UnknownSymbol, NotLoading}
 use Rattle.dep_index.specs.Table.{Module, Book, Table, module_at, state_of, is_absent, is_loading, is_live}
-use Rattle.dep_index.specs.Calls.{refuse, or_else, missing_need, first_missing, refusal, reply, next, effect}
-use Rattle.dep_index.specs.Catalogue.{Description, description_at, module_of, modules_of, needs_of, has_unknown_symbol}
+use Rattle.dep_index.specs.Calls.{refuse, or_else, missing_need, refusal, next, effect}
+use Rattle.dep_index.specs.Catalogue.{description_at, module_of, modules_of, needs_of, has_unknown_symbol}
 use Rattle.dep_index.proofs.SlotLemmas.{module_at-modules_of}
 use Rattle.dep_index.proofs.TableLaws.{absent_from}
-use Rattle.load_plan.specs.declared.items.Item.{Item}
 use Rattle.load_plan.specs.Parameters.{are_valid}
 use Rattle.modprobe.specs.declared.refusal.Code.TheVariants.{Einval}
 use Rattle.modprobe.specs.Setup.{Setup, name_at}

@@ -1,11 +1,10 @@
 -- Plans of modules that are all live by then load nothing.
-use Rattle.std.proofs.Common.{◌≡◌, ◌≢◌, ℕ, zero, suc, ◌+◌, ◌<◌, Bool, true, false, ◌&&◌, cond, List, [], ◌∷◌, ◌++◌, length, drop, take, get_or, set, replicate, length-set, get_or-set_same, get_or-set_other, Option, Some, None, Result, Ok, Err, refl, sym, ◌∙◌, ap, subst, inl, inr, ◌⊎◌, add-one, append_assoc, append-nil, arith}
+use Rattle.std.proofs.Common.{◌≡◌, ℕ, zero, suc, ◌+◌, ◌<◌, Bool, true, false, ◌&&◌, cond, List, [], ◌∷◌, ◌++◌, length, drop, take, get_or, set, replicate, length-set, get_or-set_other, Some, None, Result, Ok, Err, refl, sym, ◌∙◌, ap, subst, inl, inr, ◌⊎◌, add-one, append_assoc}
 use Rattle.std.proofs.Math.Seq.{drop-cons}
 use Rattle.std.proofs.lemmas.Bool.Decides.{eqb_tells}
 use Rattle.std.proofs.lemmas.List.{length-replicate, take_more}
 use Rattle.std.specs.List.{All, list_all}
 use Rattle.std.proofs.lemmas.List.Elements.{All-nil, All-cons, All-append, All-get_or, All-head, All-tail, All-take}
-use Rattle.dep_index.specs.declared.states.ModuleState.{ModuleState}
 use Rattle.dep_index.specs.Table.{Table, state_of, is_absent, is_live}
 use Rattle.dep_index.specs.Catalogue.{needs_of}
 use Rattle.load_plan.specs.declared.items.Item.{Item}
@@ -15,11 +14,10 @@ use Rattle.load_plan.specs.declared.sources.Sources.{Sources}
 use Rattle.load_plan.specs.Items.{FailsAs, plan_of, plan_from, removal_plan_of, removal_plan_from}
 use Rattle.load_plan.specs.Outlook.{Outlook, settled_at}
 use Rattle.modprobe.specs.Setup.{Setup}
-use Rattle.modprobe.specs.Refusals.{Refusal}
 use Rattle.modprobe.specs.Changes.{Change, ◌then◌, one_load}
 use Rattle.modprobe.specs.Loads.{without_refusal, item_load, loads, removal_plans_of}
 use Rattle.modprobe.specs.Plans.{◌>>=◌, items_of_plans}
-use Rattle.modprobe.specs.Settling.{AreIn, IsLoadable, IsSure, AreSure, PlansFor, Settling}
+use Rattle.modprobe.specs.Settling.{AreIn, IsSure, AreSure, PlansFor, Settling}
 use Rattle.modprobe.proofs.LoadLemmas.{OneSlot, AtRest, then_said, load_one, load_rest, load_live}
 
 -- what loads keep: who is live stays so, and who is at rest stays at rest

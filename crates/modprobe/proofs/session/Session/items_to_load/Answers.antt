@@ -1,10 +1,10 @@
-use Rattle.std.proofs.Common.{◌≡◌, ◌+◌, ◌++◌, drop, length, Ok, sym, ◌∙◌, subst}
+use Rattle.std.proofs.Common.{◌+◌, ◌++◌, drop, length, sym, ◌∙◌, subst}
 use Rattle.std.proofs.lemmas.List.{drop_all}
 use Rattle.std.proofs.lemmas.Result.{err_from_is_err_and}
 use Rattle.text_parts.specs.Text.{texts_of}
 use Rattle.load_plan.specs.Items.{FailsAs, plan_of}
 use Rattle.load_plan.specs.Outlook.{Outlook}
-use Rattle.modprobe.specs.Settling.{AreSure, PlansFor, Settling}
+use Rattle.modprobe.specs.Settling.{AreSure, Settling}
 use Rattle.modprobe.proofs.SettlingLemmas.{fails_next, plan_same, Settling-at, Settling-begin, Settling-end, Settling-plan, Settling-skip}
 use Rattle.modprobe.proofs.session.Session.items_to_load.Goals as goal
 

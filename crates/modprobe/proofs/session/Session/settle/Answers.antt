@@ -1,6 +1,5 @@
-use Rattle.std.proofs.Common.{◌≡◌, ◌++◌, length, take, refl, ◌∙◌, ap, subst, inl, inr}
+use Rattle.std.proofs.Common.{◌≡◌, ◌++◌, length, refl, ◌∙◌, ap, subst, inl, inr}
 use Rattle.std.proofs.lemmas.List.{take_all}
-use Rattle.load_plan.specs.declared.items.Item.{Item}
 use Rattle.modprobe.specs.Settling.{AreSure}
 use Rattle.modprobe.proofs.SlotLemmas.{modules_of_length}
 use Rattle.modprobe.proofs.SettlingLemmas.{plans_settle, sure_next}
