@@ -42,12 +42,43 @@ impl Worker for ManagedWorker<'_> {
         let _ = self.table.put(rt, &mut self.caller, self.number, slot);
     }
 
-    // In a function of its own the loop keeps its registers.
-    #[inline(never)]
     fn make_pairs<R: Wait>(&mut self, rt: &R, range: SlotRange, rounds: u64) {
-        for _ in 0..rounds {
-            self.make_round(rt, range);
-        }
+        make_pairs(rt, self.table, &mut self.caller, self.number, range, rounds);
+    }
+}
+
+// In a function of its own the loop keeps its registers.
+#[inline(never)]
+fn make_pairs<R: Wait>(
+    rt: &R,
+    table: &ManagedTable,
+    caller: &mut Caller,
+    worker: usize,
+    range: SlotRange,
+    rounds: u64,
+)
+    requires own { IsCallerOf table.now caller.old }
+    ensures own { IsCallerOf table.now caller.new }
+{
+    for _ in 0..rounds {
+        make_round(rt, table, caller, worker, range);
+    }
+}
+
+/// A reference to each is taken and given back.
+fn make_round<R: Wait>(
+    rt: &R,
+    table: &ManagedTable,
+    caller: &mut Caller,
+    worker: usize,
+    range: SlotRange,
+)
+    requires own { IsCallerOf table.now caller.old }
+    ensures own { IsCallerOf table.now caller.new }
+{
+    for slot in range.from..range.to {
+        let _ = table.get(rt, caller, worker, slot);
+        let _ = table.put(rt, caller, worker, slot);
     }
 }
 
@@ -59,18 +90,6 @@ impl<'a> ManagedWorker<'a> {
             caller,
             number,
         }
-    }
-
-    /// A reference to each is taken and given back.
-    fn make_round<R: Wait>(&mut self, rt: &R, range: SlotRange) {
-        for slot in range.from..range.to {
-            self.make_pair(rt, slot);
-        }
-    }
-
-    fn make_pair<R: Wait>(&mut self, rt: &R, slot: usize) {
-        let _ = self.table.get(rt, &mut self.caller, self.number, slot);
-        let _ = self.table.put(rt, &mut self.caller, self.number, slot);
     }
 
     /// Loads a module. Whether that was done.
