@@ -132,8 +132,10 @@ def first_commands(output, configuration):
     for kind in (b"install", b"remove"):
         lines = commands(configuration, kind)
         for name, command in lines:
-            # A name in brackets need not match itself.
-            first = next((it for pattern, it in lines if matches(pattern, name)), command)
-            if first != command:
+            first = next((it for pattern, it in lines if matches(pattern, name)), None)
+            if first is None:
+                # A name in brackets need not match itself: then no line counts.
+                output = re.sub(rb"^%b %b( .*)?\n" % (kind, re.escape(command)), b"", output, flags=re.M)
+            elif first != command:
                 output = output.replace(kind + b" " + command, kind + b" " + first)
     return output
