@@ -35,9 +35,14 @@ prove() {
   local crate=$1 status=0 words=(lib) arguments=()
   if [ -e "$top/crates/$crate/src/main.rt" ]; then words=(run) arguments=(-- --help); fi
   (cd "$top/crates/$crate" && rt "${words[@]}" ${RT_JOBS:+--jobs "$RT_JOBS"} "${arguments[@]}") >"$room/said" 2>&1 </dev/null || status=$?
-  [ $status = 0 ] && return
+  [ $status = 0 ] || refuse_unproved "$crate" $status
+}
+
+# Ends with what a status of rt or rattle says of a crate.
+refuse_unproved() {
+  local crate=$1 status=$2
   cat "$room/said" >&2
-  # rt says 1 of what is not proved. From 129 on a signal has ended it, or the prover below it.
+  # 1 is of what is not proved. From 129 on a signal has ended rt, or the prover below it.
   case $status in
   1) refuse "$crate is not proved, or does not build: nothing was installed" ;;
   129 | 1[3-9]? | 2??) refuse "the proof of $crate was killed, most likely for memory, which says nothing of $crate:" \
@@ -57,4 +62,29 @@ prove_with_those_below() {
     # (rt says nothing of a crate that was proved before)
     case " $* " in *" $crate "*) grep -oE '^logic=[a-z-]+' "$room/said" >&2 || true ;; esac
   done
+}
+
+# Builds a crate's static library over the libraries below it that the gate left in out/, and proves that crate alone. The
+# compiler is called by itself, since rt would prove those below once more. Each crate uses std without a word of crates.txt.
+build_over_gate() {
+  local crate=$1 name status=0 words=()
+  for name in $(with_those_below "$crate"); do
+    [ "$name" != "$crate" ] || continue
+    [ -e "$top/crates/$name/out/rlib/$name.rlib/format" ] || refuse "crates/$name/out has no library: leave out --built, and it is made"
+    words+=(-L "dependency=$top/crates/$name/out/rlib")
+  done
+  for name in std $(awk -F: -v crate="$crate" '{ split($1, head, " ") } head[1] == crate { print $2 }' "$top/crates.txt"); do
+    if [ -d "$top/crates/$name" ]; then
+      words+=(--extern "$name=$top/crates/$name/out/rlib/$name.rlib")
+    else
+      words+=(--extern "$name=$kit/rlibs/$name.rlib")
+    fi
+  done
+  mkdir -p "$top/crates/$crate/out"
+  echo "crate $crate, over what the gate left" >&2
+  (cd "$top/crates/$crate" && "$kit/bin/rattle" build --crate-name "$crate" --crate-type staticlib src/lib.rt "${words[@]}" \
+    -L "dependency=$kit/rlibs" --antt-project "$kit/rattle/logic/antt-project.json" --logic-built "$kit/logic_built" \
+    --backend llvm --toolchain "$kit/toolchain" -o "out/lib$crate.a") >"$room/said" 2>&1 </dev/null || status=$?
+  [ $status = 0 ] || refuse_unproved "$crate" $status
+  grep -oE '^logic=[a-z-]+' "$room/said" >&2 || true
 }
