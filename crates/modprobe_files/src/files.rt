@@ -4,19 +4,20 @@ ghost use Rattle.std.specs.List.{position_or_len};
 ghost use Rattle.modprobe_words.specs.Variable.{bytes_of};
 ghost use Rattle.modprobe_files.specs.Files.{candidates, counted_files, file_in, file_of, files_of, folder, has_name, is_before, source_of, sources_of, with_file};
 
+use crate::host::joined;
 use program_frame::counts;
 use std::alloc::{AllocError, Global};
 use text_parts::is_same;
 
 /// A file, and the name by which it stands for others of this name.
-#[derive(Debug, Drop)]
+#[derive(Drop)]
 pub struct File {
     pub name: Vec<u8>,
     pub path: Vec<u8>,
 }
 
 /// Where files of a configuration are.
-#[derive(Debug, Drop)]
+#[derive(Drop)]
 pub enum Source {
     /// A file of its own, by its name and its path.
     Single(Vec<u8>, Vec<u8>),
@@ -62,12 +63,9 @@ fn add_file(files: &mut Vec<File>, file: File) -> Result<(), AllocError>
 pub(crate) fn file_in(alloc: Global, path: &[u8], name: &[u8]) -> Result<File, AllocError>
     ensures { IfOk result (λ file. file_of file ≡ file_in path.now name.now) }
 {
-    let mut own = Vec::from_slice(alloc, path)?;
-    own.push(b'/')?;
-    own.extend_from_slice(name)?;
     Ok(File {
         name: Vec::from_slice(alloc, name)?,
-        path: own,
+        path: joined(alloc, path, b"/", name)?,
     })
 }
 

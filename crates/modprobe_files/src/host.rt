@@ -16,7 +16,7 @@ pub struct Host<'a, R> {
 }
 
 /// What a path leads to.
-#[derive(Clone, Copy, Debug, PartialEq, Eq)]
+#[derive(Clone, Copy, PartialEq, Eq)]
 pub enum Kind {
     Nothing,
     Folder,
