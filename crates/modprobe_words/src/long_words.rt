@@ -8,14 +8,14 @@ use crate::items::{Asker, Fault, Item, Waiting};
 use crate::options::{LongOption, Meaning};
 
 /// What a long word says, or the option whose value is the next word.
-#[derive(Clone, Copy, Debug, Drop)]
+#[derive(Clone, Copy, Drop)]
 pub(crate) enum Step<'a> {
     Ready(Item<'a>),
     Waits(Waiting),
 }
 
 /// What stands before the first `=`.
-fn name_part(text: &[u8]) -> &[u8]
+pub(crate) fn name_part(text: &[u8]) -> &[u8]
     ensures { result.now ≡ name_part text.entry.now }
 {
     for (at, byte) in text.iter().enumerate() {

@@ -3,7 +3,7 @@
 use std::io::Write;
 
 /// How grave a message is.
-#[derive(Clone, Copy, Debug, Drop)]
+#[derive(Clone, Copy, Drop)]
 pub enum Level {
     Fatal,
     Error,

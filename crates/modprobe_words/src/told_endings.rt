@@ -5,21 +5,14 @@ use crate::endings::Ending;
 use crate::found::{is_alike, is_near};
 use crate::help::{HELP, VERSION};
 use crate::items::Fault;
+use crate::long_words::name_part;
 use crate::messages::{tell_line, write_parts};
 use crate::options::{LONG_OPTIONS, LongOption};
 use std::io::Write;
 
-/// What stands before the `=` of a long word.
-fn name_of(text: &[u8]) -> &[u8] {
-    match text.iter().position(|byte| *byte == b'=') {
-        Some(at) => &text[..at],
-        None => text,
-    }
-}
-
 /// Tells the options that a word may stand for: the first, and those that mean another thing.
 fn tell_possibilities<E: Write>(text: &[u8], errors: &mut E) {
-    let word = name_of(text);
+    let word = name_part(text);
     let mut first: Option<LongOption> = None;
     for option in LONG_OPTIONS.iter() {
         if !is_near(word, *option) {
@@ -75,21 +68,16 @@ fn tell_fault<E: Write>(fault: Fault<'_>, errors: &mut E) {
     }
 }
 
-/// Whether the version was written.
-fn writes_version<O: Write>(output: &mut O) -> bool {
-    output.write_all(VERSION.as_bytes()).is_ok()
-}
-
-/// Whether the help was written.
-fn writes_help<O: Write>(output: &mut O) -> bool {
-    output.write_all(HELP.as_bytes()).is_ok()
+/// Whether a text was written.
+fn writes<O: Write>(output: &mut O, text: &str) -> bool {
+    output.write_all(text.as_bytes()).is_ok()
 }
 
 /// Tells what a word asks for that ends the program, or why it is refused. Whether all went well is answered.
 fn tell_ending<O: Write, E: Write>(ending: Ending<'_>, output: &mut O, errors: &mut E) -> bool {
     match ending {
-        Ending::Version => writes_version(output),
-        Ending::Help => writes_help(output),
+        Ending::Version => writes(output, VERSION),
+        Ending::Help => writes(output, HELP),
         Ending::BadWait(text) => {
             tell_line(errors, b"ERROR: unexpected wait value '", text, b"'.");
             false

@@ -6,14 +6,14 @@ use std::alloc::{AllocError, Global};
 use std::mem;
 
 /// A quote that is open, with what stands behind it.
-#[derive(Debug, Drop)]
+#[derive(Drop)]
 enum Quote {
     Closed,
     Opened(u8, Vec<u8>),
 }
 
 /// The words that were read, and what is read of the next one.
-#[derive(Debug, Drop)]
+#[derive(Drop)]
 struct Reading {
     words: Vec<Vec<u8>>,
     word: Vec<u8>,
