@@ -1,7 +1,7 @@
 -- What is found by a hash, and the others that match, are all that match.
-use Rattle.std.proofs.Common.{◌≡◌, ◌≤◌, ◌<◌, ℕ, zero, suc, ◌+◌, Bool, true, false, not, ◌&&◌, ◌||◌, ◌==◌, List, [], ◌∷◌, ◌++◌, length, slice_get, Some, Vec, Result, Ok, Err, IfOk, refl, sym, ◌∙◌, ap, subst, arith, inl, inr}
+use Rattle.std.proofs.Common.{◌≡◌, ◌≤◌, ◌<◌, ℕ, zero, suc, ◌+◌, Bool, true, false, not, ◌&&◌, ◌||◌, ◌==◌, List, [], ◌∷◌, ◌++◌, cond, length, slice_get, Some, Vec, Result, Ok, Err, IfOk, refl, sym, ◌∙◌, ap, subst, arith, inl, inr}
 use Rattle.std.specs.Global.{Global}
-use Rattle.std.specs.List.{filter_map, list_any}
+use Rattle.std.specs.List.{filter_map, list_any, position_from}
 use Rattle.std.specs.Str.{bytes_eq}
 use Rattle.std.specs.declared.alloc.AllocError.{AllocError}
 use Rattle.std.proofs.Math.Dec.{eqb-suc-zero}
@@ -11,13 +11,13 @@ use Rattle.std.proofs.lemmas.Slice.Eq.{bytes_eq-Decides}
 use Rattle.alias_match.specs.declared.alias.Alias.{Alias}
 use Rattle.alias_match.specs.Aliases.{matching_places, places_where}
 use Rattle.alias_match.specs.Pattern.{is_match}
-use Rattle.kmod_names.specs.Patterns.{IsReadAs, matches_pattern, pattern_places}
+use Rattle.kmod_names.specs.Patterns.{IsReadAs, matches_pattern, pattern_places, place_named}
 use Rattle.kmod_names.specs.Places.{merged, places_in, with_place}
 use Rattle.kmod_names.specs.ForProofs.{FindsEach, is_literal, is_named, is_other}
 use Rattle.kmod_names.proofs.KeyLemmas.{places_in-with_place}
 use Rattle.kmod_names.proofs.LiteralLemmas.{either_way}
 use Rattle.kmod_names.proofs.MergeLemmas.{merged-places}
-use Rattle.kmod_names.proofs.PlaceLemmas.{told, place_if, places_where-push}
+use Rattle.kmod_names.proofs.PlaceLemmas.{told, first_place, place_if, places_where-push}
 
 places_where-same : {X : Type 0} (p q : X → Bool) → ((x : X) → p x ≡ q x) → (k : ℕ) (xs : List X) → places_where p k xs ≡ places_where q k xs
 places_where-same p q h k [] = refl
@@ -142,3 +142,17 @@ pub has_literal : (patterns : List (List ℕ)) (literals : List (List ℕ × Lis
     → not (length places == 0) ≡ list_any (λ own. bytes_eq own name) patterns
 has_literal patterns literals others other_places name places h literal is =
     ap (λ l. not (length l == 0)) (is ∙ h.named name) ∙ some_named name 0 patterns literal
+
+position_from-same : {X : Type 0} (p q : X → Bool) → ((x : X) → p x ≡ q x) → (k : ℕ) (xs : List X) → position_from p k xs ≡ position_from q k xs
+position_from-same p q h k [] = refl
+position_from-same p q h k (x ∷ xs) = rw (h x) (ap (cond (q x) (Some k)) (position_from-same p q h (k + 1) xs))
+
+-- the first place of a literal text is that of the first pattern that is that text
+pub literal_place : (patterns inside : List (List ℕ)) (literals : List (List ℕ × List ℕ)) (others : List Alias) (other_places name places : List ℕ)
+    → FindsEach inside literals others other_places → is_literal name ≡ true → places ≡ places_in literals name → inside ≡ patterns
+    → slice_get places 0 ≡ place_named patterns name
+literal_place patterns inside literals others other_places name places h literal is all =
+    ap (λ l. slice_get l 0) (is ∙ h.named name)
+    ∙ first_place (is_named name) 0 inside
+    ∙ position_from-same (is_named name) (λ own. bytes_eq own name) (λ own. own_literal name own literal) 0 inside
+    ∙ ap (λ l. place_named l name) all

@@ -1,6 +1,7 @@
 -- Patterns by their texts, after fnmatch(3).
 use Rattle.std.specs.Prelude.{◌≡◌, ℕ, Bool, false, List, Option, Result, Ok, Err}
 use Rattle.std.specs.List.{position_from}
+use Rattle.std.specs.Str.{bytes_eq}
 use Rattle.alias_match.specs.declared.read.PatternError.{PatternError}
 use Rattle.alias_match.specs.Aliases.{places_where}
 use Rattle.alias_match.specs.Pattern.{Piece, is_match}
@@ -21,6 +22,10 @@ pattern_places patterns text = places_where (λ pattern. matches_pattern pattern
 -- the place of the first that matches
 abbrev pub first_pattern : List (List ℕ) → List ℕ → Option ℕ
 first_pattern patterns text = position_from (λ pattern. matches_pattern pattern text) 0 patterns
+
+-- the place of the first that is just this text, not as a pattern
+abbrev pub place_named : List (List ℕ) → List ℕ → Option ℕ
+place_named patterns text = position_from (λ pattern. bytes_eq pattern text) 0 patterns
 
 -- a pattern of these pieces matches as the text does
 abbrev pub IsReadAs : List ℕ → List Piece → Type 0

@@ -4,7 +4,7 @@ ghost use Rattle.std.specs.List.{filter_map, list_any};
 ghost use Rattle.std.specs.Result.{result_ok};
 ghost use Rattle.std.specs.Str.{bytes_eq};
 ghost use Rattle.alias_match.specs.Reading.{pattern_of};
-ghost use Rattle.kmod_names.specs.Patterns.{IsReadAs, MatchesNothing, first_pattern, matches_pattern, pattern_places};
+ghost use Rattle.kmod_names.specs.Patterns.{IsReadAs, MatchesNothing, first_pattern, matches_pattern, pattern_places, place_named};
 ghost use Rattle.kmod_names.specs.ForProofs.{is_literal, is_special};
 
 use crate::key_places::{KeyPlaces, merged};
@@ -179,6 +179,19 @@ impl PatternList {
             self.patterns
                 .iter()
                 .any(|own| is_same(own.as_bytes(), pattern))
+        }
+    }
+
+    /// The place, from 0, of the first pattern that has just this text.
+    pub fn place_named(&self, pattern: &[u8]) -> Option<usize>
+        ensures { result ≡ place_named self.now pattern.now }
+    {
+        if is_literal(pattern) {
+            self.literals.of(pattern).first().copied()
+        } else {
+            self.patterns
+                .iter()
+                .position(|own| is_same(own.as_bytes(), pattern))
         }
     }
 
