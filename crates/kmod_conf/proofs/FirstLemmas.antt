@@ -2,7 +2,7 @@
 use Rattle.std.proofs.Common.{◌≡◌, ℕ, Bool, ◌||◌, List, [], ◌∷◌, map, Option, refl, ◌∙◌, ap}
 use Rattle.std.specs.List.{find, list_any}
 use Rattle.std.specs.Str.{bytes_eq}
-use Rattle.kmod_names.specs.Patterns.{first_pattern, matches_pattern}
+use Rattle.kmod_names.specs.Patterns.{first_pattern, matches_pattern, place_named}
 use Rattle.kmod_names.proofs.PlaceLemmas.{at_first, at_place}
 
 pub first_found : {X : Type 0} (f : X → List ℕ) (inside lines : List X) (names : List (List ℕ)) (name : List ℕ) (found : Option ℕ)
@@ -11,6 +11,14 @@ first_found f inside lines names name found h same all =
     ap (at_place inside) (h ∙ ap (λ l. first_pattern l name) same)
     ∙ at_first f (λ pattern. matches_pattern pattern name) inside
     ∙ ap (find (λ x. matches_pattern (f x) name)) all
+
+-- and the line at the place of the first name that is a text is the first that has it
+pub named_found : {X : Type 0} (f : X → List ℕ) (inside lines : List X) (names : List (List ℕ)) (name : List ℕ) (found : Option ℕ)
+    → found ≡ place_named names name → names ≡ map f inside → inside ≡ lines → at_place inside found ≡ find (λ x. bytes_eq (f x) name) lines
+named_found f inside lines names name found h same all =
+    ap (at_place inside) (h ∙ ap (λ l. place_named l name) same)
+    ∙ at_first f (λ own. bytes_eq own name) inside
+    ∙ ap (find (λ x. bytes_eq (f x) name)) all
 
 any-map : {X Y : Type 0} (f : X → Y) (p : Y → Bool) (xs : List X) → list_any p (map f xs) ≡ list_any (λ x. p (f x)) xs
 any-map f p [] = refl

@@ -30,6 +30,16 @@ first_softdep lines name = find (λ line. matches_pattern line.name name) lines
 abbrev pub softdep_of : Configuration → List ℕ → Option SoftdepLine
 softdep_of conf name = first_softdep conf.softdeps name
 
+-- the first line that has just this name, not as a pattern
+abbrev pub line_named : List TextLine → List ℕ → Option TextLine
+line_named lines name = find (λ line. bytes_eq line.name name) lines
+
+abbrev pub install_named : Configuration → List ℕ → Option TextLine
+install_named conf name = line_named conf.installs name
+
+abbrev pub remove_named : Configuration → List ℕ → Option TextLine
+remove_named conf name = line_named conf.removes name
+
 -- whether some line has just this name
 abbrev pub has_named : List TextLine → List ℕ → Bool
 has_named lines name = list_any (λ line. bytes_eq line.name name) lines

@@ -1,6 +1,6 @@
 //! The lines of commands, and the first that concerns a module.
 ghost use Rattle.std.specs.Prelude.{◌≡◌, ◌∷◌, ◌++◌, [], IfOk, OnOk, OnErr, option_copied, slice_get};
-ghost use Rattle.kmod_conf.specs.LookUps.{first_line, has_named};
+ghost use Rattle.kmod_conf.specs.LookUps.{first_line, has_named, line_named};
 
 use crate::line::TextLine;
 use kmod_names::PatternList;
@@ -66,6 +66,16 @@ impl CommandList {
         match self.names.first(alloc, name)? {
             Some(place) => Ok(line_at(&self.lines, place)),
             None => Ok(None),
+        }
+    }
+
+    /// The first line that has just this name.
+    pub(crate) fn named(&self, name: &[u8]) -> Option<&TextLine>
+        ensures { option_copied result ≡ line_named self.now name.now }
+    {
+        match self.names.place_named(name) {
+            Some(place) => line_at(&self.lines, place),
+            None => None,
         }
     }
 

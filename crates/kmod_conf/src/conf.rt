@@ -1,8 +1,8 @@
 //! A whole configuration.
 ghost use Rattle.std.specs.Prelude.{◌≡◌, ◌∷◌, ◌++◌, [], map, option_map, option_copied, IfOk, OnOk};
 ghost use Rattle.kmod_conf.specs.Configuration.{conf_with_text, no_lines, place_in, with_entry};
-ghost use Rattle.kmod_conf.specs.LookUps.{has_install_named, has_remove_named, install_of, is_blacklisted, matching_aliases};
-ghost use Rattle.kmod_conf.specs.LookUps.{options_of, remove_of, softdep_of};
+ghost use Rattle.kmod_conf.specs.LookUps.{has_install_named, has_remove_named, install_named, install_of, is_blacklisted, matching_aliases};
+ghost use Rattle.kmod_conf.specs.LookUps.{options_of, remove_named, remove_of, softdep_of};
 
 use crate::command_list::CommandList;
 use crate::entry::Entry;
@@ -194,6 +194,20 @@ impl Conf {
         ensures { result ≡ is_blacklisted self.now name.now }
     {
         self.blacklist.has(name)
+    }
+
+    /// The first install line that has just this name, not as a pattern.
+    pub fn install_named(&self, name: &[u8]) -> Option<&TextLine>
+        ensures { option_copied result ≡ install_named self.now name.now }
+    {
+        self.installs.named(name)
+    }
+
+    /// The first remove line that has just this name, not as a pattern.
+    pub fn remove_named(&self, name: &[u8]) -> Option<&TextLine>
+        ensures { option_copied result ≡ remove_named self.now name.now }
+    {
+        self.removes.named(name)
     }
 
     /// Whether an install line has just this name.
