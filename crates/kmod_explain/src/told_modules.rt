@@ -5,7 +5,7 @@ use crate::told::{Saying, Spot, Told};
 use crate::told_words::DEPENDENCIES;
 use kmod_conf::TextLine;
 use kmod_names::{Place, Text};
-use kmod_query::{Ask, ModuleStatus};
+use kmod_query::{Ask, ModuleStatus, install_line, remove_line};
 use std::alloc::AllocError;
 use text_parts::is_same;
 
@@ -161,18 +161,26 @@ impl Told<'_> {
     }
 
     /// Tells the install lines of a module; why the one that counts is passed over, where it is.
-    fn tell_install(&mut self, name: &[u8], why: &[u8]) -> Result<(), AllocError> {
-        let conf = self.known.world.conf;
-        let line = conf.install_of(self.alloc, name)?;
+    fn tell_install(
+        &mut self,
+        name: &[u8],
+        alias: Option<&[u8]>,
+        why: &[u8],
+    ) -> Result<(), AllocError> {
+        let line = install_line(self.alloc, &self.known.world, name, alias)?;
         self.tell_command(name, b"install ", line, why)?;
         let others = self.known.named.installs.places(self.alloc, name)?;
         self.tell_later(name, b"install", line.map(|line| line.place), &others)
     }
 
     /// Tells the remove lines of a module; why the one that counts is passed over, where it is.
-    fn tell_remove(&mut self, name: &[u8], why: &[u8]) -> Result<(), AllocError> {
-        let conf = self.known.world.conf;
-        let line = conf.remove_of(self.alloc, name)?;
+    fn tell_remove(
+        &mut self,
+        name: &[u8],
+        alias: Option<&[u8]>,
+        why: &[u8],
+    ) -> Result<(), AllocError> {
+        let line = remove_line(self.alloc, &self.known.world, name, alias)?;
         self.tell_command(name, b"remove ", line, why)?;
         let others = self.known.named.removes.places(self.alloc, name)?;
         self.tell_later(name, b"remove", line.map(|line| line.place), &others)
@@ -196,7 +204,7 @@ impl Told<'_> {
             (false, true) => b", passed over since it has soft items",
             (false, false) => b"",
         };
-        self.tell_install(name, why)
+        self.tell_install(name, alias, why)
     }
 
     /// Tells how many use a module.
@@ -212,7 +220,12 @@ impl Told<'_> {
     }
 
     /// Tells what counts for a removal of a module.
-    fn tell_removed(&mut self, tasks: &mut Tasks, name: &[u8]) -> Result<(), AllocError> {
+    fn tell_removed(
+        &mut self,
+        tasks: &mut Tasks,
+        name: &[u8],
+        alias: Option<&[u8]>,
+    ) -> Result<(), AllocError> {
         let is_bare = self.known.query.ignore_commands;
         if let Some(status) = self.known.world.states.of(name) {
             self.tell_users(name, status)?;
@@ -221,7 +234,7 @@ impl Told<'_> {
             let _ = self.tell_softdep(tasks, name)?;
         }
         let why: &[u8] = if is_bare { b", passed over by -i" } else { b"" };
-        self.tell_remove(name, why)
+        self.tell_remove(name, alias, why)
     }
 
     /// Tells the lines of a module that count, and those of its name that do not.
@@ -233,7 +246,7 @@ impl Told<'_> {
         is_bare: bool,
     ) -> Result<(), AllocError> {
         match self.known.query.ask {
-            Ask::Remove | Ask::ShowRemoval => self.tell_removed(tasks, name),
+            Ask::Remove | Ask::ShowRemoval => self.tell_removed(tasks, name, alias),
             _ => self.tell_loaded(tasks, name, alias, is_bare),
         }
     }

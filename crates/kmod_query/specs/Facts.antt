@@ -26,6 +26,9 @@ pub record Facts : Type 0 where
   -- the command of the first install line, and of the first remove line, whose name matches
   pub install : List ℕ → Option (List ℕ)
   pub remove : List ℕ → Option (List ℕ)
+  -- the command of the first install line, and of the first remove line, that has this very name
+  pub install_named : List ℕ → Option (List ℕ)
+  pub remove_named : List ℕ → Option (List ℕ)
   -- the texts of the options lines of a module or of the alias by which it came
   pub options : List ℕ → Option (List ℕ) → List (List ℕ)
   pub is_blacklisted : List ℕ → Bool

@@ -5,6 +5,7 @@ pub mod Objects
 pub mod LookUp
 pub mod Probes
 pub mod Stacks
+pub mod Commands
 pub mod Lines
 pub mod Loading
 pub mod Removal

@@ -4,6 +4,7 @@ use Rattle.std.specs.List.{list_any, position_or_len}
 use Rattle.kmod_query.specs.declared.states.ModuleState.{ModuleState}
 use Rattle.kmod_query.specs.declared.states.ModuleState.TheVariants.{Live, Coming, Going, Other, Folder}
 use Rattle.kmod_query.specs.declared.states.ModuleStatus.{ModuleStatus}
+use Rattle.kmod_query.specs.Commands.{install_of}
 use Rattle.kmod_query.specs.Facts.{Facts}
 use Rattle.kmod_query.specs.Objects.{Object, is_same}
 use Rattle.kmod_query.specs.Probes.{before_of, after_of}
@@ -73,7 +74,7 @@ abbrev pub is_commandless : Facts → Bool → Object → Object → Bool
 is_commandless facts bare top object = (bare && is_same object top) || has_soft_items facts object.name
 
 abbrev pub command_of : Facts → Bool → Object → Object → Option (List ℕ)
-command_of facts bare top object = if is_commandless facts bare top object then None else facts.install object.name
+command_of facts bare top object = if is_commandless facts bare top object then None else install_of facts object.name object.alias
 
 abbrev pub line : List ℕ → List ℕ → List ℕ → List ℕ
 line verb what options = verb ++ what ++ (32 ∷ options) ++ (10 ∷ [])

@@ -12,6 +12,7 @@ use Rattle.kmod_query.specs.declared.states.ModuleState.{ModuleState}
 use Rattle.kmod_query.specs.declared.states.ModuleState.TheVariants.{Live, Coming, Going, Other, Folder}
 use Rattle.kmod_query.specs.declared.states.ModuleStatus.{ModuleStatus}
 use Rattle.kmod_query.specs.Answers.{Answer, nothing, said, failing, noted, silent_failure, and_also, and_then}
+use Rattle.kmod_query.specs.Commands.{remove_of}
 use Rattle.kmod_query.specs.Facts.{Facts}
 use Rattle.kmod_query.specs.Objects.{Object}
 use Rattle.kmod_query.specs.LookUp.{found}
@@ -43,8 +44,8 @@ abbrev pub is_fatal : Query → Bool
 is_fatal query = not query.all && nat_le 2 query.verbosity
 
 -- under --ignore-remove neither remove lines nor soft items count
-abbrev pub removal_command : Facts → Query → List ℕ → Option (List ℕ)
-removal_command facts query name = if query.ignore_commands then None else facts.remove name
+abbrev pub removal_command : Facts → Query → Object → Option (List ℕ)
+removal_command facts query object = if query.ignore_commands then None else remove_of facts object.name object.alias
 
 abbrev pub removed_before : Facts → Query → List ℕ → List Object
 removed_before facts query name = if query.ignore_commands then [] else after_of facts name
@@ -53,8 +54,8 @@ abbrev pub removed_after : Facts → Query → List ℕ → List Object
 removed_after facts query name = if query.ignore_commands then [] else before_of facts name
 
 -- states and users count where no command removes the module
-abbrev pub counts_state : Facts → Query → List ℕ → Bool
-counts_state facts query name = not (is_some (removal_command facts query name)) && is_remove query.ask
+abbrev pub counts_state : Facts → Query → Object → Bool
+counts_state facts query object = not (is_some (removal_command facts query object)) && is_remove query.ask
 
 abbrev pub is_unknown_state : ModuleState → Bool
 is_unknown_state Live = false
@@ -98,12 +99,12 @@ builtin_verdict soft object = if soft then pass else refuse (Builtin object.name
 -- a built-in module is passed over where it is a soft item
 abbrev pub verdict : Facts → Query → Bool → Object → Verdict
 verdict facts query soft object =
-    if not (counts_state facts query object.name) then remove
+    if not (counts_state facts query object) then remove
     else (if is_built_in facts object then builtin_verdict soft object
     else (if is_absent (facts.status object.name) then absent_verdict query object else remove))
 
 abbrev pub is_in_use : Facts → Query → Object → Bool
-is_in_use facts query object = counts_state facts query object.name && has_users (facts.status object.name)
+is_in_use facts query object = counts_state facts query object && has_users (facts.status object.name)
 
 abbrev pub option_mark : List ℕ
 option_mark = codes "$CMDLINE_OPTS"
@@ -132,7 +133,7 @@ removal_lines_by facts object None = rmmod_line object.name ++ flat_map (unused_
 
 abbrev pub removal_lines : Facts → Query → Object → List ℕ
 removal_lines facts query object =
-    if shows_removal query then removal_lines_by facts object (removal_command facts query object.name) else []
+    if shows_removal query then removal_lines_by facts object (removal_command facts query object) else []
 
 -- What is to be done, one task after another: take an object, which is a soft item or not, let it go once its soft
 -- items after it are gone, or leave the way.

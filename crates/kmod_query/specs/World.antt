@@ -4,7 +4,7 @@ use Rattle.kmod_names.specs.declared.alias_table.AliasEntry.{AliasEntry}
 use Rattle.kmod_names.specs.Names.{normal_alias}
 use Rattle.kmod_conf.specs.declared.line.SoftdepLine.{SoftdepLine}
 use Rattle.kmod_conf.specs.declared.line.TextLine.{TextLine}
-use Rattle.kmod_conf.specs.LookUps.{has_install_named, has_remove_named, install_of, is_blacklisted, matching_aliases, options_of, remove_of, softdep_of}
+use Rattle.kmod_conf.specs.LookUps.{has_install_named, has_remove_named, install_named, install_of, is_blacklisted, matching_aliases, options_of, remove_named, remove_of, softdep_of}
 use Rattle.kmod_index.specs.Builtins.{is_among}
 use Rattle.kmod_index.specs.Dependencies.{hard_needs, line_of}
 use Rattle.kmod_index.specs.Lines.{Keyed, lines_of_key}
@@ -50,6 +50,8 @@ facts_of world =
       post = λ name. post_of (softdep_of world.conf.now name);
       install = λ name. option_map text_of (install_of world.conf.now name);
       remove = λ name. option_map text_of (remove_of world.conf.now name);
+      install_named = λ name. option_map text_of (install_named world.conf.now name);
+      remove_named = λ name. option_map text_of (remove_named world.conf.now name);
       options = λ name alias. map text_of (options_of world.conf.now name alias);
       is_blacklisted = is_blacklisted world.conf.now;
       path = λ name. option_map (λ line. file_of world.directory.now line.path) (line_of world.index.now.dependencies name);

@@ -3,6 +3,7 @@
 
 mod answer;
 mod answering;
+mod commands;
 mod finding;
 mod fronts;
 mod groups;
@@ -27,6 +28,7 @@ mod world;
 
 pub use answer::{Answer, Failure};
 pub use answering::answer_to;
+pub use commands::{install_line, remove_line};
 pub use finding::Finding;
 pub use laws::{
     blacklisted_modules_are_not_loaded, hard_needs_come_first, names_are_answered_in_turn,

@@ -6,10 +6,11 @@ ghost use Rattle.kmod_query.specs.Lines.{is_live_state, line, line_by, load_line
 ghost use Rattle.kmod_query.specs.Objects.{alias_of, object_of};
 ghost use Rattle.kmod_query.specs.World.{facts_of};
 
+use crate::commands::install_of;
 use crate::object::Object;
 use crate::parameters::{join, push_joined};
 use crate::states::{ModuleState, ModuleStatus};
-use crate::world::{World, install_of, is_builtin, options_of, path_of, status_of};
+use crate::world::{World, is_builtin, options_of, path_of, status_of};
 use std::alloc::{AllocError, Global};
 
 /// The options of an object, and the parameters behind them.
@@ -83,7 +84,7 @@ fn command_of<'a>(
     if is_commandless(bare, top, object, has_soft) {
         return Ok(None);
     }
-    install_of(alloc, world, &object.name)
+    install_of(alloc, world, object)
 }
 
 pub(crate) fn line(

@@ -9,11 +9,12 @@ ghost use Rattle.kmod_query.specs.Verdicts.{verdict_of};
 ghost use Rattle.kmod_query.specs.World.{facts_of};
 
 use crate::answer::Failure;
+use crate::commands::remove_of;
 use crate::lines::is_built_in;
 use crate::object::Object;
 use crate::query::{Ask, Query};
 use crate::states::{ModuleState, ModuleStatus};
-use crate::world::{World, remove_of, status_of};
+use crate::world::{World, status_of};
 use kmod_names::Text;
 use std::alloc::{AllocError, Global};
 
@@ -68,14 +69,14 @@ pub(crate) fn removal_command<'a>(
     alloc: Global,
     world: &World<'a>,
     query: &Query,
-    name: &[u8],
+    object: &Object,
 ) -> Result<Option<&'a [u8]>, AllocError>
-    ensures { IfOk result (λ command. option_copied command ≡ removal_command (facts_of world.now) query.now name.now) }
+    ensures { IfOk result (λ command. option_copied command ≡ removal_command (facts_of world.now) query.now (object_of object.now)) }
 {
     if query.ignore_commands {
         return Ok(None);
     }
-    remove_of(alloc, world, name)
+    remove_of(alloc, world, object)
 }
 
 /// Whether states and users count.
@@ -83,11 +84,11 @@ fn counts_state(
     alloc: Global,
     world: &World,
     query: &Query,
-    name: &[u8],
+    object: &Object,
 ) -> Result<bool, AllocError>
-    ensures { IfOk result (λ counts. counts ≡ counts_state (facts_of world.now) query.now name.now) }
+    ensures { IfOk result (λ counts. counts ≡ counts_state (facts_of world.now) query.now (object_of object.now)) }
 {
-    let command = removal_command(alloc, world, query, name)?;
+    let command = removal_command(alloc, world, query, object)?;
     Ok(!command.is_some() && is_remove(query.ask))
 }
 
@@ -176,7 +177,7 @@ pub(crate) fn judge(
 ) -> Result<Verdict, AllocError>
     ensures { IfOk result (λ own. verdict_of own ≡ verdict (facts_of world.now) query.now soft (object_of object.now)) }
 {
-    if !counts_state(alloc, world, query, &object.name)? {
+    if !counts_state(alloc, world, query, object)? {
         return Ok(Verdict::Remove);
     }
     if is_built_in(world, object) {
@@ -196,8 +197,5 @@ pub(crate) fn is_in_use(
 ) -> Result<bool, AllocError>
     ensures { IfOk result (λ used. used ≡ is_in_use (facts_of world.now) query.now (object_of object.now)) }
 {
-    Ok(
-        counts_state(alloc, world, query, &object.name)?
-            && has_users(status_of(world, &object.name)),
-    )
+    Ok(counts_state(alloc, world, query, object)? && has_users(status_of(world, &object.name)))
 }

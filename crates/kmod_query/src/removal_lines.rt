@@ -100,7 +100,7 @@ pub(crate) fn removal_lines(
     if !shows_removal(query) {
         return Ok(Vec::new(alloc));
     }
-    match removal_command(alloc, world, query, &object.name)? {
+    match removal_command(alloc, world, query, object)? {
         Some(command) => command_line(alloc, command),
         None => module_lines(alloc, world, object),
     }

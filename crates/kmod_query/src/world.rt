@@ -1,7 +1,7 @@
 //! What the machine's texts and states say.
 #![tactic(auto, unfolding(crate::specs::World::facts_of))]
 
-ghost use Rattle.std.specs.Prelude.{◌≡◌, ◌==◌, IfOk, map, option_copied, option_map, slice_index};
+ghost use Rattle.std.specs.Prelude.{◌≡◌, ◌==◌, IfOk, map, option_map, slice_index};
 ghost use Rattle.text_parts.specs.Text.{texts_of};
 ghost use Rattle.kmod_query.specs.Objects.{alias_of, names_of, object_of};
 ghost use Rattle.kmod_query.specs.World.{facts_of, file_of, text_of};
@@ -59,6 +59,12 @@ pub(crate) fn is_commanded(world: &World, name: &[u8]) -> bool
     world.conf.has_install_named(name) || world.conf.has_remove_named(name)
 }
 
+pub(crate) fn is_loadable(world: &World, name: &[u8]) -> bool
+    ensures { result ≡ (facts_of world.now).is_loadable name.now }
+{
+    world.index.dependencies().find(name).is_some()
+}
+
 pub(crate) fn is_builtin(world: &World, name: &[u8]) -> bool
     ensures { result ≡ (facts_of world.now).is_builtin name.now }
 {
@@ -77,38 +83,6 @@ pub(crate) fn status_of(world: &World, name: &[u8]) -> Option<ModuleStatus>
     world.states.of(name)
 }
 
-/// The text of a line, where there is one.
-fn text_in(line: Option<&TextLine>) -> Option<&[u8]>
-    ensures { option_copied result ≡ option_map text_of (option_copied line.entry) }
-{
-    match line {
-        Some(line) => Some(line.text.as_bytes()),
-        None => None,
-    }
-}
-
-pub(crate) fn install_of<'a>(
-    alloc: Global,
-    world: &World<'a>,
-    name: &[u8],
-) -> Result<Option<&'a [u8]>, AllocError>
-    ensures { IfOk result (λ command. option_copied command ≡ (facts_of world.now).install name.now) }
-{
-    let line = world.conf.install_of(alloc, name)?;
-    Ok(text_in(line))
-}
-
-pub(crate) fn remove_of<'a>(
-    alloc: Global,
-    world: &World<'a>,
-    name: &[u8],
-) -> Result<Option<&'a [u8]>, AllocError>
-    ensures { IfOk result (λ command. option_copied command ≡ (facts_of world.now).remove name.now) }
-{
-    let line = world.conf.remove_of(alloc, name)?;
-    Ok(text_in(line))
-}
-
 fn line_texts<'a>(alloc: Global, lines: &[&'a TextLine]) -> Result<Vec<&'a [u8]>, AllocError>
     ensures { IfOk result (λ texts. texts_of texts.items ≡ map text_of (map (λ line. line.now) lines.now)) }
 {
@@ -119,7 +93,8 @@ fn line_texts<'a>(alloc: Global, lines: &[&'a TextLine]) -> Result<Vec<&'a [u8]>
     Ok(texts)
 }
 
-fn alias_bytes(object: &Object) -> Option<&[u8]>
+/// The alias by which an object came.
+pub(crate) fn alias_bytes(object: &Object) -> Option<&[u8]>
     ensures { option_map (λ text. text.now) result ≡ alias_of object.entry.now.alias }
 {
     match &object.alias {

@@ -1,0 +1,109 @@
+//! The lines of a module that have its commands.
+#![tactic(auto, unfolding(crate::specs::World::facts_of))]
+
+ghost use Rattle.std.specs.Prelude.{◌≡◌, IfOk, option_copied, option_map};
+ghost use Rattle.kmod_query.specs.Commands.{install_of, is_unlisted, own_install, own_remove, remove_of};
+ghost use Rattle.kmod_query.specs.Objects.{object_of};
+ghost use Rattle.kmod_query.specs.World.{facts_of, text_of};
+
+use crate::object::Object;
+use crate::world::{World, alias_bytes, is_loadable};
+use kmod_conf::TextLine;
+use std::alloc::{AllocError, Global};
+
+/// Whether a module came by its own name, and modules.dep does not have it.
+fn is_unlisted(world: &World, name: &[u8], alias: Option<&[u8]>) -> bool
+    ensures { result ≡ is_unlisted (facts_of world.now) name.now (option_map (λ own. own.now) alias.entry) }
+{
+    alias.is_none() && !is_loadable(world, name)
+}
+
+/// The install line by which a module was found.
+fn own_install<'a>(world: &World<'a>, name: &[u8], alias: Option<&[u8]>) -> Option<&'a TextLine>
+    ensures { option_map text_of (option_copied result) ≡ own_install (facts_of world.now) name.now (option_map (λ own. own.now) alias.entry) }
+{
+    if is_unlisted(world, name, alias) {
+        world.conf.install_named(name)
+    } else {
+        None
+    }
+}
+
+/// The remove line by which a module was found, where no install line has its name.
+fn own_remove<'a>(world: &World<'a>, name: &[u8], alias: Option<&[u8]>) -> Option<&'a TextLine>
+    ensures { option_map text_of (option_copied result) ≡ own_remove (facts_of world.now) name.now (option_map (λ own. own.now) alias.entry) }
+{
+    if is_unlisted(world, name, alias) && world.conf.install_named(name).is_none() {
+        world.conf.remove_named(name)
+    } else {
+        None
+    }
+}
+
+/// The install line whose command loads a module, by the module's name and the alias by which it came: the line of just
+/// this name that found it, or else the first whose pattern matches. Only want of memory refuses.
+pub fn install_line<'a>(
+    alloc: Global,
+    world: &World<'a>,
+    name: &[u8],
+    alias: Option<&[u8]>,
+) -> Result<Option<&'a TextLine>, AllocError>
+    ensures { IfOk result (λ line. option_map text_of (option_copied line)
+        ≡ install_of (facts_of world.now) name.now (option_map (λ own. own.now) alias.entry)) }
+{
+    match own_install(world, name, alias) {
+        Some(line) => Ok(Some(line)),
+        None => world.conf.install_of(alloc, name),
+    }
+}
+
+/// The remove line whose command removes a module, by the module's name and the alias by which it came: the line of just
+/// this name that found it, or else the first whose pattern matches. Only want of memory refuses.
+pub fn remove_line<'a>(
+    alloc: Global,
+    world: &World<'a>,
+    name: &[u8],
+    alias: Option<&[u8]>,
+) -> Result<Option<&'a TextLine>, AllocError>
+    ensures { IfOk result (λ line. option_map text_of (option_copied line)
+        ≡ remove_of (facts_of world.now) name.now (option_map (λ own. own.now) alias.entry)) }
+{
+    match own_remove(world, name, alias) {
+        Some(line) => Ok(Some(line)),
+        None => world.conf.remove_of(alloc, name),
+    }
+}
+
+/// The text of a line, where there is one.
+fn text_in(line: Option<&TextLine>) -> Option<&[u8]>
+    ensures { option_copied result ≡ option_map text_of (option_copied line.entry) }
+{
+    match line {
+        Some(line) => Some(line.text.as_bytes()),
+        None => None,
+    }
+}
+
+pub(crate) fn install_of<'a>(
+    alloc: Global,
+    world: &World<'a>,
+    object: &Object,
+) -> Result<Option<&'a [u8]>, AllocError>
+    ensures { IfOk result (λ command. option_copied command
+        ≡ install_of (facts_of world.now) (object_of object.now).name (object_of object.now).alias) }
+{
+    let line = install_line(alloc, world, &object.name, alias_bytes(object))?;
+    Ok(text_in(line))
+}
+
+pub(crate) fn remove_of<'a>(
+    alloc: Global,
+    world: &World<'a>,
+    object: &Object,
+) -> Result<Option<&'a [u8]>, AllocError>
+    ensures { IfOk result (λ command. option_copied command
+        ≡ remove_of (facts_of world.now) (object_of object.now).name (object_of object.now).alias) }
+{
+    let line = remove_line(alloc, world, &object.name, alias_bytes(object))?;
+    Ok(text_in(line))
+}
