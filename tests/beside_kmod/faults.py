@@ -1,12 +1,10 @@
 """The faults of kmod 30 that gz-modprobe does not copy, and how they are recognised."""
 
-import ctypes
 import re
 
 SOFTDEP = "soft items are read or shown wrong"
 ENDLESS = "a removal never ends"
 NOT_UTF8 = "a file of modprobe.d whose name is no UTF-8 is not read"
-NAMED = "a command of the line that has the very name, before one whose pattern matches"
 WAIT = "a removal with --wait passes over what is in use"
 OVERWRITTEN = "MODPROBE_OPTIONS with several words in quotes is overwritten"
 BLANKS = b" \t\n\v\f\r"
@@ -87,10 +85,6 @@ def shown_right(output):
     return re.sub(rb"^(softdep [^ \n]+ pre: .*\S)(?<! )post: ", rb"\1 post: ", output, flags=re.M)
 
 
-def matches(pattern, name):
-    return ctypes.CDLL(None).fnmatch(pattern, name, 0) == 0
-
-
 def words_of_variable(text):
     """The words of MODPROBE_OPTIONS: single blanks divide them, and a word that begins with a quote ends at its closing one."""
     words, word, at = [], b"", 0
@@ -119,23 +113,3 @@ def without_waiting(words):
     """The words with a last --wait whose number is 0: kmod then asks who uses a module that it removes."""
     at = words.index(b"--") if b"--" in words else len(words)
     return [*words[:at], b"--wait=0", *words[at:]]
-
-
-def commands(configuration, kind):
-    """The install or remove lines of a shown configuration: pairs of a name and a command."""
-    found = re.findall(rb"^%b (\S*) (.*)$" % kind, configuration.split(b"\n\n")[0], re.M)
-    return [(name, command) for name, command in found]
-
-
-def first_commands(output, configuration):
-    """kmod's lines with the command of the first line that matches, in place of the first with the very name."""
-    for kind in (b"install", b"remove"):
-        lines = commands(configuration, kind)
-        for name, command in lines:
-            first = next((it for pattern, it in lines if matches(pattern, name)), None)
-            if first is None:
-                # A name in brackets need not match itself: then no line counts.
-                output = re.sub(rb"^%b %b( .*)?\n" % (kind, re.escape(command)), b"", output, flags=re.M)
-            elif first != command:
-                output = output.replace(kind + b" " + command, kind + b" " + first)
-    return output

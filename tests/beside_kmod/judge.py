@@ -120,15 +120,11 @@ class Judge:
             changed = mend(files)
             self.write(changed)
             theirs = self.stage.ask("modprobe", words, environment)
-            configuration = self.stage.ask("modprobe", [b"-c", *words], environment).output
             self.write({it: files[it] for it in changed})
             if theirs.status < 0 and ours.status >= 0:
                 return faults.ENDLESS
-            right = replace(theirs, output=faults.shown_right(theirs.output))
-            if self.agree(right, ours):
+            if self.agree(replace(theirs, output=faults.shown_right(theirs.output)), ours):
                 return fault
-            if self.agree(replace(right, output=faults.first_commands(right.output, configuration)), ours):
-                return faults.NAMED
         return None
 
     def write(self, files):
