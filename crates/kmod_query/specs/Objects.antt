@@ -18,7 +18,7 @@ abbrev pub by_name : List ℕ → Object
 by_name name = record { name = name; alias = None; builtin = false }
 
 abbrev pub is_same : Object → Object → Bool
-is_same a b = bytes_eq a.name b.name && (option_eq bytes_eq a.alias b.alias && beq a.builtin b.builtin)
+is_same a b = (bytes_eq a.name b.name && option_eq bytes_eq a.alias b.alias) && beq a.builtin b.builtin
 
 abbrev pub has : List Object → Object → Bool
 has objects object = list_any (is_same object) objects
@@ -32,6 +32,10 @@ object_of o = record { name = o.name.items; alias = alias_of o.alias; builtin = 
 
 abbrev pub objects_of : List CodeObject → List Object
 objects_of os = map object_of os
+
+-- the object of its parts
+abbrev pub object_with : Vec ℕ Global × Option (Vec ℕ Global) × Bool → Object
+object_with parts = record { name = parts.0.items; alias = alias_of parts.1; builtin = parts.2 }
 
 abbrev pub with_object : List Object → Object → List Object
 with_object objects object = if has objects object then objects else objects ++ object ∷ []

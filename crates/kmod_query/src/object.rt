@@ -8,7 +8,7 @@ use std::marker::Model;
 
 /// A module, and the alias by which it was found, where it was by one. `builtin` says that this was an alias of
 /// modules.builtin.modinfo.
-#[derive(Debug, Drop, PartialEq, Eq, Hash)]
+#[derive(Debug, Drop, PartialEq, Eq)]
 pub struct Object {
     pub name: Vec<u8>,
     pub alias: Option<Vec<u8>>,
@@ -43,19 +43,22 @@ impl Object {
     }
 }
 
+/// The parts of an object, by which it is told from others.
+type Key = (Vec<u8>, Option<Vec<u8>>, bool);
+
 /// Objects that were met, each once.
 #[derive(Drop)]
 pub(crate) struct Met {
-    objects: IndexSet<Object>,
+    objects: IndexSet<Key>,
 }
 
 impl Model for Met {
-    ghost use Rattle.std.specs.Prelude.{List};
-    ghost use Rattle.kmod_query.specs.Objects.{Object, objects_of};
+    ghost use Rattle.std.specs.Prelude.{List, map};
+    ghost use Rattle.kmod_query.specs.Objects.{Object, object_with};
 
     ghost Value = { List Object };
 
-    ghost view = { λ m. objects_of m.objects.keys };
+    ghost view = { λ m. map object_with m.objects.keys };
 }
 
 impl Met {
@@ -73,6 +76,7 @@ impl Met {
         ensures met { OnOk result (self.new ≡ with_object self.old (object_of object.now)) }
     {
         let own = object.copy(alloc)?;
-        Ok(self.objects.insert(own)?)
+        let key = (own.name, own.alias, own.builtin);
+        Ok(self.objects.insert(key)?)
     }
 }

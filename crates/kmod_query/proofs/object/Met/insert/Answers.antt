@@ -1,14 +1,18 @@
-use Rattle.std.proofs.Common.{◌∙◌, sym, ap, not}
-use Rattle.kmod_query.specs.Objects.{has, objects_of, with_object}
-use Rattle.kmod_query.proofs.MetLemmas.{has-objects, objects-insert_key}
+use Rattle.std.proofs.Common.{◌∙◌, sym, ap, map, not}
+use Rattle.kmod_query.specs.Objects.{has, object_with, with_object}
+use Rattle.kmod_query.proofs.MetLemmas.{has_key, with_key}
 use Rattle.kmod_query.proofs.object.Met.insert.Goals as goal
 
 pub returns-clause-new : goal.returns-clause-new
 returns-clause-new c =
+    let keys = c.self.inside.objects.keys in
+    let own = c.in_ok-own.own in
     rw (sym c.self.view_is)
-    (c.in_ok-insert.ensures.added ∙ ap not (has-objects c.self.inside.objects.keys c.in_ok-own.own) ∙ ap (λ o. not (has (objects_of c.self.inside.objects.keys) o)) c.in_ok-own.ensures)
+    (c.in_ok-insert.ensures.added ∙ ap not (has_key keys (own.name, own.alias, own.builtin)) ∙ ap (λ o. not (has (map object_with keys) o)) c.in_ok-own.ensures)
 
 pub returns-clause-met : goal.returns-clause-met
 returns-clause-met c =
+    let keys = c.self.inside.objects.keys in
+    let own = c.in_ok-own.own in
     rw (sym c.self.view_is)
-    (ap objects_of c.in_ok-insert.ensures.keys ∙ objects-insert_key c.self.inside.objects.keys c.in_ok-own.own ∙ ap (with_object (objects_of c.self.inside.objects.keys)) c.in_ok-own.ensures)
+    (ap (map object_with) c.in_ok-insert.ensures.keys ∙ with_key keys (own.name, own.alias, own.builtin) ∙ ap (with_object (map object_with keys)) c.in_ok-own.ensures)
