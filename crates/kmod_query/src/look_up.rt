@@ -6,7 +6,7 @@ ghost use Rattle.kmod_index.specs.ForProofs.{pointed};
 ghost use Rattle.kmod_query.specs.LookUp.{found, look_up, look_up_each};
 ghost use Rattle.kmod_query.specs.Objects.{objects_of};
 ghost use Rattle.kmod_query.specs.Probes.{after_of, before_of};
-ghost use Rattle.kmod_query.specs.Reasons.{aliased_reason, built_in_reason, commanded_reason, exported_reason, exporters_of};
+ghost use Rattle.kmod_query.specs.Reasons.{aliased_reason, commanded_reason, exported_reason, exporters_of};
 ghost use Rattle.kmod_query.specs.Reasons.{found_by, module_reason, reason_of, said_by};
 ghost use Rattle.kmod_query.specs.World.{facts_of, name_of};
 
@@ -32,23 +32,7 @@ fn exporters<'a>(
     }
 }
 
-fn find_built_in<'a>(
-    alloc: Global,
-    world: &World<'a>,
-    name: &[u8],
-) -> Result<Finding<'a>, AllocError>
-    ensures { IfOk result (λ finding. said_by world.now finding ≡ built_in_reason (facts_of world.now) name.now) }
-{
-    if is_builtin(world, name) {
-        return Ok(Finding::BuiltIn);
-    }
-    let lines = world.index.builtin_aliases(alloc, name)?;
-    if lines.len() > 0 {
-        return Ok(Finding::AliasedBuiltIn(lines));
-    }
-    Ok(Finding::Nothing)
-}
-
+/// Looks a name up in modules.alias, and then among what is built in.
 fn find_aliased<'a>(
     alloc: Global,
     world: &World<'a>,
@@ -60,7 +44,14 @@ fn find_aliased<'a>(
     if lines.len() > 0 {
         return Ok(Finding::Aliased(lines));
     }
-    find_built_in(alloc, world, name)
+    if is_builtin(world, name) {
+        return Ok(Finding::BuiltIn);
+    }
+    let lines = world.index.builtin_aliases(alloc, name)?;
+    if lines.len() > 0 {
+        return Ok(Finding::AliasedBuiltIn(lines));
+    }
+    Ok(Finding::Nothing)
 }
 
 fn find_commanded<'a>(
