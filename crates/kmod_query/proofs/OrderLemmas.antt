@@ -1,12 +1,12 @@
 -- What a module needs hard stands before it.
-use Rattle.std.proofs.Common.{◌≡◌, ℕ, zero, suc, Bool, true, false, not, ◌||◌, cond, List, [], ◌∷◌, ◌++◌, map, refl, sym, ◌∙◌, ap, subst, append_assoc, append-nil}
+use Rattle.std.proofs.Common.{◌≡◌, ℕ, zero, suc, Bool, true, false, not, ◌||◌, cond, List, [], ◌∷◌, ◌++◌, map, refl, sym, ◌∙◌, ap, subst, append_assoc}
 use Rattle.std.specs.List.{flat_map}
 use Rattle.kmod_query.specs.declared.query.Ask.TheVariants.{ShowDepends}
 use Rattle.kmod_query.specs.declared.query.Query.{Query}
-use Rattle.kmod_query.specs.Answers.{Answer, nothing, said}
+use Rattle.kmod_query.specs.Answers.{nothing, said}
 use Rattle.kmod_query.specs.Facts.{Facts}
 use Rattle.kmod_query.specs.Lines.{load_line}
-use Rattle.kmod_query.specs.Loading.{already, is_barred, is_passed, is_show_depends, line_unless_passed, load, load_lines, shows_lines}
+use Rattle.kmod_query.specs.Loading.{already, is_barred, line_unless_passed, load, load_lines, shows_lines}
 use Rattle.kmod_query.specs.Objects.{Object, by_name, has}
 use Rattle.kmod_query.specs.Order.{StandInOrder, is_done}
 use Rattle.kmod_query.specs.Probes.{Task, probe, fill, add, after_of, before_of, fill_tasks, first_tasks, probe_list, probe_tasks, run, step_limit}

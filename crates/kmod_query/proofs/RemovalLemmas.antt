@@ -168,16 +168,6 @@ limit-is = refl
 abbrev pub Answers : Facts → Query → ℕ → List (List ℕ) → List Task → Answer → Answer → Type 0
 Answers facts query k way ts answer whole = and_also answer (run_removal facts query (step_limit - k) way ts) ≡ whole
 
-pub Answers-begin : (facts : Facts) (query : Query) (k : ℕ) (way : List (List ℕ)) (o own : CodeObject) (stack : List Removal) (answer : Answer) → way ≡ [] → stack ≡ [] ++ Take false own ∷ [] → object_of own ≡ object_of o → answer ≡ nothing → k ≡ 0
-    → Answers facts query k way (removals_of stack) answer (run_removal facts query step_limit [] (take false (object_of o) ∷ []))
-Answers-begin facts query k way o own stack answer w s same a zero_is =
-    let e : step_limit - k ≡ step_limit = omega (arith, zero_is) in
-    ap (λ (x : Answer). and_also x (run_removal facts query (step_limit - k) way (removals_of stack))) a
-    ∙ ap (λ n. run_removal facts query n way (removals_of stack)) e
-    ∙ ap (λ l. run_removal facts query step_limit l (removals_of stack)) w
-    ∙ ap (λ l. run_removal facts query step_limit [] (removals_of l)) s
-    ∙ ap (λ (x : Object). run_removal facts query step_limit [] (take false x ∷ [])) same
-
 pub Answers-done : (facts : Facts) (query : Query) (k : ℕ) (way : List (List ℕ)) (stack : List Removal) (answer whole : Answer) → length stack ≡ 0 → Answers facts query k way (removals_of stack) answer whole → answer ≡ whole
 Answers-done facts query k way stack answer whole none h =
     sym (and_also-nothing answer)

@@ -1,13 +1,11 @@
 -- What maps know of names, and what was met at the front of lists.
-use Rattle.std.proofs.Common.{◌≡◌, ℕ, zero, suc, ◌+◌, Bool, true, false, cond, ◌||◌, List, [], ◌∷◌, ◌++◌, length, slice_get, Option, Some, None, is_some, nat_lt, Vec, refl, sym, ◌∙◌, ap, subst, arith, inl, inr}
+use Rattle.std.proofs.Common.{◌≡◌, ℕ, zero, suc, ◌+◌, Bool, true, false, cond, ◌||◌, List, [], ◌∷◌, ◌++◌, slice_get, Option, Some, None, Vec, refl, sym, ◌∙◌, ap, subst, arith, inl, inr}
 use Rattle.std.specs.Bool.{beq}
 use Rattle.std.specs.Global.{Global}
 use Rattle.std.specs.List.{list_any}
 use Rattle.std.specs.Map.{lookup}
 use Rattle.std.specs.Option.{option_eq, unwrap_or}
 use Rattle.std.specs.Str.{bytes_eq}
-use Rattle.std.proofs.lemmas.Bool.{lt-ltb}
-use Rattle.std.proofs.Math.Nat.{zero-lt-suc}
 use Rattle.std.proofs.lemmas.List.Folds.{list_any-append}
 use Rattle.std.proofs.lemmas.Slice.Eq.{bytes_eq-Decides}
 use Rattle.indexmap.specs.IndexMap.{insert_entry}
@@ -18,7 +16,6 @@ use Rattle.kmod_query.specs.declared.look_up.SoftItems.{SoftItems}
 use Rattle.kmod_query.specs.declared.fronts.Fronts.{Fronts}
 use Rattle.kmod_query.specs.declared.soft_lists.Found.{Found}
 use Rattle.kmod_query.specs.Facts.{Facts}
-use Rattle.kmod_query.specs.Lines.{has_soft_items}
 use Rattle.kmod_query.specs.Objects.{Object, has, is_same, with_object}
 use Rattle.kmod_query.specs.Probes.{before_of, after_of}
 use Rattle.kmod_query.specs.Stacks.{AreFronts, AreFrontsAt, Each, IsFound, IsFront, IsSoft, count_in, side_of, soft_of}
@@ -62,17 +59,6 @@ soft_sides facts name items b a After = a
 pub found_soft : (facts : Facts) (name : List ℕ) (items : SoftItems) (place : Place) (index : ℕ) (found : Option Found)
     → IsSoft facts name items → IsFound (side_of place items) index found → IsFound (soft_of facts place name) index found
 found_soft facts name items place index found soft h = subst (λ l. IsFound l index found) (soft place) h
-
-pub some_first : (objects : List Object) (found : Option Found) → IsFound objects 0 found → is_some found ≡ nat_lt 0 (length objects)
-some_first [] None h = refl
-some_first [] (Some found) h = absurd (cc (h.0))
-some_first (object ∷ objects) None h = absurd (cc (h))
-some_first (object ∷ objects) (Some found) h = sym (lt-ltb 0 (length (object ∷ objects)) (zero-lt-suc (length objects)))
-
-pub some_either : (facts : Facts) (name : List ℕ) (before after : Option Found) → IsFound (before_of facts name) 0 before → IsFound (after_of facts name) 0 after
-    → (is_some before || is_some after) ≡ has_soft_items facts name
-some_either facts name before after b a =
-    ap (λ t. t || is_some after) (some_first (before_of facts name) before b) ∙ ap (λ t. nat_lt 0 (length (before_of facts name)) || t) (some_first (after_of facts name) after a)
 
 -- ---- what was met
 
