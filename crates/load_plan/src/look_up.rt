@@ -1,13 +1,11 @@
 //! Which modules are found for a name.
-ghost use Rattle.std.specs.Prelude.{◌≡◌, ◌≢◌, [], filter, map, not, IfOk, IfErr, OnOk};
-ghost use Rattle.std.specs.List.{list_any};
-ghost use Rattle.std.specs.Str.{bytes_eq};
-ghost use Rattle.modprobe_conf.specs.Configuration.{is_blacklisted};
+ghost use Rattle.std.specs.Prelude.{◌≡◌, ◌≢◌, [], map, IfOk, IfErr};
 ghost use Rattle.load_plan.specs.declared.look_up.FindError.TheVariants.{NotFound};
-ghost use Rattle.load_plan.specs.LookUp.{found, free_targets, targets_of, with_name, with_names};
+ghost use Rattle.load_plan.specs.LookUp.{found, free_targets, targets_of, with_names};
 
 use alias_match::{Alias, Aliases};
 use dep_index::Catalogue;
+use indexmap::IndexSet;
 use modprobe_conf::Conf;
 use std::alloc::{AllocError, AllocFailed, Global};
 use text_parts::Name;
@@ -44,46 +42,15 @@ impl<T: Drop> From<AllocFailed<T>> for FindError {
     }
 }
 
-fn has_name(names: &[Name], name: &[u8]) -> bool
-    ensures { result ≡ list_any (bytes_eq name.now) names.now }
-{
-    names.iter().any(|own| name == own.as_bytes())
-}
-
-/// Adds a name, unless it is there already.
-fn add_name(alloc: Global, names: &mut Vec<Name>, name: &Name) -> Result<(), AllocError>
-    ensures { OnOk result (names.new.items ≡ with_name names.old.items name.now) }
-{
-    if !has_name(names, name.as_bytes()) {
-        names.push(name.copy(alloc)?)?;
-    }
-    Ok(())
-}
-
-/// The targets of the aliases, each once.
+/// The targets of the aliases, each once. Whether one is there already is told by a hash of it.
 fn names_of(alloc: Global, aliases: &[&Alias]) -> Result<Vec<Name>, AllocError>
     ensures { IfOk result (λ names. names.items ≡ with_names [] (map (λ alias. alias.now.target) aliases.now)) }
 {
     let mut names = Vec::new(alloc);
+    let mut seen = IndexSet::new(alloc);
     for alias in aliases {
-        add_name(alloc, &mut names, &alias.target)?;
-    }
-    Ok(names)
-}
-
-/// The targets that are not blacklisted, each once.
-fn free_names(
-    alloc: Global,
-    configuration: &Conf,
-    aliases: &[&Alias],
-) -> Result<Vec<Name>, AllocError>
-    ensures { IfOk result (λ names. names.items ≡ with_names []
-        (filter (λ target. not (is_blacklisted configuration.now target)) (map (λ alias. alias.now.target) aliases.now))) }
-{
-    let mut names = Vec::new(alloc);
-    for alias in aliases {
-        if !configuration.blacklisted(alias.target.as_bytes()) {
-            add_name(alloc, &mut names, &alias.target)?;
+        if seen.insert(alias.target.as_bytes())? {
+            names.push(alias.target.copy(alloc)?)?;
         }
     }
     Ok(names)
@@ -106,8 +73,9 @@ fn free(
 ) -> Result<Vec<Name>, AllocError>
     ensures { IfOk result (λ names. names.items ≡ with_names [] (free_targets configuration.now aliases.now.entries name.now)) }
 {
-    let aliases = aliases.matching(alloc, name)?;
-    free_names(alloc, configuration, &aliases)
+    let mut aliases = aliases.matching(alloc, name)?;
+    aliases.retain(|alias| !configuration.blacklisted(alias.target.as_bytes()));
+    names_of(alloc, &aliases)
 }
 
 /// The modules of a name, in normal form: the targets of the configuration's aliases that match it; if there are
