@@ -5,9 +5,11 @@ ghost use Rattle.load_plan.specs.Items.{Answers, FailsAs, plan_from, removal_pla
 ghost use Rattle.load_plan.specs.Outlook.{settled_at, IsSettled};
 
 use crate::filled::filled;
-use crate::items::{Asked, Item, PlanError, error_of, planned, removal_planned};
+use crate::items::{
+    Asked, Item, PlanError, error_of, plan, planned, removal_plan, removal_planned,
+};
 use crate::kept::is_kept;
-use crate::reach::{Part, close, part_from, part_of_names};
+use crate::reach::{Part, close, part_of_names};
 use crate::refusal::WalkError;
 use crate::sources::{Sources, slot_of};
 use crate::walk::hard_walk;
@@ -66,15 +68,12 @@ impl<'a> Planner<'a> {
         ensures within { IfOk result (λ items. All (λ item. item.slot < length self.now.sources.catalogue.now) items.items) }
     {
         name.is_normal();
-        let Some(slot) = slot_of(self.sources.catalogue, name) else {
-            return Err(PlanError::Unknown(name.copy(alloc)?));
-        };
-        let asked = Asked { slot, words };
-        if self.part.known[slot] {
-            return planned(alloc, &self.sources, &self.part, asked);
+        match slot_of(self.sources.catalogue, name) {
+            Some(slot) if self.part.known[slot] => {
+                planned(alloc, &self.sources, &self.part, Asked { slot, words })
+            }
+            _ => plan(alloc, name.as_bytes(), words, &self.sources),
         }
-        let part = part_from(alloc, &self.sources, slot)?;
-        planned(alloc, &self.sources, &part, asked)
     }
 
     /// The removal plan of a name, as `removal_plan` makes it.
@@ -83,17 +82,13 @@ impl<'a> Planner<'a> {
         ensures within { IfOk result (λ order. All (λ slot. slot < length self.now.sources.catalogue.now) order.items) }
     {
         name.is_normal();
-        if is_kept(self.sources.configuration, name.as_bytes()) {
-            return Err(PlanError::Remove(name.copy(alloc)?));
+        let is_kept = is_kept(self.sources.configuration, name.as_bytes());
+        match slot_of(self.sources.catalogue, name) {
+            Some(slot) if self.part.known[slot] && !is_kept => {
+                removal_planned(alloc, &self.sources, &self.part, slot)
+            }
+            _ => removal_plan(alloc, name.as_bytes(), &self.sources),
         }
-        let Some(slot) = slot_of(self.sources.catalogue, name) else {
-            return Err(PlanError::Unknown(name.copy(alloc)?));
-        };
-        if self.part.known[slot] {
-            return removal_planned(alloc, &self.sources, &self.part, slot);
-        }
-        let part = part_from(alloc, &self.sources, slot)?;
-        removal_planned(alloc, &self.sources, &part, slot)
     }
 
     /// Whether a module is settled. A slot past the last one is not.
