@@ -11,6 +11,7 @@ use Rattle.load_plan.specs.declared.refusal.PlanRefusal.{PlanRefusal}
 use Rattle.load_plan.specs.declared.walk.Mark.{Mark}
 use Rattle.load_plan.specs.declared.walk.Mark.TheVariants.{New}
 use Rattle.load_plan.specs.declared.walk.Frame.{Frame}
+use Rattle.load_plan.specs.declared.learnt.Meeting.{Meeting}
 use Rattle.load_plan.specs.declared.learnt.Verdict.{Verdict}
 use Rattle.load_plan.specs.declared.learnt.Verdict.TheVariants.{Unknown, Entered, Free}
 use Rattle.load_plan.specs.Graph.{Node, node_at, is_bounded}
@@ -98,9 +99,9 @@ needs_target w m r (Slot d) among needs ms p here =
     b.0.within r (needs b.0.below b.1 there)
 
 -- one of the targets, by its place
-pub met_among : (w : List Node) (progress : List ℕ) (ts : List Target) (t : Target) (i : ℕ) → i < length ts → t ≡ get_or ts i t → (o : Option ℕ) → IfSome o (λ r. (has progress r ≡ true) × TargetNeeds w t r) → IfSome o (IsMet w progress ts)
+pub met_among : (w : List Node) (progress : List ℕ) (ts : List Target) (t : Target) (i : ℕ) → i < length ts → t ≡ get_or ts i t → (o : Option Meeting) → IfSome o (λ x. (has progress x.met ≡ true) × TargetNeeds w t x.named) → IfSome o (IsMet w progress ts)
 met_among w progress ts t i within at None met = tt
-met_among w progress ts t i within at (Some r) met = record { on = met.0; target = t; among = (i, within, sym at); needs = met.1 }
+met_among w progress ts t i within at (Some x) met = record { on = met.0; target = t; among = (i, within, sym at); needs = met.1 }
 
 -- What a walk is, where a module is barred or meets one in progress.
 

@@ -8,6 +8,7 @@ use Rattle.load_plan.specs.declared.walk.Frame.{Frame}
 use Rattle.load_plan.specs.declared.trial.Lesson.{Lesson}
 use Rattle.load_plan.specs.declared.trial.Lesson.TheVariants as lesson
 use Rattle.load_plan.specs.declared.learnt.Learnt.{Learnt}
+use Rattle.load_plan.specs.declared.learnt.Meeting.{Meeting}
 use Rattle.load_plan.specs.declared.learnt.Verdict.{Verdict}
 use Rattle.load_plan.specs.declared.learnt.Verdict.TheVariants.{Unknown, Faulty, Meets, Free}
 use Rattle.load_plan.specs.declared.learnt.Told.{Told}
@@ -86,12 +87,12 @@ abbrev pub TargetNeeds : List Node → Target → ℕ → Type 0
 TargetNeeds graph (Slot m) r = Needs graph m r
 TargetNeeds graph (Missing name) r = ⊥
 
--- a module in progress that one of the targets meets
-pub record IsMet (graph : List Node) (progress : List ℕ) (targets : List Target) (r : ℕ) : Type 0 where
-  pub on : has progress r ≡ true
+-- a module in progress, and one that one of the targets meets
+pub record IsMet (graph : List Node) (progress : List ℕ) (targets : List Target) (meeting : Meeting) : Type 0 where
+  pub on : has progress meeting.met ≡ true
   pub target : Target
   pub among : Contains targets target
-  pub needs : TargetNeeds graph target r
+  pub needs : TargetNeeds graph target meeting.named
 
 -- who is on the way: the last module, or one before it
 abbrev pub IsOnWay : List Frame → ℕ → ℕ → Type 0

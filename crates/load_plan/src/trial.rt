@@ -110,6 +110,7 @@ fn learn(
     ensures known { OnOk result (StaysKnown graph.now marks.now learnt.old learnt.new) }
     ensures lesson { IfOk result (IsLesson graph.now frame) }
 {
+    learnt.renew(graph, marks, frame.slot);
     match learnt.told(marks, frame.slot) {
         Told::Free | Told::Meets(_) | Told::Faulty => Ok(Lesson::Back),
         Told::Nothing => learn_new(graph, marks, learnt, way, frame),

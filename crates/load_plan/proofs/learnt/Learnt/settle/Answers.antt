@@ -11,9 +11,9 @@ use Rattle.load_plan.proofs.learnt.Learnt.settle.Goals as goal
 pub returns-in-Some-clause-known : goal.returns-in-Some-clause-known
 returns-in-Some-clause-known c progress done marked kept known =
     let new : (has c.args.self.now.order.items c.args.slot ≡ false) × (has progress c.args.slot ≡ false) = c.requires.new progress done marked kept known in
-    let met : IsMet c.args.graph.now progress c.targets-hard.result.now c.in-Some.met = c.in-Some.ensures c.args.graph.now (sym c.requires.marks) progress done marked kept known in
+    let met : IsMet c.args.graph.now progress c.targets-hard.result.now c.in-Some.meeting = c.in-Some.ensures c.args.graph.now (sym c.requires.marks) progress done marked kept known in
     let among : Contains (node_at c.args.graph.now c.args.slot).hard met.target = subst (λ l. Contains l met.target) c.targets-hard.ensures.targets met.among in
-    Learnt-set c.args.graph.now progress done c.args.self.now.verdicts.items c.args.self.now.order.items c.args.slot (Meets c.in-Some.met) (omega (arith, c.requires.slot, c.requires.long)) new.0 (needs_target c.args.graph.now c.args.slot c.in-Some.met met.target among met.needs) known
+    Learnt-set c.args.graph.now progress done c.args.self.now.verdicts.items c.args.self.now.order.items c.args.slot (Meets c.in-Some.meeting.named) (omega (arith, c.requires.slot, c.requires.long)) new.0 (needs_target c.args.graph.now c.args.slot c.in-Some.meeting.named met.target among met.needs) known
 
 pub returns-in_ok-add-clause-known : goal.returns-in_ok-add-clause-known
 returns-in_ok-add-clause-known c progress done marked kept known =
