@@ -13,6 +13,13 @@ const WORKERS: usize = 1;
 
 const MICROSECOND: u64 = 1000;
 
+const ROUNDS: usize = 5;
+
+/// A round takes so many nanoseconds at least, since processor time may come in steps of some milliseconds.
+const ROUND: u64 = 50_000_000;
+
+const MOST_RUNS: u64 = 1000;
+
 pub fn measure<R: Print + Files + AllocGlobal>(rt: &R) -> Result<()> {
     measure_plans(rt)?;
     measure_session(
@@ -69,7 +76,7 @@ fn measure_session<
     for size in [whole / 4, whole / 2, whole] {
         let mut text = String::new(rt.alloc());
         write(&mut text, size)?;
-        let time = time_of(rt, text.as_bytes())?;
+        let time = least_time(rt, text.as_bytes())?;
         print_figure(
             rt,
             format_args!("{name}_{size}"),
@@ -95,11 +102,28 @@ fn print_growth<R: Print>(rt: &R, name: &str, size: usize, time: u64, half: u64)
     )
 }
 
-/// How long a session takes.
-fn time_of<R: Files + AllocGlobal>(rt: &R, text: &[u8]) -> Result<u64> {
+/// How long a session takes: the least of some rounds.
+fn least_time<R: Files + AllocGlobal>(rt: &R, text: &[u8]) -> Result<u64> {
+    let mut least = u64::MAX;
+    for _ in 0..ROUNDS {
+        least = least.min(mean_time(rt, text)?);
+    }
+    Ok(least)
+}
+
+/// How long each run of a session takes in a round, which has as many as it takes to be long enough.
+fn mean_time<R: Files + AllocGlobal>(rt: &R, text: &[u8]) -> Result<u64> {
     let start = processor_time(rt)?;
-    answer(rt, text)?;
-    Ok(processor_time(rt)?.saturating_sub(start))
+    let mut mean = 0;
+    for runs in 1..=MOST_RUNS {
+        answer(rt, text)?;
+        let time = processor_time(rt)?.saturating_sub(start);
+        mean = time / runs;
+        if time >= ROUND {
+            break;
+        }
+    }
+    Ok(mean)
 }
 
 /// Answers a session, whose replies go nowhere.
