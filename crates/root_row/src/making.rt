@@ -68,7 +68,11 @@ impl Row {
         let leaves = cut_leaves(alloc, &table, &mut rest, workers)?;
         let read_seats = cut_readers(alloc, &table, &mut rest, readers)?;
         Ok((
-            Row { table, slot_count },
+            Row {
+                table,
+                slot_count,
+                room: [0; 16],
+            },
             leaves,
             BookSeat {
                 seat: rest,

@@ -13,9 +13,12 @@ pub(crate) const WORDS_APART: usize = 16;
 ///
 /// Each of its steps is one atomic step with one seat of this row, takes no memory and does not wait.
 #[derive(Drop)]
+#[repr(C)]
 pub struct Row {
     pub(crate) table: Table<(), Trail, Setting, OneHistory, Global>,
     pub(crate) slot_count: usize,
+    /// Two cache lines: each call reads the row, so what others write may lie behind it, and not beside it.
+    pub(crate) room: [u64; 16],
 }
 
 impl Model for Row {
