@@ -10,7 +10,7 @@ pub const COUNT: usize = 8;
 
 const CLOSED: u64 = 1 << 32;
 
-const ROUNDS: u64 = 100_000;
+const ROUNDS: u64 = 10_000;
 
 const LONG: Duration = Duration::from_millis(300);
 

@@ -1,15 +1,16 @@
-//! Pairs of a get and a put by managed calls, each caller in a thread of its own, and beside each figure the same through a
+//! Pairs of a get and a put by managed calls, each caller in a thread of its own, and turn by turn the same through a
 //! manager. At last a crowd: sixteen threads that call for four workers.
 ghost use Rattle.managed_table.specs.Callers.{IsCallerOf};
 
 use crate::manager;
 use crate::texts::plain_catalogue;
 use crate::workers::{
-    COUNT, CROWD, CROWDED, Figure, SlotRange, Worker, measure_counts, measure_workers,
+    COUNT, CROWD, CROWDED, Figure, SlotRange, Worker, measure_beside, measure_counts,
 };
 use anyhow::{Result, ensure};
 use dep_index::Catalogue;
 use managed_table::{Caller, ManagedTable};
+use std::alloc::Global;
 use std::rt::Clock;
 use std::sync::Wait;
 use std::thread::Threads;
@@ -114,24 +115,22 @@ fn measure_both<R: Print + Clock + AllocGlobal + Threads + Wait + Sync>(
     workers: u8,
     threads: u8,
 ) -> Result<()> {
-    measure_count(rt, catalogue, workers, threads)?;
-    manager::measure_count(rt, BESIDE, catalogue, workers, threads)
-}
-
-fn measure_count<R: Print + Clock + AllocGlobal + Threads + Wait + Sync>(
-    rt: &R,
-    catalogue: &Catalogue,
-    workers: u8,
-    threads: u8,
-) -> Result<()> {
+    let manager = manager::loaded(rt, catalogue, workers)?;
     let (table, _readers) = ManagedTable::new(rt.alloc(), catalogue, usize::from(workers))?;
     ensure!(are_loaded(rt, &table), "a module is not loaded");
-    let mut all = Vec::new(rt.alloc());
+    let mut ours = callers_of(rt.alloc(), &table, threads)?;
+    let mut others = manager::workers_of(rt.alloc(), &manager, threads)?;
+    measure_beside(rt, [OURS, BESIDE], &mut ours, &mut others)
+}
+
+/// So many threads' callers, who call for the workers in turn.
+fn callers_of(alloc: Global, table: &ManagedTable, threads: u8) -> Result<Vec<ManagedWorker<'_>>> {
+    let mut all = Vec::new(alloc);
     for thread in 0..threads {
         let number = usize::from(thread) % table.workers().max(1);
-        all.push(ManagedWorker::of(&table, number))?;
+        all.push(ManagedWorker::of(table, number))?;
     }
-    measure_workers(rt, OURS, &mut all)
+    Ok(all)
 }
 
 /// Loads all modules. Whether that was done.
