@@ -6,7 +6,7 @@ use std::fmt;
 use text_parts::is_same;
 
 /// The first part of a line that is not what it should be.
-#[derive(Clone, Copy, Debug, PartialEq, Eq, Drop)]
+#[derive(Clone, Copy, Drop)]
 pub(crate) enum Flaw {
     Spaces,
     Script,

@@ -5,7 +5,7 @@ ghost use Rattle.timeline_drive.specs.OtherInputs.{begun_by, other_input};
 use text_parts::{is_same, whole_lines};
 
 /// An input of `workload`.
-#[derive(Clone, Copy, Debug, PartialEq, Eq, Drop)]
+#[derive(Clone, Copy, Drop)]
 pub(crate) enum OtherInput {
     Schedule,
     Script,

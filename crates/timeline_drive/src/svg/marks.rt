@@ -56,7 +56,7 @@ fn push_outline(
     top: u32,
 ) -> Result<(), AllocError> {
     let bottom = top.saturating_add(BAR);
-    write!(page, "<path class=\"edge\" d=\"")?;
+    page.push_str("<path class=\"edge\" d=\"")?;
     match (bar.has_first, bar.has_end) {
         (true, _) => write!(page, "M{end} {top}H{begin}V{bottom}H{end}")?,
         (false, true) => write!(page, "M{begin} {top}H{end}V{bottom}H{begin}")?,
@@ -155,9 +155,7 @@ fn push_above(
     let (x, reply) = (at.saturating_add(LEFT + INSET), reply_text(entry.effect));
     write!(page, "<text class=\"label\" x=\"{x}\" y=\"{base}\">")?;
     push_cut(page, caption, caption_room(letters, reply))?;
-    page.push_str(": <tspan class=\"reply\">")?;
-    page.push_str(reply)?;
-    page.push_str("</tspan></text>")
+    write!(page, ": <tspan class=\"reply\">{reply}</tspan></text>")
 }
 
 /// Adds the mark of a point: a disc, or a diamond where the call was refused.
