@@ -27,27 +27,32 @@ pub(crate) struct Asked<'a> {
     pub(crate) explain: bool,
 }
 
-/// What the program takes.
-fn command<'a>(alloc: Global) -> Result<Command<'a>, AllocError> {
-    let text = Arg::new(alloc, "text")
-        .long("text")
+/// An option without a value.
+fn flag<'a>(alloc: Global, name: &'a str, help: &'a str) -> Arg<'a> {
+    Arg::new(alloc, name)
+        .long(name)
         .action(ArgAction::SetTrue)
-        .help("Draws in columns of a terminal");
-    let explain = Arg::new(alloc, "explain")
-        .long("explain")
-        .action(ArgAction::SetTrue)
-        .help("Explains a refused report on standard error");
-    let file = Arg::new(alloc, "file")
+        .help(help)
+}
+
+/// The file of the report.
+fn file<'a>(alloc: Global) -> Arg<'a> {
+    Arg::new(alloc, "file")
         .value_name("FILE")
         .action(ArgAction::Set)
-        .help("The report; standard input without it, or where it is -");
+        .help("The report; standard input without it, or where it is -")
+}
+
+/// What the program takes.
+fn command<'a>(alloc: Global) -> Result<Command<'a>, AllocError> {
+    let explain = "Explains a refused report on standard error";
     Command::new(alloc, "timeline")
         .version("0.1.0")
         .about("Draws a report of workload as an SVG")
         .after_help(EXAMPLE)
-        .arg(text)?
-        .arg(explain)?
-        .arg(file)
+        .arg(flag(alloc, "text", "Draws in columns of a terminal"))?
+        .arg(flag(alloc, "explain", explain))?
+        .arg(file(alloc))
 }
 
 /// What the words ask for.
