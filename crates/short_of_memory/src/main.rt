@@ -3,11 +3,26 @@
 //! answer ends the program with status 1.
 #![tactic(auto)]
 
+mod listings;
+mod outcome;
+mod plans;
+mod schedules;
 mod sessions;
+mod settings;
+mod sound;
+mod tables;
+mod texts;
+mod threads;
 
 use anyhow::Result;
 
 fn main(rt: HostRuntime) -> Result<()> {
-    short_of_memory_calls::try_calls(&rt)?;
+    texts::try_calls(&rt)?;
+    settings::try_calls(&rt)?;
+    plans::try_calls(&rt)?;
+    tables::try_calls(&rt)?;
+    listings::try_calls(&rt)?;
+    schedules::try_calls(&rt)?;
+    threads::try_calls(&rt)?;
     sessions::try_calls(&rt)
 }

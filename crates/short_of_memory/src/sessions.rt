@@ -1,12 +1,12 @@
 //! Lines, sections and sessions: where memory is wanting, what was written is the beginning of the answer.
 ghost use Rattle.std.specs.Prelude.{◌≡◌, false, None};
 
+use crate::outcome::{Stop, needed, stop_at, tell};
 use modprobe::{
     Buffer, Failed, FromRead, LineFault, Lines, RunFault, ServeFault, SetupCode, SetupFault, Sink,
     Source, read_setup, run, serve,
 };
 use seq_table::{Modules, Table};
-use short_of_memory_calls::outcome::{Stop, needed, stop_at, tell};
 use std::alloc::Global;
 
 fn of_line(fault: LineFault) -> Stop {

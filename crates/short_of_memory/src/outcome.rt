@@ -7,7 +7,7 @@ use text_parts::Name;
 
 /// Why a call did not answer what its example says.
 #[derive(Clone, Copy, Debug, PartialEq, Eq, Drop)]
-pub enum Stop {
+pub(crate) enum Stop {
     /// There was no memory for what the call needs, so it was not made.
     NotMade,
     /// The call answered want of memory.
@@ -23,7 +23,7 @@ impl From<AllocError> for Stop {
 }
 
 /// A fault that is want of memory, or another.
-pub fn stop_at(is_memory: bool) -> Stop {
+pub(crate) fn stop_at(is_memory: bool) -> Stop {
     if is_memory {
         Stop::NoMemory
     } else {
@@ -32,7 +32,7 @@ pub fn stop_at(is_memory: bool) -> Stop {
 }
 
 /// What a call needs, made before it.
-pub fn needed<T, E: Drop>(made: Result<T, E>) -> Result<T, Stop>
+pub(crate) fn needed<T, E: Drop>(made: Result<T, E>) -> Result<T, Stop>
     ensures { IfOk result (λ value. made ≡ Ok value) }
 {
     match made {
@@ -61,7 +61,7 @@ pub(crate) fn are_names(names: &[Name], wanted: &[&[u8]]) -> bool {
 }
 
 /// Prints what came of the call, and judges its answer.
-pub fn tell<R: Print, T: Drop, E: Into<Stop>, F: Fn(&T) -> bool>(
+pub(crate) fn tell<R: Print, T: Drop, E: Into<Stop>, F: Fn(&T) -> bool>(
     rt: &R,
     call: &str,
     answer: Result<T, E>,

@@ -14,7 +14,7 @@ options q r
 alias snd-* snd-pcm more
 ";
 
-pub const CONFIGURATION: &[u8] = b"options y debug=1 \\
+pub(crate) const CONFIGURATION: &[u8] = b"options y debug=1 \\
  level=3
 install x /bin/true
 softdep z pre: y
