@@ -1,9 +1,9 @@
 //! Reading a catalogue of 1,024 modules with 10 exports and 10 needs each.
 
 use crate::figure::{measure_rate, print_figure};
-use crate::texts::{catalogue_of, of_text};
+use crate::texts::text_of;
 use anyhow::Result;
-use dep_index::Catalogue;
+use dep_index::{Catalogue, read_catalogue};
 use std::alloc::{AllocError, Global};
 use std::rt::Clock;
 
@@ -14,8 +14,8 @@ const SYMBOLS: usize = 10;
 const READS: usize = 150;
 
 pub fn measure<R: Print + Clock + AllocGlobal>(rt: &R) -> Result<()> {
-    let measure = |text: &[u8]| measure_text(rt, text);
-    of_text(rt.alloc(), "version 2\n", MODULES, push_module, measure)
+    let text = text_of(rt.alloc(), "version 2\n", MODULES, push_module)?;
+    measure_text(rt, text.as_bytes())
 }
 
 fn measure_text<R: Print + Clock + AllocGlobal>(rt: &R, text: &[u8]) -> Result<()> {
@@ -29,7 +29,7 @@ fn measure_text<R: Print + Clock + AllocGlobal>(rt: &R, text: &[u8]) -> Result<(
 fn read_often(alloc: Global, text: &[u8]) -> Result<usize> {
     let mut needs: usize = 0;
     for _ in 0..READS {
-        needs = needs.wrapping_add(needs_of(&catalogue_of(alloc, text)?));
+        needs = needs.wrapping_add(needs_of(&read_catalogue(alloc, text)?));
     }
     Ok(needs)
 }

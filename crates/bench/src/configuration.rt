@@ -1,7 +1,7 @@
 //! A configuration text, read whole, and looked up by name.
 
 use crate::figure::{measure_rate, measure_time};
-use crate::texts::of_text;
+use crate::texts::text_of;
 use anyhow::{Result, ensure};
 use modprobe_conf::{Conf, read_conf};
 use std::alloc::AllocError;
@@ -26,8 +26,8 @@ blacklist other-{module}"
 }
 
 pub fn measure<R: Print + Clock + AllocGlobal>(rt: &R) -> Result<()> {
-    let measure = |text: &[u8]| measure_text(rt, text);
-    of_text(rt.alloc(), "", MODULES, push_module, measure)
+    let text = text_of(rt.alloc(), "", MODULES, push_module)?;
+    measure_text(rt, text.as_bytes())
 }
 
 fn measure_text<R: Print + Clock + AllocGlobal>(rt: &R, text: &[u8]) -> Result<()> {

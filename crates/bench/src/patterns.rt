@@ -1,7 +1,7 @@
 //! Shell patterns of hardware aliases: one pair at a time, and a look-up over the 26,000 of a modules.alias text.
 
 use crate::figure::{measure_rate, measure_time};
-use crate::texts::of_text;
+use crate::texts::text_of;
 use alias_match::{Aliases, Pattern, read_aliases};
 use anyhow::{Result, ensure};
 use std::alloc::{AllocError, Global};
@@ -70,8 +70,8 @@ fn push_alias(text: &mut String, device: usize) -> Result<(), AllocError> {
 
 /// The aliases of this text.
 pub fn aliases(alloc: Global) -> Result<Aliases> {
-    let read = |text: &[u8]| Ok(read_aliases(alloc, text)?);
-    of_text(alloc, "", DEVICES, push_alias, read)
+    let text = text_of(alloc, "", DEVICES, push_alias)?;
+    Ok(read_aliases(alloc, text.as_bytes())?)
 }
 
 pub fn measure<R: Print + Clock + AllocGlobal>(rt: &R) -> Result<()> {
@@ -84,8 +84,8 @@ pub fn measure<R: Print + Clock + AllocGlobal>(rt: &R) -> Result<()> {
             "another answer"
         );
     }
-    let measure = |text: &[u8]| measure_text(rt, text);
-    of_text(rt.alloc(), "", DEVICES, push_alias, measure)
+    let text = text_of(rt.alloc(), "", DEVICES, push_alias)?;
+    measure_text(rt, text.as_bytes())
 }
 
 fn measure_text<R: Print + Clock + AllocGlobal>(rt: &R, text: &[u8]) -> Result<()> {

@@ -2,7 +2,7 @@
 
 use crate::figure::{measure_time, print_figure};
 use crate::patterns::{DEVICE, aliases};
-use crate::texts::{numbered_catalogue, of_text};
+use crate::texts::{numbered_catalogue, text_of};
 use anyhow::{Result, ensure};
 use dep_index::read_dep;
 use load_plan::{Sources, find, plan, removal_plan};
@@ -59,14 +59,13 @@ fn over_sources<F: FnOnce(&Sources<'_>) -> Result<()>>(
 ) -> Result<()>
     requires { F.IsAlwaysCallable measure }
 {
-    let paths = if has_symbols { 0 } else { MODULES };
     let push = |text: &mut String, slot| push_module(text, slot, has_symbols);
-    let dependencies = |text: &[u8]| Ok(read_dep(alloc, text)?);
-    let configuration = |text: &[u8]| Ok(read_conf(alloc, text)?);
+    let paths = text_of(alloc, "", if has_symbols { 0 } else { MODULES }, push_paths)?;
+    let settings = text_of(alloc, "", MODULES, push_settings)?;
     measure(&Sources {
         catalogue: &numbered_catalogue(alloc, MODULES, push)?,
-        dependencies: &of_text(alloc, "", paths, push_paths, dependencies)?,
-        configuration: &of_text(alloc, "", MODULES, push_settings, configuration)?,
+        dependencies: &read_dep(alloc, paths.as_bytes())?,
+        configuration: &read_conf(alloc, settings.as_bytes())?,
     })
 }
 
