@@ -26,41 +26,47 @@ Exit status:
   2  an argument, a file or a section is refused
   3  a read or a write failed, memory ran out, or a limit was reached";
 
-/// What the program takes: how many workers a session has, and files that stand before its input.
-fn command<'a>(alloc: Global) -> Result<Command<'a>, AllocError> {
-    let workers = Arg::new(alloc, "workers")
+/// An option without a value.
+fn flag<'a>(alloc: Global, name: &'a str, help: &'a str) -> Arg<'a> {
+    Arg::new(alloc, name)
+        .long(name)
+        .action(ArgAction::SetTrue)
+        .help(help)
+}
+
+/// How many workers a session has.
+fn workers<'a>(alloc: Global) -> Arg<'a> {
+    Arg::new(alloc, "workers")
         .long("workers")
         .value_name("N")
         .value_parser(value_parser!(u16).range(1..=64))
         .default_value("1")
-        .help("How many workers there are");
-    let explain = Arg::new(alloc, "explain")
-        .long("explain")
-        .action(ArgAction::SetTrue)
-        .help("Explains a fault, and lists lines without effect, on standard error");
-    let fail = Arg::new(alloc, "fail")
-        .long("fail")
-        .action(ArgAction::SetTrue)
-        .help("Ends with status 1 where a reply was an error");
-    let lint = Arg::new(alloc, "lint")
-        .long("lint")
-        .action(ArgAction::SetTrue)
-        .help(
-            "Lists lines without effect or about nothing, on standard error, and answers no command",
-        );
-    let words = Arg::new(alloc, "words")
+        .help("How many workers there are")
+}
+
+/// Files that stand before the input.
+fn words<'a>(alloc: Global) -> Arg<'a> {
+    Arg::new(alloc, "words")
         .value_name("WORD")
         .num_args(0..)
         .action(ArgAction::Append)
-        .help("catalogue=PATH, dep=PATH, alias=PATH or conf=PATH");
+        .help("catalogue=PATH, dep=PATH, alias=PATH or conf=PATH")
+}
+
+/// What the program takes.
+fn command<'a>(alloc: Global) -> Result<Command<'a>, AllocError> {
+    let explain = "Explains a fault, and lists lines without effect, on standard error";
+    let fail = "Ends with status 1 where a reply was an error";
+    let lint =
+        "Lists lines without effect or about nothing, on standard error, and answers no command";
     Command::new(alloc, "modsh")
         .version(VERSION)
         .after_help(HELP)
-        .arg(workers)?
-        .arg(explain)?
-        .arg(fail)?
-        .arg(lint)?
-        .arg(words)
+        .arg(workers(alloc))?
+        .arg(flag(alloc, "explain", explain))?
+        .arg(flag(alloc, "fail", fail))?
+        .arg(flag(alloc, "lint", lint))?
+        .arg(words(alloc))
 }
 
 /// What clap finds in the words.

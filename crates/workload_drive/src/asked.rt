@@ -45,32 +45,27 @@ fn flag<'a>(alloc: Global, name: &'a str, help: &'a str) -> Arg<'a> {
         .help(help)
 }
 
-/// What the program takes.
-fn command<'a>(alloc: Global) -> Result<Command<'a>, AllocError> {
-    let threads = flag(alloc, "threads", "Runs a script on threads");
-    let replies = flag(
-        alloc,
-        "replies",
-        "Writes the reply of each line of a script",
-    );
-    let input_lines = flag(
-        alloc,
-        "input-lines",
-        "Numbers the lines of replies as in the input, from 1",
-    );
-    let explain = flag(alloc, "explain", "Explains a fault on standard error");
-    let file = Arg::new(alloc, "file")
+/// The file of the input.
+fn file<'a>(alloc: Global) -> Arg<'a> {
+    Arg::new(alloc, "file")
         .value_name("FILE")
         .action(ArgAction::Set)
-        .help("The input; standard input without it, or where it is -");
+        .help("The input; standard input without it, or where it is -")
+}
+
+/// What the program takes.
+fn command<'a>(alloc: Global) -> Result<Command<'a>, AllocError> {
+    let replies = "Writes the reply of each line of a script";
+    let input_lines = "Numbers the lines of replies as in the input, from 1";
+    let explain = "Explains a fault on standard error";
     Command::new(alloc, "workload")
         .version(VERSION)
         .after_help(HELP)
-        .arg(threads)?
-        .arg(replies.requires_arg("threads")?)?
-        .arg(input_lines.requires_arg("replies")?)?
-        .arg(explain)?
-        .arg(file)
+        .arg(flag(alloc, "threads", "Runs a script on threads"))?
+        .arg(flag(alloc, "replies", replies).requires_arg("threads")?)?
+        .arg(flag(alloc, "input-lines", input_lines).requires_arg("replies")?)?
+        .arg(flag(alloc, "explain", explain))?
+        .arg(file(alloc))
 }
 
 /// How the lines of replies are numbered, where replies are asked for.
