@@ -1,4 +1,3 @@
 pub mod Answered
-pub mod Texts
 pub mod Queries
 pub mod Sys

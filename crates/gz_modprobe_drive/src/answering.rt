@@ -1,14 +1,15 @@
 //! How a query is answered: what is read for it, and what is told.
 ghost use Rattle.std.specs.Prelude.{◌≡◌, ◌≤◌, IfOk};
-ghost use Rattle.gz_modprobe_drive.specs.Texts.{IsConfOf};
+ghost use Rattle.kmod_texts.specs.Texts.{IsConfOf};
 
 use crate::answered::answer_machine;
 use crate::answers::{asks_states, tell_failure};
 use crate::sys::module_states;
-use crate::texts::{Machine, conf_of};
+use crate::texts::Machine;
 use kmod_conf::{Conf, NameLine};
 use kmod_names::name_of_path;
 use kmod_query::{Answer, Ask, Failure, Query, States};
+use kmod_texts::conf_of;
 use modprobe_files::{ConfTexts, Host, directory, read_configuration, read_modules, tell_folder};
 use modprobe_words::{Asked, Level, Messages};
 use std::alloc::{AllocError, Global};

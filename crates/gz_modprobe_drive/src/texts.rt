@@ -1,12 +1,7 @@
-//! The texts of a machine, as they were read, and what they say.
-ghost use Rattle.std.specs.Prelude.{◌≡◌, IfOk, OnOk, option_map};
-ghost use Rattle.gz_modprobe_drive.specs.Texts.{conf_from, conf_of, index_of, text_in, texts_in, with_command_line, with_text};
+//! The texts of a machine, as they were read.
 
-use kmod_conf::Conf;
-use kmod_index::{Index, IndexTexts};
 use kmod_query::States;
-use modprobe_files::{ConfTexts, ModuleTexts, TextFile};
-use std::alloc::{AllocError, Global};
+use modprobe_files::{ConfTexts, ModuleTexts};
 
 /// All that is read for a query.
 #[derive(Drop)]
@@ -16,75 +11,4 @@ pub(crate) struct Machine {
     pub(crate) states: States,
     /// The folder of modules, as it is printed.
     pub(crate) directory: Vec<u8>,
-}
-
-/// Adds what a file says.
-#[tactic(auto, unfolding(crate::specs::Texts::with_text))]
-fn add_file(
-    alloc: Global,
-    conf: &mut Conf,
-    source: usize,
-    file: &TextFile,
-) -> Result<(), AllocError>
-    ensures { OnOk result (conf.new ≡ with_text conf.old source (text_in file.now)) }
-{
-    conf.add_text(alloc, source, &file.text)
-}
-
-/// Adds what the kernel's command line says, where there is one.
-#[tactic(auto, unfolding(crate::specs::Texts::with_command_line))]
-fn add_command_line(
-    alloc: Global,
-    conf: &mut Conf,
-    source: usize,
-    line: Option<&Vec<u8>>,
-) -> Result<(), AllocError>
-    ensures { OnOk result (conf.new ≡ with_command_line conf.old source (option_map (λ text. text.now.items) line.entry)) }
-{
-    match line {
-        Some(text) => conf.add_command_line(alloc, source, text),
-        None => Ok(()),
-    }
-}
-
-/// Adds what files say, one after another. A place has the number of its file.
-fn add_files(alloc: Global, conf: &mut Conf, files: &[TextFile]) -> Result<(), AllocError>
-    ensures { OnOk result (conf.new ≡ conf_from 0 conf.old (texts_in files.now)) }
-{
-    let mut source = 0usize;
-    let mut rest = files;
-    while let Some((file, later)) = rest.split_first() {
-        add_file(alloc, conf, source, file)?;
-        source += 1;
-        rest = later;
-    }
-    Ok(())
-}
-
-/// What the texts of a configuration say: the files, one after another, and then the kernel's command line. A place has the
-/// number of its file, and the command line has the number behind them. Only want of memory refuses.
-#[tactic(auto, unfolding(crate::specs::Texts::conf_of))]
-pub(crate) fn conf_of(alloc: Global, texts: &ConfTexts) -> Result<Conf, AllocError>
-    ensures { IfOk result (λ conf. conf ≡ conf_of texts.now) }
-{
-    let mut conf = Conf::new(alloc);
-    add_files(alloc, &mut conf, &texts.files)?;
-    let line = texts.command_line.as_ref();
-    add_command_line(alloc, &mut conf, texts.files.len(), line)?;
-    Ok(conf)
-}
-
-/// What the texts of a folder of modules say. Only want of memory refuses.
-#[tactic(auto, unfolding(crate::specs::Texts::index_of))]
-pub(crate) fn index_of(alloc: Global, texts: &ModuleTexts) -> Result<Index, AllocError>
-    ensures { IfOk result (λ index. index ≡ index_of texts.now) }
-{
-    let own = IndexTexts {
-        dep: &texts.dep,
-        alias: &texts.alias,
-        symbols: &texts.symbols,
-        builtin: &texts.builtin,
-        builtin_modinfo: &texts.builtin_modinfo,
-    };
-    Index::read(alloc, &own)
 }
