@@ -84,6 +84,6 @@ with_entries conf [] = conf
 with_entries conf (entry ∷ entries) = with_entries (with_entry conf entry) entries
 
 -- what the command line says, as the first line of a source
-abbrev pub conf_with_command_line : Configuration → ℕ → List ℕ → Configuration
+unfoldable pub conf_with_command_line : Configuration → ℕ → List ℕ → Configuration
 conf_with_command_line conf source text =
     with_entries conf (words_said (record { source = source; line = 1 }) false [] (counted text))

@@ -120,5 +120,5 @@ with_lines conf source (line ∷ lines) =
     with_lines (with_found conf (line_entry (place_in source line.first) (place_in source line.last) line.text)) source lines
 
 -- a text more
-abbrev pub conf_with_text : Configuration → ℕ → List ℕ → Configuration
+unfoldable pub conf_with_text : Configuration → ℕ → List ℕ → Configuration
 conf_with_text conf source text = with_lines conf source (wrapped_lines text)

@@ -180,6 +180,7 @@ impl Conf {
 
     /// Adds what the kernel's command line says, the text of /proc/cmdline, behind what is there; `source` is kept in
     /// the places. Only want of memory refuses, and then some of it may be there.
+    #[tactic(auto, unfolding(crate::specs::CommandLine::conf_with_command_line))]
     pub fn add_command_line(
         &mut self,
         alloc: Global,

@@ -84,6 +84,7 @@ impl Conf {
 
     /// Adds what the lines of a text of modprobe.d say (modprobe.d(5)), behind what is there; `source` is kept in
     /// their places. Only want of memory refuses, and then some of the lines may be there.
+    #[tactic(auto, unfolding(crate::specs::Configuration::conf_with_text))]
     pub fn add_text(&mut self, alloc: Global, source: usize, text: &[u8]) -> Result<(), AllocError>
         ensures { OnOk result (self.new ≡ conf_with_text self.old source text.now) }
     {

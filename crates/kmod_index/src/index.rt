@@ -48,11 +48,12 @@ impl Model for Index {
 }
 
 impl Index {
-    ghost use Rattle.kmod_index.specs.Index.{indexes_of};
+    ghost use Rattle.kmod_index.specs.Index.{indexes_of, texts_in};
 
     /// What the texts say. It fails for want of memory alone.
+    #[tactic(auto, unfolding(crate::specs::Index::indexes_of))]
     pub fn read(alloc: Global, texts: &IndexTexts) -> Result<Index, AllocError>
-        ensures { IfOk result (λ index. index ≡ indexes_of texts.now) }
+        ensures { IfOk result (λ index. index ≡ indexes_of (texts_in texts.now)) }
     {
         Ok(Index {
             dependencies: read_modules_dep(alloc, texts.dep)?,

@@ -1,20 +1,20 @@
 //! What the texts of a configuration say.
 ghost use Rattle.std.specs.Prelude.{◌≡◌, IfOk, OnOk, option_map};
-ghost use Rattle.kmod_texts.specs.Texts.{conf_from, conf_of, text_in, texts_in, with_command_line, with_text};
+ghost use Rattle.kmod_conf.specs.Configuration.{conf_with_text};
+ghost use Rattle.kmod_texts.specs.Texts.{conf_from, conf_of, text_in, texts_in, with_command_line};
 
 use kmod_conf::Conf;
 use modprobe_files::{ConfTexts, TextFile};
 use std::alloc::{AllocError, Global};
 
 /// Adds what a file says.
-#[tactic(auto, unfolding(crate::specs::Texts::with_text))]
 fn add_file(
     alloc: Global,
     conf: &mut Conf,
     source: usize,
     file: &TextFile,
 ) -> Result<(), AllocError>
-    ensures { OnOk result (conf.new ≡ with_text conf.old source (text_in file.now)) }
+    ensures { OnOk result (conf.new ≡ conf_with_text conf.old source (text_in file.now)) }
 {
     conf.add_text(alloc, source, &file.text)
 }
