@@ -6,11 +6,12 @@ use Rattle.std.proofs.lemmas.Bool.{lt-leb}
 use Rattle.std.specs.Global.{Vec}
 use Rattle.dep_index.specs.declared.calls.Call.{Call}
 use Rattle.dep_index.specs.declared.calls.Call.TheVariants.{Get}
-use Rattle.dep_index.specs.Table.{Module, Book, Table, is_live, state_of, count_of}
+use Rattle.dep_index.specs.Table.{Module, Table, is_live, state_of, count_of}
 use Rattle.dep_index.specs.Calls.{next, effect, opening, IsInRange}
 use Rattle.dep_index.specs.Laws.{IsShaped, IsLawful}
 use Rattle.dep_index.proofs.RunLaws.{next_lawful, next_shaped, opening_lawful, opening_shaped}
-use Rattle.seq_table.specs.Rows.{rows_of, table_of, IsKept}
+use Rattle.seq_table.specs.Over.{IsKept}
+use Rattle.seq_table.specs.Rows.{rows_of}
 
 pub get_or-rows_of : (rows : List (Vec ℕ)) (w : ℕ) (d : Vec ℕ) → w < length rows → get_or (rows_of rows) w [] ≡ (get_or rows w d).items
 get_or-rows_of [] w d h = absurd (omega arith)
@@ -26,19 +27,17 @@ pub length-rows_of : (rows : List (Vec ℕ)) → length (rows_of rows) ≡ lengt
 length-rows_of [] = refl
 length-rows_of (r ∷ rows) = ap suc (length-rows_of rows)
 
--- a book and rows that are the next table are kept
-pub kept_after : (catalogue : List Module) (book book' : Book) (rows rows' : Vec (Vec ℕ)) (call : Call)
-    → IsKept catalogue book rows → IsInRange (length catalogue) (length rows.items) call
-    → table_of book' rows'.items ≡ next catalogue (table_of book rows.items) call → length rows'.items ≡ length rows.items
-    → IsKept catalogue book' rows'
-kept_after catalogue book book' rows rows' call kept range is same =
+-- the next table is kept
+pub kept_after : (catalogue : List Module) (old new : Table) (call : Call)
+    → IsKept catalogue old → IsInRange (length catalogue) (length old.rows) call → new ≡ next catalogue old call → IsKept catalogue new
+kept_after catalogue old new call kept range is =
+    let shape : IsShaped (length catalogue) (length old.rows) new = subst (λ (t : Table). IsShaped (length catalogue) (length old.rows) t) (sym is)
+    (next_shaped (length catalogue) (length old.rows) catalogue old call kept.shape) in
     record {
       slots = kept.slots;
-      workers = rw same kept.workers;
-      shape = rw same (subst (λ (t : Table). IsShaped (length catalogue) (length rows.items) t) (sym is)
-          (next_shaped (length catalogue) (length rows.items) catalogue (table_of book rows.items) call kept.shape));
-      lawful = subst (λ (t : Table). IsLawful catalogue t) (sym is)
-          (next_lawful catalogue (length rows.items) (table_of book rows.items) call kept.shape kept.lawful range);
+      workers = rw shape.rows kept.workers;
+      shape = rw shape.rows shape;
+      lawful = subst (λ (t : Table). IsLawful catalogue t) (sym is) (next_lawful catalogue (length old.rows) old call kept.shape kept.lawful range);
     }
 
 -- a get that is done
@@ -47,17 +46,12 @@ pub get_becomes : (catalogue : List Module) (table : Table) (w m : ℕ) → is_l
 get_becomes catalogue table w m live few = let room : leb 65535 (count_of table w m) ≡ false = lt-leb _ _ few in rw (live, room) refl
 
 -- the opening table is kept
-pub opening_kept : (catalogue : List Module) (workers : ℕ) (book : Book) (rows : Vec (Vec ℕ)) → length catalogue ≤ 65535 → workers ≤ 64
-    → book ≡ (opening catalogue 0).book → rows_of rows.items ≡ replicate workers (replicate (length catalogue) 0) → IsKept catalogue book rows
-opening_kept catalogue workers book rows few small opens zeros =
+pub opening_kept : (catalogue : List Module) (workers : ℕ) → length catalogue ≤ 65535 → workers ≤ 64 → IsKept catalogue (opening catalogue workers)
+opening_kept catalogue workers few small =
+    let len : length (opening catalogue workers).rows ≡ workers = length-replicate workers (replicate (length catalogue) 0) in
     record {
       slots = few;
       workers = rw len small;
-      shape = rw len (subst (λ (t : Table). IsShaped (length catalogue) workers t) (sym same) (opening_shaped catalogue workers));
-      lawful = subst (λ (t : Table). IsLawful catalogue t) (sym same) (opening_lawful catalogue workers);
-    } where
-      len : length rows.items ≡ workers
-      len = sym (length-rows_of rows.items) ∙ ap length zeros ∙ length-replicate workers (replicate (length catalogue) 0)
-
-      same : table_of book rows.items ≡ opening catalogue workers
-      same = ap (λ (b : Book). table_of b rows.items) opens ∙ ap (λ (r : List (List ℕ)). record { book = (opening catalogue 0).book; rows = r }) zeros
+      shape = rw len (opening_shaped catalogue workers);
+      lawful = opening_lawful catalogue workers;
+    }

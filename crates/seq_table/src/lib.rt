@@ -6,6 +6,7 @@ mod modules;
 mod performing;
 mod table;
 
+pub use counts::Counts;
 pub use modules::Modules;
 pub use performing::perform;
 pub use table::Table;

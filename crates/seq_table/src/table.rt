@@ -3,7 +3,7 @@ ghost use Rattle.std.specs.Prelude.{◌≡◌, ◌≤◌, IfOk};
 ghost use Rattle.dep_index.specs.Catalogue.{modules_of};
 ghost use Rattle.dep_index.specs.Calls.{opening};
 
-use crate::counts;
+use crate::counts::Counts;
 use crate::modules::Modules;
 use dep_index::{
     BeginDrainError, BeginLoadError, BeginRemoveError, Book, Catalogue, EndLoadError,
@@ -17,7 +17,7 @@ use std::marker::Model;
 pub struct Table {
     slots: Slots,
     book: Book,
-    rows: Vec<Vec<u16>>,
+    counts: Counts,
 }
 
 impl Model for Table {
@@ -25,11 +25,11 @@ impl Model for Table {
 
     ghost Value = { Over };
 
-    ghost use Rattle.seq_table.specs.Rows.{table_of, IsKept};
+    ghost use Rattle.seq_table.specs.Over.{IsKept};
 
-    ghost view = { λ t. record { catalogue = t.slots; table = table_of t.book t.rows.items } };
+    ghost view = { λ t. record { catalogue = t.slots; table = record { book = t.book; rows = t.counts } } };
 
-    ghost invariant = { λ t. IsKept t.slots t.book t.rows };
+    ghost invariant = { λ t. IsKept t.slots (record { book = t.book; rows = t.counts }) };
 }
 
 impl Table {
@@ -50,8 +50,12 @@ impl Table {
         ensures opens { IfOk result (λ t. t.table ≡ opening slots workers) }
     {
         let book = Book::new(alloc, &slots)?;
-        let rows = counts::zero_rows(alloc, workers, slots.len())?;
-        Ok(Table { slots, book, rows })
+        let counts = Counts::new(alloc, workers, slots.len())?;
+        Ok(Table {
+            slots,
+            book,
+            counts,
+        })
     }
 }
 
@@ -61,7 +65,7 @@ impl Modules for Table {
     ghost table = { λ t. t.table };
 
     fn workers(&self) -> usize {
-        self.rows.len()
+        self.counts.workers()
     }
 
     fn slots(&self) -> usize {
@@ -73,15 +77,15 @@ impl Modules for Table {
     }
 
     fn held(&self, worker: usize, slot: usize) -> u32 {
-        u32::from(counts::count_of(&self.rows, worker, slot))
+        u32::from(self.counts.count(worker, slot))
     }
 
     fn in_use(&self, slot: usize) -> bool {
-        counts::holders(&self.rows, slot) > 0
+        self.counts.holders(slot) > 0
     }
 
     fn references(&self, slot: usize) -> u32 {
-        counts::pairs(&self.rows, slot) + self.book.user_count(&self.slots, slot) as u32
+        self.counts.pairs(slot) + self.book.user_count(&self.slots, slot) as u32
     }
 
     fn loaded(&self) -> usize {
@@ -98,27 +102,27 @@ impl Modules for Table {
     }
 
     fn laws(&self) {
-        let _ = &self.rows;
+        let _ = &self.counts;
     }
 
     fn get(&mut self, worker: usize, slot: usize) -> Result<(), GetError> {
         if !reads::is_live(self.book.state(slot)) {
             return Err(GetError::NotLive);
         }
-        let count = counts::count_of(&self.rows, worker, slot);
+        let count = self.counts.count(worker, slot);
         if count == u16::MAX {
             return Err(GetError::TooMany);
         }
-        counts::set_count(&mut self.rows, worker, slot, count + 1);
+        self.counts.set_count(worker, slot, count + 1);
         Ok(())
     }
 
     fn put(&mut self, worker: usize, slot: usize) -> Result<(), PutError> {
-        let count = counts::count_of(&self.rows, worker, slot);
+        let count = self.counts.count(worker, slot);
         if count == 0 {
             return Err(PutError::NotHeld);
         }
-        counts::set_count(&mut self.rows, worker, slot, count - 1);
+        self.counts.set_count(worker, slot, count - 1);
         Ok(())
     }
 
@@ -154,7 +158,7 @@ impl Modules for Table {
         if let Some(refusal) = self.book.remove_refusal(&self.slots, slot) {
             return Err(refusal);
         }
-        if counts::holders(&self.rows, slot) > 0 {
+        if self.counts.holders(slot) > 0 {
             return Err(BeginRemoveError::InUse);
         }
         self.book.set(slot, ModuleState::Unloading);
@@ -166,7 +170,7 @@ impl Modules for Table {
             return Err(refusal);
         }
         let draining = reads::is_draining(self.book.state(slot));
-        if draining && counts::holders(&self.rows, slot) > 0 {
+        if draining && self.counts.holders(slot) > 0 {
             return Err(EndRemoveError::InUse);
         }
         self.book.leave(slot);

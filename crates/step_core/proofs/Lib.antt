@@ -3,5 +3,4 @@ pub mod Soundness
 pub mod Lines
 pub mod WholeSteps
 pub mod Premises
-pub mod RowsOf
 pub mod RunLaws

@@ -1,14 +1,9 @@
--- For proofs alone: the rows of counts as lists, and what a write needs.
-use Rattle.std.specs.Prelude.{ℕ, ◌≡◌, ◌<◌, List, [], length, map, slice_index_or}
-use Rattle.std.specs.Global.{Vec}
+-- For proofs alone: what a write needs.
+use Rattle.std.specs.Prelude.{ℕ, ◌≡◌, ◌<◌, [], length, slice_index_or}
 use Rattle.dep_index.specs.declared.calls.Call.{Call}
 use Rattle.dep_index.specs.declared.calls.Call.TheVariants.{Get, BeginLoad}
 use Rattle.dep_index.specs.Table.{Table, count_of}
 use Rattle.dep_index.specs.Calls.{IsInRange}
-
--- each worker's counts by slot
-abbrev pub rows_of : List (Vec ℕ) → List (List ℕ)
-rows_of rows = map (λ row. row.items) rows
 
 -- what a write needs: slot and worker are there, a count stays short, and the order has room
 pub record CanWrite (written : Table) (call : Call) : Type 0 where

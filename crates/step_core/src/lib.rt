@@ -1,7 +1,6 @@
 //! The machine of steps: the calls of many threads on a module table, one atomic step at a time.
 #![tactic(auto)]
 
-mod counts;
 mod holders;
 pub mod laws;
 mod line;

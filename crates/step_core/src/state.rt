@@ -2,10 +2,10 @@
 ghost use Rattle.std.specs.Prelude.{◌≡◌, ◌<◌, length, slice_index, IfNone, IfOk};
 ghost use Rattle.dep_index.specs.Calls.{worker_of};
 
-use crate::counts::Counts;
 use crate::holders::Holders;
 use crate::steps::{Activity, Event, Line, Step, StepError};
 use dep_index::{Book, Call, Slots, words};
+use seq_table::Counts;
 use std::alloc::{AllocError, Global};
 use std::marker::Model;
 

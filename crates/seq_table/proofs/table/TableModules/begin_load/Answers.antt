@@ -1,4 +1,4 @@
-use Rattle.std.proofs.Common.{rules, ◌≡◌, None, refl}
+use Rattle.std.proofs.Common.{rules, ◌≡◌, None}
 use Rattle.dep_index.specs.declared.calls.Call.TheVariants.{BeginLoad}
 use Rattle.dep_index.specs.Calls.{book_refusal}
 use Rattle.dep_index.proofs.Room.{load_has_room}
@@ -12,5 +12,5 @@ enter-requires-clause-room c =
 
 pub invariant_of-self : goal.invariant_of-self
 invariant_of-self c =
-    kept_after c.self.inside.slots c.self.inside.book _ c.self.inside.rows c.self.inside.rows (BeginLoad c.args.slot)
-    c.self.invariant (search rules, tt) (search rules) refl
+    kept_after c.self.inside.slots (record { book = c.self.inside.book; rows = c.self.inside.counts }) _ (BeginLoad c.args.slot)
+    c.self.invariant (search rules, tt) (search rules)

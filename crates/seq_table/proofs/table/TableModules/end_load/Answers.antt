@@ -1,9 +1,9 @@
-use Rattle.std.proofs.Common.{rules, false, refl}
+use Rattle.std.proofs.Common.{rules, false}
 use Rattle.dep_index.specs.declared.calls.Call.TheVariants.{EndLoad}
 use Rattle.seq_table.proofs.Kept.{kept_after}
 use Rattle.seq_table.proofs.table.TableModules.end_load.Goals as goal
 
 pub invariant_of-self-else-ok : goal.invariant_of-self-else-ok
 invariant_of-self-else-ok c =
-    kept_after c.self.inside.slots c.self.inside.book _ c.self.inside.rows c.self.inside.rows (EndLoad c.args.slot false)
-    c.self.invariant (search rules, tt) (search rules) refl
+    kept_after c.self.inside.slots (record { book = c.self.inside.book; rows = c.self.inside.counts }) _ (EndLoad c.args.slot false)
+    c.self.invariant (search rules, tt) (search rules)

@@ -1,9 +1,9 @@
-use Rattle.std.proofs.Common.{rules, refl}
+use Rattle.std.proofs.Common.{rules}
 use Rattle.dep_index.specs.declared.calls.Call.TheVariants.{EndRemove}
 use Rattle.seq_table.proofs.Kept.{kept_after}
 use Rattle.seq_table.proofs.table.TableModules.end_remove.Goals as goal
 
 pub invariant_of-self : goal.invariant_of-self
 invariant_of-self c =
-    kept_after c.self.inside.slots c.self.inside.book _ c.self.inside.rows c.self.inside.rows (EndRemove c.args.slot)
-    c.self.invariant (search rules, tt) (search rules) refl
+    kept_after c.self.inside.slots (record { book = c.self.inside.book; rows = c.self.inside.counts }) _ (EndRemove c.args.slot)
+    c.self.invariant (search rules, tt) (search rules)

@@ -1,9 +1,9 @@
 use Rattle.std.proofs.Common.{◌<◌, ◌∙◌, sym, ap, subst, List, [], length, get_or, ℕ, arith}
 use Rattle.std.proofs.Math.ListN.{set}
 use Rattle.std.specs.Global.{Vec}
-use Rattle.step_core.specs.Kept.{rows_of}
-use Rattle.step_core.proofs.RowsOf.{rows_of-set, get_or-rows_of, length-rows_of}
-use Rattle.step_core.proofs.counts.Counts.set_count.Goals as goal
+use Rattle.seq_table.specs.Rows.{rows_of}
+use Rattle.seq_table.proofs.Kept.{rows_of-set, get_or-rows_of, length-rows_of}
+use Rattle.seq_table.proofs.counts.Counts.set_count.Goals as goal
 
 pub returns : goal.returns
 returns c =
