@@ -48,7 +48,7 @@ abbrev pub end_word : Bool → List ℕ
 end_word true = codes "ok"
 end_word false = codes "fail"
 
--- what stands behind the first word of a call: the name, after the worker of a get or a put, before how a load ended
+-- what stands after the first word of a call: the name, after the worker of a get or a put, before how a load ended
 abbrev pub words_behind : Verb → List ℕ → List (List ℕ) → List (List ℕ)
 words_behind (Get worker) name later = decimal worker ∷ name ∷ later
 words_behind (Put worker) name later = decimal worker ∷ name ∷ later
@@ -62,7 +62,7 @@ call_words verb name later = word_of verb ∷ words_behind verb name later
 abbrev pub call_text : Verb → List ℕ → List ℕ
 call_text verb name = join_with_byte 32 (call_words verb name [])
 
--- a call on the module of a name, and the words behind it
+-- a call on the module of a name, and the words after it
 pub record Said : Type 0 where
   pub verb : Verb
   pub name : List ℕ
@@ -83,7 +83,7 @@ verb_alone word =
 abbrev pub load_end : List ℕ → Option Bool
 load_end word = if bytes_eq word (codes "ok") then Some true else (if bytes_eq word (codes "fail") then Some false else None)
 
--- the call that words begin with: `get` and `put` have the word of this worker before the name, `end_load` has how it ended behind it
+-- the call that words begin with: `get` and `put` have the word of this worker before the name, `end_load` has how it ended after it
 abbrev pub call_of : List (List ℕ) → Option ℕ → Option Said
 call_of [] worker = None
 call_of (_ ∷ []) worker = None

@@ -25,7 +25,7 @@ pub enum Verb {
     EndRemove,
 }
 
-/// A call on the module of a name, and the words behind it.
+/// A call on the module of a name, and the words after it.
 #[derive(Clone, Copy, Drop)]
 pub struct Said<'w, 'a> {
     pub verb: Verb,

@@ -18,7 +18,7 @@ no_address = codes "0x0000000000000000"
 abbrev pub with_comma : List ℕ → List ℕ
 with_comma name = name ++ 44 ∷ []
 
--- what stands behind the users: the mark of a permanent module, or `-` where there is neither user nor mark
+-- what stands after the users: the mark of a permanent module, or `-` where there is neither user nor mark
 abbrev pub users_end : Bool → Bool → List ℕ
 users_end is_used true = codes "[permanent],"
 users_end true false = []
@@ -44,6 +44,6 @@ line_text l = join_with_byte 32 (fields_of l) ++ 10 ∷ []
 abbrev pub head_text : List ℕ → ℕ → ℕ → List ℕ
 head_text name size count = name ++ (32 ∷ (decimal size ++ (32 ∷ (decimal count ++ (32 ∷ [])))))
 
--- the part behind the users
+-- the part after the users
 abbrev pub tail_text : Bool → Bool → LineState → List ℕ
 tail_text used permanent state = users_end used permanent ++ (32 ∷ (state_text state ++ (codes " " ++ (no_address ++ 10 ∷ []))))

@@ -27,13 +27,13 @@ with_user user (Some found) = Some (user ∷ found.0, found.1)
 abbrev pub is_mark : List ℕ → Bool
 is_mark word = bytes_eq word (codes "[permanent]")
 
--- behind the mark stands the empty last part alone
+-- after the mark stands the empty last part alone
 abbrev pub is_end : List (List ℕ) → Bool
 is_end [] = false
 is_end (last ∷ []) = length last == 0
 is_end (part ∷ next ∷ more) = false
 
--- what a part is, by the parts behind it and by what they are: the last part is empty, the mark stands before it, and
+-- what a part is, by the parts after it and by what they are: the last part is empty, the mark stands before it, and
 -- every other part is a name
 abbrev pub users_at : List ℕ → List (List ℕ) → Option (List (List ℕ) × Bool) → Option (List (List ℕ) × Bool)
 users_at last [] rest = if length last == 0 then Some ([], false) else None
@@ -67,7 +67,7 @@ is_address (first ∷ []) = false
 is_address (first ∷ second ∷ digits) =
     first == 48 && second == 120 && nat_le 1 (length digits) && nat_le (length digits) 16 && list_all is_hex_digit digits
 
--- behind the address stands nothing, or one word of taints
+-- after the address stands nothing, or one word of taints
 abbrev pub is_taint : List (List ℕ) → Bool
 is_taint [] = true
 is_taint (taint ∷ []) = nat_lt 0 (length taint)
@@ -87,7 +87,7 @@ abbrev pub then_read : {A B : Type 0} → Result A LineError → (A → Result B
 then_read (Ok value) later = later value
 then_read (Err refusal) later = Err refusal
 
--- the size and the count behind a good name
+-- the size and the count after a good name
 abbrev pub numbers_in : List ℕ → List ℕ → List ℕ → Result (ℕ × ℕ) LineError
 numbers_in name size count =
     unless BadName (is_line_name name)
@@ -129,7 +129,7 @@ abbrev pub with_used : ℕ → Result Line LineError → Result (Line × ℕ) Li
 with_used used (Ok line) = Ok (line, used)
 with_used used (Err refusal) = Err refusal
 
--- what was read is the line, and each refusal is the one that is wanted; want of memory says nothing of the text
+-- what was read is the line, and each refusal is the one that is wanted; out of memory says nothing of the text
 abbrev pub ReadsLine : Result Line LineError → Result Line LineError → Type 0
 ReadsLine wanted result = MatchResult result (λ l. wanted ≡ Ok l) (λ e. e ≢ Memory → wanted ≡ Err e)
 

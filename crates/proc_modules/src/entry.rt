@@ -43,7 +43,7 @@ fn push_users(text: &mut Vec<u8>, catalogue: &Catalogue, users: &[u16]) -> Resul
 }
 
 /// Adds the line of /proc/modules (proc(5)) of a module of the catalogue, whose users are of it too. A module that
-/// drains is shown as unloading. It fails for want of memory alone; what stands in the text then is not said.
+/// drains is shown as unloading. It fails only if memory runs out; what stands in the text then is not said.
 pub fn push_line(
     text: &mut Vec<u8>,
     catalogue: &Catalogue,

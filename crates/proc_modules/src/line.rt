@@ -47,7 +47,7 @@ pub enum LineError {
     /// The state is none of `Live`, `Loading` and `Unloading`.
     #[error("the state is none of Live, Loading and Unloading")]
     BadState,
-    /// The address is not `0x` and 1 to 16 hexadecimal digits, or more than one word of taints stands behind it.
+    /// The address is not `0x` and 1 to 16 hexadecimal digits, or more than one word of taints stands after it.
     #[error("the address is no hexadecimal number")]
     BadAddress,
     /// There was no memory. This may come before any other refusal.

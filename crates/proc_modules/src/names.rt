@@ -28,7 +28,7 @@ impl Names {
         }
     }
 
-    /// Adds a name after the others. It fails for want of memory alone, and is then as before.
+    /// Adds a name after the others. It fails only if memory runs out, and is then as before.
     pub fn push(&mut self, name: Name) -> Result<(), AllocError>
         ensures added { OnOk result (self.new ≡ self.old ++ name ∷ []) }
         ensures kept { OnErr result (self.new ≡ self.old) }

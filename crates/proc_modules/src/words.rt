@@ -76,7 +76,7 @@ pub(crate) fn is_address(word: &[u8]) -> bool
     }
 }
 
-/// Whether nothing or one word stands behind the address.
+/// Whether nothing or one word stands after the address.
 pub(crate) fn is_taint(fields: &[&[u8]]) -> bool
     ensures { result ≡ is_taint (texts_of fields.now) }
 {

@@ -6,7 +6,7 @@ use crate::line::{Line, LineState};
 use itoa::Buffer;
 use std::alloc::{AllocError, Global};
 
-/// Adds a number in decimal. It fails for want of memory alone; what stands in the text then is not said.
+/// Adds a number in decimal. It fails only if memory runs out; what stands in the text then is not said.
 pub fn push_number(text: &mut Vec<u8>, n: usize) -> Result<(), AllocError>
     ensures { OnOk result (text.new.items ≡ text.old.items ++ decimal n) }
 {
@@ -14,7 +14,7 @@ pub fn push_number(text: &mut Vec<u8>, n: usize) -> Result<(), AllocError>
     text.extend_from_slice(buffer.format(n).as_bytes())
 }
 
-/// Adds the fields before the users, each with the space behind it.
+/// Adds the fields before the users, each with the space after it.
 pub(crate) fn push_head(
     text: &mut Vec<u8>,
     name: &[u8],
@@ -41,7 +41,7 @@ pub(crate) fn push_user(text: &mut Vec<u8>, user: &[u8]) -> Result<(), AllocErro
     Ok(())
 }
 
-/// What stands behind the users in their field.
+/// What stands after the users in their field.
 fn users_end(is_used: bool, permanent: bool) -> &'static [u8]
     ensures { result.now ≡ users_end is_used permanent }
 {
@@ -62,7 +62,7 @@ fn state_text(state: LineState) -> &'static [u8]
     }
 }
 
-/// Adds what stands behind the users: the end of their field, the state, the address and the line end.
+/// Adds what stands after the users: the end of their field, the state, the address and the line end.
 pub(crate) fn push_tail(
     text: &mut Vec<u8>,
     is_used: bool,

@@ -12,7 +12,7 @@ number_of ErrorReply = 1
 number_of Refused = 2
 number_of Fault = 3
 
--- how a program ends that has no input: a path that is not read is refused, and a stream that fails and want of memory are faults
+-- how a program ends that has no input: a path that is not read is refused, and a stream that fails and running out of memory are faults
 abbrev pub input_status : InputFault → Status
 input_status (Stream fault) = Fault
 input_status (Path paths.Memory) = Fault

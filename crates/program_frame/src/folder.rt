@@ -12,7 +12,7 @@ use text_parts::is_same;
 /// it has to be enough for all: some 200,000 names.
 const ROOM_FOR_NAMES: usize = 4_194_304;
 
-/// The names in a listing, each with a NUL behind it, without the folder itself and the one above it.
+/// The names in a listing, each with a NUL after it, without the folder itself and the one above it.
 fn names_in(alloc: Global, listing: &[u8]) -> Result<Vec<Vec<u8>>, AllocError> {
     let mut names = Vec::new(alloc);
     for name in listing.split(|byte| *byte == 0) {

@@ -4,11 +4,7 @@ ghost use Rattle.std.specs.List.{find, slice_split};
 ghost use Rattle.std.specs.Option.{option_map};
 ghost use Rattle.text_parts.specs.Text.{is_blank, is_filled};
 
-fn is_blank(byte: u8) -> bool
-    ensures { result ≡ is_blank byte }
-{
-    byte == b' ' || byte == b'\t'
-}
+use text_parts::is_blank;
 
 fn found_word(line: &[u8]) -> Option<&[u8]>
     ensures { option_map (λ word. word.now) result ≡ find is_filled (slice_split is_blank line.now) }

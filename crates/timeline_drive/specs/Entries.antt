@@ -28,7 +28,7 @@ pub record Entry : Type 0 where
   pub name : List ℕ
   pub times : Times
 
--- a word, and the words behind it
+-- a word, and the words after it
 pub record Found : Type 0 where
   pub value : List ℕ
   pub later : List (List ℕ)
@@ -77,13 +77,13 @@ times_with None last effect = None
 times_with (Some first) None effect = None
 times_with (Some first) (Some last) None = None
 
--- the word after a mark with which words begin, and the words behind it
+-- the word after a mark with which words begin, and the words after it
 abbrev pub after : List ℕ → List (List ℕ) → Option Found
 after mark [] = None
 after mark (word ∷ []) = None
 after mark (word ∷ value ∷ later) = if bytes_eq word mark then Some (record { value = value; later = later }) else None
 
--- the times in the words after a call: `first I last J point K reply R`, and nothing behind
+-- the times in the words after a call: `first I last J point K reply R`, and nothing after
 abbrev pub times_of : List (List ℕ) → Option Times
 times_of words =
     option_and_then (λ first. option_and_then (λ last. option_and_then (λ point. option_and_then (λ reply.

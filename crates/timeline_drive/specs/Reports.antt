@@ -32,7 +32,7 @@ entries_in entries = map entry_in entries
 abbrev pub first_fault : List ℕ → Option ℕ
 first_fault text = option_map (λ before. before + 1) (position is_none (lines_from 0 (lines text)))
 
--- a line is refused where it is the first that is none; want of memory says nothing of the text
+-- a line is refused where it is the first that is none; out of memory says nothing of the text
 abbrev pub Refuses : List ℕ → ReportFault → Type 0
 Refuses text (Line line) = first_fault text ≡ Some line
 Refuses text Memory = Unit {0}

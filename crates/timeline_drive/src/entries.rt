@@ -35,7 +35,7 @@ pub struct Entry<'a> {
     pub effect: Option<Effect>,
 }
 
-/// A word, and the words behind it.
+/// A word, and the words after it.
 #[derive(Clone, Copy, Drop)]
 pub(crate) struct Found<'w, 'a> {
     pub(crate) value: &'a [u8],
@@ -109,7 +109,7 @@ fn is_ordered(times: Times) -> bool
     }
 }
 
-/// The word after a mark with which words begin, and the words behind it.
+/// The word after a mark with which words begin, and the words after it.
 pub(crate) fn after<'w, 'a>(mark: &[u8], words: &'w [&'a [u8]]) -> Option<Found<'w, 'a>>
     ensures { option_map found_in result ≡ after mark.now (texts_of words.now) }
 {

@@ -61,7 +61,7 @@ fn is_step(word: &[u8]) -> bool {
     is_same(word, b"-") || index_of(word).is_some()
 }
 
-/// What is wrong with the words behind a call.
+/// What is wrong with the words after a call.
 fn flaw_of_times(words: &[&[u8]]) -> Flaw {
     let [head, first, to, last, at, point, with, reply] = words else {
         return Flaw::Marks;
@@ -79,7 +79,7 @@ fn flaw_of_times(words: &[&[u8]]) -> Flaw {
     Flaw::Order
 }
 
-/// What is wrong with the words behind the number of a call.
+/// What is wrong with the words after the number of a call.
 fn flaw_of_call(words: &[&[u8]]) -> Flaw {
     let Some((thread, call)) = words.split_first() else {
         return Flaw::Thread;

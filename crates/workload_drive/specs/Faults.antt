@@ -39,7 +39,7 @@ abbrev pub points_fault : PointsError → ScheduleFault
 points_fault (points.Step index cause) = fault.Step index cause
 points_fault points.Memory = fault.Memory
 
--- the reading ends with this line as its first faulty one; want of memory says nothing of the lines
+-- the reading ends with this line as its first faulty one; out of memory says nothing of the lines
 abbrev pub IsFirstFault : {A : Type 0} → ScheduleFault → Result A LineFault → Type 0
 IsFirstFault (fault.Line f) read = read ≡ Err f
 IsFirstFault (fault.Step index cause) read = ⊥

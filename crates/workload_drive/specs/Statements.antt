@@ -1,4 +1,4 @@
--- The parts of an input: the text of its catalogue, and the lines behind it that say something, by their words.
+-- The parts of an input: the text of its catalogue, and the lines after it that say something, by their words.
 use Rattle.std.specs.Prelude.{ℕ, ◌+◌, ◌||◌, ◌==◌, Bool, if◌then◌else◌, List, [], ◌∷◌, ◌++◌}
 use Rattle.std.specs.Prelude.{length, drop, slice_index, codes, Option, Some, None, Result, Ok, Err}
 use Rattle.std.specs.Str.{bytes_eq}
@@ -25,7 +25,7 @@ numbered n (line ∷ lines) = with_number n line ∷ numbered (n + 1) lines
 abbrev pub is_ignored : List ℕ → Bool
 is_ignored text = is_comment text || length (words text) == 0
 
--- the lines behind `%catalogue`, before which ignored lines alone may stand; an input that ends before it lacks the line end
+-- the lines after `%catalogue`, before which ignored lines alone may stand; an input that ends before it lacks the line end
 abbrev pub behind_head : ℕ → List Numbered → Result (List Numbered) LineFault
 behind_head end [] = Err (bad_line end)
 behind_head end (line ∷ lines) =
@@ -38,7 +38,7 @@ text_before section [] = []
 text_before section (line ∷ lines) =
     if bytes_eq line.text section then [] else line.text ++ line.ending ++ text_before section lines
 
--- the lines behind a section line
+-- the lines after a section line
 abbrev pub lines_behind : List ℕ → List Numbered → List Numbered
 lines_behind section [] = []
 lines_behind section (line ∷ lines) = if bytes_eq line.text section then lines else lines_behind section lines
@@ -55,7 +55,7 @@ abbrev pub statements : List Numbered → List Statement
 statements [] = []
 statements (line ∷ lines) = if is_ignored line.text then statements lines else said_by line ∷ statements lines
 
--- an input: its catalogue, what it says behind it, and the number of the line behind its last
+-- an input: its catalogue, what it says after it, and the number of the line after its last
 pub record Parts : Type 0 where
   pub catalogue : List Description
   pub statements : List Statement

@@ -12,18 +12,18 @@ pub data Order : Type 0 where
   go : ℕ → Order
   make : Verb → List ℕ → Order
 
--- a call behind which no word stands
+-- a call after which no word stands
 abbrev pub made : Option Said → Option Order
 made None = None
 made (Some said) = if length said.later == 0 then Some (make said.verb said.name) else None
 
--- the steps that the words behind `go` ask for
+-- the steps that the words after `go` ask for
 abbrev pub go_of : List (List ℕ) → Option Order
 go_of [] = Some (go 1)
 go_of (count ∷ []) = option_map go (from_one (number_within 1000000 count))
 go_of (_ ∷ _ ∷ _) = None
 
--- the order of the words behind a thread; None where they have no form
+-- the order of the words after a thread; None where they have no form
 abbrev pub order_of : List (List ℕ) → Option Order
 order_of [] = None
 order_of (first ∷ []) = if bytes_eq first (codes "go") then Some (go 1) else None

@@ -48,7 +48,7 @@ abbrev pub then_said : Result (List Step) LineFault → (List Step → Result (L
 then_said (Err e) later = Err e
 then_said (Ok steps) later = later steps
 
--- the steps of statements, behind earlier steps
+-- the steps of statements, after earlier steps
 abbrev pub steps_of : List Description → List Step → List Statement → Result (List Step) LineFault
 steps_of modules steps [] = Ok steps
 steps_of modules steps (said ∷ later) =

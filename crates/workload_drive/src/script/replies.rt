@@ -51,7 +51,7 @@ fn room(alloc: Global, lines: usize) -> Result<Vec<OnceLock<Reply>>, AllocError>
 }
 
 impl Replies {
-    /// Room for the replies of a script. Only want of memory refuses.
+    /// Room for the replies of a script. It fails only if memory runs out.
     pub fn new(alloc: Global, script: &Script) -> Result<Replies, AllocError> {
         let opening = room(alloc, script.opening().len())?;
         let mut workers = Vec::new(alloc);
