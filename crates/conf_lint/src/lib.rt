@@ -1,7 +1,6 @@
 //! Which lines of a configuration are about nothing.
 #![tactic(auto)]
 
-mod joined_lines;
 mod known;
 pub mod laws;
 mod lines;

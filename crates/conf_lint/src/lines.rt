@@ -3,11 +3,11 @@ ghost use Rattle.std.specs.Prelude.{◌≡◌, ◌++◌, IfOk, OnOk};
 ghost use Rattle.text_parts.specs.Text.{texts_of};
 ghost use Rattle.conf_lint.specs.Notes.{line_notes, notes_of, with_line, with_words, word_notes};
 
-use crate::joined_lines::JoinedLines;
 use crate::known::Known;
 use crate::named::{Found, NamedLine};
 use crate::note::Note;
 use crate::setting::setting_said;
+use modprobe_conf::JoinedLines;
 use std::alloc::{AllocError, Global};
 use text_parts::{Name, is_comment, is_same, words};
 
@@ -71,9 +71,9 @@ pub fn lint(alloc: Global, known: &Known<'_>, text: &[u8]) -> Result<Vec<Note>, 
 {
     let mut found = Found::new(alloc);
     let mut lines = JoinedLines::new(text);
-    let mut line = Vec::new(alloc);
-    'lines: while let Some(number) = lines.next_line(&mut line)? {
-        add_line(alloc, known, &mut found, number, &line)?;
+    let mut buffer = Vec::new(alloc);
+    'lines: while let Some((number, line)) = lines.next_line(&mut buffer)? {
+        add_line(alloc, known, &mut found, number, line.text(&buffer))?;
     }
     Ok(found.notes)
 }

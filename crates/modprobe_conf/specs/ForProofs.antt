@@ -5,8 +5,6 @@ use Rattle.modprobe_conf.specs.declared.settings.Line.{Line as CodeLine}
 use Rattle.modprobe_conf.specs.declared.settings.Line.TheVariants.{Blacklist, Install, Remove, Options, Softdep}
 use Rattle.modprobe_conf.specs.declared.entry.Entry.{Entry as CodeEntry}
 use Rattle.modprobe_conf.specs.declared.entry.Entry.TheVariants.{Aliased, Named}
-use Rattle.modprobe_conf.specs.declared.joined_lines.Joined.{Joined}
-use Rattle.modprobe_conf.specs.declared.joined_lines.Joined.TheVariants.{Whole, Several}
 use Rattle.modprobe_conf.specs.Configuration.{Line, blacklist, install, remove, options, softdep, Entry, alias, named}
 use Rattle.modprobe_conf.specs.Configuration.{Configuration, with_named, aliases_in, modules_from}
 
@@ -20,11 +18,6 @@ line_of (Softdep items) = softdep items
 abbrev pub entry_seen : CodeEntry → Entry
 entry_seen (Aliased own) = alias own
 entry_seen (Named name said) = named name (line_of said)
-
--- a joined line, which stands in a buffer where it is of several lines
-abbrev pub joined_text : Joined → List ℕ → List ℕ
-joined_text (Whole line) buffer = line.now
-joined_text Several buffer = buffer
 
 -- no line was read
 abbrev pub no_configuration : Configuration

@@ -1,3 +1,4 @@
 pub mod Configuration
 pub mod Idle
+pub mod Joined
 pub mod ForProofs

@@ -5,7 +5,8 @@ ghost use Rattle.alias_match.specs.Aliases.{line_before, matching, words_before}
 ghost use Rattle.alias_match.specs.ForProofs.{nothing_read};
 ghost use Rattle.modprobe_conf.specs.Configuration.{configuration_of, entry_of, options_of, settings_by, settings_of, softdep_of};
 ghost use Rattle.modprobe_conf.specs.Configuration.{has_install_line, has_remove_line, is_blacklisted};
-ghost use Rattle.modprobe_conf.specs.ForProofs.{no_configuration, with_entry, with_lines, entry_seen, joined_text};
+ghost use Rattle.modprobe_conf.specs.ForProofs.{no_configuration, with_entry, with_lines, entry_seen};
+ghost use Rattle.modprobe_conf.specs.Joined.{joined_text};
 
 use crate::entry::Entry;
 use crate::joined_lines::{Joined, JoinedLines};

@@ -2,23 +2,23 @@
 ghost use Rattle.std.specs.Prelude.{◌≡◌, ◌∷◌, ◌-◌, [], length, take, IfOk, MatchOption, true, false};
 ghost use Rattle.std.specs.Str.Lines.{lines};
 ghost use Rattle.modprobe_conf.specs.Configuration.{ends_with_backslash, joined_lines};
-ghost use Rattle.modprobe_conf.specs.ForProofs.{joined_text};
+ghost use Rattle.modprobe_conf.specs.Joined.{joined_text};
 
 use bstr::Lines;
 use std::alloc::AllocError;
 use std::marker::Model;
 use text_parts::whole_lines;
 
-/// Where a joined line stands: in the text, if no backslash ends it, or else in a buffer.
+/// Where a joined line stands: in the text, if it is one line, or else in a buffer.
 #[derive(Drop)]
-pub(crate) enum Joined<'a> {
+pub enum Joined<'a> {
     Whole(&'a [u8]),
     Several,
 }
 
 impl<'a> Joined<'a> {
-    /// The joined line, which stands in this buffer if it is of several lines.
-    pub(crate) fn text<'b>(self, buffer: &'b [u8]) -> &'b [u8]
+    /// The joined line. If it is of several lines, this is the buffer that `next_line` put it into.
+    pub fn text<'b>(self, buffer: &'b [u8]) -> &'b [u8]
     where
         'a: 'b,
         ensures { result.now ≡ joined_text self.entry buffer.entry.now }
@@ -32,7 +32,7 @@ impl<'a> Joined<'a> {
 
 /// The joined lines of a text that are left, each with the number of its first line.
 #[derive(Drop)]
-pub(crate) struct JoinedLines<'a> {
+pub struct JoinedLines<'a> {
     lines: Lines<'a>,
     number: usize,
 }
@@ -62,7 +62,8 @@ fn before_backslash(line: &[u8]) -> Option<&[u8]>
 }
 
 impl<'a> JoinedLines<'a> {
-    pub(crate) fn new(text: &'a [u8]) -> JoinedLines<'a>
+    /// The joined lines of a text, of which the first has the number 1.
+    pub fn new(text: &'a [u8]) -> JoinedLines<'a>
         ensures { result ≡ joined_lines 1 (lines text.now) }
     {
         JoinedLines {
@@ -71,8 +72,9 @@ impl<'a> JoinedLines<'a> {
         }
     }
 
-    /// The next joined line with its number. One of several lines is put into the buffer.
-    pub(crate) fn next_line(
+    /// The next joined line with its number, None at the end. The buffer is emptied, and one of several lines is put into
+    /// it. Only want of memory refuses.
+    pub fn next_line(
         &mut self,
         buffer: &mut Vec<u8>,
     ) -> Result<Option<(usize, Joined<'a>)>, AllocError>

@@ -13,6 +13,7 @@ mod word;
 
 pub use conf::{Conf, read_conf};
 pub use idle::idle_settings;
+pub use joined_lines::{Joined, JoinedLines};
 pub use laws::settings_are_of_lines;
 pub use settings::Settings;
 pub use softdep::Softdep;
