@@ -12,10 +12,19 @@ use std::marker::Model;
 
 /// Aliases in the order of their lines. Those that match a text are found by a hash table, whose keys are the marks of their
 /// patterns: a pattern matches no text without the pattern's mark.
-#[derive(Drop)]
 pub struct AliasList {
     entries: Vec<Alias>,
     table: HashTable,
+}
+
+// By hand, since a derived drop is written out, and proved, at each place where a value is let go.
+impl Drop for AliasList {
+    fn drop(self) {
+        let AliasList {
+            entries: _,
+            table: _,
+        } = self;
+    }
 }
 
 impl Model for AliasList {

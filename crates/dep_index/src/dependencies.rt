@@ -10,9 +10,15 @@ use text_parts::Name;
 
 /// The lines of a modules.dep text (depmod(8)): for each name that has one, the names that it depends on.
 /// Contracts see it as the list of its pairs.
-#[derive(Drop)]
 pub struct DepIndex {
     lines: IndexMap<Vec<u8>, Vec<Name>>,
+}
+
+// By hand, since a derived drop is written out, and proved, at each place where a value is let go.
+impl Drop for DepIndex {
+    fn drop(self) {
+        let DepIndex { lines: _ } = self;
+    }
 }
 
 impl Model for DepIndex {

@@ -23,7 +23,6 @@ const BLOCK: usize = 256;
 /// The slots in the order in which they entered. A slot that leaves becomes a gap. The entries are packed where they
 /// reach the end of their room, which is twice that of the slots: so often as many slots have entered since.
 /// Contracts see it as the list of its slots, and how many slots there are.
-#[derive(Drop)]
 pub(crate) struct Order {
     /// Slots and gaps, the oldest first.
     entries: Vec<u16>,
@@ -34,6 +33,19 @@ pub(crate) struct Order {
     /// How many slots there are in each block of the entries.
     counts: Vec<u16>,
     len: usize,
+}
+
+// By hand, since a derived drop is written out, and proved, at each place where a value is let go.
+impl Drop for Order {
+    fn drop(self) {
+        let Order {
+            entries: _,
+            spare: _,
+            places: _,
+            counts: _,
+            len: _,
+        } = self;
+    }
 }
 
 impl Model for Order {

@@ -16,11 +16,21 @@ use use_indicator::{Leaf, Reader};
 /// the worker, the slot or the place is out of range, and nothing is changed then.
 ///
 /// Each lock's word has cache lines of its own, so workers who hold a module don't slow each other.
-#[derive(Drop)]
 pub struct ManagedTable {
     pub(crate) row: Row,
     pub(crate) leaves: Locks<Leaf>,
     pub(crate) book: Locks<Book>,
+}
+
+// By hand, since a derived drop is written out, and proved, at each place where a value is let go.
+impl Drop for ManagedTable {
+    fn drop(self) {
+        let ManagedTable {
+            row: _,
+            leaves: _,
+            book: _,
+        } = self;
+    }
 }
 
 impl Model for ManagedTable {

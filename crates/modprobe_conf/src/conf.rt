@@ -21,11 +21,21 @@ use text_parts::{Name, find_words, is_comment};
 
 /// What a configuration says: its aliases in file order, what its lines say of each name, and the numbers of the
 /// lines that are skipped. Names are compared as they stand, so give them in normal form.
-#[derive(Drop)]
 pub struct Conf {
     aliases: AliasList,
     index: NameIndex,
     skipped: Vec<usize>,
+}
+
+// By hand, since a derived drop is written out, and proved, at each place where a value is let go.
+impl Drop for Conf {
+    fn drop(self) {
+        let Conf {
+            aliases: _,
+            index: _,
+            skipped: _,
+        } = self;
+    }
 }
 
 impl Model for Conf {

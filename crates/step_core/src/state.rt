@@ -10,7 +10,6 @@ use std::alloc::{AllocError, Global};
 use std::marker::Model;
 
 /// Book, counts, words, locks and threads. Contracts see them as a state of the machine.
-#[derive(Drop)]
 pub struct State {
     pub(crate) book: Book,
     pub(crate) counts: Counts,
@@ -19,6 +18,21 @@ pub struct State {
     pub(crate) threads: Vec<Option<Activity>>,
     invoked: usize,
     calls: usize,
+}
+
+// By hand, since a derived drop is written out, and proved, at each place where a value is let go.
+impl Drop for State {
+    fn drop(self) {
+        let State {
+            book: _,
+            counts: _,
+            words: _,
+            locks: _,
+            threads: _,
+            invoked: _,
+            calls: _,
+        } = self;
+    }
 }
 
 impl Model for State {
