@@ -24,11 +24,15 @@ unfoldable pub with_command_line : Configuration → ℕ → Option (List ℕ) �
 with_command_line conf source None = conf
 with_command_line conf source (Some text) = conf_with_command_line conf source text
 
--- the configuration: what the files say, and then the kernel's command line
-unfoldable pub conf_of : ConfTexts → Configuration
-conf_of texts =
-    with_command_line (conf_from 0 no_lines (texts_in texts.files.items)) (length texts.files.items)
+-- what the files say, and then the kernel's command line, behind what is there
+unfoldable pub with_texts : Configuration → ConfTexts → Configuration
+with_texts conf texts =
+    with_command_line (conf_from 0 conf (texts_in texts.files.items)) (length texts.files.items)
     (option_map (λ text. text.items) texts.command_line)
+
+-- the configuration
+unfoldable pub conf_of : ConfTexts → Configuration
+conf_of texts = with_texts no_lines texts
 
 -- a configuration is what these texts say
 pub record IsConfOf (texts : ConfTexts) (conf : Configuration) : Type 0 where

@@ -1,7 +1,7 @@
 //! What the texts of a configuration say.
 ghost use Rattle.std.specs.Prelude.{◌≡◌, IfOk, OnOk, option_map};
 ghost use Rattle.kmod_conf.specs.Configuration.{conf_with_text};
-ghost use Rattle.kmod_texts.specs.Texts.{conf_from, conf_of, text_in, texts_in, with_command_line};
+ghost use Rattle.kmod_texts.specs.Texts.{conf_from, conf_of, text_in, texts_in, with_command_line, with_texts};
 
 use kmod_conf::Conf;
 use modprobe_files::{ConfTexts, TextFile};
@@ -49,6 +49,16 @@ fn add_files(alloc: Global, conf: &mut Conf, files: &[TextFile]) -> Result<(), A
     Ok(())
 }
 
+/// Adds what the texts of a configuration say.
+#[tactic(auto, unfolding(crate::specs::Texts::with_texts))]
+fn add_texts(alloc: Global, conf: &mut Conf, texts: &ConfTexts) -> Result<(), AllocError>
+    ensures { OnOk result (conf.new ≡ with_texts conf.old texts.now) }
+{
+    add_files(alloc, conf, &texts.files)?;
+    let line = texts.command_line.as_ref();
+    add_command_line(alloc, conf, texts.files.len(), line)
+}
+
 /// What the texts of a configuration say: the files, one after another, and then the kernel's command line. A place has the
 /// number of its file, and the command line has the number behind them. Only want of memory refuses.
 #[tactic(auto, unfolding(crate::specs::Texts::conf_of))]
@@ -56,8 +66,6 @@ pub fn conf_of(alloc: Global, texts: &ConfTexts) -> Result<Conf, AllocError>
     ensures { IfOk result (λ conf. conf ≡ conf_of texts.now) }
 {
     let mut conf = Conf::new(alloc);
-    add_files(alloc, &mut conf, &texts.files)?;
-    let line = texts.command_line.as_ref();
-    add_command_line(alloc, &mut conf, texts.files.len(), line)?;
+    add_texts(alloc, &mut conf, texts)?;
     Ok(conf)
 }
