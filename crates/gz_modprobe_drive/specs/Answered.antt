@@ -20,7 +20,7 @@ pub record Known : Type 0 where
 -- what the texts and states of a machine say
 unfoldable pub said_by : Machine → Known
 said_by machine =
-    record { conf = conf_of machine.conf; index = index_of machine.modules; states = machine.states; directory = machine.directory.items }
+    record { conf = conf_of machine.conf.now; index = index_of machine.modules.now; states = machine.states.now; directory = machine.directory.now }
 
 -- what a world has
 abbrev pub known_of : World → Known

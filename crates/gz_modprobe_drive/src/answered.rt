@@ -1,9 +1,8 @@
 //! An answer, from the texts of a machine to a stream.
 ghost use Rattle.std.specs.Prelude.{◌≡◌, IfOk, IsTrue};
 ghost use Rattle.std.specs.Io.KnownBytes.{Appends};
-ghost use Rattle.kmod_query.specs.AnswerOf.{answer_of};
 ghost use Rattle.kmod_texts.specs.Texts.{IsConfOf};
-ghost use Rattle.gz_modprobe_drive.specs.Answered.{IsAnswer, said_by, status_of};
+ghost use Rattle.gz_modprobe_drive.specs.Answered.{IsAnswer, known_of, said_by, status_of};
 
 use crate::explained::explain;
 use crate::texts::Machine;
@@ -44,18 +43,23 @@ fn writes<O: Write>(output: &mut O, text: &[u8]) -> bool
     }
 }
 
-/// Answers a query of a world, and writes the answer's output. Only want of memory refuses.
-fn answer_world<O: Write>(
+/// Answers a query from the world of a machine, and writes the answer's output, whether it is explained or not. Only want of
+/// memory refuses.
+fn answer_world<O: Write, E: Write>(
     alloc: Global,
+    machine: &Machine<'_>,
     world: &World<'_>,
     query: &Query<'_>,
     output: &mut O,
+    messages: &mut Messages<'_, E>,
 ) -> Result<Answered, AllocError>
-    ensures answer { IfOk result (λ own. own.answer ≡ answer_of world.now query.now) }
+    requires { known_of world.now ≡ said_by machine.now }
+    ensures answer { IfOk result (λ own. IsAnswer (said_by machine.now) query.now own.answer) }
     ensures written { IfOk result (λ own. IsTrue own.is_written → Appends (O.contents output.old) (O.contents output.new) own.answer.output) }
 {
     let answer = answer_to(alloc, world, query)?;
     let is_written = writes(output, answer.output());
+    explain(alloc, machine, world, query, messages);
     Ok(Answered { answer, is_written })
 }
 
@@ -64,24 +68,22 @@ fn answer_world<O: Write>(
 #[tactic(auto, unfolding(crate::specs::Answered::said_by))]
 pub(crate) fn answer_machine<O: Write, E: Write>(
     alloc: Global,
-    machine: &Machine,
+    machine: &Machine<'_>,
     conf: &Conf,
     query: &Query<'_>,
     output: &mut O,
     messages: &mut Messages<'_, E>,
 ) -> Result<Answered, AllocError>
-    requires { IsConfOf machine.now.conf conf.now }
+    requires { IsConfOf machine.now.conf.now conf.now }
     ensures answer { IfOk result (λ own. IsAnswer (said_by machine.now) query.now own.answer) }
     ensures written { IfOk result (λ own. IsTrue own.is_written → Appends (O.contents output.old) (O.contents output.new) own.answer.output) }
 {
-    let index = index_of(alloc, &machine.modules)?;
+    let index = index_of(alloc, machine.modules)?;
     let world = World {
         conf,
         index: &index,
-        states: &machine.states,
-        directory: &machine.directory,
+        states: machine.states,
+        directory: machine.directory,
     };
-    let answered = answer_world(alloc, &world, query, output)?;
-    explain(alloc, machine, &world, query, messages);
-    Ok(answered)
+    answer_world(alloc, machine, &world, query, output, messages)
 }

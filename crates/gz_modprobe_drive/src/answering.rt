@@ -1,42 +1,24 @@
-//! How a query is answered: what is read for it, and what is told.
-ghost use Rattle.std.specs.Prelude.{◌≡◌, ◌≤◌, IfOk};
+//! How a query is answered: what is read for it, and what is told. Each thing that is read is lent onwards, so that no
+//! refusal has to drop it.
+ghost use Rattle.std.specs.Prelude.{◌≤◌, IfOk};
 ghost use Rattle.kmod_texts.specs.Texts.{IsConfOf};
 
-use crate::answered::answer_machine;
-use crate::answers::{asks_states, tell_failure};
+use crate::answered::{Answered, answer_machine};
+use crate::failures::tell_failures;
+use crate::queries::asks_states;
 use crate::sys::module_states;
 use crate::texts::Machine;
-use kmod_conf::{Conf, NameLine};
-use kmod_names::name_of_path;
-use kmod_query::{Answer, Ask, Failure, Query, States};
+use kmod_conf::Conf;
+use kmod_query::{Ask, Query, States};
 use kmod_texts::conf_of;
-use modprobe_files::{ConfTexts, Host, directory, read_configuration, read_modules, tell_folder};
+use modprobe_files::{
+    ConfTexts, Host, ModuleTexts, directory, is_rootless, read_configuration, read_modules,
+};
 use modprobe_words::{Asked, Level, Messages};
 use std::alloc::{AllocError, Global};
 use std::env::Env;
 use std::io::Write;
 use std::rt::Files;
-
-/// Tells a line of the configuration that says nothing.
-fn tell_bad_line<E: Write>(
-    alloc: Global,
-    path: &[u8],
-    line: &NameLine,
-    messages: &mut Messages<'_, E>,
-) -> Result<(), AllocError> {
-    let text = format!(in alloc;
-        " line {}: ignoring bad line starting with '",
-        line.place.line
-    )?;
-    messages.tell_always(
-        Level::Error,
-        path,
-        text.as_bytes(),
-        line.name.as_bytes(),
-        b"'",
-    );
-    Ok(())
-}
 
 /// Tells the lines of the configuration that say nothing.
 fn tell_bad_lines<E: Write>(
@@ -46,75 +28,64 @@ fn tell_bad_lines<E: Write>(
     messages: &mut Messages<'_, E>,
 ) -> Result<(), AllocError> {
     for line in conf.bad() {
-        tell_bad_line(alloc, texts.path(line.place.source), line, messages)?;
+        let (path, name) = (texts.path(line.place.source), line.name.as_bytes());
+        let text = format!(in alloc;
+            " line {}: ignoring bad line starting with '",
+            line.place.line
+        )?;
+        messages.tell_always(Level::Error, path, text.as_bytes(), name, b"'");
     }
     Ok(())
 }
 
-/// Whether a name was not found.
-fn is_not_found(answer: &Answer) -> bool {
-    for failure in answer.failures() {
-        if matches!(failure, Failure::NotFound(_)) {
-            return true;
-        }
-    }
-    false
-}
-
-/// Tells that a name which was not found is a path.
-fn tell_path<E: Write>(
-    alloc: Global,
-    failure: &Failure,
-    messages: &mut Messages<'_, E>,
-) -> Result<(), AllocError> {
-    if let Failure::NotFound(word) = failure {
-        let word = word.as_bytes();
-        if word.contains(&b'/') {
-            let name = name_of_path(alloc, word)?;
-            let text = b" is a path: the name of its module is ";
-            messages.tell(Level::Notice, word, text, name.as_bytes(), b"");
-        }
-    }
-    Ok(())
-}
-
-/// Tells why names were not answered, and what is wrong with their folder of modules.
-fn tell_failures<R: Files + AllocGlobal, E: Write>(
+/// Tells what is wrong with an answer. The status is answered.
+fn tell_answered<R: Files + AllocGlobal, E: Write>(
     host: &Host<'_, R>,
-    answer: &Answer,
+    answered: &Answered,
     query: &Query<'_>,
     directory: &[u8],
     messages: &mut Messages<'_, E>,
-) -> Result<(), AllocError> {
-    for failure in answer.failures() {
-        tell_failure(failure, query, directory, messages);
-        tell_path(host.rt.alloc(), failure, messages)?;
+) -> Result<u8, AllocError>
+    ensures { IfOk result (λ status. status ≤ 1) }
+{
+    if !answered.is_written {
+        let text = b"standard output cannot be written";
+        messages.tell_always(Level::Error, text, b"", b"", b"");
     }
-    if is_not_found(answer) {
-        tell_folder(host, directory, messages)?;
-    }
-    Ok(())
+    tell_failures(host, &answered.answer, query, directory, messages)?;
+    Ok(answered.status())
 }
 
-/// Answers a query of the machine, whose folder of modules this is, and tells what failed. The status is answered.
-fn answer_read<R: Files + AllocGlobal, O: Write, E: Write>(
+/// Tells what is wrong with the configuration, answers a query, and tells what failed. The status is answered.
+fn answer_by<R: Files + AllocGlobal, O: Write, E: Write>(
     host: &Host<'_, R>,
-    machine: &Machine,
+    machine: &Machine<'_>,
     conf: &Conf,
     query: &Query<'_>,
     output: &mut O,
     messages: &mut Messages<'_, E>,
 ) -> Result<u8, AllocError>
-    requires { IsConfOf machine.now.conf conf.now }
+    requires { IsConfOf machine.now.conf.now conf.now }
     ensures { IfOk result (λ status. status ≤ 1) }
 {
-    let answered = answer_machine(host.rt.alloc(), machine, conf, query, output, messages)?;
-    if !answered.is_written {
-        let text = b"standard output cannot be written";
-        messages.tell_always(Level::Error, text, b"", b"", b"");
-    }
-    tell_failures(host, &answered.answer, query, &machine.directory, messages)?;
-    Ok(answered.status())
+    let alloc = host.rt.alloc();
+    tell_bad_lines(alloc, machine.conf, conf, messages)?;
+    let answered = answer_machine(alloc, machine, conf, query, output, messages)?;
+    tell_answered(host, &answered, query, machine.directory, messages)
+}
+
+/// Takes the configuration from its texts, and answers a query. The status is answered.
+fn answer_texts<R: Files + AllocGlobal, O: Write, E: Write>(
+    host: &Host<'_, R>,
+    machine: &Machine<'_>,
+    query: &Query<'_>,
+    output: &mut O,
+    messages: &mut Messages<'_, E>,
+) -> Result<u8, AllocError>
+    ensures { IfOk result (λ status. status ≤ 1) }
+{
+    let conf = conf_of(host.rt.alloc(), machine.conf)?;
+    answer_by(host, machine, &conf, query, output, messages)
 }
 
 /// The states of the machine's modules, where they count.
@@ -130,66 +101,56 @@ fn states_for<R: Files + AllocGlobal, E: Write>(
     }
 }
 
-/// What the texts of a configuration say; lines that say nothing are told.
-fn told_conf<E: Write>(
-    alloc: Global,
-    texts: &ConfTexts,
-    messages: &mut Messages<'_, E>,
-) -> Result<Conf, AllocError>
-    ensures { IfOk result (IsConfOf texts.now) }
-{
-    let conf = conf_of(alloc, texts)?;
-    tell_bad_lines(alloc, texts, &conf, messages)?;
-    Ok(conf)
-}
-
-/// A machine of this configuration and this folder of modules, whose texts and states are read.
-fn read_machine<R: Files + AllocGlobal, E: Write>(
+/// Reads the states that a query asks of, and answers it. The status is answered.
+fn answer_with_modules<R: Files + AllocGlobal, O: Write, E: Write>(
     host: &Host<'_, R>,
-    conf: ConfTexts,
-    directory: Vec<u8>,
-    ask: Ask,
+    conf: &ConfTexts,
+    modules: &ModuleTexts,
+    directory: &[u8],
+    query: &Query<'_>,
+    output: &mut O,
     messages: &mut Messages<'_, E>,
-) -> Result<Machine, AllocError>
-    ensures { IfOk result (λ machine. machine.conf ≡ conf) }
+) -> Result<u8, AllocError>
+    ensures { IfOk result (λ status. status ≤ 1) }
 {
-    let modules = read_modules(host, &directory, messages)?;
-    let states = states_for(host, ask, messages)?;
-    Ok(Machine {
+    let states = states_for(host, query.ask, messages)?;
+    let machine = Machine {
         conf,
         modules,
-        states,
+        states: &states,
         directory,
-    })
+    };
+    answer_texts(host, &machine, query, output, messages)
 }
 
-/// Tells what is wrong with a configuration, and answers a query. The status is answered.
-fn answer_told<R: Files + AllocGlobal, O: Write, E: Write>(
+/// Reads the texts of the folder of modules, and answers a query. The status is answered.
+fn answer_with_conf<R: Files + AllocGlobal, O: Write, E: Write>(
     host: &Host<'_, R>,
-    machine: &Machine,
+    conf: &ConfTexts,
+    directory: &[u8],
     query: &Query<'_>,
     output: &mut O,
     messages: &mut Messages<'_, E>,
 ) -> Result<u8, AllocError>
     ensures { IfOk result (λ status. status ≤ 1) }
 {
-    let conf = told_conf(host.rt.alloc(), &machine.conf, messages)?;
-    answer_read(host, machine, &conf, query, output, messages)
+    let modules = read_modules(host, directory, messages)?;
+    answer_with_modules(host, conf, &modules, directory, query, output, messages)
 }
 
-/// Reads the rest of what a query asks of, and answers it. The status is answered.
-fn answer_by<R: Files + AllocGlobal, O: Write, E: Write>(
+/// Reads the configuration that counts for a folder of modules, and answers a query. The status is answered.
+fn answer_in<R: Files + AllocGlobal, O: Write, E: Write>(
     host: &Host<'_, R>,
-    texts: ConfTexts,
-    directory: Vec<u8>,
+    configurations: &[&[u8]],
+    directory: &[u8],
     query: &Query<'_>,
     output: &mut O,
     messages: &mut Messages<'_, E>,
 ) -> Result<u8, AllocError>
     ensures { IfOk result (λ status. status ≤ 1) }
 {
-    let machine = read_machine(host, texts, directory, query.ask, messages)?;
-    answer_told(host, &machine, query, output, messages)
+    let conf = read_configuration(host, directory, configurations, messages)?;
+    answer_with_conf(host, &conf, directory, query, output, messages)
 }
 
 /// Reads what a query asks of, and answers it. The status is answered.
@@ -202,11 +163,18 @@ pub(crate) fn answer_query<R: Files + Env + AllocGlobal, O: Write, E: Write>(
 ) -> Result<u8, AllocError>
     ensures { IfOk result (λ status. status ≤ 1) }
 {
+    if is_rootless(host, messages)? {
+        return Ok(1);
+    }
     match directory(host, asked, messages)? {
-        Some(directory) => {
-            let texts = read_configuration(host, &directory, &asked.configurations, messages)?;
-            answer_by(host, texts, directory, query, output, messages)
-        }
+        Some(directory) => answer_in(
+            host,
+            &asked.configurations,
+            &directory,
+            query,
+            output,
+            messages,
+        ),
         None => Ok(1),
     }
 }

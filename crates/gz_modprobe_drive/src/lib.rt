@@ -3,9 +3,10 @@
 
 mod answered;
 mod answering;
-mod answers;
 mod explained;
+mod failures;
 mod program;
+mod queries;
 mod refusals;
 mod sys;
 mod texts;

@@ -2,10 +2,10 @@
 ghost use Rattle.std.specs.Prelude.{◌≤◌, IfOk};
 
 use crate::answering::answer_query;
-use crate::answers::query_of;
-use crate::refusals::is_refused;
-use modprobe_files::{Host, is_rootless};
-use modprobe_words::{Asked, Messages, end_early, first_ending, read_words, variable_words};
+use crate::queries::query_of;
+use crate::refusals::refuses;
+use modprobe_files::Host;
+use modprobe_words::{Asked, Item, Messages, end_early, first_ending, read_words, variable_words};
 use std::alloc::{AllocError, Global};
 use std::env::Env;
 use std::io::Write;
@@ -21,14 +21,9 @@ fn answer_asked<R: Files + Env + AllocGlobal, O: Write, E: Write>(
     ensures { IfOk result (λ status. status ≤ 1) }
 {
     let wish = asked.switches.wish(!asked.words.is_empty());
-    if is_refused(wish, errors) {
+    if refuses(wish, errors) {
         return Ok(1);
     }
-    let mut messages = Messages {
-        errors,
-        verbosity: asked.switches.verbosity,
-        explains: asked.switches.explain,
-    };
     let Some(query) = query_of(wish, asked.switches, &asked.words) else {
         return Ok(1);
     };
@@ -36,27 +31,74 @@ fn answer_asked<R: Files + Env + AllocGlobal, O: Write, E: Write>(
         rt,
         root: asked.root.unwrap_or(b""),
     };
-    if is_rootless(&host, &mut messages)? {
-        return Ok(1);
-    }
+    let mut messages = Messages {
+        errors,
+        verbosity: asked.switches.verbosity,
+        explains: asked.switches.explain,
+    };
     answer_query(&host, asked, &query, output, &mut messages)
 }
 
-/// The words of the variable, and those of the command line behind them.
-fn all_words(alloc: Global, words: &[Vec<u8>], options: &[u8]) -> Result<Vec<Vec<u8>>, AllocError> {
-    let mut all = variable_words(alloc, options)?;
-    for word in words {
-        all.push(Vec::from_slice(alloc, word)?)?;
+/// Answers what the words were read as. The status is answered.
+fn run_items<R: Files + Env + AllocGlobal, O: Write, E: Write>(
+    rt: &R,
+    items: &[Item<'_>],
+    output: &mut O,
+    errors: &mut E,
+) -> Result<u8, AllocError>
+    ensures { IfOk result (λ status. status ≤ 1) }
+{
+    if let Some(ending) = first_ending(items) {
+        return Ok(end_early(ending, output, errors));
     }
-    Ok(all)
+    let asked = Asked::by(rt.alloc(), items)?;
+    answer_asked(rt, &asked, output, errors)
 }
 
-fn slices(alloc: Global, words: &[Vec<u8>]) -> Result<Vec<&[u8]>, AllocError> {
-    let mut all = Vec::new(alloc);
+/// Runs the program on all its words. The status is answered.
+fn run_words<R: Files + Env + AllocGlobal, O: Write, E: Write>(
+    rt: &R,
+    words: &[&[u8]],
+    output: &mut O,
+    errors: &mut E,
+) -> Result<u8, AllocError>
+    ensures { IfOk result (λ status. status ≤ 1) }
+{
+    let items = read_words(rt.alloc(), words)?;
+    run_items(rt, &items, output, errors)
+}
+
+fn add_words<'a>(all: &mut Vec<&'a [u8]>, words: &'a [Vec<u8>]) -> Result<(), AllocError> {
     for word in words {
         all.push(word.as_slice())?;
     }
+    Ok(())
+}
+
+/// The words of the variable, and those of the command line behind them.
+fn all_words<'a>(
+    alloc: Global,
+    own: &'a [Vec<u8>],
+    words: &'a [Vec<u8>],
+) -> Result<Vec<&'a [u8]>, AllocError> {
+    let mut all = Vec::new(alloc);
+    add_words(&mut all, own)?;
+    add_words(&mut all, words)?;
     Ok(all)
+}
+
+/// Runs the program on the words of the variable, and those of the command line behind them. The status is answered.
+fn run_both<R: Files + Env + AllocGlobal, O: Write, E: Write>(
+    rt: &R,
+    own: &[Vec<u8>],
+    words: &[Vec<u8>],
+    output: &mut O,
+    errors: &mut E,
+) -> Result<u8, AllocError>
+    ensures { IfOk result (λ status. status ≤ 1) }
+{
+    let all = all_words(rt.alloc(), own, words)?;
+    run_words(rt, &all, output, errors)
 }
 
 /// Runs the program on its words and the text of MODPROBE_OPTIONS. The status is answered.
@@ -69,14 +111,8 @@ fn run<R: Files + Env + AllocGlobal, O: Write, E: Write>(
 ) -> Result<u8, AllocError>
     ensures { IfOk result (λ status. status ≤ 1) }
 {
-    let own = all_words(rt.alloc(), words, options.unwrap_or(b""))?;
-    let all = slices(rt.alloc(), &own)?;
-    let items = read_words(rt.alloc(), &all)?;
-    if let Some(ending) = first_ending(&items) {
-        return Ok(end_early(ending, output, errors));
-    }
-    let asked = Asked::by(rt.alloc(), &items)?;
-    answer_asked(rt, &asked, output, errors)
+    let own = variable_words(rt.alloc(), options.unwrap_or(b""))?;
+    run_both(rt, &own, words, output, errors)
 }
 
 /// Runs the program on its words, without its own name, and the text of MODPROBE_OPTIONS. It writes the answer to

@@ -17,8 +17,8 @@ fn tell_hint<E: Write>(what: &[u8], words: &[u8], errors: &mut E) {
     write_parts(errors, words, b"NAME", b" | sh' does it\n");
 }
 
-/// Tells why a wish is not answered, where it is not. It is shown at any verbosity.
-pub(crate) fn is_refused<E: Write>(wish: Wish, errors: &mut E) -> bool
+/// Refuses a wish that is no query, with a line that says why, at any verbosity. Whether it did is answered.
+pub(crate) fn refuses<E: Write>(wish: Wish, errors: &mut E) -> bool
     ensures { result ≡ is_none (ask_of wish) }
 {
     match wish {

@@ -78,21 +78,43 @@ fn text_in<R: Files + AllocGlobal>(
     }
 }
 
+/// The state that the folder of a module tells; None where it tells nothing.
+fn state_in<R: Files + AllocGlobal>(
+    host: &Host<'_, R>,
+    folder: &[u8],
+) -> Result<Option<ModuleState>, AllocError> {
+    if let Some(text) = text_in(host, folder, b"initstate")? {
+        return Ok(Some(state_of(&text)));
+    }
+    Ok(if host.kind(folder)? == Kind::Folder {
+        Some(ModuleState::Folder)
+    } else {
+        None
+    })
+}
+
 /// What the folder of a module tells; None where it tells nothing.
 fn status_of<R: Files + AllocGlobal>(
     host: &Host<'_, R>,
     folder: &[u8],
 ) -> Result<Option<ModuleStatus>, AllocError> {
-    let state = match text_in(host, folder, b"initstate")? {
-        Some(text) => state_of(&text),
-        None if host.kind(folder)? == Kind::Folder => ModuleState::Folder,
-        None => return Ok(None),
+    let Some(state) = state_in(host, folder)? else {
+        return Ok(None);
     };
     let users = match text_in(host, folder, b"refcnt")? {
         Some(text) => count_of(&text),
         None => None,
     };
     Ok(Some(ModuleStatus { state, users }))
+}
+
+/// What is told of the module of a name.
+fn status_named<R: Files + AllocGlobal>(
+    host: &Host<'_, R>,
+    name: &[u8],
+) -> Result<Option<ModuleStatus>, AllocError> {
+    let folder = joined(host.rt.alloc(), MODULES, b"/", name)?;
+    status_of(host, &folder)
 }
 
 /// The names in /sys/module. One that is not there has none; one that cannot be read is told.
@@ -110,18 +132,35 @@ fn module_names<R: Files + AllocGlobal, E: Write>(
     }
 }
 
+/// Notes the states of modules, where they have any.
+fn add_states<R: Files + AllocGlobal>(
+    host: &Host<'_, R>,
+    names: &[Vec<u8>],
+    states: &mut States,
+) -> Result<(), AllocError> {
+    for name in names {
+        if let Some(status) = status_named(host, name)? {
+            states.set(host.rt.alloc(), name, status)?;
+        }
+    }
+    Ok(())
+}
+
+/// The states of the modules of these names.
+fn states_of<R: Files + AllocGlobal>(
+    host: &Host<'_, R>,
+    names: &[Vec<u8>],
+) -> Result<States, AllocError> {
+    let mut states = States::new(host.rt.alloc());
+    add_states(host, names, &mut states)?;
+    Ok(states)
+}
+
 /// The states of all modules that /sys/module has.
 pub(crate) fn module_states<R: Files + AllocGlobal, E: Write>(
     host: &Host<'_, R>,
     messages: &mut Messages<'_, E>,
 ) -> Result<States, AllocError> {
-    let alloc = host.rt.alloc();
-    let mut states = States::new(alloc);
-    for name in module_names(host, messages)?.iter() {
-        let folder = joined(alloc, MODULES, b"/", name)?;
-        if let Some(status) = status_of(host, &folder)? {
-            states.set(alloc, name, status)?;
-        }
-    }
-    Ok(states)
+    let names = module_names(host, messages)?;
+    states_of(host, &names)
 }

@@ -1,14 +1,14 @@
-//! The texts of a machine, as they were read.
+//! What is read of a machine.
 
 use kmod_query::States;
 use modprobe_files::{ConfTexts, ModuleTexts};
 
 /// All that is read for a query.
-#[derive(Drop)]
-pub(crate) struct Machine {
-    pub(crate) conf: ConfTexts,
-    pub(crate) modules: ModuleTexts,
-    pub(crate) states: States,
+#[derive(Clone, Copy)]
+pub(crate) struct Machine<'a> {
+    pub(crate) conf: &'a ConfTexts,
+    pub(crate) modules: &'a ModuleTexts,
+    pub(crate) states: &'a States,
     /// The folder of modules, as it is printed.
-    pub(crate) directory: Vec<u8>,
+    pub(crate) directory: &'a [u8],
 }

@@ -1,11 +1,10 @@
-//! What is asked, and what is told of an answer.
+//! Which query a command line asks.
 ghost use Rattle.std.specs.Prelude.{◌≡◌, IfNone, IfSome, None};
 ghost use Rattle.text_parts.specs.Text.{texts_of};
 ghost use Rattle.gz_modprobe_drive.specs.Queries.{IsQueryOf, ask_of, asks_states};
 
-use kmod_query::{Ask, Failure, Query};
-use modprobe_words::{Level, Messages, Switches, Wish};
-use std::io::Write;
+use kmod_query::{Ask, Query};
+use modprobe_words::{Switches, Wish};
 
 /// What a wish asks, where it is a query.
 fn ask_of(wish: Wish) -> Option<Ask>
@@ -49,53 +48,5 @@ pub(crate) fn asks_states(ask: Ask) -> bool
     match ask {
         Ask::DryRun | Ask::Remove | Ask::ShowRemoval => true,
         Ask::ShowDepends | Ask::Resolve | Ask::ShowConfig => false,
-    }
-}
-
-/// Tells why a name was not answered.
-pub(crate) fn tell_failure<E: Write>(
-    failure: &Failure,
-    query: &Query<'_>,
-    directory: &[u8],
-    messages: &mut Messages<'_, E>,
-) {
-    let level = if query.all {
-        Level::Warning
-    } else {
-        Level::Fatal
-    };
-    match failure {
-        Failure::NotFound(word) => {
-            let text = b" not found in directory ";
-            messages.tell(level, b"Module ", word.as_bytes(), text, directory);
-        }
-        Failure::AlreadyLoaded(name) => {
-            let text = b"': Module already in kernel";
-            messages.tell(
-                Level::Error,
-                b"could not insert '",
-                name.as_bytes(),
-                text,
-                b"",
-            );
-        }
-        Failure::NothingToRemove(word) => {
-            messages.tell(level, b"Module ", word.as_bytes(), b" not found.", b"");
-        }
-        Failure::NotInKernel(name) => {
-            messages.tell(
-                level,
-                b"Module ",
-                name.as_bytes(),
-                b" is not in kernel.",
-                b"",
-            );
-        }
-        Failure::Builtin(name) => {
-            messages.tell(level, b"Module ", name.as_bytes(), b" is builtin.", b"");
-        }
-        Failure::InUse(name) => {
-            messages.tell(level, b"Module ", name.as_bytes(), b" is in use.", b"");
-        }
     }
 }
