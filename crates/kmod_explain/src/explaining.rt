@@ -24,12 +24,12 @@ fn name_count(query: &Query<'_>) -> usize {
 
 impl Told<'_> {
     /// Begins with a module that is to be loaded.
-    fn begin_load(&mut self, tasks: &mut Tasks, object: Object) -> Result<(), AllocError> {
+    fn begin_load(&mut self, tasks: &mut Tasks, object: &Object) -> Result<(), AllocError> {
         let is_dry = self.known.query.ask == Ask::DryRun;
         if is_dry && (object.builtin || self.known.is_in_kernel(&object.name)) {
             return self.tell_in_kernel(&object.name, b", so nothing is loaded");
         }
-        if self.known.is_barred(&object) {
+        if self.known.is_barred(object) {
             return self.tell_blacklist(&object.name, b", so it is not loaded");
         }
         let why = b", which does not hold for its own name without -b";
@@ -38,7 +38,7 @@ impl Told<'_> {
     }
 
     /// Begins with a module that is to be removed.
-    fn begin_removal(&mut self, tasks: &mut Tasks, object: Object) -> Result<(), AllocError> {
+    fn begin_removal(&mut self, tasks: &mut Tasks, object: &Object) -> Result<(), AllocError> {
         let is_there = self.known.world.states.of(&object.name).is_some();
         if self.known.query.ask == Ask::Remove && !is_there {
             return self.tell_state(&object.name, b"not loaded", b"");
@@ -46,12 +46,19 @@ impl Told<'_> {
         tasks.add(self.alloc, object)
     }
 
-    fn begin(&mut self, tasks: &mut Tasks, object: Object) -> Result<(), AllocError> {
+    fn begin(&mut self, tasks: &mut Tasks, object: &Object) -> Result<(), AllocError> {
         match self.known.query.ask {
             Ask::ShowDepends | Ask::DryRun => self.begin_load(tasks, object),
             Ask::Remove | Ask::ShowRemoval => self.begin_removal(tasks, object),
             Ask::Resolve | Ask::ShowConfig => Ok(()),
         }
+    }
+
+    fn begin_each(&mut self, tasks: &mut Tasks, objects: &[Object]) -> Result<(), AllocError> {
+        for object in objects {
+            self.begin(tasks, object)?;
+        }
+        Ok(())
     }
 
     /// Tells why a name of the command line stands for modules, and begins with them.
@@ -60,10 +67,7 @@ impl Told<'_> {
         if objects.is_empty() {
             return self.tell_near(word);
         }
-        for object in objects.into_iter() {
-            self.begin(tasks, object)?;
-        }
-        Ok(())
+        self.begin_each(tasks, &objects)
     }
 
     fn begin_words(&mut self, tasks: &mut Tasks) -> Result<(), AllocError> {
@@ -84,8 +88,7 @@ impl Told<'_> {
         if task.needs {
             self.tell_needs(tasks, &task.name)
         } else {
-            let alias = task.alias.as_ref().map(|alias| alias.as_slice());
-            self.tell_own(tasks, &task.name, alias, is_bare)
+            self.tell_own(tasks, &task.name, task.alias(), is_bare)
         }
     }
 
@@ -118,6 +121,28 @@ impl Told<'_> {
     }
 }
 
+/// The lines of an explanation. They are told over `named`, which has no lines yet: the caller has it, so that no step
+/// that may be refused has to drop it.
+fn explained<'a>(
+    alloc: Global,
+    sources: &Sources<'a>,
+    world: &World<'a>,
+    query: &Query<'a>,
+    named: &mut NamedLines<'a>,
+) -> Result<Vec<u8>, AllocError>
+    ensures { IfOk result (λ lines. list_all is_shown lines.items ≡ true) }
+{
+    named.add(alloc, world.conf, sources.builtin)?;
+    let known = Known {
+        world: *world,
+        query: *query,
+        named,
+    };
+    let mut told = Told::new(alloc, known, *sources);
+    told.tell_all()?;
+    Ok(told.into_lines())
+}
+
 /// Why a query of a world is answered as it is, in lines for people. Control characters of names and texts are shown as
 /// question marks. Only want of memory refuses.
 pub fn explanation(
@@ -128,12 +153,6 @@ pub fn explanation(
 ) -> Result<Vec<u8>, AllocError>
     ensures { IfOk result (λ lines. list_all is_shown lines.items ≡ true) }
 {
-    let known = Known {
-        world: *world,
-        query: *query,
-        named: NamedLines::of(alloc, world.conf, sources.builtin)?,
-    };
-    let mut told = Told::new(alloc, known, *sources);
-    told.tell_all()?;
-    Ok(told.into_lines())
+    let mut named = NamedLines::new(alloc);
+    explained(alloc, sources, world, query, &mut named)
 }

@@ -64,25 +64,29 @@ impl<'a> Heads<'a> {
         Ok(())
     }
 
-    /// The places of the lines of a name.
-    pub(crate) fn places(&self, alloc: Global, name: &[u8]) -> Result<Vec<Place>, AllocError> {
-        let mut places = Vec::new(alloc);
-        for number in self.numbers.of(name) {
-            if let Some(head) = self.all.get(*number) {
-                places.push(head.place)?;
-            }
-        }
-        Ok(places)
+    /// The heads, in the order of their numbers, from 0.
+    pub(crate) fn all(&self) -> &[Head<'a>] {
+        &self.all
     }
 
-    /// The lines whose name an earlier one has.
-    pub(crate) fn later(&self, alloc: Global) -> Result<Vec<Head<'a>>, AllocError> {
-        let mut found = Vec::new(alloc);
-        for (number, head) in self.all.iter().enumerate() {
-            if self.numbers.of(head.name).first() != Some(&number) {
-                found.push(*head)?;
-            }
+    /// The numbers of the lines of a name.
+    pub(crate) fn numbers(&self, name: &[u8]) -> &[usize] {
+        self.numbers.of(name)
+    }
+
+    /// The place of the line of a number.
+    pub(crate) fn place(&self, number: usize) -> Option<Place> {
+        match self.all.get(number) {
+            Some(head) => Some(head.place),
+            None => None,
         }
-        Ok(found)
+    }
+
+    /// Whether a line has a name that no earlier one has.
+    pub(crate) fn is_first(&self, number: usize, name: &[u8]) -> bool {
+        match self.numbers.of(name).first() {
+            Some(first) => *first == number,
+            None => false,
+        }
     }
 }

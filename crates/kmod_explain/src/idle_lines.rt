@@ -1,16 +1,20 @@
 //! Lines of the configuration that have no effect.
 
-use crate::heads::Head;
+use crate::heads::{Head, Heads};
 use crate::told::{Saying, Told};
 use crate::told_modules::LATER;
-use kmod_conf::{NameLine, SoftdepLine, TextLine};
+use kmod_conf::TextLine;
 use kmod_names::AliasEntry;
 use kmod_query::{Finding, find_name};
 use std::alloc::AllocError;
 
+fn is_mark(byte: &u8) -> bool {
+    matches!(*byte, b'*' | b'?' | b'[')
+}
+
 /// Whether a name holds a mark of a pattern.
 fn is_pattern(name: &[u8]) -> bool {
-    name.iter().any(|byte| matches!(*byte, b'*' | b'?' | b'['))
+    name.iter().any(is_mark)
 }
 
 impl Told<'_> {
@@ -32,12 +36,17 @@ impl Told<'_> {
         Ok(())
     }
 
-    fn tell_idle_blacklist(&mut self, lines: &[NameLine]) -> Result<(), AllocError> {
+    /// Tells the lines whose name no module has, but for patterns where the names of lines may be some.
+    fn tell_idle_names(
+        &mut self,
+        lines: &[Head<'_>],
+        has_patterns: bool,
+        what: Saying<'_>,
+    ) -> Result<(), AllocError> {
         for line in lines {
-            let name = line.name.as_bytes();
-            if !self.known.is_module(name) {
-                let what = Saying::of(b"blacklisted, but no module has this name");
-                self.say_of(name, what, line.place)?;
+            let passes = has_patterns && is_pattern(line.name);
+            if !passes && !self.known.is_module(line.name) {
+                self.say_of(line.name, what, line.place)?;
             }
         }
         Ok(())
@@ -54,42 +63,28 @@ impl Told<'_> {
         Ok(())
     }
 
-    fn tell_idle_softdeps(&mut self, lines: &[SoftdepLine]) -> Result<(), AllocError> {
-        for line in lines {
-            let name = line.name.as_bytes();
-            if !is_pattern(name) && !self.known.is_module(name) {
-                let what = Saying::of(b"softdep, but no module has this name");
-                self.say_of(name, what, line.place)?;
+    /// Tells lines of a kind whose name an earlier one has.
+    fn tell_later_lines(&mut self, kind: &[u8], lines: &Heads<'_>) -> Result<(), AllocError> {
+        for (number, line) in lines.all().iter().enumerate() {
+            if !lines.is_first(number, line.name) {
+                self.say_of(line.name, Saying::with_name(kind, LATER), line.place)?;
             }
         }
         Ok(())
     }
 
-    /// Tells lines whose name an earlier one of their kind has.
-    fn tell_later_lines(&mut self, kind: &[u8], lines: &[Head<'_>]) -> Result<(), AllocError> {
-        for line in lines {
-            let what = Saying::with_name(kind, LATER);
-            self.say_of(line.name, what, line.place)?;
-        }
-        Ok(())
-    }
-
-    fn tell_all_later(&mut self) -> Result<(), AllocError> {
-        let installs = self.known.named.installs.later(self.alloc)?;
-        self.tell_later_lines(b"install", &installs)?;
-        let removes = self.known.named.removes.later(self.alloc)?;
-        self.tell_later_lines(b"remove", &removes)?;
-        let softdeps = self.known.named.softdeps.later(self.alloc)?;
-        self.tell_later_lines(b"softdep", &softdeps)
-    }
-
     /// Tells the lines of the configuration that have no effect.
     pub(crate) fn tell_idle(&mut self) -> Result<(), AllocError> {
         let conf = self.known.world.conf;
-        self.tell_idle_blacklist(conf.blacklist())?;
+        let named = self.known.named;
+        let what = Saying::of(b"blacklisted, but no module has this name");
+        self.tell_idle_names(named.blacklist.all(), false, what)?;
         self.tell_idle_aliases(conf.aliases())?;
         self.tell_idle_options(conf.options())?;
-        self.tell_idle_softdeps(conf.softdeps())?;
-        self.tell_all_later()
+        let what = Saying::of(b"softdep, but no module has this name");
+        self.tell_idle_names(named.softdeps.all(), true, what)?;
+        self.tell_later_lines(b"install", &named.installs)?;
+        self.tell_later_lines(b"remove", &named.removes)?;
+        self.tell_later_lines(b"softdep", &named.softdeps)
     }
 }

@@ -4,11 +4,11 @@ use crate::named_lines::NamedLines;
 use kmod_query::{ModuleState, Object, Query, World};
 
 /// A world, a query of it, and the lines of the world's texts by their names.
-#[derive(Drop)]
+#[derive(Clone, Copy)]
 pub(crate) struct Known<'a> {
     pub(crate) world: World<'a>,
     pub(crate) query: Query<'a>,
-    pub(crate) named: NamedLines<'a>,
+    pub(crate) named: &'a NamedLines<'a>,
 }
 
 impl Known<'_> {

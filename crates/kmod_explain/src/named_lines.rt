@@ -44,7 +44,8 @@ fn add_files(alloc: Global, numbers: &mut KeyPlaces, text: &[u8]) -> Result<(), 
 }
 
 impl<'a> NamedLines<'a> {
-    fn new(alloc: Global) -> NamedLines<'a> {
+    /// No lines yet.
+    pub(crate) fn new(alloc: Global) -> NamedLines<'a> {
         NamedLines {
             blacklist: Heads::new(alloc),
             installs: Heads::new(alloc),
@@ -54,22 +55,17 @@ impl<'a> NamedLines<'a> {
         }
     }
 
-    fn add(&mut self, alloc: Global, conf: &'a Conf, builtin: &[u8]) -> Result<(), AllocError> {
+    /// Adds the lines of a configuration and of a text of modules.builtin.
+    pub(crate) fn add(
+        &mut self,
+        alloc: Global,
+        conf: &'a Conf,
+        builtin: &[u8],
+    ) -> Result<(), AllocError> {
         self.blacklist.add_names(alloc, conf.blacklist())?;
         self.installs.add_texts(alloc, conf.installs())?;
         self.removes.add_texts(alloc, conf.removes())?;
         self.softdeps.add_softdeps(alloc, conf.softdeps())?;
         add_files(alloc, &mut self.builtins, builtin)
-    }
-
-    /// The lines of a configuration and of a text of modules.builtin.
-    pub(crate) fn of(
-        alloc: Global,
-        conf: &'a Conf,
-        builtin: &[u8],
-    ) -> Result<NamedLines<'a>, AllocError> {
-        let mut named = NamedLines::new(alloc);
-        named.add(alloc, conf, builtin)?;
-        Ok(named)
     }
 }

@@ -40,16 +40,12 @@ impl Shown {
         Ok(())
     }
 
-    /// Adds the parts of a text, of which each may be empty.
-    pub(crate) fn push(
-        &mut self,
-        first: &[u8],
-        second: &[u8],
-        third: &[u8],
-    ) -> Result<(), AllocError> {
-        self.push_text(first)?;
-        self.push_text(second)?;
-        self.push_text(third)
+    /// Adds the parts of a text.
+    pub(crate) fn push(&mut self, parts: &[&[u8]]) -> Result<(), AllocError> {
+        for part in parts {
+            self.push_text(part)?;
+        }
+        Ok(())
     }
 
     pub(crate) fn end_line(&mut self) -> Result<(), AllocError> {

@@ -1,14 +1,14 @@
 //! What an explanation is told of files.
 
 /// A file of the configuration that was not read, and the one of its name that was.
-#[derive(Clone, Copy, Debug)]
+#[derive(Clone, Copy)]
 pub struct Hidden<'a> {
     pub path: &'a [u8],
     pub by: &'a [u8],
 }
 
 /// Where a world was read from.
-#[derive(Clone, Copy, Debug)]
+#[derive(Clone, Copy)]
 pub struct Sources<'a> {
     /// The paths of the texts of the configuration, by the numbers that places of its lines have.
     pub paths: &'a [&'a [u8]],

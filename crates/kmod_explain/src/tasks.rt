@@ -12,8 +12,24 @@ pub(crate) struct Task {
     pub(crate) needs: bool,
 }
 
+impl Task {
+    pub(crate) fn alias(&self) -> Option<&[u8]> {
+        match &self.alias {
+            Some(alias) => Some(alias.as_slice()),
+            None => None,
+        }
+    }
+}
+
 /// The parts of a task, by which it is told from others.
 type Key = (Vec<u8>, Option<Vec<u8>>, bool);
+
+fn copy_alias(alloc: Global, alias: &Option<Vec<u8>>) -> Result<Option<Vec<u8>>, AllocError> {
+    match alias {
+        Some(alias) => Ok(Some(Vec::from_slice(alloc, alias)?)),
+        None => Ok(None),
+    }
+}
 
 /// Tasks in the order in which they came.
 #[derive(Drop)]
@@ -43,9 +59,11 @@ impl Tasks {
     }
 
     /// Adds a module, and then what it needs.
-    pub(crate) fn add(&mut self, alloc: Global, object: Object) -> Result<(), AllocError> {
+    pub(crate) fn add(&mut self, alloc: Global, object: &Object) -> Result<(), AllocError> {
+        let alias = copy_alias(alloc, &object.alias)?;
         let name = Vec::from_slice(alloc, &object.name)?;
-        self.all.insert((object.name, object.alias, false))?;
+        self.all.insert((name, alias, false))?;
+        let name = Vec::from_slice(alloc, &object.name)?;
         self.all.insert((name, None, true))?;
         Ok(())
     }
@@ -60,10 +78,10 @@ impl Tasks {
         &mut self,
         alloc: Global,
         word: &[u8],
-        objects: Vec<Object>,
+        objects: &[Object],
     ) -> Result<bool, AllocError> {
         let found = !objects.is_empty();
-        for object in objects.into_iter() {
+        for object in objects {
             self.add(alloc, object)?;
         }
         self.words.insert(Vec::from_slice(alloc, word)?, found)?;
@@ -75,13 +93,9 @@ impl Tasks {
         let Some((name, alias, needs)) = self.all.get_index(at) else {
             return Ok(None);
         };
-        let alias = match alias {
-            Some(alias) => Some(Vec::from_slice(alloc, alias)?),
-            None => None,
-        };
         Ok(Some(Task {
             name: Vec::from_slice(alloc, name)?,
-            alias,
+            alias: copy_alias(alloc, alias)?,
             needs: *needs,
         }))
     }

@@ -3,6 +3,7 @@ ghost use Rattle.std.specs.Prelude.{◌≡◌, true};
 ghost use Rattle.std.specs.List.{list_all};
 ghost use Rattle.kmod_explain.specs.Told.{is_shown};
 
+use crate::heads::Heads;
 use crate::known::Known;
 use crate::shown::Shown;
 use crate::sources::Sources;
@@ -93,15 +94,14 @@ impl<'a> Told<'a> {
     /// Adds a file and a number of it.
     fn push_number(&mut self, file: &[u8], unit: &[u8], number: usize) -> Result<(), AllocError> {
         let text = format!(in self.alloc; "{number}")?;
-        self.lines.push(b" (", file, unit)?;
-        self.lines.push(text.as_bytes(), b")", b"")
+        self.lines.push(&[b" (", file, unit, text.as_bytes(), b")"])
     }
 
     fn push_spot(&mut self, spot: Spot<'_>) -> Result<(), AllocError> {
         match spot {
             Spot::Line(file, number) => self.push_number(file, b" line ", number),
             Spot::Entry(file, number) => self.push_number(file, b" entry ", number),
-            Spot::Whole(file) => self.lines.push(b" (", file, b")"),
+            Spot::Whole(file) => self.lines.push(&[b" (", file, b")"]),
             Spot::Nowhere => Ok(()),
         }
     }
@@ -113,8 +113,7 @@ impl<'a> Told<'a> {
         what: Saying<'_>,
         spot: Spot<'_>,
     ) -> Result<(), AllocError> {
-        self.lines.push(whom, b": ", what.words)?;
-        self.lines.push(what.name, what.more, what.text)?;
+        self.lines.push(&[whom, b": ", what.words, what.name, what.more, what.text])?;
         self.push_spot(spot)?;
         self.lines.end_line()
     }
@@ -128,6 +127,24 @@ impl<'a> Told<'a> {
     ) -> Result<(), AllocError> {
         let path = self.sources.path(place.source);
         self.say(whom, what, Spot::Line(path, place.line))
+    }
+
+    /// Adds a line for each line of a name, but for the one that counts.
+    pub(crate) fn say_of_each(
+        &mut self,
+        whom: &[u8],
+        what: Saying<'_>,
+        lines: &Heads<'_>,
+        name: &[u8],
+        counting: Option<Place>,
+    ) -> Result<(), AllocError> {
+        for number in lines.numbers(name) {
+            match lines.place(*number) {
+                Some(place) if counting != Some(place) => self.say_of(whom, what, place)?,
+                _ => {}
+            }
+        }
+        Ok(())
     }
 
     /// Tells the files of the configuration that are hidden by others of their names.

@@ -1,5 +1,6 @@
 //! What is told of a module: the lines that count for it, and those that do not.
 
+use crate::heads::Heads;
 use crate::tasks::Tasks;
 use crate::told::{Saying, Spot, Told};
 use crate::told_words::DEPENDENCIES;
@@ -37,11 +38,9 @@ impl Told<'_> {
 
     /// Tells the blacklist lines of a module.
     pub(crate) fn tell_blacklist(&mut self, name: &[u8], why: &[u8]) -> Result<(), AllocError> {
-        for place in self.known.named.blacklist.places(self.alloc, name)?.iter() {
-            let what = Saying::with_name(b"blacklisted", why);
-            self.say_of(name, what, *place)?;
-        }
-        Ok(())
+        let named = self.known.named;
+        let what = Saying::with_name(b"blacklisted", why);
+        self.say_of_each(name, what, &named.blacklist, name, None)
     }
 
     /// Tells a module that another one needs.
@@ -86,37 +85,25 @@ impl Told<'_> {
         Ok(())
     }
 
-    /// Tells the command of a module, or why it does not count.
-    fn tell_command(
+    /// Tells the line whose command counts for a module, or why it is passed over, and the lines of this very name that
+    /// do not count.
+    fn tell_commands(
         &mut self,
         name: &[u8],
-        words: &[u8],
+        kind: &[u8],
         line: Option<&TextLine>,
+        lines: &Heads<'_>,
         why: &[u8],
     ) -> Result<(), AllocError> {
-        match line {
+        let counting = match line {
             Some(line) => {
-                let what = Saying::with_name(words, line.text.as_bytes());
-                self.say_of(name, what.and(why, b""), line.place)
+                let what = Saying::with_name(kind, b" ").and(line.text.as_bytes(), why);
+                self.say_of(name, what, line.place)?;
+                Some(line.place)
             }
-            None => Ok(()),
-        }
-    }
-
-    /// Tells the lines of a module that an earlier one of their kind keeps from counting.
-    fn tell_later(
-        &mut self,
-        name: &[u8],
-        words: &[u8],
-        counting: Option<Place>,
-        places: &[Place],
-    ) -> Result<(), AllocError> {
-        for place in places {
-            if counting != Some(*place) {
-                self.say_of(name, Saying::with_name(words, LATER), *place)?;
-            }
-        }
-        Ok(())
+            None => None,
+        };
+        self.say_of_each(name, Saying::with_name(kind, LATER), lines, name, counting)
     }
 
     /// Tells why a word of a softdep line stands for modules, once. Whether it stands for any is answered.
@@ -125,7 +112,7 @@ impl Told<'_> {
             return Ok(found);
         }
         let objects = self.tell_word(word)?;
-        tasks.add_word(self.alloc, word, objects)
+        tasks.add_word(self.alloc, word, &objects)
     }
 
     /// Tells words of a softdep line. Whether one of them stands for a module is answered.
@@ -155,35 +142,10 @@ impl Told<'_> {
         let (items, place) = (&line.items, line.place);
         let before = self.tell_items(tasks, name, b"softdep before ", items.pre(), place)?;
         let after = self.tell_items(tasks, name, b"softdep after ", items.post(), place)?;
-        let others = self.known.named.softdeps.places(self.alloc, name)?;
-        self.tell_later(name, b"softdep", Some(place), &others)?;
+        let named = self.known.named;
+        let what = Saying::with_name(b"softdep", LATER);
+        self.say_of_each(name, what, &named.softdeps, name, Some(place))?;
         Ok(before || after)
-    }
-
-    /// Tells the install lines of a module; why the one that counts is passed over, where it is.
-    fn tell_install(
-        &mut self,
-        name: &[u8],
-        alias: Option<&[u8]>,
-        why: &[u8],
-    ) -> Result<(), AllocError> {
-        let line = install_line(self.alloc, &self.known.world, name, alias)?;
-        self.tell_command(name, b"install ", line, why)?;
-        let others = self.known.named.installs.places(self.alloc, name)?;
-        self.tell_later(name, b"install", line.map(|line| line.place), &others)
-    }
-
-    /// Tells the remove lines of a module; why the one that counts is passed over, where it is.
-    fn tell_remove(
-        &mut self,
-        name: &[u8],
-        alias: Option<&[u8]>,
-        why: &[u8],
-    ) -> Result<(), AllocError> {
-        let line = remove_line(self.alloc, &self.known.world, name, alias)?;
-        self.tell_command(name, b"remove ", line, why)?;
-        let others = self.known.named.removes.places(self.alloc, name)?;
-        self.tell_later(name, b"remove", line.map(|line| line.place), &others)
     }
 
     /// Tells what counts for a load of a module.
@@ -204,7 +166,9 @@ impl Told<'_> {
             (false, true) => b", passed over since it has soft items",
             (false, false) => b"",
         };
-        self.tell_install(name, alias, why)
+        let named = self.known.named;
+        let line = install_line(self.alloc, &self.known.world, name, alias)?;
+        self.tell_commands(name, b"install", line, &named.installs, why)
     }
 
     /// Tells how many use a module.
@@ -234,7 +198,9 @@ impl Told<'_> {
             let _ = self.tell_softdep(tasks, name)?;
         }
         let why: &[u8] = if is_bare { b", passed over by -i" } else { b"" };
-        self.tell_remove(name, alias, why)
+        let named = self.known.named;
+        let line = remove_line(self.alloc, &self.known.world, name, alias)?;
+        self.tell_commands(name, b"remove", line, &named.removes, why)
     }
 
     /// Tells the lines of a module that count, and those of its name that do not.

@@ -74,15 +74,11 @@ impl Told<'_> {
 
     /// Tells the lines of commands of this very name.
     fn tell_commanded(&mut self, word: &[u8], name: &[u8]) -> Result<(), AllocError> {
-        for place in self.known.named.installs.places(self.alloc, name)?.iter() {
-            let what = Saying::of(b"name of an install line");
-            self.say_of(word, what, *place)?;
-        }
-        for place in self.known.named.removes.places(self.alloc, name)?.iter() {
-            let what = Saying::of(b"name of a remove line");
-            self.say_of(word, what, *place)?;
-        }
-        Ok(())
+        let named = self.known.named;
+        let what = Saying::of(b"name of an install line");
+        self.say_of_each(word, what, &named.installs, name, None)?;
+        let what = Saying::of(b"name of a remove line");
+        self.say_of_each(word, what, &named.removes, name, None)
     }
 
     /// Tells the line of a module that is built in.
@@ -137,7 +133,16 @@ impl Told<'_> {
     /// Tells why a word, whose normal form is a name, stands for modules, which are answered.
     fn tell_name(&mut self, word: &[u8], name: &[u8]) -> Result<Vec<Object>, AllocError> {
         let finding = find_name(self.alloc, &self.known.world, name)?;
-        self.tell_finding(word, name, &finding)?;
+        self.tell_found(word, name, &finding)
+    }
+
+    fn tell_found(
+        &mut self,
+        word: &[u8],
+        name: &[u8],
+        finding: &Finding<'_>,
+    ) -> Result<Vec<Object>, AllocError> {
+        self.tell_finding(word, name, finding)?;
         finding.objects(self.alloc, name)
     }
 
