@@ -3,11 +3,9 @@
 
 ghost use Rattle.std.specs.Prelude.{◌≡◌, IfOk, option_copied, option_map};
 ghost use Rattle.kmod_query.specs.Commands.{install_of, is_unlisted, own_install, own_remove, remove_of};
-ghost use Rattle.kmod_query.specs.Objects.{object_of};
 ghost use Rattle.kmod_query.specs.World.{facts_of, text_of};
 
-use crate::object::Object;
-use crate::world::{World, alias_bytes, is_loadable};
+use crate::world::{World, is_loadable};
 use kmod_conf::TextLine;
 use std::alloc::{AllocError, Global};
 
@@ -75,35 +73,11 @@ pub fn remove_line<'a>(
 }
 
 /// The text of a line, where there is one.
-fn text_in(line: Option<&TextLine>) -> Option<&[u8]>
+pub(crate) fn text_in(line: Option<&TextLine>) -> Option<&[u8]>
     ensures { option_copied result ≡ option_map text_of (option_copied line.entry) }
 {
     match line {
         Some(line) => Some(line.text.as_bytes()),
         None => None,
     }
-}
-
-pub(crate) fn install_of<'a>(
-    alloc: Global,
-    world: &World<'a>,
-    object: &Object,
-) -> Result<Option<&'a [u8]>, AllocError>
-    ensures { IfOk result (λ command. option_copied command
-        ≡ install_of (facts_of world.now) (object_of object.now).name (object_of object.now).alias) }
-{
-    let line = install_line(alloc, world, &object.name, alias_bytes(object))?;
-    Ok(text_in(line))
-}
-
-pub(crate) fn remove_of<'a>(
-    alloc: Global,
-    world: &World<'a>,
-    object: &Object,
-) -> Result<Option<&'a [u8]>, AllocError>
-    ensures { IfOk result (λ command. option_copied command
-        ≡ remove_of (facts_of world.now) (object_of object.now).name (object_of object.now).alias) }
-{
-    let line = remove_line(alloc, world, &object.name, alias_bytes(object))?;
-    Ok(text_in(line))
 }

@@ -6,11 +6,11 @@ ghost use Rattle.kmod_query.specs.Lines.{is_live_state, line, line_by, load_line
 ghost use Rattle.kmod_query.specs.Objects.{alias_of, object_of};
 ghost use Rattle.kmod_query.specs.World.{facts_of};
 
-use crate::commands::install_of;
+use crate::commands::{install_line, text_in};
 use crate::object::Object;
 use crate::parameters::{join, push_joined};
 use crate::states::{ModuleState, ModuleStatus};
-use crate::world::{World, is_builtin, options_of, path_of, status_of};
+use crate::world::{World, alias_bytes, is_builtin, options_of, path_of, status_of};
 use std::alloc::{AllocError, Global};
 
 /// The options of an object, and the parameters behind them.
@@ -84,7 +84,8 @@ fn command_of<'a>(
     if is_commandless(bare, top, object, has_soft) {
         return Ok(None);
     }
-    install_of(alloc, world, object)
+    let line = install_line(alloc, world, &object.name, alias_bytes(object))?;
+    Ok(text_in(line))
 }
 
 pub(crate) fn line(

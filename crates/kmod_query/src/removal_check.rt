@@ -9,12 +9,12 @@ ghost use Rattle.kmod_query.specs.Verdicts.{verdict_of};
 ghost use Rattle.kmod_query.specs.World.{facts_of};
 
 use crate::answer::Failure;
-use crate::commands::remove_of;
+use crate::commands::{remove_line, text_in};
 use crate::lines::is_built_in;
 use crate::object::Object;
 use crate::query::{Ask, Query};
 use crate::states::{ModuleState, ModuleStatus};
-use crate::world::{World, status_of};
+use crate::world::{World, alias_bytes, status_of};
 use kmod_names::Text;
 use std::alloc::{AllocError, Global};
 
@@ -76,7 +76,8 @@ pub(crate) fn removal_command<'a>(
     if query.ignore_commands {
         return Ok(None);
     }
-    remove_of(alloc, world, object)
+    let line = remove_line(alloc, world, &object.name, alias_bytes(object))?;
+    Ok(text_in(line))
 }
 
 /// Whether states and users count.
