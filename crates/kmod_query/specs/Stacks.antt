@@ -74,6 +74,18 @@ task_of facts (Add object) = add (object_of object) ∷ []
 abbrev pub stack_of : Facts → List CodeTask → List Task
 stack_of facts tasks = flat_map (task_of facts) (reverse tasks)
 
+-- nothing was met, and nothing is to be done
+abbrev pub IsStart : Course → Type 0
+IsStart course =
+    record {
+      met : course.met ≡ [];
+      soft : (facts : Facts) → AreSoftLists facts course.soft;
+      fronts : (facts : Facts) → AreFronts facts [] course.fronts;
+      stack : course.stack.items ≡ [];
+      list : course.list.items ≡ [];
+      left : course.left ≡ 18446744073709551615;
+    }
+
 -- What is out, and what some tasks before those of the stack give within the steps that are left, is the whole.
 abbrev pub Stands : Facts → List Task → Course → List Object → Type 0
 Stands facts tasks course whole =

@@ -6,13 +6,13 @@ ghost use Rattle.kmod_query.specs.Loading.{already, answer_object};
 ghost use Rattle.kmod_query.specs.Loading.{is_barred, is_passed, is_resolve, is_show_depends, line_unless_passed, load, load_lines};
 ghost use Rattle.kmod_query.specs.Loading.{shows_lines};
 ghost use Rattle.kmod_query.specs.Objects.{alias_of, object_of, objects_of};
-ghost use Rattle.kmod_query.specs.Stacks.{AreSoftLists};
+ghost use Rattle.kmod_query.specs.Stacks.{AreSoftLists, IsStart};
 ghost use Rattle.kmod_query.specs.World.{facts_of};
 
 use crate::answer::{Answer, Failure};
 use crate::lines::{is_in_kernel, load_line};
 use crate::object::Object;
-use crate::probes::{LoadList, probe_list};
+use crate::probes::{Course, probe_list, start};
 use crate::query::{Ask, Query};
 use crate::soft_lists::SoftLists;
 use crate::world::{World, is_blacklisted};
@@ -123,6 +123,30 @@ fn lines_of(
     Ok(lines)
 }
 
+/// The lines that load an object, by a run that has not begun.
+fn lines_by(
+    alloc: Global,
+    world: &World,
+    query: &Query,
+    parameters: &[u8],
+    top: &Object,
+    course: &mut Course,
+) -> Result<Vec<u8>, AllocError>
+    requires { IsStart course.old }
+    ensures { IfOk result (λ text. text.items ≡ load_lines (facts_of world.now) query.now parameters.now (object_of top.now)) }
+{
+    probe_list(alloc, world, query.ignore_commands, top, course)?;
+    lines_of(
+        alloc,
+        world,
+        query,
+        parameters,
+        top,
+        &course.list,
+        &mut course.soft,
+    )
+}
+
 /// The lines that load an object.
 fn load_lines(
     alloc: Global,
@@ -133,8 +157,8 @@ fn load_lines(
 ) -> Result<Vec<u8>, AllocError>
     ensures { IfOk result (λ text. text.items ≡ load_lines (facts_of world.now) query.now parameters.now (object_of top.now)) }
 {
-    let LoadList { list, mut soft } = probe_list(alloc, world, query.ignore_commands, top)?;
-    lines_of(alloc, world, query, parameters, top, &list, &mut soft)
+    let mut course = start(alloc);
+    lines_by(alloc, world, query, parameters, top, &mut course)
 }
 
 /// What is answered where the kernel has the object.

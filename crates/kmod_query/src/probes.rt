@@ -3,7 +3,7 @@ ghost use Rattle.std.specs.Prelude.{◌≡◌, ◌<◌, ◌++◌, ◌∷◌, [],
 ghost use Rattle.kmod_query.specs.Facts.{Facts};
 ghost use Rattle.kmod_query.specs.Objects.{by_name, names_of, object_of, objects_of};
 ghost use Rattle.kmod_query.specs.Probes.{add, fill, fill_tasks, first_tasks, probe, probe_list};
-ghost use Rattle.kmod_query.specs.Stacks.{AreFronts, AreSoftLists, Ends, Falls, IsAt, IsFront, Makes, Stands, rest_of, soft_of, stack_of, task_of};
+ghost use Rattle.kmod_query.specs.Stacks.{AreSoftLists, Ends, Falls, IsAt, IsFront, IsStart, Makes, Stands, rest_of, soft_of, stack_of, task_of};
 ghost use Rattle.kmod_query.specs.World.{facts_of};
 
 use crate::fronts::Fronts;
@@ -32,20 +32,13 @@ enum Task {
 /// How far a run is: what was met, what was found of soft items, what is to be done, the next task last, what is out,
 /// and how many steps are left.
 #[derive(Drop)]
-struct Course {
+pub(crate) struct Course {
     met: Met,
-    soft: SoftLists,
+    pub(crate) soft: SoftLists,
     fronts: Fronts,
     stack: Vec<Task>,
-    list: Vec<Object>,
-    left: u64,
-}
-
-/// What is loaded, in order, and the soft items that were looked up for it.
-#[derive(Drop)]
-pub(crate) struct LoadList {
     pub(crate) list: Vec<Object>,
-    pub(crate) soft: SoftLists,
+    left: u64,
 }
 
 /// The modules of these names are filled in, before what is to be done already.
@@ -199,13 +192,8 @@ fn make(alloc: Global, world: &World, task: Task, course: &mut Course) -> Result
 }
 
 /// Nothing was met, and nothing is to be done.
-fn start(alloc: Global) -> Course
-    ensures met { result.met ≡ [] }
-    ensures soft { (facts : Facts) → AreSoftLists facts result.soft }
-    ensures fronts { (facts : Facts) → AreFronts facts [] result.fronts }
-    ensures stack { result.stack.items ≡ [] }
-    ensures list { result.list.items ≡ [] }
-    ensures left { result.left ≡ 18446744073709551615 }
+pub(crate) fn start(alloc: Global) -> Course
+    ensures { IsStart result }
 {
     Course {
         met: Met::new(alloc),
@@ -217,23 +205,20 @@ fn start(alloc: Global) -> Course
     }
 }
 
-/// What is out at the end.
-fn loaded(course: Course) -> LoadList
-    ensures list { result.list ≡ course.list }
-    ensures soft { result.soft ≡ course.soft }
+/// A run begins with an object: it is met, and what probes it is to be done.
+fn begin(
+    alloc: Global,
+    world: &World,
+    bare: bool,
+    object: &Object,
+    course: &mut Course,
+) -> Result<(), AllocError>
+    requires { IsStart course.old }
+    ensures { OnOk result (Stands (facts_of world.now) [] course.new (probe_list (facts_of world.now) bare (object_of object.now))) }
 {
-    let Course { list, soft, .. } = course;
-    LoadList { list, soft }
-}
-
-/// A run that begins with an object: it is met, and what probes it is to be done.
-fn begun(alloc: Global, world: &World, bare: bool, object: &Object) -> Result<Course, AllocError>
-    ensures { IfOk result (λ course. Stands (facts_of world.now) [] course (probe_list (facts_of world.now) bare (object_of object.now))) }
-{
-    let mut course = start(alloc);
     course.met.insert(alloc, object)?;
-    push_probe(alloc, world, bare, &mut course.stack, object.copy(alloc)?)?;
-    Ok(course)
+    let own = object.copy(alloc)?;
+    push_probe(alloc, world, bare, &mut course.stack, own)
 }
 
 /// Makes all that is to be done, as far as the steps that are left go.
@@ -249,17 +234,19 @@ fn finish(alloc: Global, world: &World, course: &mut Course) -> Result<(), Alloc
     Ok(())
 }
 
-/// What is loaded for an object, in order; for a bare one without its soft items.
+/// Lists what is loaded for an object, in order; for a bare one without its soft items. The caller has the run from its
+/// start on, so that no step that may be refused has to drop it.
 pub(crate) fn probe_list(
     alloc: Global,
     world: &World,
     bare: bool,
     object: &Object,
-) -> Result<LoadList, AllocError>
-    ensures list { IfOk result (λ loaded. objects_of loaded.list.items ≡ probe_list (facts_of world.now) bare (object_of object.now)) }
-    ensures soft { IfOk result (λ loaded. AreSoftLists (facts_of world.now) loaded.soft) }
+    course: &mut Course,
+) -> Result<(), AllocError>
+    requires { IsStart course.old }
+    ensures list { OnOk result (objects_of course.new.list.items ≡ probe_list (facts_of world.now) bare (object_of object.now)) }
+    ensures soft { OnOk result (AreSoftLists (facts_of world.now) course.new.soft) }
 {
-    let mut course = begun(alloc, world, bare, object)?;
-    finish(alloc, world, &mut course)?;
-    Ok(loaded(course))
+    begin(alloc, world, bare, object, course)?;
+    finish(alloc, world, course)
 }

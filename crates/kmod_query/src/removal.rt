@@ -241,11 +241,12 @@ pub(crate) fn remove_object(
 ) -> Result<Answer, AllocError>
     ensures { IfOk result (λ answer. answer ≡ remove_object (facts_of world.now) query.now (object_of object.now)) }
 {
+    let own = object.copy(alloc)?;
+    let mut stack = Vec::new(alloc);
+    stack.push(Removal::Take(false, own))?;
     let mut course = Course {
         way: Way::new(alloc),
-        stack: Vec::new(alloc),
+        stack,
     };
-    let own = object.copy(alloc)?;
-    course.stack.push(Removal::Take(false, own))?;
     finish(alloc, world, query, &mut course)
 }
