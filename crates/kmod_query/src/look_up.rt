@@ -147,7 +147,7 @@ fn look_up_each(alloc: Global, world: &World, words: &[Text]) -> Result<Vec<Obje
 }
 
 /// The side of a module on which soft items stand.
-#[derive(Clone, Copy, Debug, PartialEq, Eq)]
+#[derive(Clone, Copy)]
 pub(crate) enum Place {
     Before,
     After,
