@@ -1,4 +1,4 @@
-use Rattle.std.proofs.Common.{ℕ, ◌+◌, ◌≤◌, length}
+use Rattle.std.proofs.Common.{◌+◌, ◌≤◌, length}
 use Rattle.kmod_explain.proofs.named_lines.add_files.Given as goal
 
 abbrev pub invariant-lines : goal.invariant-lines

@@ -1,4 +1,4 @@
-use Rattle.std.proofs.Common.{ℕ, length}
+use Rattle.std.proofs.Common.{length}
 use Rattle.kmod_explain.proofs.near_names.without_beginning.Given as goal
 
 abbrev pub decreases-bytes : goal.decreases-bytes
