@@ -104,12 +104,17 @@ impl Told<'_> {
         Ok(())
     }
 
+    /// Begins with the words of the query, and tells what is to be told.
+    fn tell_from_words(&mut self, tasks: &mut Tasks) -> Result<(), AllocError> {
+        self.begin_words(tasks)?;
+        let first = tasks.len();
+        self.tell_tasks(tasks, first)
+    }
+
     /// Tells why the words of the query are answered as they are.
     fn tell_words(&mut self) -> Result<(), AllocError> {
         let mut tasks = Tasks::new(self.alloc);
-        self.begin_words(&mut tasks)?;
-        let first = tasks.len();
-        self.tell_tasks(&mut tasks, first)
+        self.tell_from_words(&mut tasks)
     }
 
     fn tell_all(&mut self) -> Result<(), AllocError> {

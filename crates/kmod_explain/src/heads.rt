@@ -12,10 +12,16 @@ pub(crate) struct Head<'a> {
 }
 
 /// The heads of lines, in the order of the texts.
-#[derive(Drop)]
 pub(crate) struct Heads<'a> {
     all: Vec<Head<'a>>,
     numbers: KeyPlaces,
+}
+
+// A derived one would be written out wherever lines are dropped.
+impl Drop for Heads<'_> {
+    fn drop(self) {
+        let Heads { all: _, numbers: _ } = self;
+    }
 }
 
 impl<'a> Heads<'a> {
@@ -28,7 +34,8 @@ impl<'a> Heads<'a> {
 
     fn push(&mut self, alloc: Global, name: &'a [u8], place: Place) -> Result<(), AllocError> {
         self.numbers.add(alloc, name, self.all.len())?;
-        self.all.push(Head { name, place }).map_err(|_| AllocError)
+        self.all.push(Head { name, place })?;
+        Ok(())
     }
 
     pub(crate) fn add_names(
