@@ -1,6 +1,7 @@
 //! How the cost of large and hostile sessions grows: each is run at a quarter, a half and the whole of its size.
 
 use crate::figure::print_figure;
+use crate::heap::keep_heap;
 use crate::processor::processor_time;
 use crate::shapes;
 use anyhow::{Result, bail};
@@ -21,6 +22,13 @@ const ROUND: u64 = 50_000_000;
 const MOST_RUNS: u64 = 1000;
 
 pub fn measure<R: Print + Files + AllocGlobal>(rt: &R) -> Result<()> {
+    let kept = keep_heap(rt.alloc())?;
+    measure_sessions(rt)?;
+    drop(kept);
+    Ok(())
+}
+
+fn measure_sessions<R: Print + Files + AllocGlobal>(rt: &R) -> Result<()> {
     measure_plans(rt)?;
     measure_session(
         rt,

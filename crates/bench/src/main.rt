@@ -5,6 +5,7 @@ mod catalogue;
 mod configuration;
 mod figure;
 mod growth;
+mod heap;
 mod leaves;
 mod listing;
 mod load;
