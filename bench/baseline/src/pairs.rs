@@ -1,5 +1,5 @@
 //! Pairs of a get and a put by workers in threads of their own: what `leaves` and `manager` have in common. A figure is
-//! `NAME/MODULES/WORKERS@KIND`, and its rounds are those of the crate `bench`.
+//! `NAME/MODULES/WORKERS@KIND`; its turns are those of the crate `bench`, and so is how their threads start.
 
 use std::ops::Deref;
 use std::sync::atomic::{AtomicU64, Ordering::SeqCst};
@@ -12,7 +12,9 @@ const CLOSED: u64 = 1 << 32;
 
 const ROUNDS: u64 = 10_000;
 
-const LONG: Duration = Duration::from_millis(300);
+const TURNS: usize = 64;
+
+const TURN: Duration = Duration::from_millis(5);
 
 /// A value on cache lines of its own.
 #[repr(align(128))]
@@ -128,6 +130,8 @@ impl Modules {
     }
 }
 
+// In a function of its own, as in the crate `bench`.
+#[inline(never)]
 fn make_pairs<T: Table>(table: &T, worker: &mut T::Worker, slots: std::ops::Range<usize>, rounds: u64) {
     for _ in 0..rounds {
         for slot in slots.clone() {
@@ -138,24 +142,46 @@ fn make_pairs<T: Table>(table: &T, worker: &mut T::Worker, slots: std::ops::Rang
     }
 }
 
-fn round<T: Table>(table: &T, workers: &mut [T::Worker], modules: Modules, rounds: u64) -> Duration {
-    let start = Instant::now();
+/// Halves the workers until each is alone: the one half goes to a new thread, the other stays in this one.
+fn in_threads<W: Send, F: Fn(usize, &mut W) + Sync>(workers: &mut [W], first: usize, call: &F) {
+    if let [worker] = workers {
+        return call(first, worker);
+    }
+    let (front, back) = workers.split_at_mut(workers.len() / 2);
+    let middle = first + front.len();
     thread::scope(|scope| {
-        for (number, worker) in workers.iter_mut().enumerate() {
-            scope.spawn(move || make_pairs(table, worker, modules.slots(number), rounds));
-        }
+        scope.spawn(move || in_threads(front, first, call));
+        in_threads(back, middle, call);
+    });
+}
+
+fn time_rounds<T: Table>(table: &T, workers: &mut [T::Worker], modules: Modules, rounds: u64) -> Duration {
+    let start = Instant::now();
+    in_threads(workers, 0, &|number, worker: &mut T::Worker| {
+        make_pairs(table, worker, modules.slots(number), rounds)
     });
     start.elapsed()
 }
 
+/// Lets the crate `bench` take its turns, and waits until this program has its own: `bench/run` passes that on. Where the
+/// input is at its end, this one goes on.
+fn give_turn() {
+    println!("turn");
+    std::io::stdin().read_line(&mut String::new()).expect("an input");
+}
+
 fn time_pairs<T: Table>(name: &str, kind: &str, table: &T, workers: &mut [T::Worker], modules: Modules) {
     let mut rounds = ROUNDS;
-    let mut time = round(table, workers, modules, rounds);
-    while time < LONG {
+    while time_rounds(table, workers, modules, rounds) < TURN {
         rounds *= 2;
-        time = round(table, workers, modules, rounds);
     }
-    let pairs = rounds as usize * modules.slots(0).len() * workers.len();
+    let mut time = Duration::ZERO;
+    for _ in 0..TURNS / 2 {
+        give_turn();
+        time += time_rounds(table, workers, modules, rounds);
+        time += time_rounds(table, workers, modules, rounds);
+    }
+    let pairs = rounds as usize * TURNS * modules.slots(0).len() * workers.len();
     let rate = pairs as f64 / time.as_secs_f64();
     let (modules, workers) = (modules.name(), workers.len());
     println!("{name}/{modules}/{workers}@{kind} {rate:.0} pairs/s");

@@ -13,10 +13,16 @@ use dep_index::Catalogue;
 use module_table::Book;
 use root_row::{BookSeat, LeafSeat, Row};
 use std::alloc::{AllocError, Global};
+use std::io::Input;
 use std::rt::Clock;
 use std::sync::Wait;
 use std::thread::Threads;
 use use_indicator::Leaf;
+
+const FIGURE: Figure = Figure {
+    name: "leaf_pairs",
+    kind: "",
+};
 
 /// A leaf of a row that has all slots.
 #[derive(Drop)]
@@ -68,12 +74,14 @@ fn make_round<R: Wait>(rt: &R, row: &Row, leaf: &mut Leaf, range: SlotRange)
     }
 }
 
-pub fn measure<R: Print + Clock + AllocGlobal + Threads + Wait + Sync>(rt: &R) -> Result<()> {
+pub fn measure<R: Print + Input + Clock + AllocGlobal + Threads + Wait + Sync>(
+    rt: &R,
+) -> Result<()> {
     let measure = |catalogue: &Catalogue, workers| measure_count(rt, catalogue, workers);
     measure_counts(rt, measure)
 }
 
-fn measure_count<R: Print + Clock + AllocGlobal + Threads + Wait + Sync>(
+fn measure_count<R: Print + Input + Clock + AllocGlobal + Threads + Wait + Sync>(
     rt: &R,
     catalogue: &Catalogue,
     workers: u8,
@@ -82,7 +90,7 @@ fn measure_count<R: Print + Clock + AllocGlobal + Threads + Wait + Sync>(
     measure_row(rt, catalogue, &row, seats, seat)
 }
 
-fn measure_row<R: Print + Clock + AllocGlobal + Threads + Wait + Sync>(
+fn measure_row<R: Print + Input + Clock + AllocGlobal + Threads + Wait + Sync>(
     rt: &R,
     catalogue: &Catalogue,
     row: &Row,
@@ -97,26 +105,35 @@ fn measure_row<R: Print + Clock + AllocGlobal + Threads + Wait + Sync>(
         bail!("too few slots");
     }
     let mut book = Book::new(rt.alloc(), seat, catalogue)?;
-    load_all(row, &mut book)?;
-    let mut leaves = leaves_of(rt.alloc(), row, seats)?;
-    let figure = Figure {
-        name: "leaf_pairs",
-        kind: "",
-    };
-    measure_workers(rt, figure, &mut leaves)
+    if !are_loaded(row, &mut book) {
+        bail!("a module is not loaded");
+    }
+    measure_seats(rt, row, seats)
 }
 
-/// Loads all modules.
-fn load_all(row: &Row, book: &mut Book) -> Result<()>
+/// Loads all modules. Whether that was done.
+fn are_loaded(row: &Row, book: &mut Book) -> bool
     requires eight { 8 ≤ slots row.now.world }
     requires own { IsOf row.now book.old }
 {
     for slot in 0..COUNT {
         if book.begin_load(row, slot).is_err() || book.end_load(row, slot, true).is_err() {
-            bail!("a module is not loaded");
+            return false;
         }
     }
-    Ok(())
+    true
+}
+
+fn measure_seats<R: Print + Input + Clock + AllocGlobal + Threads + Wait + Sync>(
+    rt: &R,
+    row: &Row,
+    seats: Vec<LeafSeat>,
+) -> Result<()>
+    requires eight { 8 ≤ slots row.now.world }
+    requires leaves { All (λ s. s ≡ new_leaf row.now.id row.now.world (worker_of s.view)) seats.items }
+{
+    let mut leaves = leaves_of(rt.alloc(), row, seats)?;
+    measure_workers(rt, FIGURE, &mut leaves)
 }
 
 /// The leaves, each on cache lines of its own: counts of another leaf may lie beside it.

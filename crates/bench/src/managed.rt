@@ -10,7 +10,9 @@ use crate::workers::{
 use anyhow::{Result, ensure};
 use dep_index::Catalogue;
 use managed_table::{Caller, ManagedTable};
+use module_table::Manager;
 use std::alloc::Global;
+use std::io::Input;
 use std::rt::Clock;
 use std::sync::Wait;
 use std::thread::Threads;
@@ -101,7 +103,9 @@ impl<'a> ManagedWorker<'a> {
     }
 }
 
-pub fn measure<R: Print + Clock + AllocGlobal + Threads + Wait + Sync>(rt: &R) -> Result<()> {
+pub fn measure<R: Print + Input + Clock + AllocGlobal + Threads + Wait + Sync>(
+    rt: &R,
+) -> Result<()> {
     let measure = |catalogue: &Catalogue, workers| measure_both(rt, catalogue, workers, workers);
     measure_counts(rt, measure)?;
     let catalogue = plain_catalogue(rt.alloc(), COUNT)?;
@@ -109,17 +113,39 @@ pub fn measure<R: Print + Clock + AllocGlobal + Threads + Wait + Sync>(rt: &R) -
 }
 
 /// Measures so many threads that call for so many workers.
-fn measure_both<R: Print + Clock + AllocGlobal + Threads + Wait + Sync>(
+fn measure_both<R: Print + Input + Clock + AllocGlobal + Threads + Wait + Sync>(
     rt: &R,
     catalogue: &Catalogue,
     workers: u8,
     threads: u8,
 ) -> Result<()> {
-    let manager = manager::loaded(rt, catalogue, workers)?;
-    let (table, _readers) = ManagedTable::new(rt.alloc(), catalogue, usize::from(workers))?;
-    ensure!(are_loaded(rt, &table), "a module is not loaded");
-    let mut ours = callers_of(rt.alloc(), &table, threads)?;
-    let mut others = manager::workers_of(rt.alloc(), &manager, threads)?;
+    let (table, _) = ManagedTable::new(rt.alloc(), catalogue, usize::from(workers))?;
+    measure_table(rt, catalogue, &table, workers, threads)
+}
+
+// The table is lent, and so is the manager: with a large value at hand each `?` is long to prove.
+fn measure_table<R: Print + Input + Clock + AllocGlobal + Threads + Wait + Sync>(
+    rt: &R,
+    catalogue: &Catalogue,
+    table: &ManagedTable,
+    workers: u8,
+    threads: u8,
+) -> Result<()> {
+    let (manager, _) = Manager::new(rt.alloc(), catalogue, usize::from(workers))?;
+    measure_loaded(rt, table, &manager, threads)
+}
+
+/// The same, once all modules are loaded in both.
+fn measure_loaded<R: Print + Input + Clock + AllocGlobal + Threads + Wait + Sync>(
+    rt: &R,
+    table: &ManagedTable,
+    manager: &Manager,
+    threads: u8,
+) -> Result<()> {
+    let are_loaded = are_loaded(rt, table) && manager::are_loaded(rt, manager);
+    ensure!(are_loaded, "a module is not loaded");
+    let mut ours = callers_of(rt.alloc(), table, threads)?;
+    let mut others = manager::workers_of(rt.alloc(), manager, threads)?;
     measure_beside(rt, [OURS, BESIDE], &mut ours, &mut others)
 }
 
