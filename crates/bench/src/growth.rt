@@ -3,10 +3,9 @@
 use crate::figure::print_figure;
 use crate::heap::keep_heap;
 use crate::processor::processor_time;
-use crate::shapes;
+use crate::shapes::{SESSIONS, Session, Sizes, push_session};
 use anyhow::{Result, bail};
 use modprobe::{FromRead, FromWrite, serve};
-use std::alloc::AllocError;
 use std::io;
 use std::rt::Files;
 
@@ -23,68 +22,19 @@ const MOST_RUNS: u64 = 1000;
 
 pub fn measure<R: Print + Files + AllocGlobal>(rt: &R) -> Result<()> {
     let kept = keep_heap(rt.alloc())?;
-    measure_sessions(rt)?;
+    for session in &SESSIONS {
+        measure_session(rt, session)?;
+    }
     drop(kept);
     Ok(())
 }
 
-fn measure_sessions<R: Print + Files + AllocGlobal>(rt: &R) -> Result<()> {
-    measure_plans(rt)?;
-    measure_session(
-        rt,
-        "load_and_remove_a_chain",
-        65_535,
-        shapes::load_and_remove_a_chain,
-    )?;
-    measure_session(
-        rt,
-        "load_and_remove_each",
-        65_535,
-        shapes::load_and_remove_each,
-    )?;
-    measure_session(
-        rt,
-        "parameters_of_a_module",
-        65_535,
-        shapes::parameters_of_a_module,
-    )?;
-    measure_session(rt, "aliases_of_a_mark", 100_000, shapes::aliases_of_a_mark)?;
-    measure_session(rt, "names_of_an_alias", 4022, shapes::names_of_an_alias)
-}
-
-fn measure_plans<R: Print + Files + AllocGlobal>(rt: &R) -> Result<()> {
-    measure_session(rt, "long_plan", 2000, shapes::long_plan)?;
-    measure_session(rt, "longer_plan", 32_000, shapes::longer_plan)?;
-    measure_session(rt, "dense_plan", 1_000_000, shapes::dense_plan)?;
-    measure_session(rt, "rings_plan", 1_000_000, shapes::rings_plan)?;
-    measure_session(rt, "chain_plan", 20_000, shapes::chain_plan)?;
-    measure_session(
-        rt,
-        "chain_below_soft_items",
-        20_000,
-        shapes::chain_below_soft_items,
-    )?;
-    measure_session(rt, "chain_below_leaves", 20_000, shapes::chain_below_leaves)?;
-    measure_session(
-        rt,
-        "soft_items_of_a_chain",
-        20_000,
-        shapes::soft_items_of_a_chain,
-    )
-}
-
 /// Prints what a session costs at the three sizes, and what each costs of the one before, in percent.
-fn measure_session<
-    R: Print + Files + AllocGlobal,
-    F: Fn(&mut String, usize) -> Result<(), AllocError>,
->(rt: &R, name: &str, whole: usize, write: F) -> Result<()>
-    requires { F.IsAlwaysCallable write }
-{
+fn measure_session<R: Print + Files + AllocGlobal>(rt: &R, session: &Session) -> Result<()> {
+    let (name, whole, others, texts) = *session;
     let mut before = None;
     for size in [whole / 4, whole / 2, whole] {
-        let mut text = String::new(rt.alloc());
-        write(&mut text, size)?;
-        let time = least_time(rt, text.as_bytes())?;
+        let time = time_of(rt, texts, Sizes { size, others })?;
         print_figure(
             rt,
             format_args!("{name}_{size}"),
@@ -97,6 +47,13 @@ fn measure_session<
         before = Some(time);
     }
     Ok(())
+}
+
+/// How long a session of this size takes.
+fn time_of<R: Files + AllocGlobal>(rt: &R, texts: &[&str], sizes: Sizes) -> Result<u64> {
+    let mut text = String::new(rt.alloc());
+    push_session(&mut text, texts, sizes)?;
+    least_time(rt, text.as_bytes())
 }
 
 /// Prints how much of the time at half the size the time at this size is.

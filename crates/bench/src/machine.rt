@@ -4,6 +4,7 @@ use crate::figure::{measure_rate, print_figure};
 use crate::points::{MODULES, THREADS, loads};
 use crate::texts::plain_catalogue;
 use anyhow::{Result, bail};
+use dep_index::Catalogue;
 use std::rt::Clock;
 use step_core::{Call, Event, Machine, Step};
 
@@ -11,7 +12,11 @@ const STEPS: usize = 10_000_000;
 
 pub fn measure<R: Print + Clock + AllocGlobal>(rt: &R) -> Result<()> {
     let catalogue = plain_catalogue(rt.alloc(), MODULES)?;
-    let mut machine = Machine::new(rt.alloc(), &catalogue, THREADS, THREADS, STEPS)?;
+    measure_catalogue(rt, &catalogue)
+}
+
+fn measure_catalogue<R: Print + Clock + AllocGlobal>(rt: &R, catalogue: &Catalogue) -> Result<()> {
+    let mut machine = Machine::new(rt.alloc(), catalogue, THREADS, THREADS, STEPS)?;
     measure_machine(rt, &mut machine)
 }
 

@@ -1,8 +1,218 @@
-//! The sessions whose growth is measured, written at any size.
+//! The sessions whose growth is measured, written at any size. Two letters before the `|` of a line tell from which number
+//! up to which other it stands; with none it stands once. `@` in it is its number. `[..]` is a part that stands for
+//! numbers likewise.
 
 use std::alloc::AllocError;
 
 type Written = Result<(), AllocError>;
+
+/// Soft items s, each of which asks for a hard chain z, for the next item, and for the chain again. The end of the chain
+/// needs the first item, and each of the chain needs the others.
+const OVER_A_CHAIN: &str = "|%catalogue
+|version 3
+0S|module s@
+0C|module z@
+0O|module d@
+|%dep
+0B|k/z@.ko:[0O| k/d@.ko][NA| k/z@.ko]
+BC|k/z@.ko:[0O| k/d@.ko] k/s0.ko
+|%conf
+0S|softdep s@ pre: z0[NA| s@] z0
+";
+
+const LOAD_AN_ITEM: &str = "|%session
+|modprobe s0
+";
+
+/// An alias that leads to all items.
+const LOAD_AN_ALIAS: &str = "|%alias
+0S|alias x* s@
+|%session
+|modprobe xyz
+";
+
+/// Modules of which each needs all behind it, and asks for them too; the size is the number of pairs.
+const DENSE: &str = "|%catalogue
+|version 3
+0P|module m@
+|%dep
+0P|k/m@.ko:[NP| k/m@.ko]
+|%conf
+0P|softdep m@ pre:[NP| m@]
+|%session
+|modprobe m0
+";
+
+/// The same, but each asks for those before it too.
+const RINGS: &str = "|%catalogue
+|version 3
+0P|module m@
+|%dep
+0P|k/m@.ko:[NP| k/m@.ko]
+|%conf
+0P|softdep m@ pre:[NP| m@][0@| m@]
+|%session
+|modprobe m0
+";
+
+/// A chain of modules of which each asks for one of its own.
+const CHAIN: &str = "|%catalogue
+|version 3
+0S|module m@
+0S|module t@
+|%dep
+0S|k/m@.ko:[NA| k/m@.ko]
+|%conf
+0S|softdep m@ pre: t@
+|%session
+|modprobe m0
+";
+
+/// The same chain below soft items in a row, each of which needs it.
+const BELOW_SOFT_ITEMS: &str = "|%catalogue
+|version 3
+0S|module m@
+0S|module t@
+0S|module s@
+|%dep
+0S|k/m@.ko:[NA| k/m@.ko]
+0S|k/s@.ko: k/m0.ko
+|%conf
+0S|softdep m@ pre: t@
+0S|softdep s@ pre:[NA| s@]
+|%session
+|modprobe s0
+";
+
+/// A chain below soft items, each of which needs a module of its own first, and that one asks for the next item.
+const BELOW_LEAVES: &str = "|%catalogue
+|version 3
+0S|module m@
+0S|module d@
+0S|module s@
+|module start
+|%dep
+0S|k/m@.ko:[NA| k/m@.ko]
+0S|k/s@.ko: k/d@.ko k/m0.ko
+|%conf
+0S|softdep d@ pre:[NA| s@]
+|softdep start pre: s0
+|%session
+|modprobe start
+";
+
+/// A module that asks for many, each of which asks for a chain that needs all of them.
+const ITEMS_OF_A_CHAIN: &str = "|%catalogue
+|version 3
+0S|module x@
+0S|module s@
+|module start
+|%dep
+0L|k/x@.ko:[NA| k/x@.ko]
+LS|k/x@.ko:[0R| k/s@.ko]
+|%conf
+0S|softdep s@ pre: x0
+|softdep start pre:[0R| s@]
+|%session
+|modprobe start
+";
+
+/// A chain that is loaded, and removed.
+const LOADED_CHAIN: &str = "|%catalogue
+|version 3
+0S|module m@
+|%dep
+0S|k/m@.ko:[NA| k/m@.ko]
+|%session
+|modprobe m0
+|modprobe -r m0
+";
+
+/// Modules that are loaded one by one, and removed one by one.
+const LOADED_ALONE: &str = "|%catalogue
+|version 3
+0S|module m@
+|%session
+0S|insmod m@
+0S|rmmod m@
+";
+
+/// One module with many parameters.
+const PARAMETERS: &str = "|%catalogue
+|version 3
+|module m
+0S|param p@ int
+|%session
+|modprobe m p0=1
+";
+
+/// Aliases whose longest runs of bytes are the same, and a hundred names that have it. A match of each stops where the
+/// numbers begin.
+const ALIASES: &str = "|%catalogue
+|version 3
+|module m0
+|%alias
+0S|alias device:@*same-longest-run m0
+|%session
+0O|plan device:x@same-longest-run
+";
+
+/// A session: its name, its whole size, how many others it has, and its lines.
+pub type Session = (&'static str, usize, usize, &'static [&'static str]);
+
+pub const SESSIONS: [Session; 13] = [
+    ("long_plan", 2000, 300, &[OVER_A_CHAIN, LOAD_AN_ITEM]),
+    ("longer_plan", 32_000, 12, &[OVER_A_CHAIN, LOAD_AN_ITEM]),
+    ("dense_plan", 1_000_000, 0, &[DENSE]),
+    ("rings_plan", 1_000_000, 0, &[RINGS]),
+    ("chain_plan", 20_000, 0, &[CHAIN]),
+    ("chain_below_soft_items", 20_000, 0, &[BELOW_SOFT_ITEMS]),
+    ("chain_below_leaves", 20_000, 0, &[BELOW_LEAVES]),
+    ("soft_items_of_a_chain", 20_000, 0, &[ITEMS_OF_A_CHAIN]),
+    ("load_and_remove_a_chain", 65_535, 0, &[LOADED_CHAIN]),
+    ("load_and_remove_each", 65_535, 0, &[LOADED_ALONE]),
+    ("parameters_of_a_module", 65_535, 0, &[PARAMETERS]),
+    ("aliases_of_a_mark", 100_000, 100, &[ALIASES]),
+    ("names_of_an_alias", 4022, 3, &[OVER_A_CHAIN, LOAD_AN_ALIAS]),
+];
+
+/// What letters are reckoned from.
+#[derive(Clone, Copy)]
+pub struct Sizes {
+    pub size: usize,
+    pub others: usize,
+}
+
+impl Sizes {
+    /// The number of a letter in the line of a number: `S` is the size, `L` one before it, `C` three quarters of it, `B` one
+    /// before these, `R` its root, `P` that of its double, `O` how many others there are, `N` the next number, and `A` the
+    /// one behind that, as far as the size goes.
+    fn number(self, letter: u8, own: usize) -> usize {
+        let Sizes { size, others } = self;
+        let chain = (size / 4).saturating_mul(3);
+        match letter {
+            b'S' => size,
+            b'L' => size.saturating_sub(1),
+            b'C' => chain,
+            b'B' => chain.saturating_sub(1),
+            b'R' => root(size),
+            b'P' => root(size.saturating_mul(2)),
+            b'O' => others,
+            b'@' => own,
+            b'N' => own.saturating_add(1),
+            b'A' => own.saturating_add(2).min(size),
+            _ => 0,
+        }
+    }
+
+    /// From which number up to which other.
+    fn range(self, letters: &str, own: usize) -> (usize, usize) {
+        match letters.as_bytes() {
+            [from, to] => (self.number(*from, own), self.number(*to, own)),
+            _ => (0, 1),
+        }
+    }
+}
 
 /// The whole number whose square is next below.
 fn root(square: usize) -> usize {
@@ -16,245 +226,53 @@ fn root(square: usize) -> usize {
     root
 }
 
-/// Adds the line of a section, and what is written for each number below this one.
-fn section<P: Fn(&mut String, usize) -> Written>(
-    text: &mut String,
-    name: &str,
-    count: usize,
-    push: P,
-) -> Written
-    requires { P.IsAlwaysCallable push }
-{
-    writeln!(text, "%{name}")?;
-    for number in 0..count {
-        push(text, number)?;
-    }
-    Ok(())
-}
-
-/// Adds a catalogue of modules of some kinds, as many of each.
-fn catalogue(text: &mut String, kinds: &[&str], count: usize) -> Written {
-    text.push_str("%catalogue\nversion 3\n")?;
-    for kind in kinds {
-        for number in 0..count {
-            writeln!(text, "module {kind}{number}")?;
+/// Adds the lines of a session.
+pub fn push_session(text: &mut String, texts: &[&str], sizes: Sizes) -> Written {
+    for lines in texts {
+        for line in lines.lines() {
+            push_lines(text, line, sizes)?;
         }
     }
     Ok(())
 }
 
-/// Adds the paths of the modules of a kind from one number up to another.
-fn push_paths(text: &mut String, kind: &str, from: usize, to: usize) -> Written {
+/// Adds what a line stands for.
+fn push_lines(text: &mut String, line: &str, sizes: Sizes) -> Written {
+    let (letters, line) = line.split_once('|').unwrap_or(("", line));
+    let (from, to) = sizes.range(letters, 0);
     for number in from..to {
-        write!(text, " k/{kind}{number}.ko")?;
+        push_line(text, line, sizes, number)?;
     }
     Ok(())
 }
 
-/// Adds the names of the modules of a kind from one number up to another.
-fn push_names(text: &mut String, kind: &str, from: usize, to: usize) -> Written {
+fn push_line(text: &mut String, line: &str, sizes: Sizes, number: usize) -> Written {
+    for part in line.split('[') {
+        let (further, behind) = part.split_once(']').unwrap_or(("", part));
+        push_further(text, further, sizes, number)?;
+        push_numbered(text, behind, number)?;
+    }
+    text.push('\n')
+}
+
+/// Adds what a part in brackets stands for.
+fn push_further(text: &mut String, part: &str, sizes: Sizes, own: usize) -> Written {
+    let (letters, part) = part.split_once('|').unwrap_or(("", ""));
+    let (from, to) = sizes.range(letters, own);
     for number in from..to {
-        write!(text, " {kind}{number}")?;
+        push_numbered(text, part, number)?;
     }
     Ok(())
 }
 
-/// Adds a line of modules.dep: each module of a chain needs the one behind it.
-fn push_link(text: &mut String, kind: &str, number: usize, count: usize) -> Written {
-    let next = number.saturating_add(1);
-    write!(text, "k/{kind}{number}.ko:")?;
-    push_paths(text, kind, next, next.saturating_add(1).min(count))?;
-    text.push_str("\n")
-}
-
-/// Soft items s, each of which asks for a hard chain z, for the next item, and for the chain again. The end of the chain
-/// needs the first item, and each of the chain needs so many others.
-fn rows_over_a_chain(text: &mut String, size: usize, others: usize) -> Written {
-    let chain = (size / 4).saturating_mul(3);
-    catalogue(text, &["s"], size)?;
-    for number in 0..chain {
-        writeln!(text, "module z{number}")?;
-    }
-    for number in 0..others {
-        writeln!(text, "module d{number}")?;
-    }
-    section(text, "dep", chain, |text, z| {
-        write!(text, "k/z{z}.ko:")?;
-        push_paths(text, "d", 0, others)?;
-        if z.saturating_add(1) < chain {
-            writeln!(text, " k/z{}.ko", z.saturating_add(1))
+/// Adds a text, with a number for each `@`.
+fn push_numbered(text: &mut String, part: &str, number: usize) -> Written {
+    for byte in part.bytes() {
+        if byte == b'@' {
+            write!(text, "{number}")?;
         } else {
-            text.push_str(" k/s0.ko\n")
+            text.push(byte as char)?;
         }
-    })?;
-    section(text, "conf", size, |text, s| {
-        write!(text, "softdep s{s} pre: z0")?;
-        push_names(
-            text,
-            "s",
-            s.saturating_add(1),
-            s.saturating_add(2).min(size),
-        )?;
-        text.push_str(" z0\n")
-    })
-}
-
-/// Soft items that each ask twice for a chain whose end needs the first of them; the chain has many needs.
-pub fn long_plan(text: &mut String, size: usize) -> Written {
-    rows_over_a_chain(text, size, 300)?;
-    text.push_str("%session\nmodprobe s0\n")
-}
-
-/// The same with few needs.
-pub fn longer_plan(text: &mut String, size: usize) -> Written {
-    rows_over_a_chain(text, size, 12)?;
-    text.push_str("%session\nmodprobe s0\n")
-}
-
-/// Modules of which each needs all behind it, and asks for them too; the size is the number of pairs.
-pub fn dense_plan(text: &mut String, size: usize) -> Written {
-    push_dense(text, size, false)
-}
-
-/// The same, but each asks for those before it too.
-pub fn rings_plan(text: &mut String, size: usize) -> Written {
-    push_dense(text, size, true)
-}
-
-fn push_dense(text: &mut String, size: usize, has_rings: bool) -> Written {
-    let count = root(size.saturating_mul(2));
-    catalogue(text, &["m"], count)?;
-    section(text, "dep", count, |text, m| {
-        write!(text, "k/m{m}.ko:")?;
-        push_paths(text, "m", m.saturating_add(1), count)?;
-        text.push_str("\n")
-    })?;
-    section(text, "conf", count, |text, m| {
-        write!(text, "softdep m{m} pre:")?;
-        push_names(text, "m", m.saturating_add(1), count)?;
-        if has_rings {
-            push_names(text, "m", 0, m)?;
-        }
-        text.push_str("\n")
-    })?;
-    text.push_str("%session\nmodprobe m0\n")
-}
-
-/// An alias that leads to modules of which each asks for the next.
-pub fn names_of_an_alias(text: &mut String, size: usize) -> Written {
-    rows_over_a_chain(text, size, 3)?;
-    section(text, "alias", size, |text, s| {
-        writeln!(text, "alias x* s{s}")
-    })?;
-    text.push_str("%session\nmodprobe xyz\n")
-}
-
-/// A chain of modules of which each asks for one of its own.
-pub fn chain_plan(text: &mut String, size: usize) -> Written {
-    catalogue(text, &["m", "t"], size)?;
-    section(text, "dep", size, |text, m| push_link(text, "m", m, size))?;
-    section(text, "conf", size, |text, m| {
-        writeln!(text, "softdep m{m} pre: t{m}")
-    })?;
-    text.push_str("%session\nmodprobe m0\n")
-}
-
-/// The same chain below soft items in a row, each of which needs it.
-pub fn chain_below_soft_items(text: &mut String, size: usize) -> Written {
-    catalogue(text, &["m", "t", "s"], size)?;
-    section(text, "dep", size, |text, m| {
-        push_link(text, "m", m, size)?;
-        writeln!(text, "k/s{m}.ko: k/m0.ko")
-    })?;
-    section(text, "conf", size, |text, m| {
-        writeln!(text, "softdep m{m} pre: t{m}")?;
-        write!(text, "softdep s{m} pre:")?;
-        push_names(
-            text,
-            "s",
-            m.saturating_add(1),
-            m.saturating_add(2).min(size),
-        )?;
-        text.push_str("\n")
-    })?;
-    text.push_str("%session\nmodprobe s0\n")
-}
-
-/// A chain below soft items, each of which needs a module of its own first, and that one asks for the next item.
-pub fn chain_below_leaves(text: &mut String, size: usize) -> Written {
-    catalogue(text, &["m", "d", "s"], size)?;
-    text.push_str("module start\n")?;
-    section(text, "dep", size, |text, m| {
-        push_link(text, "m", m, size)?;
-        writeln!(text, "k/s{m}.ko: k/d{m}.ko k/m0.ko")
-    })?;
-    section(text, "conf", size, |text, d| {
-        write!(text, "softdep d{d} pre:")?;
-        push_names(
-            text,
-            "s",
-            d.saturating_add(1),
-            d.saturating_add(2).min(size),
-        )?;
-        text.push_str("\n")
-    })?;
-    text.push_str("softdep start pre: s0\n%session\nmodprobe start\n")
-}
-
-/// A module that asks for many, each of which asks for a chain that needs all of them.
-pub fn soft_items_of_a_chain(text: &mut String, size: usize) -> Written {
-    let length = root(size);
-    catalogue(text, &["x", "s"], size)?;
-    text.push_str("module start\n")?;
-    let last = size.saturating_sub(1);
-    section(text, "dep", last, |text, x| push_link(text, "x", x, size))?;
-    write!(text, "k/x{last}.ko:")?;
-    push_paths(text, "s", 0, length)?;
-    text.push_str("\n")?;
-    section(text, "conf", size, |text, s| {
-        writeln!(text, "softdep s{s} pre: x0")
-    })?;
-    text.push_str("softdep start pre:")?;
-    push_names(text, "s", 0, length)?;
-    text.push_str("\n%session\nmodprobe start\n")
-}
-
-/// A chain that is loaded, and removed.
-pub fn load_and_remove_a_chain(text: &mut String, size: usize) -> Written {
-    catalogue(text, &["m"], size)?;
-    section(text, "dep", size, |text, m| push_link(text, "m", m, size))?;
-    text.push_str("%session\nmodprobe m0\nmodprobe -r m0\n")
-}
-
-/// Modules that are loaded one by one, and removed one by one.
-pub fn load_and_remove_each(text: &mut String, size: usize) -> Written {
-    catalogue(text, &["m"], size)?;
-    section(text, "session", size, |text, m| {
-        writeln!(text, "insmod m{m}")
-    })?;
-    for m in 0..size {
-        writeln!(text, "rmmod m{m}")?;
     }
     Ok(())
-}
-
-/// One module with many parameters.
-pub fn parameters_of_a_module(text: &mut String, size: usize) -> Written {
-    text.push_str("%catalogue\nversion 3\nmodule m\n")?;
-    for number in 0..size {
-        writeln!(text, "param p{number} int")?;
-    }
-    text.push_str("%session\nmodprobe m p0=1\n")
-}
-
-/// Aliases whose longest runs of bytes are the same, and a hundred names that have it. A match of each stops where the
-/// numbers begin.
-pub fn aliases_of_a_mark(text: &mut String, size: usize) -> Written {
-    catalogue(text, &["m"], 1)?;
-    section(text, "alias", size, |text, number| {
-        writeln!(text, "alias device:{number}*same-longest-run m0")
-    })?;
-    section(text, "session", 100, |text, number| {
-        writeln!(text, "plan device:x{number}same-longest-run")
-    })
 }
