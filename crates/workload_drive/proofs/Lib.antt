@@ -1,4 +1,3 @@
 pub mod LineLemmas
 pub mod PartLemmas
-pub mod ScriptLemmas
 pub mod ReportLemmas

@@ -1,8 +1,8 @@
 -- The lines of an input, one on.
 use Rattle.std.proofs.Common.{arith, ◌≡◌, ℕ, ◌+◌, ◌<◌, ◌≤◌, Bool, true, false, zero, List, [], ◌∷◌, ◌++◌, length, take, drop, get_or, suc, refl, sym, ap, ◌∙◌, drop-cons, add-one}
-use Rattle.std.specs.Prelude.{◌==◌}
+use Rattle.std.specs.Prelude.{◌==◌, not, nat_lt}
 use Rattle.std.proofs.lemmas.List.{append_assoc, append-nil, map-append, length_push, get_or-take, get_or_default, length-take, take-append-drop}
-use Rattle.std.proofs.lemmas.Bool.{false_from_ne_true, eqb-true, false≢true, true≢false}
+use Rattle.std.proofs.lemmas.Bool.{false_from_ne_true, lt-ltb, eqb-true, false≢true, true≢false}
 use Rattle.std.proofs.Math.Dec.{eqb-suc-zero}
 use Rattle.memchr.specs.Find.{Nowhere, Passes, is_byte}
 use Rattle.text_parts.specs.Text as text
@@ -81,3 +81,8 @@ is_some (suc n) b is says = omega arith
 pub is_none : (n : ℕ) (b : Bool) → b ≡ (n == 0) → b ≡ true → n ≡ 0
 is_none zero b is says = refl
 is_none (suc n) b is says = absurd (false≢true (sym (is ∙ eqb-suc-zero n) ∙ says))
+
+-- a line without a word is one of no words
+pub no_word : (n : ℕ) → not (nat_lt 0 n) ≡ (n == 0)
+no_word zero = refl
+no_word (suc n) = ap not (lt-ltb 0 (suc n) (omega arith)) ∙ sym (eqb-suc-zero n)

@@ -6,24 +6,19 @@ use Rattle.std.proofs.lemmas.List.{length-set, get_or-set_same, get_or-set_other
 use Rattle.std.proofs.lemmas.Bool.{eq-eqb, ne_eqb, cases_eq}
 use Rattle.dep_index.specs.Catalogue.{modules_of}
 use Rattle.step_core.specs.declared.steps.Step.TheVariants.{Go}
-use Rattle.step_core.specs.declared.steps.StepError.TheVariants.{Calls}
 use Rattle.step_core.specs.declared.steps.Event.{Event}
 use Rattle.linear_points.specs.declared.point.Point.{Point}
 use Rattle.linear_points.specs.declared.intervals.Interval.{Interval}
 use Rattle.linear_points.specs.Interval.{AreIntervals}
 use Rattle.linear_points.specs.declared.intervals.End.{End}
-use Rattle.linear_points.specs.declared.point.PointsError.{PointsError}
-use Rattle.linear_points.specs.declared.point.PointsError.TheVariants as points
 use Rattle.linear_points.specs.Linearization.{last_step}
-use Rattle.linear_points.specs.Refused.{IsRefusal}
-use Rattle.linear_points.specs.Run.{IsRun, IsRefusedAt, run_events, run_calls, run_points}
+use Rattle.linear_points.specs.Run.{IsRun, run_events, run_calls, run_points}
 use Rattle.workload_drive.specs.declared.fault.LineFault.{LineFault}
 use Rattle.workload_drive.specs.declared.fault.ScheduleFault.{ScheduleFault}
 use Rattle.workload_drive.specs.declared.fault.ScheduleFault.TheVariants as fault
-use Rattle.workload_drive.specs.Faults.{IsFirstFault, points_fault}
-use Rattle.workload_drive.specs.Schedule.Report.{point_of, first_of, thread_of, call_line, line_of, lines_from, report_of, IsReport, Reports, Refuses}
+use Rattle.workload_drive.specs.Schedule.Report.{point_of, first_of, thread_of, call_line, line_of, lines_from, report_of, IsReport, Refuses}
 use Rattle.workload_drive.specs.Schedule.Steps.{Schedule, schedule_of}
-use Rattle.workload_drive.specs.Schedule.ForProofs.{with_point, interval_line, interval_lines}
+use Rattle.workload_drive.specs.Schedule.ForProofs.{with_point, interval_line, interval_lines, Stops}
 
 -- one option, or else another
 abbrev or_else : {A : Type 0} → Option A → Option A → Option A
@@ -122,29 +117,22 @@ is_report s intervals taken calls are own =
     let points : List Point = run_points (modules_of s.catalogue) s.workers s.threads s.steps in
     same_lines s es points taken intervals 0 intervals are own refl ∙ ap (lines_from s es points 0) calls
 
-pub reports : (input text : List ℕ) (s : Schedule) (intervals held : List Interval) (points : List Point) (taken : List (Option Point)) (n : ℕ) → schedule_of input ≡ Ok s
+pub reports : (text : List ℕ) (s : Schedule) (intervals held : List Interval) (points : List Point) (taken : List (Option Point)) (n : ℕ)
     → IsRun (modules_of s.catalogue) s.workers s.threads s.steps
     → points ≡ run_points (modules_of s.catalogue) s.workers s.threads s.steps
     → map (λ (i : Interval). i.call) intervals ≡ run_calls (modules_of s.catalogue) s.workers s.threads s.steps
     → AreIntervals (run_events (modules_of s.catalogue) s.workers s.threads s.steps) intervals
     → held ≡ intervals → n ≡ length intervals
     → ((k : ℕ) → k < n → get_or taken k None ≡ point_of points k)
-    → text ≡ interval_lines s taken 0 held → Reports input text
-reports input text s intervals held points taken n is run noted calls are held_is counted own lines =
+    → text ≡ interval_lines s taken 0 held → IsReport text s
+reports text s intervals held points taken n run noted calls are held_is counted own lines =
     let own' : (k : ℕ) → k < length intervals → get_or taken k None ≡ point_of (run_points (modules_of s.catalogue) s.workers s.threads s.steps) k =
     λ k below. own k (omega arith) ∙ ap (λ (ps : List Point). point_of ps k) noted in
-    subst (λ (r : Result Schedule LineFault). IsOkAnd r (IsReport text)) (sym is)
     (run, lines ∙ ap (interval_lines s taken 0) held_is ∙ is_report s intervals taken calls are own')
 
--- a step that is refused
-pub step_refused : (e : PointsError) (input : List ℕ) (s : Schedule) → schedule_of input ≡ Ok s
-    → IsRefusal (modules_of s.catalogue) s.workers s.threads s.steps e → Refuses input (points_fault e)
-step_refused (points.Step index cause) input s is refused =
-    subst (λ (r : Result Schedule LineFault). IsOkAnd r (λ (s : Schedule). IsRefusedAt (modules_of s.catalogue) s.workers s.threads s.steps index cause × (cause ≢ Calls))) (sym is) refused
-step_refused points.Memory input s is refused = tt
-
--- a line that is refused
-pub line_refused : (e : ScheduleFault) (input : List ℕ) → IsFirstFault e (schedule_of input) → Refuses input e
-line_refused (fault.Line f) input is = is
-line_refused (fault.Step index cause) input is = absurd is
-line_refused fault.Memory input is = tt
+-- what stops the run of a schedule refuses its input
+pub stops_input : (input : List ℕ) (s : Schedule) (e : ScheduleFault) → schedule_of input ≡ Ok s → Stops s e → Refuses input e
+stops_input input s (fault.Line f) is stops = absurd stops
+stops_input input s (fault.Step index cause) is stops =
+    subst (λ (r : Result Schedule LineFault). IsOkAnd r (λ (s : Schedule). Stops s (fault.Step index cause))) (sym is) stops
+stops_input input s fault.Memory is stops = tt

@@ -1,5 +1,5 @@
 -- What a refusal says of an input.
-use Rattle.std.specs.Prelude.{◌≡◌, ℕ, Result, Err}
+use Rattle.std.specs.Prelude.{◌≡◌, ℕ, Result, Ok, Err}
 use Rattle.dep_index.specs.Catalogue.{Refusal, bad, duplicate, twice_exported, too_many}
 use Rattle.dep_index.specs.declared.faults.CatError.{CatError}
 use Rattle.dep_index.specs.declared.faults.CatError.TheVariants as cat
@@ -39,7 +39,13 @@ abbrev pub points_fault : PointsError → ScheduleFault
 points_fault (points.Step index cause) = fault.Step index cause
 points_fault points.Memory = fault.Memory
 
--- the reading ends with this line as its first faulty one; out of memory says nothing of the lines
+-- what is read next, unless a line is faulty
+infixl 10 ◌>>=◌
+abbrev pub ◌>>=◌ : {A B : Type 0} → Result A LineFault → (A → Result B LineFault) → Result B LineFault
+(Ok x) >>= next = next x
+(Err f) >>= next = Err f
+
+-- the reading ends with this line as its first faulty one; want of memory says nothing of the lines
 abbrev pub IsFirstFault : {A : Type 0} → ScheduleFault → Result A LineFault → Type 0
 IsFirstFault (fault.Line f) read = read ≡ Err f
 IsFirstFault (fault.Step index cause) read = ⊥

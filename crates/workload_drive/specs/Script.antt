@@ -17,7 +17,7 @@ use Rattle.workload_drive.specs.declared.script.acts.Act.TheVariants.{Opens, Wor
 use Rattle.workload_drive.specs.declared.script.entries.Opening.{Opening}
 use Rattle.workload_drive.specs.declared.script.entries.Task.{Task}
 use Rattle.workload_drive.specs.declared.script.entries.Entry.{Entry}
-use Rattle.workload_drive.specs.Faults.{fault_at, bad_line}
+use Rattle.workload_drive.specs.Faults.{◌>>=◌, fault_at, bad_line}
 use Rattle.workload_drive.specs.Statements.{Statement, Parts, parts_of, setting, marked}
 
 -- the word of a deed
@@ -85,16 +85,12 @@ entry_of modules workers after_works line (Some asked) =
     if has_place workers after_works asked.act then entry_at line asked.act (slot_named modules (normal_form asked.name))
     else Err (bad_line line)
 
-abbrev pub then_entry : Result Entry LineFault → (Entry → Result (List Entry) LineFault) → Result (List Entry) LineFault
-then_entry (Err e) later = Err e
-then_entry (Ok entry) later = later entry
-
 -- the lines of statements, after earlier ones
 abbrev pub entries_of : List Description → ℕ → List Entry → List Statement → Result (List Entry) LineFault
 entries_of modules workers earlier [] = Ok earlier
 entries_of modules workers earlier (said ∷ later) =
-    then_entry (entry_of modules workers (has_works earlier) said.number (named_act_of said.words))
-    (λ entry. entries_of modules workers (earlier ++ entry ∷ []) later)
+    entry_of modules workers (has_works earlier) said.number (named_act_of said.words)
+    >>= λ entry. entries_of modules workers (earlier ++ entry ∷ []) later
 
 abbrev pub opening_by : ℕ → ℕ → Act → Option Opening
 opening_by slot line (Opens change) = Some (record { change = change; slot = slot; line = line })
@@ -128,24 +124,21 @@ pub record Script : Type 0 where
   pub opening : List Opening
   pub tasks : List (List Task)
 
-abbrev pub with_entries : List Description → ℕ → Result (List Entry) LineFault → Result Script LineFault
-with_entries modules workers (Err e) = Err e
-with_entries modules workers (Ok entries) =
-    Ok (record {
-      catalogue = modules;
-      workers = workers;
-      opening = opening_of entries;
-      tasks = map (λ worker. tasks_of worker entries) (range_with_len 0 workers);
-    })
+abbrev pub made_script : List Description → ℕ → List Opening → List (List Task) → Script
+made_script modules workers opening tasks =
+    record { catalogue = modules; workers = workers; opening = opening; tasks = tasks }
 
-abbrev pub with_workers : List Description → Result (ℕ × List Statement) LineFault → Result Script LineFault
-with_workers modules (Err e) = Err e
-with_workers modules (Ok found) = with_entries modules found.0 (entries_of modules found.0 [] found.1)
+abbrev pub with_entries : List Description → ℕ → List Entry → Result Script LineFault
+with_entries modules workers entries =
+    Ok (made_script modules workers (opening_of entries) (map (λ worker. tasks_of worker entries) (range_with_len 0 workers)))
 
-abbrev pub with_parts : Result Parts LineFault → Result Script LineFault
-with_parts (Err e) = Err e
-with_parts (Ok p) = with_workers p.catalogue (setting (codes "workers") p.end p.statements)
+abbrev pub with_workers : List Description → ℕ × List Statement → Result Script LineFault
+with_workers modules found = entries_of modules found.0 [] found.1 >>= with_entries modules found.0
+
+-- the script of the parts of an input
+abbrev pub script_by : Parts → Result Script LineFault
+script_by p = setting (codes "workers") p.end p.statements >>= with_workers p.catalogue
 
 -- the script that an input is, or its first faulty line
 unfoldable pub script_of : List ℕ → Result Script LineFault
-script_of input = with_parts (parts_of (codes "%script") input)
+script_of input = parts_of (codes "%script") input >>= script_by

@@ -5,7 +5,7 @@ use Rattle.std.specs.Str.{bytes_eq}
 use Rattle.text_parts.specs.Text.{Line, cut_lines, words, is_comment, number_within}
 use Rattle.dep_index.specs.Catalogue.{Description, Refusal, catalogue_of}
 use Rattle.workload_drive.specs.declared.fault.LineFault.{LineFault}
-use Rattle.workload_drive.specs.Faults.{fault_at, bad_line, code_of}
+use Rattle.workload_drive.specs.Faults.{◌>>=◌, fault_at, bad_line, code_of}
 
 -- a line of an input, with its number
 pub record Numbered : Type 0 where
@@ -65,13 +65,12 @@ abbrev pub with_catalogue : List Statement → ℕ → Result (List Description)
 with_catalogue said end (Err e) = Err (fault_at (code_of e.0) e.1)
 with_catalogue said end (Ok modules) = Ok (record { catalogue = modules; statements = said; end = end })
 
-abbrev pub with_lines : List ℕ → ℕ → Result (List Numbered) LineFault → Result Parts LineFault
-with_lines section end (Err e) = Err e
-with_lines section end (Ok lines) =
+abbrev pub parts_behind : List ℕ → ℕ → List Numbered → Result Parts LineFault
+parts_behind section end lines =
     with_catalogue (statements (lines_behind section lines)) end (catalogue_of (text_before section lines))
 
 abbrev pub parts_among : List ℕ → ℕ → List Numbered → Result Parts LineFault
-parts_among section end lines = with_lines section end (behind_head end lines)
+parts_among section end lines = behind_head end lines >>= parts_behind section end
 
 -- the parts of an input whose second section begins with this line: `%catalogue`, a catalogue, that line, and statements.
 -- The lines of a fault in the catalogue count in its text, all others in the whole input

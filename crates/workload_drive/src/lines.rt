@@ -6,7 +6,7 @@ ghost use Rattle.workload_drive.specs.ForProofs.{line_in, lines_in};
 
 use memchr::memchr;
 use std::alloc::{AllocError, Global};
-use text_parts::{is_comment, words};
+use text_parts::{has_word, is_comment};
 
 /// A line: its number, from 1, its text, and the bytes that end it.
 #[derive(Clone, Copy, Drop)]
@@ -57,12 +57,9 @@ pub(crate) fn cut_lines<'a>(alloc: Global, input: &'a [u8]) -> Result<Vec<Line<'
 }
 
 /// Whether a line says nothing: it has no word, or its first byte is `#`.
-pub(crate) fn is_ignored(alloc: Global, text: &[u8]) -> Result<bool, AllocError>
-    ensures { IfOk result (λ b. b ≡ is_ignored text.now) }
+#[tactic(auto, using(crate::proofs::LineLemmas::no_word))]
+pub(crate) fn is_ignored(text: &[u8]) -> bool
+    ensures { result ≡ is_ignored text.now }
 {
-    if is_comment(text) {
-        return Ok(true);
-    }
-    let words = words(alloc, text)?;
-    Ok(words.is_empty())
+    is_comment(text) || !has_word(text)
 }

@@ -1,11 +1,12 @@
 //! The program over any input and output.
-ghost use Rattle.std.specs.Prelude.{◌≤◌};
+ghost use Rattle.std.specs.Prelude.{◌≤◌, All};
+ghost use Rattle.root_row.specs.Seats.{IsOf};
 
 use crate::asked::{Asked, asked_by};
 use crate::explain::{explain, explain_work};
 use crate::fault::ScheduleFault;
 use crate::schedule::report;
-use crate::script::{OpenGate, Replies, WorkFault, read_script, run_managed};
+use crate::script::{Numbering, OpenGate, Replies, Script, WorkFault, read_script, run_managed};
 use managed_table::ManagedTable;
 use program_frame::{InputFault, Status, StreamFault, end_by, tell_no_input, write_text};
 use std::alloc::{AllocError, Global};
@@ -14,6 +15,7 @@ use std::rt::Files;
 use std::sync::Wait;
 use std::thread::Threads;
 use thiserror::Error;
+use use_indicator::Reader;
 
 /// Why the program wrote nothing, or not all.
 #[derive(Clone, Copy, Debug, Drop, Error)]
@@ -38,23 +40,36 @@ fn status_of(fault: Fault) -> Status {
     }
 }
 
-/// What the workers of a script come to, on a managed table of its own, after their replies where these are asked for.
+/// What the workers of a script come to on a table, after their replies where these are asked for.
+fn text_on<R: AllocGlobal + Threads + Wait + Sync>(
+    rt: &R,
+    asked: Option<Numbering>,
+    script: &Script,
+    table: &ManagedTable,
+    readers: Vec<Reader>,
+) -> Result<Vec<u8>, Fault>
+    requires { All (IsOf table.now.row) readers.items }
+{
+    let catalogue = script.catalogue();
+    let Some(numbering) = asked else {
+        return Ok(run_managed(rt, catalogue, table, readers, script, &OpenGate)?);
+    };
+    let replies = Replies::new(rt.alloc(), script)?;
+    let left = run_managed(rt, catalogue, table, readers, script, &replies)?;
+    let mut text = replies.text(rt.alloc(), script, numbering)?;
+    text.extend_from_slice(&left)?;
+    Ok(text)
+}
+
+/// The same of the script that an input is, on a managed table of its own.
 fn script_text<R: AllocGlobal + Threads + Wait + Sync>(
     rt: &R,
-    asked: Asked<'_>,
+    asked: Option<Numbering>,
     input: &[u8],
 ) -> Result<Vec<u8>, Fault> {
     let script = read_script(rt.alloc(), input)?;
-    let catalogue = script.catalogue();
-    let (table, readers) = ManagedTable::new(rt.alloc(), catalogue, script.workers())?;
-    let Some(numbering) = asked.replies else {
-        return Ok(run_managed(rt, catalogue, &table, readers, &script, &OpenGate)?);
-    };
-    let replies = Replies::new(rt.alloc(), &script)?;
-    let left = run_managed(rt, catalogue, &table, readers, &script, &replies)?;
-    let mut text = replies.text(rt.alloc(), &script, numbering)?;
-    text.extend_from_slice(&left)?;
-    Ok(text)
+    let (table, readers) = ManagedTable::new(rt.alloc(), script.catalogue(), script.workers())?;
+    text_on(rt, asked, &script, &table, readers)
 }
 
 /// Reads the input and writes its report, or what its script comes to on threads.
@@ -67,7 +82,7 @@ fn write_answer<R: AllocGlobal + Files + Threads + Wait + Sync, I: Read, O: Writ
 ) -> Result<(), Fault> {
     *input = asked.source.read(rt, reader)?;
     let text = if asked.threads {
-        script_text(rt, asked, input)?
+        script_text(rt, asked.replies, input)?
     } else {
         report(rt.alloc(), input)?
     };

@@ -1,4 +1,4 @@
-//! The parts of an input: its catalogue, and the lines after it that say something.
+//! The parts of an input: its catalogue, and the lines behind it that say something.
 ghost use Rattle.std.specs.Prelude.{◌≡◌, ◌≤◌, IfOk, IfSome, Option};
 ghost use Rattle.workload_drive.specs.Statements.{behind_head, text_before, lines_behind, statements, parts_of, from_one, marked, setting_in, setting};
 ghost use Rattle.workload_drive.specs.ForProofs.{Reads, lines_in, statements_in, parts_in};
@@ -23,7 +23,7 @@ pub(crate) struct Statement<'a> {
     pub(crate) words: Vec<&'a [u8]>,
 }
 
-/// An input: its catalogue, what it says after it, and the number of the line after its last.
+/// An input: its catalogue, what it says behind it, and the number of the line behind its last.
 #[derive(Drop)]
 pub(crate) struct Parts<'a> {
     pub(crate) catalogue: Catalogue,
@@ -31,19 +31,15 @@ pub(crate) struct Parts<'a> {
     pub(crate) end: usize,
 }
 
-/// The lines after `%catalogue`, before which ignored lines alone may stand.
-fn behind_head<'l, 'a>(
-    alloc: Global,
-    lines: &'l [Line<'a>],
-    end: usize,
-) -> Result<&'l [Line<'a>], ScheduleFault>
+/// The lines behind `%catalogue`, before which ignored lines alone may stand.
+fn behind_head<'l, 'a>(lines: &'l [Line<'a>], end: usize) -> Result<&'l [Line<'a>], ScheduleFault>
     ensures { Reads (behind_head end (lines_in lines.now)) (λ rest. lines_in rest.now) result }
 {
     for (i, line) in lines.iter().enumerate() {
         if is_same(line.text, b"%catalogue") {
             return Ok(&lines[i + 1..]);
         }
-        if !is_ignored(alloc, line.text)? {
+        if !is_ignored(line.text) {
             return Err(ScheduleFault::at(LineCode::H1, line.number));
         }
     }
@@ -65,7 +61,7 @@ fn text_before(alloc: Global, section: &[u8], lines: &[Line<'_>]) -> Result<Vec<
     Ok(text)
 }
 
-/// The lines after a section line.
+/// The lines behind a section line.
 fn lines_behind<'l, 'a>(section: &[u8], lines: &'l [Line<'a>]) -> &'l [Line<'a>]
     ensures { lines_in result.now ≡ lines_behind section.now (lines_in lines.now) }
 {
@@ -83,7 +79,7 @@ fn statements<'a>(alloc: Global, lines: &[Line<'a>]) -> Result<Vec<Statement<'a>
 {
     let mut said = Vec::new(alloc);
     for line in lines {
-        if !is_ignored(alloc, line.text)? {
+        if !is_ignored(line.text) {
             let words = words(alloc, line.text)?;
             said.push(Statement {
                 number: line.number,
@@ -104,10 +100,10 @@ pub(crate) fn read_parts<'a>(
 {
     let lines = cut_lines(alloc, input)?;
     let end = lines.len() + 1;
-    let rest = behind_head(alloc, &lines, end)?;
+    let rest = behind_head(&lines, end)?;
     let text = text_before(alloc, section, rest)?;
-    let catalogue = read_catalogue(alloc, &text)?;
     let statements = statements(alloc, lines_behind(section, rest))?;
+    let catalogue = read_catalogue(alloc, &text)?;
     Ok(Parts {
         catalogue,
         statements,

@@ -1,10 +1,15 @@
 -- What the program holds while it reads and reports a schedule, as the definitions have it.
-use Rattle.std.specs.Prelude.{ℕ, ◌+◌, List, [], ◌∷◌, ◌++◌, slice_index_or, slice_set, Option, Some, None, is_some, if◌then◌else◌}
+use Rattle.std.specs.Prelude.{◌≢◌, ℕ, ◌+◌, List, [], ◌∷◌, ◌++◌, slice_index_or, slice_set, Option, Some, None, is_some, if◌then◌else◌}
 use Rattle.std.specs.Option.{option_map}
+use Rattle.dep_index.specs.Catalogue.{modules_of}
 use Rattle.step_core.specs.declared.steps.Step.TheVariants as step
+use Rattle.step_core.specs.declared.steps.StepError.TheVariants.{Calls}
 use Rattle.linear_points.specs.declared.point.Point.{Point}
 use Rattle.linear_points.specs.declared.intervals.Interval.{Interval}
 use Rattle.linear_points.specs.declared.intervals.End.{End}
+use Rattle.linear_points.specs.Run.{IsRefusedAt}
+use Rattle.workload_drive.specs.declared.fault.ScheduleFault.{ScheduleFault}
+use Rattle.workload_drive.specs.declared.fault.ScheduleFault.TheVariants as fault
 use Rattle.workload_drive.specs.declared.schedule.order.Order.{Order}
 use Rattle.workload_drive.specs.declared.schedule.order.Order.TheVariants.{Go, Make}
 use Rattle.workload_drive.specs.declared.schedule.steps.Schedule.{Schedule}
@@ -34,3 +39,9 @@ interval_line s n i point =
 abbrev pub interval_lines : schedules.Schedule → List (Option Point) → ℕ → List Interval → List ℕ
 interval_lines s taken n [] = []
 interval_lines s taken n (i ∷ is) = interval_line s n i (slice_index_or taken n None) ++ interval_lines s taken (n + 1) is
+
+-- the machine refuses a step of the schedule, or there was no memory
+abbrev pub Stops : schedules.Schedule → ScheduleFault → Type 0
+Stops s (fault.Line f) = ⊥
+Stops s (fault.Step index cause) = IsRefusedAt (modules_of s.catalogue) s.workers s.threads s.steps index cause × (cause ≢ Calls)
+Stops s fault.Memory = Unit {0}

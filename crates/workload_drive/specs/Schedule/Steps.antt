@@ -8,7 +8,7 @@ use Rattle.workload_drive.specs.declared.fault.LineCode.TheVariants.{H2, H3}
 use Rattle.workload_drive.specs.declared.fault.LineFault.{LineFault}
 use Rattle.call_words.specs.declared.verb.Verb.{Verb}
 use Rattle.call_words.specs.Calls.{call_on}
-use Rattle.workload_drive.specs.Faults.{fault_at, bad_line}
+use Rattle.workload_drive.specs.Faults.{◌>>=◌, fault_at, bad_line}
 use Rattle.workload_drive.specs.Statements.{Statement, Parts, parts_of, setting, marked}
 use Rattle.workload_drive.specs.Schedule.Orders.{Order, go, make, order_of}
 
@@ -44,33 +44,26 @@ abbrev pub by_words : List Description → List Step → ℕ → List (List ℕ)
 by_words modules steps line [] = Err (bad_line line)
 by_words modules steps line (thread ∷ words) = by_order modules steps line (marked 116 thread) (order_of words)
 
-abbrev pub then_said : Result (List Step) LineFault → (List Step → Result (List Step) LineFault) → Result (List Step) LineFault
-then_said (Err e) later = Err e
-then_said (Ok steps) later = later steps
-
--- the steps of statements, after earlier steps
+-- the steps of statements, behind earlier steps
 abbrev pub steps_of : List Description → List Step → List Statement → Result (List Step) LineFault
 steps_of modules steps [] = Ok steps
-steps_of modules steps (said ∷ later) =
-    then_said (by_words modules steps said.number said.words) (λ more. steps_of modules more later)
+steps_of modules steps (said ∷ later) = by_words modules steps said.number said.words >>= λ more. steps_of modules more later
 
-abbrev pub with_steps : List Description → ℕ → ℕ → Result (List Step) LineFault → Result Schedule LineFault
-with_steps modules workers threads (Err e) = Err e
-with_steps modules workers threads (Ok steps) =
-    Ok (record { catalogue = modules; workers = workers; threads = threads; steps = steps })
+abbrev pub made_schedule : List Description → ℕ → ℕ → List Step → Schedule
+made_schedule modules workers threads steps =
+    record { catalogue = modules; workers = workers; threads = threads; steps = steps }
 
-abbrev pub with_threads : List Description → ℕ → Result (ℕ × List Statement) LineFault → Result Schedule LineFault
-with_threads modules workers (Err e) = Err e
-with_threads modules workers (Ok found) = with_steps modules workers found.0 (steps_of modules [] found.1)
+abbrev pub with_threads : List Description → ℕ → ℕ × List Statement → Result Schedule LineFault
+with_threads modules workers found =
+    steps_of modules [] found.1 >>= λ steps. Ok (made_schedule modules workers found.0 steps)
 
-abbrev pub with_workers : List Description → ℕ → Result (ℕ × List Statement) LineFault → Result Schedule LineFault
-with_workers modules end (Err e) = Err e
-with_workers modules end (Ok found) = with_threads modules found.0 (setting (codes "threads") end found.1)
+abbrev pub with_workers : List Description → ℕ → ℕ × List Statement → Result Schedule LineFault
+with_workers modules end found = setting (codes "threads") end found.1 >>= with_threads modules found.0
 
-abbrev pub with_parts : Result Parts LineFault → Result Schedule LineFault
-with_parts (Err e) = Err e
-with_parts (Ok p) = with_workers p.catalogue p.end (setting (codes "workers") p.end p.statements)
+-- the schedule of the parts of an input
+abbrev pub schedule_by : Parts → Result Schedule LineFault
+schedule_by p = setting (codes "workers") p.end p.statements >>= with_workers p.catalogue p.end
 
 -- the schedule of an input, or its first faulty line
 unfoldable pub schedule_of : List ℕ → Result Schedule LineFault
-schedule_of input = with_parts (parts_of (codes "%schedule") input)
+schedule_of input = parts_of (codes "%schedule") input >>= schedule_by

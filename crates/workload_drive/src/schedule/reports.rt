@@ -1,9 +1,9 @@
 //! The report of a schedule.
-ghost use Rattle.std.specs.Prelude.{◌≡◌, ◌<◌, ◌++◌, ℕ, None, OnOk, IfOk, IfErr, length, slice_index_or};
+ghost use Rattle.std.specs.Prelude.{◌≡◌, ◌<◌, ◌≤◌, ◌++◌, ℕ, None, OnOk, IfOk, IfErr, length, slice_index_or};
 ghost use Rattle.std.specs.Option.{option_map};
 ghost use Rattle.step_core.specs.declared.steps.Step.TheVariants as step;
-ghost use Rattle.workload_drive.specs.Schedule.Report.{name_at, call_head, steps_text, thread_of, point_of, point_text, Reports, Refuses};
-ghost use Rattle.workload_drive.specs.Schedule.ForProofs.{with_point, interval_line, interval_lines, schedule_in};
+ghost use Rattle.workload_drive.specs.Schedule.Report.{name_at, call_head, steps_text, thread_of, point_of, point_text, IsReport, Reports, Refuses};
+ghost use Rattle.workload_drive.specs.Schedule.ForProofs.{with_point, interval_line, interval_lines, schedule_in, Stops};
 
 use super::steps::{Schedule, read_schedule};
 use crate::fault::ScheduleFault;
@@ -141,14 +141,12 @@ fn lines_of(
     Ok(text)
 }
 
-/// The report of an input that is a schedule: a line for each call of its run, by the calls' numbers, with its first
-/// step, its last step, its point and its reply. `Line` is the first faulty line; `Step`, where no line is faulty, the
-/// first step that the machine refuses, whose cause is never `Calls`; `Memory` says that there was none.
-pub fn report(alloc: Global, input: &[u8]) -> Result<Vec<u8>, ScheduleFault>
-    ensures report { IfOk result (λ text. Reports input.now text.items) }
-    ensures refused { IfErr result (Refuses input.now) }
+/// The report of a schedule.
+fn report_of(alloc: Global, schedule: &Schedule) -> Result<Vec<u8>, ScheduleFault>
+    requires { schedule.now.workers ≤ 64 }
+    ensures report { IfOk result (λ text. IsReport text.items (schedule_in schedule.now)) }
+    ensures refused { IfErr result (Stops (schedule_in schedule.now)) }
 {
-    let schedule = read_schedule(alloc, input)?;
     let trace = run_trace(
         alloc,
         &schedule.catalogue,
@@ -157,5 +155,16 @@ pub fn report(alloc: Global, input: &[u8]) -> Result<Vec<u8>, ScheduleFault>
         &schedule.steps,
     )?;
     let taken = points_by_call(alloc, trace.intervals.len(), &trace.points)?;
-    Ok(lines_of(alloc, &schedule, &trace.intervals, &taken)?)
+    Ok(lines_of(alloc, schedule, &trace.intervals, &taken)?)
+}
+
+/// The report of an input that is a schedule: a line for each call of its run, by the calls' numbers, with its first
+/// step, its last step, its point and its reply. `Line` is the first faulty line; `Step`, where no line is faulty, the
+/// first step that the machine refuses, whose cause is never `Calls`; `Memory` says that there was none.
+pub fn report(alloc: Global, input: &[u8]) -> Result<Vec<u8>, ScheduleFault>
+    ensures report { IfOk result (λ text. Reports input.now text.items) }
+    ensures refused { IfErr result (Refuses input.now) }
+{
+    let schedule = read_schedule(alloc, input)?;
+    report_of(alloc, &schedule)
 }

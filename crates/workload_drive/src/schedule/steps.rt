@@ -2,8 +2,8 @@
 ghost use Rattle.std.specs.Prelude.{◌≡◌, ◌≤◌, ◌++◌, [], Ok, length, replicate, IfOk, OnOk, MatchResult, Option};
 ghost use Rattle.text_parts.specs.Text.{texts_of};
 ghost use Rattle.step_core.specs.declared.steps.Step.TheVariants as step;
-ghost use Rattle.workload_drive.specs.Schedule.Steps.{ordered, behind_steps, by_words, steps_of, schedule_of};
-ghost use Rattle.workload_drive.specs.ForProofs.{Reads, statements_in};
+ghost use Rattle.workload_drive.specs.Schedule.Steps.{ordered, behind_steps, by_words, steps_of, made_schedule, schedule_by, schedule_of};
+ghost use Rattle.workload_drive.specs.ForProofs.{Reads, statements_in, parts_in};
 ghost use Rattle.workload_drive.specs.Schedule.ForProofs.{order_in, schedule_in};
 
 use super::order::{MOST_STEPS, Order, order_of};
@@ -105,19 +105,25 @@ fn steps_of(
     Ok(steps)
 }
 
+/// What the statements of an input say: how many workers and threads there are, and the steps.
+fn said_by(alloc: Global, parts: &Parts<'_>) -> Result<(usize, usize, Vec<Step>), ScheduleFault>
+    ensures few { IfOk result (λ said. said.0 ≤ 64) }
+    ensures value { Reads (schedule_by (parts_in parts.now)) (λ said. made_schedule parts.now.catalogue said.0 said.1 said.2.items) result }
+{
+    let (workers, rest) = setting(b"workers", parts.end, &parts.statements)?;
+    let (threads, rest) = setting(b"threads", parts.end, rest)?;
+    let steps = steps_of(alloc, &parts.catalogue, rest)?;
+    Ok((workers, threads, steps))
+}
+
 /// The schedule of an input, or its first faulty line.
 pub(crate) fn read_schedule(alloc: Global, input: &[u8]) -> Result<Schedule, ScheduleFault>
     ensures few { IfOk result (λ s. s.workers ≤ 64) }
     ensures value { Reads (schedule_of input.now) schedule_in result }
 {
-    let Parts {
-        catalogue,
-        statements,
-        end,
-    } = read_parts(alloc, b"%schedule", input)?;
-    let (workers, rest) = setting(b"workers", end, &statements)?;
-    let (threads, rest) = setting(b"threads", end, rest)?;
-    let steps = steps_of(alloc, &catalogue, rest)?;
+    let parts = read_parts(alloc, b"%schedule", input)?;
+    let (workers, threads, steps) = said_by(alloc, &parts)?;
+    let Parts { catalogue, .. } = parts;
     Ok(Schedule {
         catalogue,
         workers,

@@ -1,7 +1,8 @@
 //! A script, as an input gives it.
 ghost use Rattle.std.specs.Prelude.{◌≡◌, ◌≤◌, [], Ok, slice_index_or, IfOk, IfErr};
 ghost use Rattle.workload_drive.specs.Faults.{IsFirstFault};
-ghost use Rattle.workload_drive.specs.Script.{script_of};
+ghost use Rattle.workload_drive.specs.Script.{made_script, script_by, script_of};
+ghost use Rattle.workload_drive.specs.ForProofs.{Reads, parts_in, tasks_in};
 
 use super::entries::{Opening, Task, all_tasks, entries_of, opening_of};
 use crate::fault::ScheduleFault;
@@ -66,6 +67,21 @@ impl Script {
     }
 }
 
+/// What the statements of an input say: how many workers there are, the changes before them, and the lines of each.
+fn said_by(
+    alloc: Global,
+    parts: &Parts<'_>,
+) -> Result<(usize, Vec<Opening>, Vec<Vec<Task>>), ScheduleFault>
+    ensures few { IfOk result (λ said. said.0 ≤ 64) }
+    ensures value { Reads (script_by (parts_in parts.now)) (λ said. made_script parts.now.catalogue said.0 said.1.items (tasks_in said.2.items)) result }
+{
+    let (workers, rest) = setting(b"workers", parts.end, &parts.statements)?;
+    let entries = entries_of(alloc, &parts.catalogue, workers, rest)?;
+    let opening = opening_of(alloc, &entries)?;
+    let tasks = all_tasks(alloc, workers, &entries)?;
+    Ok((workers, opening, tasks))
+}
+
 /// The script that an input is: `%catalogue`, a catalogue, `%script`, `workers N`, then lines `load NAME`,
 /// `remove NAME`, `drain NAME` or `finish NAME`, then lines of workers, `wW` and one of these or `get NAME`, `put NAME`
 /// or `query NAME`. `Line` is the first faulty line, `Memory` says that there was none.
@@ -73,15 +89,9 @@ pub fn read_script(alloc: Global, input: &[u8]) -> Result<Script, ScheduleFault>
     ensures script { IfOk result (λ script. script_of input.now ≡ Ok script) }
     ensures refused { IfErr result (λ fault. IsFirstFault fault (script_of input.now)) }
 {
-    let Parts {
-        catalogue,
-        statements,
-        end,
-    } = read_parts(alloc, b"%script", input)?;
-    let (workers, rest) = setting(b"workers", end, &statements)?;
-    let entries = entries_of(alloc, &catalogue, workers, rest)?;
-    let opening = opening_of(alloc, &entries)?;
-    let tasks = all_tasks(alloc, workers, &entries)?;
+    let parts = read_parts(alloc, b"%script", input)?;
+    let (workers, opening, tasks) = said_by(alloc, &parts)?;
+    let Parts { catalogue, .. } = parts;
     Ok(Script {
         catalogue,
         workers,

@@ -1,18 +1,23 @@
-use Rattle.std.proofs.Common.{◌∙◌, ap, get_or, List, Option, None}
-use Rattle.linear_points.specs.declared.point.Point.{Point}
-use Rattle.workload_drive.specs.Schedule.ForProofs.{schedule_in}
-use Rattle.workload_drive.proofs.ReportLemmas.{reports}
+use Rattle.std.proofs.Common.{ℕ, sym, subst}
+use Rattle.std.specs.Prelude.{Result, IsOkAnd}
+use Rattle.std.specs.Global.{Vec}
+use Rattle.std.proofs.lemmas.Result.{IfOk-weaker, IfErr-weaker}
+use Rattle.workload_drive.specs.declared.fault.LineFault.{LineFault}
+use Rattle.workload_drive.specs.Schedule.Report.{IsReport, Reports, Refuses}
+use Rattle.workload_drive.specs.Schedule.Steps.{Schedule}
+use Rattle.workload_drive.specs.Schedule.ForProofs.{Stops, schedule_in}
+use Rattle.workload_drive.proofs.ReportLemmas.{stops_input}
 use Rattle.workload_drive.proofs.schedule.reports.report.Goals as goal
 
 pub returns-clause-report : goal.returns-clause-report
 returns-clause-report c =
-    reports c.args.input.now c.in_ok-lines_of.field-0.items (schedule_in c.in_ok-schedule.schedule) c.in_ok-trace.trace.intervals.items c.deref-3.result.now
-    c.deref-2.result.now c.deref-4.result.now c.len.result c.in_ok-schedule.ensures.value
-    (rw c.deref.ensures.value at c.in_ok-trace.ensures.run)
-    (c.deref-2.ensures.value ∙ (rw c.deref.ensures.value at c.in_ok-trace.ensures.points))
-    (rw c.deref.ensures.value at c.in_ok-trace.ensures.calls)
-    (rw c.deref.ensures.value at c.in_ok-trace.ensures.intervals)
-    c.deref-3.ensures.value
-    (c.len.ensures ∙ c.in_ok-trace.trace.intervals.ok.0)
-    (λ k below. ap (λ (t : List (Option Point)). get_or t k None) c.deref-4.ensures.value ∙ c.in_ok-taken.ensures.points k below)
-    c.in_ok-lines_of.ensures
+    let s = schedule_in c.in_ok-schedule.schedule in
+    IfOk-weaker c.report_of.result (λ (text : Vec ℕ). IsReport text.items s) (λ (text : Vec ℕ). Reports c.args.input.now text.items)
+    (λ text is. subst (λ (r : Result Schedule LineFault). IsOkAnd r (IsReport text.items)) (sym c.in_ok-schedule.ensures.value) is)
+    c.report_of.ensures.report
+
+pub returns-clause-refused : goal.returns-clause-refused
+returns-clause-refused c =
+    let s = schedule_in c.in_ok-schedule.schedule in
+    IfErr-weaker c.report_of.result (Stops s) (Refuses c.args.input.now) (λ fault stops. stops_input c.args.input.now s fault c.in_ok-schedule.ensures.value stops)
+    c.report_of.ensures.refused
