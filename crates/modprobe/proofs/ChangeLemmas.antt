@@ -1,5 +1,5 @@
 -- Changes of the table, one after another.
-use Rattle.std.proofs.Common.{◌≡◌, ℕ, ◌<◌, ◌+◌, List, ◌∷◌, length, drop, get_or, suc, refl, sym, ap, ◌∙◌, add-one, Some, None}
+use Rattle.std.proofs.Common.{◌≡◌, ℕ, ◌<◌, ◌+◌, List, ◌∷◌, length, drop, get_or, suc, sym, ap, ◌∙◌, add-one, Some, None}
 use Rattle.std.proofs.Math.Seq.{drop-cons}
 use Rattle.dep_index.specs.Table.{Table}
 use Rattle.load_plan.specs.declared.items.Item.{Item}
@@ -7,10 +7,6 @@ use Rattle.modprobe.specs.Setup.{Setup}
 use Rattle.modprobe.specs.Refusals.{Refusal}
 use Rattle.modprobe.specs.Changes.{Change, ◌then◌}
 use Rattle.modprobe.specs.Loads.{item_load, loads}
-
-pub then_none : (c : Change) (f : Table → Change) → c.0 ≡ None → (c then f) ≡ f c.1
-then_none (None, t) f is = refl
-then_none (Some r, t) f is = absurd (cc)
 
 pub then_some : (c : Change) (f : Table → Change) (r : Refusal) → c.0 ≡ Some r → (c then f) ≡ (Some r, c.1)
 then_some (None, t) f r is = absurd (cc)

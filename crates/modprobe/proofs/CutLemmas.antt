@@ -38,9 +38,6 @@ cuts_all text rest done gives end =
     let all : done ≡ cut_lines text = sym (gives ∙ ap (λ t. done ++ cut_lines t) end ∙ append-nil done) in
     ap texts all ∙ lines_have_texts text
 
-pub ended_none : AllEnded []
-ended_none = All-nil (λ (line : Line). 0 < length line.ending)
-
 pub ended_more : (done : List Line) (line : Line) → AllEnded done → 0 < length line.ending → AllEnded (done ++ line ∷ [])
 ended_more done line before ended =
     let P : Line → Type 0 = λ l. 0 < length l.ending in

@@ -17,15 +17,6 @@ use Rattle.modprobe.specs.declared.lines.LineFault.TheVariants.{LongLine}
 use Rattle.modprobe.specs.Lines.{bytes_left, StoppedReading, left_of, HasNoFeed, IfTold, BeginsWithLongLine, GivesLine}
 use Rattle.modprobe.proofs.LineLemmas.{begins_with_long_line}
 
--- Bytes of the piece that go to the line stay in the text.
-pub keeps_taken : (line piece : List ℕ) (count : ℕ) (at_end : Bool) (told : Option (List ℕ)) → at_end ≡ false
-    → Keeps (option_map (λ rest. line ++ rest) (left_of at_end piece told)) (option_map (λ rest. (line ++ take count piece) ++ rest) (left_of at_end (drop count piece) told))
-keeps_taken line piece count at_end None going = tt
-keeps_taken line piece count at_end (Some rest) going =
-    let first = take count piece in
-    let second = drop count piece in
-    rw going (append_assoc line first (second ++ rest) ∙ ap (λ l. line ++ l) (sym (append_assoc first second rest) ∙ ap (λ p. p ++ rest) (take-append-drop count piece)))
-
 -- The text begins with a line that is too long, where the line and the bytes that go to it are.
 pub long_taken : (line piece : List ℕ) (count : ℕ) (at_end : Bool) (told : Option (List ℕ)) → count ≤ length piece → at_end ≡ false → HasNoFeed line → HasNoFeed (take count piece) → 65536 < length line + count
     → IfTold (option_map (λ rest. line ++ rest) (left_of at_end piece told)) BeginsWithLongLine
@@ -49,12 +40,6 @@ ends_line line piece count at_end (Some rest) going below feed =
     let front : drop count piece ≡ 10 ∷ later = drop-cons piece count 0 below ∙ ap (λ b. b ∷ drop (suc count) piece) feed ∙ ap (λ l. 10 ∷ l) (ap (λ n. drop n piece) (sym (add-one count)) ∙ sym (drop-drop 1 count piece)) in
     let all : piece ≡ first ++ 10 ∷ later = sym (take-append-drop count piece) ∙ ap (λ l. first ++ l) front in
     rw going (ap (λ p. line ++ (p ++ rest)) all ∙ simp append_assoc)
-
-pub keeps_trans : (a b c : Option (List ℕ)) → Keeps a b → Keeps b c → Keeps a c
-keeps_trans None b c ab bc = tt
-keeps_trans (Some x) None c ab bc = absurd ab
-keeps_trans (Some x) (Some y) None ab bc = absurd bc
-keeps_trans (Some x) (Some y) (Some z) ab bc = bc ∙ ab
 
 -- A line is too long.
 pub stopped_at_long_line : {R : Type 0} (remaining : R → Option (List ℕ)) (old new : Lines R) → old.at_end ≡ false → IfTold (bytes_left remaining old) BeginsWithLongLine → StoppedReading LongLine remaining old new

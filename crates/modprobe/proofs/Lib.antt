@@ -4,11 +4,9 @@ pub mod LeftLemmas
 pub mod SetupLemmas
 pub mod SlotLemmas
 pub mod RunLemmas
-pub mod NameLemmas
 pub mod ServeLemmas
 pub mod TurnLemmas
 pub mod PlanLemmas
 pub mod ChangeLemmas
 pub mod LoadLemmas
 pub mod SettlingLemmas
-pub mod MemoryLemmas

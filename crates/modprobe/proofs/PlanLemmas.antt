@@ -1,6 +1,5 @@
 -- What is written of a refused plan.
-use Rattle.std.proofs.Common.{◌≡◌, ℕ, List, ap, sym, ◌∙◌, Result, Ok, Err}
-use Rattle.std.specs.Prelude.{IfOk}
+use Rattle.std.proofs.Common.{◌≡◌, ℕ, List, ap, sym, ◌∙◌, Result}
 use Rattle.load_plan.specs.declared.items.Item.{Item}
 use Rattle.load_plan.specs.declared.items.PlanError.{PlanError}
 use Rattle.load_plan.specs.declared.items.PlanError.TheVariants.{Cycle, Install, Unknown, Remove, Memory}
@@ -15,8 +14,3 @@ tells_plan s (Install name) given text fails tells = tells ∙ ap (plan_text s) 
 tells_plan s (Unknown name) given text fails tells = tells ∙ ap (plan_text s) (sym fails)
 tells_plan s (Remove name) given text fails tells = tells ∙ ap (plan_text s) (sym fails)
 tells_plan s Memory given text fails tells = absurd tells
-
--- What is said of an answer, by what is known of it.
-pub if_ok-map : {X E : Type 0} (r : Result X E) (P Q : X → Type 0) → ((x : X) → P x → Q x) → IfOk r P → IfOk r Q
-if_ok-map (Ok x) P Q goes known = goes x known
-if_ok-map (Err e) P Q goes known = tt

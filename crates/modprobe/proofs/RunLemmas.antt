@@ -1,6 +1,7 @@
 -- What was written and answered, one step on.
 use Rattle.std.proofs.Common.{arith, ◌≡◌, ℕ, ◌≤◌, ◌+◌, ◌-◌, ◌^◌, List, [], ◌∷◌, ◌++◌, length, take, drop, refl, sym, ap, ◌∙◌, Option, Some, None}
 use Rattle.std.specs.Io.KnownBytes.{Appends, IsAtEnd}
+use Rattle.std.proofs.KnownBytes.{Appends-nil, Appends-trans}
 use Rattle.std.proofs.Math.Seq.{take-add}
 use Rattle.std.proofs.lemmas.List.Elements.{All-append, All-cons, All-nil}
 use Rattle.std.proofs.lemmas.List.{append_assoc, append-nil, map-append, take_rest}
@@ -19,22 +20,12 @@ use Rattle.std.specs.Prelude.{◌&&◌, ◌≢◌, nat_lt, min}
 use Rattle.std.proofs.lemmas.Bool.{ne_eqb, false≢true}
 use Rattle.modprobe.specs.Device.{write_failed}
 
-pub appends_trans : (a b c : Option (List ℕ)) (first second : List ℕ) → Appends a b first → Appends b c second → Appends a c (first ++ second)
-appends_trans None b c first second ab bc = tt
-appends_trans (Some x) None c first second ab bc = absurd ab
-appends_trans (Some x) (Some y) None first second ab bc = absurd bc
-appends_trans (Some x) (Some y) (Some z) first second ab bc = bc ∙ ap (λ l. l ++ second) ab ∙ append_assoc x first second
-
-pub appends_none : (a : Option (List ℕ)) → Appends a a []
-appends_none None = tt
-appends_none (Some x) = sym (append-nil x)
-
 -- The next bytes of a text that is written in pieces.
 pub appends_more : (a b c : Option (List ℕ)) (bytes : List ℕ) (written count : ℕ) → Appends a b (take written bytes) → Appends b c (take count (take (length bytes - written) (drop written bytes)))
     → Appends a c (take (written + count) bytes)
 appends_more a b c bytes written count ab bc =
     let piece : take count (take (length bytes - written) (drop written bytes)) ≡ take count (drop written bytes) = ap (take count) (take_rest bytes written) in
-    rw take-add (appends_trans a b c (take written bytes) (take count (drop written bytes)) ab (rw piece at bc))
+    rw take-add (Appends-trans a b c (take written bytes) (take count (drop written bytes)) ab (rw piece at bc))
 
 -- One more line: its reply comes behind the others, and its table is the last.
 pub answer-more : (s : Setup) (t : Table) (done : List Line) (line : Line) → (answer s t (texts (done ++ line ∷ []))).0 ≡ (answer s t (texts done)).0 ++ (line_reply s (answer s t (texts done)).1 line.text).0
@@ -90,7 +81,7 @@ told_map (Some t) P Q f told = f t told
 
 module _ (s : Setup) (start : Table) (text : Option (List ℕ)) (held : Option (List ℕ)) where
   pub answered_none : Answered s start text text held held start []
-  answered_none = record { gives = cuts_none text; short = All-nil (λ (l : List ℕ). length l ≤ 65535); wrote = appends_none held; after = refl }
+  answered_none = record { gives = cuts_none text; short = All-nil (λ (l : List ℕ). length l ≤ 65535); wrote = Appends-nil held; after = refl }
 
   -- One more line was answered.
   pub answered_more : (left left' wrote wrote' : Option (List ℕ)) (table table' : Table) (done : List Line) (line : Line) (reply : List ℕ)
@@ -99,7 +90,7 @@ module _ (s : Setup) (start : Table) (text : Option (List ℕ)) (held : Option (
   answered_more left left' wrote wrote' table table' done line reply before gives short is after appends = record {
     gives = cuts_more text left left' done line before.gives gives;
     short = short-more done line before.short short;
-    wrote = rw (answer-more s start done line, ← before.after, ← is) (appends_trans held wrote wrote' (answer s start (texts done)).0 reply before.wrote appends);
+    wrote = rw (answer-more s start done line, ← before.after, ← is) (Appends-trans held wrote wrote' (answer s start (texts done)).0 reply before.wrote appends);
     after = rw (table-more s start done line, ← before.after) after;
   }
 

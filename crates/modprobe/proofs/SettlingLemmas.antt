@@ -1,8 +1,9 @@
 -- Plans of modules that are all live by then load nothing.
 use Rattle.std.proofs.Common.{◌≡◌, ℕ, zero, suc, ◌+◌, ◌<◌, Bool, true, false, ◌&&◌, cond, List, [], ◌∷◌, ◌++◌, length, drop, take, get_or, set, replicate, length-set, get_or-set_other, Some, None, Result, Ok, Err, refl, sym, ◌∙◌, ap, subst, inl, inr, ◌⊎◌, add-one, append_assoc}
 use Rattle.std.proofs.Math.Seq.{drop-cons}
+use Rattle.std.proofs.lemmas.Bool.{cases_Bool}
 use Rattle.std.proofs.lemmas.Bool.Decides.{eqb_tells}
-use Rattle.std.proofs.lemmas.List.{length-replicate, take_more}
+use Rattle.std.proofs.lemmas.List.{take_more}
 use Rattle.std.specs.List.{All, list_all}
 use Rattle.std.proofs.lemmas.List.Elements.{All-nil, All-cons, All-append, All-get_or, All-head, All-tail, All-take}
 use Rattle.dep_index.specs.Table.{Table, state_of, is_absent, is_live}
@@ -11,7 +12,7 @@ use Rattle.load_plan.specs.declared.items.Item.{Item}
 use Rattle.load_plan.specs.declared.items.PlanError.{PlanError}
 use Rattle.load_plan.specs.declared.items.PlanError.TheVariants as error
 use Rattle.load_plan.specs.declared.sources.Sources.{Sources}
-use Rattle.load_plan.specs.Items.{FailsAs, plan_of, plan_from, removal_plan_of, removal_plan_from}
+use Rattle.load_plan.specs.Items.{FailsAs, plan_of, plan_from, removal_plan_of}
 use Rattle.load_plan.specs.Outlook.{Outlook, settled_at}
 use Rattle.modprobe.specs.Setup.{Setup}
 use Rattle.modprobe.specs.Changes.{Change, ◌then◌, one_load}
@@ -46,12 +47,8 @@ item_live : (s : Setup) (item : Item) (t : Table) → is_live (state_of t.book i
 item_live s item t live =
     ap (λ b. cond b (None, t) (cond item.soft (without_refusal (one_load s item.slot item.options t)) (one_load s item.slot item.options t))) live
 
-live_or_not : (b : Bool) → (b ≡ true) ⊎ (b ≡ false)
-live_or_not true = inl refl
-live_or_not false = inr refl
-
 item_keeps : (s : Setup) (item : Item) (t : Table) → item.slot < length t.book.states → Keeps t (item_load s item t).1
-item_keeps s item t within = elim (live_or_not (is_live (state_of t.book item.slot))) [
+item_keeps s item t within = elim (cases_Bool (is_live (state_of t.book item.slot))) [
   | inl live ↦ subst (λ (c : Change). Keeps t c.1) (sym (item_live s item t live)) (keeps_same t)
   | inr down ↦ subst (λ u. Keeps t u) (sym (item_table s item t down)) (changed down)
 ]
@@ -141,7 +138,7 @@ all_live settled u live (n ∷ ns) all = at (settled_at settled n) refl all (all
 sure_here : (s : Setup) (t u : Table) (item : Item) (settled : List Bool) → item.slot < length s.catalogue → item.slot < length u.book.states → Keeps t u → ((m : ℕ) → settled_at settled m ≡ true → is_live (state_of u.book m) ≡ true) → IsSure s t settled item → is_live (state_of (item_load s item u).1.book item.slot) ≡ true
 sure_here s t u item settled within room k live sure = elim sure [
   | inl up ↦ already (k.live item.slot up)
-  | inr l ↦ elim (live_or_not (is_live (state_of u.book item.slot))) [
+  | inr l ↦ elim (cases_Bool (is_live (state_of u.book item.slot))) [
     | inl up ↦ already up
     | inr down ↦ ap (λ (v : Table). is_live (state_of v.book item.slot)) (item_table s item u down)
         ∙ load_live s item.slot item.options u within room (absent down (k.rest item.slot (inr l.absent))) l.known (all_live settled u live (needs_of s.catalogue item.slot) l.needs) l.valid
@@ -198,20 +195,6 @@ plan_same s o name words p =
     ap (λ catalogue. plan_of catalogue o.sources.dependencies.now o.sources.configuration.now name words) p.catalogue
     ∙ ap (λ dependencies. plan_of s.catalogue dependencies o.sources.configuration.now name words) p.dependencies
     ∙ ap (λ configuration. plan_of s.catalogue s.dependencies configuration name words) p.configuration
-
-pub removal_same : (s : Setup) (o : Outlook) (name : List ℕ) → PlansFor s o → removal_plan_from o.sources name ≡ removal_plan_of s.catalogue s.dependencies s.configuration name
-removal_same s o name p =
-    ap (λ catalogue. removal_plan_of catalogue o.sources.dependencies.now o.sources.configuration.now name) p.catalogue
-    ∙ ap (λ dependencies. removal_plan_of s.catalogue dependencies o.sources.configuration.now name) p.dependencies
-    ∙ ap (λ configuration. removal_plan_of s.catalogue s.dependencies configuration name) p.configuration
-
-pub plans_for : (s : Setup) (sources : Sources) (o : Outlook) → o.sources ≡ sources → o.settled ≡ replicate (length sources.catalogue.now) false → sources.catalogue.now ≡ s.catalogue → sources.dependencies.now ≡ s.dependencies → sources.configuration.now ≡ s.configuration → PlansFor s o
-plans_for s sources o same settled catalogue dependencies configuration = record {
-  catalogue = ap (λ (x : Sources). x.catalogue.now) same ∙ catalogue;
-  dependencies = ap (λ (x : Sources). x.dependencies.now) same ∙ dependencies;
-  configuration = ap (λ (x : Sources). x.configuration.now) same ∙ configuration;
-  long = ap length settled ∙ length-replicate (length sources.catalogue.now) false ∙ ap length catalogue;
-}
 
 -- one module more is settled
 pub plans_settle : (s : Setup) (before after : Outlook) (slot : ℕ) → after.sources ≡ before.sources → after.settled ≡ set before.settled slot true → PlansFor s before → PlansFor s after

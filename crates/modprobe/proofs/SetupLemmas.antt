@@ -1,5 +1,5 @@
 -- The sections of an input, one line on.
-use Rattle.std.proofs.Common.{arith, ◌≡◌, ℕ, ◌≤◌, true, false, List, [], ◌∷◌, ◌++◌, length, map, refl, sym, ap, subst, ◌∙◌, Option, Some, None, Ok, Err}
+use Rattle.std.proofs.Common.{arith, ◌≡◌, ℕ, ◌≤◌, true, false, List, [], ◌∷◌, ◌++◌, length, map, refl, sym, ap, subst, ◌∙◌, Option, Some, None, Result, Ok, Err}
 use Rattle.std.specs.Prelude.{◌≢◌, slice_index_or, ⊤}
 use Rattle.std.specs.Io.KnownBytes.{IsAtEnd, Keeps}
 use Rattle.text_parts.specs.Text.{Line, cut_lines}
@@ -8,15 +8,12 @@ use Rattle.modprobe.proofs.CutLemmas.{is_long_line, cuts_in_hand}
 use Rattle.modprobe.specs.declared.section.Section.{Section}
 use Rattle.modprobe.specs.declared.section.Section.TheVariants.{Catalogue, Dep, Alias, Conf, Session}
 use Rattle.modprobe.specs.Sections.{Parts, no_parts, section_of, SectionStep, Stopped, early, too_long, stop, begin, go, text_step, section_step, step_of, after_step, is_long, sections, next_step, steps_of}
-use Rattle.modprobe.specs.ForProofs.{is_session, GivesSections, StopsAs, setup_code_of}
+use Rattle.modprobe.specs.declared.fault.SetupFault.{SetupFault}
+use Rattle.modprobe.specs.ForProofs.{is_session, GivesSections, RefusesTexts, StopsAs, setup_code_of}
 use Rattle.modprobe.specs.declared.lines.LineFault.{LineFault}
 use Rattle.modprobe.specs.declared.lines.LineFault.TheVariants.{Read, Memory, Turns, LongLine}
-use Rattle.dep_index.specs.Catalogue.{catalogue_of}
-use Rattle.dep_index.specs.Dependencies.{dependencies_of}
-use Rattle.alias_match.specs.Aliases.{aliases_of}
-use Rattle.modprobe_conf.specs.Configuration.{configuration_of}
 use Rattle.modprobe.specs.Setup.{Setup}
-use Rattle.modprobe.specs.SetupInput.{of_sections, with_session, with_catalogue, with_dependencies, setup_for, GivesSetup, SetupStops}
+use Rattle.modprobe.specs.SetupInput.{of_sections, with_session, setup_for, setup_of, GivesSetup, Refuses, SetupStops}
 use Rattle.text_parts.proofs.LineLemmas.{lines_have_texts}
 use Rattle.std.proofs.lemmas.Bool.{false≢true, true≢false, cond-true, cond-false, lt-ltb, le-ltb}
 
@@ -126,18 +123,18 @@ stops_as old middle current parts Memory before long = stops_somehow old
 stops_as old middle current parts Turns before long = stops_somehow old
 stops_as old middle current parts LongLine before long = long_stops old middle current parts before (long refl)
 
--- The setup of an input, from its sections, its catalogue and its dependencies.
-pub gives_setup : (old new : Option (List ℕ)) (parts : Parts) (s : Setup) → GivesSections old new parts → catalogue_of parts.catalogue_text ≡ Ok s.catalogue → dependencies_of parts.dep_text ≡ Ok s.dependencies
-    → s.aliases ≡ aliases_of parts.alias_text → s.configuration ≡ configuration_of parts.conf_text → GivesSetup old new s
-gives_setup None new parts s gives is pairs aliases configuration = tt
-gives_setup (Some old) None parts s gives is pairs aliases configuration = absurd gives
-gives_setup (Some old) (Some new) parts s gives is pairs aliases configuration =
-    let here : setup_for parts ≡ Ok s =
-    ap (with_catalogue parts) is
-    ∙ ap (with_dependencies parts s.catalogue) pairs
-    ∙ ap (λ a. Ok (record { catalogue = s.catalogue; dependencies = s.dependencies; aliases = a; configuration = configuration_of parts.conf_text })) (sym aliases)
-    ∙ ap (λ c. Ok (record { catalogue = s.catalogue; dependencies = s.dependencies; aliases = s.aliases; configuration = c })) (sym configuration) in
-    ap of_sections gives ∙ ap (with_session (cut_lines new)) here
+-- The setup of an input, or why it has none, from its sections.
+pub gives_setup : (old new : Option (List ℕ)) (parts : Parts) (s : Setup) → GivesSections old new parts → setup_for parts ≡ Ok s → GivesSetup old new s
+gives_setup None new parts s gives is = tt
+gives_setup (Some old) None parts s gives is = absurd gives
+gives_setup (Some old) (Some new) parts s gives is = ap of_sections gives ∙ ap (with_session (cut_lines new)) is
+
+pub refuses_setup : (old new : Option (List ℕ)) (parts : Parts) (fault : SetupFault) → GivesSections old new parts → RefusesTexts fault parts
+    → IfTold old (λ input. Refuses fault (setup_of input))
+refuses_setup None new parts fault gives refused = tt
+refuses_setup (Some old) None parts fault gives refused = absurd gives
+refuses_setup (Some old) (Some new) parts fault gives refused =
+    subst (λ (r : Result (Parts × List Line) Stopped). Refuses fault (of_sections r)) (sym gives) (refused (cut_lines new))
 
 -- Where the lines stop at the source, the sections go on in the line in hand.
 pub setup_stops : (old middle left ungiven : Option (List ℕ)) (done : List Line) (current : Option Section) (parts : Parts) (fault : LineFault) (line : List ℕ)

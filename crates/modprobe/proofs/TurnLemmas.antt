@@ -1,7 +1,5 @@
 -- The turns that are spent, and the bytes that a source gives for them.
-use Rattle.std.proofs.Common.{arith, ◌≡◌, ℕ, ◌+◌, ◌≤◌, ◌<◌, true, List, length, take, refl, ap, ◌∙◌, Option, Some, None}
-use Rattle.std.proofs.lemmas.List.{length-append, length-take}
-use Rattle.std.specs.Io.KnownBytes.{Consumes}
+use Rattle.std.proofs.Common.{arith, ◌≡◌, ℕ, true, List, refl, Option, Some, None}
 use Rattle.modprobe.specs.Lines.{PaysTurns, GaveAtLeast, IsPaid, StopsForTurns}
 use Rattle.std.proofs.lemmas.Bool.{false≢true}
 use Rattle.modprobe.specs.declared.lines.Lines.{Lines}
@@ -18,14 +16,6 @@ pays_trans l m n None b c ab bc = tt
 pays_trans l m n (Some x) None c ab bc = absurd ab
 pays_trans l m n (Some x) (Some y) None ab bc = absurd bc
 pays_trans l m n (Some x) (Some y) (Some z) ab bc = omega arith
-
--- A read that gave bytes.
-pub pays_read : (before after : ℕ) (a b : Option (List ℕ)) (bytes : List ℕ) (count : ℕ) → Consumes a b (take count bytes) → 0 < count → count ≤ length bytes → before ≤ after + 1 → PaysTurns before after a b
-pays_read before after None b bytes count consumes some within fell = tt
-pays_read before after (Some x) None bytes count consumes some within fell = absurd consumes
-pays_read before after (Some x) (Some y) bytes count consumes some within fell =
-    let all : length x ≡ length (take count bytes) + length y = ap length consumes ∙ length-append (take count bytes) y in
-    omega (arith, all, length-take count bytes)
 
 pub paid_none : {R : Type 0} (remaining : R → Option (List ℕ)) (a : Lines R) → IsPaid remaining a a
 paid_none remaining a going = (going, pays_none a.turns (remaining a.reader.now))

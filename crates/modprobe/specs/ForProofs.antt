@@ -1,7 +1,7 @@
 -- What the contracts of private functions say, for the proofs of the public ones.
-use Rattle.std.specs.Prelude.{◌≡◌, ℕ, ◌≤◌, Bool, true, false, List, ◌++◌, ◌∷◌, [], All, length, codes, Option, Some, None, ⊤, Result, Ok, Err}
-use Rattle.text_parts.specs.Text.{cut_lines, texts_of}
-use Rattle.dep_index.specs.Catalogue.{Description}
+use Rattle.std.specs.Prelude.{◌≡◌, ℕ, ◌+◌, ◌≤◌, Bool, true, false, List, ◌++◌, ◌∷◌, [], length, codes, Option, Some, None, ⊤, Result, Ok, Err}
+use Rattle.text_parts.specs.Text.{Line, cut_lines, texts_of}
+use Rattle.dep_index.specs.Catalogue.{Description, description_at}
 use Rattle.dep_index.specs.declared.calls.Call.{Call}
 use Rattle.dep_index.specs.declared.calls.Call.TheVariants as call
 use Rattle.dep_index.specs.declared.faults.CatError.{CatError}
@@ -34,6 +34,7 @@ use Rattle.modprobe.specs.Setup.{Setup, name_at}
 use Rattle.modprobe.specs.Refusals.{error_line, refuse}
 use Rattle.modprobe.specs.Refusals as told
 use Rattle.modprobe.specs.Sections.{Parts, no_parts, early, too_long, sections}
+use Rattle.modprobe.specs.SetupInput.{with_session, setup_for, Refuses, SetupStops}
 
 -- what the code's actions, requests and commands stand for
 abbrev pub action_from : Action → meaning.Action
@@ -70,9 +71,14 @@ setup_code_of line_faults.Memory = Memory
 setup_code_of line_faults.Turns = Turns
 setup_code_of line_faults.LongLine = LongLine
 
--- no name is longer than names may be
-abbrev pub HasShortNames : List Description → Type 0
-HasShortNames modules = All (λ (d : Description). length d.name ≤ 55) modules
+-- no name of these modules is longer, and it is the length of a text
+abbrev pub BoundsNames : ℕ → List Description → Type 0
+BoundsNames longest modules =
+    (longest ≤ 9223372036854775807) × ((slot : ℕ) → length (description_at modules slot).name ≤ longest)
+
+-- there is room for the line of a refusal that names any module
+abbrev pub FitsNames : Setup → ℕ → Type 0
+FitsNames s room = (slot : ℕ) → length (name_at s slot) + 32 ≤ room
 
 -- the text is the line of a refused plan
 abbrev pub TellsRefusal : PlanError → List ℕ → Type 0
@@ -151,6 +157,14 @@ is_turns_code _ = false
 abbrev pub is_setup_read : {X : Type 0} → Result X SetupFault → Bool
 is_setup_read (Ok x) = false
 is_setup_read (Err fault) = is_read_code fault.code
+
+-- the texts are refused so, and with them their input, whatever its session is
+abbrev pub RefusesTexts : SetupFault → Parts → Type 0
+RefusesTexts fault parts = (session : List Line) → Refuses fault (with_session session (setup_for parts))
+
+-- the code says nothing of where the reading stopped
+abbrev pub StopsNowhere : SetupCode → Type 0
+StopsNowhere code = (text ungiven : Option (List ℕ)) (line : List ℕ) → SetupStops code text ungiven line
 
 -- the fault that a refused catalogue is
 abbrev pub catalogue_fault : CatError → SetupFault

@@ -5,7 +5,7 @@ ghost use Rattle.dep_index.specs.Catalogue.{slot_named};
 ghost use Rattle.modprobe.specs.Session.{details};
 ghost use Rattle.modprobe.specs.Refusals.{error_line};
 ghost use Rattle.modprobe.specs.Plans.{mark_text, words_text, item_text};
-ghost use Rattle.modprobe.specs.ForProofs.{answer_text, TellsRefusal};
+ghost use Rattle.modprobe.specs.ForProofs.{answer_text, FitsNames, TellsRefusal};
 
 use crate::action::Answer;
 use crate::refusal::Code;
@@ -15,19 +15,16 @@ use proc_modules::modinfo_text;
 use std::alloc::{AllocError, Global};
 use text_parts::Name;
 
-/// The longest name of a catalogue.
-const LONGEST_NAME: usize = 55;
+/// Room for what an error line has besides a name.
+pub(crate) const ERROR_ROOM: usize = 32;
 
-/// Room for what else an error line has.
-const ERROR_ROOM: usize = 32;
-
-/// Room for a reply that names this, or a module of the catalogue.
-pub(crate) fn room(alloc: Global, name: &[u8]) -> Result<Vec<u8>, AllocError>
+/// Room for a reply that names no module, or any.
+pub(crate) fn room(alloc: Global, setup: &Setup) -> Result<Vec<u8>, AllocError>
     ensures empty { IfOk result (λ text. text.items ≡ []) }
-    ensures named { IfOk result (λ text. length name.now + 32 ≤ vec_capacity text) }
-    ensures short { IfOk result (λ text. 55 + 32 ≤ vec_capacity text) }
+    ensures least { IfOk result (λ text. 32 ≤ vec_capacity text) }
+    ensures names { IfOk result (λ text. FitsNames setup.now (vec_capacity text)) }
 {
-    Vec::with_capacity(alloc, name.len().max(LONGEST_NAME) + ERROR_ROOM)
+    Vec::with_capacity(alloc, setup.error_room())
 }
 
 /// Adds bytes, for which there is room.
@@ -60,7 +57,8 @@ fn put_error(text: &mut Vec<u8>, code: Code, name: &[u8])
 /// Writes an answer to the room that was made for it.
 pub(crate) fn render(text: &mut Vec<u8>, setup: &Setup, answer: Answer)
     requires empty { text.old.items ≡ [] }
-    requires room { 55 + 32 ≤ vec_capacity text.old }
+    requires least { 32 ≤ vec_capacity text.old }
+    requires names { FitsNames setup.now (vec_capacity text.old) }
     ensures { text.new.items ≡ answer_text setup.now answer }
 {
     match answer {
@@ -75,7 +73,7 @@ pub(crate) fn render(text: &mut Vec<u8>, setup: &Setup, answer: Answer)
 pub(crate) fn error_line(alloc: Global, code: Code, name: &[u8]) -> Result<Vec<u8>, AllocError>
     ensures { IfOk result (λ text. text.items ≡ error_line code name.now) }
 {
-    let mut text = room(alloc, name)?;
+    let mut text = Vec::with_capacity(alloc, name.len() + ERROR_ROOM)?;
     put_error(&mut text, code, name);
     Ok(text)
 }

@@ -74,9 +74,10 @@ impl<'s, 't, M: Modules> Session<'s, 't, M> {
                 let Some(slot) = self.setup.catalogue().slot(name.as_bytes()) else {
                     return error_line(alloc, Code::Enoent, name.as_bytes());
                 };
-                let mut text = room(alloc, b"")?;
+                let setup = self.setup;
+                let mut text = room(alloc, setup)?;
                 let answer = self.act_on(slot, action);
-                render(&mut text, self.setup, answer);
+                render(&mut text, setup, answer);
                 Ok(text)
             }
             Request::Modinfo => details(alloc, self.setup, &name),
@@ -96,11 +97,12 @@ impl<'s, 't, M: Modules> Session<'s, 't, M> {
         ensures reply { IfOk result (λ text. Makes self.old self.new text.items (λ s t. change_reply (modprobe s name (texts_of words.now) t))) }
         ensures unchanged { OnErr result (Becomes self.old self.new (λ s t. t)) }
     {
+        let setup = self.setup;
         match self.load_plan(alloc, name, words) {
             Ok(items) => {
-                let mut text = room(alloc, b"")?;
+                let mut text = room(alloc, setup)?;
                 let change = self.load_items(&items);
-                render(&mut text, self.setup, Answer::of(change));
+                render(&mut text, setup, Answer::of(change));
                 Ok(text)
             }
             Err(error) => plan_refusal(alloc, error),
@@ -112,11 +114,12 @@ impl<'s, 't, M: Modules> Session<'s, 't, M> {
         ensures reply { IfOk result (λ text. Makes self.old self.new text.items (λ s t. change_reply (modprobe_remove s name t))) }
         ensures unchanged { OnErr result (Becomes self.old self.new (λ s t. t)) }
     {
+        let setup = self.setup;
         match self.removal_plans(alloc, name) {
             Ok(plans) => {
-                let mut text = room(alloc, b"")?;
+                let mut text = room(alloc, setup)?;
                 let change = self.remove_plans(&plans);
-                render(&mut text, self.setup, Answer::of(change));
+                render(&mut text, setup, Answer::of(change));
                 Ok(text)
             }
             Err(error) => plan_refusal(alloc, error),

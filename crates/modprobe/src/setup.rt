@@ -1,14 +1,14 @@
 //! What a session knows besides its table.
-ghost use Rattle.std.specs.Prelude.{◌≡◌, ◌≤◌, false, length, IfOk, IfErr, OnOk};
+ghost use Rattle.std.specs.Prelude.{◌≡◌, ◌≤◌, Ok, false, IfOk, IfErr, OnOk};
 ghost use Rattle.modprobe.specs.Lines.{bytes_left, IfTold, IsPaid, StopsForTurns, SpendsTurns, HasTrueEnd, source_of, SameReader, line_of};
 ghost use Rattle.modprobe.specs.Setup.{name_at};
-ghost use Rattle.modprobe.specs.SetupInput.{setup_of, GivesSetup, Refuses, SetupStops};
-ghost use Rattle.modprobe.specs.Sections.{no_parts};
-ghost use Rattle.modprobe.specs.ForProofs.{HasLine, is_setup_read, parts_of};
+ghost use Rattle.modprobe.specs.SetupInput.{setup_for, setup_of, GivesSetup, Refuses, SetupStops};
+ghost use Rattle.modprobe.specs.ForProofs.{BoundsNames, FitsNames, RefusesTexts, StopsNowhere, is_setup_read, is_turns_code, parts_of};
 
 use crate::device::Source;
 use crate::fault::{SetupCode, SetupFault};
 use crate::lines::Lines;
+use crate::reply::ERROR_ROOM;
 use crate::section::{Texts, read_texts};
 use crate::watch::Watch;
 use alias_match::{Aliases, read_aliases};
@@ -22,6 +22,8 @@ use std::marker::Model;
 #[derive(Drop)]
 pub struct Setup {
     catalogue: Catalogue,
+    // the length of the longest name of the catalogue
+    longest: usize,
     dependencies: DepIndex,
     aliases: Aliases,
     configuration: Conf,
@@ -29,13 +31,13 @@ pub struct Setup {
 
 impl Model for Setup {
     ghost use Rattle.modprobe.specs.Setup as setup;
-    ghost use Rattle.modprobe.specs.ForProofs.{HasShortNames};
+    ghost use Rattle.modprobe.specs.ForProofs.{BoundsNames};
 
     ghost Value = { setup.Setup };
 
     ghost view = { λ s. record { catalogue = s.catalogue; dependencies = s.dependencies; aliases = s.aliases; configuration = s.configuration } };
 
-    ghost invariant = { λ s. HasShortNames s.catalogue };
+    ghost invariant = { λ s. BoundsNames s.longest s.catalogue };
 }
 
 impl Setup {
@@ -75,8 +77,7 @@ impl Setup {
 
     /// The name of the module in a slot; of a slot past the end it is empty.
     pub(crate) fn name(&self, slot: usize) -> &[u8]
-        ensures name { result.now ≡ name_at self.now slot }
-        ensures short { length result.now ≤ 55 }
+        ensures { result.now ≡ name_at self.now slot }
     {
         if slot < self.catalogue.len() {
             self.catalogue.name(slot)
@@ -84,34 +85,39 @@ impl Setup {
             b""
         }
     }
+
+    /// Room for the line of a refusal that names any module.
+    pub(crate) fn error_room(&self) -> usize
+        ensures least { 32 ≤ result }
+        ensures names { FitsNames self.now result }
+    {
+        self.longest + ERROR_ROOM
+    }
 }
 
-/// Reads the sections to these texts, and what they say.
-fn set_up<R: Source, T: Watch>(
-    alloc: Global,
-    lines: &mut Lines<'_, R>,
-    texts: &mut Texts,
-    watch: &mut T,
-) -> Result<Setup, SetupFault>
-    requires empty { parts_of texts.old ≡ no_parts }
-    requires works { R.has_failed (source_of lines.old) ≡ false }
-    ensures setup { IfOk result (λ s.
-        GivesSetup (bytes_left R.remaining lines.old) (bytes_left R.remaining lines.new) s) }
-    ensures refused { IfErr result (λ fault.
-        IfTold (bytes_left R.remaining lines.old) (λ input. Refuses fault (setup_of input))) }
-    ensures stops { IfErr result (λ fault. SetupStops fault.code (bytes_left R.remaining lines.old)
-        (R.remaining (source_of lines.new)) (line_of lines.new)) }
-    ensures read { R.has_failed (source_of lines.new) ≡ is_setup_read result }
-    ensures turns { IfErr result (λ fault.
-        fault.code ≡ SetupCode.Turns → StopsForTurns R.remaining lines.old lines.new) }
-    ensures paid { OnOk result (IsPaid R.remaining lines.old lines.new) }
-    ensures counted { SpendsTurns R.read_count lines.old lines.new }
-    ensures end { HasTrueEnd R.remaining lines.old → HasTrueEnd R.remaining lines.new }
-    ensures same_reader { SameReader lines.old lines.new }
+/// The length of the longest name.
+fn longest_name(catalogue: &Catalogue) -> usize
+    ensures { BoundsNames result catalogue.now }
 {
-    read_texts(lines, texts, watch)?;
+    let mut longest = 0usize;
+    for slot in 0..catalogue.len() {
+        longest = longest.max(catalogue.name(slot).len());
+    }
+    longest
+}
+
+/// The setup that the texts of the sections make.
+fn setup_for(alloc: Global, texts: &Texts) -> Result<Setup, SetupFault>
+    ensures setup { IfOk result (λ s. setup_for (parts_of texts.now) ≡ Ok s) }
+    ensures refused { IfErr result (λ fault. RefusesTexts fault (parts_of texts.now)) }
+    ensures read { is_setup_read result ≡ false }
+    ensures turns { IfErr result (λ fault. is_turns_code fault.code ≡ false) }
+    ensures stops { IfErr result (λ fault. StopsNowhere fault.code) }
+{
+    let catalogue = read_catalogue(alloc, &texts.catalogue)?;
     Ok(Setup {
-        catalogue: read_catalogue(alloc, &texts.catalogue)?,
+        longest: longest_name(&catalogue),
+        catalogue,
         dependencies: read_dep(alloc, &texts.dep)?,
         aliases: read_aliases(alloc, &texts.alias)?,
         configuration: read_conf(alloc, &texts.conf)?,
@@ -153,7 +159,15 @@ pub fn read_setup_watched<R: Source, T: Watch>(
     ensures same_reader { SameReader lines.old lines.new }
 {
     let mut texts = Texts::new(alloc);
-    let setup = set_up(alloc, lines, &mut texts, watch);
-    tell_setup(&setup, texts, watch);
-    setup
+    match read_texts(lines, &mut texts, watch) {
+        Ok(()) => {
+            let setup = setup_for(alloc, &texts);
+            tell_setup(&setup, texts, watch);
+            setup
+        }
+        Err(fault) => {
+            watch.texts(texts);
+            Err(fault)
+        }
+    }
 }

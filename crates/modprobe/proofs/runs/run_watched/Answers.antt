@@ -2,12 +2,13 @@ use Rattle.std.proofs.Common.{◌≡◌, ℕ, List, ◌∷◌, [], ◌++◌, ap,
 use Rattle.std.proofs.lemmas.List.Elements.{All-nil}
 use Rattle.text_parts.specs.Text.{Line}
 use Rattle.std.specs.Io.KnownBytes.{Appends}
+use Rattle.std.proofs.KnownBytes.{Appends-trans}
 use Rattle.std.proofs.lemmas.Result.{err_from_is_err_and}
 use Rattle.modprobe.specs.Lines.{AtHand, IfTold, hand_of, bytes_left, ending_bytes, texts}
 use Rattle.modprobe.specs.Session.{line_reply, answer}
 use Rattle.modprobe.specs.Run.{AllShort, StoppedWriting, StandsAfter, run_fault_of}
 use Rattle.std.specs.Str.Lines.{lines}
-use Rattle.modprobe.proofs.RunLemmas.{answered_none, none_counted, answered_more, appends_trans, short-more, table-more, stands_in_line, all_answered, all_counted, counted_more, told_map}
+use Rattle.modprobe.proofs.RunLemmas.{answered_none, none_counted, answered_more, short-more, table-more, stands_in_line, all_answered, all_counted, counted_more, told_map}
 use Rattle.modprobe.proofs.CutLemmas.{cuts_more, ended_more}
 use Rattle.modprobe.proofs.TurnLemmas.{paid_none, paid_trans}
 use Rattle.modprobe.proofs.runs.run_watched.Goals as goal
@@ -92,7 +93,7 @@ returns-in_err-write_all-clause-stands g c =
       short-more before.0 cut before.1.short given.short,
       before.2 given.going,
       less,
-      appends_trans (wrote c.args.writer.now) (wrote c.loop-watch.writer) (wrote c.write_all.new.writer) (answer s start (texts before.0)).0 _ before.1.wrote appends,
+      Appends-trans (wrote c.args.writer.now) (wrote c.loop-watch.writer) (wrote c.write_all.new.writer) (answer s start (texts before.0)).0 _ before.1.wrote appends,
       after,
     ) in
     let P : g.row.M.Denot → Type 0 = λ t. StoppedWriting s start (left c.args.lines.now) hand (wrote c.args.writer.now) (wrote c.write_all.new.writer) (g.M.Modules.table t) in

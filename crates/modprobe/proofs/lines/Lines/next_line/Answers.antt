@@ -1,16 +1,17 @@
 use Rattle.std.proofs.Common.{arith, rules, ◌≡◌, ◌<◌, false, length, refl, sym, ◌∙◌}
+use Rattle.std.proofs.KnownBytes.{Keeps-trans}
 use Rattle.std.proofs.lemmas.Bool.{true≢false}
 use Rattle.std.proofs.lemmas.Grind.{common_steps}
 use Rattle.std.specs.Str.Lines.{strip_carriage_return}
 use Rattle.modprobe.specs.Lines.{text_left, bytes_left, HasNoFeed}
-use Rattle.modprobe.proofs.LeftLemmas.{keeps_trans, stopped_at_long_line, gives_line, long_line, last_line, last_long_line, raw_last, gives_cut, last_cut}
+use Rattle.modprobe.proofs.LeftLemmas.{stopped_at_long_line, gives_line, long_line, last_line, last_long_line, raw_last, gives_cut, last_cut}
 use Rattle.modprobe.proofs.lines.Lines.next_line.Goals as goal
 
 pub returns-then-len-gt-LONGEST_LINE-clause-stopped : goal.returns-then-len-gt-LONGEST_LINE-clause-stopped
 returns-then-len-gt-LONGEST_LINE-clause-stopped g c =
     let left = bytes_left g.R.Source.remaining in
     let text = text_left g.R.Source.remaining in
-    let kept = keeps_trans (left c.args.self.now) (text c.loop-self.self) (text c.fetch.new.self) c.loop-self.invariant.text c.in_ok-fetch.ensures.fetched.text in
+    let kept = Keeps-trans (left c.args.self.now) (text c.loop-self.self) (text c.fetch.new.self) c.loop-self.invariant.text c.in_ok-fetch.ensures.fetched.text in
     let too_long : 65535 < length (strip_carriage_return c.take.new.self.line.items) = rw (← c.end_line.ensures.line) (omega arith) in
     let still : c.fetch.new.self.at_end ≡ false = (c.in_ok-fetch.ensures.fetched.some (rw c.if-branch.true refl)).0 in
     stopped_at_long_line g.R.Source.remaining _ _
@@ -22,7 +23,7 @@ returns-else-len-gt-LONGEST_LINE-clause-gave g c =
     let left = bytes_left g.R.Source.remaining in
     let text = text_left g.R.Source.remaining in
     let line = c.take.new.self.line.items in
-    let kept = keeps_trans (left c.args.self.now) (text c.loop-self.self) (text c.fetch.new.self) c.loop-self.invariant.text c.in_ok-fetch.ensures.fetched.text in
+    let kept = Keeps-trans (left c.args.self.now) (text c.loop-self.self) (text c.fetch.new.self) c.loop-self.invariant.text c.in_ok-fetch.ensures.fetched.text in
     let ended = c.in_ok-take.ensures.ended (rw c.if-branch-2.true refl) in
     let still : c.fetch.new.self.at_end ≡ false = (c.in_ok-fetch.ensures.fetched.some (rw c.if-branch.true refl)).0 in
     λ _. record {
@@ -44,7 +45,7 @@ returns-then-len-gt-LONGEST_LINE-2-clause-stopped g c =
     let text = text_left g.R.Source.remaining in
     let s = c.fetch.new.self in
     let fetched = c.in_ok-fetch.ensures.fetched in
-    let kept = keeps_trans (left c.args.self.now) (text c.loop-self.self) (text s) c.loop-self.invariant.text fetched.text in
+    let kept = Keeps-trans (left c.args.self.now) (text c.loop-self.self) (text s) c.loop-self.invariant.text fetched.text in
     let none : HasNoFeed s.line.items = rw fetched.line c.loop-self.invariant.no_feed in
     let some : 0 < length s.line.items = omega arith in
     stopped_at_long_line g.R.Source.remaining _ _
@@ -58,7 +59,7 @@ returns-clause-gave g c =
     let s = c.fetch.new.self in
     let told = g.R.Source.remaining s.reader.now in
     let fetched = c.in_ok-fetch.ensures.fetched in
-    let kept = keeps_trans (left c.args.self.now) (text c.loop-self.self) (text s) c.loop-self.invariant.text fetched.text in
+    let kept = Keeps-trans (left c.args.self.now) (text c.loop-self.self) (text s) c.loop-self.invariant.text fetched.text in
     let none : HasNoFeed s.line.items = rw fetched.line c.loop-self.invariant.no_feed in
     let ended = fetched.none (rw c.if-branch.false refl) in
     let absent = fetched.ending ∙ c.loop-self.invariant.ending in
