@@ -3,13 +3,23 @@ use Rattle.std.proofs.lemmas.Bool.{false≢true}
 use Rattle.std.proofs.lemmas.Result.{err_from_is_err_and}
 use Rattle.dep_index.specs.Catalogue.{modules_of}
 use Rattle.dep_index.specs.Calls.{opening}
-use Rattle.modprobe.specs.Lines.{bytes_left, hand_of}
+use Rattle.modprobe.specs.Lines.{bytes_left, hand_of, line_of}
 use Rattle.modprobe.specs.Serve.{opening_of}
 use Rattle.modprobe.proofs.ServeLemmas.{answers_input, counts_errors, stops_in_session, source_end}
 use Rattle.modprobe.specs.Run.{is_turns}
 use Rattle.std.proofs.KnownBytes.{Keeps-refl}
 use Rattle.modprobe.proofs.TurnLemmas.{turns_in_all, turns_fault}
 use Rattle.modprobe.proofs.service.serve_lines.Goals as goal
+
+pub returns-in_err-setup-clause-stands : goal.returns-in_err-setup-clause-stands
+returns-in_err-setup-clause-stands g c =
+    let p = err_from_is_err_and c.from_residual.result c.from_residual.ensures.1 in
+    rw (p.1, p.2) (Keeps-refl (g.W.Sink.contents c.args.writer.now), c.in_err-setup.ensures.refused, (line_of c.read_setup_watched.new.lines, c.in_err-setup.ensures.stops))
+
+pub returns-in_err-setup-clause-read : goal.returns-in_err-setup-clause-read
+returns-in_err-setup-clause-read g c =
+    let p = err_from_is_err_and c.from_residual.result c.from_residual.ensures.1 in
+    rw (p.1, p.2) c.in_err-setup.ensures.read
 
 pub returns-in_err-errors-clause-stands : goal.returns-in_err-errors-clause-stands
 returns-in_err-errors-clause-stands g c =
