@@ -45,7 +45,7 @@ abbrev pub ◌>>=◌ : {A B : Type 0} → Result A LineFault → (A → Result B
 (Ok x) >>= next = next x
 (Err f) >>= next = Err f
 
--- the reading ends with this line as its first faulty one; want of memory says nothing of the lines
+-- the reading ends with this line as its first faulty one; out of memory says nothing of the lines
 abbrev pub IsFirstFault : {A : Type 0} → ScheduleFault → Result A LineFault → Type 0
 IsFirstFault (fault.Line f) read = read ≡ Err f
 IsFirstFault (fault.Step index cause) read = ⊥

@@ -31,7 +31,7 @@ pub(crate) struct Parts<'a> {
     pub(crate) end: usize,
 }
 
-/// The lines behind `%catalogue`, before which ignored lines alone may stand.
+/// The lines after `%catalogue`, before which ignored lines alone may stand.
 fn behind_head<'l, 'a>(lines: &'l [Line<'a>], end: usize) -> Result<&'l [Line<'a>], ScheduleFault>
     ensures { Reads (behind_head end (lines_in lines.now)) (λ rest. lines_in rest.now) result }
 {

@@ -44,7 +44,7 @@ abbrev pub by_words : List Description → List Step → ℕ → List (List ℕ)
 by_words modules steps line [] = Err (bad_line line)
 by_words modules steps line (thread ∷ words) = by_order modules steps line (marked 116 thread) (order_of words)
 
--- the steps of statements, behind earlier steps
+-- the steps of statements, after earlier steps
 abbrev pub steps_of : List Description → List Step → List Statement → Result (List Step) LineFault
 steps_of modules steps [] = Ok steps
 steps_of modules steps (said ∷ later) = by_words modules steps said.number said.words >>= λ more. steps_of modules more later
