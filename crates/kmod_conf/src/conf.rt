@@ -17,7 +17,6 @@ use std::marker::Model;
 
 /// A configuration: the lines of each kind in the order of the texts that were added. Names are compared as they
 /// stand, so give them in normal form.
-#[derive(Drop)]
 pub struct Conf {
     aliases: AliasTable,
     blacklist: NameList,
@@ -26,6 +25,21 @@ pub struct Conf {
     removes: CommandList,
     softdeps: SoftdepList,
     bad: Vec<NameLine>,
+}
+
+// By hand, since a derived drop is written out, and proved, at each place where a value is let go.
+impl Drop for Conf {
+    fn drop(self) {
+        let Conf {
+            aliases: _,
+            blacklist: _,
+            options: _,
+            installs: _,
+            removes: _,
+            softdeps: _,
+            bad: _,
+        } = self;
+    }
 }
 
 impl Model for Conf {

@@ -16,12 +16,23 @@ use text_parts::is_same;
 
 /// Patterns in order, given as their texts. Those that match a text are found fast: literal ones by a hash, the others by
 /// their beginnings. A pattern that cannot be read is kept, and matches nothing. Contracts see the list of the texts.
-#[derive(Drop)]
 pub struct PatternList {
     patterns: Vec<Text>,
     literals: KeyPlaces,
     others: AliasList,
     other_places: Vec<usize>,
+}
+
+// By hand, since a derived drop is written out, and proved, at each place where a value is let go.
+impl Drop for PatternList {
+    fn drop(self) {
+        let PatternList {
+            patterns: _,
+            literals: _,
+            others: _,
+            other_places: _,
+        } = self;
+    }
 }
 
 impl Model for PatternList {
