@@ -1,32 +1,22 @@
 -- How a run ends, from what its session answered.
 use Rattle.std.proofs.Common.{◌≡◌, ◌⊎◌, inl, inr, ℕ, nat_lt, Bool, true, false, not, ◌||◌, ◌&&◌, List, ◌++◌, Option, None, Some, Result, Ok, Err, OnOk, IfOk, IfErr, cond, refl, sym, ap, ◌∙◌, subst, zero, suc, arith}
+use Rattle.std.proofs.lemmas.Bool.{and_parts}
 use Rattle.std.proofs.lemmas.Bool.Decides.{nat_tests}
 use Rattle.std.specs.Io.KnownBytes.{Keeps}
 use Rattle.std.specs.Fmt.{option_append}
 use Rattle.modprobe.specs.declared.fault.ServeFault.{ServeFault}
 use Rattle.modprobe.specs.declared.fault.ServeFault.TheVariants as serve_fault
 use Rattle.modprobe.specs.declared.fault.SetupCode.{SetupCode}
-use Rattle.modprobe.specs.declared.fault.SetupCode.TheVariants.{C1, C2, C3, C4, M1, M2, M3, B1, Read, Memory, Turns, LongLine}
 use Rattle.modprobe.specs.Lines.{IfTold}
 use Rattle.modprobe.specs.Serve.{AnswersInput, CountsErrors, ServeStands}
 use Rattle.program_frame.specs.declared.status.Status.{Status}
 use Rattle.program_frame.specs.declared.status.Status.TheVariants.{Done, ErrorReply, Refused, Fault}
-use Rattle.modsh_drive.specs.Statuses.{setup_status, status_of, status_after, Ends}
+use Rattle.modsh_drive.specs.Statuses.{is_fault, setup_status, status_of, status_after, Ends}
 
 -- a fault of a setup has one of two statuses
 code_stops : (code : SetupCode) → (setup_status code ≡ Refused) ⊎ (setup_status code ≡ Fault)
-code_stops C1 = inl refl
-code_stops C2 = inl refl
-code_stops C3 = inl refl
-code_stops C4 = inl refl
-code_stops M1 = inl refl
-code_stops M2 = inl refl
-code_stops M3 = inl refl
-code_stops B1 = inl refl
-code_stops Read = inr refl
-code_stops Memory = inr refl
-code_stops Turns = inr refl
-code_stops LongLine = inr refl
+code_stops code =
+    elim (is_fault code) as (λ (b : Bool). (cond b Fault Refused ≡ Refused) ⊎ (cond b Fault Refused ≡ Fault)) [ true ↦ inr refl | false ↦ inl refl ]
 
 -- and so has each fault
 fault_stops : (fault : ServeFault) → (status_of fault ≡ Refused) ⊎ (status_of fault ≡ Fault)
@@ -50,10 +40,6 @@ answered : (workers : ℕ) (fail : Bool) (input : List ℕ) (held written : Opti
 answered workers fail input held written true answers asked none = (answers, asked refl)
 answered workers fail input held written false answers asked none = (answers, none refl)
 
-both_true : (a b : Bool) → (a && b) ≡ true → a ≡ true
-both_true true b e = refl
-both_true false b e = e
-
 some_errors : (errors : ℕ) → nat_lt 0 (suc errors) ≡ true
 some_errors errors = grind (arith, nat_tests)
 
@@ -72,7 +58,7 @@ ends_told : (workers : ℕ) (fail has_session : Bool) (input : List ℕ) (held w
     → Ends workers fail input held written (status_after answer fail has_session)
 ends_told workers fail has_session input held written ungiven (Ok errors) answers counts stands =
     answered workers fail input held written (fail && (nat_lt 0 errors || not has_session)) answers
-    (both_true fail (nat_lt 0 errors || not has_session)) (none_count workers input fail has_session errors counts)
+    (λ e. (and_parts fail (nat_lt 0 errors || not has_session) e).0) (none_count workers input fail has_session errors counts)
 ends_told workers fail has_session input held written ungiven (Err fault) answers counts stands =
     stopped workers fail input held written ungiven fault stands
 
@@ -102,11 +88,6 @@ silent workers fail has_session told held written ungiven (Ok errors) stands e =
 silent workers fail has_session told held written ungiven (Err (serve_fault.Setup fault)) stands e = stands.0
 silent workers fail has_session told held written ungiven (Err (serve_fault.Run fault)) stands e = absurd (let never : Fault ≡ Refused = e in cc)
 silent workers fail has_session told held written ungiven (Err serve_fault.Memory) stands e = stands
-
--- known bytes are as they are
-pub Keeps-refl : (known : Option (List ℕ)) → Keeps known known
-Keeps-refl None = tt
-Keeps-refl (Some bytes) = refl
 
 -- what holds of all that is told holds of files that stand before the rest
 pub joined : (files : List ℕ) (told whole : Option (List ℕ)) (P : List ℕ → Type 0) → whole ≡ option_append (Some files) told

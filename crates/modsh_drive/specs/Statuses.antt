@@ -3,27 +3,24 @@ use Rattle.std.specs.Prelude.{◌≡◌, ◌≢◌, ℕ, nat_lt, ◌==◌, Bool,
 use Rattle.modprobe.specs.declared.fault.ServeFault.{ServeFault}
 use Rattle.modprobe.specs.declared.fault.ServeFault.TheVariants as serve_fault
 use Rattle.modprobe.specs.declared.fault.SetupCode.{SetupCode}
-use Rattle.modprobe.specs.declared.fault.SetupCode.TheVariants.{C1, C2, C3, C4, M1, M2, M3, B1, Read, Memory, Turns, LongLine}
+use Rattle.modprobe.specs.declared.fault.SetupCode.TheVariants.{Read, Memory, Turns, LongLine}
 use Rattle.modprobe.specs.Lines.{IfTold}
 use Rattle.modprobe.specs.Serve.{AnswersInput, CountsErrors, ServeStands}
 use Rattle.program_frame.specs.Ends.{number_of}
 use Rattle.program_frame.specs.declared.status.Status.{Status}
 use Rattle.program_frame.specs.declared.status.Status.TheVariants.{Done, ErrorReply, Refused, Fault}
 
--- a text that is wrong is refused; all else is a fault
+-- the code of a fault; the others say what is wrong with a text
+abbrev pub is_fault : SetupCode → Bool
+is_fault Read = true
+is_fault Memory = true
+is_fault Turns = true
+is_fault LongLine = true
+is_fault _ = false
+
+-- a text that is wrong is refused
 abbrev pub setup_status : SetupCode → Status
-setup_status C1 = Refused
-setup_status C2 = Refused
-setup_status C3 = Refused
-setup_status C4 = Refused
-setup_status M1 = Refused
-setup_status M2 = Refused
-setup_status M3 = Refused
-setup_status B1 = Refused
-setup_status Read = Fault
-setup_status Memory = Fault
-setup_status Turns = Fault
-setup_status LongLine = Fault
+setup_status code = if is_fault code then Fault else Refused
 
 -- the status after a fault of a session
 abbrev pub status_of : ServeFault → Status

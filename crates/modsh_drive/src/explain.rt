@@ -1,6 +1,6 @@
 //! What explains a message to people, in lines that begin with two spaces.
 
-use crate::hints::{Faulty, hint_of, path_hint, word_hint};
+use crate::hints::{Faulty, hint_of};
 use crate::notes::{note_about, note_idle};
 use crate::places::Place;
 use crate::witness::Kept;
@@ -151,16 +151,4 @@ pub(crate) fn tell_lint<E: Write>(kept: &Kept<'_>, errors: &mut E) -> Result<usi
         return Err(AllocError);
     }
     Ok(idle.saturating_add(kept.about.len()))
-}
-
-/// Explains a word that has not its form.
-pub(crate) fn explain_word<E: Write>(word: &str, errors: &mut E) {
-    tell_sentence("An argument has none of the forms of a word.", errors);
-    tell_hint(Some(word_hint(word)), errors);
-}
-
-/// Explains a path that cannot be read.
-pub(crate) fn explain_path<E: Write>(path: &str, errors: &mut E) {
-    tell_sentence("The system could not read the file.", errors);
-    tell_hint(path_hint(path), errors);
 }

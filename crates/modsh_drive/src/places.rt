@@ -9,8 +9,8 @@ use std::fmt;
 /// Where a line stands: its file, or none for standard input, and its number there, from 1.
 #[derive(Clone, Copy, Drop)]
 pub(crate) struct Place<'a> {
-    path: Option<&'a str>,
-    number: u64,
+    pub(crate) path: Option<&'a str>,
+    pub(crate) number: u64,
 }
 
 impl fmt::Display for Place<'_> {
@@ -18,27 +18,6 @@ impl fmt::Display for Place<'_> {
         let path = Shown(self.path.unwrap_or("standard input").as_bytes());
         let number = self.number;
         write!(f, "{path}, line {number}")
-    }
-}
-
-/// The place of a line of a session, which mostly stands in standard input.
-#[derive(Clone, Copy, Drop)]
-pub(crate) struct SessionPlace<'a>(Place<'a>);
-
-impl fmt::Display for SessionPlace<'_> {
-    fn fmt<W: fmt::Write>(&self, f: &mut fmt::Formatter<W>) -> fmt::Result {
-        let Place { path, number } = self.0;
-        match path {
-            Some(_) => write!(f, "{}", self.0),
-            None => write!(f, "line {number}"),
-        }
-    }
-}
-
-impl<'a> Place<'a> {
-    /// The place of a line of a session.
-    pub(crate) fn in_session(self) -> SessionPlace<'a> {
-        SessionPlace(self)
     }
 }
 

@@ -4,7 +4,7 @@ use crate::causes::{Cause, tell_cause};
 use crate::texts::{setting_line, unknown_symbol};
 use crate::ways::{Dependencies, cycle_from};
 use crate::witness::Kept;
-use dep_index::read_dep;
+use dep_index::{DepIndex, read_dep};
 use modprobe::{Refused, Section, Texts};
 use program_frame::Shown;
 use seq_table::Modules;
@@ -53,16 +53,13 @@ fn tell_setting<M: Modules, E: Write>(
     Ok(())
 }
 
-/// Tells the way of a cycle of hard dependencies.
-fn tell_cycle<M: Modules, E: Write>(
+/// Tells the way of a cycle of hard dependencies from the module in the slot.
+fn tell_way<M: Modules, E: Write>(
     cause: &Cause<'_, M>,
-    texts: &Texts,
+    lines: &DepIndex,
+    slot: usize,
     errors: &mut E,
 ) -> Result<(), AllocError> {
-    let lines = read_dep(cause.alloc, texts.text(Section::Dep));
-    let (Some(slot), Ok(lines)) = (cause.slot(), &lines) else {
-        return Ok(());
-    };
     let catalogue = cause.setup.catalogue();
     let way = cycle_from(cause.alloc, &Dependencies { catalogue, lines }, slot)?;
     let Some(rest) = way.get(1..) else {
@@ -78,6 +75,21 @@ fn tell_cycle<M: Modules, E: Write>(
     }
     let _ = write!(errors, " needs {name}");
     Ok(())
+}
+
+/// Tells the way of a cycle of hard dependencies.
+fn tell_cycle<M: Modules, E: Write>(
+    cause: &Cause<'_, M>,
+    texts: &Texts,
+    errors: &mut E,
+) -> Result<(), AllocError> {
+    let Some(slot) = cause.slot() else {
+        return Ok(());
+    };
+    match read_dep(cause.alloc, texts.text(Section::Dep)) {
+        Ok(lines) => tell_way(cause, &lines, slot, errors),
+        Err(_) => Ok(()),
+    }
 }
 
 /// Tells the symbol that the module needs and no module exports.
@@ -143,8 +155,11 @@ pub(crate) fn tell_refusal<M: Modules, E: Write>(
         name,
     };
     let (place, line) = (kept.places.of_line(kept.lines), Shown(refused.line));
-    let place = place.in_session();
-    let _ = write!(errors, "modsh: {place}: {line}");
+    // A line of a session mostly stands in standard input.
+    let _ = match (place.path, place.number) {
+        (Some(_), _) => write!(errors, "modsh: {place}: {line}"),
+        (None, number) => write!(errors, "modsh: line {number}: {line}"),
+    };
     let told = tell_code(&cause, kept, errors);
     let _ = writeln!(errors);
     told

@@ -15,10 +15,11 @@ pub(crate) fn read_sections<R: Source, T: Watch>(
 {
     let buffer = Buffer::new(alloc)?;
     let mut lines = Lines::new(alloc, buffer, source, TURNS);
-    let read = read_setup_watched(alloc, &mut lines, watch);
-    if read.is_err() {
-        watch.stop(lines.line());
+    match read_setup_watched(alloc, &mut lines, watch) {
+        Ok(_) => Ok(()),
+        Err(fault) => {
+            watch.stop(lines.line());
+            Err(ServeFault::Setup(fault))
+        }
     }
-    read?;
-    Ok(())
 }

@@ -1,9 +1,9 @@
 //! What is kept of a session to explain it.
 ghost use Rattle.std.specs.Prelude.{◌≡◌, ◌≢◌, ◌+◌, ◌<◌, ◌^◌, ◌++◌, ◌||◌, false, true, is_err, length, min, take, Some};
 
-use crate::explain::tell_lint;
+use crate::explain::{explain, tell_lint};
 use crate::files::JoinedFiles;
-use crate::messages::tell_end;
+use crate::messages::tell_answer;
 use crate::notes::note_words;
 use crate::places::Places;
 use crate::refusals::tell_refusal;
@@ -124,7 +124,10 @@ impl<'a, 'e, E: Write> Witness<'a, 'e, E> {
 
     /// Tells how the session ended, and what explains it.
     pub(crate) fn finish(&mut self, answer: &Result<u64, ServeFault>) {
-        tell_end(answer, self.explains, &self.kept, self.errors);
+        tell_answer(answer, &self.kept, self.errors);
+        if self.explains {
+            explain(answer, &self.kept, self.errors);
+        }
     }
 
     /// Tells the fault of sections, or else the notes of a lint, and answers how that ends.

@@ -2,7 +2,7 @@
 
 use super::Program;
 use crate::files::{FilePath, paths_in};
-use crate::messages::{tell_no_configuration, tell_skipped, tell_unread};
+use crate::messages::tell_unread;
 use crate::words::NamedFile;
 use modprobe::Section;
 use program_frame::{PathFault, Status, is_folder, tell_no_memory};
@@ -52,11 +52,12 @@ impl<'a, 'e, E: Write> Program<'a, 'e, E> {
             Err(why) => return Err(self.refuse(folder, why)),
         };
         if paths.is_empty() {
-            tell_no_configuration(folder, self.errors);
+            let _ = writeln!(self.errors, "modsh: no configuration in {folder}");
         }
         for path in paths {
             if is_folder(rt, path.as_str()) {
-                tell_skipped(path.as_str(), self.errors);
+                let path = path.as_str();
+                let _ = writeln!(self.errors, "modsh: skipped the folder {path}");
             } else {
                 self.read_file(rt, section, path)?;
             }
