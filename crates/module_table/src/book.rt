@@ -3,7 +3,10 @@ use dep_index::{
     BeginDrainError, BeginLoadError, BeginRemoveError, Catalogue, EndLoadError, EndRemoveError,
     ModuleState, Slots, reads,
 };
-use root_row::{BookCall, BookSeat, Row};
+use root_row::{
+    AskBeginDrain, AskBeginLoad, AskBeginRemove, AskEndLoad, AskEndRemove, AskFailLoad, BookCall,
+    BookSeat, Row,
+};
 use std::alloc::{AllocError, Global};
 use std::marker::Model;
 use use_indicator::Reader;
@@ -53,7 +56,7 @@ impl Book {
 
     /// The book of a new row, over the row's catalogue. It reserves the order: no later call takes memory.
     ///
-    /// Where memory is wanting the seat is given up.
+    /// If memory runs out the seat is given up.
     pub fn new(alloc: Global, seat: BookSeat, catalogue: &Catalogue) -> Result<Book, AllocError>
         requires unused { seat ≡ new_book seat.row seat.view.world }
         requires same { modules_of catalogue.now ≡ seat.view.world.catalogue }
@@ -119,7 +122,7 @@ impl Book {
         ensures steps { CallSteps BookCall.BeginLoad slot (reply_of begin_load_refusal result) self.old self.new }
     {
         let refusal = self.book.load_refusal(&self.catalogue, slot);
-        row.look_book(&mut self.seat, slot, BookCall::BeginLoad);
+        row.look_book::<AskBeginLoad>(&mut self.seat, slot);
         if let Some(refusal) = refusal {
             return Err(refusal);
         }
@@ -136,14 +139,18 @@ impl Book {
         ensures steps { CallSteps (BookCall.EndLoad ok) slot (reply_of end_load_refusal result) self.old self.new }
     {
         if let Some(refusal) = self.book.end_load_refusal(slot) {
-            row.look_book(&mut self.seat, slot, BookCall::EndLoad(ok));
+            if ok {
+                row.look_book::<AskEndLoad>(&mut self.seat, slot);
+            } else {
+                row.look_book::<AskFailLoad>(&mut self.seat, slot);
+            }
             return Err(refusal);
         }
         if ok {
             row.open(&mut self.seat, slot);
             self.book.set(slot, ModuleState::Live);
         } else {
-            row.look_book(&mut self.seat, slot, BookCall::EndLoad(false));
+            row.look_book::<AskFailLoad>(&mut self.seat, slot);
             self.book.leave(slot);
         }
         Ok(())
@@ -158,7 +165,7 @@ impl Book {
         ensures steps { CallSteps BookCall.BeginDrain slot (reply_of begin_drain_refusal result) self.old self.new }
     {
         if let Some(refusal) = self.book.drain_refusal(&self.catalogue, slot) {
-            row.look_book(&mut self.seat, slot, BookCall::BeginDrain);
+            row.look_book::<AskBeginDrain>(&mut self.seat, slot);
             return Err(refusal);
         }
         row.drain(&mut self.seat, slot);
@@ -175,7 +182,7 @@ impl Book {
         ensures steps { CallSteps BookCall.BeginRemove slot (reply_of begin_remove_refusal result) self.old self.new }
     {
         if let Some(refusal) = self.book.remove_refusal(&self.catalogue, slot) {
-            row.look_book(&mut self.seat, slot, BookCall::BeginRemove);
+            row.look_book::<AskBeginRemove>(&mut self.seat, slot);
             return Err(refusal);
         }
         if !row.try_close(&mut self.seat, slot) {
@@ -194,7 +201,7 @@ impl Book {
         ensures steps { CallSteps BookCall.EndRemove slot (reply_of end_remove_refusal result) self.old self.new }
     {
         if let Some(refusal) = self.book.end_remove_refusal(slot) {
-            row.look_book(&mut self.seat, slot, BookCall::EndRemove);
+            row.look_book::<AskEndRemove>(&mut self.seat, slot);
             return Err(refusal);
         }
         if reads::is_draining(self.book.state(slot)) {
@@ -202,7 +209,7 @@ impl Book {
                 return Err(EndRemoveError::InUse);
             }
         } else {
-            row.look_book(&mut self.seat, slot, BookCall::EndRemove);
+            row.look_book::<AskEndRemove>(&mut self.seat, slot);
         }
         self.book.leave(slot);
         Ok(())

@@ -12,7 +12,7 @@ use use_indicator::Leaf;
 pub struct OwnLeaf {
     leaf: Leaf,
     row: Arc<Row, Global>,
-    /// Two cache lines, so that another leaf's counts, which may lie behind it, share none with it.
+    /// Two cache lines, so that another leaf's counts, which may lie after it, share none with it.
     room: [u64; 16],
 }
 

@@ -1,5 +1,5 @@
 -- The steps of the book.
-use Rattle.std.proofs.Common.{◌≡◌, ◌≢◌, ℕ, ◌+◌, ◌%◌, ◌^◌, ◌<◌, Bool, true, false, cond, not, ◌||◌, List, [], ◌∷◌, Option, Some, None, get_or, eqb, ◌==◌, refl, sym, ap, ◌∙◌, subst, arith, eq-eqb, ne_eqb, MatchOption}
+use Rattle.std.proofs.Common.{◌≡◌, ◌≢◌, ◌⊎◌, ⊎_elim, ℕ, ◌+◌, ◌%◌, ◌^◌, ◌<◌, Bool, true, false, cond, not, ◌||◌, List, [], ◌∷◌, Option, Some, None, get_or, eqb, ◌==◌, refl, sym, ap, ◌∙◌, subst, arith, eq-eqb, ne_eqb, MatchOption}
 use mathlib.Core.Option.{some, none}
 use lib.ListN.{get_elem?}
 use prog.Atomic.{either}
@@ -26,7 +26,8 @@ use Rattle.root_row.specs.History.{table_after, makes}
 use Rattle.root_row.specs.Views.{Part, member, name_of, IsOne, seen_in, part_in, book_in, book_of, IsBook, state_in}
 use Rattle.root_row.specs.Rule.{Agrees, RowRule}
 use Rattle.root_row.specs.Steps.{AtSlot, SeatState, word_after}
-use Rattle.root_row.specs.BookSteps.{book_call, unrefused_look, book_look, BookAnswered, LookedBook, MayLeave, TriedClose}
+use Rattle.root_row.specs.BookSteps.{book_call, unrefused_look, book_look, BookAnswered, LookedBook, MayLeave, TriedClose, closing}
+use Rattle.root_row.specs.StepsMade.{unheld_word}
 use Rattle.root_row.proofs.Moves as move
 
 -- a slot that may leave is Live
@@ -214,6 +215,13 @@ module _ (s : move.St) (id : ℕ) (v : View) (kept : RowRule v.world s) (at : ge
       let unrefused : book_refusal v.world.catalogue book (book_call book_is.EndRemove m) ≡ None = ap (λ (t : ModuleState). refuse (not (is_unloading t || is_draining t)) NotUnloading None) draining in
       subst (λ (b : Bool). RightAt book_is.EndRemove (cond b (close_step drained n) (takes_effect n Done))) (ap is_draining draining) (right book_is.EndRemove None unrefused)
 
+  closes_right : MayLeave v m ⊎ (state_in v m ≡ state_is.Draining) → RightAt (closing (state_in v m)) (close_step (unheld_word (state_in v m)) n)
+  closes_right may =
+      let Right : ModuleState → Type 0 = λ t. RightAt (closing t) (close_step (unheld_word t) n) in
+      ⊎_elim (λ (leaves : MayLeave v m). subst Right (sym (leaves_live v m leaves)) (removes_right leaves))
+      (λ (draining : state_in v m ≡ state_is.Draining). subst Right (sym draining) (ends_right draining))
+      may
+
   loading_found : state_in v m ≡ state_is.Loading → n ≡ closed
   loading_found loading = found_is ∙ ap (λ (t : ModuleState). word_in t h) loading
 
@@ -242,8 +250,8 @@ opened = AtSlot (λ expected m v found w. BookAnswered v m (book_is.EndLoad true
 abbrev pub looked_book : BookCall → Step (Unit {0}) → SeatState → ℕ → SeatState → Type 0
 looked_book kind = AtSlot (λ _ m v found w. LookedBook kind m v found w)
 
-abbrev pub tried_close : BookCall → Step (Unit {0}) → SeatState → ℕ → SeatState → Type 0
-tried_close kind = AtSlot (λ expected m v found w. TriedClose kind m v (found == expected) w)
+abbrev pub tried_close : Step (Unit {0}) → SeatState → ℕ → SeatState → Type 0
+tried_close = AtSlot (λ expected m v found w. TriedClose (closing (state_in v m)) m v (found == expected) w)
 
 abbrev pub made : BookCall → Step (Unit {0}) → SeatState → ℕ → SeatState → Type 0
 made kind = AtSlot (λ _ m v _ w. BookAnswered v m kind Done w)
@@ -297,23 +305,20 @@ module _ (world : World) (slots' id : ℕ) (me : Me (Unit {0}) View) (is : IsBoo
   ))
 
   -- a closing tells what it promises
-  tells : (kind : BookCall) (found old : ℕ) (b : Bool) (w : View) → (found == old) ≡ b → BookAnswered me.0 m kind (cond b Done InUse) w
-      → tried_close kind (step slots' (place_of m) old closed none) me found (w, me.1)
-  tells kind found old b w is t = (refl, λ j e. subst (λ i. TriedClose kind i me.0 (found == old) w) (move.same_slot m j e) (subst (λ (a : Bool). BookAnswered me.0 m kind (cond a Done InUse) w) (sym is) t))
+  tells : (found old : ℕ) (b : Bool) (w : View) → (found == old) ≡ b → BookAnswered me.0 m (closing (state_in me.0 m)) (cond b Done InUse) w
+      → tried_close (step slots' (place_of m) old closed none) me found (w, me.1)
+  tells found old b w is t = (refl, λ j e. subst (λ i. TriedClose (closing (state_in me.0 i)) i me.0 (found == old) w) (move.same_slot m j e) (subst (λ (a : Bool). BookAnswered me.0 m (closing (state_in me.0 m)) (cond a Done InUse) w) (sym is) t))
 
-  closes : (kind : BookCall) (old : ℕ) → ((s : move.St) (kept : RowRule me.0.world s) (at : get_elem? s.views id ≡ some me.0) (inside' : m < slots me.0.world) → RightAt s id me.0 kept at is m inside' me.1 kind (close_step old (get_or s.words (place_of m) 0)))
-      → Allows (RowRule world) slots' id me (place_of m) (λ n. either (eqb n old) closed n) (tried_close kind (step slots' (place_of m) old closed none) me)
-  closes kind old right_step = exchanges old closed (tried_close kind (step slots' (place_of m) old closed none) me) (λ s kept at inside'. (
-    (λ hit.
-        let r = closes_hit s id me.0 kept at is m inside' me.1 kind old (right_step s kept at inside') hit in
-        (r.0, keeps, tt, r.1, tells kind (get_or s.words (place_of m) 0) old true r.0 (eq-eqb _ _ hit) r.2)),
-    (λ miss.
-        let r = closes_miss s id me.0 kept at is m inside' me.1 kind old (right_step s kept at inside') miss in
-        (r.0, keeps, tt, r.1, tells kind (get_or s.words (place_of m) 0) old false r.0 (ne_eqb _ _ miss) r.2)),
-  ))
-
-  pub closes_open : MayLeave me.0 m → Allows (RowRule world) slots' id me (place_of m) (λ n. either (eqb n 0) closed n) (tried_close book_is.BeginRemove (step slots' (place_of m) 0 closed none) me)
-  closes_open may = closes book_is.BeginRemove 0 (λ s kept at inside'. removes_right s id me.0 kept at is m inside' me.1 may)
-
-  pub closes_drained : state_in me.0 m ≡ state_is.Draining → Allows (RowRule world) slots' id me (place_of m) (λ n. either (eqb n drained) closed n) (tried_close book_is.EndRemove (step slots' (place_of m) drained closed none) me)
-  closes_drained draining = closes book_is.EndRemove drained (λ s kept at inside'. ends_right s id me.0 kept at is m inside' me.1 draining)
+  pub closes : MayLeave me.0 m ⊎ (state_in me.0 m ≡ state_is.Draining) → (old : ℕ) → old ≡ unheld_word (state_in me.0 m)
+      → Allows (RowRule world) slots' id me (place_of m) (λ n. either (eqb n old) closed n) (tried_close (step slots' (place_of m) old closed none) me)
+  closes may old is' = exchanges old closed (tried_close (step slots' (place_of m) old closed none) me) (λ s kept at inside'.
+      let kind = closing (state_in me.0 m) in
+      let n = get_or s.words (place_of m) 0 in
+      let right_step = subst (λ (k : ℕ). RightAt s id me.0 kept at is m inside' me.1 kind (close_step k n)) (sym is') (closes_right s id me.0 kept at is m inside' me.1 may) in (
+        (λ hit.
+            let r = closes_hit s id me.0 kept at is m inside' me.1 kind old right_step hit in
+            (r.0, keeps, tt, r.1, tells n old true r.0 (eq-eqb _ _ hit) r.2)),
+        (λ miss.
+            let r = closes_miss s id me.0 kept at is m inside' me.1 kind old right_step miss in
+            (r.0, keeps, tt, r.1, tells n old false r.0 (ne_eqb _ _ miss) r.2)),
+      ))

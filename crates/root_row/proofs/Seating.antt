@@ -1,20 +1,18 @@
 -- Seats are cut, put together and told of each other under the rule.
 use Rattle.std.proofs.Common.{◌≡◌, ◌≢◌, ◌⊎◌, ℕ, zero, suc, ◌+◌, ◌-◌, ◌<◌, cond, List, [], ◌∷◌, ◌++◌, length, get_or, set, ◌==◌, refl, sym, ap, ◌∙◌, subst, inl, inr, ⊎_elim, arith, append-nil, length-set, eq-eqb, ne_eqb}
 use Rattle.std.proofs.lemmas.Bool.{cases_eq}
-use mathlib.Core.Option.{some, none, some-ne-none, some-injective}
+use mathlib.Core.Option.{some, some-ne-none, some-injective}
 use lib.ListN.{get_elem?}
-use Rattle.atomic_table.specs.Table.{Me, keeps, step, stepped, Allows, Splits, Joins}
+use Rattle.atomic_table.specs.Table.{keeps, stepped, Splits, Joins}
 use Rattle.atomic_table.proofs.Lists.{at_set, set_here, set_else, at_longer, at_last}
 use Rattle.root_row.specs.declared.view.World.{World}
 use Rattle.root_row.specs.declared.view.Part.TheVariants as part_is
 use Rattle.root_row.specs.declared.view.Member.{Member}
 use Rattle.root_row.specs.declared.view.SeatAnswer.{SeatAnswer}
 use Rattle.root_row.specs.declared.view.View.{View}
-use Rattle.dep_index.specs.History.{IsLegal}
-use Rattle.root_row.specs.History.{answers_in, table_after}
 use Rattle.root_row.specs.Views.{Part, member, name_of, seen_in, seen_of, IsOne, IsLeaf, worker_of, counts_of}
-use Rattle.root_row.specs.Rule.{Agrees, Owner, FitsMember, Fits, IsAt, IsSeen, HasAll, RowRule}
-use Rattle.root_row.specs.Seating.{first_of, rest_of, first_member, other_members, joined, spent, IsPair, IsTwo, Paired, Told, told}
+use Rattle.root_row.specs.Rule.{Owner, FitsMember, Fits, IsAt, IsSeen, HasAll, RowRule}
+use Rattle.root_row.specs.Seating.{first_of, rest_of, first_member, other_members, joined, spent, IsPair, IsTwo, Paired}
 use Rattle.root_row.proofs.Replay.{at_length}
 use Rattle.root_row.proofs.LeafSteps.{leaf_parts}
 use Rattle.root_row.proofs.Moves as move
@@ -291,36 +289,8 @@ module _ (world : World) (s : move.St) (kept : RowRule world s) (id : ℕ) (v : 
     words = kept.words;
   })
 
-  pub pair_told : Told v now
-  pair_told a counts_a seen_a b counts_b seen_b pair =
-      let first = kept.seats id v at 0 (member (part_is.Leaf a counts_a) seen_a) (ap (λ (l : List Member). get_elem? l 0) pair) in
-      let second = kept.seats id v at 1 (member (part_is.Leaf b counts_b) seen_b) (ap (λ (l : List Member). get_elem? l 1) pair) in (
-        kept.history,
-        ap (caught_up kept.history) pair,
-        record {
-          legal = subst (λ (d : World). IsLegal d.catalogue d.workers (answers_in kept.history)) (sym first.same_world) kept.legal;
-          callers = kept.callers;
-          begins_a = first.begins;
-          begins_b = second.begins;
-          own_a = first.own;
-          own_b = second.own;
-          agrees_a = subst (λ (d : World). Agrees (table_after d kept.history) (part_is.Leaf a counts_a)) (sym first.same_world) first.agrees;
-          agrees_b = subst (λ (d : World). Agrees (table_after d kept.history) (part_is.Leaf b counts_b)) (sym first.same_world) second.agrees;
-        },
-        refl,
-      )
-
--- a load of the spare word, which tells a pair the whole history
-pub tells_pair : (world : World) (slots' id : ℕ) (me : Me (Unit {0}) View) → Allows (RowRule world) slots' id me 0 (λ n. n) (told (step slots' 0 0 0 none) me)
-tells_pair world slots' id me s kept _ at _ = (now world s kept id me.0 at, keeps, tt, hears world s kept id me.0 at 0 me.1, (refl, pair_told world s kept id me.0 at))
-
 pub pair_of : (v w : View) → IsLeaf v → IsLeaf w → IsPair (joined v w) (worker_of v) (counts_of v) (seen_of v) (worker_of w) (counts_of w) (seen_of w)
 pair_of v w one two = λ i. one i ++ two i
-
-pub paired : (v w j u : View) → j ≡ joined v w → Told j u → IsLeaf v → IsLeaf w → Paired v w u
-paired v w j u is told_j one two =
-    let t = told_j (worker_of v) (counts_of v) (seen_of v) (worker_of w) (counts_of w) (seen_of w) (ap (λ (z : View). z.members) is ∙ pair_of v w one two) in
-    (t.0, t.1, t.2, t.3 ∙ ap (λ (z : View). z.world) is)
 
 pub paired_two : (v w u : View) → Paired v w u → IsTwo u
 paired_two v w u p = (worker_of v, counts_of v, p.0, worker_of w, counts_of w, p.0, p.1)

@@ -11,12 +11,13 @@ use Rattle.root_row.specs.declared.view.SeatAnswer.{SeatAnswer}
 use Rattle.root_row.specs.declared.view.View.{View}
 use Rattle.root_row.specs.declared.view.AtomicStep.TheVariants.{LoadSpare}
 use Rattle.root_row.specs.History.{answers_in, table_after}
-use Rattle.root_row.specs.Views.{Part, member, seen_of, part_of, IsOne}
+use Rattle.root_row.specs.declared.view.Part.TheVariants as part_is
+use Rattle.root_row.specs.Views.{Part, member, seen_of, part_of, worker_of, counts_of, IsOne, IsLeaf}
 use Rattle.root_row.specs.Rule.{Agrees, RowRule}
-use Rattle.root_row.specs.Seating.{first_of, rest_of, first_member, other_members, joined}
+use Rattle.root_row.specs.Seating.{first_of, rest_of, first_member, other_members, joined, Paired}
 use Rattle.root_row.specs.Trails.{trail, view_in, shown, shown_seat, TrailRule, TrailState}
 use Rattle.root_row.specs.Hearing.{HasHeard, HeardBoth, ToldTwo, told_two, told_two_trail}
-use Rattle.root_row.proofs.Seating.{caught_up, now, hears}
+use Rattle.root_row.proofs.Seating.{caught_up, now, hears, pair_of}
 use Rattle.root_row.proofs.Trails.{views_set}
 use Rattle.root_row.proofs.Moves as move
 
@@ -68,3 +69,26 @@ heard_both v w j u one other is told =
       one_heard = subst (λ (d : World). HasHeard d (part_of v) (seen_of v) t.seen) same t.one;
       other_heard = subst (λ (d : World). HasHeard d (part_of w) (seen_of w) t.seen) same t.other;
     }
+
+-- what two leaves have heard, as a pair
+pub paired : (v w j u : View) → j ≡ joined v w → ToldTwo j u → IsLeaf v → IsLeaf w → Paired v w u
+paired v w j u is told one two =
+    let x : Part = part_is.Leaf (worker_of v) (counts_of v) in
+    let y : Part = part_is.Leaf (worker_of w) (counts_of w) in
+    let t = told x y (seen_of v) (seen_of w) (ap (λ (z : View). z.members) is ∙ pair_of v w one two) in
+    let a = subst (λ (d : World). HasHeard d x (seen_of v) t.seen) (sym t.world) t.one in
+    let b = subst (λ (d : World). HasHeard d y (seen_of w) t.seen) (sym t.world) t.other in (
+      t.seen,
+      t.members,
+      record {
+        legal = a.legal;
+        callers = a.callers;
+        begins_a = a.begins;
+        begins_b = b.begins;
+        own_a = a.own;
+        own_b = b.own;
+        agrees_a = a.agrees;
+        agrees_b = b.agrees;
+      },
+      t.world ∙ ap (λ (z : View). z.world) is,
+    )

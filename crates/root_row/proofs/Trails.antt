@@ -1,5 +1,5 @@
 -- The steps of a seat under the rule: what was proved of the views holds of the views with their steps.
-use Rattle.std.proofs.Common.{◌≡◌, ℕ, zero, suc, ◌+◌, ◌-◌, ◌<◌, ◌%◌, ◌^◌, List, [], ◌∷◌, ◌++◌, map, get_or, set, eqb, refl, sym, ap, ◌∙◌, subst}
+use Rattle.std.proofs.Common.{◌≡◌, ◌⊎◌, ℕ, zero, suc, ◌+◌, ◌-◌, ◌<◌, ◌%◌, ◌^◌, List, [], ◌∷◌, ◌++◌, map, get_or, set, eqb, refl, sym, ap, ◌∙◌, subst}
 use mathlib.Core.Option.{some, none}
 use lib.ListN.{get_elem?}
 use prog.Atomic.{either}
@@ -13,15 +13,15 @@ use Rattle.root_row.specs.declared.calls.BookCall.TheVariants as book_is
 use Rattle.root_row.specs.declared.view.World.{World}
 use Rattle.root_row.specs.declared.view.View.{View}
 use Rattle.root_row.specs.declared.view.AtomicStep.{AtomicStep}
-use Rattle.root_row.specs.declared.view.AtomicStep.TheVariants.{LoadSpare}
 use Rattle.root_row.specs.declared.view.Trail.{Trail}
 use Rattle.root_row.specs.World.{slots, place_of}
 use Rattle.root_row.specs.Views.{Part, IsOne, IsLeaf, IsReader, IsBook, count_of, state_in}
 use Rattle.root_row.specs.Rule.{RowRule}
 use Rattle.root_row.specs.Steps.{SeatState}
 use Rattle.root_row.specs.BookSteps.{MayLeave}
+use Rattle.root_row.specs.StepsMade.{unheld_word}
 use Rattle.root_row.specs.Seating.{spent, first_member}
-use Rattle.root_row.specs.Trails.{trail, view_in, shown, TrailRule, TrailState, shown_seat, load_step, exchange_step, add_step, subtract_step, Recorded, told_trail, first_trail, other_trail, joined_trail, spent_trail}
+use Rattle.root_row.specs.Trails.{trail, view_in, shown, TrailRule, TrailState, shown_seat, load_step, exchange_step, add_step, subtract_step, Recorded, first_trail, other_trail, joined_trail, spent_trail}
 use Rattle.root_row.proofs.Moves as move
 use Rattle.root_row.proofs.LeafSteps as leaf
 use Rattle.root_row.proofs.ReaderSteps as reader
@@ -85,25 +85,10 @@ module _ (world : World) (slots' id : ℕ) (me : TrailState) where
       → Allows (TrailRule world) slots' id me (place_of m) (λ n. (n + drained) % 2 ^ 64) (Recorded (book.made book_is.BeginDrain) add_step (step slots' (place_of m) drained 0 none) me)
   drains is m inside may = records m (λ n. (n + drained) % 2 ^ 64) (book.made book_is.BeginDrain) add_step (step slots' (place_of m) drained 0 none) refl (book.drains world slots' id (shown_seat me) is m inside may)
 
-  pub closes_open : IsBook me.0.view → (m : ℕ) → m < slots world → MayLeave me.0.view m
-      → Allows (TrailRule world) slots' id me (place_of m) (λ n. either (eqb n 0) closed n) (Recorded (book.tried_close book_is.BeginRemove) exchange_step (step slots' (place_of m) 0 closed none) me)
-  closes_open is m inside may = records m (λ n. either (eqb n 0) closed n) (book.tried_close book_is.BeginRemove) exchange_step (step slots' (place_of m) 0 closed none) refl (book.closes_open world slots' id (shown_seat me) is m inside may)
-
-  pub closes_drained : IsBook me.0.view → (m : ℕ) → m < slots world → state_in me.0.view m ≡ state_is.Draining
-      → Allows (TrailRule world) slots' id me (place_of m) (λ n. either (eqb n drained) closed n) (Recorded (book.tried_close book_is.EndRemove) exchange_step (step slots' (place_of m) drained closed none) me)
-  closes_drained is m inside draining = records m (λ n. either (eqb n drained) closed n) (book.tried_close book_is.EndRemove) exchange_step (step slots' (place_of m) drained closed none) refl (book.closes_drained world slots' id (shown_seat me) is m inside draining)
-
-  -- a load of the spare word, which tells a pair the whole history
-  pub tells_pair : Allows (TrailRule world) slots' id me 0 (λ n. n) (told_trail (step slots' 0 0 0 none) me)
-  tells_pair s kept homes at small =
-      let r = seating.tells_pair world slots' id (shown_seat me) (shown s) kept homes (at_map view_in s.views id me.0 at) small in
-      let steps = me.0.steps ++ LoadSpare ∷ [] in (
-        trail r.0 steps,
-        r.1,
-        r.2,
-        subst (λ (l : List View). RowRule world (record { words = set s.words 0 (get_or s.words 0 0); homes = homes_after s.homes me.1 r.1; views = l })) (sym (views_set s.views id (trail r.0 steps))) r.3,
-        (r.4, refl),
-      )
+  pub closes : IsBook me.0.view → (m : ℕ) → m < slots world → MayLeave me.0.view m ⊎ (state_in me.0.view m ≡ state_is.Draining)
+      → (old : ℕ) → old ≡ unheld_word (state_in me.0.view m)
+      → Allows (TrailRule world) slots' id me (place_of m) (λ n. either (eqb n old) closed n) (Recorded book.tried_close exchange_step (step slots' (place_of m) old closed none) me)
+  closes is m inside may old unheld = records m (λ n. either (eqb n old) closed n) book.tried_close exchange_step (step slots' (place_of m) old closed none) refl (book.closes world slots' id (shown_seat me) is m inside may old unheld)
 
 pub splits : (world : World) (id : ℕ) (t : Trail) → Splits (TrailRule world) id t (other_trail t) (first_trail t)
 splits world id t s kept at =

@@ -1,6 +1,5 @@
 -- How seats are cut from one another and put together.
 use Rattle.std.specs.Prelude.{◌≡◌, ℕ, List, [], ◌∷◌, ◌++◌}
-use Rattle.atomic_table.specs.Table.{Step}
 use Rattle.dep_index.specs.History.{IsLegal}
 use Rattle.root_row.specs.declared.view.World.{World}
 use Rattle.root_row.specs.declared.view.Part.TheVariants as part_is
@@ -11,7 +10,6 @@ use Rattle.root_row.specs.declared.view.View.{View}
 use Rattle.root_row.specs.History.{answers_in, table_after, AreOfTheirSeats, own_answers, StartsWith}
 use Rattle.root_row.specs.Views.{member, worker_of, counts_of, seen_of}
 use Rattle.root_row.specs.Rule.{Agrees}
-use Rattle.root_row.specs.Steps.{SeatState}
 
 abbrev pub first_of : List Member → List Member
 first_of [] = []
@@ -59,16 +57,6 @@ pub record Shares (world : World) (a : ℕ) (counts_a : List ℕ) (seen_a : List
   pub agrees_a : Agrees (table_after world seen) (part_is.Leaf a counts_a)
   pub agrees_b : Agrees (table_after world seen) (part_is.Leaf b counts_b)
 
--- a pair of leaves is told one list
-abbrev pub Told : View → View → Type 0
-Told v w =
-    (a : ℕ) (counts_a : List ℕ) (seen_a : List SeatAnswer) (b : ℕ) (counts_b : List ℕ) (seen_b : List SeatAnswer)
-    → IsPair v a counts_a seen_a b counts_b seen_b
-    → (seen : List SeatAnswer)
-    × IsPair w a counts_a seen b counts_b seen
-    × Shares w.world a counts_a seen_a b counts_b seen_b seen
-    × (w.world ≡ v.world)
-
 -- the pair of two leaves, which have then seen one list
 abbrev pub Paired : View → View → View → Type 0
 Paired v w u =
@@ -76,7 +64,3 @@ Paired v w u =
     × IsPair u (worker_of v) (counts_of v) seen (worker_of w) (counts_of w) seen
     × Shares u.world (worker_of v) (counts_of v) (seen_of v) (worker_of w) (counts_of w) (seen_of w) seen
     × (u.world ≡ v.world)
-
--- what a load of the spare word tells a pair
-abbrev pub told : Step (Unit {0}) → SeatState → ℕ → SeatState → Type 0
-told st me found me' = (me'.1 ≡ me.1) × Told me.0 me'.0

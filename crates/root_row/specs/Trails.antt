@@ -4,14 +4,14 @@ use Rattle.atomic_table.specs.Table.{State, Me, Step}
 use Rattle.root_row.specs.declared.view.World.{World}
 use Rattle.root_row.specs.declared.view.View.{View}
 use Rattle.root_row.specs.declared.view.AtomicStep.{AtomicStep}
-use Rattle.root_row.specs.declared.view.AtomicStep.TheVariants.{Load, Exchange, Add, Subtract, LoadSpare}
+use Rattle.root_row.specs.declared.view.AtomicStep.TheVariants.{Load, Exchange, Add, Subtract}
 use Rattle.root_row.specs.declared.view.Trail.{Trail}
 use Rattle.root_row.specs.World.{place_of}
 use Rattle.root_row.specs.Views.{Part}
 use Rattle.root_row.specs.Setting.{new_view}
 use Rattle.root_row.specs.Rule.{RowRule}
 use Rattle.root_row.specs.Steps.{SeatState}
-use Rattle.root_row.specs.Seating.{first_member, other_members, joined, spent, told}
+use Rattle.root_row.specs.Seating.{first_member, other_members, joined, spent}
 
 abbrev pub trail : View → List AtomicStep → Trail
 trail v steps = record { view = v; steps = steps }
@@ -56,10 +56,6 @@ abbrev pub Recorded : (Step (Unit {0}) → SeatState → ℕ → SeatState → T
 Recorded Tells entry st me found me' =
     Tells st (shown_seat me) found (shown_seat me')
     × ((m : ℕ) → st.word ≡ place_of m → me'.0.steps ≡ me.0.steps ++ entry st m found ∷ [])
-
--- a load of the spare word tells a pair one list; and the pair has then made this one step more
-abbrev pub told_trail : Step (Unit {0}) → TrailState → ℕ → TrailState → Type 0
-told_trail st me found me' = told st (shown_seat me) found (shown_seat me') × (me'.0.steps ≡ me.0.steps ++ LoadSpare ∷ [])
 
 -- where a seat is cut, both go on with its steps
 abbrev pub first_trail : Trail → Trail

@@ -10,11 +10,8 @@ ghost use Rattle.root_row.specs.StepsMade.{StepsMade, unheld_word};
 ghost use Rattle.root_row.specs.declared.view.AtomicStep.TheVariants.{Load, Exchange, Add};
 
 use crate::book_seat::BookSeat;
-use crate::calls::BookCall;
-use crate::plays::{
-    AskBeginDrain, AskBeginLoad, AskBeginRemove, AskEndLoad, AskEndRemove, AskFailLoad, Asked,
-    CloseDrained, CloseOpen, Drain, LookBook, Open,
-};
+use crate::calls::{Asked, BookCall};
+use crate::plays::{Close, Drain, LookBook, Open};
 use crate::row::{Row, WORDS_APART};
 use dep_index::words::{CLOSED, DRAINED};
 use dep_index::{ModuleState, Reply};
@@ -24,25 +21,7 @@ impl Row {
     ///
     /// It is the call's point, but where the book refuses nothing and the call ends a load well, begins a drain or a
     /// removal, or removes a module that drains: those are made by `open`, `drain` and `try_close`.
-    pub fn look_book(&self, seat: &mut BookSeat, slot: usize, call: BookCall) -> u64
-        requires own { IsOf self.now seat.old }
-        requires inside { slot < slots self.now.world }
-        ensures own { IsOf self.now seat.new }
-        ensures point { LookedBook call slot seat.old.view result seat.new.view }
-        ensures exact { OrderIsExact (book_of seat.new.view) }
-        ensures step { StepsMade seat.old (Load slot result ∷ []) seat.new }
-    {
-        match call {
-            BookCall::BeginLoad => self.look_for::<AskBeginLoad>(seat, slot),
-            BookCall::EndLoad(true) => self.look_for::<AskEndLoad>(seat, slot),
-            BookCall::EndLoad(false) => self.look_for::<AskFailLoad>(seat, slot),
-            BookCall::BeginRemove => self.look_for::<AskBeginRemove>(seat, slot),
-            BookCall::EndRemove => self.look_for::<AskEndRemove>(seat, slot),
-            BookCall::BeginDrain => self.look_for::<AskBeginDrain>(seat, slot),
-        }
-    }
-
-    fn look_for<C: Asked>(&self, seat: &mut BookSeat, slot: usize) -> u64
+    pub fn look_book<C: Asked>(&self, seat: &mut BookSeat, slot: usize) -> u64
         requires own { IsOf self.now seat.old }
         requires inside { slot < slots self.now.world }
         ensures own { IsOf self.now seat.new }
@@ -93,42 +72,14 @@ impl Row {
         ensures point { TriedClose (closing (state_in seat.old.view slot)) slot seat.old.view result seat.new.view }
         ensures step { StepsMade seat.old (Exchange slot (unheld_word (state_in seat.old.view slot)) closed result ∷ []) seat.new }
     {
-        if seat.is_draining(slot) {
-            self.close_drained(seat, slot)
-        } else {
-            self.close_open(seat, slot)
-        }
-    }
-
-    fn close_open(&self, seat: &mut BookSeat, slot: usize) -> bool
-        requires own { IsOf self.now seat.old }
-        requires inside { slot < slots self.now.world }
-        requires may { MayLeave seat.old.view slot }
-        ensures own { IsOf self.now seat.new }
-        ensures point { TriedClose BookCall.BeginRemove slot seat.old.view result seat.new.view }
-        ensures step { StepsMade seat.old (Exchange slot 0 closed result ∷ []) seat.new }
-    {
+        let unheld = seat.unheld_word(slot);
         let shared = &self.table.shared;
         let word = (slot + 1) * WORDS_APART;
-        shared.compare_exchange::<CloseOpen>(&mut seat.seat, word, 0, CLOSED) == 0
-    }
-
-    fn close_drained(&self, seat: &mut BookSeat, slot: usize) -> bool
-        requires own { IsOf self.now seat.old }
-        requires inside { slot < slots self.now.world }
-        requires drains { state_in seat.old.view slot ≡ ModuleState.Draining }
-        ensures own { IsOf self.now seat.new }
-        ensures point { TriedClose BookCall.EndRemove slot seat.old.view result seat.new.view }
-        ensures step { StepsMade seat.old (Exchange slot drained closed result ∷ []) seat.new }
-    {
-        let shared = &self.table.shared;
-        let found = shared.compare_exchange::<CloseDrained>(
-            &mut seat.seat,
-            (slot + 1) * WORDS_APART,
-            DRAINED,
-            CLOSED,
-        );
-        seat.draining[slot] = found != DRAINED;
-        found == DRAINED
+        let found = shared.compare_exchange::<Close>(&mut seat.seat, word, unheld, CLOSED);
+        let made = found == unheld;
+        if made {
+            seat.draining[slot] = false;
+        }
+        made
     }
 }

@@ -7,7 +7,7 @@ ghost use Rattle.root_row.specs.declared.view.AtomicStep.TheVariants.{LoadSpare}
 
 use crate::book_seat::BookSeat;
 use crate::leaf_seat::LeafSeat;
-use crate::plays::{FirstMember, HearTwo, Together};
+use crate::plays::{FirstMember, Hear, Together};
 use crate::read_seat::ReadSeat;
 use crate::row::Row;
 use crate::view::Trail;
@@ -57,7 +57,7 @@ impl Row {
     {
         let shared = &self.table.shared;
         shared.join_seat::<Together>(one, other);
-        shared.load::<HearTwo>(one, 0);
+        shared.load::<Hear>(one, 0);
         let first = shared.split_seat::<FirstMember>(one);
         mem::replace(one, first)
     }

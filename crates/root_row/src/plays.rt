@@ -1,4 +1,5 @@
 //! What each step on a word tells, and how seats are cut and put together.
+use crate::calls::Asked;
 use crate::view::Trail;
 use atomic_table::{Join, Play, Split};
 use std::marker::PhantomData;
@@ -75,27 +76,13 @@ impl Join<Trail> for Together {
     ghost spent = { spent_trail };
 }
 
+/// Two seats that were put together are told one list.
 pub(crate) struct Hear;
 
 impl Play<(), Trail> for Hear {
-    ghost use Rattle.root_row.specs.Trails.{told_trail};
-
-    ghost then = { told_trail };
-}
-
-pub(crate) struct HearTwo;
-
-impl Play<(), Trail> for HearTwo {
     ghost use Rattle.root_row.specs.Hearing.{told_two_trail};
 
     ghost then = { told_two_trail };
-}
-
-/// A call of the book, as a type.
-pub(crate) trait Asked {
-    ghost use Rattle.root_row.specs.declared.calls.BookCall.{BookCall};
-
-    ghost kind: { BookCall };
 }
 
 pub(crate) struct LookBook<C> {
@@ -108,56 +95,6 @@ impl<C: Asked> Play<(), Trail> for LookBook<C> {
     ghost use Rattle.root_row.specs.Trails.{Recorded, load_step};
 
     ghost then = { Recorded (AtSlot (λ _ m v found w. LookedBook C.kind m v found w)) load_step };
-}
-
-pub(crate) struct AskBeginLoad;
-
-impl Asked for AskBeginLoad {
-    ghost use Rattle.root_row.specs.declared.calls.BookCall.TheVariants.{BeginLoad};
-
-    ghost kind = { BeginLoad };
-}
-
-pub(crate) struct AskEndLoad;
-
-impl Asked for AskEndLoad {
-    ghost use Rattle.std.specs.Prelude.{true};
-    ghost use Rattle.root_row.specs.declared.calls.BookCall.TheVariants.{EndLoad};
-
-    ghost kind = { EndLoad true };
-}
-
-pub(crate) struct AskFailLoad;
-
-impl Asked for AskFailLoad {
-    ghost use Rattle.std.specs.Prelude.{false};
-    ghost use Rattle.root_row.specs.declared.calls.BookCall.TheVariants.{EndLoad};
-
-    ghost kind = { EndLoad false };
-}
-
-pub(crate) struct AskBeginRemove;
-
-impl Asked for AskBeginRemove {
-    ghost use Rattle.root_row.specs.declared.calls.BookCall.TheVariants.{BeginRemove};
-
-    ghost kind = { BeginRemove };
-}
-
-pub(crate) struct AskEndRemove;
-
-impl Asked for AskEndRemove {
-    ghost use Rattle.root_row.specs.declared.calls.BookCall.TheVariants.{EndRemove};
-
-    ghost kind = { EndRemove };
-}
-
-pub(crate) struct AskBeginDrain;
-
-impl Asked for AskBeginDrain {
-    ghost use Rattle.root_row.specs.declared.calls.BookCall.TheVariants.{BeginDrain};
-
-    ghost kind = { BeginDrain };
 }
 
 pub(crate) struct Open;
@@ -185,26 +122,15 @@ impl Play<(), Trail> for Drain {
     ghost then = { Recorded (AtSlot (λ _ m v _ w. BookAnswered v m BeginDrain Done w)) add_step };
 }
 
-pub(crate) struct CloseOpen;
+/// The exchange of the word that shows no holder, whichever call closes the slot.
+pub(crate) struct Close;
 
-impl Play<(), Trail> for CloseOpen {
+impl Play<(), Trail> for Close {
     ghost use Rattle.std.specs.Prelude.{◌==◌};
+    ghost use Rattle.root_row.specs.Views.{state_in};
     ghost use Rattle.root_row.specs.Steps.{AtSlot};
-    ghost use Rattle.root_row.specs.BookSteps.{TriedClose};
-    ghost use Rattle.root_row.specs.declared.calls.BookCall.TheVariants.{BeginRemove};
+    ghost use Rattle.root_row.specs.BookSteps.{TriedClose, closing};
     ghost use Rattle.root_row.specs.Trails.{Recorded, exchange_step};
 
-    ghost then = { Recorded (AtSlot (λ expected m v found w. TriedClose BeginRemove m v (found == expected) w)) exchange_step };
-}
-
-pub(crate) struct CloseDrained;
-
-impl Play<(), Trail> for CloseDrained {
-    ghost use Rattle.std.specs.Prelude.{◌==◌};
-    ghost use Rattle.root_row.specs.Steps.{AtSlot};
-    ghost use Rattle.root_row.specs.BookSteps.{TriedClose};
-    ghost use Rattle.root_row.specs.declared.calls.BookCall.TheVariants.{EndRemove};
-    ghost use Rattle.root_row.specs.Trails.{Recorded, exchange_step};
-
-    ghost then = { Recorded (AtSlot (λ expected m v found w. TriedClose EndRemove m v (found == expected) w)) exchange_step };
+    ghost then = { Recorded (AtSlot (λ expected m v found w. TriedClose (closing (state_in v m)) m v (found == expected) w)) exchange_step };
 }

@@ -1,4 +1,4 @@
-//! What a seat knows, as plain data. No value of these types is made.
+//! What a seat knows, as plain data. No value of these types is made. Contracts see a `LinkedList` as its list.
 use dep_index::{Call, ModuleState, Reply, Slots};
 use std::collections::LinkedList;
 use std::marker::Model;

@@ -11,7 +11,10 @@ ghost use Rattle.root_row.specs.Made.{new_leaf, new_reader, new_book};
 ghost use Rattle.root_row.specs.BookSteps.{MayLeave};
 
 use dep_index::{Call, ModuleState};
-use root_row::{BookCall, BookSeat, LeafCall, LeafSeat, ReadSeat, Row};
+use root_row::{
+    AskBeginDrain, AskBeginLoad, AskBeginRemove, AskEndLoad, AskEndRemove, BookSeat, LeafCall,
+    LeafSeat, ReadSeat, Row,
+};
 use std::alloc::Global;
 use std::test::Fail;
 use use_indicator::{Leaf, Reader};
@@ -68,7 +71,7 @@ fn begin_load(row: &Row, book: &mut BookSeat) -> u64
     ensures wide { 0 < length (book_of book.new.view).states }
     ensures alone { (book_of book.new.view).order ≡ 0 ∷ [] }
 {
-    row.look_book(book, 0, BookCall::BeginLoad)
+    row.look_book::<AskBeginLoad>(book, 0)
 }
 
 /// Ends the load well, and answers the word that the look found.
@@ -83,7 +86,7 @@ fn end_load(row: &Row, book: &mut BookSeat) -> u64
     ensures live { state_in book.new.view 0 ≡ ModuleState.Live }
     ensures alone { (book_of book.new.view).order ≡ 0 ∷ [] }
 {
-    let found = row.look_book(book, 0, BookCall::EndLoad(true));
+    let found = row.look_book::<AskEndLoad>(book, 0);
     row.open(book, 0);
     found
 }
@@ -110,7 +113,7 @@ pub(super) fn remove(row: &Row, book: &mut BookSeat) -> (u64, bool)
     ensures own { IsOf row.now book.new }
     ensures still { OnFalse result.1 (MayLeave book.new.view 0) }
 {
-    let found = row.look_book(book, 0, BookCall::BeginRemove);
+    let found = row.look_book::<AskBeginRemove>(book, 0);
     (found, row.try_close(book, 0))
 }
 
@@ -123,7 +126,7 @@ pub(super) fn drain(row: &Row, book: &mut BookSeat) -> u64
     ensures own { IsOf row.now book.new }
     ensures draining { state_in book.new.view 0 ≡ ModuleState.Draining }
 {
-    let found = row.look_book(book, 0, BookCall::BeginDrain);
+    let found = row.look_book::<AskBeginDrain>(book, 0);
     row.drain(book, 0);
     found
 }
@@ -136,7 +139,7 @@ pub(super) fn finish(row: &Row, book: &mut BookSeat) -> (u64, bool)
     ensures own { IsOf row.now book.new }
     ensures still { OnFalse result.1 (state_in book.new.view 0 ≡ ModuleState.Draining) }
 {
-    let found = row.look_book(book, 0, BookCall::EndRemove);
+    let found = row.look_book::<AskEndRemove>(book, 0);
     (found, row.try_close(book, 0))
 }
 
