@@ -6,7 +6,7 @@ use Rattle.dep_index.specs.declared.calls.Reply.{Reply}
 use Rattle.dep_index.specs.Table.{Module, Table}
 use Rattle.root_row.specs.World.{slots}
 use Rattle.root_row.specs.declared.view.SeatName.TheVariants as name_is
-use Rattle.managed_table.specs.Callers.{CallerIs}
+use Rattle.managed_table.specs.Callers.{CallerIs, LeafMissed, BookMissed}
 use Rattle.managed_table.specs.Turns.{MadeOneCall, MadeNoCall}
 use Rattle.managed_table.specs.Shown.{HoldsSoOften, IsInState, HasLoaded, HasLoadedAt, HasNoneAt}
 use Rattle.managed_table.specs.Owned.{row_of, SameTable, IsBeyond, IsWithin}
@@ -34,51 +34,51 @@ abbrev pub BookShown : CallerIs → (Table → Type 0) → CallerIs → Type 0
 BookShown before Shows after =
     MadeNoCall (row_of before) 0 Shows before.book.pass after.book.pass × (after.leaves ≡ before.leaves)
 
--- a call of a leaf: the worker or the slot is out of range, or the lock was taken at each try, or it was made and answered so
-abbrev pub LeafCallEnded : CallerIs → ℕ → ℕ → Call → ℕ → CallerIs → Type 0
-LeafCallEnded before worker slot call number after =
+-- a call of a leaf: the worker or the slot is out of range, or the lock was found taken at each try, or it was made and answered so
+abbrev pub LeafCallEnded : CallerIs → ℕ → ℕ → ℕ → Call → ℕ → CallerIs → Type 0
+LeafCallEnded before worker slot tries call number after =
     MatchBool (number == out_of_range) (IsBeyond before worker slot × (after ≡ before))
-    (IsWithin before worker slot × MatchBool (number == busy) (after ≡ before) (MatchOption (reply_at number 0) ⊥ (LeafMade before worker call after)))
+    (IsWithin before worker slot × MatchBool (number == busy) (LeafMissed worker tries before after) (MatchOption (reply_at number 0) ⊥ (LeafMade before worker call after)))
 
--- a get that was busy: the lock was taken at each try, or each try of the module's word was missed, and no call was made
-abbrev pub GetMissed : CallerIs → ℕ → ℕ → CallerIs → Type 0
-GetMissed before worker slot after = (after ≡ before) ⊎ LeafShown before worker (HoldsSoOften worker slot 0) after
+-- a get that was busy: the lock was found taken at each try, or each try of the module's word was missed, and no call was made
+abbrev pub GetMissed : CallerIs → ℕ → ℕ → ℕ → CallerIs → Type 0
+GetMissed before worker slot tries after = LeafMissed worker tries before after ⊎ LeafShown before worker (HoldsSoOften worker slot 0) after
 
-abbrev pub GetCallEnded : CallerIs → ℕ → ℕ → ℕ → CallerIs → Type 0
-GetCallEnded before worker slot number after =
+abbrev pub GetCallEnded : CallerIs → ℕ → ℕ → ℕ → ℕ → CallerIs → Type 0
+GetCallEnded before worker slot tries number after =
     MatchBool (number == out_of_range) (IsBeyond before worker slot × (after ≡ before))
-    (IsWithin before worker slot × MatchBool (number == busy) (GetMissed before worker slot after)
+    (IsWithin before worker slot × MatchBool (number == busy) (GetMissed before worker slot tries after)
     (MatchOption (reply_at number 0) ⊥ (LeafMade before worker (Get worker slot) after)))
 
 -- a call of the book; the need is the one that NeedNotLive names
-abbrev pub BookCallEnded : CallerIs → ℕ → Call → ℕ → ℕ → CallerIs → Type 0
-BookCallEnded before slot call number need after =
+abbrev pub BookCallEnded : CallerIs → ℕ → ℕ → Call → ℕ → ℕ → CallerIs → Type 0
+BookCallEnded before slot tries call number need after =
     MatchBool (number == out_of_range) ((slots (row_of before).world ≤ slot) × (after ≡ before))
-    ((slot < slots (row_of before).world) × MatchBool (number == busy) (after ≡ before) (MatchOption (reply_at number need) ⊥ (BookMade before call after)))
+    ((slot < slots (row_of before).world) × MatchBool (number == busy) (BookMissed tries before after) (MatchOption (reply_at number need) ⊥ (BookMade before call after)))
 
 -- how often a worker holds a slot, or what was there
-abbrev pub HeldTold : CallerIs → ℕ → ℕ → ℕ → ℕ → ℕ → CallerIs → Type 0
-HeldTold before worker slot was number count after =
+abbrev pub HeldTold : CallerIs → ℕ → ℕ → ℕ → ℕ → ℕ → ℕ → CallerIs → Type 0
+HeldTold before worker slot tries was number count after =
     MatchBool (number == out_of_range) (IsBeyond before worker slot × (after ≡ before) × (count ≡ was))
-    (IsWithin before worker slot × MatchBool (number == busy) ((after ≡ before) × (count ≡ was))
+    (IsWithin before worker slot × MatchBool (number == busy) (LeafMissed worker tries before after × (count ≡ was))
     ((number ≡ 0) × LeafShown before worker (HoldsSoOften worker slot count) after))
 
 -- the number is that of the module's state
-abbrev pub StateCallTold : CallerIs → ℕ → ℕ → CallerIs → Type 0
-StateCallTold before slot number after =
+abbrev pub StateCallTold : CallerIs → ℕ → ℕ → ℕ → CallerIs → Type 0
+StateCallTold before slot tries number after =
     MatchBool (number == out_of_range) ((slots (row_of before).world ≤ slot) × (after ≡ before))
-    ((slot < slots (row_of before).world) × MatchBool (number == busy) (after ≡ before)
+    ((slot < slots (row_of before).world) × MatchBool (number == busy) (BookMissed tries before after)
     (MatchOption (state_at number) ⊥ (λ state. BookShown before (IsInState slot state) after)))
 
 -- how many modules are loaded, or what was there
-abbrev pub LoadedTold : CallerIs → ℕ → ℕ → ℕ → CallerIs → Type 0
-LoadedTold before was number count after =
-    MatchBool (number == busy) ((after ≡ before) × (count ≡ was)) ((number ≡ 0) × BookShown before (HasLoaded count) after)
+abbrev pub LoadedTold : CallerIs → ℕ → ℕ → ℕ → ℕ → CallerIs → Type 0
+LoadedTold before tries was number count after =
+    MatchBool (number == busy) (BookMissed tries before after × (count ≡ was)) ((number ≡ 0) × BookShown before (HasLoaded count) after)
 
 -- the slot of the loaded module at a place, or what was there
-abbrev pub PlaceCallTold : CallerIs → ℕ → ℕ → ℕ → ℕ → CallerIs → Type 0
-PlaceCallTold before place was number slot after =
-    MatchBool (number == busy) ((after ≡ before) × (slot ≡ was))
+abbrev pub PlaceCallTold : CallerIs → ℕ → ℕ → ℕ → ℕ → ℕ → CallerIs → Type 0
+PlaceCallTold before place tries was number slot after =
+    MatchBool (number == busy) (BookMissed tries before after × (slot ≡ was))
     (MatchBool (number == out_of_range) (BookShown before (HasNoneAt place) after × (slot ≡ was))
     ((number ≡ 0) × BookShown before (HasLoadedAt place slot) after))
 

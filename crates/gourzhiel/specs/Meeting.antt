@@ -4,7 +4,7 @@ use Rattle.dep_index.specs.Table.{Module}
 use Rattle.root_row.specs.Seats.{Seated, IsOf}
 use Rattle.root_row.specs.Made.{AreNew, new_reader}
 use Rattle.root_row.specs.declared.view.SeatName.TheVariants as name_is
-use Rattle.managed_table.specs.Callers.{CallerIs}
+use Rattle.managed_table.specs.Callers.{CallerIs, LeafMissed, BookMissed}
 use Rattle.managed_table.specs.Hearing.{Met}
 use Rattle.managed_table.specs.Owned.{row_of, AreAsBefore}
 use Rattle.gourzhiel.specs.declared.handles.GzCaller.{GzCaller}
@@ -26,15 +26,15 @@ TellersMade modules workers number none caller no_tellers tellers =
     × All (λ h. h.full ≡ true) tellers × AreItsTellers workers caller.held (map (λ h. h.held) tellers))
     ((caller ≡ none) × (tellers ≡ no_tellers) × NoneMade workers number)
 
--- the worker is out of range, or its lock was taken at each try, or its leaf and the teller heard of each other
-abbrev pub LeafMeetingEnded : CallerIs → ℕ → Seated → ℕ → CallerIs → Seated → Type 0
-LeafMeetingEnded before worker teller number after teller' =
+-- the worker is out of range, or its lock was found taken at each try, or its leaf and the teller heard of each other
+abbrev pub LeafMeetingEnded : CallerIs → ℕ → ℕ → Seated → ℕ → CallerIs → Seated → Type 0
+LeafMeetingEnded before worker tries teller number after teller' =
     MatchBool (number == out_of_range) (((row_of before).world.workers ≤ worker) × AreAsBefore before after teller teller')
-    ((worker < (row_of before).world.workers) × MatchBool (number == busy) (AreAsBefore before after teller teller')
+    ((worker < (row_of before).world.workers) × MatchBool (number == busy) (LeafMissed worker tries before after × (teller' ≡ teller))
     ((number ≡ 0) × Met (row_of before) worker (name_is.Leaf worker) before.leaves.pass after.leaves.pass teller.view teller'.view × (after.book ≡ before.book)))
 
--- the book's lock was taken at each try, or the book and the teller heard of each other
-abbrev pub BookMeetingEnded : CallerIs → Seated → ℕ → CallerIs → Seated → Type 0
-BookMeetingEnded before teller number after teller' =
-    MatchBool (number == busy) (AreAsBefore before after teller teller')
+-- the book's lock was found taken at each try, or the book and the teller heard of each other
+abbrev pub BookMeetingEnded : CallerIs → ℕ → Seated → ℕ → CallerIs → Seated → Type 0
+BookMeetingEnded before tries teller number after teller' =
+    MatchBool (number == busy) (BookMissed tries before after × (teller' ≡ teller))
     ((number ≡ 0) × Met (row_of before) 0 name_is.Book before.book.pass after.book.pass teller.view teller'.view × (after.leaves ≡ before.leaves))

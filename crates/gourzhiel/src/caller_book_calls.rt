@@ -22,7 +22,7 @@ pub extern "C" fn gz_caller_begin_load(
 ) -> u32
     requires full { caller.old.full ≡ true }
     ensures kept { (caller.new.full ≡ true) × SameTable caller.old.held caller.new.held }
-    ensures call { BookCallEnded caller.old.held slot (Call.BeginLoad slot) result need.new caller.new.held }
+    ensures call { BookCallEnded caller.old.held slot tries (Call.BeginLoad slot) result need.new caller.new.held }
     ensures need { result ≢ 6 → need.new ≡ need.old }
 {
     match caller.lend().begin_load(slot, tries) {
@@ -48,7 +48,7 @@ pub extern "C" fn gz_caller_end_load(
 ) -> u32
     requires full { caller.old.full ≡ true }
     ensures kept { (caller.new.full ≡ true) × SameTable caller.old.held caller.new.held }
-    ensures call { BookCallEnded caller.old.held slot (Call.EndLoad slot ok) result 0 caller.new.held }
+    ensures call { BookCallEnded caller.old.held slot tries (Call.EndLoad slot ok) result 0 caller.new.held }
 {
     match caller.lend().end_load(slot, ok, tries) {
         None => OUT_OF_RANGE,
@@ -63,7 +63,7 @@ pub extern "C" fn gz_caller_end_load(
 pub extern "C" fn gz_caller_begin_drain(caller: &mut GzCaller, slot: usize, tries: u32) -> u32
     requires full { caller.old.full ≡ true }
     ensures kept { (caller.new.full ≡ true) × SameTable caller.old.held caller.new.held }
-    ensures call { BookCallEnded caller.old.held slot (Call.BeginDrain slot) result 0 caller.new.held }
+    ensures call { BookCallEnded caller.old.held slot tries (Call.BeginDrain slot) result 0 caller.new.held }
 {
     match caller.lend().begin_drain(slot, tries) {
         None => OUT_OF_RANGE,
@@ -81,7 +81,7 @@ pub extern "C" fn gz_caller_begin_drain(caller: &mut GzCaller, slot: usize, trie
 pub extern "C" fn gz_caller_begin_remove(caller: &mut GzCaller, slot: usize, tries: u32) -> u32
     requires full { caller.old.full ≡ true }
     ensures kept { (caller.new.full ≡ true) × SameTable caller.old.held caller.new.held }
-    ensures call { BookCallEnded caller.old.held slot (Call.BeginRemove slot) result 0 caller.new.held }
+    ensures call { BookCallEnded caller.old.held slot tries (Call.BeginRemove slot) result 0 caller.new.held }
 {
     match caller.lend().begin_remove(slot, tries) {
         None => OUT_OF_RANGE,
@@ -100,7 +100,7 @@ pub extern "C" fn gz_caller_begin_remove(caller: &mut GzCaller, slot: usize, tri
 pub extern "C" fn gz_caller_end_remove(caller: &mut GzCaller, slot: usize, tries: u32) -> u32
     requires full { caller.old.full ≡ true }
     ensures kept { (caller.new.full ≡ true) × SameTable caller.old.held caller.new.held }
-    ensures call { BookCallEnded caller.old.held slot (Call.EndRemove slot) result 0 caller.new.held }
+    ensures call { BookCallEnded caller.old.held slot tries (Call.EndRemove slot) result 0 caller.new.held }
 {
     match caller.lend().end_remove(slot, tries) {
         None => OUT_OF_RANGE,

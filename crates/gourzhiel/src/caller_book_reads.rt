@@ -14,7 +14,7 @@ use dep_index::ModuleState;
 pub extern "C" fn gz_caller_state(caller: &mut GzCaller, slot: usize, tries: u32) -> u32
     requires full { caller.old.full ≡ true }
     ensures kept { (caller.new.full ≡ true) × SameTable caller.old.held caller.new.held }
-    ensures state { StateCallTold caller.old.held slot result caller.new.held }
+    ensures state { StateCallTold caller.old.held slot tries result caller.new.held }
 {
     match caller.lend().state(slot, tries) {
         None => OUT_OF_RANGE,
@@ -34,7 +34,7 @@ pub extern "C" fn gz_caller_state(caller: &mut GzCaller, slot: usize, tries: u32
 pub extern "C" fn gz_caller_loaded(caller: &mut GzCaller, tries: u32, count: &mut usize) -> u32
     requires full { caller.old.full ≡ true }
     ensures kept { (caller.new.full ≡ true) × SameTable caller.old.held caller.new.held }
-    ensures count { LoadedTold caller.old.held count.old result count.new caller.new.held }
+    ensures count { LoadedTold caller.old.held tries count.old result count.new caller.new.held }
 {
     match caller.lend().loaded(tries) {
         None => BUSY,
@@ -57,7 +57,7 @@ pub extern "C" fn gz_caller_loaded_at(
 ) -> u32
     requires full { caller.old.full ≡ true }
     ensures kept { (caller.new.full ≡ true) × SameTable caller.old.held caller.new.held }
-    ensures place { PlaceCallTold caller.old.held place slot.old result slot.new caller.new.held }
+    ensures place { PlaceCallTold caller.old.held place tries slot.old result slot.new caller.new.held }
 {
     match caller.lend().loaded_at(place, tries) {
         None => BUSY,

@@ -30,7 +30,7 @@ pub extern "C" fn gz_caller_get(
 ) -> u32
     requires full { caller.old.full ≡ true }
     ensures kept { (caller.new.full ≡ true) × SameTable caller.old.held caller.new.held }
-    ensures call { GetCallEnded caller.old.held worker slot result caller.new.held }
+    ensures call { GetCallEnded caller.old.held worker slot tries result caller.new.held }
 {
     match caller.lend().get(worker, slot, tries) {
         None => OUT_OF_RANGE,
@@ -54,7 +54,7 @@ pub extern "C" fn gz_caller_put(
 ) -> u32
     requires full { caller.old.full ≡ true }
     ensures kept { (caller.new.full ≡ true) × SameTable caller.old.held caller.new.held }
-    ensures call { LeafCallEnded caller.old.held worker slot (Call.Put worker slot) result caller.new.held }
+    ensures call { LeafCallEnded caller.old.held worker slot tries (Call.Put worker slot) result caller.new.held }
 {
     match caller.lend().put(worker, slot, tries) {
         None => OUT_OF_RANGE,
@@ -78,7 +78,7 @@ pub extern "C" fn gz_caller_held(
 ) -> u32
     requires full { caller.old.full ≡ true }
     ensures kept { (caller.new.full ≡ true) × SameTable caller.old.held caller.new.held }
-    ensures count { HeldTold caller.old.held worker slot count.old result count.new caller.new.held }
+    ensures count { HeldTold caller.old.held worker slot tries count.old result count.new caller.new.held }
 {
     match caller.lend().held(worker, slot, tries) {
         None => OUT_OF_RANGE,

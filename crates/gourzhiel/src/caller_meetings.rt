@@ -22,7 +22,7 @@ pub extern "C" fn gz_caller_meet_leaf(
     requires own { IsOf (row_of caller.old.held) teller.old.held }
     ensures kept { (caller.new.full ≡ true) × SameTable caller.old.held caller.new.held }
     ensures teller_kept { (teller.new.full ≡ true) × IsOf (row_of caller.old.held) teller.new.held }
-    ensures met { LeafMeetingEnded caller.old.held worker teller.old.held result caller.new.held teller.new.held }
+    ensures met { LeafMeetingEnded caller.old.held worker tries teller.old.held result caller.new.held teller.new.held }
 {
     match caller.lend().meet_leaf(worker, teller.lend(), tries) {
         None => OUT_OF_RANGE,
@@ -42,7 +42,7 @@ pub extern "C" fn gz_caller_meet_book(
     requires own { IsOf (row_of caller.old.held) teller.old.held }
     ensures kept { (caller.new.full ≡ true) × SameTable caller.old.held caller.new.held }
     ensures teller_kept { (teller.new.full ≡ true) × IsOf (row_of caller.old.held) teller.new.held }
-    ensures met { BookMeetingEnded caller.old.held teller.old.held result caller.new.held teller.new.held }
+    ensures met { BookMeetingEnded caller.old.held tries teller.old.held result caller.new.held teller.new.held }
 {
     if caller.lend().meet_book(teller.lend(), tries) {
         DONE

@@ -19,7 +19,7 @@ use Rattle.root_row.proofs.LeafSteps.{leaf_parts}
 use Rattle.root_row.proofs.BookSteps.{answered_book}
 use Rattle.managed_table.specs.declared.view.Pass.{Pass}
 use Rattle.managed_table.specs.Kept.{seen, leaf_fits, book_fits}
-use Rattle.managed_table.specs.Turns.{turn, with_turns, MadeTurn, MadeOneCall, MadeNoCall}
+use Rattle.managed_table.specs.Turns.{turn, with_turns, with_misses, MadeTurn, MadeOneCall, MadeNoCall}
 use Rattle.managed_table.specs.Shown.{HoldsSoOften}
 
 -- what was seen grows by an answer
@@ -48,6 +48,7 @@ module _ (row : RowIs) (slot : ℕ) (x y : Seated) (fit : book_fits row 0 x) (ow
 module _ (fits : RowIs → ℕ → Seated → Type 0) (row : RowIs) (lock : ℕ) (Did : Seated → Seated → Type 0) (old new : Pass) (t : MadeTurn fits seen lock Did old new) where
   one_call : (by : SeatName) (call : Call) (reply : Reply) (part : Part) → IsOf row t.left → Answered t.taken.view by call reply part t.left.view → MadeOneCall row lock by call reply old new
   one_call by call reply part own a = record {
+    missed = t.missed;
     before = seen t.taken;
     between = a.between;
     after = seen t.left;
@@ -60,8 +61,9 @@ module _ (fits : RowIs → ℕ → Seated → Type 0) (row : RowIs) (lock : ℕ)
 
   no_call : (Shows : Table → Type 0) → IsOf row t.taken → KnowsTable t.taken.view → t.left.view ≡ t.taken.view → Shows (table_after row.world (seen t.taken)) → MadeNoCall row lock Shows old new
   no_call Shows own knows is shows = record {
+    missed = t.missed;
     seen = seen t.taken;
-    turned = t.turned ∙ ap (λ l. with_turns old (turn lock (seen t.taken) l ∷ [])) (ap seen_of is);
+    turned = t.turned ∙ ap (λ l. with_turns (with_misses old lock t.missed) (turn lock (seen t.taken) l ∷ [])) (ap seen_of is);
     legal = subst (λ (d : World). IsLegal d.catalogue d.workers (answers_in (seen t.taken))) own.1 knows.legal;
     shows = shows;
     follows = t.follows;

@@ -6,7 +6,7 @@ use Rattle.root_row.specs.Views.{seen_of}
 use Rattle.managed_table.specs.declared.view.Pass.{Pass}
 use Rattle.managed_table.specs.declared.view.Passes.{Passes}
 use Rattle.managed_table.specs.Kept.{seen, leaf_fits}
-use Rattle.managed_table.specs.Turns.{taken, alone, with_taken, Follows, HasTaken}
+use Rattle.managed_table.specs.Turns.{taken, alone, with_taken, with_misses, Follows, HasTaken}
 use Rattle.managed_table.proofs.Turning.{in_hand}
 use Rattle.managed_table.proofs.Answered.{leaf_same}
 
@@ -24,7 +24,8 @@ module _ (row : RowIs) (lock : ℕ) (p : Pass) (m1 : Me Seated Passes) (took : H
   stays y own m2 is same_view same =
       let unseen : seen took.value ≡ seen y = ap seen is_value ∙ sym (ap seen_of same) in record {
         value = y;
-        view = same_view ∙ took.view ∙ ap (λ s. alone (with_taken p (Some (taken lock s)))) unseen;
+        missed = took.missed;
+        view = same_view ∙ took.view ∙ ap (λ s. alone (with_taken (with_misses p lock took.missed) (Some (taken lock s)))) unseen;
         hand = is ∙ ap (λ l. (lock, y) ∷ l) (ap rest took.hand);
         fit = subst (λ (k : RowIs). leaf_fits k lock y) (sym same_row) (leaf_same row lock 0 x y fit own same).0;
         follows = subst (Follows p lock) unseen took.follows;

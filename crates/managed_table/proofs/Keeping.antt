@@ -16,17 +16,9 @@ use Rattle.managed_table.specs.declared.view.Taken.{Taken}
 use Rattle.managed_table.specs.declared.view.Pass.{Pass}
 use Rattle.managed_table.specs.declared.view.Passes.{Passes}
 use Rattle.managed_table.specs.Locks.{count, Place, pass_in, pass_at, Accounts, FitsTurn, IsHeld, FitsPass, IsMade, IsShut, IsHome, HasTurn, LocksRule}
-use Rattle.managed_table.specs.Turns.{turn, taken, alone, new_pass, with_taken, with_turns, Follows, AreOrdered}
+use Rattle.managed_table.specs.Turns.{turn, taken, alone, new_pass, with_taken, with_turns, with_missed, Follows, AreOrdered}
+use Rattle.managed_table.proofs.Changed.{put, put_here, put_else}
 use Rattle.managed_table.proofs.Places.{same_place, place_set, place_here, place_else, place_new, place_longer}
-
-abbrev pub put : {A : Type 0} → (ℕ → A) → ℕ → A → ℕ → A
-put f w a u = cond (u == w) a (f u)
-
-put_here : {A : Type 0} (f : ℕ → A) (w : ℕ) (a : A) → put f w a w ≡ a
-put_here f w a = subst (λ b. cond b a (f w) ≡ a) (sym (eq-eqb w w refl)) refl
-
-put_else : {A : Type 0} (f : ℕ → A) (w : ℕ) (a : A) (u : ℕ) → u ≢ w → put f w a u ≡ f u
-put_else f w a u ne = subst (λ b. cond b a (f u) ≡ f u) (sym (ne_eqb u w ne)) refl
 
 cond_same : {A : Type 0} (b : Bool) (a : A) → cond b a a ≡ a
 cond_same true a = refl
@@ -139,6 +131,13 @@ module _ {T : Type 0} (row : RowIs) (locks : ℕ) (by : ℕ → SeatName) (fits 
     has_mine : (n k : ℕ) (t : Turn) → n ≡ v.number → get_elem? v.turns k ≡ some t → HasTurn s.views n k t
     has_mine n k t name there = record { place = (id, 0); pass = v; at = at_id; name = sym name; there = there }
 
+    -- a turn was there before, where a pass keeps its number and its turns
+    had_set : (v' : Pass) → v'.number ≡ v.number → v'.turns ≡ v.turns → (n k : ℕ) (t : Turn) → HasTurn (set s.views id (alone v')) n k t → HasTurn s.views n k t
+    had_set v' same turns n k t h = elim (has_set v' same n k t h) [
+      | inl before ↦ before
+      | inr own ↦ has_mine n k t own.0 (ap (λ l. get_elem? l k) (sym turns) ∙ own.1)
+    ]
+
     -- a lock stays shut where a pass keeps its number and the lock
     shut_set : (owner : ℕ → Place) (v' : Pass) (lock : ℕ) → v'.number ≡ v.number → ((t : Taken) → v.taken ≡ Some t → t.lock ≡ lock → v'.taken ≡ Some t)
         → IsShut owner s.views lock → IsShut owner (set s.views id (alone v')) lock
@@ -162,6 +161,28 @@ module _ {T : Type 0} (row : RowIs) (locks : ℕ) (by : ℕ → SeatName) (fits 
         same = m.same;
       }
     ]
+
+    -- a pass has found other locks taken
+    module _ (locks' : List ℕ) where
+      abbrev pub missing : Pass
+      missing = with_missed v locks'
+
+      missing_fits : FitsPass row locks by kept.accounts s.words (id, 0) missing
+      missing_fits = record { same_row = mine.same_row; named = mine.named; below = mine.below; held = mine.held; turns = mine.turns }
+
+      pub missed : LocksRule row locks by fits seen (record { words = s.words; homes = s.homes; views = set s.views id (alone missing) })
+      missed = record {
+        accounts = kept.accounts;
+        wide = kept.wide;
+        free = kept.free;
+        shut = λ u lt not_zero. shut_set kept.accounts.owner missing u refl (λ t e q. e) (kept.shut u lt not_zero);
+        passes = λ z u there. elim (place_set s.views id v missing z u at there) [
+          | inl here ↦ subst (λ (y : Place × Pass). FitsPass row locks by kept.accounts s.words y.0 y.1) (λ i. (sym here.0 i, here.1 i)) missing_fits
+          | inr away ↦ kept.passes z u away.1
+        ];
+        made = λ lock k lt below. made_set kept.accounts.owner (kept.accounts.who lock k) missing lock k refl (λ p t e. e) (kept.made lock k lt below);
+        ordered = λ n k m i t u h j. kept.ordered n k m i t u (had_set missing refl refl n k t h) (had_set missing refl refl m i u j);
+      }
 
     -- a free lock is taken
     module _ (w mark : ℕ) (inside : w < locks) (shut : mark ≢ 0) (none_taken : v.taken ≡ None) (unlocked : get_or s.words (place_of w) 0 ≡ 0) where
@@ -208,12 +229,6 @@ module _ {T : Type 0} (row : RowIs) (locks : ℕ) (by : ℕ → SeatName) (fits 
         turns = λ p t there. let fit = old.turns p t there in record { begins = fit.begins; mine = fit.mine };
       }
 
-      had : (n k : ℕ) (t : Turn) → HasTurn (set s.views id (alone taking)) n k t → HasTurn s.views n k t
-      had n k t h = elim (has_set taking refl n k t h) [
-        | inl before ↦ before
-        | inr own ↦ has_mine n k t own.0 own.1
-      ]
-
       pub seized : LocksRule row locks by fits seen (record { words = set s.words (place_of w) mark; homes = set s.homes w none; views = set s.views id (alone taking) })
       seized = record {
         accounts = taken_accounts;
@@ -244,7 +259,7 @@ module _ {T : Type 0} (row : RowIs) (locks : ℕ) (by : ℕ → SeatName) (fits 
           | inr away ↦ else_fits z u (kept.passes z u away.1)
         ];
         made = λ lock k lt below. made_set kept.accounts.owner (kept.accounts.who lock k) taking lock k refl (λ p t e. e) (kept.made lock k lt below);
-        ordered = λ n k m i t u h j. kept.ordered n k m i t u (had n k t h) (had m i u j);
+        ordered = λ n k m i t u h j. kept.ordered n k m i t u (had_set taking refl refl n k t h) (had_set taking refl refl m i u j);
       }
 
     -- the value comes back, and has seen more

@@ -1,7 +1,9 @@
 pub mod Places
+pub mod Changed
 pub mod Keeping
 pub mod Locking
 pub mod Pairing
+pub mod Missing
 pub mod Turning
 pub mod Answered
 pub mod Fresh

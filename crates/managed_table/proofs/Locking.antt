@@ -11,14 +11,14 @@ use Rattle.root_row.specs.declared.view.SeatAnswer.{SeatAnswer}
 use Rattle.root_row.specs.Seats.{RowIs}
 use Rattle.root_row.specs.World.{place_of}
 use Rattle.root_row.specs.History.{SeatName, StartsWith}
-use Rattle.root_row.proofs.Moves.{same_slot}
+use Rattle.root_row.proofs.Moves.{same_slot, same_words}
 use Rattle.managed_table.specs.declared.view.Taken.{Taken}
 use Rattle.managed_table.specs.declared.view.Turn.{Turn}
 use Rattle.managed_table.specs.declared.view.Pass.{Pass}
 use Rattle.managed_table.specs.declared.view.Passes.{Passes}
 use Rattle.managed_table.specs.declared.rule.Setting.{Setting}
 use Rattle.managed_table.specs.Locks.{Place, Accounts, FitsPass, HasTurn, LocksRule, AreFresh, first_view}
-use Rattle.managed_table.specs.Turns.{taken, alone, pass_of, new_pass, with_turns, turn_of, seen_in_hand, after_turn, HasTaken, IsSame, Seizes, Releases, LetsGo, EntersAs}
+use Rattle.managed_table.specs.Turns.{taken, alone, pass_of, new_pass, with_turns, with_misses, turn_of, seen_in_hand, after_turn, HasTaken, IsSame, Misses, Looks, Seizes, Releases, LetsGo, EntersAs}
 use Rattle.managed_table.specs.Passes.{HasInHand}
 use Rattle.managed_table.proofs.Places.{place_new}
 use Rattle.managed_table.proofs.Keeping as keeping
@@ -26,6 +26,11 @@ use Rattle.managed_table.proofs.Keeping as keeping
 module _ {T : Type 0} (row : RowIs) (locks : ℕ) (by : ℕ → SeatName) (fits : RowIs → ℕ → T → Type 0) (seen : T → List SeatAnswer) (slots' id : ℕ) (me : Me T Passes) (one : me.0 ≡ alone (pass_of me.0)) where
   abbrev mine : Pass
   mine = pass_of me.0
+
+  -- a lock that is taken is found so
+  finds : (w n : ℕ) → n ≢ 0 → (lock : ℕ) → place_of w ≡ place_of lock → (Free : Type 0)
+      → MatchBool (n == 0) Free (Misses lock 1 me (alone (with_misses mine w 1), me.1))
+  finds w n away lock e Free = subst (λ b. MatchBool b Free (Misses lock 1 me (alone (with_misses mine w 1), me.1))) (sym (ne_eqb n 0 away)) (ap (λ i. alone (with_misses mine i 1)) (same_slot w lock e), refl)
 
   pub seizes : (w mark : ℕ) → me.1 ≡ [] → mine.taken ≡ None → w < locks → mark ≢ 0
       → Allows (LocksRule row locks by fits seen) slots' id me (place_of w) (λ _. mark) (Seizes fits seen (step slots' (place_of w) mark 0 none) me)
@@ -36,6 +41,7 @@ module _ {T : Type 0} (row : RowIs) (locks : ℕ) (by : ℕ → SeatName) (fits 
         let view : Passes = alone (keeping.taking row locks by fits seen s kept id mine at' w mark inside shut none_taken unlocked) in
         let has : HasTaken fits seen w mine (view, (w, home.value) ∷ me.1) = record {
           value = home.value;
+          missed = 0;
           view = refl;
           hand = ap (λ l. (w, home.value) ∷ l) empty;
           fit = subst (λ r. fits r w home.value) (sym (keeping.mine row locks by fits seen s kept id mine at').same_row) home.fit;
@@ -45,15 +51,35 @@ module _ {T : Type 0} (row : RowIs) (locks : ℕ) (by : ℕ → SeatName) (fits 
           takes w home.value,
           home.at,
           keeping.seized row locks by fits seen s kept id mine at' w mark inside shut none_taken unlocked,
-          λ lock e. subst (λ i. MatchBool (get_or s.words (place_of w) 0 == 0) (HasTaken fits seen i mine (view, (w, home.value) ∷ me.1)) ((view ≡ me.0) × ((w, home.value) ∷ me.1 ≡ me.1))) (same_slot w lock e)
-              (subst (λ b. MatchBool b (HasTaken fits seen w mine (view, (w, home.value) ∷ me.1)) ((view ≡ me.0) × ((w, home.value) ∷ me.1 ≡ me.1))) (sym (eq-eqb (get_or s.words (place_of w) 0) 0 unlocked)) has),
+          λ lock e. subst (λ i. MatchBool (get_or s.words (place_of w) 0 == 0) (HasTaken fits seen i mine (view, (w, home.value) ∷ me.1)) (Misses i 1 me (view, (w, home.value) ∷ me.1))) (same_slot w lock e)
+              (subst (λ b. MatchBool b (HasTaken fits seen w mine (view, (w, home.value) ∷ me.1)) (Misses w 1 me (view, (w, home.value) ∷ me.1))) (sym (eq-eqb (get_or s.words (place_of w) 0) 0 unlocked)) has),
         ))
     | inr away ↦ (
+      alone (with_misses mine w 1),
+      keeps,
+      tt,
+      keeping.missed row locks by fits seen (record { words = set s.words (place_of w) mark; homes = s.homes; views = s.views }) (keeping.busy row locks by fits seen s kept w mark inside shut away) id mine (at ∙ ap some one) (w ∷ mine.missed),
+      λ lock e. finds w (get_or s.words (place_of w) 0) away lock e (HasTaken fits seen lock mine (alone (with_misses mine w 1), me.1)),
+    )
+  ]
+
+  -- a look leaves the word as it is
+  pub looks : (w : ℕ) → Allows (LocksRule row locks by fits seen) slots' id me (place_of w) (λ n. n) (Looks (step slots' (place_of w) 0 0 none) me)
+  looks w s kept homes at small = elim (cases_eq (get_or s.words (place_of w) 0) 0) [
+    | inl unlocked ↦ (
       me.0,
       keeps,
       tt,
-      subst (λ l. LocksRule row locks by fits seen (record { words = set s.words (place_of w) mark; homes = s.homes; views = l })) (sym (set_again s.views id me.0 at)) (keeping.busy row locks by fits seen s kept w mark inside shut away),
-      λ lock e. subst (λ b. MatchBool b (HasTaken fits seen lock mine (me.0, me.1)) ((me.0 ≡ me.0) × (me.1 ≡ me.1))) (sym (ne_eqb (get_or s.words (place_of w) 0) 0 away)) (refl, refl),
+      subst (λ (y : List ℕ × List Passes). LocksRule row locks by fits seen (record { words = y.0; homes = s.homes; views = y.1 })) (λ i. (sym (same_words s.words (place_of w)) i, sym (set_again s.views id me.0 at) i)) kept,
+      λ lock e. subst (λ b. MatchBool b (IsSame me (me.0, me.1)) (Misses lock 1 me (me.0, me.1))) (sym (eq-eqb (get_or s.words (place_of w) 0) 0 unlocked)) (refl, refl),
+    )
+    | inr away ↦ (
+      alone (with_misses mine w 1),
+      keeps,
+      tt,
+      subst (λ l. LocksRule row locks by fits seen (record { words = l; homes = s.homes; views = set s.views id (alone (with_misses mine w 1)) })) (sym (same_words s.words (place_of w)))
+          (keeping.missed row locks by fits seen s kept id mine (at ∙ ap some one) (w ∷ mine.missed)),
+      λ lock e. finds w (get_or s.words (place_of w) 0) away lock e (IsSame me (alone (with_misses mine w 1), me.1)),
     )
   ]
 

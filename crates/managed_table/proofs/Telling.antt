@@ -44,6 +44,7 @@ module _ (fits : RowIs → ℕ → Seated → Type 0) (row : RowIs) (lock : ℕ)
       let h = heard.one_heard in
       let is = sym (saw t.taken t.left r r' heard) in
       record {
+        missed = t.missed;
         before = seen t.taken;
         after = seen t.left;
         turned = t.turned;

@@ -14,44 +14,51 @@ use Rattle.managed_table.specs.declared.view.Pass.{Pass}
 use Rattle.managed_table.specs.Kept.{seen, leaf_fits, book_fits}
 use Rattle.managed_table.specs.Turns.{MadeTurn, MadeOneCall, MadeNoCall}
 use Rattle.managed_table.specs.Shown.{HoldsSoOften}
-use Rattle.managed_table.specs.Callers.{ManagedIs, CallerIs, IsCallerOf}
+use Rattle.managed_table.specs.Callers.{ManagedIs, CallerIs, IsCallerOf, LeafMissed, BookMissed}
 use Rattle.managed_table.specs.Owned.{row_of}
 use Rattle.managed_table.proofs.Answered.{leaf_call_made, leaf_shown, book_call_made, book_shown}
 
-module _ (table : ManagedIs) (before after : CallerIs) (own : IsCallerOf table before) where
+module _ (table : ManagedIs) (before after : CallerIs) (own : IsCallerOf table before) (tries : ℕ) where
   is_of : (y : Seated) → IsOf table.row y → IsOf (row_of before) y
   is_of y = subst (λ (k : RowIs). IsOf k y) (sym own.1)
 
   abbrev BookTurned : {R : Type 0} → (R → Seated → Seated → Type 0) → Option R → Type 0
-  BookTurned {R} Did o = MatchOption o (after ≡ before) (λ r. MadeTurn book_fits seen 0 (Did r) before.book.pass after.book.pass)
+  BookTurned {R} Did o = MatchOption o (BookMissed tries before after) (λ r. MadeTurn book_fits seen 0 (Did r) before.book.pass after.book.pass)
 
   abbrev LeafTurned : {R : Type 0} → ℕ → (R → Seated → Seated → Type 0) → Option R → Type 0
-  LeafTurned {R} worker Did o = MatchOption o (after ≡ before) (λ r. MadeTurn leaf_fits seen worker (Did r) before.leaves.pass after.leaves.pass)
+  LeafTurned {R} worker Did o = MatchOption o (LeafMissed worker tries before after) (λ r. MadeTurn leaf_fits seen worker (Did r) before.leaves.pass after.leaves.pass)
 
   pub book_tried : {R : Type 0} (slot : ℕ) (kind : BookCall) (reply : R → Reply) (Did : R → Seated → Seated → Type 0) (o : Option R) → BookTurned Did o
       → ((r : R) (x y : Seated) → Did r x y → IsOf table.row y × BookAnswered x.view slot kind (reply r) y.view)
-      → MatchOption o (after ≡ before) (λ r. MadeOneCall (row_of before) 0 name_is.Book (book_call kind slot) (reply r) before.book.pass after.book.pass)
+      → MatchOption o (BookMissed tries before after) (λ r. MadeOneCall (row_of before) 0 name_is.Book (book_call kind slot) (reply r) before.book.pass after.book.pass)
   book_tried slot kind reply Did None t told = t
   book_tried slot kind reply Did (Some r) t told =
       let d = told r t.taken t.left t.did in book_call_made (row_of before) slot (Did r) before.book.pass after.book.pass (own.3 ∙ sym own.1) t kind (reply r) (is_of t.left d.0) d.1
 
   pub book_looked : {R : Type 0} (Shows : R → Table → Type 0) (Did : R → Seated → Seated → Type 0) (o : Option R) → BookTurned Did o
       → ((r : R) (x y : Seated) → Did r x y → KnowsTable x.view × (y.view ≡ x.view) × ((t : Table) → t.book ≡ book_of x.view → Shows r t))
-      → MatchOption o (after ≡ before) (λ r. MadeNoCall (row_of before) 0 (Shows r) before.book.pass after.book.pass)
+      → MatchOption o (BookMissed tries before after) (λ r. MadeNoCall (row_of before) 0 (Shows r) before.book.pass after.book.pass)
   book_looked Shows Did None t told = t
   book_looked Shows Did (Some r) t told =
       let d = told r t.taken t.left t.did in book_shown (row_of before) 0 (Did r) before.book.pass after.book.pass (own.3 ∙ sym own.1) t (Shows r) d.0 d.1 d.2
 
   pub leaf_tried : {R : Type 0} (worker slot : ℕ) (kind : LeafCall) (reply : R → Reply) (Did : R → Seated → Seated → Type 0) (o : Option R) → LeafTurned worker Did o
       → ((r : R) (x y : Seated) → Did r x y → IsOf table.row y × LeafAnswered x.view slot kind (reply r) y.view)
-      → MatchOption o (after ≡ before) (λ r. MadeOneCall (row_of before) worker (name_is.Leaf worker) (leaf_call kind worker slot) (reply r) before.leaves.pass after.leaves.pass)
+      → MatchOption o (LeafMissed worker tries before after) (λ r. MadeOneCall (row_of before) worker (name_is.Leaf worker) (leaf_call kind worker slot) (reply r) before.leaves.pass after.leaves.pass)
   leaf_tried worker slot kind reply Did None t told = t
   leaf_tried worker slot kind reply Did (Some r) t told =
       let d = told r t.taken t.left t.did in leaf_call_made (row_of before) worker slot (Did r) before.leaves.pass after.leaves.pass refl t kind (reply r) (is_of t.left d.0) d.1
 
+  -- the same where it may not have been tried at all
+  pub leaf_tried_if : {R : Type 0} (worker slot : ℕ) (kind : LeafCall) (reply : R → Reply) (Did : R → Seated → Seated → Type 0) (o : Option (Option R)) → IfSome o (LeafTurned worker Did)
+      → ((r : R) (x y : Seated) → Did r x y → IsOf table.row y × LeafAnswered x.view slot kind (reply r) y.view)
+      → IfSome o (λ p. MatchOption p (LeafMissed worker tries before after) (λ r. MadeOneCall (row_of before) worker (name_is.Leaf worker) (leaf_call kind worker slot) (reply r) before.leaves.pass after.leaves.pass))
+  leaf_tried_if worker slot kind reply Did None t told = tt
+  leaf_tried_if worker slot kind reply Did (Some p) t told = leaf_tried worker slot kind reply Did p t told
+
   pub leaf_looked : {R : Type 0} (worker slot : ℕ) (count : R → ℕ) (Did : R → Seated → Seated → Type 0) (o : Option R) → LeafTurned worker Did o
       → ((r : R) (x y : Seated) → Did r x y → KnowsTable x.view × (y.view ≡ x.view) × (count_of x.view slot ≡ count r))
-      → MatchOption o (after ≡ before) (λ r. MadeNoCall (row_of before) worker (HoldsSoOften worker slot (count r)) before.leaves.pass after.leaves.pass)
+      → MatchOption o (LeafMissed worker tries before after) (λ r. MadeNoCall (row_of before) worker (HoldsSoOften worker slot (count r)) before.leaves.pass after.leaves.pass)
   leaf_looked worker slot count Did None t told = t
   leaf_looked worker slot count Did (Some r) t told =
       let d = told r t.taken t.left t.did in leaf_shown (row_of before) worker slot (Did r) before.leaves.pass after.leaves.pass refl t (count r) d.0 d.1 d.2
@@ -59,7 +66,7 @@ module _ (table : ManagedIs) (before after : CallerIs) (own : IsCallerOf table b
   -- the same where it may not have been tried at all
   pub leaf_looked_if : {R : Type 0} (worker slot : ℕ) (count : R → ℕ) (Did : R → Seated → Seated → Type 0) (o : Option (Option R)) → IfSome o (LeafTurned worker Did)
       → ((r : R) (x y : Seated) → Did r x y → KnowsTable x.view × (y.view ≡ x.view) × (count_of x.view slot ≡ count r))
-      → IfSome o (λ p. MatchOption p (after ≡ before) (λ r. MadeNoCall (row_of before) worker (HoldsSoOften worker slot (count r)) before.leaves.pass after.leaves.pass))
+      → IfSome o (λ p. MatchOption p (LeafMissed worker tries before after) (λ r. MadeNoCall (row_of before) worker (HoldsSoOften worker slot (count r)) before.leaves.pass after.leaves.pass))
   leaf_looked_if worker slot count Did None t told = tt
   leaf_looked_if worker slot count Did (Some p) t told = leaf_looked worker slot count Did p t told
 

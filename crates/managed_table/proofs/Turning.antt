@@ -7,12 +7,8 @@ use Rattle.root_row.specs.declared.view.SeatAnswer.{SeatAnswer}
 use Rattle.root_row.specs.Seats.{RowIs}
 use Rattle.managed_table.specs.declared.view.Pass.{Pass}
 use Rattle.managed_table.specs.declared.view.Passes.{Passes}
-use Rattle.managed_table.specs.Turns.{taken, alone, pass_of, with_taken, with_turns, turn_of, seen_in_hand, HasTaken, IsSame, MadeTurn}
+use Rattle.managed_table.specs.Turns.{taken, alone, pass_of, with_taken, with_turns, with_misses, turn_of, seen_in_hand, HasTaken, MadeTurn}
 use Rattle.managed_table.specs.Passes.{HasInHand, MayActOn, ActedOn}
-
--- the lock was taken at a later try
-pub took_later : {T : Type 0} (fits : RowIs → ℕ → T → Type 0) (seen : T → List SeatAnswer) (lock : ℕ) (me me1 me2 : Me T Passes) → IsSame me me1 → HasTaken fits seen lock (pass_of me1.0) me2 → HasTaken fits seen lock (pass_of me.0) me2
-took_later fits seen lock me me1 me2 same = subst (λ v. HasTaken fits seen lock (pass_of v) me2) same.0
 
 abbrev pub in_hand : {T : Type 0} → T → List (ℕ × T) → T
 in_hand d [] = d
@@ -34,7 +30,7 @@ module _ {T F A : Type 0} (g : Once F (MutBor T × Unit {0}) (A × (MutBor T × 
       did = subst (λ (x : T). FnOnceReturnsAtMut g f x r acted.left) same_value acted.did
 
       abbrev taking : Pass
-      taking = with_taken old (Some (taken lock (seen took.value)))
+      taking = with_taken (with_misses old lock took.missed) (Some (taken lock (seen took.value)))
 
       view_is : m2.0 ≡ alone taking
       view_is = same_view ∙ took.view
@@ -59,6 +55,7 @@ module _ {T F A : Type 0} (g : Once F (MutBor T × Unit {0}) (A × (MutBor T × 
 
       pub made : (v : Passes) → v ≡ alone (with_turns (pass_of m2.0) (turn_of (pass_of m2.0).taken (seen_in_hand seen m2.1))) → MadeTurn fits seen lock (λ x y. FnOnceReturnsAtMut g f x r y) old (pass_of v)
       made v is = record {
+        missed = took.missed;
         taken = took.value;
         left = acted.left;
         turned =

@@ -11,7 +11,7 @@ use Rattle.root_row.specs.World.{slots}
 use Rattle.managed_table.specs.declared.view.Pass.{Pass}
 use Rattle.managed_table.specs.declared.view.Passes.{Passes}
 use Rattle.managed_table.specs.Kept.{seen, leaf_fits, book_fits}
-use Rattle.managed_table.specs.Turns.{pass_of, MadeTurn, MadeOneCall, MadeNoCall}
+use Rattle.managed_table.specs.Turns.{pass_of, with_misses, MadeTurn, MadeOneCall, MadeNoCall}
 
 -- its row, and which tables of locks are its leaves' and its book's
 pub record ManagedIs : Type 0 where
@@ -43,6 +43,18 @@ IsInside table worker slot = (worker < table.row.world.workers) × (slot < slots
 
 abbrev pub IsOutside : ManagedIs → ℕ → ℕ → Type 0
 IsOutside table worker slot = (table.row.world.workers ≤ worker) ⊎ (slots table.row.world ≤ slot)
+
+-- the pass, when it has found the lock taken so often more
+abbrev pub past_misses : PassIs → ℕ → ℕ → PassIs
+past_misses p lock times = record { table = p.table; pass = with_misses p.pass lock times }
+
+-- the caller found the lock of the worker's leaf taken so often, and did nothing else
+abbrev pub LeafMissed : ℕ → ℕ → CallerIs → CallerIs → Type 0
+LeafMissed worker times old new = new ≡ record { leaves = past_misses old.leaves worker times; book = old.book }
+
+-- or the book's
+abbrev pub BookMissed : ℕ → CallerIs → CallerIs → Type 0
+BookMissed times old new = new ≡ record { leaves = old.leaves; book = past_misses old.book 0 times }
 
 -- through the caller, in one turn, this was done with the worker's leaf
 abbrev pub LeafTurned : ℕ → (Seated → Seated → Type 0) → CallerIs → CallerIs → Type 0

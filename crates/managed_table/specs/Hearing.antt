@@ -8,15 +8,17 @@ use Rattle.root_row.specs.History.{SeatName, answers_in, own_answers, StartsWith
 use Rattle.root_row.specs.Seats.{RowIs}
 use Rattle.root_row.specs.Views.{name_of, part_of, seen_of}
 use Rattle.managed_table.specs.declared.view.Pass.{Pass}
-use Rattle.managed_table.specs.Turns.{turn, with_turns, Follows}
+use Rattle.managed_table.specs.Turns.{turn, with_turns, with_misses, Follows}
 use Rattle.managed_table.specs.Callers.{ManagedIs, CallerIs}
 
--- The pass made one turn more, at this lock, and in it the seat behind the lock and a reader heard of each other. Both have then
--- seen one list. It is legal, begins with what each had seen, and has of each one's own calls just those that it had
+-- The pass made one turn more, at this lock, which it had found taken so often. In it the seat behind the lock and a reader heard
+-- of each other. Both have then seen one list. It is legal, begins with what each had seen, and has of each one's own calls just
+-- those that it had
 pub record Met (row : RowIs) (lock : ℕ) (by : SeatName) (old new : Pass) (reader reader' : View) : Type 0 where
+  pub missed : ℕ
   pub before : List SeatAnswer
   pub after : List SeatAnswer
-  pub turned : new ≡ with_turns old (turn lock before after ∷ [])
+  pub turned : new ≡ with_turns (with_misses old lock missed) (turn lock before after ∷ [])
   pub follows : Follows old lock before
   pub begins : StartsWith after before
   pub tells : StartsWith after (seen_of reader)

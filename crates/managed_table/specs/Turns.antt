@@ -1,5 +1,5 @@
 -- The turns of a pass.
-use Rattle.std.specs.Prelude.{◌≡◌, ◌⊎◌, ℕ, ◌==◌, List, [], ◌∷◌, ◌++◌, Option, Some, None, MatchBool}
+use Rattle.std.specs.Prelude.{◌≡◌, ◌⊎◌, ℕ, ◌==◌, List, [], ◌∷◌, ◌++◌, replicate, Option, Some, None, MatchBool}
 use mathlib.Core.Option as core
 use lib.ListN.{get_elem?}
 use Rattle.atomic_table.specs.Table.{Me, Step}
@@ -33,7 +33,7 @@ no_row = record {
 }
 
 abbrev pub no_pass : Pass
-no_pass = record { row = record { marker = record {}; value = no_row }; number = 0; taken = None; turns = [] }
+no_pass = record { row = record { marker = record {}; value = no_row }; number = 0; taken = None; turns = []; missed = [] }
 
 abbrev pub first_in : List Pass → Pass
 first_in [] = no_pass
@@ -45,15 +45,23 @@ pass_of v = first_in v.passes
 
 -- a pass of this number that has done nothing
 abbrev pub new_pass : RowIs → ℕ → Pass
-new_pass row number = record { row = record { marker = record {}; value = row }; number = number; taken = None; turns = [] }
+new_pass row number = record { row = record { marker = record {}; value = row }; number = number; taken = None; turns = []; missed = [] }
 
 -- the pass has taken the lock
 abbrev pub with_taken : Pass → Option Taken → Pass
-with_taken p t = record { row = p.row; number = p.number; taken = t; turns = p.turns }
+with_taken p t = record { row = p.row; number = p.number; taken = t; turns = p.turns; missed = p.missed }
 
 -- the pass has had these turns more, and has no lock
 abbrev pub with_turns : Pass → List Turn → Pass
-with_turns p more = record { row = p.row; number = p.number; taken = None; turns = p.turns ++ more }
+with_turns p more = record { row = p.row; number = p.number; taken = None; turns = p.turns ++ more; missed = p.missed }
+
+-- the pass has found these locks taken
+abbrev pub with_missed : Pass → List ℕ → Pass
+with_missed p locks = record { row = p.row; number = p.number; taken = p.taken; turns = p.turns; missed = locks }
+
+-- the pass has found the lock taken so often more
+abbrev pub with_misses : Pass → ℕ → ℕ → Pass
+with_misses p lock times = with_missed p (replicate times lock ++ p.missed)
 
 abbrev pub turn_of : Option Taken → List SeatAnswer → List Turn
 turn_of None after = []
@@ -70,11 +78,12 @@ IsBefore t u = StartsWith u.before t.after
 abbrev pub AreOrdered : Turn → Turn → Type 0
 AreOrdered t u = IsBefore t u ⊎ IsBefore u t
 
--- the value is out with the pass
+-- the value is out with the pass, which had found the lock taken so often
 pub record HasTaken {T : Type 0} (fits : RowIs → ℕ → T → Type 0) (seen : T → List SeatAnswer)
     (lock : ℕ) (p : Pass) (me : Me T Passes) : Type 0 where
   pub value : T
-  pub view : me.0 ≡ alone (with_taken p (Some (taken lock (seen value))))
+  pub missed : ℕ
+  pub view : me.0 ≡ alone (with_taken (with_misses p lock missed) (Some (taken lock (seen value))))
   pub hand : me.1 ≡ (lock, value) ∷ []
   pub fit : fits p.row.value lock value
   pub follows : Follows p lock (seen value)
@@ -83,10 +92,18 @@ module _ {T : Type 0} where
   abbrev pub IsSame : Me T Passes → Me T Passes → Type 0
   IsSame me me' = (me'.0 ≡ me.0) × (me'.1 ≡ me.1)
 
-  -- where the word was 0 the lock is taken; else nothing is known
+  -- the lock was found taken so often, and nothing else changed
+  abbrev pub Misses : ℕ → ℕ → Me T Passes → Me T Passes → Type 0
+  Misses lock times me me' = (me'.0 ≡ alone (with_misses (pass_of me.0) lock times)) × (me'.1 ≡ me.1)
+
+  -- where the word is 0 nothing is known; else the lock was found taken
+  abbrev pub Looks : Step T → Me T Passes → ℕ → Me T Passes → Type 0
+  Looks st me found me' = (lock : ℕ) → st.word ≡ place_of lock → MatchBool (found == 0) (IsSame me me') (Misses lock 1 me me')
+
+  -- where the word was 0 the lock is taken; else it was found taken
   abbrev pub Seizes : (RowIs → ℕ → T → Type 0) → (T → List SeatAnswer) → Step T → Me T Passes → ℕ → Me T Passes → Type 0
   Seizes fits seen st me found me' =
-      (lock : ℕ) → st.word ≡ place_of lock → MatchBool (found == 0) (HasTaken fits seen lock (pass_of me.0) me') (IsSame me me')
+      (lock : ℕ) → st.word ≡ place_of lock → MatchBool (found == 0) (HasTaken fits seen lock (pass_of me.0) me') (Misses lock 1 me me')
 
   abbrev pub seen_in_hand : (T → List SeatAnswer) → List (ℕ × T) → List SeatAnswer
   seen_in_hand seen [] = []
@@ -108,33 +125,37 @@ module _ {T : Type 0} where
   abbrev pub EntersAs : Step T → Me T Passes → ℕ → Me T Passes → Type 0
   EntersAs st me found me' = (number : ℕ) × (me'.0 ≡ alone (new_pass (pass_of me.0).row.value number))
 
--- The pass made one turn more, at this lock: it took the value, did so with it, and put it back
+-- The pass made one turn more, at this lock, which it had found taken so often: it took the value, did so with it, and put it back
 pub record MadeTurn {T : Type 0} (fits : RowIs → ℕ → T → Type 0) (seen : T → List SeatAnswer)
     (lock : ℕ) (Did : T → T → Type 0) (old new : Pass) : Type 0 where
+  pub missed : ℕ
   pub taken : T
   pub left : T
-  pub turned : new ≡ with_turns old (turn lock (seen taken) (seen left) ∷ [])
+  pub turned : new ≡ with_turns (with_misses old lock missed) (turn lock (seen taken) (seen left) ∷ [])
   pub fit : fits old.row.value lock taken
   pub did : Did taken left
   pub follows : Follows old lock (seen taken)
 
--- The pass made one turn more, at this lock, and in it the seat behind the lock made this one call, which was answered so. What
--- the seat has then seen is legal, begins with all that it had seen in any turn of this pass, and ends with the call
+-- The pass made one turn more, at this lock, which it had found taken so often. In it the seat behind the lock made this one call,
+-- which was answered so. What the seat has then seen is legal, begins with all that it had seen in any turn of this pass, and ends
+-- with the call
 pub record MadeOneCall (row : RowIs) (lock : ℕ) (by : SeatName) (call : Call) (reply : Reply) (old new : Pass) : Type 0 where
+  pub missed : ℕ
   pub before : List SeatAnswer
   pub between : List SeatAnswer
   pub after : List SeatAnswer
-  pub turned : new ≡ with_turns old (turn lock before after ∷ [])
+  pub turned : new ≡ with_turns (with_misses old lock missed) (turn lock before after ∷ [])
   pub ends : after ≡ (before ++ between) ++ seat_answer by call reply ∷ []
   pub legal : IsLegal row.world.catalogue row.world.workers (answers_in after)
   pub own : own_answers by after ≡ own_answers by before ++ seat_answer by call reply ∷ []
   pub follows : Follows old lock before
 
--- The pass made one turn more, at this lock, and in it no call was made. What the seat behind the lock had seen is legal, begins
--- with all that it had seen in any turn of this pass, and leaves this table
+-- The pass made one turn more, at this lock, which it had found taken so often. In it no call was made. What the seat behind the
+-- lock had seen is legal, begins with all that it had seen in any turn of this pass, and leaves this table
 pub record MadeNoCall (row : RowIs) (lock : ℕ) (Shows : Table → Type 0) (old new : Pass) : Type 0 where
+  pub missed : ℕ
   pub seen : List SeatAnswer
-  pub turned : new ≡ with_turns old (turn lock seen seen ∷ [])
+  pub turned : new ≡ with_turns (with_misses old lock missed) (turn lock seen seen ∷ [])
   pub legal : IsLegal row.world.catalogue row.world.workers (answers_in seen)
   pub shows : Shows (table_after row.world seen)
   pub follows : Follows old lock seen

@@ -10,7 +10,7 @@ impl ManagedTable {
     ghost use Rattle.root_row.specs.Seats.{IsOf};
     ghost use Rattle.managed_table.specs.Kept.{seen, leaf_fits};
     ghost use Rattle.managed_table.specs.Passes.{MayActOn};
-    ghost use Rattle.managed_table.specs.Callers.{IsCallerOf, LeafTurned};
+    ghost use Rattle.managed_table.specs.Callers.{IsCallerOf, LeafMissed, BookMissed, LeafTurned};
     ghost use Rattle.managed_table.specs.Hearing.{LeafMet, BookMet};
 
     /// The worker's leaf and a reader hear of each other: both have then seen one list of calls. It begins with what each had
@@ -50,8 +50,7 @@ impl ManagedTable {
         self.book_turn(rt, caller, |book| book.hear(row, reader))
     }
 
-    /// As `meet_leaf`, but it never waits. False: the lock was taken at each of so many tries, and the caller and the reader are
-    /// as they were.
+    /// As `meet_leaf`, but it never waits. False: the lock was found taken at each of so many tries, and the reader is as it was.
     pub(crate) fn try_meet_leaf(
         &self,
         caller: &mut Caller,
@@ -64,7 +63,7 @@ impl ManagedTable {
         requires inside { worker < self.now.row.world.workers }
         ensures own { IsCallerOf self.now caller.new }
         ensures reader_own { IsOf self.now.row result.1 }
-        ensures met { MatchBool result.0 (LeafMet self.now worker caller.old caller.new reader.view result.1.view) ((caller.new ≡ caller.old) × (result.1 ≡ reader)) }
+        ensures met { MatchBool result.0 (LeafMet self.now worker caller.old caller.new reader.view result.1.view) (LeafMissed worker tries caller.old caller.new × (result.1 ≡ reader)) }
         ensures book { caller.new.book ≡ caller.old.book }
     {
         let row = &self.row;
@@ -90,7 +89,7 @@ impl ManagedTable {
         requires reader_own { IsOf self.now.row reader }
         ensures own { IsCallerOf self.now caller.new }
         ensures reader_own { IsOf self.now.row result.1 }
-        ensures met { MatchBool result.0 (BookMet self.now caller.old caller.new reader.view result.1.view) ((caller.new ≡ caller.old) × (result.1 ≡ reader)) }
+        ensures met { MatchBool result.0 (BookMet self.now caller.old caller.new reader.view result.1.view) (BookMissed tries caller.old caller.new × (result.1 ≡ reader)) }
         ensures leaves { caller.new.leaves ≡ caller.old.leaves }
     {
         let row = &self.row;

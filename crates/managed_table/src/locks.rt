@@ -3,7 +3,7 @@ ghost use Rattle.std.specs.Prelude.{◌≡◌, ◌<◌, ◌∷◌, [], length, I
 ghost use Rattle.std.specs.Fn.{FnOnceTakesAtMut, FnOnceReturnsAtMut};
 ghost use Rattle.root_row.specs.World.{place_of};
 ghost use Rattle.managed_table.specs.Locks.{AreFresh};
-ghost use Rattle.managed_table.specs.Turns.{HasTaken, MadeTurn, IsSame, pass_of, after_turn};
+ghost use Rattle.managed_table.specs.Turns.{HasTaken, MadeTurn, IsSame, Misses, pass_of, after_turn};
 ghost use Rattle.managed_table.specs.Passes.{IsFree, HasInHand, MayActOn, ActedOn};
 
 use crate::keyed::Keyed;
@@ -73,7 +73,7 @@ impl<T: Keyed + Drop> Locks<T> {
         requires inside { lock < self.now.table.shared.key.locks }
         requires free { IsFree self.now.table.shared.table_id self.now.table.shared.key.row.value seat.old }
         ensures id { seat.new.table_id ≡ seat.old.table_id }
-        ensures told { MatchBool result (HasTaken T.fits T.seen lock (pass_of seat.old.me.0) seat.new.me) (IsSame seat.old.me seat.new.me) }
+        ensures told { MatchBool result (HasTaken T.fits T.seen lock (pass_of seat.old.me.0) seat.new.me) (Misses lock 1 seat.old.me seat.new.me) }
     {
         let shared = &self.table.shared;
         shared.compare_exchange::<Seize<T>>(seat, (lock + 1) * WORDS_APART, FREE, HELD) == FREE
@@ -84,7 +84,7 @@ impl<T: Keyed + Drop> Locks<T> {
         requires inside { lock < self.now.table.shared.key.locks }
         requires free { IsFree self.now.table.shared.table_id self.now.table.shared.key.row.value seat.old }
         ensures id { seat.new.table_id ≡ seat.old.table_id }
-        ensures told { MatchBool result (HasTaken T.fits T.seen lock (pass_of seat.old.me.0) seat.new.me) (IsSame seat.old.me seat.new.me) }
+        ensures told { MatchBool result (HasTaken T.fits T.seen lock (pass_of seat.old.me.0) seat.new.me) (Misses lock 1 seat.old.me seat.new.me) }
     {
         let shared = &self.table.shared;
         shared.swap::<Seize<T>>(seat, (lock + 1) * WORDS_APART, WAITED_FOR) == FREE

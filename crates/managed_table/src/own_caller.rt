@@ -40,7 +40,7 @@ impl OwnCaller {
     ghost use Rattle.root_row.specs.declared.view.SeatName.TheVariants as name_is;
     ghost use Rattle.managed_table.specs.Turns.{MadeOneCall, MadeNoCall};
     ghost use Rattle.managed_table.specs.Shown.{HoldsSoOften};
-    ghost use Rattle.managed_table.specs.Callers.{IsCallerOf};
+    ghost use Rattle.managed_table.specs.Callers.{IsCallerOf, LeafMissed};
     ghost use Rattle.managed_table.specs.Owned.{row_of, SameTable, IsBeyond, IsWithin};
 
     /// A table over a catalogue, and its first caller. Every module is Absent, and nothing is held.
@@ -115,7 +115,7 @@ impl OwnCaller {
     ) -> Option<Option<Option<Result<(), GetError>>>>
         ensures same { SameTable self.old self.new }
         ensures range { MatchOption result (IsBeyond self.old worker slot × (self.new ≡ self.old)) (λ _. IsWithin self.old worker slot) }
-        ensures call { IfSome result (λ o. MatchOption o (self.new ≡ self.old) (λ a. IfSome a (λ r. MadeOneCall (row_of self.old) worker (name_is.Leaf worker) (Call.Get worker slot) (reply_of get_refusal r) self.old.leaves.pass self.new.leaves.pass))) }
+        ensures call { IfSome result (λ o. MatchOption o (LeafMissed worker tries self.old self.new) (λ a. IfSome a (λ r. MadeOneCall (row_of self.old) worker (name_is.Leaf worker) (Call.Get worker slot) (reply_of get_refusal r) self.old.leaves.pass self.new.leaves.pass))) }
         ensures missed { IfSome result (λ o. IfSome o (λ a. IfNone a (MadeNoCall (row_of self.old) worker (HoldsSoOften worker slot 0) self.old.leaves.pass self.new.leaves.pass))) }
         ensures book { self.new.book ≡ self.old.book }
     {
@@ -131,7 +131,7 @@ impl OwnCaller {
     ) -> Option<Option<Result<(), PutError>>>
         ensures same { SameTable self.old self.new }
         ensures range { MatchOption result (IsBeyond self.old worker slot × (self.new ≡ self.old)) (λ _. IsWithin self.old worker slot) }
-        ensures call { IfSome result (λ o. MatchOption o (self.new ≡ self.old) (λ r. MadeOneCall (row_of self.old) worker (name_is.Leaf worker) (Call.Put worker slot) (reply_of put_refusal r) self.old.leaves.pass self.new.leaves.pass)) }
+        ensures call { IfSome result (λ o. MatchOption o (LeafMissed worker tries self.old self.new) (λ r. MadeOneCall (row_of self.old) worker (name_is.Leaf worker) (Call.Put worker slot) (reply_of put_refusal r) self.old.leaves.pass self.new.leaves.pass)) }
         ensures book { self.new.book ≡ self.old.book }
     {
         let row = &self.table.row;
@@ -148,7 +148,7 @@ impl OwnCaller {
     pub fn held(&mut self, worker: usize, slot: usize, tries: u32) -> Option<Option<u32>>
         ensures same { SameTable self.old self.new }
         ensures range { MatchOption result (IsBeyond self.old worker slot × (self.new ≡ self.old)) (λ _. IsWithin self.old worker slot) }
-        ensures shown { IfSome result (λ o. MatchOption o (self.new ≡ self.old) (λ r. MadeNoCall (row_of self.old) worker (HoldsSoOften worker slot r) self.old.leaves.pass self.new.leaves.pass)) }
+        ensures shown { IfSome result (λ o. MatchOption o (LeafMissed worker tries self.old self.new) (λ r. MadeNoCall (row_of self.old) worker (HoldsSoOften worker slot r) self.old.leaves.pass self.new.leaves.pass)) }
         ensures book { self.new.book ≡ self.old.book }
     {
         self.table

@@ -13,6 +13,7 @@ impl OwnCaller {
     ghost use Rattle.root_row.specs.declared.view.SeatName.TheVariants as name_is;
     ghost use Rattle.managed_table.specs.Turns.{MadeOneCall, MadeNoCall};
     ghost use Rattle.managed_table.specs.Shown.{IsInState, HasLoaded};
+    ghost use Rattle.managed_table.specs.Callers.{BookMissed};
     ghost use Rattle.managed_table.specs.Owned.{row_of, SameTable, Has};
 
     /// Begins a load.
@@ -23,7 +24,7 @@ impl OwnCaller {
     ) -> Option<Option<Result<(), BeginLoadError>>>
         ensures same { SameTable self.old self.new }
         ensures range { MatchOption result ((slots (row_of self.old).world ≤ slot) × (self.new ≡ self.old)) (λ _. slot < slots (row_of self.old).world) }
-        ensures call { IfSome result (λ o. MatchOption o (self.new ≡ self.old) (λ r. MadeOneCall (row_of self.old) 0 name_is.Book (Call.BeginLoad slot) (reply_of begin_load_refusal r) self.old.book.pass self.new.book.pass)) }
+        ensures call { IfSome result (λ o. MatchOption o (BookMissed tries self.old self.new) (λ r. MadeOneCall (row_of self.old) 0 name_is.Book (Call.BeginLoad slot) (reply_of begin_load_refusal r) self.old.book.pass self.new.book.pass)) }
         ensures leaves { self.new.leaves ≡ self.old.leaves }
     {
         if slot >= self.slots() {
@@ -45,7 +46,7 @@ impl OwnCaller {
     ) -> Option<Option<Result<(), EndLoadError>>>
         ensures same { SameTable self.old self.new }
         ensures range { MatchOption result ((slots (row_of self.old).world ≤ slot) × (self.new ≡ self.old)) (λ _. slot < slots (row_of self.old).world) }
-        ensures call { IfSome result (λ o. MatchOption o (self.new ≡ self.old) (λ r. MadeOneCall (row_of self.old) 0 name_is.Book (Call.EndLoad slot ok) (reply_of end_load_refusal r) self.old.book.pass self.new.book.pass)) }
+        ensures call { IfSome result (λ o. MatchOption o (BookMissed tries self.old self.new) (λ r. MadeOneCall (row_of self.old) 0 name_is.Book (Call.EndLoad slot ok) (reply_of end_load_refusal r) self.old.book.pass self.new.book.pass)) }
         ensures leaves { self.new.leaves ≡ self.old.leaves }
     {
         if slot >= self.slots() {
@@ -63,7 +64,7 @@ impl OwnCaller {
     ) -> Option<Option<Result<(), BeginDrainError>>>
         ensures same { SameTable self.old self.new }
         ensures range { MatchOption result ((slots (row_of self.old).world ≤ slot) × (self.new ≡ self.old)) (λ _. slot < slots (row_of self.old).world) }
-        ensures call { IfSome result (λ o. MatchOption o (self.new ≡ self.old) (λ r. MadeOneCall (row_of self.old) 0 name_is.Book (Call.BeginDrain slot) (reply_of begin_drain_refusal r) self.old.book.pass self.new.book.pass)) }
+        ensures call { IfSome result (λ o. MatchOption o (BookMissed tries self.old self.new) (λ r. MadeOneCall (row_of self.old) 0 name_is.Book (Call.BeginDrain slot) (reply_of begin_drain_refusal r) self.old.book.pass self.new.book.pass)) }
         ensures leaves { self.new.leaves ≡ self.old.leaves }
     {
         if slot >= self.slots() {
@@ -81,7 +82,7 @@ impl OwnCaller {
     ) -> Option<Option<Result<(), BeginRemoveError>>>
         ensures same { SameTable self.old self.new }
         ensures range { MatchOption result ((slots (row_of self.old).world ≤ slot) × (self.new ≡ self.old)) (λ _. slot < slots (row_of self.old).world) }
-        ensures call { IfSome result (λ o. MatchOption o (self.new ≡ self.old) (λ r. MadeOneCall (row_of self.old) 0 name_is.Book (Call.BeginRemove slot) (reply_of begin_remove_refusal r) self.old.book.pass self.new.book.pass)) }
+        ensures call { IfSome result (λ o. MatchOption o (BookMissed tries self.old self.new) (λ r. MadeOneCall (row_of self.old) 0 name_is.Book (Call.BeginRemove slot) (reply_of begin_remove_refusal r) self.old.book.pass self.new.book.pass)) }
         ensures leaves { self.new.leaves ≡ self.old.leaves }
     {
         if slot >= self.slots() {
@@ -99,7 +100,7 @@ impl OwnCaller {
     ) -> Option<Option<Result<(), EndRemoveError>>>
         ensures same { SameTable self.old self.new }
         ensures range { MatchOption result ((slots (row_of self.old).world ≤ slot) × (self.new ≡ self.old)) (λ _. slot < slots (row_of self.old).world) }
-        ensures call { IfSome result (λ o. MatchOption o (self.new ≡ self.old) (λ r. MadeOneCall (row_of self.old) 0 name_is.Book (Call.EndRemove slot) (reply_of end_remove_refusal r) self.old.book.pass self.new.book.pass)) }
+        ensures call { IfSome result (λ o. MatchOption o (BookMissed tries self.old self.new) (λ r. MadeOneCall (row_of self.old) 0 name_is.Book (Call.EndRemove slot) (reply_of end_remove_refusal r) self.old.book.pass self.new.book.pass)) }
         ensures leaves { self.new.leaves ≡ self.old.leaves }
     {
         if slot >= self.slots() {
@@ -116,7 +117,7 @@ impl OwnCaller {
     pub fn state(&mut self, slot: usize, tries: u32) -> Option<Option<ModuleState>>
         ensures same { SameTable self.old self.new }
         ensures range { MatchOption result ((slots (row_of self.old).world ≤ slot) × (self.new ≡ self.old)) (λ _. slot < slots (row_of self.old).world) }
-        ensures shown { IfSome result (λ o. MatchOption o (self.new ≡ self.old) (λ r. MadeNoCall (row_of self.old) 0 (IsInState slot r) self.old.book.pass self.new.book.pass)) }
+        ensures shown { IfSome result (λ o. MatchOption o (BookMissed tries self.old self.new) (λ r. MadeNoCall (row_of self.old) 0 (IsInState slot r) self.old.book.pass self.new.book.pass)) }
         ensures leaves { self.new.leaves ≡ self.old.leaves }
     {
         if slot >= self.slots() {
@@ -133,7 +134,7 @@ impl OwnCaller {
     /// How many modules are loaded, in any state. The turn makes no call. None: the lock was taken at each try.
     pub fn loaded(&mut self, tries: u32) -> Option<usize>
         ensures same { SameTable self.old self.new }
-        ensures shown { MatchOption result (self.new ≡ self.old) (λ r. MadeNoCall (row_of self.old) 0 (HasLoaded r) self.old.book.pass self.new.book.pass) }
+        ensures shown { MatchOption result (BookMissed tries self.old self.new) (λ r. MadeNoCall (row_of self.old) 0 (HasLoaded r) self.old.book.pass self.new.book.pass) }
         ensures leaves { self.new.leaves ≡ self.old.leaves }
     {
         self.table.try_book_turn(&mut self.caller, tries, |book| {
@@ -146,7 +147,7 @@ impl OwnCaller {
     /// try. The inner None: no more modules are loaded.
     pub fn loaded_at(&mut self, place: usize, tries: u32) -> Option<Option<usize>>
         ensures same { SameTable self.old self.new }
-        ensures shown { MatchOption result (self.new ≡ self.old) (λ o. MadeNoCall (row_of self.old) 0 (Has place o) self.old.book.pass self.new.book.pass) }
+        ensures shown { MatchOption result (BookMissed tries self.old self.new) (λ o. MadeNoCall (row_of self.old) 0 (Has place o) self.old.book.pass self.new.book.pass) }
         ensures leaves { self.new.leaves ≡ self.old.leaves }
     {
         self.table.try_book_turn(&mut self.caller, tries, |book| {

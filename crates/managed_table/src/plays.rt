@@ -14,6 +14,15 @@ impl<T: Keyed> Play<T, Passes> for Seize<T> {
     ghost then = { Seizes T.fits T.seen };
 }
 
+/// A look at a lock's word, which shows whether the lock is taken.
+pub(crate) struct Look;
+
+impl<T> Play<T, Passes> for Look {
+    ghost use Rattle.managed_table.specs.Turns.{Looks};
+
+    ghost then = { Looks };
+}
+
 pub(crate) struct Release<T> {
     marker: PhantomData<T>,
 }

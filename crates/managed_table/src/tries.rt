@@ -5,15 +5,15 @@ ghost use Rattle.dep_index.specs.Refusals.{reply_of, get_refusal};
 ghost use Rattle.root_row.specs.World.{slots};
 ghost use Rattle.root_row.specs.declared.view.SeatName.TheVariants as name_is;
 ghost use Rattle.managed_table.specs.Kept.{seen, leaf_fits, book_fits};
-ghost use Rattle.managed_table.specs.Turns.{HasTaken, MadeTurn, MadeOneCall, MadeNoCall, alone, pass_of, with_turns, turn_of, seen_in_hand};
+ghost use Rattle.managed_table.specs.Turns.{HasTaken, IsSame, Misses, MadeTurn, MadeOneCall, MadeNoCall, alone, pass_of, with_misses, with_turns, turn_of, seen_in_hand};
 ghost use Rattle.managed_table.specs.Passes.{IsFree, HasInHand, MayActOn};
 ghost use Rattle.managed_table.specs.Shown.{HoldsSoOften};
-ghost use Rattle.managed_table.specs.Callers.{IsCallerOf};
+ghost use Rattle.managed_table.specs.Callers.{IsCallerOf, LeafMissed, BookMissed};
 
 use crate::caller::Caller;
 use crate::keyed::Keyed;
 use crate::locks::{FREE, Locks, WORDS_APART};
-use crate::plays::Release;
+use crate::plays::{Look, Release};
 use crate::table::ManagedTable;
 use crate::view::Passes;
 use atomic_table::Seat;
@@ -22,27 +22,39 @@ use module_table::Book;
 use use_indicator::Leaf;
 
 impl<T: Keyed + Drop> Locks<T> {
+    // Whether the lock is free, at a look at its word.
+    #[inline(always)]
+    fn is_free(&self, seat: &mut Seat<T, Passes>, lock: usize) -> bool
+        requires inside { lock < self.now.table.shared.key.locks }
+        requires free { IsFree self.now.table.shared.table_id self.now.table.shared.key.row.value seat.old }
+        ensures id { seat.new.table_id ≡ seat.old.table_id }
+        ensures told { MatchBool result (IsSame seat.old.me seat.new.me) (Misses lock 1 seat.old.me seat.new.me) }
+    {
+        let shared = &self.table.shared;
+        shared.load::<Look>(seat, (lock + 1) * WORDS_APART) == FREE
+    }
+
     // Takes the lock where it is free.
     #[inline(always)]
     fn take_free(&self, seat: &mut Seat<T, Passes>, lock: usize) -> bool
         requires inside { lock < self.now.table.shared.key.locks }
         requires free { IsFree self.now.table.shared.table_id self.now.table.shared.key.row.value seat.old }
         ensures id { seat.new.table_id ≡ seat.old.table_id }
-        ensures told { MatchBool result (HasTaken T.fits T.seen lock (pass_of seat.old.me.0) seat.new.me) ((seat.new.me.0 ≡ seat.old.me.0) × (seat.new.me.1 ≡ seat.old.me.1)) }
+        ensures told { MatchBool result (HasTaken T.fits T.seen lock (pass_of seat.old.me.0) seat.new.me) (Misses lock 1 seat.old.me seat.new.me) }
     {
-        if self.table.shared.peek((lock + 1) * WORDS_APART) != FREE {
+        if !self.is_free(seat, lock) {
             return false;
         }
         self.try_take(seat, lock)
     }
 
-    // Takes the lock in at most so many tries.
+    // Takes the lock in at most so many tries. Else it was found taken at each.
     #[inline(always)]
     pub(crate) fn take_within(&self, seat: &mut Seat<T, Passes>, lock: usize, tries: u32) -> bool
         requires inside { lock < self.now.table.shared.key.locks }
         requires free { IsFree self.now.table.shared.table_id self.now.table.shared.key.row.value seat.old }
         ensures id { seat.new.table_id ≡ seat.old.table_id }
-        ensures told { MatchBool result (HasTaken T.fits T.seen lock (pass_of seat.old.me.0) seat.new.me) ((seat.new.me.0 ≡ seat.old.me.0) × (seat.new.me.1 ≡ seat.old.me.1)) }
+        ensures told { MatchBool result (HasTaken T.fits T.seen lock (pass_of seat.old.me.0) seat.new.me) (Misses lock tries seat.old.me seat.new.me) }
     {
         for _ in 0..tries {
             if self.take_free(seat, lock) {
@@ -66,8 +78,8 @@ impl<T: Keyed + Drop> Locks<T> {
         shared.swap::<Release<T>>(seat, (lock + 1) * WORDS_APART, FREE);
     }
 
-    /// As `turn`, but it never waits and wakes nobody, for locks that nobody waits for. It is None where the lock was taken at
-    /// each of so many tries, and the pass is then as it was.
+    /// As `turn`, but it never waits and wakes nobody, for locks that nobody waits for. It is None where the lock was found taken
+    /// at each of so many tries, and nothing else was done.
     #[inline(always)]
     pub fn try_turn<A, F: FnOnce(&mut T) -> A + Drop>(
         &self,
@@ -80,7 +92,7 @@ impl<T: Keyed + Drop> Locks<T> {
         requires free { IsFree self.now.table.shared.table_id self.now.table.shared.key.row.value seat.old }
         requires may { MayActOn F.FnOnce T.fits T.seen self.now.table.shared.key.row.value lock act }
         ensures free { IsFree self.now.table.shared.table_id self.now.table.shared.key.row.value seat.new }
-        ensures turn { MatchOption result (seat.new.me.0 ≡ seat.old.me.0) (λ r. MadeTurn T.fits T.seen lock (λ x y. FnOnceReturnsAtMut F.FnOnce act x r y) (pass_of seat.old.me.0) (pass_of seat.new.me.0)) }
+        ensures turn { MatchOption result (seat.new.me.0 ≡ alone (with_misses (pass_of seat.old.me.0) lock tries)) (λ r. MadeTurn T.fits T.seen lock (λ x y. FnOnceReturnsAtMut F.FnOnce act x r y) (pass_of seat.old.me.0) (pass_of seat.new.me.0)) }
     {
         if !self.take_within(seat, lock, tries) {
             return None;
@@ -92,7 +104,7 @@ impl<T: Keyed + Drop> Locks<T> {
 }
 
 impl ManagedTable {
-    /// As `try_get`, but it never waits. The middle None: the lock was taken at each try, and the caller is as it was.
+    /// As `try_get`, but it never waits. The middle None: the lock was found taken at each try, and nothing else was done.
     pub(crate) fn get_within(
         &self,
         caller: &mut Caller,
@@ -103,7 +115,7 @@ impl ManagedTable {
         requires own { IsCallerOf self.now caller.old }
         ensures own { IsCallerOf self.now caller.new }
         ensures range { MatchOption result (((self.now.row.world.workers ≤ worker) ⊎ (slots self.now.row.world ≤ slot)) × (caller.new ≡ caller.old)) (λ _. (worker < self.now.row.world.workers) × (slot < slots self.now.row.world)) }
-        ensures call { IfSome result (λ o. MatchOption o (caller.new ≡ caller.old) (λ a. IfSome a (λ r. MadeOneCall self.now.row worker (name_is.Leaf worker) (Call.Get worker slot) (reply_of get_refusal r) caller.old.leaves.pass caller.new.leaves.pass))) }
+        ensures call { IfSome result (λ o. MatchOption o (LeafMissed worker tries caller.old caller.new) (λ a. IfSome a (λ r. MadeOneCall self.now.row worker (name_is.Leaf worker) (Call.Get worker slot) (reply_of get_refusal r) caller.old.leaves.pass caller.new.leaves.pass))) }
         ensures missed { IfSome result (λ o. IfSome o (λ a. IfNone a (MadeNoCall self.now.row worker (HoldsSoOften worker slot 0) caller.old.leaves.pass caller.new.leaves.pass))) }
         ensures book { caller.new.book ≡ caller.old.book }
     {
@@ -114,7 +126,7 @@ impl ManagedTable {
         })
     }
 
-    // As leaf_turn, but the inner None: the lock was taken at each of so many tries, and the caller is as it was.
+    // As leaf_turn, but the inner None: the lock was found taken at each of so many tries, and nothing else was done.
     #[inline(always)]
     pub(crate) fn try_leaf_turn<A, F: FnOnce(&mut Leaf) -> A + Drop>(
         &self,
@@ -128,7 +140,7 @@ impl ManagedTable {
         requires may { slot < slots self.now.row.world → MayActOn F.FnOnce leaf_fits seen self.now.row worker act }
         ensures own { IsCallerOf self.now caller.new }
         ensures range { MatchOption result (((self.now.row.world.workers ≤ worker) ⊎ (slots self.now.row.world ≤ slot)) × (caller.new ≡ caller.old)) (λ _. (worker < self.now.row.world.workers) × (slot < slots self.now.row.world)) }
-        ensures turn { IfSome result (λ o. MatchOption o (caller.new ≡ caller.old) (λ r. MadeTurn leaf_fits seen worker (λ x y. FnOnceReturnsAtMut F.FnOnce act x r y) caller.old.leaves.pass caller.new.leaves.pass)) }
+        ensures turn { IfSome result (λ o. MatchOption o (LeafMissed worker tries caller.old caller.new) (λ r. MadeTurn leaf_fits seen worker (λ x y. FnOnceReturnsAtMut F.FnOnce act x r y) caller.old.leaves.pass caller.new.leaves.pass)) }
         ensures book { caller.new.book ≡ caller.old.book }
     {
         if worker >= self.leaves.count() || slot >= self.row.slots() {
@@ -137,7 +149,7 @@ impl ManagedTable {
         Some(self.leaves.try_turn(&mut caller.leaves, worker, tries, act))
     }
 
-    // As book_turn, but None: the lock was taken at each of so many tries, and the caller is as it was.
+    // As book_turn, but None: the lock was found taken at each of so many tries, and nothing else was done.
     #[inline(always)]
     pub(crate) fn try_book_turn<A, F: FnOnce(&mut Book) -> A + Drop>(
         &self,
@@ -148,7 +160,7 @@ impl ManagedTable {
         requires own { IsCallerOf self.now caller.old }
         requires may { MayActOn F.FnOnce book_fits seen self.now.row 0 act }
         ensures own { IsCallerOf self.now caller.new }
-        ensures turn { MatchOption result (caller.new ≡ caller.old) (λ r. MadeTurn book_fits seen 0 (λ x y. FnOnceReturnsAtMut F.FnOnce act x r y) caller.old.book.pass caller.new.book.pass) }
+        ensures turn { MatchOption result (BookMissed tries caller.old caller.new) (λ r. MadeTurn book_fits seen 0 (λ x y. FnOnceReturnsAtMut F.FnOnce act x r y) caller.old.book.pass caller.new.book.pass) }
         ensures leaves { caller.new.leaves ≡ caller.old.leaves }
     {
         self.book.try_turn(&mut caller.book, 0, tries, act)

@@ -17,12 +17,14 @@ pub struct Taken {
     pub before: LinkedList<SeatAnswer>,
 }
 
-/// The row that the locks are of, and the pass's number. The lock that it has taken, and its turns, the oldest first.
+/// The row that the locks are of, and the pass's number. The lock that it has taken, and its turns, the oldest first. And the
+/// locks that it found taken, one for each time, the last first.
 pub struct Pass {
     pub row: Snapshot<Row>,
     pub number: u64,
     pub taken: Option<Taken>,
     pub turns: LinkedList<Turn>,
+    pub missed: LinkedList<usize>,
 }
 
 /// What a seat at the locks knows: a caller's has one pass, that of two which are put together has two, a spent one's has none.

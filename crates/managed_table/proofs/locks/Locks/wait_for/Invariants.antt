@@ -1,4 +1,5 @@
-use Rattle.std.proofs.Common.{◌≡◌}
+use Rattle.std.proofs.Common.{◌≡◌, ℕ}
+use Rattle.managed_table.specs.Turns.{Misses}
 use Rattle.managed_table.specs.Passes.{IsFree}
 use Rattle.managed_table.proofs.locks.Locks.wait_for.Given as goal
 
@@ -7,5 +8,5 @@ invariant-loop g l = record {
   turns : (goal.iterator-loop g).can_next l.iterator' × (goal.iterator-loop g).is_finite l.iterator';
   free : IsFree l.self.table.shared.table_id l.self.table.shared.key.row.value l.seat;
   id : l.seat.table_id ≡ l.fn.seat.table_id;
-  view : l.seat.me.0 ≡ l.fn.seat.me.0;
+  missed : (times : ℕ) × Misses l.lock times l.fn.seat.me l.seat.me;
 }

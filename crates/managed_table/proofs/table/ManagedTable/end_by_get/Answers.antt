@@ -1,4 +1,4 @@
-use Rattle.std.proofs.Common.{◌∷◌, refl, sym, ap, subst}
+use Rattle.std.proofs.Common.{◌∷◌, refl, ap, subst}
 use Rattle.atomic_table.specs.Table.{rest}
 use Rattle.root_row.specs.Seats.{RowIs, IsOf}
 use Rattle.managed_table.specs.Callers.{ManagedIs}

@@ -1,0 +1,17 @@
+use Rattle.std.proofs.Common.{ap, subst}
+use Rattle.dep_index.specs.declared.calls.Call.TheVariants.{Put}
+use Rattle.dep_index.specs.Refusals.{reply_of, put_refusal}
+use Rattle.root_row.specs.declared.view.SeatName.TheVariants as name_is
+use Rattle.managed_table.specs.Turns.{pass_of, MadeOneCall}
+use Rattle.managed_table.specs.Callers.{CallerIs}
+use Rattle.managed_table.proofs.Missing.{made_later}
+use Rattle.managed_table.proofs.table.ManagedTable.put.Goals as goal
+
+pub returns-then-not-try_take-clause-call : goal.returns-then-not-try_take-clause-call
+returns-then-not-try_take-clause-call g c =
+    let row = c.args.self.now.row in
+    let call = Put c.args.worker c.args.slot in
+    let reply = reply_of put_refusal c.wait_and_put.result in
+    let after = pass_of c.wait_and_put.new.seat.me.0 in
+    subst (λ (k : CallerIs). MadeOneCall row c.args.worker (name_is.Leaf c.args.worker) call reply k.leaves.pass after) c.caller.view_is
+    (made_later row c.args.worker 1 (name_is.Leaf c.args.worker) call reply (pass_of c.caller.inside.leaves.me.0) (pass_of c.try_take.new.seat.me.0) after (ap pass_of c.if-not-try_take.ensures.told.0) c.wait_and_put.ensures.turn.made)
