@@ -25,11 +25,21 @@ pub enum Failure {
 
 /// The answer to a query: what is written to standard output, what failed, in order, and whether the status is 1 and
 /// not 0. A failure without effect on the status is possible.
-#[derive(Drop)]
 pub struct Answer {
     pub(crate) output: Vec<u8>,
     pub(crate) failures: Vec<Failure>,
     pub(crate) failed: bool,
+}
+
+// By hand, since a derived drop is written out, and proved, at each place where a value is let go.
+impl Drop for Answer {
+    fn drop(self) {
+        let Answer {
+            output: _,
+            failures: _,
+            failed: _,
+        } = self;
+    }
 }
 
 impl Model for Answer {
@@ -87,13 +97,7 @@ impl Answer {
     pub(crate) fn failing(alloc: Global, failure: Failure) -> Result<Answer, AllocError>
         ensures { IfOk result (λ answer. answer ≡ failing failure) }
     {
-        let mut failures = Vec::new(alloc);
-        failures.push(failure)?;
-        Ok(Answer {
-            output: Vec::new(alloc),
-            failures,
-            failed: true,
-        })
+        Answer::noted(alloc, false, failure)
     }
 
     /// A failure that counts for the status where it is not that of a soft item.
@@ -147,18 +151,9 @@ impl Answer {
     pub(crate) fn and_also(self, next: Answer) -> Result<Answer, AllocError>
         ensures { IfOk result (λ answer. answer ≡ and_also self next) }
     {
-        let had_failed = self.has_failed();
-        let both = self.and_then(next)?;
-        let failed = had_failed || both.has_failed();
-        let Answer {
-            output,
-            failures,
-            failed: _,
-        } = both;
-        Ok(Answer {
-            output,
-            failures,
-            failed,
-        })
+        let had_failed = self.failed;
+        let mut both = self.and_then(next)?;
+        both.failed = had_failed || both.failed;
+        Ok(both)
     }
 }

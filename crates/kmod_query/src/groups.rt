@@ -4,7 +4,7 @@ ghost use Rattle.std.specs.List.{flat_map};
 ghost use Rattle.kmod_query.specs.Objects.{alias_of};
 ghost use Rattle.kmod_query.specs.Shown.{shown_index, text_of_key, with_index_line, without_key, with_text};
 
-use crate::lines::line;
+use crate::lines::push_line;
 use kmod_index::IndexLine;
 use std::alloc::{AllocError, Global};
 use std::collections::BTreeMap;
@@ -66,20 +66,18 @@ impl Groups {
     {
         let had = self.take(own.key());
         let mut text = or_empty(alloc, had);
-        let mut one = line(alloc, b"alias ", own.key(), own.name())?;
-        text.append(&mut one)?;
+        push_line(&mut text, b"alias ", own.key(), own.name())?;
         self.put(alloc, own.key(), text)
     }
 
-    /// The texts, in the order of their keys.
-    fn text(&self, alloc: Global) -> Result<Vec<u8>, AllocError>
-        ensures { IfOk result (λ text. text.items ≡ flat_map (λ group. group.1) self.now) }
+    /// Adds the texts to lines, in the order of their keys.
+    fn push_to(&self, lines: &mut Vec<u8>) -> Result<(), AllocError>
+        ensures { OnOk result (lines.new.items ≡ lines.old.items ++ flat_map (λ group. group.1) self.now) }
     {
-        let mut lines = Vec::new(alloc);
         'texts: for text in self.texts.values() {
             lines.extend_from_slice(text)?;
         }
-        Ok(lines)
+        Ok(())
     }
 }
 
@@ -93,10 +91,14 @@ fn groups_of(alloc: Global, all: &[IndexLine]) -> Result<Groups, AllocError>
     Ok(groups)
 }
 
-/// The lines of an index, by their keys.
-pub(crate) fn shown_index(alloc: Global, all: &[IndexLine]) -> Result<Vec<u8>, AllocError>
-    ensures { IfOk result (λ text. text.items ≡ shown_index all.now) }
+/// Adds the lines of an index, by their keys.
+pub(crate) fn push_index(
+    alloc: Global,
+    lines: &mut Vec<u8>,
+    all: &[IndexLine],
+) -> Result<(), AllocError>
+    ensures { OnOk result (lines.new.items ≡ lines.old.items ++ shown_index all.now) }
 {
     let groups = groups_of(alloc, all)?;
-    groups.text(alloc)
+    groups.push_to(lines)
 }

@@ -1,5 +1,5 @@
 //! The lines that load a module, with its options.
-ghost use Rattle.std.specs.Prelude.{◌≡◌, ◌++◌, ◌∷◌, [], codes, IfOk, option_copied};
+ghost use Rattle.std.specs.Prelude.{◌≡◌, ◌++◌, ◌∷◌, [], codes, IfOk, OnOk, option_copied};
 ghost use Rattle.kmod_query.specs.Facts.{Facts};
 ghost use Rattle.kmod_query.specs.Lines.{command_of, has_soft_items, is_built_in, is_commandless, is_in_kernel, is_live};
 ghost use Rattle.kmod_query.specs.Lines.{is_live_state, line, line_by, load_line, option_text, own_parameters};
@@ -88,19 +88,27 @@ fn command_of<'a>(
     Ok(text_in(line))
 }
 
-pub(crate) fn line(
-    alloc: Global,
+/// Adds a line.
+pub(crate) fn push_line(
+    text: &mut Vec<u8>,
     verb: &[u8],
     what: &[u8],
     options: &[u8],
-) -> Result<Vec<u8>, AllocError>
-    ensures { IfOk result (λ text. text.items ≡ line verb.now what.now options.now) }
+) -> Result<(), AllocError>
+    ensures { OnOk result (text.new.items ≡ text.old.items ++ line verb.now what.now options.now) }
 {
-    let mut text = Vec::from_slice(alloc, verb)?;
+    text.extend_from_slice(verb)?;
     text.extend_from_slice(what)?;
     text.push(b' ')?;
     text.extend_from_slice(options)?;
-    text.push(b'\n')?;
+    text.extend_from_slice(b"\n")
+}
+
+fn line(alloc: Global, verb: &[u8], what: &[u8], options: &[u8]) -> Result<Vec<u8>, AllocError>
+    ensures { IfOk result (λ text. text.items ≡ line verb.now what.now options.now) }
+{
+    let mut text = Vec::new(alloc);
+    push_line(&mut text, verb, what, options)?;
     Ok(text)
 }
 

@@ -1,6 +1,6 @@
 //! What a name stands for, and which of such things a load has met.
 ghost use Rattle.std.specs.Prelude.{◌≡◌, ◌++◌, ◌∷◌, [], IfOk, OnOk, not};
-ghost use Rattle.kmod_query.specs.Objects.{alias_of, has, is_same, object_of, with_object};
+ghost use Rattle.kmod_query.specs.Objects.{alias_of, has, is_same, object_of, object_with, with_object};
 
 use indexmap::IndexSet;
 use std::alloc::{AllocError, Global};
@@ -8,12 +8,26 @@ use std::marker::Model;
 
 /// A module, and the alias by which it was found, where it was by one. `builtin` says that this was an alias of
 /// modules.builtin.modinfo.
-#[derive(Debug, Drop, PartialEq, Eq)]
+#[derive(Debug, PartialEq, Eq)]
 pub struct Object {
     pub name: Vec<u8>,
     pub alias: Option<Vec<u8>>,
     pub builtin: bool,
 }
+
+// By hand, since a derived drop is written out, and proved, at each place where a value is let go.
+impl Drop for Object {
+    fn drop(self) {
+        let Object {
+            name: _,
+            alias: _,
+            builtin: _,
+        } = self;
+    }
+}
+
+/// The parts of an object, by which it is told from others.
+type Key = (Vec<u8>, Option<Vec<u8>>, bool);
 
 fn copy_alias(alloc: Global, alias: &Option<Vec<u8>>) -> Result<Option<Vec<u8>>, AllocError>
     ensures { IfOk result (λ copied. alias_of copied ≡ alias_of alias.now) }
@@ -41,10 +55,18 @@ impl Object {
             builtin: self.builtin,
         })
     }
-}
 
-/// The parts of an object, by which it is told from others.
-type Key = (Vec<u8>, Option<Vec<u8>>, bool);
+    fn into_key(self) -> Key
+        ensures { object_with result ≡ object_of self }
+    {
+        let Object {
+            name,
+            alias,
+            builtin,
+        } = self;
+        (name, alias, builtin)
+    }
+}
 
 /// Objects that were met, each once.
 #[derive(Drop)]
@@ -76,7 +98,7 @@ impl Met {
         ensures met { OnOk result (self.new ≡ with_object self.old (object_of object.now)) }
     {
         let own = object.copy(alloc)?;
-        let key = (own.name, own.alias, own.builtin);
+        let key = own.into_key();
         Ok(self.objects.insert(key)?)
     }
 }

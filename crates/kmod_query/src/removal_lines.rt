@@ -1,8 +1,8 @@
 //! The lines that remove an object.
-ghost use Rattle.std.specs.Prelude.{◌≡◌, ◌++◌, ◌∷◌, [], codes, nat_eq, IfOk};
+ghost use Rattle.std.specs.Prelude.{◌≡◌, ◌++◌, ◌∷◌, [], codes, nat_eq, IfOk, OnOk};
 ghost use Rattle.std.specs.List.{flat_map, starts_with};
 ghost use Rattle.kmod_query.specs.Objects.{names_of, object_of};
-ghost use Rattle.kmod_query.specs.Removal.{option_mark, removal_lines, rmmod_line, unmarked, unused_line};
+ghost use Rattle.kmod_query.specs.Removal.{option_mark, removal_command, removal_lines, removal_lines_by, rmmod_line, unmarked, unused_line};
 ghost use Rattle.kmod_query.specs.World.{facts_of};
 
 use crate::object::Object;
@@ -17,11 +17,10 @@ fn starts_with_mark(text: &[u8]) -> bool
     text.starts_with(b"$CMDLINE_OPTS")
 }
 
-/// A command without the mark that stands for options.
-fn unmarked(alloc: Global, command: &[u8]) -> Result<Vec<u8>, AllocError>
-    ensures { IfOk result (λ text. text.items ≡ unmarked command.now) }
+/// Adds a command without the mark that stands for options.
+fn push_unmarked(text: &mut Vec<u8>, command: &[u8]) -> Result<(), AllocError>
+    ensures { OnOk result (text.new.items ≡ text.old.items ++ unmarked command.now) }
 {
-    let mut text = Vec::new(alloc);
     let mut skipped = 0usize;
     let mut rest = command;
     'bytes: while let Some((byte, later)) = rest.split_first() {
@@ -34,58 +33,73 @@ fn unmarked(alloc: Global, command: &[u8]) -> Result<Vec<u8>, AllocError>
         }
         rest = later;
     }
-    Ok(text)
+    Ok(())
 }
 
-fn rmmod_line(alloc: Global, name: &[u8]) -> Result<Vec<u8>, AllocError>
-    ensures { IfOk result (λ text. text.items ≡ rmmod_line name.now) }
+fn push_rmmod(lines: &mut Vec<u8>, name: &[u8]) -> Result<(), AllocError>
+    ensures { OnOk result (lines.new.items ≡ lines.old.items ++ rmmod_line name.now) }
 {
-    let mut text = Vec::from_slice(alloc, b"rmmod ")?;
-    text.extend_from_slice(name)?;
-    text.push(b'\n')?;
-    Ok(text)
+    lines.extend_from_slice(b"rmmod ")?;
+    lines.extend_from_slice(name)?;
+    lines.extend_from_slice(b"\n")
 }
 
-fn unused_line(alloc: Global, world: &World, name: &[u8]) -> Result<Vec<u8>, AllocError>
-    ensures { IfOk result (λ text. text.items ≡ unused_line (facts_of world.now) name.now) }
+fn push_unused(lines: &mut Vec<u8>, world: &World, name: &[u8]) -> Result<(), AllocError>
+    ensures { OnOk result (lines.new.items ≡ lines.old.items ++ unused_line (facts_of world.now) name.now) }
 {
     if has_no_users(status_of(world, name)) {
-        return rmmod_line(alloc, name);
+        return push_rmmod(lines, name);
     }
-    Ok(Vec::new(alloc))
+    Ok(())
 }
 
-/// The lines that remove those of the modules that have no users.
-fn unused_lines(alloc: Global, world: &World, names: &[Vec<u8>]) -> Result<Vec<u8>, AllocError>
-    ensures { IfOk result (λ text. text.items ≡ flat_map (unused_line (facts_of world.now)) (names_of names.now)) }
+/// Adds the lines that remove those of the modules that have no users.
+fn push_all_unused(lines: &mut Vec<u8>, world: &World, names: &[Vec<u8>]) -> Result<(), AllocError>
+    ensures { OnOk result (lines.new.items ≡ lines.old.items ++ flat_map (unused_line (facts_of world.now)) (names_of names.now)) }
 {
-    let mut lines = Vec::new(alloc);
     'names: for name in names {
-        let mut own = unused_line(alloc, world, name)?;
-        lines.append(&mut own)?;
+        push_unused(lines, world, name)?;
     }
-    Ok(lines)
+    Ok(())
 }
 
-fn command_line(alloc: Global, command: &[u8]) -> Result<Vec<u8>, AllocError>
-    ensures { IfOk result (λ text. text.items ≡ codes "remove " ++ unmarked command.now ++ (10 ∷ [])) }
+fn push_command(lines: &mut Vec<u8>, command: &[u8]) -> Result<(), AllocError>
+    ensures { OnOk result (lines.new.items ≡ lines.old.items ++ codes "remove " ++ unmarked command.now ++ (10 ∷ [])) }
 {
-    let mut text = Vec::from_slice(alloc, b"remove ")?;
-    let mut own = unmarked(alloc, command)?;
-    text.append(&mut own)?;
-    text.push(b'\n')?;
-    Ok(text)
+    lines.extend_from_slice(b"remove ")?;
+    push_unmarked(lines, command)?;
+    lines.extend_from_slice(b"\n")
 }
 
-fn module_lines(alloc: Global, world: &World, object: &Object) -> Result<Vec<u8>, AllocError>
-    ensures { IfOk result (λ text. text.items ≡ rmmod_line (object_of object.now).name
+fn push_module(
+    alloc: Global,
+    lines: &mut Vec<u8>,
+    world: &World,
+    object: &Object,
+) -> Result<(), AllocError>
+    ensures { OnOk result (lines.new.items ≡ lines.old.items ++ rmmod_line (object_of object.now).name
         ++ flat_map (unused_line (facts_of world.now)) ((facts_of world.now).needs (object_of object.now).name)) }
 {
-    let mut lines = rmmod_line(alloc, &object.name)?;
+    push_rmmod(lines, &object.name)?;
     let needs = needs_of(alloc, world, &object.name)?;
-    let mut others = unused_lines(alloc, world, &needs)?;
-    lines.append(&mut others)?;
-    Ok(lines)
+    push_all_unused(lines, world, &needs)
+}
+
+/// Adds the lines that remove an object, by its command or without one.
+fn push_removal(
+    alloc: Global,
+    lines: &mut Vec<u8>,
+    world: &World,
+    query: &Query,
+    object: &Object,
+) -> Result<(), AllocError>
+    ensures { OnOk result (lines.new.items ≡ lines.old.items
+        ++ removal_lines_by (facts_of world.now) (object_of object.now) (removal_command (facts_of world.now) query.now (object_of object.now))) }
+{
+    match removal_command(alloc, world, query, object)? {
+        Some(command) => push_command(lines, command),
+        None => push_module(alloc, lines, world, object),
+    }
 }
 
 /// The lines that remove an object.
@@ -100,8 +114,7 @@ pub(crate) fn removal_lines(
     if !shows_removal(query) {
         return Ok(Vec::new(alloc));
     }
-    match removal_command(alloc, world, query, object)? {
-        Some(command) => command_line(alloc, command),
-        None => module_lines(alloc, world, object),
-    }
+    let mut lines = Vec::new(alloc);
+    push_removal(alloc, &mut lines, world, query, object)?;
+    Ok(lines)
 }

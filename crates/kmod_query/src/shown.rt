@@ -4,20 +4,13 @@ ghost use Rattle.std.specs.List.{flat_map};
 ghost use Rattle.kmod_query.specs.Shown.{alias_line, blacklist_line, marked};
 ghost use Rattle.kmod_query.specs.Shown.{shown, shown_configuration, softdep_line, spaced, text_line};
 
-use crate::groups::shown_index;
-use crate::lines::line;
+use crate::groups::push_index;
+use crate::lines::push_line;
 use crate::parameters::push_joined;
 use kmod_conf::{Conf, NameLine, SoftdepLine, TextLine};
 use kmod_index::Index;
 use kmod_names::{AliasEntry, Text};
 use std::alloc::{AllocError, Global};
-
-/// Adds lines behind others.
-fn push_lines(lines: &mut Vec<u8>, mut own: Vec<u8>) -> Result<(), AllocError>
-    ensures { OnOk result (lines.new.items ≡ lines.old.items ++ own.items) }
-{
-    lines.append(&mut own)
-}
 
 fn push_blacklist(lines: &mut Vec<u8>, own: &NameLine) -> Result<(), AllocError>
     ensures { OnOk result (lines.new.items ≡ lines.old.items ++ blacklist_line own.now) }
@@ -27,53 +20,47 @@ fn push_blacklist(lines: &mut Vec<u8>, own: &NameLine) -> Result<(), AllocError>
     lines.extend_from_slice(b"\n")
 }
 
-fn blacklist_lines(alloc: Global, all: &[NameLine]) -> Result<Vec<u8>, AllocError>
-    ensures { IfOk result (λ text. text.items ≡ flat_map blacklist_line all.now) }
+fn push_blacklists(lines: &mut Vec<u8>, all: &[NameLine]) -> Result<(), AllocError>
+    ensures { OnOk result (lines.new.items ≡ lines.old.items ++ flat_map blacklist_line all.now) }
 {
-    let mut lines = Vec::new(alloc);
     'all: for own in all {
-        push_blacklist(&mut lines, own)?;
+        push_blacklist(lines, own)?;
     }
-    Ok(lines)
+    Ok(())
 }
 
-fn text_lines(alloc: Global, verb: &[u8], all: &[TextLine]) -> Result<Vec<u8>, AllocError>
-    ensures { IfOk result (λ text. text.items ≡ flat_map (text_line verb.now) all.now) }
+fn push_texts(lines: &mut Vec<u8>, verb: &[u8], all: &[TextLine]) -> Result<(), AllocError>
+    ensures { OnOk result (lines.new.items ≡ lines.old.items ++ flat_map (text_line verb.now) all.now) }
 {
-    let mut lines = Vec::new(alloc);
     'all: for own in all {
-        let one = line(alloc, verb, own.name.as_bytes(), own.text.as_bytes())?;
-        push_lines(&mut lines, one)?;
+        push_line(lines, verb, own.name.as_bytes(), own.text.as_bytes())?;
     }
-    Ok(lines)
+    Ok(())
 }
 
-fn alias_lines(alloc: Global, all: &[AliasEntry]) -> Result<Vec<u8>, AllocError>
-    ensures { IfOk result (λ text. text.items ≡ flat_map alias_line all.now) }
+fn push_aliases(lines: &mut Vec<u8>, all: &[AliasEntry]) -> Result<(), AllocError>
+    ensures { OnOk result (lines.new.items ≡ lines.old.items ++ flat_map alias_line all.now) }
 {
-    let mut lines = Vec::new(alloc);
     'all: for own in all {
-        let one = line(
-            alloc,
+        push_line(
+            lines,
             b"alias ",
             own.pattern.as_bytes(),
             own.target.as_bytes(),
         )?;
-        push_lines(&mut lines, one)?;
     }
-    Ok(lines)
+    Ok(())
 }
 
-/// The words with blanks between them.
-fn joined_words(alloc: Global, words: &[Text]) -> Result<Vec<u8>, AllocError>
-    ensures { IfOk result (λ text. text.items ≡ spaced words.now) }
+/// Adds words, each behind a blank.
+fn push_words(text: &mut Vec<u8>, words: &[Text]) -> Result<(), AllocError>
+    ensures { OnOk result (text.new.items ≡ text.old.items ++ spaced words.now) }
 {
-    let mut text = Vec::new(alloc);
     'words: for word in words {
         text.push(b' ')?;
         text.extend_from_slice(word.as_bytes())?;
     }
-    Ok(text)
+    Ok(())
 }
 
 /// A mark and the words behind it, where there are any.
@@ -84,60 +71,50 @@ fn marked(alloc: Global, mark: &[u8], words: &[Text]) -> Result<Vec<u8>, AllocEr
         return Ok(Vec::new(alloc));
     }
     let mut text = Vec::from_slice(alloc, mark)?;
-    let mut others = joined_words(alloc, words)?;
-    text.append(&mut others)?;
+    push_words(&mut text, words)?;
     Ok(text)
 }
 
-fn softdep_line(alloc: Global, own: &SoftdepLine) -> Result<Vec<u8>, AllocError>
-    ensures { IfOk result (λ text. text.items ≡ softdep_line own.now) }
+fn push_softdep(alloc: Global, lines: &mut Vec<u8>, own: &SoftdepLine) -> Result<(), AllocError>
+    ensures { OnOk result (lines.new.items ≡ lines.old.items ++ softdep_line own.now) }
 {
     let mut items = marked(alloc, b"pre:", own.items.pre())?;
     let post = marked(alloc, b"post:", own.items.post())?;
     if !post.is_empty() {
         push_joined(&mut items, &post)?;
     }
-    line(alloc, b"softdep ", own.name.as_bytes(), &items)
+    push_line(lines, b"softdep ", own.name.as_bytes(), &items)
 }
 
-fn softdep_lines(alloc: Global, all: &[SoftdepLine]) -> Result<Vec<u8>, AllocError>
-    ensures { IfOk result (λ text. text.items ≡ flat_map softdep_line all.now) }
+fn push_softdeps(alloc: Global, lines: &mut Vec<u8>, all: &[SoftdepLine]) -> Result<(), AllocError>
+    ensures { OnOk result (lines.new.items ≡ lines.old.items ++ flat_map softdep_line all.now) }
 {
-    let mut lines = Vec::new(alloc);
     'all: for own in all {
-        let one = softdep_line(alloc, own)?;
-        push_lines(&mut lines, one)?;
+        push_softdep(alloc, lines, own)?;
     }
-    Ok(lines)
+    Ok(())
 }
 
-/// The lines of the configuration, kind by kind.
-fn shown_configuration(alloc: Global, conf: &Conf) -> Result<Vec<u8>, AllocError>
-    ensures { IfOk result (λ text. text.items ≡ shown_configuration conf.now) }
+/// Adds the lines of the configuration, kind by kind.
+fn push_configuration(alloc: Global, lines: &mut Vec<u8>, conf: &Conf) -> Result<(), AllocError>
+    ensures { OnOk result (lines.new.items ≡ lines.old.items ++ shown_configuration conf.now) }
 {
-    let mut lines = blacklist_lines(alloc, conf.blacklist())?;
-    let installs = text_lines(alloc, b"install ", conf.installs())?;
-    push_lines(&mut lines, installs)?;
-    let removes = text_lines(alloc, b"remove ", conf.removes())?;
-    push_lines(&mut lines, removes)?;
-    let aliases = alias_lines(alloc, conf.aliases())?;
-    push_lines(&mut lines, aliases)?;
-    let options = text_lines(alloc, b"options ", conf.options())?;
-    push_lines(&mut lines, options)?;
-    let softdeps = softdep_lines(alloc, conf.softdeps())?;
-    push_lines(&mut lines, softdeps)?;
-    Ok(lines)
+    push_blacklists(lines, conf.blacklist())?;
+    push_texts(lines, b"install ", conf.installs())?;
+    push_texts(lines, b"remove ", conf.removes())?;
+    push_aliases(lines, conf.aliases())?;
+    push_texts(lines, b"options ", conf.options())?;
+    push_softdeps(alloc, lines, conf.softdeps())
 }
 
 /// The configuration, the lines of modules.alias, and those of modules.symbols.
 pub(crate) fn shown(alloc: Global, conf: &Conf, index: &Index) -> Result<Vec<u8>, AllocError>
     ensures { IfOk result (λ text. text.items ≡ shown conf.now index.now) }
 {
-    let mut lines = shown_configuration(alloc, conf)?;
+    let mut lines = Vec::new(alloc);
+    push_configuration(alloc, &mut lines, conf)?;
     lines.extend_from_slice(b"\n# End of configuration files. Dumping indexes now:\n\n")?;
-    let aliases = shown_index(alloc, index.aliases().lines())?;
-    push_lines(&mut lines, aliases)?;
-    let symbols = shown_index(alloc, index.symbols().lines())?;
-    push_lines(&mut lines, symbols)?;
+    push_index(alloc, &mut lines, index.aliases().lines())?;
+    push_index(alloc, &mut lines, index.symbols().lines())?;
     Ok(lines)
 }

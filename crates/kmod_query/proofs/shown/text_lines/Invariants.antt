@@ -1,7 +1,0 @@
-use Rattle.std.proofs.Common.{◌≡◌, take}
-use Rattle.std.specs.List.{flat_map}
-use Rattle.kmod_query.specs.Shown.{text_line}
-use Rattle.kmod_query.proofs.shown.text_lines.Given as goal
-
-abbrev pub invariant-all : goal.invariant-all
-invariant-all l = l.lines.items ≡ flat_map (text_line l.verb) (take l.own-index l.all)
