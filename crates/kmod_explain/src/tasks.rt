@@ -51,21 +51,28 @@ impl Tasks {
         self.all.len()
     }
 
+    fn insert(
+        &mut self,
+        alloc: Global,
+        name: &[u8],
+        alias: &Option<Vec<u8>>,
+        needs: bool,
+    ) -> Result<(), AllocError> {
+        let alias = copy_alias(alloc, alias)?;
+        let name = Vec::from_slice(alloc, name)?;
+        self.all.insert((name, alias, needs))?;
+        Ok(())
+    }
+
     /// Adds a module that another one needs.
     pub(crate) fn add_need(&mut self, alloc: Global, name: &[u8]) -> Result<(), AllocError> {
-        let name = Vec::from_slice(alloc, name)?;
-        self.all.insert((name, None, false))?;
-        Ok(())
+        self.insert(alloc, name, &None, false)
     }
 
     /// Adds a module, and then what it needs.
     pub(crate) fn add(&mut self, alloc: Global, object: &Object) -> Result<(), AllocError> {
-        let alias = copy_alias(alloc, &object.alias)?;
-        let name = Vec::from_slice(alloc, &object.name)?;
-        self.all.insert((name, alias, false))?;
-        let name = Vec::from_slice(alloc, &object.name)?;
-        self.all.insert((name, None, true))?;
-        Ok(())
+        self.insert(alloc, &object.name, &object.alias, false)?;
+        self.insert(alloc, &object.name, &None, true)
     }
 
     /// Whether a word of a softdep line stands for a module, None where it was not told.
