@@ -8,7 +8,7 @@ use Rattle.kmod_query.specs.declared.world.World.{World}
 use Rattle.kmod_query.specs.AnswerOf.{answer_of}
 use Rattle.kmod_query.specs.Answers.{Answer}
 use Rattle.gz_modprobe_drive.specs.declared.texts.Machine.{Machine}
-use Rattle.kmod_texts.specs.Texts.{conf_of, index_of}
+use Rattle.gz_modprobe_drive.specs.Texts.{conf_of, index_of}
 
 -- what is known of a machine
 pub record Known : Type 0 where

@@ -1,3 +1,4 @@
 pub mod Answered
 pub mod Queries
 pub mod Sys
+pub mod Texts

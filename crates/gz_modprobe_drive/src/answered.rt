@@ -1,14 +1,14 @@
 //! An answer, from the texts of a machine to a stream.
 ghost use Rattle.std.specs.Prelude.{◌≡◌, IfOk, IsTrue};
 ghost use Rattle.std.specs.Io.KnownBytes.{Appends};
-ghost use Rattle.kmod_texts.specs.Texts.{IsConfOf};
 ghost use Rattle.gz_modprobe_drive.specs.Answered.{IsAnswer, known_of, said_by, status_of};
+ghost use Rattle.gz_modprobe_drive.specs.Texts.{IsConfOf};
 
 use crate::explained::explain;
+use crate::folder::index_of;
 use crate::texts::Machine;
 use kmod_conf::Conf;
 use kmod_query::{Answer, Query, World, answer_to};
-use kmod_texts::index_of;
 use modprobe_words::Messages;
 use std::alloc::{AllocError, Global};
 use std::io::Write;

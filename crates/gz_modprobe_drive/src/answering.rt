@@ -1,16 +1,16 @@
 //! How a query is answered: what is read for it, and what is told. Each thing that is read is lent onwards, so that no
 //! refusal has to drop it.
 ghost use Rattle.std.specs.Prelude.{◌≤◌, IfOk};
-ghost use Rattle.kmod_texts.specs.Texts.{IsConfOf};
+ghost use Rattle.gz_modprobe_drive.specs.Texts.{IsConfOf};
 
 use crate::answered::{Answered, answer_machine};
+use crate::configuration::conf_of;
 use crate::failures::tell_failures;
 use crate::queries::asks_states;
 use crate::sys::module_states;
 use crate::texts::Machine;
 use kmod_conf::Conf;
 use kmod_query::{Ask, Query, States};
-use kmod_texts::conf_of;
 use modprobe_files::{
     ConfTexts, Host, ModuleTexts, directory, is_rootless, read_configuration, read_modules,
 };

@@ -3,12 +3,16 @@
 
 mod answered;
 mod answering;
+mod configuration;
 mod explained;
 mod failures;
+mod folder;
 mod program;
 mod queries;
 mod refusals;
 mod sys;
 mod texts;
 
+pub use configuration::conf_of;
+pub use folder::index_of;
 pub use program::drive;

@@ -5,7 +5,7 @@ use crate::answering::answer_query;
 use crate::queries::query_of;
 use crate::refusals::refuses;
 use modprobe_files::Host;
-use modprobe_words::{Asked, Item, Messages, end_early, first_ending, read_words, variable_words};
+use modprobe_words::{Asked, Messages, end_early, first_ending, read_words, variable_words};
 use std::alloc::{AllocError, Global};
 use std::env::Env;
 use std::io::Write;
@@ -39,35 +39,6 @@ fn answer_asked<R: Files + Env + AllocGlobal, O: Write, E: Write>(
     answer_query(&host, asked, &query, output, &mut messages)
 }
 
-/// Answers what the words were read as. The status is answered.
-fn run_items<R: Files + Env + AllocGlobal, O: Write, E: Write>(
-    rt: &R,
-    items: &[Item<'_>],
-    output: &mut O,
-    errors: &mut E,
-) -> Result<u8, AllocError>
-    ensures { IfOk result (λ status. status ≤ 1) }
-{
-    if let Some(ending) = first_ending(items) {
-        return Ok(end_early(ending, output, errors));
-    }
-    let asked = Asked::by(rt.alloc(), items)?;
-    answer_asked(rt, &asked, output, errors)
-}
-
-/// Runs the program on all its words. The status is answered.
-fn run_words<R: Files + Env + AllocGlobal, O: Write, E: Write>(
-    rt: &R,
-    words: &[&[u8]],
-    output: &mut O,
-    errors: &mut E,
-) -> Result<u8, AllocError>
-    ensures { IfOk result (λ status. status ≤ 1) }
-{
-    let items = read_words(rt.alloc(), words)?;
-    run_items(rt, &items, output, errors)
-}
-
 fn add_words<'a>(all: &mut Vec<&'a [u8]>, words: &'a [Vec<u8>]) -> Result<(), AllocError> {
     for word in words {
         all.push(word.as_slice())?;
@@ -87,20 +58,6 @@ fn all_words<'a>(
     Ok(all)
 }
 
-/// Runs the program on the words of the variable, and those of the command line behind them. The status is answered.
-fn run_both<R: Files + Env + AllocGlobal, O: Write, E: Write>(
-    rt: &R,
-    own: &[Vec<u8>],
-    words: &[Vec<u8>],
-    output: &mut O,
-    errors: &mut E,
-) -> Result<u8, AllocError>
-    ensures { IfOk result (λ status. status ≤ 1) }
-{
-    let all = all_words(rt.alloc(), own, words)?;
-    run_words(rt, &all, output, errors)
-}
-
 /// Runs the program on its words and the text of MODPROBE_OPTIONS. The status is answered.
 fn run<R: Files + Env + AllocGlobal, O: Write, E: Write>(
     rt: &R,
@@ -111,8 +68,15 @@ fn run<R: Files + Env + AllocGlobal, O: Write, E: Write>(
 ) -> Result<u8, AllocError>
     ensures { IfOk result (λ status. status ≤ 1) }
 {
-    let own = variable_words(rt.alloc(), options.unwrap_or(b""))?;
-    run_both(rt, &own, words, output, errors)
+    let alloc = rt.alloc();
+    let own = variable_words(alloc, options.unwrap_or(b""))?;
+    let all = all_words(alloc, &own, words)?;
+    let items = read_words(alloc, &all)?;
+    if let Some(ending) = first_ending(&items) {
+        return Ok(end_early(ending, output, errors));
+    }
+    let asked = Asked::by(alloc, &items)?;
+    answer_asked(rt, &asked, output, errors)
 }
 
 /// Runs the program on its words, without its own name, and the text of MODPROBE_OPTIONS. It writes the answer to

@@ -1,7 +1,7 @@
 //! What the texts of a configuration say.
 ghost use Rattle.std.specs.Prelude.{◌≡◌, IfOk, OnOk, option_map};
 ghost use Rattle.kmod_conf.specs.Configuration.{conf_with_text};
-ghost use Rattle.kmod_texts.specs.Texts.{conf_from, conf_of, text_in, texts_in, with_command_line, with_texts};
+ghost use Rattle.gz_modprobe_drive.specs.Texts.{conf_from, conf_of, text_in, texts_in, with_command_line, with_texts};
 
 use kmod_conf::Conf;
 use modprobe_files::{ConfTexts, TextFile};

@@ -1,6 +1,6 @@
 use Rattle.std.proofs.Common.{◌≡◌, ◌+◌, length}
-use Rattle.kmod_texts.specs.Texts.{conf_from, texts_in}
-use Rattle.kmod_texts.proofs.configuration.add_files.Given as goal
+use Rattle.gz_modprobe_drive.specs.Texts.{conf_from, texts_in}
+use Rattle.gz_modprobe_drive.proofs.configuration.add_files.Given as goal
 
 -- the files that are left make of what is there what all make of what was there
 abbrev pub invariant-loop-file : goal.invariant-loop-file

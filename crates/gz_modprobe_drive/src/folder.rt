@@ -1,7 +1,7 @@
 //! What the texts of a folder of modules say.
 ghost use Rattle.std.specs.Prelude.{◌≡◌, IfOk};
 ghost use Rattle.kmod_index.specs.Index.{texts_in};
-ghost use Rattle.kmod_texts.specs.Texts.{folder_texts, index_of};
+ghost use Rattle.gz_modprobe_drive.specs.Texts.{folder_texts, index_of};
 
 use kmod_index::{Index, IndexTexts};
 use modprobe_files::ModuleTexts;
