@@ -16,7 +16,7 @@ const MICROSECOND: u64 = 1000;
 const ROUNDS: usize = 5;
 
 /// A round takes so many nanoseconds at least, since processor time may come in steps of some milliseconds.
-const ROUND: u64 = 50_000_000;
+const ROUND: u64 = 100_000_000;
 
 const MOST_RUNS: u64 = 1000;
 

@@ -31,27 +31,24 @@ const LOAD_AN_ALIAS: &str = "|%alias
 |modprobe xyz
 ";
 
-/// Modules of which each needs all behind it, and asks for them too; the size is the number of pairs.
-const DENSE: &str = "|%catalogue
+/// Modules of which each needs all behind it; the size is the number of pairs.
+const PAIRS: &str = "|%catalogue
 |version 3
 0P|module m@
 |%dep
 0P|k/m@.ko:[NP| k/m@.ko]
 |%conf
-0P|softdep m@ pre:[NP| m@]
-|%session
-|modprobe m0
 ";
 
-/// The same, but each asks for those before it too.
-const RINGS: &str = "|%catalogue
-|version 3
-0P|module m@
-|%dep
-0P|k/m@.ko:[NP| k/m@.ko]
-|%conf
-0P|softdep m@ pre:[NP| m@][0@| m@]
-|%session
+/// Each asks for all behind it.
+const DENSE: &str = "0P|softdep m@ pre:[NP| m@]
+";
+
+/// Each asks for all others: those behind it, and then those before it.
+const RINGS: &str = "0P|softdep m@ pre:[NP| m@][0@| m@]
+";
+
+const LOAD_THE_FIRST: &str = "|%session
 |modprobe m0
 ";
 
@@ -64,8 +61,6 @@ const CHAIN: &str = "|%catalogue
 0S|k/m@.ko:[NA| k/m@.ko]
 |%conf
 0S|softdep m@ pre: t@
-|%session
-|modprobe m0
 ";
 
 /// The same chain below soft items in a row, each of which needs it.
@@ -163,9 +158,9 @@ pub type Session = (&'static str, usize, usize, &'static [&'static str]);
 pub const SESSIONS: [Session; 13] = [
     ("long_plan", 2000, 300, &[OVER_A_CHAIN, LOAD_AN_ITEM]),
     ("longer_plan", 32_000, 12, &[OVER_A_CHAIN, LOAD_AN_ITEM]),
-    ("dense_plan", 1_000_000, 0, &[DENSE]),
-    ("rings_plan", 1_000_000, 0, &[RINGS]),
-    ("chain_plan", 20_000, 0, &[CHAIN]),
+    ("dense_plan", 1_000_000, 0, &[PAIRS, DENSE, LOAD_THE_FIRST]),
+    ("rings_plan", 1_000_000, 0, &[PAIRS, RINGS, LOAD_THE_FIRST]),
+    ("chain_plan", 20_000, 0, &[CHAIN, LOAD_THE_FIRST]),
     ("chain_below_soft_items", 20_000, 0, &[BELOW_SOFT_ITEMS]),
     ("chain_below_leaves", 20_000, 0, &[BELOW_LEAVES]),
     ("soft_items_of_a_chain", 20_000, 0, &[ITEMS_OF_A_CHAIN]),
@@ -195,8 +190,8 @@ impl Sizes {
             b'L' => size.saturating_sub(1),
             b'C' => chain,
             b'B' => chain.saturating_sub(1),
-            b'R' => root(size),
-            b'P' => root(size.saturating_mul(2)),
+            b'R' => size.isqrt(),
+            b'P' => size.saturating_mul(2).isqrt(),
             b'O' => others,
             b'@' => own,
             b'N' => own.saturating_add(1),
@@ -212,18 +207,6 @@ impl Sizes {
             _ => (0, 1),
         }
     }
-}
-
-/// The whole number whose square is next below.
-fn root(square: usize) -> usize {
-    let mut root = 0usize;
-    for step in 0..square {
-        if step.saturating_mul(step) > square {
-            return root;
-        }
-        root = step;
-    }
-    root
 }
 
 /// Adds the lines of a session.
