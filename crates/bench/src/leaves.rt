@@ -6,7 +6,8 @@ ghost use Rattle.root_row.specs.Views.{worker_of};
 ghost use Rattle.root_row.specs.Made.{new_book, new_leaf};
 ghost use Rattle.dep_index.specs.Catalogue.{modules_of};
 
-use crate::workers::{COUNT, Figure, SlotRange, Worker, measure_counts, measure_workers};
+use crate::texts::plain_catalogue;
+use crate::workers::{COUNT, Figure, SlotRange, Worker, measure_workers, worker_counts};
 use anyhow::{Result, bail};
 use crossbeam_utils::CachePadded;
 use dep_index::Catalogue;
@@ -77,8 +78,11 @@ fn make_round<R: Wait>(rt: &R, row: &Row, leaf: &mut Leaf, range: SlotRange)
 pub fn measure<R: Print + Input + Clock + AllocGlobal + Threads + Wait + Sync>(
     rt: &R,
 ) -> Result<()> {
-    let measure = |catalogue: &Catalogue, workers| measure_count(rt, catalogue, workers);
-    measure_counts(rt, measure)
+    let catalogue = plain_catalogue(rt.alloc(), COUNT)?;
+    for workers in &worker_counts(rt)? {
+        measure_count(rt, &catalogue, *workers)?;
+    }
+    Ok(())
 }
 
 fn measure_count<R: Print + Input + Clock + AllocGlobal + Threads + Wait + Sync>(

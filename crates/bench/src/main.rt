@@ -41,9 +41,7 @@ fn main(rt: HostRuntime) -> Result<ExitCode> {
         ("plans", |rt| plans::measure(rt)),
         ("points", |rt| points::measure(rt)),
     ];
-    let mut args = env::args(&rt)?;
-    let _program = args.next();
-    let Some(name) = args.next() else {
+    let Some(name) = env::args(&rt)?.nth(1) else {
         for (name, _) in &all {
             println!(rt; "{name}")?;
         }

@@ -5,7 +5,7 @@ ghost use Rattle.managed_table.specs.Callers.{IsCallerOf};
 use crate::manager;
 use crate::texts::plain_catalogue;
 use crate::workers::{
-    COUNT, CROWD, CROWDED, Figure, SlotRange, Worker, measure_beside, measure_counts,
+    COUNT, CROWD, CROWDED, Figure, SlotRange, Worker, measure_beside, worker_counts,
 };
 use anyhow::{Result, ensure};
 use dep_index::Catalogue;
@@ -106,9 +106,10 @@ impl<'a> ManagedWorker<'a> {
 pub fn measure<R: Print + Input + Clock + AllocGlobal + Threads + Wait + Sync>(
     rt: &R,
 ) -> Result<()> {
-    let measure = |catalogue: &Catalogue, workers| measure_both(rt, catalogue, workers, workers);
-    measure_counts(rt, measure)?;
     let catalogue = plain_catalogue(rt.alloc(), COUNT)?;
+    for workers in &worker_counts(rt)? {
+        measure_both(rt, &catalogue, *workers, *workers)?;
+    }
     measure_both(rt, &catalogue, CROWDED, CROWD)
 }
 

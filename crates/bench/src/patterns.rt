@@ -102,7 +102,11 @@ fn measure_look_ups<R: Print + Clock>(rt: &R, aliases: &Aliases) -> Result<()> {
 
 /// How many patterns match the device.
 fn hits(aliases: &Aliases) -> usize {
-    (0..aliases.len())
-        .filter(|&i| aliases.pattern(i).matches(DEVICE))
-        .count()
+    let mut hits: usize = 0;
+    for i in 0..aliases.len() {
+        if aliases.pattern(i).matches(DEVICE) {
+            hits = hits.wrapping_add(1);
+        }
+    }
+    hits
 }

@@ -50,11 +50,8 @@ fn measure_points<R: Print + Clock + AllocGlobal>(
 
 /// Adds the steps of a whole call of thread 0.
 fn push_call(steps: &mut Vec<Step>, call: Call) -> Result<(), AllocError> {
-    steps.push(Step::Invoke(0, call))?;
-    for _ in 0..4 {
-        steps.push(Step::Go(0))?;
-    }
-    Ok(())
+    let go = Step::Go(0);
+    steps.extend_from_slice(&[Step::Invoke(0, call), go, go, go, go])
 }
 
 /// The steps that load all modules, in a list with room for so many.
