@@ -5,12 +5,15 @@ ghost use Rattle.dep_index.specs.Table.{module_at, no_module};
 ghost use Rattle.root_row.specs.World.{slots};
 ghost use Rattle.root_row.specs.Views.{worker_of, reader_of};
 ghost use Rattle.root_row.specs.Made.{new_leaf, new_reader, new_book};
+ghost use Rattle.root_row.specs.Seats.{IsOf};
 
 use crate::sound::sound;
 use dep_index::Catalogue;
 use root_row::{BookSeat, LeafSeat, ReadSeat, Row};
 use std::alloc::Global;
 use std::test::Fail;
+use steps::{one_reader, two_leaves};
+use use_indicator::{Leaf, Reader};
 
 mod one_thread;
 mod owned;
@@ -44,4 +47,18 @@ fn new_row(alloc: Global) -> Result<(Row, Vec<LeafSeat>, BookSeat, Vec<ReadSeat>
         return Err("the first module is not free".into());
     }
     Ok(Row::new(alloc, &catalogue, 2, 1)?)
+}
+
+/// A new row, its book, two leaves and a reader.
+fn new_seats(alloc: Global) -> Result<(Row, BookSeat, Leaf, Leaf, Reader), Fail>
+    ensures wide { IfOk result (λ s. slots s.0.world ≡ 2) }
+    ensures free { IfOk result (λ s. module_at s.0.world.catalogue 0 ≡ no_module) }
+    ensures book { IfOk result (λ s. s.1 ≡ new_book s.0.id s.0.world) }
+    ensures leaves { IfOk result (λ s. IsOf s.0 s.2 × IsOf s.0 s.3) }
+    ensures reader { IfOk result (λ s. IsOf s.0 s.4) }
+{
+    let (row, leaves, book, readers) = new_row(alloc)?;
+    let (leaf, other) = two_leaves(alloc, &row, leaves)?;
+    let reader = one_reader(&row, readers)?;
+    Ok((row, book, leaf, other, reader))
 }

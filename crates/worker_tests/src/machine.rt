@@ -49,7 +49,7 @@ fn schedules_have_their_calls(rt: HostRuntime) -> Result<(), Fail> {
 }
 
 /// Steps of a machine of one thread and one call, with what each comes to.
-const STEPS: [(Step, Result<Event, StepError>); 11] = [
+static STEPS: [(Step, Result<Event, StepError>); 11] = [
     (Step::Go(1), Err(StepError::Thread)),
     (Step::Invoke(1, Call::Get(2, 2)), Err(StepError::Thread)),
     (Step::Invoke(0, Call::Get(2, 2)), Err(StepError::Worker)),

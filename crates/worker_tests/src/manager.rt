@@ -1,4 +1,5 @@
 //! The manager's calls on one thread, and the same calls on its guards.
+ghost use Rattle.std.specs.Prelude.{IfOk};
 ghost use Rattle.root_row.specs.Seats.{IsOf};
 
 mod both;
@@ -9,7 +10,8 @@ mod threads;
 use crate::sound::sound;
 use dep_index::{Call, ModuleState, Reply};
 use module_table::{Manager, OwnBook, OwnLeaf};
-use std::sync::{Mutex, Wait};
+use std::alloc::Global;
+use std::sync::Wait;
 use std::test::Fail;
 use use_indicator::Reader;
 
@@ -17,19 +19,19 @@ use use_indicator::Reader;
 type Row = (Call, Option<Reply>);
 
 /// The first module is loaded.
-const LOAD: [Row; 2] = [
+static LOAD: [Row; 2] = [
     (Call::BeginLoad(0), Some(Reply::Done)),
     (Call::EndLoad(0, true), Some(Reply::Done)),
 ];
 
 /// Both workers take a reference.
-const GET: [Row; 2] = [
+static GET: [Row; 2] = [
     (Call::Get(0, 0), Some(Reply::Done)),
     (Call::Get(1, 0), Some(Reply::Done)),
 ];
 
 /// Both references are put, and the removal begins.
-const PUT: [Row; 6] = [
+static PUT: [Row; 6] = [
     (Call::BeginRemove(0), Some(Reply::InUse)),
     (Call::Put(0, 0), Some(Reply::Done)),
     (Call::BeginRemove(0), Some(Reply::InUse)),
@@ -39,7 +41,7 @@ const PUT: [Row; 6] = [
 ];
 
 /// The removal ends, and nothing is left.
-const END: [Row; 5] = [
+static END: [Row; 5] = [
     (Call::Put(0, 0), Some(Reply::NotHeld)),
     (Call::EndRemove(0), Some(Reply::Done)),
     (Call::BeginRemove(0), Some(Reply::NoEntry)),
@@ -62,57 +64,35 @@ fn reply_to<R: Wait>(rt: &R, manager: &Manager, call: Call) -> Option<Reply> {
     Some(reply)
 }
 
-fn lock_and_get<R: Wait>(rt: &R, leaf: &Mutex<OwnLeaf>, slot: usize) -> Option<Reply> {
-    let answer = leaf.lock(rt).get(rt, slot);
-    Some(Reply::of(answer?))
+/// What a worker's guard answers to a call of the worker.
+fn leaf_reply<R: Wait>(rt: &R, leaf: &mut OwnLeaf, call: Call) -> Option<Reply> {
+    match call {
+        Call::Get(_, slot) => Some(Reply::of(leaf.get(rt, slot)?)),
+        Call::Put(_, slot) => Some(Reply::of(leaf.put(slot)?)),
+        _ => None,
+    }
 }
 
-fn lock_and_put<R: Wait>(rt: &R, leaf: &Mutex<OwnLeaf>, slot: usize) -> Option<Reply> {
-    let answer = leaf.lock(rt).put(slot);
-    Some(Reply::of(answer?))
-}
-
-fn lock_and_begin_load<R: Wait>(rt: &R, book: &Mutex<OwnBook>, slot: usize) -> Option<Reply> {
-    let answer = book.lock(rt).begin_load(slot);
-    Some(Reply::of(answer?))
-}
-
-fn lock_and_end_load<R: Wait>(
-    rt: &R,
-    book: &Mutex<OwnBook>,
-    slot: usize,
-    ok: bool,
-) -> Option<Reply> {
-    let answer = book.lock(rt).end_load(slot, ok);
-    Some(Reply::of(answer?))
-}
-
-fn lock_and_remove<R: Wait>(rt: &R, book: &Mutex<OwnBook>, slot: usize) -> Option<Reply> {
-    let answer = book.lock(rt).begin_remove(slot);
-    Some(Reply::of(answer?))
-}
-
-fn lock_and_drain<R: Wait>(rt: &R, book: &Mutex<OwnBook>, slot: usize) -> Option<Reply> {
-    let answer = book.lock(rt).begin_drain(slot);
-    Some(Reply::of(answer?))
-}
-
-fn lock_and_end_removal<R: Wait>(rt: &R, book: &Mutex<OwnBook>, slot: usize) -> Option<Reply> {
-    let answer = book.lock(rt).end_remove(slot);
-    Some(Reply::of(answer?))
+/// What the book's guard answers to a load or a removal.
+fn book_reply(book: &mut OwnBook, call: Call) -> Option<Reply> {
+    let reply = match call {
+        Call::BeginLoad(slot) => Reply::of(book.begin_load(slot)?),
+        Call::EndLoad(slot, ok) => Reply::of(book.end_load(slot, ok)?),
+        Call::BeginDrain(slot) => Reply::of(book.begin_drain(slot)?),
+        Call::BeginRemove(slot) => Reply::of(book.begin_remove(slot)?),
+        Call::EndRemove(slot) => Reply::of(book.end_remove(slot)?),
+        _ => return None,
+    };
+    Some(reply)
 }
 
 /// What a guard answers. Of a worker out of range there is no guard, and a query takes a reader.
 fn guard_reply<R: Wait>(rt: &R, manager: &Manager, call: Call) -> Option<Reply> {
     match call {
-        Call::Get(worker, slot) => lock_and_get(rt, manager.leaf(worker)?, slot),
-        Call::Put(worker, slot) => lock_and_put(rt, manager.leaf(worker)?, slot),
-        Call::InUse(_) => None,
-        Call::BeginLoad(slot) => lock_and_begin_load(rt, manager.book(), slot),
-        Call::EndLoad(slot, ok) => lock_and_end_load(rt, manager.book(), slot, ok),
-        Call::BeginDrain(slot) => lock_and_drain(rt, manager.book(), slot),
-        Call::BeginRemove(slot) => lock_and_remove(rt, manager.book(), slot),
-        Call::EndRemove(slot) => lock_and_end_removal(rt, manager.book(), slot),
+        Call::Get(worker, _) | Call::Put(worker, _) => {
+            leaf_reply(rt, &mut manager.leaf(worker)?.lock(rt), call)
+        }
+        _ => book_reply(&mut manager.book().lock(rt), call),
     }
 }
 
@@ -172,10 +152,19 @@ fn is_used_and_removed<R: Wait>(rt: &R, manager: &Manager, reader: &mut Reader, 
         && answers(rt, manager, on, &END)
 }
 
+/// A manager over snd and snd_pcm for two workers, and a reader.
+fn new_manager(alloc: Global) -> Result<(Manager, Reader), Fail>
+    ensures { IfOk result (λ r. IsOf r.0 r.1) }
+{
+    let catalogue = sound(alloc)?;
+    let (manager, mut readers) = Manager::new(alloc, &catalogue, 2)?;
+    let reader = readers.pop().ok_or("no reader")?;
+    Ok((manager, reader))
+}
+
 /// What comes of it on a manager of its own.
 fn use_and_remove<R: AllocGlobal + Wait>(rt: &R, on: On) -> Result<bool, Fail> {
-    let (manager, mut readers) = Manager::new(rt.alloc(), &sound(rt.alloc())?, 2)?;
-    let mut reader = readers.pop().ok_or("no reader")?;
+    let (manager, mut reader) = new_manager(rt.alloc())?;
     Ok(is_used_and_removed(rt, &manager, &mut reader, on))
 }
 

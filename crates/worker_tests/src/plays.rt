@@ -214,7 +214,7 @@ pub(crate) const DRAINING: Schedule = Schedule {
     ],
 };
 
-pub(crate) const SCHEDULES: [Schedule; 11] = [
+pub(crate) static SCHEDULES: [Schedule; 11] = [
     SERVED,
     NOT_WRITTEN,
     MISSED,

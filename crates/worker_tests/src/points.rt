@@ -131,7 +131,7 @@ fn intervals_are_left_open(rt: HostRuntime) -> Result<(), Fail> {
 }
 
 /// The second of three steps, and why it is refused.
-const REFUSED: [(Step, StepError); 3] = [
+static REFUSED: [(Step, StepError); 3] = [
     (Step::Invoke(0, Call::Get(2, SND)), StepError::Worker),
     (Step::Invoke(0, Call::Get(0, 2)), StepError::Slot),
     (Step::Go(1), StepError::Thread),

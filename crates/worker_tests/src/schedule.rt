@@ -26,14 +26,14 @@ pub(crate) struct Schedule {
 }
 
 /// The first steps of a schedule, 0 to 9: snd is loaded by calls 0 and 1.
-const LOADED: [Play; 4] = [
+static LOADED: [Play; 4] = [
     Invoke(0, Call::BeginLoad(SND)),
     Go(0, 4),
     Invoke(0, Call::EndLoad(SND, true)),
     Go(0, 4),
 ];
 
-const LOADED_CALLS: [Course; 2] = [
+static LOADED_CALLS: [Course; 2] = [
     (0, Some((2, Reply::Done)), Some(4)),
     (5, Some((7, Reply::Done)), Some(9)),
 ];
@@ -66,9 +66,7 @@ fn add_steps(steps: &mut Vec<Step>, plays: &[Play]) -> Result<(), AllocError> {
         match *play {
             Invoke(thread, call) => steps.push(Step::Invoke(thread, call))?,
             Go(thread, lines) => {
-                for _ in 0..lines {
-                    steps.push(Step::Go(thread))?;
-                }
+                steps.resize(steps.len().saturating_add(lines), Step::Go(thread))?;
             }
         }
     }

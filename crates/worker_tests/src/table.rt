@@ -17,7 +17,7 @@ const FIXED: usize = 2;
 const LOST: usize = 3;
 
 /// Loads and removals, with what each answers.
-const LOADS: [(Call, Reply); 30] = [
+static LOADS: [(Call, Reply); 30] = [
     (Call::BeginLoad(PCM), Reply::NeedNotLive(0)),
     (Call::BeginLoad(LOST), Reply::UnknownSymbol),
     (Call::Get(0, SND), Reply::NotLive),
@@ -51,7 +51,7 @@ const LOADS: [(Call, Reply); 30] = [
 ];
 
 /// A module that is permanent, and a drain.
-const DRAINS: [(Call, Reply); 16] = [
+static DRAINS: [(Call, Reply); 16] = [
     (Call::BeginLoad(FIXED), Reply::Done),
     (Call::EndLoad(FIXED, true), Reply::Done),
     (Call::BeginDrain(FIXED), Reply::Permanent),
@@ -71,7 +71,7 @@ const DRAINS: [(Call, Reply); 16] = [
 ];
 
 /// A module that is held and needed.
-const USERS: [(Call, Reply); 6] = [
+static USERS: [(Call, Reply); 6] = [
     (Call::BeginLoad(SND), Reply::Done),
     (Call::EndLoad(SND, true), Reply::Done),
     (Call::BeginLoad(PCM), Reply::Done),
@@ -81,14 +81,14 @@ const USERS: [(Call, Reply); 6] = [
 ];
 
 /// A live module that no worker holds.
-const LIVE: [(Call, Reply); 3] = [
+static LIVE: [(Call, Reply); 3] = [
     (Call::BeginLoad(SND), Reply::Done),
     (Call::EndLoad(SND, true), Reply::Done),
     (Call::Put(0, SND), Reply::NotHeld),
 ];
 
 /// What a worker meets that holds as many references as it may.
-const FULL: [(Call, Reply); 3] = [
+static FULL: [(Call, Reply); 3] = [
     (Call::Get(0, SND), Reply::TooMany),
     (Call::Put(0, SND), Reply::Done),
     (Call::Get(0, SND), Reply::Done),

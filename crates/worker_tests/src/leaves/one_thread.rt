@@ -1,36 +1,19 @@
 //! A leaf, another, a reader and the book, by turns.
-ghost use Rattle.std.specs.Prelude.{◌≡◌, ◌<◌, length, IfOk};
+ghost use Rattle.std.specs.Prelude.{◌≡◌, ◌<◌, length};
 ghost use Rattle.std.specs.Bool.{OnTrue};
-ghost use Rattle.dep_index.specs.Table.{module_at, no_module};
 ghost use Rattle.root_row.specs.World.{slots};
-ghost use Rattle.root_row.specs.Made.{new_book};
 ghost use Rattle.root_row.specs.Seats.{IsOf};
 ghost use Rattle.root_row.specs.Views.{book_of, state_in};
 ghost use Rattle.root_row.specs.BookSteps.{MayLeave};
 
-use super::new_row;
-use super::steps::{drain, finish, load, one_reader, remove, two_leaves};
+use super::new_seats;
+use super::steps::{drain, finish, load, remove};
 use dep_index::words::DRAINED;
 use dep_index::{GetError, ModuleState};
 use root_row::{BookSeat, Row};
-use std::alloc::Global;
 use std::sync::Wait;
 use std::test::Fail;
 use use_indicator::{Leaf, Reader};
-
-/// A new row, its book, two leaves and a reader.
-fn new_seats(alloc: Global) -> Result<(Row, BookSeat, Leaf, Leaf, Reader), Fail>
-    ensures wide { IfOk result (λ s. slots s.0.world ≡ 2) }
-    ensures free { IfOk result (λ s. module_at s.0.world.catalogue 0 ≡ no_module) }
-    ensures book { IfOk result (λ s. s.1 ≡ new_book s.0.id s.0.world) }
-    ensures leaves { IfOk result (λ s. IsOf s.0 s.2 × IsOf s.0 s.3) }
-    ensures reader { IfOk result (λ s. IsOf s.0 s.4) }
-{
-    let (row, leaves, book, readers) = new_row(alloc)?;
-    let (leaf, other) = two_leaves(alloc, &row, leaves)?;
-    let reader = one_reader(&row, readers)?;
-    Ok((row, book, leaf, other, reader))
-}
 
 /// The first leaf takes two references, and the other has none to give back.
 fn takes_two<R: Wait>(rt: &R, row: &Row, leaf: &mut Leaf, other: &mut Leaf) -> bool

@@ -1,23 +1,47 @@
 //! A leaf and a reader with their row: gets of so many tries, and slots out of range.
+ghost use Rattle.std.specs.Arc.{arc_value};
+ghost use Rattle.root_row.specs.Seats.{IsOf};
 
-use super::new_row;
-use super::steps::{load, one_reader, two_leaves};
+use super::new_seats;
+use super::steps::load;
 use dep_index::GetError;
 use module_table::{OwnLeaf, OwnReader};
-use std::alloc::Global;
+use root_row::Row;
+use std::alloc::{AllocError, Global};
 use std::sync::Arc;
 use std::test::Fail;
+use use_indicator::{Leaf, Reader};
+
+/// The leaf with its row.
+fn own(leaf: Leaf, row: &Arc<Row, Global>) -> Result<OwnLeaf, AllocError>
+    requires { IsOf (arc_value row.now) leaf }
+{
+    let row = Arc::try_clone(row)?;
+    Ok(OwnLeaf::new(leaf, row))
+}
+
+/// The leaves and the reader with their row.
+fn own_all(
+    row: Arc<Row, Global>,
+    leaf: Leaf,
+    other: Leaf,
+    reader: Reader,
+) -> Result<(OwnLeaf, OwnLeaf, OwnReader), AllocError>
+    requires leaf { IsOf (arc_value row) leaf }
+    requires other { IsOf (arc_value row) other }
+    requires reader { IsOf (arc_value row) reader }
+{
+    let leaf = own(leaf, &row)?;
+    let other = own(other, &row)?;
+    Ok((leaf, other, OwnReader::new(reader, row)))
+}
 
 /// A row whose first module is live, with a leaf, another and a reader.
 fn new_owned(alloc: Global) -> Result<(OwnLeaf, OwnLeaf, OwnReader), Fail> {
-    let (row, leaves, mut book, readers) = new_row(alloc)?;
-    let (leaf, other) = two_leaves(alloc, &row, leaves)?;
-    let reader = one_reader(&row, readers)?;
+    let (row, mut book, leaf, other, reader) = new_seats(alloc)?;
     load(&row, &mut book);
     let row = Arc::new(alloc, row)?;
-    let leaf = OwnLeaf::new(leaf, Arc::try_clone(&row)?);
-    let other = OwnLeaf::new(other, Arc::try_clone(&row)?);
-    Ok((leaf, other, OwnReader::new(reader, row)))
+    Ok(own_all(row, leaf, other, reader)?)
 }
 
 /// What a get of so many tries answers: whether it took, None where it gave up or the slot is out of range.

@@ -3,8 +3,8 @@ ghost use Rattle.std.specs.Prelude.{◌≡◌, ◌<◌};
 ghost use Rattle.root_row.specs.World.{slots};
 ghost use Rattle.root_row.specs.Seats.{IsOf};
 
-use super::new_row;
-use super::steps::{load, two_leaves};
+use super::new_seats;
+use super::steps::load;
 use root_row::Row;
 use std::sync::Wait;
 use std::test::Fail;
@@ -57,8 +57,7 @@ fn take_and_give_at_once<R: Threads + Wait + Sync>(
 
 #[test]
 fn two_threads_meet(rt: HostRuntime) -> Result<(), Fail> {
-    let (row, leaves, mut book, _) = new_row(rt.alloc())?;
-    let (one, other) = two_leaves(rt.alloc(), &row, leaves)?;
+    let (row, mut book, one, other, _) = new_seats(rt.alloc())?;
     load(&row, &mut book);
     assert!(rt; take_and_give_at_once(&rt, &row, one, other) && row.try_close(&mut book, 0));
     Ok(())

@@ -1,9 +1,10 @@
 //! The words that looks find where they are no points, and the exchange of a leaf.
-ghost use Rattle.std.specs.Prelude.{◌≡◌, ◌<◌, length};
+ghost use Rattle.std.specs.Prelude.{◌≡◌, ◌<◌, length, All};
 ghost use Rattle.std.specs.Bool.{OnTrue};
 ghost use Rattle.root_row.specs.World.{slots};
 ghost use Rattle.root_row.specs.Seats.{IsOf};
-ghost use Rattle.root_row.specs.Views.{book_of, counts_of, count_of};
+ghost use Rattle.root_row.specs.Made.{new_leaf};
+ghost use Rattle.root_row.specs.Views.{book_of, counts_of, count_of, worker_of};
 ghost use Rattle.root_row.specs.BookSteps.{MayLeave};
 
 use super::new_row;
@@ -74,13 +75,24 @@ fn both_enter(row: &Row, book: &mut BookSeat, first: &mut LeafSeat, second: &mut
         && both_put(row, book, first, second)
 }
 
+/// What comes of it with the last two seats; None where there are fewer.
+fn last_enter(row: &Row, book: &mut BookSeat, mut leaves: Vec<LeafSeat>) -> Option<bool>
+    requires inside { 0 < slots row.now.world }
+    requires book { IsOf row.now book.old }
+    requires may { MayLeave book.old.view 0 }
+    requires wide { 0 < length (book_of book.old.view).states }
+    requires leaves { All (λ s. s ≡ new_leaf row.now.id row.now.world (worker_of s.view)) leaves.items }
+{
+    let mut second = take_leaf(row, &mut leaves)?;
+    let mut first = take_leaf(row, &mut leaves)?;
+    Some(both_enter(row, book, &mut first, &mut second))
+}
+
 #[test]
 fn looks_answer_the_word(rt: HostRuntime) -> Result<(), Fail> {
-    let (row, mut leaves, mut book, _) = new_row(rt.alloc())?;
-    let mut second = take_leaf(&row, &mut leaves).ok_or("no leaf")?;
-    let mut first = take_leaf(&row, &mut leaves).ok_or("no leaf")?;
+    let (row, leaves, mut book, _) = new_row(rt.alloc())?;
     let (begun, ended) = load(&row, &mut book);
     assert!(rt; begun == CLOSED && ended == CLOSED);
-    assert!(rt; both_enter(&row, &mut book, &mut first, &mut second));
+    assert!(rt; last_enter(&row, &mut book, leaves) == Some(true));
     Ok(())
 }

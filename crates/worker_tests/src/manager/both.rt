@@ -1,7 +1,7 @@
 //! Two threads make one call at once on one manager. A call of which the answer is lost, or that is made twice, shows.
 
-use super::reply_to;
-use crate::sound::{SND, sound};
+use super::{new_manager, reply_to};
+use crate::sound::SND;
 use dep_index::{Call, Reply};
 use module_table::Manager;
 use std::sync::Wait;
@@ -12,7 +12,7 @@ use std::thread::Threads;
 const ROUNDS: usize = 100;
 
 /// Calls of which one thread's is done, and the other's is refused like this.
-const ONCE: [(Call, Reply); 6] = [
+static ONCE: [(Call, Reply); 6] = [
     (Call::BeginLoad(SND), Reply::Exists),
     (Call::EndLoad(SND, false), Reply::NotLoading),
     (Call::BeginLoad(SND), Reply::Exists),
@@ -86,7 +86,7 @@ fn no_answer_is_lost<R: Threads + Wait + Sync>(rt: &R, manager: &Manager) -> boo
 
 #[test]
 fn two_threads_make_one_call(rt: HostRuntime) -> Result<(), Fail> {
-    let (manager, _readers) = Manager::new(rt.alloc(), &sound(rt.alloc())?, 2)?;
+    let (manager, _reader) = new_manager(rt.alloc())?;
     assert!(rt; no_answer_is_lost(&rt, &manager));
     Ok(())
 }

@@ -35,7 +35,7 @@ needs nothing_exports_it
 ";
 
 /// Nothing is loaded.
-const EMPTY: [Row; 9] = [
+static EMPTY: [Row; 9] = [
     (Call::BeginLoad(PCM), Some(Reply::NeedNotLive(0))),
     (Call::BeginLoad(LOST), Some(Reply::UnknownSymbol)),
     (Call::Get(0, SND), Some(Reply::NotLive)),
@@ -48,7 +48,7 @@ const EMPTY: [Row; 9] = [
 ];
 
 /// A load begins.
-const BEGUN: [Row; 6] = [
+static BEGUN: [Row; 6] = [
     (Call::BeginLoad(SND), Some(Reply::Done)),
     (Call::BeginLoad(SND), Some(Reply::Exists)),
     (Call::BeginLoad(PCM), Some(Reply::NeedNotLive(0))),
@@ -58,7 +58,7 @@ const BEGUN: [Row; 6] = [
 ];
 
 /// The load fails.
-const FAILED: [Row; 4] = [
+static FAILED: [Row; 4] = [
     (Call::EndLoad(SND, false), Some(Reply::Done)),
     (Call::EndLoad(SND, false), Some(Reply::NotLoading)),
     (Call::Get(0, SND), Some(Reply::NotLive)),
@@ -66,7 +66,7 @@ const FAILED: [Row; 4] = [
 ];
 
 /// A module that is permanent is loaded and held by the second worker.
-const PERMANENT: [Row; 5] = [
+static PERMANENT: [Row; 5] = [
     (Call::BeginLoad(FIXED), Some(Reply::Done)),
     (Call::EndLoad(FIXED, true), Some(Reply::Done)),
     (Call::BeginDrain(FIXED), Some(Reply::Permanent)),
@@ -75,7 +75,7 @@ const PERMANENT: [Row; 5] = [
 ];
 
 /// snd and snd-pcm are loaded, and snd-pcm drains while the first worker holds it.
-const DRAINED: [Row; 11] = [
+static DRAINED: [Row; 11] = [
     (Call::BeginLoad(SND), Some(Reply::Done)),
     (Call::EndLoad(SND, true), Some(Reply::Done)),
     (Call::BeginLoad(PCM), Some(Reply::Done)),
@@ -90,7 +90,7 @@ const DRAINED: [Row; 11] = [
 ];
 
 /// snd-pcm is given back and gone, and the removal of snd begins.
-const LEFT: [Row; 5] = [
+static LEFT: [Row; 5] = [
     (Call::Put(0, PCM), Some(Reply::Done)),
     (Call::Put(0, PCM), Some(Reply::NotHeld)),
     (Call::EndRemove(PCM), Some(Reply::Done)),
@@ -99,14 +99,14 @@ const LEFT: [Row; 5] = [
 ];
 
 /// snd is gone too.
-const GONE: [Row; 3] = [
+static GONE: [Row; 3] = [
     (Call::EndRemove(SND), Some(Reply::Done)),
     (Call::EndRemove(SND), Some(Reply::NotUnloading)),
     (Call::Put(1, FIXED), Some(Reply::Done)),
 ];
 
 /// Workers and slots that there are none of.
-const OUTSIDE: [Row; 13] = [
+static OUTSIDE: [Row; 13] = [
     (Call::Get(NOBODY, SND), None),
     (Call::Get(usize::MAX, SND), None),
     (Call::Get(0, PAST), None),

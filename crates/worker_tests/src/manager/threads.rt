@@ -3,8 +3,7 @@ ghost use Rattle.std.specs.Prelude.{◌<◌};
 ghost use Rattle.root_row.specs.World.{slots};
 ghost use Rattle.root_row.specs.Seats.{IsOf};
 
-use super::{On, loads, reply_to};
-use crate::sound::sound;
+use super::{On, loads, new_manager, reply_to};
 use dep_index::{Call, Reply};
 use module_table::Manager;
 use std::sync::Wait;
@@ -105,8 +104,7 @@ fn use_it_at_once<R: Threads + Wait + Sync>(rt: &R, manager: &Manager, reader: &
 
 #[test]
 fn threads_use_one_manager(rt: HostRuntime) -> Result<(), Fail> {
-    let (manager, mut readers) = Manager::new(rt.alloc(), &sound(rt.alloc())?, 2)?;
-    let mut reader = readers.pop().ok_or("no reader")?;
+    let (manager, mut reader) = new_manager(rt.alloc())?;
     assert!(rt; use_it_at_once(&rt, &manager, &mut reader));
     Ok(())
 }
@@ -124,7 +122,7 @@ fn on_scoped_threads<R: Threads + Wait + Sync>(rt: &R, manager: &Manager) {
 
 #[test]
 fn workers_on_scoped_threads(rt: HostRuntime) -> Result<(), Fail> {
-    let (manager, _readers) = Manager::new(rt.alloc(), &sound(rt.alloc())?, 2)?;
+    let (manager, _reader) = new_manager(rt.alloc())?;
     assert!(rt; loads(&rt, &manager, On::Manager));
     on_scoped_threads(&rt, &manager);
     assert!(rt; reply_to(&rt, &manager, Call::BeginRemove(0)) == Some(Reply::Done));

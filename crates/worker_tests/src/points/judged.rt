@@ -13,10 +13,10 @@ use std::test::Fail;
 type Mark = (usize, usize, Reply);
 
 /// The points of the load of snd.
-const LOADED: [Mark; 2] = [(0, 2, Done), (1, 7, Done)];
+static LOADED: [Mark; 2] = [(0, 2, Done), (1, 7, Done)];
 
 /// The query's point may be anywhere in its interval, with the reply of the replay there.
-const QUERIES: [(usize, Reply, bool); 6] = [
+static QUERIES: [(usize, Reply, bool); 6] = [
     (17, Yes, true),
     (16, Yes, true),
     (18, Yes, true),
@@ -26,7 +26,7 @@ const QUERIES: [(usize, Reply, bool); 6] = [
 ];
 
 /// A list without a point, one with two exchanged, one with two of a call, and one with a point of no call.
-const LISTS: [&[Mark]; 4] = [
+static LISTS: [&[Mark]; 4] = [
     &[(2, 13, Done), (3, 17, Yes), (4, 21, InUse), (6, 30, Done)],
     &[
         (2, 13, Done),
@@ -54,7 +54,7 @@ const LISTS: [&[Mark]; 4] = [
 ];
 
 /// The point of an open call is judged by the replay alone. Calls 2 and 4 are open; the steps are 0 to 22.
-const OPEN: [(&[Mark], bool); 6] = [
+static OPEN: [(&[Mark], bool); 6] = [
     (&[(2, 12, Done), (3, 15, NotLive)], true),
     (&[(3, 15, NotLive)], false),
     (&[(2, 12, Done), (3, 15, NotLive), (4, 20, Done)], true),
