@@ -53,7 +53,7 @@ fn targets_of(alloc: Global, setup: &Setup, name: Name) -> Result<Vec<Name>, Pla
 }
 
 /// What plans these modules. No module is settled.
-pub(crate) fn planner_of<'a>(
+fn planner_of<'a>(
     alloc: Global,
     setup: &'a Setup,
     targets: &[Name],
@@ -83,17 +83,18 @@ pub(crate) fn plan_of<'a>(
 /// The items of the plans of these modules, in order, each with the words.
 fn items_of_plans<'a>(
     alloc: Global,
-    setup: &'a Setup,
+    setup: &Setup,
+    planner: &Planner<'a>,
     words: &[&'a [u8]],
     targets: &[Name],
 ) -> Result<Vec<Item<'a>>, PlanError>
+    requires { PlansFor setup.now planner.now }
     ensures items { Answers (λ items. items.items) result (items_of_plans setup.now (texts_of words.now) [] targets.now) }
     ensures within { IfOk result (λ items. All (λ item. item.slot < length setup.now.catalogue) items.items) }
 {
-    let planner = planner_of(alloc, setup, targets)?;
     let mut items = Vec::new(alloc);
     for target in targets {
-        let mut more = plan_of(alloc, setup, &planner, words, target)?;
+        let mut more = plan_of(alloc, setup, planner, words, target)?;
         items.append(&mut more)?;
     }
     Ok(items)
@@ -108,7 +109,8 @@ pub(crate) fn whole_plan<'a>(
     ensures { Answers (λ items. items.items) result (whole_plan setup.now name) }
 {
     let targets = targets_of(alloc, setup, name)?;
-    items_of_plans(alloc, setup, &[], &targets)
+    let planner = planner_of(alloc, setup, &targets)?;
+    items_of_plans(alloc, setup, &planner, &[], &targets)
 }
 
 /// The removal plan of one module, of modules of the catalogue.
@@ -130,15 +132,16 @@ fn removal_plan_of(
 fn removal_plans_of(
     alloc: Global,
     setup: &Setup,
+    planner: &Planner<'_>,
     targets: &[Name],
 ) -> Result<Vec<RemovalPlan>, PlanError>
+    requires { PlansFor setup.now planner.now }
     ensures plans { Answers (λ plans. plans.items) result (removal_plans_of setup.now [] targets.now) }
     ensures within { IfOk result (λ plans. All (λ plan. All (λ slot. slot < length setup.now.catalogue) plan) plans.items) }
 {
-    let planner = planner_of(alloc, setup, targets)?;
     let mut plans = Vec::new(alloc);
     for target in targets {
-        plans.push(removal_plan_of(alloc, setup, &planner, target)?)?;
+        plans.push(removal_plan_of(alloc, setup, planner, target)?)?;
     }
     Ok(plans)
 }
@@ -189,7 +192,8 @@ impl<'s, 't, M: Modules> Session<'s, 't, M> {
     {
         let found = targets_of(alloc, self.setup, name)?;
         let targets = self.without_those_there(alloc, &found, Aim::Live)?;
-        self.items_to_load(alloc, words, &targets)
+        let mut planner = planner_of(alloc, self.setup, &targets)?;
+        self.items_to_load(alloc, &mut planner, words, &targets)
     }
 
     /// The removal plans for a name: of each module that is found and not absent.
@@ -203,6 +207,7 @@ impl<'s, 't, M: Modules> Session<'s, 't, M> {
     {
         let found = targets_of(alloc, self.setup, name)?;
         let targets = self.without_those_there(alloc, &found, Aim::Absent)?;
-        removal_plans_of(alloc, self.setup, &targets)
+        let planner = planner_of(alloc, self.setup, &targets)?;
+        removal_plans_of(alloc, self.setup, &planner, &targets)
     }
 }

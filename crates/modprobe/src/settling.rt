@@ -1,5 +1,5 @@
 //! What is to be loaded for several modules. A plan of modules that are live by then is left out: its loads do nothing.
-ghost use Rattle.std.specs.Prelude.{◌≡◌, ◌<◌, ◌++◌, [], List, length, true, All, IfOk};
+ghost use Rattle.std.specs.Prelude.{◌≡◌, ◌<◌, ◌++◌, [], List, length, replicate, true, false, All, IfOk};
 ghost use Rattle.std.specs.List.{list_all};
 ghost use Rattle.text_parts.specs.Text.{texts_of};
 ghost use Rattle.load_plan.specs.Outlook.{settled_at};
@@ -7,7 +7,7 @@ ghost use Rattle.load_plan.specs.declared.items.Item.{Item};
 ghost use Rattle.modprobe.specs.Plans.{items_of_plans};
 ghost use Rattle.modprobe.specs.Settling.{AreIn, AreSure, IsSure, LoadsAs, PlansFor};
 
-use crate::request::{plan_of, planner_of};
+use crate::request::plan_of;
 use crate::session::Session;
 use dep_index::ModuleState;
 use load_plan::{Item, PlanError, Planner, params_valid};
@@ -62,23 +62,23 @@ impl<'s, 't, M: Modules> Session<'s, 't, M> {
     pub(crate) fn items_to_load<'a>(
         &self,
         alloc: Global,
+        planner: &mut Planner<'a>,
         words: &[&'a [u8]],
         targets: &[Name],
     ) -> Result<Vec<Item<'a>>, PlanError>
-    where
-        's: 'a,
+        requires plans { PlansFor self.now.setup.now planner.old }
+        requires settled { planner.old.settled ≡ replicate (length self.now.setup.now.catalogue) false }
         ensures items { LoadsAs self.now.setup.now (M.table self.now.table.now) (λ items. items.items) result
             (items_of_plans self.now.setup.now (texts_of words.now) [] targets.now) }
         ensures within { IfOk result (λ items. AreIn self.now.setup.now items.items) }
     {
-        let mut planner = planner_of(alloc, self.setup, targets)?;
         let mut items = Vec::new(alloc);
         for target in targets {
             if planner.has_settled_plan(alloc, target)? {
                 continue;
             }
-            let mut more = plan_of(alloc, self.setup, &planner, words, target)?;
-            self.settle(&mut planner, &more);
+            let mut more = plan_of(alloc, self.setup, planner, words, target)?;
+            self.settle(planner, &more);
             items.append(&mut more)?;
         }
         Ok(items)

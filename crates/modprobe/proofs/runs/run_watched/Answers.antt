@@ -1,4 +1,4 @@
-use Rattle.std.proofs.Common.{◌≡◌, ℕ, List, ◌∷◌, [], ◌++◌, ap, sym, subst, rules, ◌∙◌, refl, take, ◌<◌, length}
+use Rattle.std.proofs.Common.{◌≡◌, ℕ, List, ◌∷◌, [], ◌++◌, ap, sym, subst, rules, ◌∙◌, refl, take, ◌<◌, length, inr}
 use Rattle.std.proofs.lemmas.List.Elements.{All-nil}
 use Rattle.text_parts.specs.Text.{Line}
 use Rattle.std.specs.Io.KnownBytes.{Appends}
@@ -6,7 +6,7 @@ use Rattle.std.proofs.KnownBytes.{Appends-trans}
 use Rattle.std.proofs.lemmas.Result.{err_from_is_err_and}
 use Rattle.modprobe.specs.Lines.{AtHand, IfTold, hand_of, bytes_left, ending_bytes, texts}
 use Rattle.modprobe.specs.Session.{line_reply, answer}
-use Rattle.modprobe.specs.Run.{AllShort, StoppedWriting, StandsAfter, run_fault_of}
+use Rattle.modprobe.specs.Run.{AllShort, StoppedForMemory, StoppedWriting, StandsAfter, run_fault_of}
 use Rattle.std.specs.Str.Lines.{lines}
 use Rattle.modprobe.proofs.RunLemmas.{answered_none, none_counted, answered_more, short-more, table-more, stands_in_line, all_answered, all_counted, counted_more, told_map}
 use Rattle.modprobe.proofs.CutLemmas.{cuts_more, ended_more}
@@ -97,6 +97,32 @@ returns-in_err-write_all-clause-stands g c =
       after,
     ) in
     let P : g.row.M.Denot → Type 0 = λ t. StoppedWriting s start (left c.args.lines.now) hand (wrote c.args.writer.now) (wrote c.write_all.new.writer) (g.M.Modules.table t) in
+    rw (p.1, p.2) (subst P (search rules) stopped)
+
+pub returns-in_err-reply-clause-stands : goal.returns-in_err-reply-clause-stands
+returns-in_err-reply-clause-stands g c =
+    let p = err_from_is_err_and c.from_residual-in_err-reply.result c.from_residual-in_err-reply.ensures.1 in
+    let s = c.args.setup.now in
+    let start = g.M.Modules.table c.args.table.now in
+    let before = rw c.loop-watch.invariant.same_setup at c.loop-watch.invariant.answered in
+    let given = c.in_ok-next_line.ensures.gave (rw c.if-branch.true refl) in
+    let left = bytes_left g.R.Source.remaining in
+    let held = g.W.Sink.contents c.args.writer.now in
+    let wrote = g.W.Sink.contents c.loop-watch.writer in
+    let hand : AtHand = hand_of g.R.Source.remaining c.next_line.new.self in
+    let stopped : StoppedForMemory s start (left c.args.lines.now) hand held wrote (g.M.Modules.table c.reply.new.self.table.now) = (
+      before.0,
+      left c.loop-watch.lines,
+      record {
+        gives = before.1.gives;
+        short = before.1.short;
+        wrote = before.1.wrote;
+        after = c.in_err-reply.ensures.unchanged.becomes ∙ before.1.after;
+      },
+      before.2 given.going,
+      inr given.cut,
+    ) in
+    let P : g.row.M.Denot → Type 0 = λ t. StoppedForMemory s start (left c.args.lines.now) hand held wrote (g.M.Modules.table t) in
     rw (p.1, p.2) (subst P (search rules) stopped)
 
 pub returns-in_err-next_line-clause-stands : goal.returns-in_err-next_line-clause-stands

@@ -12,13 +12,13 @@ pub loop-target-init : goal.loop-target-init
 loop-target-init g c =
     let s = c.args.self.now.setup.now in
     record {
-      plans = c.in_ok-planner.ensures.plans;
-      settling = Settling-begin s (g.M.Modules.table c.args.self.now.table.now) (texts_of c.args.words.now) c.args.targets.now c.in_ok-planner.planner.settled (length s.catalogue) c.new-items.result.items c.in_ok-planner.ensures.settled c.new-items.ensures.items;
+      plans = c.requires.plans;
+      settling = Settling-begin s (g.M.Modules.table c.args.self.now.table.now) (texts_of c.args.words.now) c.args.targets.now c.args.planner.now.settled (length s.catalogue) c.new-items.result.items c.requires.settled c.new-items.ensures.items;
     }
 
 pub returns-in_err-has_settled_plan-clause-items : goal.returns-in_err-has_settled_plan-clause-items
 returns-in_err-has_settled_plan-clause-items g c =
-    let p = err_from_is_err_and c.from_residual-in_err-has_settled_plan.result c.from_residual-in_err-has_settled_plan.ensures.1 in
+    let p = err_from_is_err_and c.from_residual.result c.from_residual.ensures.1 in
     let s = c.args.self.now.setup.now in
     let words = texts_of c.args.words.now in
     let e = c.in_err-has_settled_plan.field-0.0 in
