@@ -2,7 +2,7 @@
 ghost use Rattle.std.specs.Prelude.{◌≡◌, IfOk};
 ghost use Rattle.dep_index.specs.Catalogue.{modules_of};
 
-use crate::outcome::{Stop, needed, over, stop_at, tell};
+use crate::outcome::{Stop, needed, stop_at, tell, tell_text};
 use crate::sound::sound;
 use dep_index::Catalogue;
 use proc_modules::{
@@ -70,41 +70,36 @@ fn loaded(alloc: Global, catalogue: &Catalogue) -> Result<Table, Stop>
     Ok(table)
 }
 
-fn listing_of(alloc: Global, catalogue: &Catalogue, in_columns: bool) -> Result<Vec<u8>, Stop> {
-    let table = loaded(alloc, catalogue)?;
-    Ok(if in_columns {
-        lsmod_text(alloc, catalogue, &table)?
+fn listing_of(alloc: Global, in_columns: bool) -> Result<Vec<u8>, Stop> {
+    let catalogue = sound(alloc)?;
+    let table = loaded(alloc, &catalogue)?;
+    let text = if in_columns {
+        lsmod_text(alloc, &catalogue, &table)
     } else {
-        proc_text(alloc, catalogue, &table)?
-    })
+        proc_text(alloc, &catalogue, &table)
+    };
+    Ok(text?)
 }
 
-fn details_of(alloc: Global, catalogue: &Catalogue) -> Result<Vec<u8>, Stop> {
+fn details_of(alloc: Global) -> Result<Vec<u8>, Stop> {
+    let catalogue = sound(alloc)?;
     if catalogue.len() != 2 {
         return Err(Stop::Wrong);
     }
-    Ok(modinfo_text(alloc, catalogue, 1)?)
+    Ok(modinfo_text(alloc, &catalogue, 1)?)
 }
 
 pub(crate) fn try_calls<R: Print + AllocGlobal>(rt: &R) -> anyhow::Result<()> {
     let alloc = rt.alloc();
     tell(rt, "read_line", read_line(alloc, LINE), is_sound)?;
-    tell(
-        rt,
-        "write_line",
-        write_sound(alloc),
-        |it| it.as_slice() == LINE,
-    )?;
+    tell_text(rt, "write_line", write_sound(alloc), LINE)?;
     tell(
         rt,
         "Names::push",
         push_name(alloc),
         |it| it.as_slice().len() == 1,
     )?;
-    let lines = over(sound(alloc), |it| listing_of(alloc, it, false));
-    tell(rt, "proc_text", lines, |it| it.as_slice() == LISTING)?;
-    let columns = over(sound(alloc), |it| listing_of(alloc, it, true));
-    tell(rt, "lsmod_text", columns, |it| it.as_slice() == COLUMNS)?;
-    let details = over(sound(alloc), |it| details_of(alloc, it));
-    tell(rt, "modinfo_text", details, |it| it.as_slice() == DETAILS)
+    tell_text(rt, "proc_text", listing_of(alloc, false), LISTING)?;
+    tell_text(rt, "lsmod_text", listing_of(alloc, true), COLUMNS)?;
+    tell_text(rt, "modinfo_text", details_of(alloc), DETAILS)
 }

@@ -78,3 +78,22 @@ pub(crate) fn tell<R: Print, T: Drop, E: Into<Stop>, F: Fn(&T) -> bool>(
     println!(rt; "{call}: {outcome}")?;
     Ok(())
 }
+
+/// The same of a call whose answer is already judged.
+pub(crate) fn tell_judged<R: Print>(
+    rt: &R,
+    call: &str,
+    is_right: Result<bool, Stop>,
+) -> anyhow::Result<()> {
+    tell(rt, call, is_right, |it| *it)
+}
+
+/// The same of a call that writes this text.
+pub(crate) fn tell_text<R: Print>(
+    rt: &R,
+    call: &str,
+    text: Result<Vec<u8>, Stop>,
+    wanted: &[u8],
+) -> anyhow::Result<()> {
+    tell(rt, call, text, |it| it.as_slice() == wanted)
+}

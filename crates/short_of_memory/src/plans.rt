@@ -1,6 +1,6 @@
 //! Look-ups of names, plans and removal plans, and their refusals.
 
-use crate::outcome::{Stop, are_names, needed, stop_at, tell};
+use crate::outcome::{Stop, are_names, needed, stop_at, tell_judged};
 use crate::settings::CONFIGURATION;
 use crate::sound::SOUND;
 use alias_match::read_aliases;
@@ -180,7 +180,7 @@ pub(crate) fn try_calls<R: Print + AllocGlobal>(rt: &R) -> anyhow::Result<()> {
     let alloc = rt.alloc();
     for (call, texts, module, asked) in &CALLS {
         let answer = over_texts(alloc, texts, |it| try_call(alloc, call, module, asked, it));
-        tell(rt, call, answer, |it| *it)?;
+        tell_judged(rt, call, answer)?;
     }
     Ok(())
 }

@@ -1,9 +1,10 @@
 //! The points of a schedule, their checker, and the intervals of its calls.
 
-use crate::outcome::{Stop, over, stop_at, tell};
+use crate::outcome::{Stop, over, stop_at, tell, tell_judged};
 use crate::sound::sound;
-use dep_index::{Call, Catalogue, Reply};
+use dep_index::{Call, Reply};
 use linear_points::{End, Interval, Point, PointsError, call_intervals, check_points, points};
+use std::alloc::Global;
 use step_core::Step;
 
 impl From<PointsError> for Stop {
@@ -47,15 +48,18 @@ const GET: Interval = Interval {
     }),
 };
 
+/// Whether these are points of the schedule.
+fn try_check(alloc: Global, found: &[Point]) -> Result<bool, Stop> {
+    Ok(check_points(alloc, &sound(alloc)?, 2, 2, &steps(), found)?)
+}
+
 pub(crate) fn try_calls<R: Print + AllocGlobal>(rt: &R) -> anyhow::Result<()> {
     let alloc = rt.alloc();
     let (steps, wanted) = (steps(), wanted());
     let found = over(sound(alloc), |it| points(alloc, it, 2, 2, &steps));
     tell(rt, "points", found, |it| it.as_slice() == wanted.as_slice())?;
-    let judge = |it: &Catalogue, found: &[Point]| check_points(alloc, it, 2, 2, &steps, found);
-    let is_linear = over(sound(alloc), |it| judge(it, &wanted));
-    tell(rt, "check_points", is_linear, |it| *it)?;
-    let is_linear = over(sound(alloc), |it| judge(it, &wanted[..3]));
+    tell_judged(rt, "check_points", try_check(alloc, &wanted))?;
+    let is_linear = try_check(alloc, &wanted[..3]);
     tell(rt, "check_points of too few", is_linear, |it| !it)?;
     let calls = over(sound(alloc), |it| call_intervals(alloc, it, 2, 2, &steps));
     tell(

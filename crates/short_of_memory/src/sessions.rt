@@ -1,31 +1,39 @@
 //! Lines, sections and sessions: where memory is wanting, what was written is the beginning of the answer.
 ghost use Rattle.std.specs.Prelude.{◌≡◌, false, None};
 
-use crate::outcome::{Stop, needed, stop_at, tell};
+use crate::outcome::{Stop, needed, stop_at, tell, tell_judged};
 use modprobe::{
-    Buffer, Failed, FromRead, LineFault, Lines, RunFault, ServeFault, SetupCode, SetupFault, Sink,
-    Source, read_setup, run, serve,
+    Buffer, Failed, FromRead, LineFault, Lines, RunFault, ServeFault, Setup, SetupCode, SetupFault,
+    Sink, Source, read_setup, run, serve,
 };
 use seq_table::{Modules, Table};
 use std::alloc::Global;
 
-fn of_line(fault: LineFault) -> Stop {
-    stop_at(fault == LineFault::Memory)
+impl From<LineFault> for Stop {
+    fn from(fault: LineFault) -> Stop {
+        stop_at(fault == LineFault::Memory)
+    }
 }
 
-fn of_setup(fault: SetupFault) -> Stop {
-    stop_at(fault.code == SetupCode::Memory)
+impl From<SetupFault> for Stop {
+    fn from(fault: SetupFault) -> Stop {
+        stop_at(fault.code == SetupCode::Memory)
+    }
 }
 
-fn of_run(fault: RunFault) -> Stop {
-    stop_at(fault == RunFault::Memory)
+impl From<RunFault> for Stop {
+    fn from(fault: RunFault) -> Stop {
+        stop_at(fault == RunFault::Memory)
+    }
 }
 
-fn of_session(fault: ServeFault) -> Stop {
-    match fault {
-        ServeFault::Memory => Stop::NoMemory,
-        ServeFault::Setup(fault) => of_setup(fault),
-        ServeFault::Run(fault) => of_run(fault),
+impl From<ServeFault> for Stop {
+    fn from(fault: ServeFault) -> Stop {
+        match fault {
+            ServeFault::Memory => Stop::NoMemory,
+            ServeFault::Setup(fault) => fault.into(),
+            ServeFault::Run(fault) => fault.into(),
+        }
     }
 }
 
@@ -145,17 +153,14 @@ fn try_lines(alloc: Global, input: &[u8], done: Done) -> Result<bool, Stop> {
     let buffer = needed(Buffer::new(alloc))?;
     let mut lines = Lines::new(alloc, buffer, &mut reader, 9);
     match done {
-        Done::Read => are_both(&mut lines).map_err(of_line),
-        Done::SetUp => {
-            let setup = read_setup(alloc, &mut lines).map_err(of_setup)?;
-            Ok(setup.catalogue().len() == 2)
-        }
+        Done::Read => are_both(&mut lines),
+        Done::SetUp => Ok(read_setup(alloc, &mut lines)?.catalogue().len() == 2),
         Done::Run => try_run(alloc, &mut lines),
     }
 }
 
 /// Whether these are the two lines and no other.
-fn are_both<R: Source>(lines: &mut Lines<'_, R>) -> Result<bool, LineFault>
+fn are_both<R: Source>(lines: &mut Lines<'_, R>) -> Result<bool, Stop>
     requires { R.has_failed lines.old.reader.now ≡ false }
 {
     let is_first = lines.next_line()? && lines.line() == b"insmod snd".as_slice();
@@ -167,15 +172,25 @@ fn try_run<R: Source>(alloc: Global, lines: &mut Lines<'_, R>) -> Result<bool, S
     requires { R.has_failed lines.old.reader.now ≡ false }
 {
     let setup = needed(read_setup(alloc, lines))?;
+    try_run_over(alloc, &setup, lines)
+}
+
+fn try_run_over<R: Source>(
+    alloc: Global,
+    setup: &Setup,
+    lines: &mut Lines<'_, R>,
+) -> Result<bool, Stop>
+    requires { R.has_failed lines.old.reader.now ≡ false }
+{
     let mut table = needed(Table::new(alloc, setup.catalogue(), 1))?;
     let mut writer = Paper::new();
-    run(alloc, &setup, lines, &mut writer, &mut table).map_err(of_run)?;
+    run(alloc, setup, lines, &mut writer, &mut table)?;
     Ok(writer.rest.is_empty())
 }
 
 fn try_serve(alloc: Global) -> Result<bool, Stop> {
     let mut writer = Paper::new();
-    serve(alloc, 1, &mut FromRead::new(INPUT), &mut writer).map_err(of_session)?;
+    serve(alloc, 1, &mut FromRead::new(INPUT), &mut writer)?;
     Ok(writer.rest.is_empty())
 }
 
@@ -183,9 +198,9 @@ pub fn try_calls<R: Print + AllocGlobal>(rt: &R) -> anyhow::Result<()> {
     let alloc = rt.alloc();
     tell(rt, "Buffer::new", Buffer::new(alloc), |_| true)?;
     let read = try_lines(alloc, b"insmod snd\nquery", Done::Read);
-    tell(rt, "Lines", read, |it| *it)?;
+    tell_judged(rt, "Lines", read)?;
     let set_up = try_lines(alloc, INPUT, Done::SetUp);
-    tell(rt, "read_setup", set_up, |it| *it)?;
-    tell(rt, "run", try_lines(alloc, INPUT, Done::Run), |it| *it)?;
-    tell(rt, "serve", try_serve(alloc), |it| *it)
+    tell_judged(rt, "read_setup", set_up)?;
+    tell_judged(rt, "run", try_lines(alloc, INPUT, Done::Run))?;
+    tell_judged(rt, "serve", try_serve(alloc))
 }

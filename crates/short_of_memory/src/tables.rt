@@ -1,6 +1,6 @@
 //! Tables, and machines of steps.
 
-use crate::outcome::{over, tell};
+use crate::outcome::{over, tell, tell_judged};
 use crate::sound::{sound, sound_slots};
 use dep_index::{ModuleState, Reply};
 use seq_table::{Modules, Table};
@@ -27,7 +27,7 @@ pub(crate) fn try_calls<R: Print + AllocGlobal>(rt: &R) -> anyhow::Result<()> {
     let table = sound_slots(alloc).and_then(|slots| Ok(Table::over(alloc, slots, 2)?));
     tell(rt, "Table::over", table, is_opening)?;
     let machine = over(sound(alloc), |it| Machine::new(alloc, it, 2, 1, 1));
-    tell(rt, "Machine::new", machine.map(makes_a_call), |it| *it)?;
+    tell_judged(rt, "Machine::new", machine.map(makes_a_call))?;
     let machine = sound_slots(alloc).and_then(|it| Ok(Machine::over(alloc, it, 2, 1, 1)?));
-    tell(rt, "Machine::over", machine.map(makes_a_call), |it| *it)
+    tell_judged(rt, "Machine::over", machine.map(makes_a_call))
 }

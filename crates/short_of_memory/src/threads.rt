@@ -1,6 +1,6 @@
 //! Rows of root words, leaves, books and managers.
 
-use crate::outcome::{Stop, needed, over, tell};
+use crate::outcome::{Stop, needed, over, tell, tell_judged};
 use crate::sound::{sound, sound_slots};
 use dep_index::{Catalogue, ModuleState};
 use module_table::{Book, Manager};
@@ -17,8 +17,8 @@ fn is_manager((manager, readers): &(Manager, Vec<Reader>)) -> bool {
 }
 
 /// Whether the leaf of the last seat holds nothing.
-fn try_leaf(alloc: Global, catalogue: &Catalogue) -> Result<bool, Stop> {
-    let (row, mut seats, _, _) = needed(Row::new(alloc, catalogue, 2, 0))?;
+fn try_leaf(alloc: Global) -> Result<bool, Stop> {
+    let (row, mut seats, _, _) = needed(Row::new(alloc, &sound(alloc)?, 2, 0))?;
     let Some(seat) = seats.pop() else {
         return Ok(false);
     };
@@ -39,10 +39,9 @@ pub(crate) fn try_calls<R: Print + AllocGlobal>(rt: &R) -> anyhow::Result<()> {
     tell(rt, "Row::new", row, is_row)?;
     let row = over(sound_slots(alloc), |it| Row::over(alloc, it, 2, 1));
     tell(rt, "Row::over", row, is_row)?;
-    let leaf = over(sound(alloc), |it| try_leaf(alloc, it));
-    tell(rt, "Leaf::new", leaf, |it| *it)?;
+    tell_judged(rt, "Leaf::new", try_leaf(alloc))?;
     let book = over(sound(alloc), |it| try_book(alloc, it));
-    tell(rt, "Book::new", book, |it| *it)?;
+    tell_judged(rt, "Book::new", book)?;
     let manager = over(sound(alloc), |it| Manager::new(alloc, it, 2));
     tell(rt, "Manager::new", manager, is_manager)
 }
