@@ -1,6 +1,6 @@
 //! Catalogues and modules.dep texts: what is read of them, their first faults, their limits.
 
-use crate::texts::{CIRCLE, holds, holds_at, is_answer, names_text, push_line, push_names};
+use crate::texts::{CIRCLE, holds, holds_at, is_answer, push_line, push_name_lines, push_names};
 use dep_index::{
     CatError, Catalogue, DepError, DepIndex, Param, ParamKind, Scalar, Slots, read_catalogue,
     read_dep,
@@ -87,7 +87,7 @@ const SOUND: &[u8] =
     b"module snd\nsize 114688\nexports snd_card_new\nmodule snd-pcm\nsize 143360\nexports snd_pcm_new\nneeds snd_card_new\nparam debug bool\n";
 
 /// What a row shows, a text, and what is read of it.
-const MODULES: [(&str, &[u8], &[u8]); 7] = [
+static MODULES: [(&str, &[u8], &[u8]); 7] = [
     (
         "a module with a parameter needs another, whose names have `_` for each `-`",
         SOUND,
@@ -136,7 +136,7 @@ fn modules(rt: HostRuntime) -> Result<(), Fail> {
 }
 
 /// A name, and the slot of the module that has it in normal form.
-const SLOTS: [(&str, Option<usize>); 3] = [
+static SLOTS: [(&str, Option<usize>); 3] = [
     ("snd", Some(0)),
     ("snd_pcm", Some(1)),
     ("snd-pcm", None),
@@ -168,7 +168,7 @@ fn slots_of_a_catalogue(rt: HostRuntime) -> Result<(), Fail> {
 }
 
 /// What a row shows, a text that is refused, and its first fault.
-const FAULTS: [(&str, &[u8], CatError); 27] = [
+static FAULTS: [(&str, &[u8], CatError); 27] = [
     (
         "two names are one in normal form",
         b"module q\nmodule a-b\nmodule a_b\n",
@@ -332,7 +332,7 @@ fn count_behind(alloc: Global, head: &[u8], count: usize) -> Result<usize, CatEr
 }
 
 /// The head of a text, how many modules stand behind it, and how many are read, or the line of the one too many.
-const LIMITS: [(&str, usize, Result<usize, CatError>); 6] = [
+static LIMITS: [(&str, usize, Result<usize, CatError>); 6] = [
     ("", 256, Ok(256)),
     ("", 257, Err(CatError::TooMany { line: 257 })),
     ("version 2\n", 1024, Ok(1024)),
@@ -353,7 +353,7 @@ const DEPENDENCIES: &[u8] =
     b"kernel/a.ko: kernel/b.ko\n# none\nkernel/b.ko.xz: kernel/a.ko\n\t x-1.ko :\td/y.ko.zst d/y.ko /z\r\n";
 
 /// A name, and the names that it depends on, one a line.
-const DEPS: [(&str, &[u8]); 4] = [
+static DEPS: [(&str, &[u8]); 4] = [
     ("a", b"b\n"),
     ("b", b"a\n"),
     ("x_1", b"y\ny\nz\n"),
@@ -361,10 +361,12 @@ const DEPS: [(&str, &[u8]); 4] = [
 ];
 
 fn deps_text(alloc: Global, index: &DepIndex, name: &[u8]) -> Result<Vec<u8>, AllocError> {
+    let mut text = Vec::new(alloc);
     match index.deps(name) {
-        Some(names) => names_text(alloc, names),
-        None => Vec::from_slice(alloc, b"no line\n"),
+        Some(names) => push_name_lines(&mut text, names)?,
+        None => text.extend_from_slice(b"no line\n")?,
     }
+    Ok(text)
 }
 
 #[test]
@@ -378,7 +380,7 @@ fn dependencies(rt: HostRuntime) -> Result<(), Fail> {
 }
 
 /// What a row shows, a modules.dep text that is refused, and its first fault.
-const DEP_FAULTS: [(&str, &[u8], DepError); 6] = [
+static DEP_FAULTS: [(&str, &[u8], DepError); 6] = [
     (
         "no colon",
         b"kernel/a.ko kernel/b.ko\n",

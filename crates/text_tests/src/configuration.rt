@@ -66,7 +66,7 @@ const OTHER_BYTES: &[u8] =
 const CARRIAGE_RETURNS: &[u8] = b"options a p \\\r\nq\\\r\r\noptions b r \\ s\n";
 
 /// What a row shows, a text, a name, and what the text says of it.
-const SAID: [(&str, &[u8], &[u8], &[u8]); 24] = [
+static SAID: [(&str, &[u8], &[u8], &[u8]); 24] = [
     (
         "a softdep line and an options line of one name",
         ITEMS,
@@ -195,7 +195,7 @@ const SAID: [(&str, &[u8], &[u8], &[u8]); 24] = [
 
 fn said(alloc: Global, text: &[u8], name: &[u8]) -> Result<Vec<u8>, AllocError> {
     let conf = read_conf(alloc, text)?;
-    Ok(said_of(alloc, &conf, name)?)
+    said_of(alloc, &conf, name)
 }
 
 #[test]
@@ -208,7 +208,7 @@ fn says_of_names(rt: HostRuntime) -> Result<(), Fail> {
 }
 
 /// What a row shows, a text, and the numbers of its lines without effect.
-const SKIPPED: [(&str, &[u8], &[usize]); 7] = [
+static SKIPPED: [(&str, &[u8], &[usize]); 7] = [
     ("lines with items", ITEMS, &[]),
     ("joined lines", JOINED, &[]),
     (

@@ -2,7 +2,7 @@
 ghost use Rattle.std.specs.Prelude.{◌≡◌, ◌<◌, length, IfOk};
 ghost use Rattle.dep_index.specs.Catalogue.{modules_of};
 
-use crate::texts::{is_answer, push_number};
+use crate::texts::{holds, is_answer};
 use dep_index::{Call, Catalogue, read_catalogue};
 use proc_modules::{
     Line, LineError, LineState, lsmod_text, modinfo_text, proc_text, read_line, write_line,
@@ -11,89 +11,93 @@ use seq_table::{Modules, Table};
 use std::alloc::{AllocError, Global};
 use std::test::Fail;
 
-/// How many bytes a line took, and the line that is written of it.
-fn line_text(alloc: Global, line: &Line, used: usize) -> Result<Vec<u8>, AllocError> {
-    let mut text = Vec::new(alloc);
-    push_number(alloc, &mut text, used)?;
-    text.extend_from_slice(b" ")?;
-    text.extend_from_slice(&write_line(alloc, line)?)?;
-    Ok(text)
+/// What is written of the line that a text begins with, and how many bytes the line took.
+fn written_again(alloc: Global, text: &[u8]) -> Result<(Vec<u8>, usize), Fail> {
+    let (line, used) = read_line(alloc, text)?;
+    Ok((write_line(alloc, &line)?, used))
 }
 
-fn error_text(alloc: Global, error: LineError) -> Result<Vec<u8>, AllocError> {
-    let text = format!(in alloc; "{error:?}")?;
-    Vec::from_slice(alloc, text.as_bytes())
-}
-
-/// What a text reads as: how many bytes the line took and what is written of it, or why it is none.
-fn reading(alloc: Global, text: &[u8]) -> Result<Vec<u8>, AllocError> {
-    match read_line(alloc, text) {
-        Ok((line, used)) => line_text(alloc, &line, used),
-        Err(error) => error_text(alloc, error),
-    }
-}
-
-/// Texts, and what they read as.
-const LINES: [(&str, &str); 29] = [
+/// Texts, how many bytes the line took, and what is written of it.
+static LINES: [(&str, usize, &str); 8] = [
     (
         "snd 114688 1 snd_pcm, Live 0x0000000000000000",
-        "45 snd 114688 1 snd_pcm, Live 0x0000000000000000\n",
+        45,
+        "snd 114688 1 snd_pcm, Live 0x0000000000000000\n",
     ),
     (
         "snd 114688 1 snd_pcm, Live 0x0000000000000000 (OE)",
-        "50 snd 114688 1 snd_pcm, Live 0x0000000000000000\n",
+        50,
+        "snd 114688 1 snd_pcm, Live 0x0000000000000000\n",
     ),
     (
         "a 0 0 - Live 0x0\nb",
-        "17 a 0 0 - Live 0x0000000000000000\n",
+        17,
+        "a 0 0 - Live 0x0000000000000000\n",
     ),
-    ("a 0 0 - Live 0x0", "16 a 0 0 - Live 0x0000000000000000\n"),
+    ("a 0 0 - Live 0x0", 16, "a 0 0 - Live 0x0000000000000000\n"),
     (
         "snd_timer 49152 2 snd_seq,snd_pcm, Live 0xffffffffc0a4f000\n",
-        "59 snd_timer 49152 2 snd_seq,snd_pcm, Live 0x0000000000000000\n",
+        59,
+        "snd_timer 49152 2 snd_seq,snd_pcm, Live 0x0000000000000000\n",
     ),
     (
         "vfat 24576 1 - Live 0x0000000000000000 (E)\n",
-        "43 vfat 24576 1 - Live 0x0000000000000000\n",
+        43,
+        "vfat 24576 1 - Live 0x0000000000000000\n",
     ),
     (
         "p 1 2 a,[permanent], Unloading 0xAbCdEf0123456789",
-        "49 p 1 2 a,[permanent], Unloading 0x0000000000000000\n",
+        49,
+        "p 1 2 a,[permanent], Unloading 0x0000000000000000\n",
     ),
     (
         "p 4294967295 0 [permanent], Loading 0x1",
-        "39 p 4294967295 0 [permanent], Loading 0x0000000000000000\n",
+        39,
+        "p 4294967295 0 [permanent], Loading 0x0000000000000000\n",
     ),
-    ("", "MissingField"),
-    ("snd", "MissingField"),
-    ("snd 114688", "MissingField"),
-    ("snd 114688 1", "MissingField"),
-    ("snd 114688 1 snd_pcm,", "MissingField"),
-    ("snd 114688 1 snd_pcm, Live", "MissingField"),
-    ("snd-pcm 1 0 - Live 0x0", "BadName"),
-    (" 1 0 - Live 0x0", "BadName"),
-    ("snd  1 0 - Live 0x0", "BadNumber"),
-    ("snd 01 0 - Live 0x0", "BadNumber"),
-    ("snd 4294967296 0 - Live 0x0", "BadNumber"),
-    ("snd 1 - - Live 0x0", "BadNumber"),
-    ("snd 1 1 snd_pcm Live 0x0", "BadUsers"),
-    ("snd 1 1 , Live 0x0", "BadUsers"),
-    ("snd 1 1 [permanent],a, Live 0x0", "BadUsers"),
-    ("snd 1 0 - live 0x0", "BadState"),
-    ("snd 1 0 - Live 0x", "BadAddress"),
-    ("snd 1 0 - Live 0x00000000000000000", "BadAddress"),
-    ("snd 1 0 - Live 0x0 ", "BadAddress"),
-    ("snd 1 0 - Live 0x0 (E) b", "BadAddress"),
-    ("snd 1 0 - Live 0x0\r\n", "BadAddress"),
+];
+
+/// Texts that begin with no line, and why.
+static NO_LINES: [(&str, LineError); 21] = [
+    ("", LineError::MissingField),
+    ("snd", LineError::MissingField),
+    ("snd 114688", LineError::MissingField),
+    ("snd 114688 1", LineError::MissingField),
+    ("snd 114688 1 snd_pcm,", LineError::MissingField),
+    ("snd 114688 1 snd_pcm, Live", LineError::MissingField),
+    ("snd-pcm 1 0 - Live 0x0", LineError::BadName),
+    (" 1 0 - Live 0x0", LineError::BadName),
+    ("snd  1 0 - Live 0x0", LineError::BadNumber),
+    ("snd 01 0 - Live 0x0", LineError::BadNumber),
+    ("snd 4294967296 0 - Live 0x0", LineError::BadNumber),
+    ("snd 1 - - Live 0x0", LineError::BadNumber),
+    ("snd 1 1 snd_pcm Live 0x0", LineError::BadUsers),
+    ("snd 1 1 , Live 0x0", LineError::BadUsers),
+    ("snd 1 1 [permanent],a, Live 0x0", LineError::BadUsers),
+    ("snd 1 0 - live 0x0", LineError::BadState),
+    ("snd 1 0 - Live 0x", LineError::BadAddress),
+    ("snd 1 0 - Live 0x00000000000000000", LineError::BadAddress),
+    ("snd 1 0 - Live 0x0 ", LineError::BadAddress),
+    ("snd 1 0 - Live 0x0 (E) b", LineError::BadAddress),
+    ("snd 1 0 - Live 0x0\r\n", LineError::BadAddress),
 ];
 
 #[test]
 fn reads_lines(rt: HostRuntime) -> Result<(), Fail> {
-    for (text, wanted) in &LINES {
-        let found = reading(rt.alloc(), text.as_bytes())?;
+    for (text, length, wanted) in &LINES {
+        let (found, used) = written_again(rt.alloc(), text.as_bytes())?;
+        holds(&rt, text, used == *length);
         is_answer(&rt, text, &found, wanted.as_bytes());
     }
     Ok(())
+}
+
+#[test]
+fn refuses_lines(rt: HostRuntime) {
+    for (text, fault) in &NO_LINES {
+        let found = read_line(rt.alloc(), text.as_bytes()).err();
+        holds(&rt, text, found == Some(*fault));
+    }
 }
 
 /// The line is that of `snd`, which is Loading and permanent, with a size of 7, a count of 2 and two users.
@@ -196,7 +200,7 @@ struct Row {
     lsmod: &'static [u8],
 }
 
-const LISTINGS: [Row; 3] = [
+static LISTINGS: [Row; 3] = [
     Row {
         shows: "a table in all states",
         catalogue: CARDS,
@@ -281,7 +285,7 @@ fn listed_after(
     calls: &[Call],
 ) -> Result<(Vec<u8>, Vec<u8>), AllocError> {
     let table = table_after(alloc, catalogue, calls)?;
-    Ok(both_texts(alloc, catalogue, &table)?)
+    both_texts(alloc, catalogue, &table)
 }
 
 fn listed(alloc: Global, row: &Row) -> Result<(Vec<u8>, Vec<u8>), Fail> {
@@ -308,7 +312,7 @@ fn told_of(alloc: Global, catalogue: &Catalogue, name: &[u8]) -> Result<Vec<u8>,
 }
 
 /// A catalogue, a name, and what is told of the module of the name.
-const MODULES: [(&[u8], &str, &[u8]); 2] = [
+static MODULES: [(&[u8], &str, &[u8]); 2] = [
     (
         CARDS,
         "snd_pcm",

@@ -9,7 +9,7 @@ mod prefixes;
 mod removals;
 mod soft_items;
 
-use crate::texts::{names_text, push_word};
+use crate::texts::{push_name_lines, push_word};
 use alias_match::{Aliases, read_aliases};
 use dep_index::{CatError, Catalogue, DepError, DepIndex, read_catalogue, read_dep};
 use load_plan::{FindError, Item, PlanError, Sources, find, plan, removal_plan};
@@ -123,12 +123,12 @@ fn dependencies_at(alloc: Global, cut: Cut) -> Result<DepIndex, DepError> {
 
 fn configuration_at(alloc: Global, cut: Cut) -> Result<Conf, AllocError> {
     let text = text_at(alloc, cut, b'M')?;
-    Ok(read_conf(alloc, &text)?)
+    read_conf(alloc, &text)
 }
 
 fn aliases_at(alloc: Global, cut: Cut) -> Result<Aliases, AllocError> {
     let text = text_at(alloc, cut, b'A')?;
-    Ok(read_aliases(alloc, &text)?)
+    read_aliases(alloc, &text)
 }
 
 fn catalogue_fault(alloc: Global, error: CatError) -> Result<Vec<u8>, Fail> {
@@ -146,21 +146,20 @@ fn dependencies_fault(alloc: Global, error: DepError) -> Result<Vec<u8>, Fail> {
     }
 }
 
-fn fault_text(alloc: Global, word: &[u8], name: &Name) -> Result<Vec<u8>, AllocError> {
-    let mut text = Vec::from_slice(alloc, word)?;
+fn add_fault(text: &mut Vec<u8>, word: &[u8], name: &Name) -> Result<(), AllocError> {
+    text.extend_from_slice(word)?;
     text.extend_from_slice(name.as_bytes())?;
-    text.extend_from_slice(b"\n")?;
-    Ok(text)
+    text.extend_from_slice(b"\n")
 }
 
-/// Why there is no plan.
-fn refusal_text(alloc: Global, error: PlanError) -> Result<Vec<u8>, AllocError> {
+/// Adds why there is no plan.
+fn add_refusal(text: &mut Vec<u8>, error: &PlanError) -> Result<(), AllocError> {
     match error {
-        PlanError::Cycle(name) => fault_text(alloc, b"cycle ", &name),
-        PlanError::Install(name) => fault_text(alloc, b"install ", &name),
-        PlanError::Unknown(name) => fault_text(alloc, b"unknown ", &name),
-        PlanError::Remove(name) => fault_text(alloc, b"remove ", &name),
-        PlanError::Memory => Vec::from_slice(alloc, b"out of memory\n"),
+        PlanError::Cycle(name) => add_fault(text, b"cycle ", name),
+        PlanError::Install(name) => add_fault(text, b"install ", name),
+        PlanError::Unknown(name) => add_fault(text, b"unknown ", name),
+        PlanError::Remove(name) => add_fault(text, b"remove ", name),
+        PlanError::Memory => text.extend_from_slice(b"out of memory\n"),
     }
 }
 
@@ -177,24 +176,24 @@ fn add_item(text: &mut Vec<u8>, catalogue: &Catalogue, item: &Item) -> Result<()
     text.extend_from_slice(b"\n")
 }
 
-fn items_text(alloc: Global, catalogue: &Catalogue, items: &[Item]) -> Result<Vec<u8>, AllocError> {
-    let mut text = Vec::new(alloc);
+fn add_items(text: &mut Vec<u8>, catalogue: &Catalogue, items: &[Item]) -> Result<(), AllocError> {
     for item in items {
-        add_item(&mut text, catalogue, item)?;
+        add_item(text, catalogue, item)?;
     }
-    Ok(text)
+    Ok(())
 }
 
-/// The plan, an item a line, or why there is none.
-fn plan_text(
+/// Adds the plan, an item a line, or why there is none.
+fn add_plan(
     alloc: Global,
+    text: &mut Vec<u8>,
     sources: &Sources,
     name: &[u8],
     words: &[&[u8]],
-) -> Result<Vec<u8>, AllocError> {
+) -> Result<(), AllocError> {
     match plan(alloc, name, words, sources) {
-        Ok(items) => items_text(alloc, sources.catalogue, &items),
-        Err(error) => refusal_text(alloc, error),
+        Ok(items) => add_items(text, sources.catalogue, &items),
+        Err(error) => add_refusal(text, &error),
     }
 }
 
@@ -207,33 +206,34 @@ fn add_slot(text: &mut Vec<u8>, catalogue: &Catalogue, slot: usize) -> Result<()
     text.extend_from_slice(b"\n")
 }
 
-fn slots_text(
-    alloc: Global,
-    catalogue: &Catalogue,
-    order: &[usize],
-) -> Result<Vec<u8>, AllocError> {
-    let mut text = Vec::new(alloc);
+fn add_slots(text: &mut Vec<u8>, catalogue: &Catalogue, order: &[usize]) -> Result<(), AllocError> {
     for slot in order {
-        add_slot(&mut text, catalogue, *slot)?;
+        add_slot(text, catalogue, *slot)?;
     }
-    Ok(text)
+    Ok(())
 }
 
-/// The removal plan, a module a line, or why there is none.
-fn removal_text(alloc: Global, sources: &Sources, name: &[u8]) -> Result<Vec<u8>, AllocError> {
-    match removal_plan(alloc, name, sources) {
-        Ok(order) => slots_text(alloc, sources.catalogue, &order),
-        Err(error) => refusal_text(alloc, error),
-    }
-}
-
-/// The modules that are found, one a line, or that there are none.
-fn found_text(
+/// Adds the removal plan, a module a line, or why there is none.
+fn add_removal(
     alloc: Global,
+    text: &mut Vec<u8>,
+    sources: &Sources,
+    name: &[u8],
+) -> Result<(), AllocError> {
+    match removal_plan(alloc, name, sources) {
+        Ok(order) => add_slots(text, sources.catalogue, &order),
+        Err(error) => add_refusal(text, &error),
+    }
+}
+
+/// Adds the modules that are found, one a line, or that there are none.
+fn add_found(
+    alloc: Global,
+    text: &mut Vec<u8>,
     cut: Cut,
     sources: &Sources,
     name: &[u8],
-) -> Result<Vec<u8>, AllocError> {
+) -> Result<(), AllocError> {
     let aliases = aliases_at(alloc, cut)?;
     let found = find(
         alloc,
@@ -243,44 +243,32 @@ fn found_text(
         &aliases,
     );
     match found {
-        Ok(names) => names_text(alloc, &names),
-        Err(FindError::NotFound) => Vec::from_slice(alloc, b"not found\n"),
-        Err(FindError::Memory) => Vec::from_slice(alloc, b"out of memory\n"),
+        Ok(names) => push_name_lines(text, &names),
+        Err(FindError::NotFound) => text.extend_from_slice(b"not found\n"),
+        Err(FindError::Memory) => text.extend_from_slice(b"out of memory\n"),
     }
 }
 
-/// The answer to a line of words: what is asked, a name, the words of the command.
-fn answer_to(
+/// Adds the answer to a line of words: what is asked, a name, the words of the command.
+fn add_answer(
     alloc: Global,
+    text: &mut Vec<u8>,
     cut: Cut,
     sources: &Sources,
     asked: &[&[u8]],
-) -> Result<Vec<u8>, AllocError> {
-    let Some((kind, asked)) = asked.split_first() else {
-        return Vec::from_slice(alloc, b"nothing is asked\n");
-    };
-    let Some((name, words)) = asked.split_first() else {
-        return Vec::from_slice(alloc, b"no name\n");
+) -> Result<(), AllocError> {
+    let [kind, name, words @ ..] = asked else {
+        return text.extend_from_slice(b"no name\n");
     };
     if *kind == b"plan".as_slice() {
-        plan_text(alloc, sources, name, words)
+        add_plan(alloc, text, sources, name, words)
     } else if *kind == b"removal".as_slice() {
-        removal_text(alloc, sources, name)
+        add_removal(alloc, text, sources, name)
     } else if *kind == b"look-up".as_slice() {
-        found_text(alloc, cut, sources, name)
+        add_found(alloc, text, cut, sources, name)
     } else {
-        Vec::from_slice(alloc, b"no such question\n")
+        text.extend_from_slice(b"no such question\n")
     }
-}
-
-fn answer_to_line(
-    alloc: Global,
-    cut: Cut,
-    sources: &Sources,
-    question: &[u8],
-) -> Result<Vec<u8>, AllocError> {
-    let asked = words(alloc, question)?;
-    Ok(answer_to(alloc, cut, sources, &asked)?)
 }
 
 /// The answers to the questions of a row, in order.
@@ -288,8 +276,8 @@ fn row_answer(alloc: Global, cut: Cut, sources: &Sources) -> Result<Vec<u8>, All
     let mut text = Vec::new(alloc);
     for line in whole_lines(cut.row) {
         if let Some(question) = behind_mark(line, b'?') {
-            let answer = answer_to_line(alloc, cut, sources, question)?;
-            text.extend_from_slice(&answer)?;
+            let asked = words(alloc, question)?;
+            add_answer(alloc, &mut text, cut, sources, &asked)?;
         }
     }
     Ok(text)
@@ -308,7 +296,7 @@ fn answer_over(
         dependencies,
         configuration: &configuration,
     };
-    Ok(row_answer(alloc, cut, &sources)?)
+    row_answer(alloc, cut, &sources)
 }
 
 /// The answer over a catalogue, or why the text of modules.dep is refused.

@@ -13,7 +13,7 @@ fn answer(alloc: Global, pattern: &str, text: &str) -> Result<bool, PatternError
 }
 
 /// A pattern, a text, and whether the one matches the other, or why the pattern is none.
-const ANSWERS: [(&str, &str, Result<bool, PatternError>); 37] = [
+static ANSWERS: [(&str, &str, Result<bool, PatternError>); 37] = [
     ("[", "", Err(PatternError::Unclosed)),
     ("[]", "", Err(PatternError::Unclosed)),
     ("[!]", "", Err(PatternError::Unclosed)),
@@ -94,7 +94,7 @@ const ALIASES: &[u8] =
     b"# alias a b\n\nalias usb:v[0-9A-F]*p?? usbx\r\nalias x\nalias [ y\n\talias snd-* snd-pcm more\noptions q r";
 
 /// A text, and the targets of the aliases that match it, one a line.
-const TARGETS: [(&str, &[u8]); 2] = [("usb:v0Ap12", b"usbx\n"), ("snd_hda", b"snd_pcm\n")];
+static TARGETS: [(&str, &[u8]); 2] = [("usb:v0Ap12", b"usbx\n"), ("snd_hda", b"snd_pcm\n")];
 
 fn targets_text(alloc: Global, aliases: &Aliases, name: &[u8]) -> Result<Vec<u8>, AllocError> {
     let mut text = Vec::new(alloc);

@@ -64,12 +64,11 @@ pub(crate) fn push_names(
     Ok(())
 }
 
-/// Names, one a line.
-pub(crate) fn names_text(alloc: Global, names: &[Name]) -> Result<Vec<u8>, AllocError> {
-    let mut text = Vec::new(alloc);
+/// Adds names, one a line.
+pub(crate) fn push_name_lines(text: &mut Vec<u8>, names: &[Name]) -> Result<(), AllocError> {
     for name in names {
         text.extend_from_slice(name.as_bytes())?;
         text.push(b'\n')?;
     }
-    Ok(text)
+    Ok(())
 }

@@ -1,6 +1,6 @@
 //! Which modules are found for a name.
 
-pub(super) const ROWS: [&str; 8] = [
+pub(super) static ROWS: [&str; 8] = [
     "C module usbx
 A alias usb:v[0-9A-F]*p?? usbx
 # an alias leads to its module

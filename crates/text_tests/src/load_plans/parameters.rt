@@ -4,6 +4,7 @@ use crate::texts::holds;
 use dep_index::read_catalogue;
 use load_plan::params_valid;
 use std::alloc::Global;
+use std::process::Abort;
 
 /// Modules of which the second has a truth value and a number.
 const LEVELS: &[u8] =
@@ -22,183 +23,195 @@ fn takes(alloc: Global, catalogue: &[u8], slot: usize, words: &[&[u8]]) -> Optio
     }
 }
 
-/// A word behind another one, and whether the second module takes both.
-const LEVEL_WORDS: [(&str, bool); 28] = [
-    ("debug", true),
-    ("debug=Y", true),
-    ("debug=0", true),
-    ("other=9", true),
-    ("other", true),
-    ("level=-0x80000000", true),
-    ("level=2147483647", true),
-    ("level=-0", true),
-    ("level=0X7fffFFFF", true),
-    ("level=0000000000017", true),
-    ("level=0x00000000001", true),
-    ("le-vel=x", true),
-    ("debug=maybe", false),
-    ("debug=", false),
-    ("debug=yes", false),
-    ("level", false),
-    ("level=", false),
-    ("level=-", false),
-    ("level=2147483648", false),
-    ("level=-2147483649", false),
-    ("level=+1", false),
-    ("level=0x", false),
-    ("level=1a", false),
-    ("level=--1", false),
-    ("level=99999999999999999999999999", false),
-    ("level=1=2", false),
-    ("level=\"3\"", false),
-    ("debug=\"y\"", false),
-];
-
-#[test]
-fn values(rt: HostRuntime) {
-    for (word, valid) in &LEVEL_WORDS {
-        let words: [&[u8]; 2] = [b"first", word.as_bytes()];
-        let found = takes(rt.alloc(), LEVELS, 1, &words);
-        holds(&rt, word, found == Some(*valid));
+/// The module in the slot takes each of the words, alone and behind another one, or takes none of them.
+fn are_taken(
+    rt: &impl Abort,
+    alloc: Global,
+    catalogue: &[u8],
+    slot: usize,
+    words: &str,
+    valid: bool,
+) {
+    for word in words.lines() {
+        let alone = takes(alloc, catalogue, slot, &[word.as_bytes()]);
+        let behind = takes(alloc, catalogue, slot, &[b"first", word.as_bytes()]);
+        holds(rt, word, alone == Some(valid) && behind == Some(valid));
     }
 }
 
-/// A word behind another one, and whether a module takes both whose parameters have `_` for `-`.
-const DASH_WORDS: [(&str, bool); 8] = [
-    ("card_id=", true),
-    ("card-id=a=b", true),
-    ("card-id", false),
-    ("card_id", false),
-    ("fast-io", true),
-    ("fast-io=n", true),
-    ("fast_io=on", false),
-    ("fast-io=on", false),
-];
+/// Words that the second module takes, one a line.
+const LEVEL_WORDS: &str = "debug
+debug=Y
+debug=0
+other=9
+other
+level=-0x80000000
+level=2147483647
+level=-0
+level=0X7fffFFFF
+level=0000000000017
+level=0x00000000001
+le-vel=x
+";
+
+/// Words that it refuses.
+const NO_LEVEL_WORDS: &str = r#"debug=maybe
+debug=
+debug=yes
+level
+level=
+level=-
+level=2147483648
+level=-2147483649
+level=+1
+level=0x
+level=1a
+level=--1
+level=99999999999999999999999999
+level=1=2
+level="3"
+debug="y"
+"#;
+
+#[test]
+fn values(rt: HostRuntime) {
+    are_taken(&rt, rt.alloc(), LEVELS, 1, LEVEL_WORDS, true);
+    are_taken(&rt, rt.alloc(), LEVELS, 1, NO_LEVEL_WORDS, false);
+}
+
+/// Words that a module takes whose parameters have `_` for `-`.
+const DASH_WORDS: &str = "card_id=
+card-id=a=b
+fast-io
+fast-io=n
+";
+
+/// Words that it refuses.
+const NO_DASH_WORDS: &str = "card-id
+card_id
+fast_io=on
+fast-io=on
+";
 
 #[test]
 fn texts_and_names_with_a_dash(rt: HostRuntime) {
-    for (word, valid) in &DASH_WORDS {
-        let words: [&[u8]; 2] = [b"first", word.as_bytes()];
-        let found = takes(rt.alloc(), DASHES, 0, &words);
-        holds(&rt, word, found == Some(*valid));
-    }
+    are_taken(&rt, rt.alloc(), DASHES, 0, DASH_WORDS, true);
+    are_taken(&rt, rt.alloc(), DASHES, 0, NO_DASH_WORDS, false);
 }
 
 /// Two modules: one has a parameter of each kind of version 3, by the kind's name, and the other has their arrays.
 const KINDS: &[u8] =
     b"version 3\nmodule one\nparam byte byte\nparam short short\nparam ushort ushort\nparam int int\nparam uint uint\nparam long long\nparam ulong ulong\nparam ullong ullong\nparam hexint hexint\nparam bool bool\nparam bint bint\nparam invbool invbool\nmodule many\nparam byte byte[]\nparam short short[]\nparam ulong ulong[]\nparam bool bool[]\n";
 
-/// A word, and whether the first module takes it.
-const KIND_WORDS: [(&str, bool); 65] = [
-    ("byte=0", true),
-    ("byte=255", true),
-    ("byte=0xfF", true),
-    ("byte=000255", true),
-    ("byte=256", false),
-    ("byte=0x100", false),
-    ("byte=-0", false),
-    ("byte", false),
-    ("short=32767", true),
-    ("short=-32768", true),
-    ("short=-0x8000", true),
-    ("short=32768", false),
-    ("short=-32769", false),
-    ("ushort=65535", true),
-    ("ushort=65536", false),
-    ("ushort=-1", false),
-    ("int=2147483647", true),
-    ("int=-2147483648", true),
-    ("int=2147483648", false),
-    ("int=-2147483649", false),
-    ("uint=4294967295", true),
-    ("uint=0XFFFFFFFF", true),
-    ("uint=4294967296", false),
-    ("uint=-1", false),
-    ("uint=+1", false),
-    ("long=9223372036854775807", true),
-    ("long=-9223372036854775808", true),
-    ("long=9223372036854775808", false),
-    ("long=-9223372036854775809", false),
-    ("ulong=18446744073709551615", true),
-    ("ulong=0xffffffffffffffff", true),
-    ("ulong=18446744073709551616", false),
-    ("ulong=0x10000000000000000", false),
-    ("ulong=340282366920938463463374607431768211456", false),
-    ("ulong=0x", false),
-    ("ulong=", false),
-    ("ulong", false),
-    ("hexint=0xffffffff", true),
-    ("hexint=17", true),
-    ("hexint=ff", false),
-    ("hexint=0x100000000", false),
-    ("invbool", false),
-    ("invbool=N", true),
-    ("invbool=2", false),
-    ("invbool=", false),
-    ("bool", true),
-    ("ullong=18446744073709551615", true),
-    ("ullong=0xFFFFFFFFFFFFFFFF", true),
-    ("ullong=18446744073709551616", false),
-    ("ullong=-1", false),
-    ("ullong", false),
-    ("bint", true),
-    ("bint=N", true),
-    ("bint=2", false),
-    ("bint=", false),
-    ("byte=1,2", false),
-    ("int=\"3\"", true),
-    ("int=\"3", true),
-    ("int=3\"", false),
-    ("int=\"\"", false),
-    ("int=\"", false),
-    ("int=\"\"3\"\"", false),
-    ("int=\"1 2\"", false),
-    ("invbool=\"N\"", true),
-    ("bool=\"\"", false),
-];
+/// Words that the first module takes.
+const KIND_WORDS: &str = r#"byte=0
+byte=255
+byte=0xfF
+byte=000255
+short=32767
+short=-32768
+short=-0x8000
+ushort=65535
+int=2147483647
+int=-2147483648
+uint=4294967295
+uint=0XFFFFFFFF
+long=9223372036854775807
+long=-9223372036854775808
+ulong=18446744073709551615
+ulong=0xffffffffffffffff
+hexint=0xffffffff
+hexint=17
+invbool=N
+bool
+ullong=18446744073709551615
+ullong=0xFFFFFFFFFFFFFFFF
+bint
+bint=N
+int="3"
+int="3
+invbool="N"
+"#;
+
+/// Words that it refuses.
+const NO_KIND_WORDS: &str = r#"byte=256
+byte=0x100
+byte=-0
+byte
+short=32768
+short=-32769
+ushort=65536
+ushort=-1
+int=2147483648
+int=-2147483649
+uint=4294967296
+uint=-1
+uint=+1
+long=9223372036854775808
+long=-9223372036854775809
+ulong=18446744073709551616
+ulong=0x10000000000000000
+ulong=340282366920938463463374607431768211456
+ulong=0x
+ulong=
+ulong
+hexint=ff
+hexint=0x100000000
+invbool
+invbool=2
+invbool=
+ullong=18446744073709551616
+ullong=-1
+ullong
+bint=2
+bint=
+byte=1,2
+int=3"
+int=""
+int="
+int=""3""
+int="1 2"
+bool=""
+"#;
 
 #[test]
 fn kinds_of_version_3(rt: HostRuntime) {
-    for (word, valid) in &KIND_WORDS {
-        let words: [&[u8]; 1] = [word.as_bytes()];
-        let found = takes(rt.alloc(), KINDS, 0, &words);
-        holds(&rt, word, found == Some(*valid));
-    }
+    are_taken(&rt, rt.alloc(), KINDS, 0, KIND_WORDS, true);
+    are_taken(&rt, rt.alloc(), KINDS, 0, NO_KIND_WORDS, false);
 }
 
-/// A word, and whether the module of the arrays takes it.
-const ARRAY_WORDS: [(&str, bool); 18] = [
-    ("byte=7", true),
-    ("byte=0,255,0x10", true),
-    ("byte=0,256,1", false),
-    ("byte=", false),
-    ("byte", false),
-    ("byte=,", false),
-    ("byte=1,", false),
-    ("byte=,1", false),
-    ("byte=1,,2", false),
-    ("byte=1, 2", false),
-    ("byte=\"1,2\"", true),
-    ("byte=\"1\",\"2\"", false),
-    ("short=-1,1", true),
-    ("ulong=18446744073709551615,0", true),
-    ("bool=y,N,0", true),
-    ("bool", false),
-    ("bool=y,", false),
-    ("other", true),
-];
+/// Words that the module of the arrays takes.
+const ARRAY_WORDS: &str = r#"byte=7
+byte=0,255,0x10
+byte="1,2"
+short=-1,1
+ulong=18446744073709551615,0
+bool=y,N,0
+other
+"#;
+
+/// Words that it refuses.
+const NO_ARRAY_WORDS: &str = r#"byte=0,256,1
+byte=
+byte
+byte=,
+byte=1,
+byte=,1
+byte=1,,2
+byte=1, 2
+byte="1","2"
+bool
+bool=y,
+"#;
 
 #[test]
 fn arrays_of_version_3(rt: HostRuntime) {
-    for (word, valid) in &ARRAY_WORDS {
-        let words: [&[u8]; 1] = [word.as_bytes()];
-        let found = takes(rt.alloc(), KINDS, 1, &words);
-        holds(&rt, word, found == Some(*valid));
-    }
+    are_taken(&rt, rt.alloc(), KINDS, 1, ARRAY_WORDS, true);
+    are_taken(&rt, rt.alloc(), KINDS, 1, NO_ARRAY_WORDS, false);
 }
 
 /// What a row shows, a slot, words, and whether the module in the slot takes them.
-const LISTS: [(&str, usize, &[&[u8]], bool); 4] = [
+static LISTS: [(&str, usize, &[&[u8]], bool); 4] = [
     ("no words", 1, &[], true),
     ("two good words", 1, &[b"debug", b"other=9"], true),
     (

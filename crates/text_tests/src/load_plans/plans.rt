@@ -1,6 +1,6 @@
 //! Plans: hard dependencies, install lines, options.
 
-pub(super) const ROWS: [&str; 9] = [
+pub(super) static ROWS: [&str; 9] = [
     "C module x
 C module y
 C param debug bool

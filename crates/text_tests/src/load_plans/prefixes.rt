@@ -1,6 +1,6 @@
 //! Rows of which one text is cut at each length: the answer is what the part of the text says that is there.
 
-pub(super) const ROWS: [&str; 11] = [
+pub(super) static ROWS: [&str; 11] = [
     "# the catalogue of one module
 C module usbx
 ? plan usbx

@@ -1,6 +1,6 @@
 //! Removal plans.
 
-pub(super) const ROWS: [&str; 6] = [
+pub(super) static ROWS: [&str; 6] = [
     "C module snd
 C exports snd_card_new
 C module snd-pcm

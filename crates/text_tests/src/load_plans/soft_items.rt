@@ -1,6 +1,6 @@
 //! Soft items: which are taken, where they stand, and how they are marked.
 
-pub(super) const ROWS: [&str; 15] = [
+pub(super) static ROWS: [&str; 15] = [
     "# soft items stand before and after their module
 C module a
 C module c
