@@ -1,4 +1,4 @@
-//! The parts of an input: its catalogue, and the lines behind it that say something.
+//! The parts of an input: its catalogue, and the lines after it that say something.
 ghost use Rattle.std.specs.Prelude.{◌≡◌, ◌≤◌, IfOk, IfSome, Option};
 ghost use Rattle.workload_drive.specs.Statements.{behind_head, text_before, lines_behind, statements, parts_of, from_one, marked, setting_in, setting};
 ghost use Rattle.workload_drive.specs.ForProofs.{Reads, lines_in, statements_in, parts_in};
@@ -23,7 +23,7 @@ pub(crate) struct Statement<'a> {
     pub(crate) words: Vec<&'a [u8]>,
 }
 
-/// An input: its catalogue, what it says behind it, and the number of the line behind its last.
+/// An input: its catalogue, what it says after it, and the number of the line after its last.
 #[derive(Drop)]
 pub(crate) struct Parts<'a> {
     pub(crate) catalogue: Catalogue,
@@ -61,7 +61,7 @@ fn text_before(alloc: Global, section: &[u8], lines: &[Line<'_>]) -> Result<Vec<
     Ok(text)
 }
 
-/// The lines behind a section line.
+/// The lines after a section line.
 fn lines_behind<'l, 'a>(section: &[u8], lines: &'l [Line<'a>]) -> &'l [Line<'a>]
     ensures { lines_in result.now ≡ lines_behind section.now (lines_in lines.now) }
 {
