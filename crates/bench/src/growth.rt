@@ -1,7 +1,6 @@
 //! How the cost of large and hostile sessions grows: each is run at a quarter, a half and the whole of its size.
 
 use crate::figure::print_figure;
-use crate::heap::keep_heap;
 use crate::processor::processor_time;
 use crate::shapes::{SESSIONS, Session, Sizes, push_session};
 use anyhow::{Result, bail};
@@ -21,11 +20,9 @@ const ROUND: u64 = 100_000_000;
 const MOST_RUNS: u64 = 1000;
 
 pub fn measure<R: Print + Files + AllocGlobal>(rt: &R) -> Result<()> {
-    let kept = keep_heap(rt.alloc())?;
     for session in &SESSIONS {
         measure_session(rt, session)?;
     }
-    drop(kept);
     Ok(())
 }
 

@@ -5,7 +5,6 @@ mod catalogue;
 mod configuration;
 mod figure;
 mod growth;
-mod heap;
 mod leaves;
 mod listing;
 mod load;
