@@ -1,149 +1,56 @@
-//! Devices that fail, take one byte at a time, or never end.
-ghost use Rattle.std.specs.Prelude.{◌≡◌, ◌+◌, false, if◌then◌else◌, Some, None, Option};
+//! Readers and writers that fail, give or take one byte at a time, or never end.
 
-use modprobe::{Failed, Sink, Source};
-use std::io::Read;
+use std::io;
+use std::io::{Read, Write};
 
-/// Gives its bytes, and then fails or is at its end.
+/// Fails at each read and at each write.
 #[derive(Drop)]
-pub(crate) struct Scripted<'a> {
-    bytes: &'a [u8],
-    fails: bool,
-    answered: u64,
-    failed: bool,
-}
+pub(crate) struct Broken;
 
-impl<'a> Scripted<'a> {
-    pub(crate) fn new(bytes: &'a [u8], fails: bool) -> Scripted<'a>
-        ensures { result.failed ≡ false }
-    {
-        Scripted {
-            bytes,
-            fails,
-            answered: 0,
-            failed: false,
-        }
+impl Read for Broken {
+    fn read(&mut self, _buffer: &mut [u8]) -> io::Result<usize> {
+        Err(io::Error::from(io::ErrorKind::Other))
     }
 }
 
-impl Source for Scripted<'_> {
-    ghost remaining = { λ s. Some s.bytes.now };
-
-    ghost read_count = { λ s. s.answered + (if s.failed then 1 else 0) };
-
-    ghost has_failed = { λ s. s.failed };
-
-    fn read(&mut self, buffer: &mut [u8]) -> Result<usize, Failed> {
-        let Some(answered) = self.answered.checked_add(1) else {
-            self.failed = true;
-            return Err(Failed);
-        };
-        if self.bytes.is_empty() && self.fails {
-            self.failed = true;
-            return Err(Failed);
-        }
-        match self.bytes.read(buffer) {
-            Ok(count) => {
-                self.answered = answered;
-                Ok(count)
-            }
-            Err(_) => {
-                self.failed = true;
-                Err(Failed)
-            }
-        }
+impl Write for Broken {
+    fn write(&mut self, _bytes: &[u8]) -> io::Result<usize> {
+        Err(io::Error::from(io::ErrorKind::Other))
     }
 
-    fn failed(&self) -> bool {
-        self.failed
+    fn flush(&mut self) -> io::Result<()> {
+        Ok(())
     }
 }
 
-/// Gives a section line first and then a line feed a call, as long as it can count its calls. It tells no bytes.
+/// Gives a line feed a call, and never ends.
 #[derive(Drop)]
-pub(crate) struct Dripping {
-    calls: u64,
-    failed: bool,
-}
+pub(crate) struct Dripping;
 
-impl Dripping {
-    pub(crate) fn new() -> Dripping
-        ensures { result.failed ≡ false }
-    {
-        Dripping {
-            calls: 0,
-            failed: false,
-        }
-    }
-
-    pub(crate) fn calls(&self) -> u64 {
-        self.calls
-    }
-}
-
-impl Source for Dripping {
-    ghost remaining = { λ s. None };
-
-    ghost read_count = { λ s. s.calls + (if s.failed then 1 else 0) };
-
-    ghost has_failed = { λ s. s.failed };
-
-    fn read(&mut self, buffer: &mut [u8]) -> Result<usize, Failed> {
-        let Some(calls) = self.calls.checked_add(1) else {
-            self.failed = true;
-            return Err(Failed);
-        };
-        self.calls = calls;
-        let text: &[u8] = if calls == 1 { b"%catalogue\n" } else { b"\n" };
-        if buffer.len() < text.len() {
+impl Read for Dripping {
+    fn read(&mut self, buffer: &mut [u8]) -> io::Result<usize> {
+        if buffer.is_empty() {
             return Ok(0);
         }
-        buffer[..text.len()].copy_from_slice(text);
-        Ok(text.len())
-    }
-
-    fn failed(&self) -> bool {
-        self.failed
+        buffer[0] = b'\n';
+        Ok(1)
     }
 }
 
-/// Gives its bytes, one a call, as long as it can count its calls. It tells no bytes.
+/// Gives its bytes, one a call.
 #[derive(Drop)]
 pub(crate) struct Trickling<'a> {
     bytes: &'a [u8],
-    calls: u64,
-    failed: bool,
 }
 
 impl<'a> Trickling<'a> {
-    pub(crate) fn new(bytes: &'a [u8]) -> Trickling<'a>
-        ensures { result.failed ≡ false }
-    {
-        Trickling {
-            bytes,
-            calls: 0,
-            failed: false,
-        }
-    }
-
-    pub(crate) fn calls(&self) -> u64 {
-        self.calls
+    pub(crate) fn new(bytes: &'a [u8]) -> Trickling<'a> {
+        Trickling { bytes }
     }
 }
 
-impl Source for Trickling<'_> {
-    ghost remaining = { λ s. None };
-
-    ghost read_count = { λ s. s.calls + (if s.failed then 1 else 0) };
-
-    ghost has_failed = { λ s. s.failed };
-
-    fn read(&mut self, buffer: &mut [u8]) -> Result<usize, Failed> {
-        let Some(calls) = self.calls.checked_add(1) else {
-            self.failed = true;
-            return Err(Failed);
-        };
-        self.calls = calls;
+impl Read for Trickling<'_> {
+    fn read(&mut self, buffer: &mut [u8]) -> io::Result<usize> {
         let Some((first, rest)) = self.bytes.split_first() else {
             return Ok(0);
         };
@@ -154,32 +61,24 @@ impl Source for Trickling<'_> {
         self.bytes = rest;
         Ok(1)
     }
-
-    fn failed(&self) -> bool {
-        self.failed
-    }
 }
 
-/// Takes one byte a call, as long as it has room, and then fails, or takes none. It tells nothing.
+/// Takes one byte a call, as long as it has room, and then fails, or takes none.
 #[derive(Drop)]
 pub(crate) struct Narrow {
     taken: [u8; 256],
     len: usize,
     room: usize,
     fails: bool,
-    failed: bool,
 }
 
 impl Narrow {
-    pub(crate) fn new(room: usize, fails: bool) -> Narrow
-        ensures { result.failed ≡ false }
-    {
+    pub(crate) fn new(room: usize, fails: bool) -> Narrow {
         Narrow {
             taken: [0; 256],
             len: 0,
             room,
             fails,
-            failed: false,
         }
     }
 
@@ -188,25 +87,24 @@ impl Narrow {
     }
 }
 
-impl Sink for Narrow {
-    ghost contents = { λ s. None };
-
-    ghost has_failed = { λ s. s.failed };
-
-    fn write(&mut self, bytes: &[u8]) -> Result<usize, Failed> {
+impl Write for Narrow {
+    fn write(&mut self, bytes: &[u8]) -> io::Result<usize> {
         let Some(first) = bytes.first() else {
             return Ok(0);
         };
         if self.len >= self.room || self.len >= self.taken.len() {
-            self.failed = true;
-            return if self.fails { Err(Failed) } else { Ok(0) };
+            return if self.fails {
+                Err(io::Error::from(io::ErrorKind::Other))
+            } else {
+                Ok(0)
+            };
         }
         self.taken[self.len] = *first;
         self.len += 1;
         Ok(1)
     }
 
-    fn failed(&self) -> bool {
-        self.failed
+    fn flush(&mut self) -> io::Result<()> {
+        Ok(())
     }
 }

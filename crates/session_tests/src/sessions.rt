@@ -1,7 +1,7 @@
 //! Sessions over devices that fail, the longest line, and sessions that run out of memory.
 ghost use Rattle.std.specs.Prelude.{◌≡◌, false};
 
-use crate::devices::{Dripping, Narrow, Scripted, Trickling};
+use crate::devices::{Broken, Dripping, Narrow, Trickling};
 use dep_index::ModuleState;
 use modprobe::{
     Buffer, FromRead, FromWrite, Lines, RunFault, ServeFault, Setup, SetupCode, SetupFault,
@@ -9,6 +9,7 @@ use modprobe::{
 };
 use seq_table::{Modules, Table};
 use std::alloc::{AllocError, Global};
+use std::io::{Chain, Read};
 use std::test::Fail;
 
 const FIRST_RUN: &[u8] =
@@ -18,11 +19,12 @@ const FIRST_ANSWER: &[u8] = b"ok\nno\nok\nyes\nerror EWOULDBLOCK snd\nok\nok\ner
 
 #[test]
 fn a_reader_that_fails_in_a_line(rt: HostRuntime) {
-    let mut reader = Scripted::new(b"%catalogue\nmodule snd\n%session\ninsmod snd\nque", true);
-    let mut writer = Narrow::new(256, false);
-    let result = serve(rt.alloc(), 1, &mut reader, &mut writer);
+    let text = b"%catalogue\nmodule snd\n%session\ninsmod snd\nque".as_slice();
+    let mut reader = FromRead::new(text.chain(Broken));
+    let mut output = FromWrite::new(Narrow::new(256, false));
+    let result = serve(rt.alloc(), 1, &mut reader, &mut output);
     let holds = matches!(result, Err(ServeFault::Run(RunFault::Read)))
-        && writer.text() == b"ok\n".as_slice();
+        && output.writer.text() == b"ok\n".as_slice();
     assert!(rt; holds);
 }
 
@@ -31,17 +33,17 @@ fn a_reader_that_fails_in_a_line(rt: HostRuntime) {
 fn stops_after_a_byte(
     alloc: Global,
     setup: &Setup,
-    lines: &mut Lines<'_, Scripted<'_>>,
+    lines: &mut Lines<'_, FromRead<&[u8]>>,
     fails: bool,
 ) -> Result<bool, AllocError>
     requires { lines.old.reader.now.failed ≡ false }
 {
     let mut table = Table::new(alloc, setup.catalogue(), 1)?;
-    let mut writer = Narrow::new(1, fails);
-    let result = run(alloc, setup, lines, &mut writer, &mut table);
+    let mut output = FromWrite::new(Narrow::new(1, fails));
+    let result = run(alloc, setup, lines, &mut output, &mut table);
     Ok(
         matches!(result, Err(RunFault::Write))
-            && writer.text() == b"o".as_slice()
+            && output.writer.text() == b"o".as_slice()
             && table.slots() == 1
             && matches!(table.state(0), ModuleState::Live),
     )
@@ -49,7 +51,7 @@ fn stops_after_a_byte(
 
 /// The same of the first run, from its input.
 fn first_run_stops(alloc: Global, fails: bool) -> Result<bool, ServeFault> {
-    let mut reader = Scripted::new(FIRST_RUN, false);
+    let mut reader = FromRead::new(FIRST_RUN);
     let buffer = Buffer::new(alloc)?;
     let mut lines = Lines::new(alloc, buffer, &mut reader, 100);
     let setup = read_setup(alloc, &mut lines)?;
@@ -71,7 +73,11 @@ fn a_writer_that_takes_nothing(rt: HostRuntime) -> Result<(), Fail> {
 }
 
 /// The code of the setup that is read in so many turns.
-fn code_after(alloc: Global, reader: &mut Dripping, turns: u64) -> Option<SetupCode>
+fn code_after(
+    alloc: Global,
+    reader: &mut FromRead<Chain<&[u8], Dripping>>,
+    turns: u64,
+) -> Option<SetupCode>
     requires { reader.old.failed ≡ false }
 {
     let buffer = Buffer::new(alloc).ok()?;
@@ -84,16 +90,16 @@ fn code_after(alloc: Global, reader: &mut Dripping, turns: u64) -> Option<SetupC
 
 #[test]
 fn a_reader_that_never_ends(rt: HostRuntime) {
-    let mut reader = Dripping::new();
+    let mut reader = FromRead::new(b"%catalogue\n".as_slice().chain(Dripping));
     let code = code_after(rt.alloc(), &mut reader, 3);
-    assert!(rt; code == Some(SetupCode::Turns) && reader.calls() == 3);
+    assert!(rt; code == Some(SetupCode::Turns) && reader.answered == 3);
 }
 
 /// Answers a session in so many turns, those of its sections included.
 fn run_in_turns(
     alloc: Global,
-    reader: &mut Trickling<'_>,
-    writer: &mut Narrow,
+    reader: &mut FromRead<Trickling<'_>>,
+    writer: &mut FromWrite<Narrow>,
     turns: u64,
 ) -> Result<(), ServeFault>
     requires reader_works { reader.old.failed ≡ false }
@@ -110,10 +116,13 @@ fn run_in_turns(
 /// How a session of two lines ends in so many turns, over a reader that gives a byte a read, and whether it wrote this and
 /// spent all of them.
 fn two_lines_end(alloc: Global, turns: u64, wanted: &[u8]) -> (Result<(), ServeFault>, bool) {
-    let mut reader = Trickling::new(b"%session\nquery a\nquery b\n");
-    let mut writer = Narrow::new(256, false);
-    let result = run_in_turns(alloc, &mut reader, &mut writer, turns);
-    (result, writer.text() == wanted && reader.calls() == turns)
+    let mut reader = FromRead::new(Trickling::new(b"%session\nquery a\nquery b\n"));
+    let mut output = FromWrite::new(Narrow::new(256, false));
+    let result = run_in_turns(alloc, &mut reader, &mut output, turns);
+    (
+        result,
+        output.writer.text() == wanted && reader.answered == turns,
+    )
 }
 
 // The section line takes 9 turns and each further line 8. The end of the input takes one.
@@ -174,17 +183,17 @@ const CARD_ANSWER: &[u8] =
 
 /// Whether a session ends with this answer or, where an allocation is refused, says so after a beginning of it.
 fn is_answered_or_out_of_memory(alloc: Global, input: &[u8], wanted: &[u8]) -> bool {
-    let mut reader = Scripted::new(input, false);
-    let mut writer = Narrow::new(256, false);
-    match serve(alloc, 1, &mut reader, &mut writer) {
-        Ok(()) => writer.text() == wanted,
+    let mut reader = FromRead::new(input);
+    let mut output = FromWrite::new(Narrow::new(256, false));
+    match serve(alloc, 1, &mut reader, &mut output) {
+        Ok(()) => output.writer.text() == wanted,
         Err(ServeFault::Setup(fault)) => {
-            matches!(fault.code, SetupCode::Memory) && writer.text().is_empty()
+            matches!(fault.code, SetupCode::Memory) && output.writer.text().is_empty()
         }
         Err(ServeFault::Run(fault)) => {
-            matches!(fault, RunFault::Memory) && wanted.starts_with(writer.text())
+            matches!(fault, RunFault::Memory) && wanted.starts_with(output.writer.text())
         }
-        Err(ServeFault::Memory) => writer.text().is_empty(),
+        Err(ServeFault::Memory) => output.writer.text().is_empty(),
     }
 }
 

@@ -1,32 +1,12 @@
 //! The programs of sessions and of schedules over streams that fail, and a session with a line that is too long.
 
+use crate::devices::Broken;
 use modsh_drive::FromWrite;
-use std::io;
 use std::io::{Read, Write};
 use std::rt::Files;
 use std::sync::Wait;
 use std::test::Fail;
 use std::thread::Threads;
-
-/// Fails at each read and at each write.
-#[derive(Drop)]
-struct Broken;
-
-impl Read for Broken {
-    fn read(&mut self, _buffer: &mut [u8]) -> io::Result<usize> {
-        Err(io::Error::from(io::ErrorKind::Other))
-    }
-}
-
-impl Write for Broken {
-    fn write(&mut self, _bytes: &[u8]) -> io::Result<usize> {
-        Err(io::Error::from(io::ErrorKind::Other))
-    }
-
-    fn flush(&mut self) -> io::Result<()> {
-        Ok(())
-    }
-}
 
 const SESSION: &[u8] = b"%catalogue\nmodule a\n%session\ninsmod a\nque";
 
