@@ -15,7 +15,7 @@ use std::alloc::{AllocError, Global};
 use std::io::Write;
 
 /// A refused command: its words, and the code and the name that its reply has, over the table after it.
-#[derive(Clone, Copy)]
+#[derive(Drop)]
 pub(crate) struct Cause<'a, M> {
     pub(crate) alloc: Global,
     pub(crate) setup: &'a Setup,
@@ -56,6 +56,11 @@ fn state_word(state: ModuleState) -> &'static str {
     }
 }
 
+/// Tells why, after what was told before.
+fn tell_why<E: Write>(why: &str, errors: &mut E) {
+    let _ = write!(errors, ": {why}");
+}
+
 /// Tells the state of the module.
 fn tell_state<M: Modules, E: Write>(cause: &Cause<'_, M>, errors: &mut E) {
     if let Some(slot) = cause.slot() {
@@ -76,7 +81,7 @@ fn tell_need<M: Modules, E: Write>(cause: &Cause<'_, M>, errors: &mut E) {
 fn tell_busy<M: Modules, E: Write>(cause: &Cause<'_, M>, errors: &mut E) {
     match cause.slot() {
         Some(slot) if cause.setup.catalogue().permanent(slot) => {
-            let _ = write!(errors, ": it is permanent");
+            tell_why("it is permanent", errors)
         }
         _ => tell_state(cause, errors),
     }
@@ -156,10 +161,10 @@ fn tell_absent<M: Modules, E: Write>(
     errors: &mut E,
 ) -> Result<(), AllocError> {
     if cause.slot().is_some() {
-        let _ = write!(errors, ": it is absent");
+        tell_why("it is absent", errors);
         return Ok(());
     }
-    let _ = write!(errors, ": no module has this name");
+    tell_why("no module has this name", errors);
     let near = near_names(cause.alloc, cause.setup, cause.name)?;
     tell_near(&near, errors);
     Ok(())
@@ -171,7 +176,7 @@ fn tell_form<E: Write>(alloc: Global, first: &[u8], errors: &mut E) -> Result<()
         let _ = write!(errors, ": the form is {form}");
         return Ok(());
     }
-    let _ = write!(errors, ": no command has this name");
+    tell_why("no command has this name", errors);
     let near = near_commands(alloc, first)?;
     tell_near(&near, errors);
     Ok(())
@@ -179,27 +184,12 @@ fn tell_form<E: Write>(alloc: Global, first: &[u8], errors: &mut E) -> Result<()
 
 /// Tells which workers there are.
 fn tell_workers<E: Write>(count: usize, errors: &mut E) {
-    let last = count.saturating_sub(1);
-    let _ = match last {
-        0 => write!(errors, ": the one worker is 0"),
-        _ => write!(errors, ": the workers are 0 to {last}"),
-    };
-}
-
-/// Tells why a command was refused whose code is one of a module that is there.
-fn tell_module<M: Modules, E: Write>(
-    cause: &Cause<'_, M>,
-    errors: &mut E,
-) -> Result<(), AllocError> {
-    match cause.code {
-        b"EEXIST" | b"NOTLIVE" => tell_state(cause, errors),
-        b"EBUSY" => tell_busy(cause, errors),
-        b"NEEDNOTLIVE" => tell_need(cause, errors),
-        b"EINVAL" => return tell_value(cause, errors),
-        b"EWOULDBLOCK" => return tell_use(cause, errors),
-        _ => {}
+    match count.saturating_sub(1) {
+        0 => tell_why("the one worker is 0", errors),
+        last => {
+            let _ = write!(errors, ": the workers are 0 to {last}");
+        }
     }
-    Ok(())
 }
 
 /// Tells why a command was refused, after its code.
@@ -207,16 +197,18 @@ pub(crate) fn tell_cause<M: Modules, E: Write>(
     cause: &Cause<'_, M>,
     errors: &mut E,
 ) -> Result<(), AllocError> {
-    let _ = match cause.code {
+    match cause.code {
         b"SYNTAX" => return tell_form(cause.alloc, cause.name, errors),
         b"ENOENT" => return tell_absent(cause, errors),
-        b"TOOMANY" => write!(errors, ": the worker holds 65,535 references to it"),
-        b"NOTHELD" => write!(errors, ": the worker holds no reference to it"),
-        b"WORKER" => {
-            tell_workers(cause.table.workers(), errors);
-            Ok(())
-        }
-        _ => return tell_module(cause, errors),
-    };
+        b"EINVAL" => return tell_value(cause, errors),
+        b"EWOULDBLOCK" => return tell_use(cause, errors),
+        b"TOOMANY" => tell_why("the worker holds 65,535 references to it", errors),
+        b"NOTHELD" => tell_why("the worker holds no reference to it", errors),
+        b"WORKER" => tell_workers(cause.table.workers(), errors),
+        b"EEXIST" | b"NOTLIVE" => tell_state(cause, errors),
+        b"EBUSY" => tell_busy(cause, errors),
+        b"NEEDNOTLIVE" => tell_need(cause, errors),
+        _ => {}
+    }
     Ok(())
 }

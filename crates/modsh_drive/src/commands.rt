@@ -23,14 +23,19 @@ const COMMANDS: [(&[u8], &str); 11] = [
     (b"modinfo", "modinfo NAME"),
 ];
 
-/// What a line of the command is that begins with this word.
-pub(crate) fn form_of(word: &[u8]) -> Option<&'static str> {
-    for (own, form) in &COMMANDS {
+/// What a line is that begins with this word, by these forms.
+pub(crate) fn form_in(forms: &[(&[u8], &'static str)], word: &[u8]) -> Option<&'static str> {
+    for (own, form) in forms {
         if is_same(word, *own) {
             return Some(*form);
         }
     }
     None
+}
+
+/// What a line of the command is that begins with this word.
+pub(crate) fn form_of(word: &[u8]) -> Option<&'static str> {
+    form_in(&COMMANDS, word)
 }
 
 /// The first words of commands that are nearly this word.

@@ -1,6 +1,6 @@
 //! What people may have meant by a line that is refused.
 
-use crate::commands::form_of;
+use crate::commands::{form_in, form_of};
 use modprobe::SetupCode;
 use program_frame::first_word;
 use text_parts::{is_comment, is_same, whole_lines};
@@ -52,12 +52,7 @@ fn is_among(word: &[u8], known: &[&[u8]]) -> bool {
 
 /// What a line of a catalogue with this first word has to have.
 fn form_hint(word: &[u8]) -> Option<&'static str> {
-    for (own, form) in &FORMS {
-        if is_same(word, *own) {
-            return Some(*form);
-        }
-    }
-    None
+    form_in(&FORMS, word)
 }
 
 /// What is likely wrong with a line in the wrong section that begins with this word.

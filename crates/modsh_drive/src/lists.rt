@@ -7,7 +7,7 @@ const MOST_TOLD: usize = 4;
 
 /// Things in a row, the last of them after a word: `a`, `a and b`, `a, b and c`. Of more than four the first four are
 /// told, and how many more there are.
-#[derive(Clone, Copy, Drop)]
+#[derive(Drop)]
 pub(crate) struct Row<'a, T> {
     items: &'a [T],
     word: &'static str,

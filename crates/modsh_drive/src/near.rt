@@ -1,5 +1,7 @@
 //! Names that may have been meant by a misspelt one.
 
+use text_parts::is_same;
+
 /// How many bytes the texts have alike at their fronts.
 fn same_front(left: &[u8], right: &[u8]) -> usize {
     left.iter()
@@ -8,24 +10,17 @@ fn same_front(left: &[u8], right: &[u8]) -> usize {
         .count()
 }
 
-/// How many they have alike at their ends.
-fn same_end(left: &[u8], right: &[u8]) -> usize {
-    left.iter()
-        .rev()
-        .zip(right.iter().rev())
-        .take_while(|(own, other)| **own == **other)
-        .count()
-}
-
 /// A text without so many bytes at its front.
-fn behind(text: &[u8], count: usize) -> &[u8] {
+fn after(text: &[u8], count: usize) -> &[u8] {
     text.get(count..).unwrap_or(b"")
 }
 
-/// A text without so many bytes at its end.
-fn before(text: &[u8], count: usize) -> &[u8] {
-    let len = text.len().saturating_sub(count);
-    text.get(..len).unwrap_or(b"")
+/// Whether the first two bytes of one text are those of the other, swapped, and their other bytes are the same.
+fn are_swapped(left: &[u8], right: &[u8]) -> bool {
+    match (left, right) {
+        ([a, b, left @ ..], [c, d, right @ ..]) => *a == *d && *b == *c && is_same(left, right),
+        _ => false,
+    }
 }
 
 /// Whether one text is the other but for one byte that is more, less or another, or two that are swapped. A text of one or
@@ -35,10 +30,10 @@ pub(crate) fn is_near(left: &[u8], right: &[u8]) -> bool {
         return false;
     }
     let front = same_front(left, right);
-    let (left, right) = (behind(left, front), behind(right, front));
-    let end = same_end(left, right);
-    match (before(left, end), before(right, end)) {
-        ([a, b], [c, d]) => *a == *d && *b == *c,
-        (left, right) => left.len() <= 1 && right.len() <= 1,
-    }
+    let (left, right) = (after(left, front), after(right, front));
+    let (left_rest, right_rest) = (after(left, 1), after(right, 1));
+    is_same(left_rest, right_rest)
+        || is_same(left_rest, right)
+        || is_same(left, right_rest)
+        || are_swapped(left, right)
 }

@@ -39,21 +39,7 @@ pub(crate) fn setting_line(
     Ok(None)
 }
 
-/// Adds the symbols that a line of the module says it needs.
-fn add_needs<'a>(
-    alloc: Global,
-    needed: &mut Vec<&'a [u8]>,
-    line: &'a [u8],
-) -> Result<(), AllocError> {
-    for symbol in words(alloc, line)?.get(1..).unwrap_or(&[]) {
-        if !needed.iter().any(|own| is_same(own, symbol)) {
-            needed.push(*symbol)?;
-        }
-    }
-    Ok(())
-}
-
-/// The symbols that a module needs by a catalogue, each once, in their order.
+/// The symbols that a module needs by a catalogue, in their order.
 fn needs_in<'a>(alloc: Global, text: &'a [u8], name: &[u8]) -> Result<Vec<&'a [u8]>, AllocError> {
     let (mut needed, mut is_own) = (Vec::new(alloc), false);
     for line in whole_lines(text) {
@@ -61,7 +47,7 @@ fn needs_in<'a>(alloc: Global, text: &'a [u8], name: &[u8]) -> Result<Vec<&'a [u
         if is_same(word, b"module") {
             is_own = is_of(alloc, line, name)?;
         } else if is_own && is_same(word, b"needs") {
-            add_needs(alloc, &mut needed, line)?;
+            needed.extend_from_slice(words(alloc, line)?.get(1..).unwrap_or(&[]))?;
         }
     }
     Ok(needed)
@@ -70,9 +56,7 @@ fn needs_in<'a>(alloc: Global, text: &'a [u8], name: &[u8]) -> Result<Vec<&'a [u
 /// Takes from these symbols those that a line exports.
 fn remove_exports(alloc: Global, needed: &mut Vec<&[u8]>, line: &[u8]) -> Result<(), AllocError> {
     for symbol in words(alloc, line)?.get(1..).unwrap_or(&[]) {
-        if let Some(place) = needed.iter().position(|own| is_same(own, symbol)) {
-            needed.remove(place);
-        }
+        needed.retain(|own| !is_same(own, symbol));
     }
     Ok(())
 }

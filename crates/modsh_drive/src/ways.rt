@@ -33,7 +33,7 @@ struct Walk {
 }
 
 /// What says which modules a module depends on: modules.dep where it has a line for it, and else the catalogue.
-#[derive(Clone, Copy)]
+#[derive(Drop)]
 pub(crate) struct Dependencies<'a> {
     pub(crate) catalogue: &'a Catalogue,
     pub(crate) lines: &'a DepIndex,
