@@ -7,6 +7,7 @@ ENDLESS = "a removal never ends"
 NOT_UTF8 = "a file of modprobe.d whose name is no UTF-8 is not read"
 WAIT = "a removal with --wait passes over what is in use"
 OVERWRITTEN = "MODPROBE_OPTIONS with several words in quotes is overwritten"
+CUT = "a name of an install or remove line is cut as that of a file"
 BLANKS = b" \t\n\v\f\r"
 
 
@@ -83,6 +84,12 @@ MENDS = ((SOFTDEP, with_right_softdeps), (NOT_UTF8, without_odd_names), (NOT_UTF
 def shown_right(output):
     """kmod's configuration with the blank before post: that it forgets."""
     return re.sub(rb"^(softdep [^ \n]+ pre: .*\S)(?<! )post: ", rb"\1 post: ", output, flags=re.M)
+
+
+def is_cut(theirs, ours):
+    """Whether names are the same but for those that kmod cuts at a dot, and has with _ for each -, as names of files."""
+    theirs, ours = theirs.splitlines(), ours.splitlines()
+    return len(theirs) == len(ours) and all(it in (own, own.split(b".")[0].replace(b"-", b"_")) for it, own in zip(theirs, ours))
 
 
 def words_of_variable(text):

@@ -112,6 +112,8 @@ class Judge:
             words, environment = plain, {}
             if self.agree(self.stage.ask("modprobe", words), ours):
                 return faults.OVERWRITTEN
+        if theirs.status == ours.status and faults.is_cut(theirs.output, ours.output):
+            return faults.CUT
         words = faults.without_waiting(words)
         if self.agree(self.stage.ask("modprobe", words, environment), ours):
             return faults.WAIT
