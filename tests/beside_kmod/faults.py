@@ -86,10 +86,19 @@ def shown_right(output):
     return re.sub(rb"^(softdep [^ \n]+ pre: .*\S)(?<! )post: ", rb"\1 post: ", output, flags=re.M)
 
 
-def is_cut(theirs, ours):
-    """Whether names are the same but for those that kmod cuts at a dot, and has with _ for each -, as names of files."""
-    theirs, ours = theirs.splitlines(), ours.splitlines()
-    return len(theirs) == len(ours) and all(it in (own, own.split(b".")[0].replace(b"-", b"_")) for it, own in zip(theirs, ours))
+def command_names(files):
+    """The names of install and remove lines, with _ for each - outside [..]."""
+    texts = [it for path, it in files.items() if is_configuration(path) and isinstance(it, bytes)]
+    lines = [read for text in texts for _, read in logical_lines(text)]
+    named = [re.match(rb"[ \t]*(?:install|remove)[ \t]+([^ \t\n]+)", it) for it in lines]
+    return {re.sub(rb"\[[^]]*\]|-", lambda it: b"_" if it[0] == b"-" else it[0], it[1]) for it in named if it}
+
+
+def with_cut_names(files, output):
+    """Names as kmod has them that takes those of install and remove lines for names of files."""
+    names = command_names(files)
+    lines = [it.split(b".")[0].replace(b"-", b"_") if it in names else it for it in output.split(b"\n")]
+    return b"\n".join(lines)
 
 
 def words_of_variable(text):

@@ -112,12 +112,12 @@ class Judge:
             words, environment = plain, {}
             if self.agree(self.stage.ask("modprobe", words), ours):
                 return faults.OVERWRITTEN
-        if theirs.status == ours.status and faults.is_cut(theirs.output, ours.output):
-            return faults.CUT
         words = faults.without_waiting(words)
         if self.agree(self.stage.ask("modprobe", words, environment), ours):
             return faults.WAIT
         files = files_below(self.stage.root)
+        if self.agree(theirs, replace(ours, output=faults.with_cut_names(files, ours.output))):
+            return faults.CUT
         for fault, mend in faults.MENDS:
             changed = mend(files)
             self.write(changed)
