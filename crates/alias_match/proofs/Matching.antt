@@ -1,6 +1,5 @@
 -- The laws by which a walk with one place to return to decides whether a pattern matches.
-use Rattle.std.proofs.Common.{◌≡◌, ℕ, suc, ◌≤◌, ◌⊎◌, inl, inr, Bool, true, false, not, nat_eq, drop, Option, Some, None, List, [], ◌∷◌, ◌++◌, length, refl, sym, ◌∙◌, ap, subst, arith, eqb-true, eq-eqb}
-use Rattle.std.specs.List.{prefix_len}
+use Rattle.std.proofs.Common.{◌≡◌, ℕ, suc, ◌≤◌, ◌⊎◌, inl, inr, Bool, true, false, nat_eq, drop, Option, Some, None, List, [], ◌∷◌, ◌++◌, length, refl, sym, ◌∙◌, ap, subst, arith, eqb-true, eq-eqb}
 use Rattle.alias_match.specs.ForProofs.{count_before, next_end}
 use Rattle.alias_match.specs.Pattern.{Piece, byte, any_byte, run, one_of, Matches, holds}
 
