@@ -4,7 +4,7 @@ use Rattle.std.specs.Borrow.{Bor}
 use Rattle.std.specs.Global.{Global}
 use Rattle.std.specs.declared.alloc.AllocError.{AllocError}
 use Rattle.std.specs.List.{dedup, filter_map}
-use Rattle.std.specs.List.Sorted.{IsPermutation, IsStrictlyIncreasing}
+use Rattle.std.specs.List.Sorted.{IsPermutation}
 use Rattle.std.specs.Prelude.{slice_index}
 use Rattle.std.proofs.Math.Seq.{get_or-append_seam}
 use Rattle.std.proofs.lemmas.Bool.{le-leb}
@@ -14,10 +14,12 @@ use Rattle.std.proofs.lemmas.List.Elements.{Contains-append_left, Contains-appen
 use Rattle.std.proofs.lemmas.List.Kept.{Contains-dedup_nat, Contains-from_dedup}
 use Rattle.std.proofs.lemmas.List.Sorted.{Contains-permutation, IsPermutation-sym}
 use Rattle.alias_match.specs.declared.alias.Alias.{Alias}
+use Rattle.alias_match.specs.declared.front.Front.{Front}
 use Rattle.alias_match.specs.Pattern.{is_match}
 use Rattle.alias_match.specs.Marks.{HasMark, IsMarkOf, mark}
+use Rattle.alias_match.specs.Front.{IsFrontOf}
 use Rattle.alias_match.specs.Aliases.{matching, matching_places}
-use Rattle.alias_match.specs.ForProofs.{KeepsEach, is_match_at, is_some_match, matches_below, matches_under, places_of}
+use Rattle.alias_match.specs.ForProofs.{HaveFronts, KeepsEach, is_match_at, is_some_match, matches_below, matches_under, places_of}
 use Rattle.alias_match.proofs.Deciding.{match_yes}
 use Rattle.alias_match.proofs.Members.{told, nothing_in, kept_by_filter, passes_filter}
 use Rattle.alias_match.proofs.Walked.{has_place}
@@ -54,8 +56,8 @@ alias_of_match : (found : Option Alias) (text : List ℕ) → is_some_match foun
 alias_of_match None text h = absurd (cc)
 alias_of_match (Some alias) text h = (alias, refl, h)
 
-kept_below : (numbers : List ℕ) (aliases : List Alias) (text : List ℕ) → KeepsEach numbers aliases → (i : ℕ) → is_match_at aliases text i ≡ true → Contains (matches_below aliases numbers text (suc (length text))) i
-kept_below numbers aliases text keeps i h =
+kept_below : (numbers : List ℕ) (fronts : List Front) (aliases : List Alias) (text : List ℕ) → KeepsEach numbers fronts aliases → (i : ℕ) → is_match_at aliases text i ≡ true → Contains (matches_below aliases numbers text (suc (length text))) i
+kept_below numbers fronts aliases text keeps i h =
     let own : (alias : Alias) × (slice_get aliases i ≡ Some alias) × (is_match alias.pattern text ≡ true) = alias_of_match (slice_get aliases i) text h in
     let within : i < length aliases = slice_get_within aliases i own.0 own.1 in
     let has : HasMark text (slice_index numbers i) = keeps.each i own.0 own.1 text (match_yes own.0.pattern text own.2) in
@@ -64,19 +66,39 @@ kept_below numbers aliases text keeps i h =
     below_one aliases numbers text (suc (length text)) has.0 i (omega (arith, has.1))
     (rw fits (kept_by_filter (is_match_at aliases text) (places_of (mark (take has.0 text)) numbers) i place h))
 
--- an alias of a list that has grown by one is of the list before, or is the new one
-old_or_new : (aliases : List Alias) (alias : Alias) (i : ℕ) (own : Alias) → slice_get (aliases ++ alias ∷ []) i ≡ Some own → (slice_get aliases i ≡ Some own) ⊎ ((length aliases ≡ i) × (alias ≡ own))
-old_or_new [] alias zero own h = inr (refl, cc)
-old_or_new [] alias (suc i) own h = absurd (cc)
-old_or_new (a ∷ aliases) alias zero own h = inl h
-old_or_new (a ∷ aliases) alias (suc i) own h = elim (old_or_new aliases alias i own h) [
+-- an item of a list that has grown by one is of the list before, or is the new one
+old_or_new : {X : Type 0} (items : List X) (item : X) (i : ℕ) (own : X) → slice_get (items ++ item ∷ []) i ≡ Some own → (slice_get items i ≡ Some own) ⊎ ((length items ≡ i) × (item ≡ own))
+old_or_new [] item zero own h = inr (refl, cc)
+old_or_new [] item (suc i) own h = absurd (cc)
+old_or_new (a ∷ items) item zero own h = inl h
+old_or_new (a ∷ items) item (suc i) own h = elim (old_or_new items item i own h) [
   | inl old ↦ inl old
   | inr new ↦ inr (omega (arith, new.0), new.1)
 ]
 
--- an alias is added behind the others, and a mark of its pattern behind theirs
-pub each_more : (numbers more : List ℕ) (aliases grown : List Alias) (alias : Alias) (number : ℕ) → KeepsEach numbers aliases → IsMarkOf number alias.pattern → more ≡ numbers ++ number ∷ [] → grown ≡ aliases ++ alias ∷ [] → KeepsEach more grown
-each_more numbers more aliases grown alias number keeps marks adds grows = rw (adds, grows) (record {
+-- an alias is added behind the others, and a front of its pattern behind theirs
+fronts_more : (fronts : List Front) (aliases : List Alias) (alias : Alias) (front : Front) → HaveFronts fronts aliases → IsFrontOf front alias.pattern → HaveFronts (fronts ++ front ∷ []) (aliases ++ alias ∷ [])
+fronts_more fronts aliases alias front have begins = record {
+  as_many = length-append fronts (front ∷ []) ∙ ap (λ n. n + 1) have.as_many ∙ sym (length-append aliases (alias ∷ []));
+  each = each;
+}
+  where
+    each : (i : ℕ) (first : Front) (own : Alias) → slice_get (fronts ++ front ∷ []) i ≡ Some first → slice_get (aliases ++ alias ∷ []) i ≡ Some own → IsFrontOf first own.pattern
+    each i first own at here = elim (old_or_new fronts front i first at) [
+      | inl old ↦ elim (old_or_new aliases alias i own here) [
+        | inl known ↦ have.each i first own old known
+        | inr (end, same) ↦ (let within : i < length fronts = slice_get_within fronts i first old in absurd (omega (arith, have.as_many)))
+      ]
+      | inr (end, same) ↦ elim (old_or_new aliases alias i own here) [
+        | inl known ↦ (let within : i < length aliases = slice_get_within aliases i own known in absurd (omega (arith, have.as_many)))
+        | inr (last, alike) ↦ subst (λ (a : Alias). IsFrontOf first a.pattern) alike (subst (λ (f : Front). IsFrontOf f alias.pattern) same begins)
+      ]
+    ]
+
+-- the same, and a mark behind the marks
+pub each_more : (numbers more : List ℕ) (fronts begun : List Front) (aliases grown : List Alias) (alias : Alias) (number : ℕ) (front : Front) → KeepsEach numbers fronts aliases → IsMarkOf number alias.pattern → IsFrontOf front alias.pattern → more ≡ numbers ++ number ∷ [] → begun ≡ fronts ++ front ∷ [] → grown ≡ aliases ++ alias ∷ [] → KeepsEach more begun grown
+each_more numbers more fronts begun aliases grown alias number front keeps marks begins adds fronted grows = rw (adds, fronted, grows) (record {
+  have = fronts_more fronts aliases alias front keeps.have begins;
   as_many = length-append numbers (number ∷ []) ∙ ap (λ n. n + 1) keeps.as_many ∙ sym (length-append aliases (alias ∷ []));
   each = each;
 })
@@ -92,12 +114,12 @@ each_more numbers more aliases grown alias number keeps marks adds grows = rw (a
     ]
 
 -- sorted, and each once, they are the same places
-pub sorted_each : (numbers : List ℕ) (aliases : List Alias) (text given sorted once : List ℕ) → KeepsEach numbers aliases → given ≡ matches_below aliases numbers text (suc (length text)) → IsPermutation given sorted → once ≡ dedup nat_eq sorted → (i : ℕ) → Contains once i ↔ (is_match_at aliases text i ≡ true)
-sorted_each numbers aliases text given sorted once keeps is same distinct i = (
+pub sorted_each : (numbers : List ℕ) (fronts : List Front) (aliases : List Alias) (text given sorted once : List ℕ) → KeepsEach numbers fronts aliases → given ≡ matches_below aliases numbers text (suc (length text)) → IsPermutation given sorted → once ≡ dedup nat_eq sorted → (i : ℕ) → Contains once i ↔ (is_match_at aliases text i ≡ true)
+sorted_each numbers fronts aliases text given sorted once keeps is same distinct i = (
   (λ m. below_matches aliases numbers text (suc (length text)) i
       (subst (λ l. Contains l i) is (Contains-permutation sorted given i (IsPermutation-sym given sorted same) (Contains-from_dedup nat_eq sorted i (subst (λ l. Contains l i) distinct m))))),
   (λ h. subst (λ l. Contains l i) (sym distinct) (Contains-dedup_nat sorted i (Contains-permutation given sorted i same
-      (subst (λ l. Contains l i) (sym is) (kept_below numbers aliases text keeps i h))))),
+      (subst (λ l. Contains l i) (sym is) (kept_below numbers fronts aliases text keeps i h))))),
 )
 
 -- what is at the places of matches

@@ -65,7 +65,7 @@ front_matches : (front : List ℕ) (ps : List Piece) (rest : List ℕ) → Match
 front_matches [] ps rest m = m
 front_matches (b ∷ front) ps rest m = (b ∷ [], front ++ rest, refl, refl, front_matches front ps rest m)
 
-matches_front : (front : List ℕ) (ps : List Piece) (text : List ℕ) → Matches (bytes_of front ++ ps) text → (rest : List ℕ) × (text ≡ front ++ rest) × Matches ps rest
+pub matches_front : (front : List ℕ) (ps : List Piece) (text : List ℕ) → Matches (bytes_of front ++ ps) text → (rest : List ℕ) × (text ≡ front ++ rest) × Matches ps rest
 matches_front [] ps text m = (text, refl, m)
 matches_front (b ∷ front) ps text (head, tail, split, here, later) =
     let more : (rest : List ℕ) × (tail ≡ front ++ rest) × Matches ps rest = matches_front front ps tail later in

@@ -1,5 +1,6 @@
 pub mod Pattern
 pub mod Marks
+pub mod Front
 pub mod Reading
 pub mod Aliases
 pub mod Idle

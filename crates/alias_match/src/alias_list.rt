@@ -3,17 +3,20 @@ ghost use Rattle.std.specs.Prelude.{◌≡◌, ◌<◌, suc, ◌∷◌, ◌++◌
 ghost use Rattle.std.specs.Prelude.{IfOk, OnOk, OnErr, Some, None, nat_le, if◌then◌else◌, option_copied};
 ghost use Rattle.std.specs.List.{filter_map};
 ghost use Rattle.alias_match.specs.Aliases.{matching, matching_places};
-ghost use Rattle.alias_match.specs.ForProofs.{is_match_at, matches_below, matches_under, places_of};
+ghost use Rattle.alias_match.specs.ForProofs.{HaveFronts, KeepsEach, is_match_at, matches_below, matches_under, places_of};
 
 use crate::alias::Alias;
+use crate::front::{Front, NumberedText};
 use crate::hash_table::{HashTable, mark};
 use std::alloc::{AllocError, Global};
 use std::marker::Model;
 
 /// Aliases in the order of their lines. Those that match a text are found by a hash table, whose keys are the marks of their
-/// patterns: a pattern matches no text without the pattern's mark.
+/// patterns: a pattern matches no text without the pattern's mark. A pattern is tried only on a text that begins as its front
+/// says.
 pub struct AliasList {
     entries: Vec<Alias>,
+    fronts: Vec<Front>,
     table: HashTable,
 }
 
@@ -22,6 +25,7 @@ impl Drop for AliasList {
     fn drop(self) {
         let AliasList {
             entries: _,
+            fronts: _,
             table: _,
         } = self;
     }
@@ -36,11 +40,11 @@ impl Model for AliasList {
 
     ghost view = { λ l. l.entries.items };
 
-    ghost invariant = { λ l. KeepsEach l.table l.entries.items };
+    ghost invariant = { λ l. KeepsEach l.table l.fronts.items l.entries.items };
 }
 
 /// The first bytes of a text, None where it has fewer.
-fn front(text: &[u8], count: usize) -> Option<&[u8]>
+fn first_bytes(text: &[u8], count: usize) -> Option<&[u8]>
     ensures { option_copied result
         ≡ (if nat_le count (length text.entry.now) then Some (take count text.entry.now) else None) }
 {
@@ -58,11 +62,19 @@ fn alias_at(entries: &[Alias], place: usize) -> Option<&Alias>
     entries.get(place)
 }
 
-fn is_match_at(entries: &[Alias], text: &[u8], place: usize) -> bool
+/// Whether the alias at a place matches. The alias is read only where the text begins as its front says, so a look-up that
+/// tries many aliases in vain stays in the processor's cache.
+#[inline(always)]
+fn is_match_at(entries: &[Alias], fronts: &[Front], text: &NumberedText, place: usize) -> bool
+    requires fronts { HaveFronts fronts.now entries.now }
+    requires within { place < length entries.now }
     ensures { result ≡ is_match_at entries.now text.now place }
 {
+    if !text.begins_with(fronts[place]) {
+        return false;
+    }
     match alias_at(entries, place) {
-        Some(alias) => alias.pattern.matches(text),
+        Some(alias) => alias.pattern.matches(text.bytes()),
         None => false,
     }
 }
@@ -70,16 +82,18 @@ fn is_match_at(entries: &[Alias], text: &[u8], place: usize) -> bool
 /// Adds the places of a key at which an alias matches the text.
 fn add_of_key(
     entries: &[Alias],
+    fronts: &[Front],
     table: &HashTable,
-    text: &[u8],
+    text: &NumberedText,
     key: u64,
     found: &mut Vec<usize>,
 ) -> Result<(), AllocError>
+    requires { KeepsEach table.now fronts.now entries.now }
     ensures { OnOk result (found.new.items ≡ found.old.items ++ filter (is_match_at entries.now text.now) (places_of key table.now)) }
 {
     let mut next = table.last(key);
     'places: while let Some(place) = next {
-        if is_match_at(entries, text, place) {
+        if is_match_at(entries, fronts, text, place) {
             found.push(place)?;
         }
         next = table.before(key, place);
@@ -88,18 +102,20 @@ fn add_of_key(
 }
 
 /// The same, where the key is the mark of the first bytes of the text, as many as given.
-fn add_of_front(
+fn add_of_beginning(
     entries: &[Alias],
+    fronts: &[Front],
     table: &HashTable,
-    text: &[u8],
+    text: &NumberedText,
     count: usize,
     found: &mut Vec<usize>,
 ) -> Result<(), AllocError>
+    requires { KeepsEach table.now fronts.now entries.now }
     ensures { OnOk result (found.new.items
         ≡ found.old.items ++ matches_under entries.now table.now text.now count) }
 {
-    if let Some(beginning) = front(text, count) {
-        add_of_key(entries, table, text, mark(beginning), found)?;
+    if let Some(beginning) = first_bytes(text.bytes(), count) {
+        add_of_key(entries, fronts, table, text, mark(beginning), found)?;
     }
     Ok(())
 }
@@ -108,17 +124,20 @@ fn add_of_front(
 fn places_by_marks(
     alloc: Global,
     entries: &[Alias],
+    fronts: &[Front],
     table: &HashTable,
     text: &[u8],
 ) -> Result<Vec<usize>, AllocError>
+    requires { KeepsEach table.now fronts.now entries.now }
     ensures { IfOk result (λ found. found.items
         ≡ matches_below entries.now table.now text.now (suc (length text.now))) }
 {
+    let numbered = NumberedText::of(text);
     let mut found = Vec::new(alloc);
     for count in 0..text.len() {
-        add_of_front(entries, table, text, count, &mut found)?;
+        add_of_beginning(entries, fronts, table, &numbered, count, &mut found)?;
     }
-    add_of_front(entries, table, text, text.len(), &mut found)?;
+    add_of_beginning(entries, fronts, table, &numbered, text.len(), &mut found)?;
     Ok(found)
 }
 
@@ -139,12 +158,35 @@ fn aliases_at<'a>(
     Ok(found)
 }
 
+/// Adds an alias behind the others, and its key behind theirs. Where memory runs out both stay as they were.
+fn push_with_key(
+    alloc: Global,
+    entries: &mut Vec<Alias>,
+    table: &mut HashTable,
+    alias: Alias,
+    key: u64,
+) -> Result<(), AllocError>
+    ensures adds_alias { OnOk result (entries.new.items ≡ entries.old.items ++ alias ∷ []) }
+    ensures adds_key { OnOk result (table.new ≡ table.old ++ key ∷ []) }
+
+    ensures keeps_aliases { OnErr result (entries.new.items ≡ entries.old.items) }
+    ensures keeps_keys { OnErr result (table.new ≡ table.old) }
+{
+    entries.push(alias)?;
+    let added = table.add(alloc, key);
+    if added.is_err() {
+        entries.pop();
+    }
+    added
+}
+
 impl AliasList {
     pub fn new(alloc: Global) -> AliasList
         ensures { result ≡ [] }
     {
         AliasList {
             entries: Vec::new(alloc),
+            fronts: Vec::new(alloc),
             table: HashTable::new(alloc),
         }
     }
@@ -155,10 +197,10 @@ impl AliasList {
         ensures err { OnErr result (self.new ≡ self.old) }
     {
         let key = alias.pattern.mark();
-        self.entries.push(alias)?;
-        let added = self.table.add(alloc, key);
+        self.fronts.push(alias.pattern.front())?;
+        let added = push_with_key(alloc, &mut self.entries, &mut self.table, alias, key);
         if added.is_err() {
-            self.entries.pop();
+            self.fronts.pop();
         }
         added
     }
@@ -182,7 +224,7 @@ impl AliasList {
     pub fn matching_places(&self, alloc: Global, text: &[u8]) -> Result<Vec<usize>, AllocError>
         ensures { IfOk result (λ places. places.items ≡ matching_places self.now text.now) }
     {
-        let mut places = places_by_marks(alloc, &self.entries, &self.table, text)?;
+        let mut places = places_by_marks(alloc, &self.entries, &self.fronts, &self.table, text)?;
         places.sort_unstable();
         places.dedup();
         Ok(places)

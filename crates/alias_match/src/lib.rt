@@ -5,6 +5,7 @@ mod alias;
 mod alias_list;
 mod aliases;
 mod chains;
+mod front;
 mod hash_table;
 mod idle;
 mod item;

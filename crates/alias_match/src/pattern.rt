@@ -1,10 +1,12 @@
 //! Shell patterns, and whether they match a text.
 ghost use Rattle.std.specs.Prelude.{◌≡◌, ◌≢◌, ◌↔◌, ◌≤◌, ◌∷◌, ◌++◌, [], ℕ, List, length, map, IsTrue, MatchOption};
 ghost use Rattle.alias_match.specs.Pattern.{Matches, byte};
+ghost use Rattle.alias_match.specs.Front.{IsFrontOf};
 ghost use Rattle.alias_match.specs.Marks.{IsMarkOf};
 ghost use Rattle.alias_match.specs.ForProofs.{IsStep, IsLater, count_before, next_end};
 ghost use Rattle.alias_match.specs.Reading.{Gives, Reads};
 
+use crate::front::Front;
 use crate::item::{Item, Items};
 use crate::read::{PatternError, check_from_plain};
 use crate::runs::longest_run_mark;
@@ -187,6 +189,14 @@ impl Pattern {
     {
         let (front, items) = self.parts();
         longest_run_mark(front, items)
+    }
+
+    /// How each text begins that the pattern matches.
+    pub(crate) fn front(&self) -> Front
+        ensures { IsFrontOf result self.now }
+    {
+        let (bytes, _) = self.parts();
+        Front::of(bytes)
     }
 
     /// The bytes at the beginning that stand for themselves, and the items behind them.
