@@ -1,6 +1,6 @@
 //! Which modules are found for a name.
 
-pub(super) static ROWS: [&str; 8] = [
+pub(super) static ROWS: [&str; 9] = [
     "C module usbx
 A alias usb:v[0-9A-F]*p?? usbx
 # an alias leads to its module
@@ -68,6 +68,26 @@ A alias usb* other-1
 A alias usb:* usbx
 ? look-up usbx
 > y_z
+",
+    "C module one
+A alias device:1*same-longest-run one
+A alias device:12*same-longest-run two
+A alias dev*same-longest-run three
+A alias [d]evice*same-longest-run four
+A alias device:2*same-longest-run five
+A alias device:123456789*same-longest-run six
+# of aliases with one longest run those match that begin as the name does, with fewer bytes than eight, eight, or more
+? look-up device:12-same-longest-run
+> one
+> two
+> three
+> four
+# a name with fewer bytes before the run
+? look-up dev-same-longest-run
+> three
+# a name that begins with the run
+? look-up same-longest-run
+> not found
 ",
     "# an alias with a dash matches a name with a dash
 C module usbx
