@@ -1,5 +1,5 @@
 -- A turn in which the value made one call, or none.
-use Rattle.std.proofs.Common.{◌≡◌, ℕ, [], ◌∷◌, ◌++◌, Option, Some, None, IfSome, IfNone, sym, ap, ◌∙◌, subst, append_assoc, append-nil}
+use Rattle.std.proofs.Common.{◌≡◌, ℕ, [], ◌∷◌, ◌++◌, Option, Some, None, IfSome, IfNone, MatchOption, sym, ap, ◌∙◌, subst, append_assoc, append-nil}
 use lib.ListN.{get_elem?}
 use Rattle.dep_index.specs.declared.calls.Call.{Call}
 use Rattle.dep_index.specs.declared.calls.Reply.{Reply}
@@ -108,3 +108,42 @@ turn_missed row worker slot old new same_row Did None t told = tt
 turn_missed row worker slot old new same_row Did (Some None) t told =
     let h = told t.taken t.left t.did in leaf_shown row worker slot (Did None) old new same_row t 0 h.0 h.1 h.2
 turn_missed row worker slot old new same_row Did (Some (Some r)) t told = tt
+
+-- what its steps show, where it gave up and where it was answered
+module _ {R : Type 0} (worker : ℕ) (old new : Pass) (Did : Option R → Seated → Seated → Type 0) where
+  pub shown : (Shows : Seated → Seated → Type 0) (r : Option R) → MadeTurn leaf_fits seen worker (Did r) old new → ((x y : Seated) → Did r x y → Shows x y) → MadeTurn leaf_fits seen worker Shows old new
+  shown Shows r t told = record {
+    missed = t.missed;
+    taken = t.taken;
+    left = t.left;
+    turned = t.turned;
+    fit = t.fit;
+    did = told t.taken t.left t.did;
+    follows = t.follows;
+  }
+
+  pub given_up : (Gave : Seated → Seated → Type 0) (o : Option (Option R)) → IfSome o (λ r. MadeTurn leaf_fits seen worker (Did r) old new)
+      → ((x y : Seated) → Did None x y → Gave x y) → IfSome o (λ r. IfNone r (MadeTurn leaf_fits seen worker Gave old new))
+  given_up Gave None t told = tt
+  given_up Gave (Some None) t told = shown Gave None t told
+  given_up Gave (Some (Some r)) t told = tt
+
+  pub in_time : (Gives : R → Seated → Seated → Type 0) (o : Option (Option R)) → IfSome o (λ r. MadeTurn leaf_fits seen worker (Did r) old new)
+      → ((r : R) (x y : Seated) → Did (Some r) x y → Gives r x y) → IfSome o (λ r. IfSome r (λ a. MadeTurn leaf_fits seen worker (Gives a) old new))
+  in_time Gives None t told = tt
+  in_time Gives (Some None) t told = tt
+  in_time Gives (Some (Some r)) t told = shown (Gives r) (Some r) t (told r)
+
+-- the same where the lock may have been found taken at each try
+module _ {R : Type 0} (worker : ℕ) (old new : Pass) (Same : Type 0) (Did : Option R → Seated → Seated → Type 0) where
+  pub given_up_within : (Gave : Seated → Seated → Type 0) (o : Option (Option (Option R))) → IfSome o (λ p. MatchOption p Same (λ a. MadeTurn leaf_fits seen worker (Did a) old new))
+      → ((x y : Seated) → Did None x y → Gave x y) → IfSome o (λ p. IfSome p (λ a. IfNone a (MadeTurn leaf_fits seen worker Gave old new)))
+  given_up_within Gave None t told = tt
+  given_up_within Gave (Some None) t told = tt
+  given_up_within Gave (Some (Some a)) t told = given_up worker old new Did Gave (Some a) t told
+
+  pub in_time_within : (Gives : R → Seated → Seated → Type 0) (o : Option (Option (Option R))) → IfSome o (λ p. MatchOption p Same (λ a. MadeTurn leaf_fits seen worker (Did a) old new))
+      → ((r : R) (x y : Seated) → Did (Some r) x y → Gives r x y) → IfSome o (λ p. IfSome p (λ a. IfSome a (λ r. MadeTurn leaf_fits seen worker (Gives r) old new)))
+  in_time_within Gives None t told = tt
+  in_time_within Gives (Some None) t told = tt
+  in_time_within Gives (Some (Some a)) t told = in_time worker old new Did Gives (Some a) t told

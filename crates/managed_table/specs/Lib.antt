@@ -5,6 +5,7 @@ pub mod Passes
 pub mod Meeting
 pub mod Shown
 pub mod Callers
+pub mod Tries
 pub mod InHand
 pub mod Owned
 pub mod Hearing

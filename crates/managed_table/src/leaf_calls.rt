@@ -8,7 +8,8 @@ impl ManagedTable {
     ghost use Rattle.std.specs.Prelude.{◌≡◌, IfSome, IfNone, MatchOption};
     ghost use Rattle.dep_index.specs.Refusals.{reply_of, get_refusal, put_refusal};
     ghost use Rattle.managed_table.specs.Shown.{HoldsSoOften};
-    ghost use Rattle.managed_table.specs.Callers.{IsCallerOf, IsInside, IsOutside, LeafMade, LeafShown};
+    ghost use Rattle.managed_table.specs.Callers.{IsCallerOf, IsInside, IsOutside, LeafMade, LeafShown, LeafTurned};
+    ghost use Rattle.managed_table.specs.Tries.{GaveUp, AnsweredWithin};
 
     /// Takes one reference for the worker. It is None exactly where the worker or the slot is out of range.
     ///
@@ -40,8 +41,8 @@ impl ManagedTable {
         Some(self.end_by_long_get(rt, seat, worker, slot))
     }
 
-    /// As `get`, but the leaf tries at most this many times. The inner None: the worker holds no reference to the slot, each
-    /// try was missed, and no call was made in the turn.
+    /// As `get`, but the leaf tries at most this many times. The inner None: the worker holds no reference to the slot, each of
+    /// so many tries was missed, and no call was made in the turn.
     pub fn try_get<R: Wait>(
         &self,
         rt: &R,
@@ -55,6 +56,8 @@ impl ManagedTable {
         ensures range { MatchOption result (IsOutside self.now worker slot × (caller.new ≡ caller.old)) (λ _. IsInside self.now worker slot) }
         ensures call { IfSome result (λ r. IfSome r (λ a. LeafMade self.now worker (Call.Get worker slot) (reply_of get_refusal a) caller.old caller.new)) }
         ensures missed { IfSome result (λ r. IfNone r (LeafShown self.now worker (HoldsSoOften worker slot 0) caller.old caller.new)) }
+        ensures given_up { IfSome result (λ r. IfNone r (LeafTurned worker (GaveUp tries slot) caller.old caller.new)) }
+        ensures in_time { IfSome result (λ r. IfSome r (λ a. LeafTurned worker (AnsweredWithin tries slot (reply_of get_refusal a)) caller.old caller.new)) }
         ensures book { caller.new.book ≡ caller.old.book }
     {
         let row = &self.row;

@@ -40,7 +40,8 @@ impl OwnCaller {
     ghost use Rattle.root_row.specs.declared.view.SeatName.TheVariants as name_is;
     ghost use Rattle.managed_table.specs.Turns.{MadeOneCall, MadeNoCall};
     ghost use Rattle.managed_table.specs.Shown.{HoldsSoOften};
-    ghost use Rattle.managed_table.specs.Callers.{IsCallerOf, LeafMissed};
+    ghost use Rattle.managed_table.specs.Callers.{IsCallerOf, LeafMissed, LeafTurned};
+    ghost use Rattle.managed_table.specs.Tries.{GaveUp, AnsweredWithin};
     ghost use Rattle.managed_table.specs.Owned.{row_of, SameTable, IsBeyond, IsWithin};
 
     /// A table over a catalogue, and its first caller. Every module is Absent, and nothing is held.
@@ -106,7 +107,7 @@ impl OwnCaller {
     }
 
     /// Takes one reference for the worker. The innermost None: the lock was taken, the worker holds no reference to the module,
-    /// and each try of the module's word was missed.
+    /// and each of so many tries of the module's word was missed.
     pub fn get(
         &mut self,
         worker: usize,
@@ -117,6 +118,9 @@ impl OwnCaller {
         ensures range { MatchOption result (IsBeyond self.old worker slot × (self.new ≡ self.old)) (λ _. IsWithin self.old worker slot) }
         ensures call { IfSome result (λ o. MatchOption o (LeafMissed worker tries self.old self.new) (λ a. IfSome a (λ r. MadeOneCall (row_of self.old) worker (name_is.Leaf worker) (Call.Get worker slot) (reply_of get_refusal r) self.old.leaves.pass self.new.leaves.pass))) }
         ensures missed { IfSome result (λ o. IfSome o (λ a. IfNone a (MadeNoCall (row_of self.old) worker (HoldsSoOften worker slot 0) self.old.leaves.pass self.new.leaves.pass))) }
+        ensures given_up { IfSome result (λ o. IfSome o (λ a. IfNone a (LeafTurned worker (GaveUp tries slot) self.old self.new))) }
+        ensures in_time { IfSome result (λ o. IfSome o (λ a. IfSome a (λ r.
+            LeafTurned worker (AnsweredWithin tries slot (reply_of get_refusal r)) self.old self.new))) }
         ensures book { self.new.book ≡ self.old.book }
     {
         self.table.get_within(&mut self.caller, worker, slot, tries)

@@ -8,7 +8,8 @@ ghost use Rattle.managed_table.specs.Kept.{seen, leaf_fits, book_fits};
 ghost use Rattle.managed_table.specs.Turns.{HasTaken, IsSame, Misses, MadeTurn, MadeOneCall, MadeNoCall, alone, pass_of, with_misses, with_turns, turn_of, seen_in_hand};
 ghost use Rattle.managed_table.specs.Passes.{IsFree, HasInHand, MayActOn};
 ghost use Rattle.managed_table.specs.Shown.{HoldsSoOften};
-ghost use Rattle.managed_table.specs.Callers.{IsCallerOf, LeafMissed, BookMissed};
+ghost use Rattle.managed_table.specs.Callers.{IsCallerOf, LeafMissed, BookMissed, LeafTurned};
+ghost use Rattle.managed_table.specs.Tries.{GaveUp, AnsweredWithin};
 
 use crate::caller::Caller;
 use crate::keyed::Keyed;
@@ -117,6 +118,9 @@ impl ManagedTable {
         ensures range { MatchOption result (((self.now.row.world.workers ≤ worker) ⊎ (slots self.now.row.world ≤ slot)) × (caller.new ≡ caller.old)) (λ _. (worker < self.now.row.world.workers) × (slot < slots self.now.row.world)) }
         ensures call { IfSome result (λ o. MatchOption o (LeafMissed worker tries caller.old caller.new) (λ a. IfSome a (λ r. MadeOneCall self.now.row worker (name_is.Leaf worker) (Call.Get worker slot) (reply_of get_refusal r) caller.old.leaves.pass caller.new.leaves.pass))) }
         ensures missed { IfSome result (λ o. IfSome o (λ a. IfNone a (MadeNoCall self.now.row worker (HoldsSoOften worker slot 0) caller.old.leaves.pass caller.new.leaves.pass))) }
+        ensures given_up { IfSome result (λ o. IfSome o (λ a. IfNone a (LeafTurned worker (GaveUp tries slot) caller.old caller.new))) }
+        ensures in_time { IfSome result (λ o. IfSome o (λ a. IfSome a (λ r.
+            LeafTurned worker (AnsweredWithin tries slot (reply_of get_refusal r)) caller.old caller.new))) }
         ensures book { caller.new.book ≡ caller.old.book }
     {
         let row = &self.row;
