@@ -9,8 +9,9 @@ use std::sync::Arc;
 
 /// A caller with a share of a table that only such callers have, for threads that must not wait. Contracts see the caller.
 ///
-/// Its calls never wait, and so wake nobody: each tries its lock at most so many times. The outer None: the worker, the slot or the place is out
-/// of range. The inner None: the lock was taken at each try. Nothing is changed then.
+/// Its calls never wait, and so wake nobody: each tries its lock at most so many times. The outer None: the worker or the slot is out of range. The
+/// next None, which is the outer one of `loaded` and `loaded_at`: the lock was taken at each try. Nothing is changed then. That no module stands at a
+/// place is an answer of `loaded_at`, after one turn.
 #[derive(Drop)]
 pub struct OwnCaller {
     pub(crate) caller: Caller,

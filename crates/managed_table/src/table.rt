@@ -13,7 +13,8 @@ use use_indicator::{Leaf, Reader};
 /// A row of root words, and its leaves and its book behind locks that know whose they are. Contracts see its row.
 ///
 /// Any thread calls it, with a caller of its own. A call takes one lock, makes one call and lets go. It answers None where
-/// the worker, the slot or the place is out of range, and nothing is changed then.
+/// the worker or the slot is out of range, and nothing is changed then. That no module stands at a place is an answer of
+/// `loaded_at`, after one turn.
 ///
 /// Each lock's word has cache lines of its own, so workers who hold a module don't slow each other.
 pub struct ManagedTable {
