@@ -14,7 +14,7 @@ use Rattle.root_row.specs.declared.view.SeatName.TheVariants as name_is
 use Rattle.root_row.specs.declared.view.Part.TheVariants as part_is
 use Rattle.root_row.specs.declared.view.Member.{Member}
 use Rattle.root_row.specs.declared.view.View.{View}
-use Rattle.root_row.specs.World.{slots, opened, place_of}
+use Rattle.root_row.specs.World.{slots, opened, place_of, word_count}
 use Rattle.root_row.specs.Views.{Part, name_of}
 use Rattle.root_row.specs.Rule.{Agrees, Owner, FitsMember, Fits, HasAll}
 use Rattle.root_row.specs.Setting.{world_of, leaf_parts, reader_parts, book_part, new_member, new_view, first_view}
@@ -133,7 +133,7 @@ module _ (setting : Setting) where
     refl,
   )
 
-  pub opens : (words : List ℕ) → words ≡ replicate (place_of (slots (world_of setting))) closed → setting.workers < closed → TrailRule (world_of setting) (table.opening words [] (trail (first_view setting) []))
+  pub opens : (words : List ℕ) → words ≡ replicate (word_count (world_of setting)) closed → setting.workers < closed → TrailRule (world_of setting) (table.opening words [] (trail (first_view setting) []))
   opens words is few = record {
     history = [];
     owner = owner;
@@ -143,9 +143,9 @@ module _ (setting : Setting) where
     whole = inl refl;
     seats = seats_fit;
     there = all_there;
-    wide = ap length is ∙ length-replicate (place_of (slots (world_of setting))) closed;
-    spare = ap (λ l. get_or l 0 0) is ∙ get_or-replicate (place_of (slots (world_of setting))) 0 closed 0 (omega arith);
-    words = λ m lt. ap (λ l. get_or l (place_of m) 0) is ∙ get_or-replicate (place_of (slots (world_of setting))) (place_of m) closed 0 (omega arith) ∙ sym (ap (λ st. word_in st (holders (opened (world_of setting)).rows m)) (opening_absent setting.catalogue.value setting.workers m));
+    wide = ap length is ∙ length-replicate (word_count (world_of setting)) closed;
+    spare = ap (λ l. get_or l 0 0) is ∙ get_or-replicate (word_count (world_of setting)) 0 closed 0 (omega arith);
+    words = λ m lt. ap (λ l. get_or l (place_of m) 0) is ∙ get_or-replicate (word_count (world_of setting)) (place_of m) closed 0 (omega arith) ∙ sym (ap (λ st. word_in st (holders (opened (world_of setting)).rows m)) (opening_absent setting.catalogue.value setting.workers m));
   }
 
 -- one leaf is cut off

@@ -12,7 +12,7 @@ use Rattle.root_row.specs.declared.view.Part.TheVariants as part_is
 use Rattle.root_row.specs.declared.view.SeatAnswer.{SeatAnswer}
 use Rattle.root_row.specs.declared.view.Member.{Member}
 use Rattle.root_row.specs.declared.view.View.{View}
-use Rattle.root_row.specs.World.{slots, place_of}
+use Rattle.root_row.specs.World.{slots, place_of, word_count}
 use Rattle.root_row.specs.History.{SeatName, answers_in, table_after, AreOfTheirSeats, own_answers, StartsWith}
 use Rattle.root_row.specs.Views.{Part, name_of}
 
@@ -70,6 +70,6 @@ pub record RowRule (world : World) (s : table.State (Unit {0}) View) : Type 0 wh
   pub whole : (history ≡ []) ⊎ IsSeen history s.views
   pub seats : (j : ℕ) (v : View) → get_elem? s.views j ≡ some v → Fits world history owner j v
   pub there : HasAll world s.views owner
-  pub wide : length s.words ≡ place_of (slots world)
+  pub wide : length s.words ≡ word_count world
   pub spare : slice_index s.words 0 ≡ closed
   pub words : (m : ℕ) → m < slots world → slice_index s.words (place_of m) ≡ word_of (table_after world history) m

@@ -11,7 +11,7 @@ use crate::book_seat::BookSeat;
 use crate::leaf_seat::LeafSeat;
 use crate::plays::FirstMember;
 use crate::read_seat::ReadSeat;
-use crate::row::{Row, WORDS_APART};
+use crate::row::{Row, SLOTS_FREE, WORDS_APART};
 use crate::rule::{OneHistory, Setting};
 use crate::view::Trail;
 use atomic_table::{Seat, Table};
@@ -57,7 +57,8 @@ impl Row {
         ensures new_readers { IfOk result (λ r. All (λ s. s ≡ new_reader r.0.id r.0.world (reader_of s.view)) r.3.items) }
     {
         let slot_count = catalogue.len();
-        let words = Vec::from_elem(alloc, CLOSED, (slot_count + 1) * WORDS_APART)?;
+        let word_count = (slot_count + SLOTS_FREE + 1) * WORDS_APART;
+        let words = Vec::from_elem(alloc, CLOSED, word_count)?;
         let draining = Vec::from_elem(alloc, false, slot_count)?;
         let setting = Setting {
             workers,
