@@ -8,7 +8,7 @@ use Rattle.text_parts.specs.Text.{normal_byte}
 abbrev pub normal_within : Bool → ℕ → ℕ
 normal_within is_set byte = if is_set then byte else normal_byte byte
 
--- whether the byte behind this one is within `[..]`: a `[` begins it, and a `]` ends it
+-- whether the byte after this one is within `[..]`: a `[` begins it, and a `]` ends it
 abbrev pub is_set_after : Bool → ℕ → Bool
 is_set_after is_set byte = if is_set then not (byte == 93) else byte == 91
 

@@ -35,7 +35,7 @@ impl Model for AliasTable {
     ghost invariant = { λ t. t.patterns ≡ map (λ entry. entry.pattern) t.entries.items };
 }
 
-/// The entry at a place, None behind the last.
+/// The entry at a place, None past the last.
 fn entry_at(entries: &[AliasEntry], place: usize) -> Option<&AliasEntry>
     ensures { option_copied result ≡ slice_get entries.entry.now place }
 {
@@ -69,7 +69,7 @@ impl AliasTable {
         }
     }
 
-    /// Adds an alias behind the others. Where memory runs out the table stays as it was.
+    /// Adds an alias after the others. Where memory runs out the table stays as it was.
     pub fn push(&mut self, alloc: Global, entry: AliasEntry) -> Result<(), AllocError>
         ensures ok { OnOk result (self.new ≡ self.old ++ entry ∷ []) }
         ensures err { OnErr result (self.new ≡ self.old) }
@@ -94,7 +94,7 @@ impl AliasTable {
         &self.entries
     }
 
-    /// The aliases whose patterns match the text, in order. Only want of memory refuses.
+    /// The aliases whose patterns match the text, in order. It fails only if memory runs out.
     pub fn matching(&self, alloc: Global, text: &[u8]) -> Result<Vec<&AliasEntry>, AllocError>
         ensures { IfOk result (λ found. map (λ entry. entry.now) found.items ≡ matching_entries self.now text.now) }
     {

@@ -20,7 +20,7 @@ fn normal_within(is_set: bool, byte: u8) -> u8
     if is_set { byte } else { normal_byte(byte) }
 }
 
-/// Whether the byte behind this one is within `[..]`.
+/// Whether the byte after this one is within `[..]`.
 fn is_set_after(is_set: bool, byte: u8) -> bool
     ensures { result ≡ is_set_after is_set byte }
 {
@@ -28,7 +28,7 @@ fn is_set_after(is_set: bool, byte: u8) -> bool
 }
 
 /// The text of a name or an alias in normal form: `_` for each `-` that stands outside `[..]`. None where a `]` stands
-/// outside or a `[` has no `]` behind it. Only want of memory refuses.
+/// outside or a `[` has no `]` after it. It fails only if memory runs out.
 pub fn normal_alias(alloc: Global, text: &[u8]) -> Result<Option<Text>, AllocError>
     ensures { IfOk result (λ found. found ≡ normal_alias text.now) }
 {
@@ -49,7 +49,7 @@ pub fn normal_alias(alloc: Global, text: &[u8]) -> Result<Option<Text>, AllocErr
     Ok(Some(Text::of(normal)))
 }
 
-/// What stands behind the last slash.
+/// What stands after the last slash.
 fn base_of(path: &[u8]) -> &[u8]
     ensures { result.now ≡ base_of path.entry.now }
 {
@@ -78,8 +78,8 @@ fn stem(base: &[u8]) -> &[u8]
     &base[..stem_len(base)]
 }
 
-/// The name of the module of a file: what stands behind the path's last slash, up to the first dot, with `_` for each
-/// `-`. Only want of memory refuses.
+/// The name of the module of a file: what stands after the path's last slash, up to the first dot, with `_` for each
+/// `-`. It fails only if memory runs out.
 pub fn name_of_path(alloc: Global, path: &[u8]) -> Result<Text, AllocError>
     ensures { IfOk result (λ name. name ≡ name_of_path path.now) }
 {

@@ -66,7 +66,7 @@ fn is_literal(pattern: &[u8]) -> bool
     !has_special(pattern)
 }
 
-/// The item at a place, None behind the last.
+/// The item at a place, None past the last.
 fn item_at(items: &[usize], place: usize) -> Option<usize>
     ensures { result ≡ slice_get items.now place }
 {
@@ -113,8 +113,8 @@ fn alias_for(alloc: Global, pattern: &[u8]) -> Result<Alias, AllocError>
     }
 }
 
-/// Whether the text matches the pattern, a text too; false where the pattern cannot be read (fnmatch(3)). Only want of
-/// memory refuses.
+/// Whether the text matches the pattern, a text too; false where the pattern cannot be read (fnmatch(3)). It fails
+/// only if memory runs out.
 pub fn matches_pattern(alloc: Global, pattern: &[u8], text: &[u8]) -> Result<bool, AllocError>
     ensures { IfOk result (λ matches. matches ≡ matches_pattern pattern.now text.now) }
 {
@@ -160,7 +160,7 @@ impl PatternList {
         Ok(())
     }
 
-    /// Adds a pattern behind the others. Where memory runs out the list stays as it was.
+    /// Adds a pattern after the others. Where memory runs out the list stays as it was.
     pub fn push(&mut self, alloc: Global, pattern: &[u8]) -> Result<(), AllocError>
         ensures ok { OnOk result (self.new ≡ self.old ++ pattern.now ∷ []) }
         ensures err { OnErr result (self.new ≡ self.old) }
@@ -206,7 +206,7 @@ impl PatternList {
         }
     }
 
-    /// The places, from 0, of the patterns that match the text, in rising order. Only want of memory refuses.
+    /// The places, from 0, of the patterns that match the text, in rising order. It fails only if memory runs out.
     pub fn places(&self, alloc: Global, text: &[u8]) -> Result<Vec<usize>, AllocError>
         ensures { IfOk result (λ places. places.items ≡ pattern_places self.now text.now) }
     {
@@ -215,7 +215,7 @@ impl PatternList {
         merged(alloc, self.literals.of(text), &places)
     }
 
-    /// The place of the first pattern that matches the text. Only want of memory refuses.
+    /// The place of the first pattern that matches the text. It fails only if memory runs out.
     pub fn first(&self, alloc: Global, text: &[u8]) -> Result<Option<usize>, AllocError>
         ensures { IfOk result (λ place. place ≡ first_pattern self.now text.now) }
     {

@@ -19,7 +19,7 @@ impl Model for Text {
 }
 
 impl Text {
-    /// A text of these bytes. Only want of memory refuses.
+    /// A text of these bytes. It fails only if memory runs out.
     pub fn new(alloc: Global, bytes: &[u8]) -> Result<Text, AllocError>
         ensures { IfOk result (λ text. text ≡ bytes.now) }
     {
