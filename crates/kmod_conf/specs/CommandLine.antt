@@ -19,7 +19,7 @@ counted text = line_text (take 4095 text)
 abbrev pub ends_name : ℕ → Bool
 ends_name byte = byte == 34 || byte == 46 || byte == 61 || is_space byte
 
--- the byte behind a name, 0 where it ends the text
+-- the byte after a name, 0 where it ends the text
 abbrev pub name_end : List ℕ → ℕ
 name_end text = slice_index text (position_or_len ends_name text)
 
@@ -28,12 +28,12 @@ abbrev pub unquoted : List ℕ → List ℕ
 unquoted [] = []
 unquoted (byte ∷ rest) = if byte == 34 then rest else byte ∷ rest
 
--- a module and its parameter: what stands before the dot behind a name, and after it
+-- a module and its parameter: what stands before the dot after a name, and after it
 abbrev pub cut_parameter : List ℕ → Option (List ℕ × List ℕ)
 cut_parameter word =
     if name_end word == 46 then Some (before_first ends_name word, after_first ends_name word) else None
 
--- a parameter's name ends its text, or `=` stands behind it
+-- a parameter's name ends its text, or `=` stands after it
 abbrev pub is_parameter : List ℕ → Bool
 is_parameter parameter = name_end parameter == 0 || name_end parameter == 61
 
@@ -44,7 +44,7 @@ with_quote is_quoted parameter =
     then take (position_or_len ends_name parameter + 1) parameter ++ 34 ∷ drop (position_or_len ends_name parameter + 1) parameter
     else parameter
 
--- the names between commas, behind a begun one
+-- the names between commas, after a begun one
 abbrev pub blacklist_from : Place → List ℕ → List ℕ → List Entry
 blacklist_from place front [] = Blacklist (record { name = front; place = place }) ∷ []
 blacklist_from place front (byte ∷ rest) =
@@ -72,7 +72,7 @@ word_by place is_quoted (Some parts) =
 abbrev pub word_said : Place → List ℕ → List Entry
 word_said place word = word_by place (slice_index word 0 == 34) (cut_parameter (unquoted word))
 
--- the words behind a begun one: white space outside quotes divides them, and a word with an open quote is none
+-- the words after a begun one: white space outside quotes divides them, and a word with an open quote is none
 abbrev pub words_said : Place → Bool → List ℕ → List ℕ → List Entry
 words_said place is_quoted front [] = if is_quoted then [] else word_said place front
 words_said place is_quoted front (byte ∷ rest) =

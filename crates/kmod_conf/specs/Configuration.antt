@@ -48,7 +48,7 @@ text_line_by place None rest = None
 text_line_by place (Some name) [] = None
 text_line_by place (Some name) (byte ∷ rest) = Some (record { name = name; text = byte ∷ rest; place = place })
 
--- a name, and the text behind it as it stands, which is not empty
+-- a name, and the text after it as it stands, which is not empty
 abbrev pub text_line : Place → List ℕ → Option TextLine
 text_line place text = text_line_by place (name_of_word (word_of text)) (rest_of text)
 
@@ -76,7 +76,7 @@ command_entry place w text =
     else (if bytes_eq w (codes "remove") then remove_entry place text
     else (if bytes_eq w (codes "softdep") then softdep_entry place text else None))
 
--- what a line with this first word and this text behind it says; none is a bad line
+-- what a line with this first word and this text after it says; none is a bad line
 abbrev pub known_entry : Place → List ℕ → List ℕ → Option Entry
 known_entry place w text =
     if bytes_eq w (codes "alias") then alias_entry place text

@@ -19,7 +19,7 @@ abbrev pub last_line : ℕ → ℕ → List ℕ → List Wrapped
 last_line first here [] = []
 last_line first here (byte ∷ front) = record { first = first; last = here; text = byte ∷ front } ∷ []
 
--- The lines of a text behind a begun one, whose first line has a number, from the number `here` of the line that is read.
+-- The lines of a text after a begun one, whose first line has a number, from the number `here` of the line that is read.
 -- A backslash before a line's end joins two lines, and before another byte it is dropped; one that ends the text stands
 -- for the byte 255.
 abbrev pub lines_from : ℕ → ℕ → List ℕ → Bool → List ℕ → List Wrapped
@@ -49,7 +49,7 @@ skip_blanks (byte ∷ rest) = if is_blank byte then skip_blanks rest else byte �
 abbrev pub word_of : List ℕ → List ℕ
 word_of text = before_first is_blank (skip_blanks text)
 
--- what stands behind the blank that ends the first word
+-- what stands after the blank that ends the first word
 abbrev pub rest_of : List ℕ → List ℕ
 rest_of text = after_first is_blank (skip_blanks text)
 
@@ -62,7 +62,7 @@ pub record SoftWords : Type 0 where
 abbrev pub as_blank : ℕ → ℕ
 as_blank byte = if is_space byte then 32 else byte
 
--- the words behind one mark, up to the other
+-- the words after one mark, up to the other
 abbrev pub words_behind : List ℕ → List ℕ → Bool → List (List ℕ) → List (List ℕ)
 words_behind mark other within [] = []
 words_behind mark other within (w ∷ ws) =
@@ -70,7 +70,7 @@ words_behind mark other within (w ∷ ws) =
     else (if bytes_eq w other then words_behind mark other false ws
     else (if within then w ∷ words_behind mark other within ws else words_behind mark other within ws))
 
--- the words, between white space, behind `pre:` and behind `post:`
+-- the words, between white space, after `pre:` and after `post:`
 abbrev pub soft_words : List ℕ → SoftWords
 soft_words text =
     record {

@@ -13,7 +13,7 @@ pub(crate) fn is_space(byte: u8) -> bool
     byte == b' ' || (byte >= 9 && byte <= 13)
 }
 
-/// The byte at a place, 0 behind the end.
+/// The byte at a place, 0 past the end.
 pub(crate) fn byte_at(text: &[u8], place: usize) -> u8
     ensures { result ≡ slice_index text.now place }
 {
@@ -41,7 +41,7 @@ fn word_len(text: &[u8]) -> usize
     text.iter().take_while(|byte| !is_blank(**byte)).count()
 }
 
-/// The first word, and what stands behind the blank that ends it.
+/// The first word, and what stands after the blank that ends it.
 pub(crate) fn cut_word(text: &[u8]) -> (&[u8], &[u8])
     ensures word { result.0.now ≡ word_of text.entry.now }
     ensures rest { result.1.now ≡ rest_of text.entry.now }

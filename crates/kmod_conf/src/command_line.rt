@@ -19,11 +19,7 @@ use text_parts::is_same;
 fn front(text: &[u8], count: usize) -> &[u8]
     ensures { result.now ≡ take count text.entry.now }
 {
-    if count <= text.len() {
-        &text[..count]
-    } else {
-        text
-    }
+    text.get(..count).unwrap_or(text)
 }
 
 /// The bytes that count: the first 4,095, up to a NUL.
@@ -72,7 +68,7 @@ fn cut_parameter(word: &[u8]) -> Option<(&[u8], &[u8])>
     }
 }
 
-/// Whether a parameter's name ends its text, or `=` stands behind it.
+/// Whether a parameter's name ends its text, or `=` stands after it.
 fn is_parameter(parameter: &[u8]) -> bool
     ensures { result ≡ is_parameter parameter.now }
 {
@@ -102,15 +98,11 @@ fn is_blacklist(name: &[u8], parameter: &[u8]) -> bool
     is_same(name, b"modprobe") && is_same(front(parameter, 10), b"blacklist=")
 }
 
-/// What stands behind the first ten bytes, those of `blacklist=`.
+/// What stands after the first ten bytes, those of `blacklist=`.
 fn blacklist_names(parameter: &[u8]) -> &[u8]
     ensures { result.now ≡ drop 10 parameter.entry.now }
 {
-    if parameter.len() > 10 {
-        &parameter[10..]
-    } else {
-        &[]
-    }
+    parameter.get(10..).unwrap_or(&[])
 }
 
 impl Conf {
@@ -178,8 +170,8 @@ impl Conf {
         self.add_options(alloc, name, parameter.as_bytes(), place)
     }
 
-    /// Adds what the kernel's command line says, the text of /proc/cmdline, behind what is there; `source` is kept in
-    /// the places. Only want of memory refuses, and then some of it may be there.
+    /// Adds what the kernel's command line says, the text of /proc/cmdline, after what is there; `source` is kept in
+    /// the places. It fails only if memory runs out, and then some of it may be there.
     #[tactic(auto, unfolding(crate::specs::CommandLine::conf_with_command_line))]
     pub fn add_command_line(
         &mut self,

@@ -25,7 +25,7 @@ impl Model for CommandList {
     ghost invariant = { λ l. l.names ≡ map (λ line. line.name) l.lines.items };
 }
 
-/// The line at a place, None behind the last.
+/// The line at a place, None past the last.
 fn line_at(lines: &[TextLine], place: usize) -> Option<&TextLine>
     ensures { option_copied result ≡ slice_get lines.entry.now place }
 {
@@ -42,7 +42,7 @@ impl CommandList {
         }
     }
 
-    /// Adds a line behind the others. Where memory runs out the list stays as it was.
+    /// Adds a line after the others. Where memory runs out the list stays as it was.
     pub(crate) fn push(&mut self, alloc: Global, line: TextLine) -> Result<(), AllocError>
         ensures ok { OnOk result (self.new ≡ self.old ++ line ∷ []) }
         ensures err { OnErr result (self.new ≡ self.old) }

@@ -96,8 +96,8 @@ impl Conf {
         Ok(())
     }
 
-    /// Adds what the lines of a text of modprobe.d say (modprobe.d(5)), behind what is there; `source` is kept in
-    /// their places. Only want of memory refuses, and then some of the lines may be there.
+    /// Adds what the lines of a text of modprobe.d say (modprobe.d(5)), after what is there; `source` is kept in
+    /// their places. It fails only if memory runs out, and then some of the lines may be there.
     #[tactic(auto, unfolding(crate::specs::Configuration::conf_with_text))]
     pub fn add_text(&mut self, alloc: Global, source: usize, text: &[u8]) -> Result<(), AllocError>
         ensures { OnOk result (self.new ≡ conf_with_text self.old source text.now) }
@@ -158,7 +158,7 @@ impl Conf {
         &self.bad
     }
 
-    /// The aliases whose pattern the name matches, in order. Only want of memory refuses.
+    /// The aliases whose pattern the name matches, in order. It fails only if memory runs out.
     pub fn matching_aliases(
         &self,
         alloc: Global,
@@ -169,29 +169,29 @@ impl Conf {
         self.aliases.matching(alloc, name)
     }
 
-    /// The first softdep line whose name, as a pattern, the module matches. Only want of memory refuses.
+    /// The first softdep line whose name, as a pattern, the module matches. It fails only if memory runs out.
     pub fn softdep_of(&self, alloc: Global, name: &[u8]) -> Result<Option<&SoftdepLine>, AllocError>
         ensures { IfOk result (λ line. option_copied line ≡ softdep_of self.now name.now) }
     {
         self.softdeps.first(alloc, name)
     }
 
-    /// The first install line whose name, as a pattern, the module matches. Only want of memory refuses.
+    /// The first install line whose name, as a pattern, the module matches. It fails only if memory runs out.
     pub fn install_of(&self, alloc: Global, name: &[u8]) -> Result<Option<&TextLine>, AllocError>
         ensures { IfOk result (λ line. option_copied line ≡ install_of self.now name.now) }
     {
         self.installs.first(alloc, name)
     }
 
-    /// The first remove line whose name, as a pattern, the module matches. Only want of memory refuses.
+    /// The first remove line whose name, as a pattern, the module matches. It fails only if memory runs out.
     pub fn remove_of(&self, alloc: Global, name: &[u8]) -> Result<Option<&TextLine>, AllocError>
         ensures { IfOk result (λ line. option_copied line ≡ remove_of self.now name.now) }
     {
         self.removes.first(alloc, name)
     }
 
-    /// The options lines with text, in order, whose name is the module's or that of the alias by which it came. Only
-    /// want of memory refuses.
+    /// The options lines with text, in order, whose name is the module's or that of the alias by which it came. It
+    /// fails only if memory runs out.
     pub fn options_of(
         &self,
         alloc: Global,

@@ -1,6 +1,6 @@
 //! What one line says.
 ghost use Rattle.std.specs.Prelude.{◌≡◌, map, IfOk};
-ghost use Rattle.kmod_conf.specs.Configuration.{alias_entry, blacklist_entry, command_entry, install_entry, known_entry, line_entry};
+ghost use Rattle.kmod_conf.specs.Configuration.{alias_entry, blacklist_entry, install_entry, known_entry, line_entry};
 ghost use Rattle.kmod_conf.specs.Configuration.{name_of_word, options_entry, remove_entry, softdep_entry, text_line, untabbed};
 
 use crate::bytes::{cut_word, line_text};
@@ -54,13 +54,11 @@ fn read_blacklist(alloc: Global, text: &[u8], place: Place) -> Result<Option<Ent
     ensures { IfOk result (λ entry. entry ≡ blacklist_entry place text.now) }
 {
     let (word, _) = cut_word(text);
-    match name_of_word(alloc, word)? {
-        Some(name) => Ok(Some(Entry::Blacklist(NameLine { name, place }))),
-        None => Ok(None),
-    }
+    let name = name_of_word(alloc, word)?;
+    Ok(name.map(|name| Entry::Blacklist(NameLine { name, place })))
 }
 
-/// A name and the text behind it, None where it has not both.
+/// A name and the text after it, None where it has not both.
 fn read_text_line(alloc: Global, text: &[u8], place: Place) -> Result<Option<TextLine>, AllocError>
     ensures { IfOk result (λ line. line ≡ text_line place text.now) }
 {
@@ -107,19 +105,13 @@ fn read_options(alloc: Global, text: &[u8], place: Place) -> Result<Option<Entry
 fn read_install(alloc: Global, text: &[u8], place: Place) -> Result<Option<Entry>, AllocError>
     ensures { IfOk result (λ entry. entry ≡ install_entry place text.now) }
 {
-    match read_text_line(alloc, text, place)? {
-        Some(line) => Ok(Some(Entry::Install(line))),
-        None => Ok(None),
-    }
+    Ok(read_text_line(alloc, text, place)?.map(Entry::Install))
 }
 
 fn read_remove(alloc: Global, text: &[u8], place: Place) -> Result<Option<Entry>, AllocError>
     ensures { IfOk result (λ entry. entry ≡ remove_entry place text.now) }
 {
-    match read_text_line(alloc, text, place)? {
-        Some(line) => Ok(Some(Entry::Remove(line))),
-        None => Ok(None),
-    }
+    Ok(read_text_line(alloc, text, place)?.map(Entry::Remove))
 }
 
 fn read_softdep(alloc: Global, text: &[u8], place: Place) -> Result<Option<Entry>, AllocError>
@@ -136,28 +128,7 @@ fn read_softdep(alloc: Global, text: &[u8], place: Place) -> Result<Option<Entry
     })))
 }
 
-/// What a command, a remove or an install line, and so on says; None where it is bad.
-fn read_command(
-    alloc: Global,
-    word: &[u8],
-    text: &[u8],
-    place: Place,
-) -> Result<Option<Entry>, AllocError>
-    ensures { IfOk result (λ entry. entry ≡ command_entry place word.now text.now) }
-{
-    if is_same(word, b"install") {
-        return read_install(alloc, text, place);
-    }
-    if is_same(word, b"remove") {
-        return read_remove(alloc, text, place);
-    }
-    if is_same(word, b"softdep") {
-        return read_softdep(alloc, text, place);
-    }
-    Ok(None)
-}
-
-/// What a line with this first word and this text behind it says, None where it is bad.
+/// What a line with this first word and this text after it says, None where it is bad.
 fn read_known(
     alloc: Global,
     word: &[u8],
@@ -167,15 +138,20 @@ fn read_known(
     ensures { IfOk result (λ entry. entry ≡ known_entry place word.now text.now) }
 {
     if is_same(word, b"alias") {
-        return read_alias(alloc, text, place);
+        read_alias(alloc, text, place)
+    } else if is_same(word, b"blacklist") {
+        read_blacklist(alloc, text, place)
+    } else if is_same(word, b"options") {
+        read_options(alloc, text, place)
+    } else if is_same(word, b"install") {
+        read_install(alloc, text, place)
+    } else if is_same(word, b"remove") {
+        read_remove(alloc, text, place)
+    } else if is_same(word, b"softdep") {
+        read_softdep(alloc, text, place)
+    } else {
+        Ok(None)
     }
-    if is_same(word, b"blacklist") {
-        return read_blacklist(alloc, text, place);
-    }
-    if is_same(word, b"options") {
-        return read_options(alloc, text, place);
-    }
-    read_command(alloc, word, text, place)
 }
 
 impl Entry {

@@ -9,7 +9,7 @@ pub struct NameLine {
     pub place: Place,
 }
 
-/// A name, and the text behind it as it stands: options, or the command of an install or a remove line.
+/// A name, and the text after it as it stands: options, or the command of an install or a remove line.
 #[derive(Drop)]
 pub struct TextLine {
     pub name: Text,

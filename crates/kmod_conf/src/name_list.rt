@@ -37,7 +37,7 @@ impl NameList {
         }
     }
 
-    /// Adds a line behind the others. Where memory runs out the list stays as it was.
+    /// Adds a line after the others. Where memory runs out the list stays as it was.
     pub(crate) fn push(&mut self, alloc: Global, line: NameLine) -> Result<(), AllocError>
         ensures ok { OnOk result (self.new ≡ self.old ++ line ∷ []) }
         ensures err { OnErr result (self.new ≡ self.old) }

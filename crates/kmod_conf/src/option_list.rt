@@ -65,7 +65,7 @@ impl OptionList {
         }
     }
 
-    /// Adds a line behind the others. Where memory runs out the list stays as it was.
+    /// Adds a line after the others. Where memory runs out the list stays as it was.
     pub(crate) fn push(&mut self, alloc: Global, line: TextLine) -> Result<(), AllocError>
         ensures ok { OnOk result (self.new ≡ self.old ++ line ∷ []) }
         ensures err { OnErr result (self.new ≡ self.old) }

@@ -25,7 +25,7 @@ impl Model for SoftItems {
     ghost view = { λ s. record { pre = s.pre.items; post = s.post.items } };
 }
 
-/// Whether the word is one of the two marks, and then whether words behind it count.
+/// Whether the word is one of the two marks, and then whether words after it count.
 fn mark_at(word: &[u8], mark: &[u8], other: &[u8]) -> Option<bool>
     ensures { result
         ≡ (if bytes_eq word.now mark.now then Some true else (if bytes_eq word.now other.now then Some false else None)) }
@@ -36,7 +36,7 @@ fn mark_at(word: &[u8], mark: &[u8], other: &[u8]) -> Option<bool>
     if word == other { Some(false) } else { None }
 }
 
-/// The words behind one mark, up to the other.
+/// The words after one mark, up to the other.
 fn words_behind(
     alloc: Global,
     mark: &[u8],
