@@ -90,7 +90,7 @@ impl Aliases {
         }
     }
 
-    /// Adds an alias behind the others. Where memory runs out they stay as they were.
+    /// Adds an alias after the others. Where memory runs out they stay as they were.
     pub(crate) fn push(&mut self, alloc: Global, line: IndexLine) -> Result<(), AllocError>
         ensures ok { OnOk result (self.new ≡ self.old ++ line ∷ []) }
         ensures err { OnErr result (self.new ≡ self.old) }
@@ -105,10 +105,10 @@ impl Aliases {
     fn add_line(&mut self, alloc: Global, number: usize, line: &[u8]) -> Result<(), AllocError>
         ensures { OnOk result (self.new ≡ self.old ++ option_to_list (alias_of_line (number, line.now))) }
     {
-        let Some(alias) = IndexLine::read_alias(alloc, number, line)? else {
-            return Ok(());
-        };
-        self.push(alloc, alias)
+        match IndexLine::read_alias(alloc, number, line)? {
+            Some(alias) => self.push(alloc, alias),
+            None => Ok(()),
+        }
     }
 
     /// The aliases, in order.
@@ -118,7 +118,7 @@ impl Aliases {
         &self.lines
     }
 
-    /// The aliases that a name in normal form matches, in order. It fails for want of memory alone.
+    /// The aliases that a name in normal form matches, in order. It fails only if memory runs out.
     pub fn matching(&self, alloc: Global, name: &[u8]) -> Result<Vec<&IndexLine>, AllocError>
         ensures { IfOk result (λ found. pointed found.items ≡ matching_lines self.now name.now) }
     {
@@ -127,7 +127,7 @@ impl Aliases {
     }
 }
 
-/// The aliases of a whole modules.alias text. It fails for want of memory alone.
+/// The aliases of a whole modules.alias text. It fails only if memory runs out.
 pub fn read_aliases(alloc: Global, text: &[u8]) -> Result<Aliases, AllocError>
     ensures { IfOk result (λ aliases. aliases ≡ aliases_of text.now) }
 {

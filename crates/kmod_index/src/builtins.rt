@@ -32,10 +32,7 @@ impl Model for Builtins {
 fn begins_with_letter(line: &[u8]) -> bool
     ensures { result ≡ is_letter (slice_index line.now 0) }
 {
-    match line.first() {
-        Some(byte) => byte.is_ascii_alphabetic(),
-        None => false,
-    }
+    matches!(line.first(), Some(byte) if byte.is_ascii_alphabetic())
 }
 
 /// Adds the name in a line's path, where it has one.
@@ -74,7 +71,7 @@ impl Builtins {
     }
 }
 
-/// The names of a whole modules.builtin text. It fails for want of memory alone.
+/// The names of a whole modules.builtin text. It fails only if memory runs out.
 pub fn read_builtins(alloc: Global, text: &[u8]) -> Result<Builtins, AllocError>
     ensures { IfOk result (λ builtins. builtins ≡ builtin_names text.now) }
 {

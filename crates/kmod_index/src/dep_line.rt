@@ -65,7 +65,7 @@ impl DepLine {
         self.path.as_bytes()
     }
 
-    /// The paths of the modules that it needs, in the order of the line. It fails for want of memory alone.
+    /// The paths of the modules that it needs, in the order of the line. It fails only if memory runs out.
     pub fn needs(&self, alloc: Global) -> Result<Vec<&[u8]>, AllocError>
         ensures { IfOk result (λ needs. texts_of needs.items ≡ self.now.needs) }
     {
@@ -79,7 +79,7 @@ impl DepLine {
         self.number
     }
 
-    /// The name of the module. It fails for want of memory alone.
+    /// The name of the module. It fails only if memory runs out.
     pub fn name(&self, alloc: Global) -> Result<Text, AllocError>
         ensures { IfOk result (λ name. name ≡ name_of self.now) }
     {
@@ -87,7 +87,7 @@ impl DepLine {
     }
 
     /// The names of the modules that it needs, in the order in which they are loaded: the last of the line first. It fails
-    /// for want of memory alone.
+    /// only if memory runs out.
     pub fn needed_names(&self, alloc: Global) -> Result<Vec<Text>, AllocError>
         ensures { IfOk result (λ names. names.items ≡ needed_names self.now) }
     {

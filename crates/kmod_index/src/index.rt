@@ -50,7 +50,7 @@ impl Model for Index {
 impl Index {
     ghost use Rattle.kmod_index.specs.Index.{indexes_of, texts_in};
 
-    /// What the texts say. It fails for want of memory alone.
+    /// What the texts say. It fails only if memory runs out.
     #[tactic(auto, unfolding(crate::specs::Index::indexes_of))]
     pub fn read(alloc: Global, texts: &IndexTexts) -> Result<Index, AllocError>
         ensures { IfOk result (λ index. index ≡ indexes_of (texts_in texts.now)) }
@@ -92,8 +92,8 @@ impl Index {
         self.builtins.has(name)
     }
 
-    /// The aliases of built-in modules that a name in normal form matches, in kmod's order. It fails for want of memory
-    /// alone.
+    /// The aliases of built-in modules that a name in normal form matches, in kmod's order. It fails only if memory
+    /// runs out.
     pub fn builtin_aliases(&self, alloc: Global, name: &[u8]) -> Result<Vec<&IndexLine>, AllocError>
         ensures { IfOk result (λ found. pointed found.items ≡ in_order (matching_lines self.now.builtin_aliases name.now)) }
     {

@@ -33,10 +33,7 @@ fn alias_parts(line: &[u8]) -> Option<(&[u8], &[u8])>
         (alias_parts line.entry.now ≡ None)
         (λ parts. alias_parts line.entry.now ≡ Some (parts.0.now, parts.1.now)) }
 {
-    match line.strip_prefix(b"alias ") {
-        Some(rest) => at_last(b' ', rest),
-        None => None,
-    }
+    at_last(b' ', line.strip_prefix(b"alias ")?)
 }
 
 impl IndexLine {
@@ -113,7 +110,7 @@ impl IndexLine {
     }
 }
 
-/// The line at a place, None behind the last.
+/// The line at a place, None past the last.
 fn line_at(lines: &[IndexLine], place: usize) -> Option<&IndexLine>
     ensures { option_copied result ≡ slice_get lines.entry.now place }
 {

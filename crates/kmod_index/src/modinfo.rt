@@ -30,23 +30,11 @@ fn modinfo_parts(entry: &[u8]) -> Option<(&[u8], &[u8])>
         (modinfo_parts entry.entry.now ≡ None)
         (λ parts. modinfo_parts entry.entry.now ≡ Some (parts.0.now, parts.1.now)) }
 {
-    match at_first(b'=', entry) {
-        Some((key, value)) => alias_value(key, value),
-        None => None,
-    }
+    let (key, value) = at_first(b'=', entry)?;
+    alias_value(key, value)
 }
 
-/// The alias of an entry of this number.
-fn read_entry(alloc: Global, number: usize, entry: &[u8]) -> Result<Option<IndexLine>, AllocError>
-    ensures { IfOk result (λ read. read ≡ alias_of_entry (number, entry.now)) }
-{
-    match modinfo_parts(entry) {
-        Some((value, module)) => IndexLine::of_alias(alloc, number, value, module),
-        None => Ok(None),
-    }
-}
-
-/// Adds the alias of an entry, where it has one.
+/// Adds the alias of the entry of this number, where it has one.
 fn add_entry(
     aliases: &mut Aliases,
     alloc: Global,
@@ -55,13 +43,16 @@ fn add_entry(
 ) -> Result<(), AllocError>
     ensures { OnOk result (aliases.new ≡ aliases.old ++ option_to_list (alias_of_entry (number, entry.now))) }
 {
-    let Some(alias) = read_entry(alloc, number, entry)? else {
+    let Some((value, module)) = modinfo_parts(entry) else {
         return Ok(());
     };
-    aliases.push(alloc, alias)
+    match IndexLine::of_alias(alloc, number, value, module)? {
+        Some(alias) => aliases.push(alloc, alias),
+        None => Ok(()),
+    }
 }
 
-/// The aliases of a whole modules.builtin.modinfo text. It fails for want of memory alone.
+/// The aliases of a whole modules.builtin.modinfo text. It fails only if memory runs out.
 pub fn read_builtin_aliases(alloc: Global, text: &[u8]) -> Result<Aliases, AllocError>
     ensures { IfOk result (λ aliases. aliases ≡ builtin_aliases text.now) }
 {

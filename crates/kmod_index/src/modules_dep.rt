@@ -50,7 +50,7 @@ fn add_line(
     Ok(())
 }
 
-/// The line at a place, None behind the last.
+/// The line at a place, None past the last.
 fn line_at(lines: &[DepLine], place: usize) -> Option<&DepLine>
     ensures { option_copied result ≡ slice_get lines.entry.now place }
 {
@@ -76,7 +76,7 @@ impl ModulesDep {
     }
 
     /// The names of the modules that a module needs, in the order in which they are loaded, none where it has no line. It
-    /// fails for want of memory alone.
+    /// fails only if memory runs out.
     pub fn hard_needs(&self, alloc: Global, name: &[u8]) -> Result<Vec<Text>, AllocError>
         ensures { IfOk result (λ names. names.items ≡ hard_needs self.now name.now) }
     {
@@ -87,7 +87,7 @@ impl ModulesDep {
     }
 }
 
-/// The lines of a whole modules.dep text. It fails for want of memory alone.
+/// The lines of a whole modules.dep text. It fails only if memory runs out.
 pub fn read_modules_dep(alloc: Global, text: &[u8]) -> Result<ModulesDep, AllocError>
     ensures { IfOk result (λ dep. dep ≡ dependencies_of text.now) }
 {

@@ -59,7 +59,7 @@ impl Symbols {
         &self.lines
     }
 
-    /// The lines whose key is this text, as `symbol:NAME`, in the order of the text. It fails for want of memory alone.
+    /// The lines whose key is this text, as `symbol:NAME`, in the order of the text. It fails only if memory runs out.
     pub fn of_key(&self, alloc: Global, key: &[u8]) -> Result<Vec<&IndexLine>, AllocError>
         ensures { IfOk result (λ found. pointed found.items ≡ lines_of_key self.now key.now) }
     {
@@ -67,7 +67,7 @@ impl Symbols {
     }
 }
 
-/// The lines of a whole modules.symbols text. It fails for want of memory alone.
+/// The lines of a whole modules.symbols text. It fails only if memory runs out.
 pub fn read_symbols(alloc: Global, text: &[u8]) -> Result<Symbols, AllocError>
     ensures { IfOk result (λ symbols. symbols ≡ keyed_lines text.now) }
 {

@@ -10,10 +10,8 @@ use std::alloc::{AllocError, Global};
 fn byte_before(is_plain: bool, first: u8, second: u8) -> bool
     ensures { result ≡ byte_before is_plain first second }
 {
-    if is_plain && is_wild(first) && !is_wild(second) {
-        false
-    } else if is_plain && !is_wild(first) && is_wild(second) {
-        true
+    if is_plain && is_wild(first) != is_wild(second) {
+        is_wild(second)
     } else {
         second < first
     }
