@@ -4,12 +4,10 @@ ghost use Rattle.kmod_conf.specs.Configuration.{conf_with_text, no_lines, place_
 ghost use Rattle.kmod_conf.specs.LookUps.{has_install_named, has_remove_named, install_named, install_of, is_blacklisted, matching_aliases};
 ghost use Rattle.kmod_conf.specs.LookUps.{options_of, remove_named, remove_of, softdep_of};
 
-use crate::command_list::CommandList;
 use crate::entry::Entry;
 use crate::line::{NameLine, SoftdepLine, TextLine};
-use crate::name_list::NameList;
-use crate::option_list::OptionList;
-use crate::softdep_list::SoftdepList;
+use crate::named_lines::NamedLines;
+use crate::pattern_lines::PatternLines;
 use crate::wrapped_lines::WrappedLines;
 use kmod_names::{AliasEntry, AliasTable, Place};
 use std::alloc::{AllocError, Global};
@@ -19,11 +17,11 @@ use std::marker::Model;
 /// stand, so give them in normal form.
 pub struct Conf {
     aliases: AliasTable,
-    blacklist: NameList,
-    options: OptionList,
-    installs: CommandList,
-    removes: CommandList,
-    softdeps: SoftdepList,
+    blacklist: NamedLines<NameLine>,
+    options: NamedLines<TextLine>,
+    installs: PatternLines<TextLine>,
+    removes: PatternLines<TextLine>,
+    softdeps: PatternLines<SoftdepLine>,
     bad: Vec<NameLine>,
 }
 
@@ -72,11 +70,11 @@ impl Conf {
     {
         Conf {
             aliases: AliasTable::new(alloc),
-            blacklist: NameList::new(alloc),
-            options: OptionList::new(alloc),
-            installs: CommandList::new(alloc),
-            removes: CommandList::new(alloc),
-            softdeps: SoftdepList::new(alloc),
+            blacklist: NamedLines::new(alloc),
+            options: NamedLines::new(alloc),
+            installs: PatternLines::new(alloc),
+            removes: PatternLines::new(alloc),
+            softdeps: PatternLines::new(alloc),
             bad: Vec::new(alloc),
         }
     }

@@ -3,14 +3,13 @@
 
 mod bytes;
 mod command_line;
-mod command_list;
 mod conf;
 mod entry;
 mod line;
-mod name_list;
-mod option_list;
+mod named_lines;
+mod option_lines;
+mod pattern_lines;
 mod softdep;
-mod softdep_list;
 mod wrapped_lines;
 
 pub use conf::Conf;

@@ -1,4 +1,6 @@
 //! What lines say, with their places.
+ghost use Rattle.std.specs.Prelude.{◌≡◌, ℕ, List};
+
 use crate::softdep::SoftItems;
 use kmod_names::{Place, Text};
 
@@ -23,4 +25,36 @@ pub struct SoftdepLine {
     pub name: Text,
     pub items: SoftItems,
     pub place: Place,
+}
+
+/// A line that has a name.
+pub(crate) trait Named: Drop {
+    ghost name: { Self → List ℕ };
+
+    fn name(&self) -> &[u8]
+        ensures { result.now ≡ name self.now };
+}
+
+impl Named for NameLine {
+    ghost name = { λ line. line.name };
+
+    fn name(&self) -> &[u8] {
+        self.name.as_bytes()
+    }
+}
+
+impl Named for TextLine {
+    ghost name = { λ line. line.name };
+
+    fn name(&self) -> &[u8] {
+        self.name.as_bytes()
+    }
+}
+
+impl Named for SoftdepLine {
+    ghost name = { λ line. line.name };
+
+    fn name(&self) -> &[u8] {
+        self.name.as_bytes()
+    }
 }

@@ -1,7 +1,7 @@
 use Rattle.std.proofs.Common.{arith}
 use Rattle.std.proofs.lemmas.Grind.{common_steps}
 use Rattle.std.proofs.lemmas.List.Elements.{filter_map-append}
-use Rattle.kmod_conf.proofs.option_list.filled_lines.Goals as goal
+use Rattle.kmod_conf.proofs.option_lines.filled_lines.Goals as goal
 
 pub loop-place-preserved : goal.loop-place-preserved
 loop-place-preserved c = grind (arith, common_steps, filter_map-append)

@@ -1,67 +1,68 @@
-//! The lines of commands, and the first that concerns a module.
+//! Lines with names that are patterns, and the first that concerns a module.
 ghost use Rattle.std.specs.Prelude.{◌≡◌, ◌∷◌, ◌++◌, [], IfOk, OnOk, OnErr, option_copied, slice_get};
-ghost use Rattle.kmod_conf.specs.LookUps.{first_line, has_named, line_named};
+ghost use Rattle.std.specs.List.{find, list_any};
+ghost use Rattle.std.specs.Str.{bytes_eq};
+ghost use Rattle.kmod_names.specs.Patterns.{matches_pattern};
 
-use crate::line::TextLine;
+use crate::line::Named;
 use kmod_names::PatternList;
 use std::alloc::{AllocError, Global};
 use std::marker::Model;
 
-/// Lines of install or of remove in the order of the texts, with their names as patterns.
+/// Lines in the order of the texts, with their names as patterns.
 #[derive(Drop)]
-pub(crate) struct CommandList {
-    lines: Vec<TextLine>,
+pub(crate) struct PatternLines<L: Named> {
+    lines: Vec<L>,
     names: PatternList,
 }
 
-impl Model for CommandList {
+impl<L: Named> Model for PatternLines<L> {
     ghost use Rattle.std.specs.Prelude.{◌≡◌, List, map};
-    ghost use Rattle.kmod_conf.specs.declared.line.TextLine.{TextLine};
 
-    ghost Value = { List TextLine };
+    ghost Value = { List L };
 
     ghost view = { λ l. l.lines.items };
 
-    ghost invariant = { λ l. l.names ≡ map (λ line. line.name) l.lines.items };
+    ghost invariant = { λ l. l.names ≡ map L.name l.lines.items };
 }
 
 /// The line at a place, None past the last.
-fn line_at(lines: &[TextLine], place: usize) -> Option<&TextLine>
+fn line_at<L>(lines: &[L], place: usize) -> Option<&L>
     ensures { option_copied result ≡ slice_get lines.entry.now place }
 {
     lines.get(place)
 }
 
-impl CommandList {
-    pub(crate) fn new(alloc: Global) -> CommandList
+impl<L: Named> PatternLines<L> {
+    pub(crate) fn new(alloc: Global) -> PatternLines<L>
         ensures { result ≡ [] }
     {
-        CommandList {
+        PatternLines {
             lines: Vec::new(alloc),
             names: PatternList::new(alloc),
         }
     }
 
     /// Adds a line after the others. Where memory runs out the list stays as it was.
-    pub(crate) fn push(&mut self, alloc: Global, line: TextLine) -> Result<(), AllocError>
+    pub(crate) fn push(&mut self, alloc: Global, line: L) -> Result<(), AllocError>
         ensures ok { OnOk result (self.new ≡ self.old ++ line ∷ []) }
         ensures err { OnErr result (self.new ≡ self.old) }
     {
         self.lines.reserve(1)?;
-        self.names.push(alloc, line.name.as_bytes())?;
+        self.names.push(alloc, line.name())?;
         self.lines.push(line)?;
         Ok(())
     }
 
-    pub(crate) fn lines(&self) -> &[TextLine]
+    pub(crate) fn lines(&self) -> &[L]
         ensures { result.now ≡ self.now }
     {
         &self.lines
     }
 
     /// The first line whose name, as a pattern, matches.
-    pub(crate) fn first(&self, alloc: Global, name: &[u8]) -> Result<Option<&TextLine>, AllocError>
-        ensures { IfOk result (λ line. option_copied line ≡ first_line self.now name.now) }
+    pub(crate) fn first(&self, alloc: Global, name: &[u8]) -> Result<Option<&L>, AllocError>
+        ensures { IfOk result (λ line. option_copied line ≡ find (λ own. matches_pattern (L.name own) name.now) self.now) }
     {
         match self.names.first(alloc, name)? {
             Some(place) => Ok(line_at(&self.lines, place)),
@@ -70,8 +71,8 @@ impl CommandList {
     }
 
     /// The first line that has just this name.
-    pub(crate) fn named(&self, name: &[u8]) -> Option<&TextLine>
-        ensures { option_copied result ≡ line_named self.now name.now }
+    pub(crate) fn named(&self, name: &[u8]) -> Option<&L>
+        ensures { option_copied result ≡ find (λ line. bytes_eq (L.name line) name.now) self.now }
     {
         match self.names.place_named(name) {
             Some(place) => line_at(&self.lines, place),
@@ -81,7 +82,7 @@ impl CommandList {
 
     /// Whether some line has just this name.
     pub(crate) fn has_named(&self, name: &[u8]) -> bool
-        ensures { result ≡ has_named self.now name.now }
+        ensures { result ≡ list_any (λ line. bytes_eq (L.name line) name.now) self.now }
     {
         self.names.has(name)
     }

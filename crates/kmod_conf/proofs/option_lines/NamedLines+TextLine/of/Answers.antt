@@ -1,7 +1,7 @@
 use Rattle.std.proofs.Common.{◌∙◌, ap}
 use Rattle.std.specs.Option.{option_map}
 use Rattle.kmod_conf.proofs.ListLemmas.{options_found, or_own}
-use Rattle.kmod_conf.proofs.option_list.OptionList.of.Goals as goal
+use Rattle.kmod_conf.proofs.option_lines.NamedLines+TextLine.of.Goals as goal
 
 pub returns : goal.returns
 returns c =

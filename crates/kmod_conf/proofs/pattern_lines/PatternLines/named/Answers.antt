@@ -1,15 +1,14 @@
 use Rattle.std.proofs.Common.{◌∙◌, ap, sym, slice_get, Some, None}
-use Rattle.kmod_conf.specs.declared.line.TextLine.{TextLine}
 use Rattle.kmod_conf.proofs.FirstLemmas.{named_found}
-use Rattle.kmod_conf.proofs.command_list.CommandList.named.Goals as goal
+use Rattle.kmod_conf.proofs.pattern_lines.PatternLines.named.Goals as goal
 
 pub returns-in-Some : goal.returns-in-Some
-returns-in-Some c =
+returns-in-Some g c =
     c.line_at.ensures ∙ ap (λ l. slice_get l c.in-Some.place) c.deref.ensures.value
-    ∙ named_found (λ (line : TextLine). line.name) c.self.inside.lines.items c.args.self.now c.self.inside.names c.args.name.now (Some c.in-Some.place)
+    ∙ named_found g.L.Named.name c.self.inside.lines.items c.args.self.now c.self.inside.names c.args.name.now (Some c.in-Some.place)
     (sym c.in-Some.is ∙ c.place_named.ensures) c.self.invariant c.self.view_is
 
 pub returns-in-None : goal.returns-in-None
-returns-in-None c =
-    named_found (λ (line : TextLine). line.name) c.self.inside.lines.items c.args.self.now c.self.inside.names c.args.name.now None
+returns-in-None g c =
+    named_found g.L.Named.name c.self.inside.lines.items c.args.self.now c.self.inside.names c.args.name.now None
     (sym c.in-None.is ∙ c.place_named.ensures) c.self.invariant c.self.view_is

@@ -1,9 +1,0 @@
-use Rattle.std.proofs.Common.{◌∙◌, ap, not}
-use Rattle.kmod_conf.specs.declared.line.NameLine.{NameLine}
-use Rattle.kmod_conf.proofs.ListLemmas.{has_line}
-use Rattle.kmod_conf.proofs.name_list.NameList.has.Goals as goal
-
-pub returns : goal.returns
-returns c =
-    ap not c.is_empty.ensures
-    ∙ has_line (λ (line : NameLine). line.name) c.self.inside.places c.self.inside.lines.items c.args.self.now c.of.result.now c.args.name.now c.self.invariant c.of.ensures c.self.view_is
