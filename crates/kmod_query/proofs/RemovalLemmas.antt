@@ -1,7 +1,6 @@
 -- The steps of a removal.
 use Rattle.std.proofs.Common.{◌≡◌, ℕ, zero, suc, ◌+◌, ◌-◌, ◌<◌, Bool, true, false, cond, ◌||◌, List, [], ◌∷◌, ◌++◌, map, reverse, drop, length, refl, sym, ◌∙◌, ap, arith, append_assoc, append-nil}
 use Rattle.std.proofs.lemmas.List.{map-append, reverse-append}
-use Rattle.indexmap.proofs.ReorderLemmas.{map-reverse}
 use Rattle.std.specs.Borrow.{Bor}
 use Rattle.text_parts.specs.Text.{texts_of}
 use Rattle.std.specs.List.{list_any}
@@ -23,29 +22,9 @@ use Rattle.kmod_query.specs.Removals.{after, removal_of, removals_of, with_name}
 pub removals-push : (tasks : List Removal) (task : Removal) → removals_of (tasks ++ task ∷ []) ≡ removal_of task ∷ removals_of tasks
 removals-push tasks task = ap reverse (map-append removal_of tasks (task ∷ [])) ∙ reverse-append (map removal_of tasks) (removal_of task ∷ [])
 
-front-last : (rest : List CodeObject) (x : CodeObject) (ts : List Task) → map (take true) (objects_of (rest ++ x ∷ [])) ++ ts ≡ map (take true) (objects_of rest) ++ (take true (object_of x) ∷ ts)
-front-last [] x ts = refl
-front-last (y ∷ rest) x ts = ap (λ l. take true (object_of y) ∷ l) (front-last rest x ts)
-
-pub takes_more : (rest : List CodeObject) (x : CodeObject) (stack : List Removal) (old : List CodeObject) (now : List Removal) (whole : List Task)
-    → old ≡ rest ++ x ∷ [] → now ≡ stack ++ Take true x ∷ []
-    → map (take true) (objects_of old) ++ removals_of stack ≡ whole → map (take true) (objects_of rest) ++ removals_of now ≡ whole
-takes_more rest x stack old now whole e f h =
-    ap (λ l. map (take true) (objects_of rest) ++ removals_of l) f
-    ∙ ap (λ l. map (take true) (objects_of rest) ++ l) (removals-push stack (Take true x))
-    ∙ sym (front-last rest x (removals_of stack))
-    ∙ ap (λ l. map (take true) (objects_of l) ++ removals_of stack) (sym e)
-    ∙ h
-
 none_left : {A : Type 0} (xs : List A) → length xs ≡ 0 → xs ≡ []
 none_left [] h = refl
 none_left (x ∷ xs) h = absurd (omega (arith, h))
-
-pub takes_all : (left : List CodeObject) (stack : List Removal) (whole : List Task) → length left ≡ 0 → map (take true) (objects_of left) ++ removals_of stack ≡ whole → removals_of stack ≡ whole
-takes_all left stack whole none h = sym (ap (λ l. map (take true) (objects_of l) ++ removals_of stack) (none_left left none)) ∙ h
-
-pub takes_begin : (reversed objects : List CodeObject) (stack : List Removal) → reversed ≡ reverse objects → map (take true) (objects_of reversed) ++ removals_of stack ≡ take_each (objects_of objects) ++ removals_of stack
-takes_begin reversed objects stack e = ap (λ l. map (take true) l ++ removals_of stack) (ap objects_of e ∙ map-reverse object_of objects)
 
 -- what is taken was pushed
 pub taken : (facts : Facts) (query : Query) (soft : Bool) (object : CodeObject) (items : List CodeObject) (old one two new : List Removal)

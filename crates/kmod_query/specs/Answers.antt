@@ -25,12 +25,12 @@ noted soft failure = record { output = []; failures = failure ∷ []; failed = n
 abbrev pub silent_failure : Answer
 silent_failure = record { output = []; failures = []; failed = true }
 
--- one answer behind another: the status of the last counts
+-- one answer after another: the status of the last counts
 abbrev pub and_then : Answer → Answer → Answer
 and_then first next =
     record { output = first.output ++ next.output; failures = first.failures ++ next.failures; failed = next.failed }
 
--- one answer behind another: each status counts
+-- one answer after another: each status counts
 abbrev pub and_also : Answer → Answer → Answer
 and_also first next =
     record {

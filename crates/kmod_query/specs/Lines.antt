@@ -9,7 +9,7 @@ use Rattle.kmod_query.specs.Facts.{Facts}
 use Rattle.kmod_query.specs.Objects.{Object, is_same}
 use Rattle.kmod_query.specs.Probes.{before_of, after_of}
 
--- a text behind another, with a blank between them where the first is not empty
+-- a text after another, with a blank between them where the first is not empty
 abbrev pub joined : List ℕ → List ℕ → List ℕ
 joined front text = if length front == 0 then text else front ++ (32 ∷ text)
 
@@ -44,7 +44,7 @@ quoted word =
 abbrev pub parameter_text : List (List ℕ) → List ℕ
 parameter_text words = fold (λ text word. joined text (quoted word)) [] words
 
--- the options of an object, and the parameters behind them
+-- the options of an object, and the parameters after them
 abbrev pub option_text : Facts → Object → List ℕ → List ℕ
 option_text facts object parameters = joined (fold joined [] (facts.options object.name object.alias)) parameters
 

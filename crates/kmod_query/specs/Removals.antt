@@ -20,11 +20,11 @@ removal_of Leave = leave
 abbrev pub removals_of : List Removal → List Task
 removals_of tasks = reverse (map removal_of tasks)
 
--- names with one more behind them, where it is not there
+-- names with one more after them, where it is not there
 abbrev pub with_name : List (List ℕ) → List ℕ → List (List ℕ)
 with_name names name = if list_any (bytes_eq name) names then names else names ++ name ∷ []
 
--- what a step answers with what comes behind it
+-- what a step answers with what comes after it
 abbrev pub after : Step → Answer → Answer
 after step later = if step.ended then step.answer else and_also step.answer later
 

@@ -25,11 +25,11 @@ text_line verb own = line verb own.name own.text
 abbrev pub alias_line : AliasEntry → List ℕ
 alias_line own = line (codes "alias ") own.pattern own.target
 
--- words, each behind a blank
+-- words, each after a blank
 abbrev pub spaced : List (List ℕ) → List ℕ
 spaced words = flat_map (λ word. 32 ∷ word) words
 
--- a mark and the words behind it, where there are any
+-- a mark and the words after it, where there are any
 abbrev pub marked : List ℕ → List (List ℕ) → List ℕ
 marked mark words = if length words == 0 then [] else mark ++ spaced words
 
@@ -68,7 +68,7 @@ without_key groups key = remove_entry (is_at (by_bytes key)) groups
 abbrev pub with_text : GroupList → List ℕ → List ℕ → GroupList
 with_text groups key text = insert_entry by_bytes groups key text
 
--- a line more, behind those of its key
+-- a line more, after those of its key
 abbrev pub with_index_line : GroupList → Keyed → GroupList
 with_index_line groups own =
     with_text (without_key groups own.key) own.key

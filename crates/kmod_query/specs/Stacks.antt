@@ -39,7 +39,7 @@ IsSoft facts name items = (place : Place) → side_of place items ≡ soft_of fa
 abbrev pub AreSoftLists : Facts → SoftLists → Type 0
 AreSoftLists facts soft = Each (IsSoft facts) soft.lists.entries
 
--- what stands at an index of a list, with the index behind it
+-- what stands at an index of a list, with the index after it
 abbrev pub IsAt : List Object → ℕ → Found → Type 0
 IsAt objects index found = (slice_get objects index ≡ Some (object_of found.object)) × (found.next ≡ index + 1)
 

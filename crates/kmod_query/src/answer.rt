@@ -25,21 +25,11 @@ pub enum Failure {
 
 /// The answer to a query: what is written to standard output, what failed, in order, and whether the status is 1 and
 /// not 0. A failure without effect on the status is possible.
+#[derive(Drop)]
 pub struct Answer {
     pub(crate) output: Vec<u8>,
     pub(crate) failures: Vec<Failure>,
     pub(crate) failed: bool,
-}
-
-// By hand, since a derived drop is written out, and proved, at each place where a value is let go.
-impl Drop for Answer {
-    fn drop(self) {
-        let Answer {
-            output: _,
-            failures: _,
-            failed: _,
-        } = self;
-    }
 }
 
 impl Model for Answer {
@@ -89,8 +79,7 @@ impl Answer {
     {
         Answer {
             output,
-            failures: Vec::new(alloc),
-            failed: false,
+            ..Answer::nothing(alloc)
         }
     }
 
@@ -118,13 +107,12 @@ impl Answer {
         ensures { result ≡ silent_failure }
     {
         Answer {
-            output: Vec::new(alloc),
-            failures: Vec::new(alloc),
             failed: true,
+            ..Answer::nothing(alloc)
         }
     }
 
-    /// This answer, and another behind it, whose status counts.
+    /// This answer, and another after it, whose status counts.
     pub(crate) fn and_then(self, next: Answer) -> Result<Answer, AllocError>
         ensures { IfOk result (λ answer. answer ≡ and_then self next) }
     {
@@ -147,7 +135,7 @@ impl Answer {
         })
     }
 
-    /// This answer, and another behind it; both statuses count.
+    /// This answer, and another after it; both statuses count.
     pub(crate) fn and_also(self, next: Answer) -> Result<Answer, AllocError>
         ensures { IfOk result (λ answer. answer ≡ and_also self next) }
     {

@@ -39,7 +39,7 @@ fn own_remove<'a>(world: &World<'a>, name: &[u8], alias: Option<&[u8]>) -> Optio
 }
 
 /// The install line whose command loads a module, by the module's name and the alias by which it came: the line of just
-/// this name that found it, or else the first whose pattern matches. Only want of memory refuses.
+/// this name that found it, or else the first whose pattern matches. It fails only if memory runs out.
 pub fn install_line<'a>(
     alloc: Global,
     world: &World<'a>,
@@ -56,7 +56,7 @@ pub fn install_line<'a>(
 }
 
 /// The remove line whose command removes a module, by the module's name and the alias by which it came: the line of just
-/// this name that found it, or else the first whose pattern matches. Only want of memory refuses.
+/// this name that found it, or else the first whose pattern matches. It fails only if memory runs out.
 pub fn remove_line<'a>(
     alloc: Global,
     world: &World<'a>,

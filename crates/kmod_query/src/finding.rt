@@ -94,7 +94,7 @@ fn by_lines(
 }
 
 impl Finding<'_> {
-    /// The modules for which this name stands. Only want of memory refuses.
+    /// The modules for which this name stands. It fails only if memory runs out.
     pub fn objects(&self, alloc: Global, name: &[u8]) -> Result<Vec<Object>, AllocError>
         ensures { IfOk result (λ objects. objects_of objects.items ≡ found_by name.now self.now) }
     {

@@ -60,7 +60,7 @@ impl Groups {
         Ok(())
     }
 
-    /// Adds a line behind those of its key.
+    /// Adds a line after those of its key.
     fn add(&mut self, alloc: Global, own: &IndexLine) -> Result<(), AllocError>
         ensures { OnOk result (self.new ≡ with_index_line self.old own.now) }
     {

@@ -3,6 +3,7 @@
 
 mod answer;
 mod answering;
+mod asked;
 mod commands;
 mod finding;
 mod fronts;

@@ -2,7 +2,7 @@
 ghost use Rattle.std.specs.Prelude.{◌≡◌, ◌++◌, ◌∷◌, [], codes, IfOk, OnOk, option_copied};
 ghost use Rattle.kmod_query.specs.Facts.{Facts};
 ghost use Rattle.kmod_query.specs.Lines.{command_of, has_soft_items, is_built_in, is_commandless, is_in_kernel, is_live};
-ghost use Rattle.kmod_query.specs.Lines.{is_live_state, line, line_by, load_line, option_text, own_parameters};
+ghost use Rattle.kmod_query.specs.Lines.{line, line_by, load_line, option_text, own_parameters};
 ghost use Rattle.kmod_query.specs.Objects.{alias_of, object_of};
 ghost use Rattle.kmod_query.specs.World.{facts_of};
 
@@ -13,7 +13,7 @@ use crate::states::{ModuleState, ModuleStatus};
 use crate::world::{World, alias_bytes, is_builtin, options_of, path_of, status_of};
 use std::alloc::{AllocError, Global};
 
-/// The options of an object, and the parameters behind them.
+/// The options of an object, and the parameters after them.
 fn option_text(
     alloc: Global,
     world: &World,
@@ -34,23 +34,11 @@ pub(crate) fn is_built_in(world: &World, object: &Object) -> bool
     object.builtin || is_builtin(world, &object.name)
 }
 
-fn is_live_state(state: ModuleState) -> bool
-    ensures { result ≡ is_live_state state }
-{
-    match state {
-        ModuleState::Live => true,
-        ModuleState::Coming => false,
-        ModuleState::Going => false,
-        ModuleState::Other => false,
-        ModuleState::Folder => false,
-    }
-}
-
 fn is_live(status: Option<ModuleStatus>) -> bool
     ensures { result ≡ is_live status }
 {
     match status {
-        Some(status) => is_live_state(status.state),
+        Some(status) => matches!(status.state, ModuleState::Live),
         None => false,
     }
 }

@@ -1,5 +1,5 @@
 //! What is answered of an object that is to be loaded or resolved.
-ghost use Rattle.std.specs.Prelude.{◌≡◌, ◌++◌, ◌∷◌, [], IfOk, is_some};
+ghost use Rattle.std.specs.Prelude.{◌≡◌, ◌++◌, ◌∷◌, [], IfOk};
 ghost use Rattle.std.specs.List.{flat_map};
 ghost use Rattle.kmod_query.specs.Lines.{has_soft_items};
 ghost use Rattle.kmod_query.specs.Loading.{already, answer_object};
@@ -10,6 +10,7 @@ ghost use Rattle.kmod_query.specs.Stacks.{AreSoftLists, IsStart};
 ghost use Rattle.kmod_query.specs.World.{facts_of};
 
 use crate::answer::{Answer, Failure};
+use crate::asked::Asked;
 use crate::lines::{is_in_kernel, load_line};
 use crate::object::Object;
 use crate::probes::{Course, probe_list, start};
@@ -22,27 +23,13 @@ use std::alloc::{AllocError, Global};
 fn is_show_depends(ask: Ask) -> bool
     ensures { result ≡ is_show_depends ask }
 {
-    match ask {
-        Ask::ShowDepends => true,
-        Ask::DryRun => false,
-        Ask::Resolve => false,
-        Ask::Remove => false,
-        Ask::ShowRemoval => false,
-        Ask::ShowConfig => false,
-    }
+    matches!(ask, Ask::ShowDepends)
 }
 
 fn is_resolve(ask: Ask) -> bool
     ensures { result ≡ is_resolve ask }
 {
-    match ask {
-        Ask::ShowDepends => false,
-        Ask::DryRun => false,
-        Ask::Resolve => true,
-        Ask::Remove => false,
-        Ask::ShowRemoval => false,
-        Ask::ShowConfig => false,
-    }
+    matches!(ask, Ask::Resolve)
 }
 
 /// Whether lines are shown.
@@ -59,41 +46,30 @@ fn is_passed(world: &World, query: &Query, object: &Object) -> bool
     !is_show_depends(query.ask) && is_in_kernel(world, object)
 }
 
-fn has_alias(object: &Object) -> bool
-    ensures { result ≡ is_some (object_of object.now).alias }
-{
-    match object.alias {
-        Some(_) => true,
-        None => false,
-    }
-}
-
 /// Whether the blacklist bars an object.
 fn is_barred(world: &World, query: &Query, object: &Object) -> bool
     ensures { result ≡ is_barred (facts_of world.now) query.now (object_of object.now) }
 {
-    is_blacklisted(world, &object.name) && (has_alias(object) || query.use_blacklist)
+    is_blacklisted(world, &object.name) && (object.alias.is_some() || query.use_blacklist)
 }
 
 fn line_unless_passed(
-    alloc: Global,
-    world: &World,
-    query: &Query,
+    asked: &Asked,
     parameters: &[u8],
     top: &Object,
     object: &Object,
     has_soft: bool,
 ) -> Result<Vec<u8>, AllocError>
-    requires { has_soft ≡ has_soft_items (facts_of world.now) (object_of object.now).name }
-    ensures { IfOk result (λ text. text.items ≡ line_unless_passed (facts_of world.now) query.now parameters.now (object_of top.now) (object_of object.now)) }
+    requires { has_soft ≡ has_soft_items (facts_of asked.now.world) (object_of object.now).name }
+    ensures { IfOk result (λ text. text.items ≡ line_unless_passed (facts_of asked.now.world) asked.now.query parameters.now (object_of top.now) (object_of object.now)) }
 {
-    if is_passed(world, query, object) {
-        return Ok(Vec::new(alloc));
+    if is_passed(&asked.world, &asked.query, object) {
+        return Ok(Vec::new(asked.alloc));
     }
     load_line(
-        alloc,
-        world,
-        query.ignore_commands,
+        asked.alloc,
+        &asked.world,
+        asked.query.ignore_commands,
         parameters,
         top,
         object,
@@ -103,21 +79,19 @@ fn line_unless_passed(
 
 /// The lines of the objects, in the load of one, by the soft items that were looked up.
 fn lines_of(
-    alloc: Global,
-    world: &World,
-    query: &Query,
+    asked: &Asked,
     parameters: &[u8],
     top: &Object,
     list: &[Object],
     soft: &mut SoftLists,
 ) -> Result<Vec<u8>, AllocError>
-    requires { AreSoftLists (facts_of world.now) soft.old }
-    ensures { IfOk result (λ text. text.items ≡ flat_map (line_unless_passed (facts_of world.now) query.now parameters.now (object_of top.now)) (objects_of list.now)) }
+    requires { AreSoftLists (facts_of asked.now.world) soft.old }
+    ensures { IfOk result (λ text. text.items ≡ flat_map (line_unless_passed (facts_of asked.now.world) asked.now.query parameters.now (object_of top.now)) (objects_of list.now)) }
 {
-    let mut lines = Vec::new(alloc);
+    let mut lines = Vec::new(asked.alloc);
     'objects: for object in list {
-        let has_soft = soft.has_items(alloc, world, &object.name)?;
-        let mut own = line_unless_passed(alloc, world, query, parameters, top, object, has_soft)?;
+        let has_soft = soft.has_items(asked.alloc, &asked.world, &object.name)?;
+        let mut own = line_unless_passed(asked, parameters, top, object, has_soft)?;
         lines.append(&mut own)?;
     }
     Ok(lines)
@@ -125,40 +99,30 @@ fn lines_of(
 
 /// The lines that load an object, by a run that has not begun.
 fn lines_by(
-    alloc: Global,
-    world: &World,
-    query: &Query,
+    asked: &Asked,
     parameters: &[u8],
     top: &Object,
     course: &mut Course,
 ) -> Result<Vec<u8>, AllocError>
     requires { IsStart course.old }
-    ensures { IfOk result (λ text. text.items ≡ load_lines (facts_of world.now) query.now parameters.now (object_of top.now)) }
+    ensures { IfOk result (λ text. text.items ≡ load_lines (facts_of asked.now.world) asked.now.query parameters.now (object_of top.now)) }
 {
-    probe_list(alloc, world, query.ignore_commands, top, course)?;
-    lines_of(
-        alloc,
-        world,
-        query,
-        parameters,
+    probe_list(
+        asked.alloc,
+        &asked.world,
+        asked.query.ignore_commands,
         top,
-        &course.list,
-        &mut course.soft,
-    )
+        course,
+    )?;
+    lines_of(asked, parameters, top, &course.list, &mut course.soft)
 }
 
 /// The lines that load an object.
-fn load_lines(
-    alloc: Global,
-    world: &World,
-    query: &Query,
-    parameters: &[u8],
-    top: &Object,
-) -> Result<Vec<u8>, AllocError>
-    ensures { IfOk result (λ text. text.items ≡ load_lines (facts_of world.now) query.now parameters.now (object_of top.now)) }
+fn load_lines(asked: &Asked, parameters: &[u8], top: &Object) -> Result<Vec<u8>, AllocError>
+    ensures { IfOk result (λ text. text.items ≡ load_lines (facts_of asked.now.world) asked.now.query parameters.now (object_of top.now)) }
 {
-    let mut course = start(alloc);
-    lines_by(alloc, world, query, parameters, top, &mut course)
+    let mut course = start(asked.alloc);
+    lines_by(asked, parameters, top, &mut course)
 }
 
 /// What is answered where the kernel has the object.
@@ -175,23 +139,17 @@ fn already(alloc: Global, query: &Query, object: &Object) -> Result<Answer, Allo
 }
 
 /// What is answered of one object that is to be loaded.
-fn load(
-    alloc: Global,
-    world: &World,
-    query: &Query,
-    parameters: &[u8],
-    top: &Object,
-) -> Result<Answer, AllocError>
-    ensures { IfOk result (λ answer. answer ≡ load (facts_of world.now) query.now parameters.now (object_of top.now)) }
+fn load(asked: &Asked, parameters: &[u8], top: &Object) -> Result<Answer, AllocError>
+    ensures { IfOk result (λ answer. answer ≡ load (facts_of asked.now.world) asked.now.query parameters.now (object_of top.now)) }
 {
-    if is_passed(world, query, top) {
-        return already(alloc, query, top);
+    if is_passed(&asked.world, &asked.query, top) {
+        return already(asked.alloc, &asked.query, top);
     }
-    if is_barred(world, query, top) || !shows_lines(query) {
-        return Ok(Answer::nothing(alloc));
+    if is_barred(&asked.world, &asked.query, top) || !shows_lines(&asked.query) {
+        return Ok(Answer::nothing(asked.alloc));
     }
-    let lines = load_lines(alloc, world, query, parameters, top)?;
-    Ok(Answer::said(alloc, lines))
+    let lines = load_lines(asked, parameters, top)?;
+    Ok(Answer::said(asked.alloc, lines))
 }
 
 fn name_line(alloc: Global, name: &[u8]) -> Result<Vec<u8>, AllocError>
@@ -203,16 +161,14 @@ fn name_line(alloc: Global, name: &[u8]) -> Result<Vec<u8>, AllocError>
 }
 
 pub(crate) fn answer_object(
-    alloc: Global,
-    world: &World,
-    query: &Query,
+    asked: &Asked,
     parameters: &[u8],
     object: &Object,
 ) -> Result<Answer, AllocError>
-    ensures { IfOk result (λ answer. answer ≡ answer_object (facts_of world.now) query.now parameters.now (object_of object.now)) }
+    ensures { IfOk result (λ answer. answer ≡ answer_object (facts_of asked.now.world) asked.now.query parameters.now (object_of object.now)) }
 {
-    if is_resolve(query.ask) {
-        return Ok(Answer::said(alloc, name_line(alloc, &object.name)?));
+    if is_resolve(asked.query.ask) {
+        return Ok(Answer::said(asked.alloc, name_line(asked.alloc, &object.name)?));
     }
-    load(alloc, world, query, parameters, object)
+    load(asked, parameters, object)
 }

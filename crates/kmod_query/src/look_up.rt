@@ -6,15 +6,14 @@ ghost use Rattle.kmod_index.specs.ForProofs.{pointed};
 ghost use Rattle.kmod_query.specs.LookUp.{found, look_up, look_up_each};
 ghost use Rattle.kmod_query.specs.Objects.{objects_of};
 ghost use Rattle.kmod_query.specs.Probes.{after_of, before_of};
-ghost use Rattle.kmod_query.specs.Reasons.{aliased_reason, commanded_reason, exported_reason, exporters_of};
-ghost use Rattle.kmod_query.specs.Reasons.{found_by, module_reason, reason_of, said_by};
+ghost use Rattle.kmod_query.specs.Reasons.{exporters_of, found_by, reason_of, said_by};
 ghost use Rattle.kmod_query.specs.World.{facts_of, name_of};
 
 use crate::finding::Finding;
 use crate::object::Object;
-use crate::world::{World, is_builtin, is_commanded, normal};
+use crate::world::{World, is_builtin, is_commanded};
 use kmod_index::IndexLine;
-use kmod_names::Text;
+use kmod_names::{Text, normal_alias};
 use std::alloc::{AllocError, Global};
 
 /// The lines of modules.symbols of a name, where it is that of a symbol.
@@ -32,14 +31,24 @@ fn exporters<'a>(
     }
 }
 
-/// Looks a name up in modules.alias, and then among what is built in.
-fn find_aliased<'a>(
-    alloc: Global,
-    world: &World<'a>,
-    name: &[u8],
-) -> Result<Finding<'a>, AllocError>
-    ensures { IfOk result (λ finding. said_by world.now finding ≡ aliased_reason (facts_of world.now) name.now) }
+/// The first list that has a name.
+fn first_list<'a>(alloc: Global, world: &World<'a>, name: &[u8]) -> Result<Finding<'a>, AllocError>
+    ensures { IfOk result (λ finding. said_by world.now finding ≡ reason_of (facts_of world.now) name.now) }
 {
+    let entries = world.conf.matching_aliases(alloc, name)?;
+    if entries.len() > 0 {
+        return Ok(Finding::Configured(entries));
+    }
+    if let Some(line) = world.index.dependencies().find(name) {
+        return Ok(Finding::Module(line));
+    }
+    let lines = exporters(alloc, world, name)?;
+    if lines.len() > 0 {
+        return Ok(Finding::Exported(lines));
+    }
+    if is_commanded(world, name) {
+        return Ok(Finding::Commanded);
+    }
     let lines = world.index.aliases().matching(alloc, name)?;
     if lines.len() > 0 {
         return Ok(Finding::Aliased(lines));
@@ -54,58 +63,8 @@ fn find_aliased<'a>(
     Ok(Finding::Nothing)
 }
 
-fn find_commanded<'a>(
-    alloc: Global,
-    world: &World<'a>,
-    name: &[u8],
-) -> Result<Finding<'a>, AllocError>
-    ensures { IfOk result (λ finding. said_by world.now finding ≡ commanded_reason (facts_of world.now) name.now) }
-{
-    if is_commanded(world, name) {
-        return Ok(Finding::Commanded);
-    }
-    find_aliased(alloc, world, name)
-}
-
-fn find_exported<'a>(
-    alloc: Global,
-    world: &World<'a>,
-    name: &[u8],
-) -> Result<Finding<'a>, AllocError>
-    ensures { IfOk result (λ finding. said_by world.now finding ≡ exported_reason (facts_of world.now) name.now) }
-{
-    let lines = exporters(alloc, world, name)?;
-    if lines.len() > 0 {
-        return Ok(Finding::Exported(lines));
-    }
-    find_commanded(alloc, world, name)
-}
-
-fn find_module<'a>(alloc: Global, world: &World<'a>, name: &[u8]) -> Result<Finding<'a>, AllocError>
-    ensures { IfOk result (λ finding. said_by world.now finding ≡ module_reason (facts_of world.now) name.now) }
-{
-    match world.index.dependencies().find(name) {
-        Some(line) => Ok(Finding::Module(line)),
-        None => find_exported(alloc, world, name),
-    }
-}
-
-fn find_configured<'a>(
-    alloc: Global,
-    world: &World<'a>,
-    name: &[u8],
-) -> Result<Finding<'a>, AllocError>
-    ensures { IfOk result (λ finding. said_by world.now finding ≡ reason_of (facts_of world.now) name.now) }
-{
-    let entries = world.conf.matching_aliases(alloc, name)?;
-    if entries.len() > 0 {
-        return Ok(Finding::Configured(entries));
-    }
-    find_module(alloc, world, name)
-}
-
 /// The first list that has a name in normal form, in the order in which `answer_to` looks it up (modprobe(8)). The name
-/// stands for the modules of that list. Only want of memory refuses.
+/// stands for the modules of that list. It fails only if memory runs out.
 pub fn find_name<'a>(
     alloc: Global,
     world: &World<'a>,
@@ -114,7 +73,7 @@ pub fn find_name<'a>(
     ensures list { IfOk result (λ finding. said_by world.now finding ≡ reason_of (facts_of world.now) name.now) }
     ensures modules { IfOk result (λ finding. found_by name.now finding ≡ found (facts_of world.now) name.now) }
 {
-    find_configured(alloc, world, name)
+    first_list(alloc, world, name)
 }
 
 /// What a name in normal form stands for.
@@ -128,7 +87,7 @@ pub(crate) fn found(alloc: Global, world: &World, name: &[u8]) -> Result<Vec<Obj
 pub(crate) fn look_up(alloc: Global, world: &World, word: &[u8]) -> Result<Vec<Object>, AllocError>
     ensures { IfOk result (λ objects. objects_of objects.items ≡ look_up (facts_of world.now) word.now) }
 {
-    match normal(alloc, world, word)? {
+    match normal_alias(alloc, word)? {
         Some(name) => found(alloc, world, name.as_bytes()),
         None => Ok(Vec::new(alloc)),
     }

@@ -2,26 +2,14 @@
 ghost use Rattle.std.specs.Prelude.{◌≡◌, ◌≤◌, ◌++◌, [], fold, length, codes, slice_index, IfOk, OnOk};
 ghost use Rattle.std.specs.List.{list_any};
 ghost use Rattle.text_parts.specs.Text.{texts_of};
-ghost use Rattle.kmod_query.specs.Lines.{is_equals, is_quote, is_space, joined, name_len, needs_quotes, parameter_text, quoted};
+ghost use Rattle.kmod_query.specs.Lines.{is_quote, is_space, joined, name_len, needs_quotes, parameter_text, quoted};
 
 use std::alloc::{AllocError, Global};
-
-fn is_equals(byte: u8) -> bool
-    ensures { result ≡ is_equals byte }
-{
-    byte == b'='
-}
-
-fn is_space(byte: u8) -> bool
-    ensures { result ≡ is_space byte }
-{
-    byte == b' '
-}
 
 fn has_space(value: &[u8]) -> bool
     ensures { result ≡ list_any is_space value.now }
 {
-    value.iter().any(|byte| is_space(*byte))
+    value.iter().any(|byte| *byte == b' ')
 }
 
 fn starts_with_quote(value: &[u8]) -> bool
@@ -44,7 +32,7 @@ fn name_len(word: &[u8]) -> usize
     ensures value { result ≡ name_len word.now }
     ensures within { result ≤ length word.now }
 {
-    word.iter().take_while(|byte| !is_equals(**byte)).count()
+    word.iter().take_while(|byte| **byte != b'=').count()
 }
 
 /// Adds a name and its value in quotes.
@@ -68,7 +56,7 @@ fn push_quoted(text: &mut Vec<u8>, word: &[u8]) -> Result<(), AllocError>
     text.extend_from_slice(word)
 }
 
-/// Adds a text, behind a blank where something stands before it.
+/// Adds a text, after a blank where something stands before it.
 pub(crate) fn push_joined(front: &mut Vec<u8>, text: &[u8]) -> Result<(), AllocError>
     ensures { OnOk result (front.new.items ≡ joined front.old.items text.now) }
 {

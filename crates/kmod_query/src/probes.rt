@@ -131,7 +131,7 @@ fn pass(rest: Rest, front: usize, course: &mut Course) -> Result<(), AllocError>
     Ok(())
 }
 
-/// Probes the next soft item, and keeps those behind it.
+/// Probes the next soft item, and keeps those after it.
 fn probe(
     alloc: Global,
     world: &World,

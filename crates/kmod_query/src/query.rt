@@ -17,11 +17,11 @@ pub enum Ask {
     ShowConfig,
 }
 
-/// A query: the words of a command line, as options and the words behind them.
+/// A query: the words of a command line, as options and the words after them.
 #[derive(Clone, Copy)]
 pub struct Query<'a> {
     pub ask: Ask,
-    /// `--all`: each word is a name. Without it the words behind the first are parameters, but under `Ask::Remove` and
+    /// `--all`: each word is a name. Without it the words after the first are parameters, but under `Ask::Remove` and
     /// `Ask::ShowRemoval`.
     pub all: bool,
     /// `--use-blacklist`

@@ -1,20 +1,19 @@
 //! Whether an object can be removed.
 ghost use Rattle.std.specs.Prelude.{◌≡◌, IfOk, option_copied};
 ghost use Rattle.kmod_query.specs.Objects.{object_of};
-ghost use Rattle.kmod_query.specs.Removal.{absent_verdict, builtin_verdict, counts_state, has_no_users, has_no_users_by, has_users};
-ghost use Rattle.kmod_query.specs.Removal.{has_users_by, is_absent, is_fatal, is_in_use, is_remove, is_show_removal, is_unknown_state};
-ghost use Rattle.kmod_query.specs.Removal.{removal_command, shows_removal};
-ghost use Rattle.kmod_query.specs.Removal.{verdict};
+ghost use Rattle.kmod_query.specs.Removal.{absent_verdict, builtin_verdict, counts_state, has_no_users, has_users, is_absent, is_fatal};
+ghost use Rattle.kmod_query.specs.Removal.{is_in_use, is_remove, is_show_removal, removal_command, shows_removal, verdict};
 ghost use Rattle.kmod_query.specs.Verdicts.{verdict_of};
 ghost use Rattle.kmod_query.specs.World.{facts_of};
 
 use crate::answer::Failure;
+use crate::asked::Asked;
 use crate::commands::{remove_line, text_in};
 use crate::lines::is_built_in;
 use crate::object::Object;
 use crate::query::{Ask, Query};
 use crate::states::{ModuleState, ModuleStatus};
-use crate::world::{World, alias_bytes, status_of};
+use crate::world::{alias_bytes, status_of};
 use kmod_names::Text;
 use std::alloc::{AllocError, Global};
 
@@ -29,27 +28,13 @@ pub(crate) enum Verdict {
 fn is_remove(ask: Ask) -> bool
     ensures { result ≡ is_remove ask }
 {
-    match ask {
-        Ask::ShowDepends => false,
-        Ask::DryRun => false,
-        Ask::Resolve => false,
-        Ask::Remove => true,
-        Ask::ShowRemoval => false,
-        Ask::ShowConfig => false,
-    }
+    matches!(ask, Ask::Remove)
 }
 
 fn is_show_removal(ask: Ask) -> bool
     ensures { result ≡ is_show_removal ask }
 {
-    match ask {
-        Ask::ShowDepends => false,
-        Ask::DryRun => false,
-        Ask::Resolve => false,
-        Ask::Remove => false,
-        Ask::ShowRemoval => true,
-        Ask::ShowConfig => false,
-    }
+    matches!(ask, Ask::ShowRemoval)
 }
 
 pub(crate) fn shows_removal(query: &Query) -> bool
@@ -66,60 +51,32 @@ pub(crate) fn is_fatal(query: &Query) -> bool
 }
 
 pub(crate) fn removal_command<'a>(
-    alloc: Global,
-    world: &World<'a>,
-    query: &Query,
+    asked: &Asked<'a>,
     object: &Object,
 ) -> Result<Option<&'a [u8]>, AllocError>
-    ensures { IfOk result (λ command. option_copied command ≡ removal_command (facts_of world.now) query.now (object_of object.now)) }
+    ensures { IfOk result (λ command. option_copied command ≡ removal_command (facts_of asked.now.world) asked.now.query (object_of object.now)) }
 {
-    if query.ignore_commands {
+    if asked.query.ignore_commands {
         return Ok(None);
     }
-    let line = remove_line(alloc, world, &object.name, alias_bytes(object))?;
+    let line = remove_line(asked.alloc, &asked.world, &object.name, alias_bytes(object))?;
     Ok(text_in(line))
 }
 
 /// Whether states and users count.
-fn counts_state(
-    alloc: Global,
-    world: &World,
-    query: &Query,
-    object: &Object,
-) -> Result<bool, AllocError>
-    ensures { IfOk result (λ counts. counts ≡ counts_state (facts_of world.now) query.now (object_of object.now)) }
+fn counts_state(asked: &Asked, object: &Object) -> Result<bool, AllocError>
+    ensures { IfOk result (λ counts. counts ≡ counts_state (facts_of asked.now.world) asked.now.query (object_of object.now)) }
 {
-    let command = removal_command(alloc, world, query, object)?;
-    Ok(!command.is_some() && is_remove(query.ask))
-}
-
-fn is_unknown_state(state: ModuleState) -> bool
-    ensures { result ≡ is_unknown_state state }
-{
-    match state {
-        ModuleState::Live => false,
-        ModuleState::Coming => false,
-        ModuleState::Going => false,
-        ModuleState::Other => true,
-        ModuleState::Folder => false,
-    }
+    let command = removal_command(asked, object)?;
+    Ok(command.is_none() && is_remove(asked.query.ask))
 }
 
 fn is_absent(status: Option<ModuleStatus>) -> bool
     ensures { result ≡ is_absent status }
 {
     match status {
-        Some(status) => is_unknown_state(status.state),
+        Some(status) => matches!(status.state, ModuleState::Other),
         None => true,
-    }
-}
-
-fn has_users_by(users: Option<u64>) -> bool
-    ensures { result ≡ has_users_by users }
-{
-    match users {
-        Some(users) => users > 0,
-        None => false,
     }
 }
 
@@ -127,17 +84,13 @@ fn has_users(status: Option<ModuleStatus>) -> bool
     ensures { result ≡ has_users status }
 {
     match status {
-        Some(status) => has_users_by(status.users),
-        None => false,
-    }
-}
-
-fn has_no_users_by(users: Option<u64>) -> bool
-    ensures { result ≡ has_no_users_by users }
-{
-    match users {
-        Some(users) => users == 0,
-        None => false,
+        Some(
+            ModuleStatus {
+                users: Some(users),
+                ..
+            },
+        ) => users > 0,
+        _ => false,
     }
 }
 
@@ -145,8 +98,13 @@ pub(crate) fn has_no_users(status: Option<ModuleStatus>) -> bool
     ensures { result ≡ has_no_users status }
 {
     match status {
-        Some(status) => has_no_users_by(status.users),
-        None => false,
+        Some(
+            ModuleStatus {
+                users: Some(users),
+                ..
+            },
+        ) => users == 0,
+        _ => false,
     }
 }
 
@@ -169,34 +127,23 @@ fn builtin_verdict(alloc: Global, soft: bool, object: &Object) -> Result<Verdict
 }
 
 /// What becomes of an object that is to be removed, a soft item or not.
-pub(crate) fn judge(
-    alloc: Global,
-    world: &World,
-    query: &Query,
-    soft: bool,
-    object: &Object,
-) -> Result<Verdict, AllocError>
-    ensures { IfOk result (λ own. verdict_of own ≡ verdict (facts_of world.now) query.now soft (object_of object.now)) }
+pub(crate) fn judge(asked: &Asked, soft: bool, object: &Object) -> Result<Verdict, AllocError>
+    ensures { IfOk result (λ own. verdict_of own ≡ verdict (facts_of asked.now.world) asked.now.query soft (object_of object.now)) }
 {
-    if !counts_state(alloc, world, query, object)? {
+    if !counts_state(asked, object)? {
         return Ok(Verdict::Remove);
     }
-    if is_built_in(world, object) {
-        return builtin_verdict(alloc, soft, object);
+    if is_built_in(&asked.world, object) {
+        return builtin_verdict(asked.alloc, soft, object);
     }
-    if is_absent(status_of(world, &object.name)) {
-        return absent_verdict(alloc, query, object);
+    if is_absent(status_of(&asked.world, &object.name)) {
+        return absent_verdict(asked.alloc, &asked.query, object);
     }
     Ok(Verdict::Remove)
 }
 
-pub(crate) fn is_in_use(
-    alloc: Global,
-    world: &World,
-    query: &Query,
-    object: &Object,
-) -> Result<bool, AllocError>
-    ensures { IfOk result (λ used. used ≡ is_in_use (facts_of world.now) query.now (object_of object.now)) }
+pub(crate) fn is_in_use(asked: &Asked, object: &Object) -> Result<bool, AllocError>
+    ensures { IfOk result (λ used. used ≡ is_in_use (facts_of asked.now.world) asked.now.query (object_of object.now)) }
 {
-    Ok(counts_state(alloc, world, query, object)? && has_users(status_of(world, &object.name)))
+    Ok(counts_state(asked, object)? && has_users(status_of(&asked.world, &object.name)))
 }

@@ -2,11 +2,11 @@
 ghost use Rattle.std.specs.Prelude.{◌≡◌, ◌++◌, ◌∷◌, [], codes, nat_eq, IfOk, OnOk};
 ghost use Rattle.std.specs.List.{flat_map, starts_with};
 ghost use Rattle.kmod_query.specs.Objects.{names_of, object_of};
-ghost use Rattle.kmod_query.specs.Removal.{option_mark, removal_command, removal_lines, removal_lines_by, rmmod_line, unmarked, unused_line};
+ghost use Rattle.kmod_query.specs.Removal.{option_mark, removal_lines, rmmod_line, unmarked, unused_line};
 ghost use Rattle.kmod_query.specs.World.{facts_of};
 
+use crate::asked::Asked;
 use crate::object::Object;
-use crate::query::Query;
 use crate::removal_check::{has_no_users, removal_command, shows_removal};
 use crate::world::{World, needs_of, status_of};
 use std::alloc::{AllocError, Global};
@@ -85,36 +85,17 @@ fn push_module(
     push_all_unused(lines, world, &needs)
 }
 
-/// Adds the lines that remove an object, by its command or without one.
-fn push_removal(
-    alloc: Global,
-    lines: &mut Vec<u8>,
-    world: &World,
-    query: &Query,
-    object: &Object,
-) -> Result<(), AllocError>
-    ensures { OnOk result (lines.new.items ≡ lines.old.items
-        ++ removal_lines_by (facts_of world.now) (object_of object.now) (removal_command (facts_of world.now) query.now (object_of object.now))) }
-{
-    match removal_command(alloc, world, query, object)? {
-        Some(command) => push_command(lines, command),
-        None => push_module(alloc, lines, world, object),
-    }
-}
-
 /// The lines that remove an object.
-pub(crate) fn removal_lines(
-    alloc: Global,
-    world: &World,
-    query: &Query,
-    object: &Object,
-) -> Result<Vec<u8>, AllocError>
-    ensures { IfOk result (λ text. text.items ≡ removal_lines (facts_of world.now) query.now (object_of object.now)) }
+pub(crate) fn removal_lines(asked: &Asked, object: &Object) -> Result<Vec<u8>, AllocError>
+    ensures { IfOk result (λ text. text.items ≡ removal_lines (facts_of asked.now.world) asked.now.query (object_of object.now)) }
 {
-    if !shows_removal(query) {
-        return Ok(Vec::new(alloc));
+    if !shows_removal(&asked.query) {
+        return Ok(Vec::new(asked.alloc));
     }
-    let mut lines = Vec::new(alloc);
-    push_removal(alloc, &mut lines, world, query, object)?;
+    let mut lines = Vec::new(asked.alloc);
+    match removal_command(asked, object)? {
+        Some(command) => push_command(&mut lines, command)?,
+        None => push_module(asked.alloc, &mut lines, &asked.world, object)?,
+    }
     Ok(lines)
 }

@@ -7,65 +7,53 @@ ghost use Rattle.kmod_query.specs.Removal.{has_ended, remove_found, remove_name,
 ghost use Rattle.kmod_query.specs.World.{facts_of};
 
 use crate::answer::{Answer, Failure};
+use crate::asked::Asked;
 use crate::look_up::found;
 use crate::object::Object;
 use crate::query::Query;
 use crate::removal::remove_object;
 use crate::removal_check::is_fatal;
-use crate::world::{World, normal};
-use kmod_names::Text;
-use std::alloc::{AllocError, Global};
+use kmod_names::{Text, normal_alias};
+use std::alloc::AllocError;
 
 /// The modules of a name one after another, up to the first that is refused.
-fn remove_objects(
-    alloc: Global,
-    world: &World,
-    query: &Query,
-    objects: &[Object],
-) -> Result<Answer, AllocError>
-    ensures { IfOk result (λ answer. answer ≡ remove_objects (facts_of world.now) query.now nothing (objects_of objects.now)) }
+fn remove_objects(asked: &Asked, objects: &[Object]) -> Result<Answer, AllocError>
+    ensures { IfOk result (λ answer. answer ≡ remove_objects (facts_of asked.now.world) asked.now.query nothing (objects_of objects.now)) }
 {
-    let mut answer = Answer::nothing(alloc);
+    let mut answer = Answer::nothing(asked.alloc);
     let mut rest = objects;
     'objects: while let Some((object, later)) = rest.split_first() {
         if answer.has_failed() {
             return Ok(answer);
         }
-        answer = answer.and_then(remove_object(alloc, world, query, object)?)?;
+        answer = answer.and_then(remove_object(asked, object)?)?;
         rest = later;
     }
     Ok(answer)
 }
 
-fn remove_found(
-    alloc: Global,
-    world: &World,
-    query: &Query,
-    word: &[u8],
-    found: &[Object],
-) -> Result<Answer, AllocError>
-    ensures { IfOk result (λ answer. answer ≡ remove_found (facts_of world.now) query.now word.now (objects_of found.now)) }
+fn remove_found(asked: &Asked, word: &[u8], found: &[Object]) -> Result<Answer, AllocError>
+    ensures { IfOk result (λ answer. answer ≡ remove_found (facts_of asked.now.world) asked.now.query word.now (objects_of found.now)) }
 {
     if found.is_empty() {
-        return Answer::failing(alloc, Failure::NothingToRemove(Text::new(alloc, word)?));
+        return Answer::failing(
+            asked.alloc,
+            Failure::NothingToRemove(Text::new(asked.alloc, word)?),
+        );
     }
-    remove_objects(alloc, world, query, found)
+    remove_objects(asked, found)
 }
 
-fn remove_name(
-    alloc: Global,
-    world: &World,
-    query: &Query,
-    word: &[u8],
-) -> Result<Answer, AllocError>
-    ensures { IfOk result (λ answer. answer ≡ remove_name (facts_of world.now) query.now word.now ((facts_of world.now).normal word.now)) }
+#[tactic(auto, unfolding(crate::specs::World::facts_of))]
+fn remove_name(asked: &Asked, word: &[u8]) -> Result<Answer, AllocError>
+    ensures { IfOk result (λ answer. answer ≡ remove_name (facts_of asked.now.world) asked.now.query word.now ((facts_of asked.now.world).normal word.now)) }
 {
-    match normal(alloc, world, word)? {
+    match normal_alias(asked.alloc, word)? {
         Some(name) => {
-            let found = found(alloc, world, name.as_bytes())?;
-            remove_found(alloc, world, query, word, &found)
+            let found = found(asked.alloc, &asked.world, name.as_bytes())?;
+            remove_found(asked, word, &found)
         }
-        None => Ok(Answer::silent_failure(alloc)),
+        None => Ok(Answer::silent_failure(asked.alloc)),
     }
 }
 
@@ -79,20 +67,15 @@ fn has_ended(query: &Query, answer: &Answer) -> bool
 }
 
 /// What names are answered that are to be removed, one after another, up to a message that ends the program.
-pub(crate) fn remove_names(
-    alloc: Global,
-    world: &World,
-    query: &Query,
-    words: &[&[u8]],
-) -> Result<Answer, AllocError>
-    ensures { IfOk result (λ answer. answer ≡ remove_names (facts_of world.now) query.now nothing (texts_of words.now)) }
+pub(crate) fn remove_names(asked: &Asked, words: &[&[u8]]) -> Result<Answer, AllocError>
+    ensures { IfOk result (λ answer. answer ≡ remove_names (facts_of asked.now.world) asked.now.query nothing (texts_of words.now)) }
 {
-    let mut answer = Answer::nothing(alloc);
+    let mut answer = Answer::nothing(asked.alloc);
     'words: for word in words {
-        if has_ended(query, &answer) {
+        if has_ended(&asked.query, &answer) {
             return Ok(answer);
         }
-        answer = answer.and_also(remove_name(alloc, world, query, word)?)?;
+        answer = answer.and_also(remove_name(asked, word)?)?;
     }
     Ok(answer)
 }

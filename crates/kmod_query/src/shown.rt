@@ -52,7 +52,7 @@ fn push_aliases(lines: &mut Vec<u8>, all: &[AliasEntry]) -> Result<(), AllocErro
     Ok(())
 }
 
-/// Adds words, each behind a blank.
+/// Adds words, each after a blank.
 fn push_words(text: &mut Vec<u8>, words: &[Text]) -> Result<(), AllocError>
     ensures { OnOk result (text.new.items ≡ text.old.items ++ spaced words.now) }
 {
@@ -63,7 +63,7 @@ fn push_words(text: &mut Vec<u8>, words: &[Text]) -> Result<(), AllocError>
     Ok(())
 }
 
-/// A mark and the words behind it, where there are any.
+/// A mark and the words after it, where there are any.
 fn marked(alloc: Global, mark: &[u8], words: &[Text]) -> Result<Vec<u8>, AllocError>
     ensures { IfOk result (λ text. text.items ≡ marked mark.now words.now) }
 {

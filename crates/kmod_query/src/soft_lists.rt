@@ -12,7 +12,7 @@ use crate::world::World;
 use indexmap::IndexMap;
 use std::alloc::{AllocError, Global};
 
-/// An object of a list, and the index behind it.
+/// An object of a list, and the index after it.
 #[derive(Drop)]
 pub(crate) struct Found {
     pub(crate) object: Object,

@@ -53,7 +53,7 @@ impl States {
         }
     }
 
-    /// Notes the status of a module; what was noted of it before is forgotten. Only want of memory refuses.
+    /// Notes the status of a module; what was noted of it before is forgotten. It fails only if memory runs out.
     pub fn set(
         &mut self,
         alloc: Global,

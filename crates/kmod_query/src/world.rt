@@ -1,7 +1,7 @@
 //! What the machine's texts and states say.
 #![tactic(auto, unfolding(crate::specs::World::facts_of))]
 
-ghost use Rattle.std.specs.Prelude.{◌≡◌, ◌==◌, IfOk, map, option_map, slice_index};
+ghost use Rattle.std.specs.Prelude.{◌≡◌, IfOk, map, option_map};
 ghost use Rattle.text_parts.specs.Text.{texts_of};
 ghost use Rattle.kmod_query.specs.Objects.{alias_of, names_of, object_of};
 ghost use Rattle.kmod_query.specs.World.{facts_of, file_of, text_of};
@@ -10,7 +10,7 @@ use crate::object::Object;
 use crate::states::{ModuleStatus, States};
 use kmod_conf::{Conf, TextLine};
 use kmod_index::Index;
-use kmod_names::{Text, normal_alias};
+use kmod_names::Text;
 use std::alloc::{AllocError, Global};
 
 /// What answers are made from: a configuration, the texts of a folder of modules, the states of modules, and the name
@@ -43,14 +43,6 @@ pub(crate) fn needs_of(
 {
     let needs = world.index.dependencies().hard_needs(alloc, name)?;
     copied_names(alloc, &needs)
-}
-
-/// The normal form of a word.
-pub(crate) fn normal(alloc: Global, world: &World, word: &[u8]) -> Result<Option<Text>, AllocError>
-    ensures { IfOk result (λ name. name ≡ (facts_of world.now).normal word.now) }
-{
-    let _ = world;
-    normal_alias(alloc, word)
 }
 
 pub(crate) fn is_commanded(world: &World, name: &[u8]) -> bool
@@ -97,10 +89,7 @@ fn line_texts<'a>(alloc: Global, lines: &[&'a TextLine]) -> Result<Vec<&'a [u8]>
 pub(crate) fn alias_bytes(object: &Object) -> Option<&[u8]>
     ensures { option_map (λ text. text.now) result ≡ alias_of object.entry.now.alias }
 {
-    match &object.alias {
-        Some(alias) => Some(alias.as_slice()),
-        None => None,
-    }
+    object.alias.as_deref()
 }
 
 /// The texts of the options lines of an object.
@@ -117,20 +106,11 @@ pub(crate) fn options_of<'a>(
     line_texts(alloc, &lines)
 }
 
-fn is_absolute(path: &[u8]) -> bool
-    ensures { result ≡ (slice_index path.now 0 == 47) }
-{
-    match path.first() {
-        Some(byte) => *byte == b'/',
-        None => false,
-    }
-}
-
 /// The file of a path of modules.dep.
 fn file_of(alloc: Global, directory: &[u8], path: &[u8]) -> Result<Vec<u8>, AllocError>
     ensures { IfOk result (λ file. file.items ≡ file_of directory.now path.now) }
 {
-    if is_absolute(path) {
+    if path.first() == Some(&b'/') {
         return Vec::from_slice(alloc, path);
     }
     let mut file = Vec::from_slice(alloc, directory)?;

@@ -5,4 +5,4 @@ use Rattle.kmod_query.specs.World.{facts_of}
 use Rattle.kmod_query.proofs.loaded_names.answer_each.Given as goal
 
 abbrev pub invariant-words : goal.invariant-words
-invariant-words l = l.answer ≡ fold (λ answer word. and_also answer (answer_name (facts_of l.world) l.query [] word.now)) nothing (take l.word-index l.words)
+invariant-words l = l.answer ≡ fold (λ answer word. and_also answer (answer_name (facts_of l.asked.world) l.asked.query [] word.now)) nothing (take l.word-index l.words)

@@ -6,4 +6,4 @@ use Rattle.kmod_query.specs.World.{facts_of}
 use Rattle.kmod_query.proofs.loaded_names.answer_found.Given as goal
 
 abbrev pub invariant-objects : goal.invariant-objects
-invariant-objects l = l.answer ≡ fold (λ answer own. and_then answer (answer_object (facts_of l.world) l.query l.parameters (object_of own))) nothing (take l.object-index l.found)
+invariant-objects l = l.answer ≡ fold (λ answer own. and_then answer (answer_object (facts_of l.asked.world) l.asked.query l.parameters (object_of own))) nothing (take l.object-index l.found)

@@ -9,6 +9,6 @@ use Rattle.kmod_query.proofs.loading.lines_of.Given as goal
 abbrev pub invariant-objects : goal.invariant-objects
 invariant-objects l =
     record {
-      soft : AreSoftLists (facts_of l.world) l.soft;
-      lines : l.lines.items ≡ flat_map (λ object. line_unless_passed (facts_of l.world) l.query l.parameters (object_of l.top) (object_of object)) (take l.object-index l.list);
+      soft : AreSoftLists (facts_of l.asked.world) l.soft;
+      lines : l.lines.items ≡ flat_map (λ object. line_unless_passed (facts_of l.asked.world) l.asked.query l.parameters (object_of l.top) (object_of object)) (take l.object-index l.list);
     }

@@ -9,6 +9,6 @@ pub returns-clause-modules : goal.returns-clause-modules
 returns-clause-modules c =
     let world = c.args.world.now in
     let name = c.args.name.now in
-    IfOk-map c.find_configured.result
+    IfOk-map c.first_list.result
     (λ finding e. found_by-reason world name finding ∙ ap (objects_by name) e ∙ objects_of-reason (facts_of world) name)
-    c.find_configured.ensures
+    c.first_list.ensures

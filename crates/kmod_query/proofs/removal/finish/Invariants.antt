@@ -7,5 +7,5 @@ use Rattle.kmod_query.proofs.removal.finish.Given as goal
 
 abbrev pub invariant-tasks : goal.invariant-tasks
 invariant-tasks l =
-    Answers (facts_of l.world) l.query l._step l.course.way (removals_of l.course.stack.items) l.answer
-    (run_removal (facts_of l.world) l.query step_limit l.fn.course.way (removals_of l.fn.course.stack.items))
+    Answers (facts_of l.asked.world) l.asked.query l._step l.course.way (removals_of l.course.stack.items) l.answer
+    (run_removal (facts_of l.asked.world) l.asked.query step_limit l.fn.course.way (removals_of l.fn.course.stack.items))

@@ -7,5 +7,5 @@ use Rattle.kmod_query.proofs.removed_names.remove_names.Goals as goal
 pub returns-then-has_ended : goal.returns-then-has_ended
 returns-then-has_ended c =
     let below : c.words.word-index < length c.args.words.now = omega arith in
-    let ended : has_ended c.args.query.now c.words.answer.failures ≡ true = sym c.has_ended.ensures ∙ c.if-has_ended.true in
-    sym (names-ended (facts_of c.args.world.now) c.args.query.now c.words.answer c.args.words.now c.words.word-index below ended) ∙ c.words.invariant
+    let ended : has_ended c.args.asked.now.query c.words.answer.failures ≡ true = sym c.has_ended.ensures ∙ c.if-has_ended.true in
+    sym (names-ended (facts_of c.args.asked.now.world) c.args.asked.now.query c.words.answer c.args.words.now c.words.word-index below ended) ∙ c.words.invariant

@@ -6,4 +6,4 @@ use Rattle.kmod_query.specs.World.{facts_of}
 use Rattle.kmod_query.proofs.removed_names.remove_names.Given as goal
 
 abbrev pub invariant-words : goal.invariant-words
-invariant-words l = remove_names (facts_of l.world) l.query l.answer (texts_of (drop l.word-index l.words)) ≡ remove_names (facts_of l.world) l.query nothing (texts_of l.words)
+invariant-words l = remove_names (facts_of l.asked.world) l.asked.query l.answer (texts_of (drop l.word-index l.words)) ≡ remove_names (facts_of l.asked.world) l.asked.query nothing (texts_of l.words)

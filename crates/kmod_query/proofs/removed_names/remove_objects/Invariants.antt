@@ -6,7 +6,7 @@ use Rattle.kmod_query.specs.World.{facts_of}
 use Rattle.kmod_query.proofs.removed_names.remove_objects.Given as goal
 
 abbrev pub invariant-objects : goal.invariant-objects
-invariant-objects l = remove_objects (facts_of l.world) l.query l.answer (objects_of l.rest) ≡ remove_objects (facts_of l.world) l.query nothing (objects_of l.fn.objects)
+invariant-objects l = remove_objects (facts_of l.asked.world) l.asked.query l.answer (objects_of l.rest) ≡ remove_objects (facts_of l.asked.world) l.asked.query nothing (objects_of l.fn.objects)
 
 abbrev pub decreases-objects : goal.decreases-objects
 decreases-objects l = length l.rest
