@@ -18,8 +18,8 @@ use Rattle.root_row.specs.BookSteps.{BookAnswered, book_call}
 use Rattle.root_row.proofs.LeafSteps.{leaf_parts}
 use Rattle.root_row.proofs.BookSteps.{answered_book}
 use Rattle.managed_table.specs.declared.view.Pass.{Pass}
-use Rattle.managed_table.specs.Kept.{seen, leaf_fits, book_fits}
-use Rattle.managed_table.specs.Turns.{turn, with_turns, with_misses, MadeTurn, MadeOneCall, MadeNoCall}
+use Rattle.managed_table.specs.Kept.{seen, shown, leaf_fits, book_fits}
+use Rattle.managed_table.specs.Turns.{turn, since, with_turns, with_misses, MadeTurn, MadeOneCall, MadeNoCall}
 use Rattle.managed_table.specs.Shown.{HoldsSoOften}
 
 -- what was seen grows by an answer
@@ -45,13 +45,14 @@ module _ (row : RowIs) (slot : ℕ) (x y : Seated) (fit : book_fits row 0 x) (ow
   pub book_same : y.view ≡ x.view → book_fits row 0 y × StartsWith (seen y) (seen x)
   book_same is = ((own, subst IsBook (sym is) fit.1), same_seen x y is)
 
-module _ (fits : RowIs → ℕ → Seated → Type 0) (row : RowIs) (lock : ℕ) (Did : Seated → Seated → Type 0) (old new : Pass) (t : MadeTurn fits seen lock Did old new) where
+module _ (fits : RowIs → ℕ → Seated → Type 0) (row : RowIs) (lock : ℕ) (Did : Seated → Seated → Type 0) (old new : Pass) (t : MadeTurn fits shown lock Did old new) where
   one_call : (by : SeatName) (call : Call) (reply : Reply) (part : Part) → IsOf row t.left → Answered t.taken.view by call reply part t.left.view → MadeOneCall row lock by call reply old new
   one_call by call reply part own a = record {
     missed = t.missed;
     before = seen t.taken;
     between = a.between;
     after = seen t.left;
+    steps = since t.taken.steps t.left;
     turned = t.turned;
     ends = a.seen;
     legal = subst (λ (d : World). IsLegal d.catalogue d.workers (answers_in (seen t.left))) own.1 a.legal;
@@ -63,7 +64,8 @@ module _ (fits : RowIs → ℕ → Seated → Type 0) (row : RowIs) (lock : ℕ)
   no_call Shows own knows is shows = record {
     missed = t.missed;
     seen = seen t.taken;
-    turned = t.turned ∙ ap (λ l. with_turns (with_misses old lock t.missed) (turn lock (seen t.taken) l ∷ [])) (ap seen_of is);
+    steps = since t.taken.steps t.left;
+    turned = t.turned ∙ ap (λ l. with_turns (with_misses old lock t.missed) (turn lock (seen t.taken) l (since t.taken.steps t.left) ∷ [])) (ap seen_of is);
     legal = subst (λ (d : World). IsLegal d.catalogue d.workers (answers_in (seen t.taken))) own.1 knows.legal;
     shows = shows;
     follows = t.follows;
@@ -73,7 +75,7 @@ module _ (fits : RowIs → ℕ → Seated → Type 0) (row : RowIs) (lock : ℕ)
   agrees : IsOf row t.taken → KnowsTable t.taken.view → Agrees (table_after row.world (seen t.taken)) (part_of t.taken.view)
   agrees own knows = subst (λ (d : World). Agrees (table_after d (seen t.taken)) (part_of t.taken.view)) own.1 knows.agrees
 
-module _ (row : RowIs) (lock slot : ℕ) (Did : Seated → Seated → Type 0) (old new : Pass) (same_row : old.row.value ≡ row) (t : MadeTurn leaf_fits seen lock Did old new) where
+module _ (row : RowIs) (lock slot : ℕ) (Did : Seated → Seated → Type 0) (old new : Pass) (same_row : old.row.value ≡ row) (t : MadeTurn leaf_fits shown lock Did old new) where
   fit : leaf_fits row lock t.taken
   fit = subst (λ (k : RowIs). leaf_fits k lock t.taken) same_row t.fit
 
@@ -87,7 +89,7 @@ module _ (row : RowIs) (lock slot : ℕ) (Did : Seated → Seated → Type 0) (o
       no_call leaf_fits row lock Did old new t (HoldsSoOften lock slot count) fit.0 knows is
       (counts_of t.taken.view, ap (λ w. get_elem? (table_after row.world (seen t.taken)).rows w) (sym fit.1) ∙ subst (Agrees (table_after row.world (seen t.taken))) (ap part_in fit.2) (agrees leaf_fits row lock Did old new t fit.0 knows), counted)
 
-module _ (row : RowIs) (slot : ℕ) (Did : Seated → Seated → Type 0) (old new : Pass) (same_row : old.row.value ≡ row) (t : MadeTurn book_fits seen 0 Did old new) where
+module _ (row : RowIs) (slot : ℕ) (Did : Seated → Seated → Type 0) (old new : Pass) (same_row : old.row.value ≡ row) (t : MadeTurn book_fits shown 0 Did old new) where
   pub book_call_made : (kind : BookCall) (reply : Reply) → IsOf row t.left → BookAnswered t.taken.view slot kind reply t.left.view → MadeOneCall row 0 name_is.Book (book_call kind slot) reply old new
   book_call_made kind reply own a = one_call book_fits row 0 Did old new t name_is.Book (book_call kind slot) reply _ own a
 
@@ -101,7 +103,7 @@ module _ (row : RowIs) (slot : ℕ) (Did : Seated → Seated → Type 0) (old ne
       (shows (table_after row.world (seen t.taken)) (subst (Agrees (table_after row.world (seen t.taken))) (ap part_in book_fit.1) (agrees book_fits row 0 Did old new t book_fit.0 knows)))
 
 -- a turn in which a leaf was asked to try, and gave up
-pub turn_missed : {R : Type 0} (row : RowIs) (worker slot : ℕ) (old new : Pass) → old.row.value ≡ row → (Did : Option R → Seated → Seated → Type 0) (o : Option (Option R)) → IfSome o (λ r. MadeTurn leaf_fits seen worker (Did r) old new)
+pub turn_missed : {R : Type 0} (row : RowIs) (worker slot : ℕ) (old new : Pass) → old.row.value ≡ row → (Did : Option R → Seated → Seated → Type 0) (o : Option (Option R)) → IfSome o (λ r. MadeTurn leaf_fits shown worker (Did r) old new)
     → ((x y : Seated) → Did None x y → KnowsTable x.view × (y.view ≡ x.view) × (count_of x.view slot ≡ 0))
     → IfSome o (λ r. IfNone r (MadeNoCall row worker (HoldsSoOften worker slot 0) old new))
 turn_missed row worker slot old new same_row Did None t told = tt
@@ -111,8 +113,8 @@ turn_missed row worker slot old new same_row Did (Some (Some r)) t told = tt
 
 -- what its steps show, where it gave up and where it was answered
 module _ {R : Type 0} (worker : ℕ) (old new : Pass) (Did : Option R → Seated → Seated → Type 0) where
-  pub shown : (Shows : Seated → Seated → Type 0) (r : Option R) → MadeTurn leaf_fits seen worker (Did r) old new → ((x y : Seated) → Did r x y → Shows x y) → MadeTurn leaf_fits seen worker Shows old new
-  shown Shows r t told = record {
+  pub turn_shows : (Shows : Seated → Seated → Type 0) (r : Option R) → MadeTurn leaf_fits shown worker (Did r) old new → ((x y : Seated) → Did r x y → Shows x y) → MadeTurn leaf_fits shown worker Shows old new
+  turn_shows Shows r t told = record {
     missed = t.missed;
     taken = t.taken;
     left = t.left;
@@ -122,28 +124,28 @@ module _ {R : Type 0} (worker : ℕ) (old new : Pass) (Did : Option R → Seated
     follows = t.follows;
   }
 
-  pub given_up : (Gave : Seated → Seated → Type 0) (o : Option (Option R)) → IfSome o (λ r. MadeTurn leaf_fits seen worker (Did r) old new)
-      → ((x y : Seated) → Did None x y → Gave x y) → IfSome o (λ r. IfNone r (MadeTurn leaf_fits seen worker Gave old new))
+  pub given_up : (Gave : Seated → Seated → Type 0) (o : Option (Option R)) → IfSome o (λ r. MadeTurn leaf_fits shown worker (Did r) old new)
+      → ((x y : Seated) → Did None x y → Gave x y) → IfSome o (λ r. IfNone r (MadeTurn leaf_fits shown worker Gave old new))
   given_up Gave None t told = tt
-  given_up Gave (Some None) t told = shown Gave None t told
+  given_up Gave (Some None) t told = turn_shows Gave None t told
   given_up Gave (Some (Some r)) t told = tt
 
-  pub in_time : (Gives : R → Seated → Seated → Type 0) (o : Option (Option R)) → IfSome o (λ r. MadeTurn leaf_fits seen worker (Did r) old new)
-      → ((r : R) (x y : Seated) → Did (Some r) x y → Gives r x y) → IfSome o (λ r. IfSome r (λ a. MadeTurn leaf_fits seen worker (Gives a) old new))
+  pub in_time : (Gives : R → Seated → Seated → Type 0) (o : Option (Option R)) → IfSome o (λ r. MadeTurn leaf_fits shown worker (Did r) old new)
+      → ((r : R) (x y : Seated) → Did (Some r) x y → Gives r x y) → IfSome o (λ r. IfSome r (λ a. MadeTurn leaf_fits shown worker (Gives a) old new))
   in_time Gives None t told = tt
   in_time Gives (Some None) t told = tt
-  in_time Gives (Some (Some r)) t told = shown (Gives r) (Some r) t (told r)
+  in_time Gives (Some (Some r)) t told = turn_shows (Gives r) (Some r) t (told r)
 
 -- the same where the lock may have been found taken at each try
 module _ {R : Type 0} (worker : ℕ) (old new : Pass) (Same : Type 0) (Did : Option R → Seated → Seated → Type 0) where
-  pub given_up_within : (Gave : Seated → Seated → Type 0) (o : Option (Option (Option R))) → IfSome o (λ p. MatchOption p Same (λ a. MadeTurn leaf_fits seen worker (Did a) old new))
-      → ((x y : Seated) → Did None x y → Gave x y) → IfSome o (λ p. IfSome p (λ a. IfNone a (MadeTurn leaf_fits seen worker Gave old new)))
+  pub given_up_within : (Gave : Seated → Seated → Type 0) (o : Option (Option (Option R))) → IfSome o (λ p. MatchOption p Same (λ a. MadeTurn leaf_fits shown worker (Did a) old new))
+      → ((x y : Seated) → Did None x y → Gave x y) → IfSome o (λ p. IfSome p (λ a. IfNone a (MadeTurn leaf_fits shown worker Gave old new)))
   given_up_within Gave None t told = tt
   given_up_within Gave (Some None) t told = tt
   given_up_within Gave (Some (Some a)) t told = given_up worker old new Did Gave (Some a) t told
 
-  pub in_time_within : (Gives : R → Seated → Seated → Type 0) (o : Option (Option (Option R))) → IfSome o (λ p. MatchOption p Same (λ a. MadeTurn leaf_fits seen worker (Did a) old new))
-      → ((r : R) (x y : Seated) → Did (Some r) x y → Gives r x y) → IfSome o (λ p. IfSome p (λ a. IfSome a (λ r. MadeTurn leaf_fits seen worker (Gives r) old new)))
+  pub in_time_within : (Gives : R → Seated → Seated → Type 0) (o : Option (Option (Option R))) → IfSome o (λ p. MatchOption p Same (λ a. MadeTurn leaf_fits shown worker (Did a) old new))
+      → ((r : R) (x y : Seated) → Did (Some r) x y → Gives r x y) → IfSome o (λ p. IfSome p (λ a. IfSome a (λ r. MadeTurn leaf_fits shown worker (Gives r) old new)))
   in_time_within Gives None t told = tt
   in_time_within Gives (Some None) t told = tt
   in_time_within Gives (Some (Some a)) t told = in_time worker old new Did Gives (Some a) t told

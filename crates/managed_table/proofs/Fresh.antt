@@ -4,9 +4,9 @@ use Rattle.root_row.specs.Seats.{RowIs, Seated}
 use Rattle.root_row.specs.Made.{AreNew, new_leaf, new_book}
 use Rattle.root_row.proofs.Replay.{at_or_past}
 use Rattle.managed_table.specs.Locks.{AreFresh}
-use Rattle.managed_table.specs.Kept.{seen, leaf_fits, book_fits}
+use Rattle.managed_table.specs.Kept.{seen, shown, leaf_fits, book_fits}
 
-pub fresh_leaves : (row : RowIs) (n : ℕ) (seats : List Seated) → AreNew (new_leaf row.id row.world) n seats → AreFresh leaf_fits seen row seats
+pub fresh_leaves : (row : RowIs) (n : ℕ) (seats : List Seated) → AreNew (new_leaf row.id row.world) n seats → AreFresh leaf_fits shown row seats
 fresh_leaves row n seats are lock lt = elim (at_or_past seats lock) [
   | inl at ↦
       let fresh = subst (λ (s : Seated). leaf_fits row lock s × (seen s ≡ [])) (are.1 lock at.0 at.1) (((refl, refl), refl, refl), refl) in
@@ -14,6 +14,6 @@ fresh_leaves row n seats are lock lt = elim (at_or_past seats lock) [
   | inr past ↦ absurd (omega arith)
 ]
 
-pub fresh_book : (row : RowIs) (book : Seated) → book ≡ new_book row.id row.world → AreFresh book_fits seen row (book ∷ [])
+pub fresh_book : (row : RowIs) (book : Seated) → book ≡ new_book row.id row.world → AreFresh book_fits shown row (book ∷ [])
 fresh_book row book is zero lt = (book, refl, subst (book_fits row 0) (sym is) ((refl, refl), refl), ap seen is)
 fresh_book row book is (suc n) lt = absurd (omega arith)

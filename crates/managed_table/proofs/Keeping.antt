@@ -7,7 +7,8 @@ use lib.ListN.{get_elem?}
 use Rattle.atomic_table.specs.Table.{State}
 use Rattle.atomic_table.proofs.Lists.{set_here, set_else, at_longer, at_last}
 use Rattle.root_row.specs.declared.view.SeatAnswer.{SeatAnswer}
-use Rattle.root_row.specs.Seats.{RowIs}
+use Rattle.root_row.specs.declared.view.AtomicStep.{AtomicStep}
+use Rattle.root_row.specs.Seats.{RowIs, Seated}
 use Rattle.root_row.specs.World.{place_of}
 use Rattle.root_row.specs.History.{SeatName, same_name, StartsWith}
 use Rattle.root_row.proofs.Seating.{at_snoc}
@@ -16,7 +17,8 @@ use Rattle.managed_table.specs.declared.view.Taken.{Taken}
 use Rattle.managed_table.specs.declared.view.Pass.{Pass}
 use Rattle.managed_table.specs.declared.view.Passes.{Passes}
 use Rattle.managed_table.specs.Locks.{count, Place, pass_in, pass_at, Accounts, FitsTurn, IsHeld, FitsPass, IsMade, IsShut, IsHome, HasTurn, LocksRule}
-use Rattle.managed_table.specs.Turns.{turn, taken, alone, new_pass, with_taken, with_turns, with_missed, Follows, AreOrdered}
+use Rattle.managed_table.specs.Kept.{seen}
+use Rattle.managed_table.specs.Turns.{turn, taken, since, alone, new_pass, with_taken, with_turns, with_missed, Follows, AreOrdered}
 use Rattle.managed_table.proofs.Changed.{put, put_here, put_else}
 use Rattle.managed_table.proofs.Places.{same_place, place_set, place_here, place_else, place_new, place_longer}
 
@@ -56,7 +58,7 @@ count_more n l m s =
     let e : count n l ≡ count n m + count n s.0 = ap (count n) s.1 ∙ ap length (filter-append (λ (a : SeatAnswer). same_name a.by n) m s.0) ∙ length-append _ _ in
     omega arith
 
-module _ {T : Type 0} (row : RowIs) (locks : ℕ) (by : ℕ → SeatName) (fits : RowIs → ℕ → T → Type 0) (seen : T → List SeatAnswer) (s : State T Passes) (kept : LocksRule row locks by fits seen s) where
+module _ {T : Type 0} (row : RowIs) (locks : ℕ) (by : ℕ → SeatName) (fits : RowIs → ℕ → T → Type 0) (shown : T → Seated) (s : State T Passes) (kept : LocksRule row locks by fits shown s) where
   -- a word that is not 0 is put in place of another
   still_held : (w mark : ℕ) → w < locks → mark ≢ 0 → (z : Place) (t : Taken) → IsHeld locks kept.accounts s.words z t → IsHeld locks kept.accounts (set s.words (place_of w) mark) z t
   still_held w mark inside shut z t held = record {
@@ -69,7 +71,7 @@ module _ {T : Type 0} (row : RowIs) (locks : ℕ) (by : ℕ → SeatName) (fits 
     ];
   }
 
-  pub busy : (w mark : ℕ) → w < locks → mark ≢ 0 → get_or s.words (place_of w) 0 ≢ 0 → LocksRule row locks by fits seen (record { words = set s.words (place_of w) mark; homes = s.homes; views = s.views })
+  pub busy : (w mark : ℕ) → w < locks → mark ≢ 0 → get_or s.words (place_of w) 0 ≢ 0 → LocksRule row locks by fits shown (record { words = set s.words (place_of w) mark; homes = s.homes; views = s.views })
   busy w mark inside shut away = record {
     accounts = kept.accounts;
     wide = length-set s.words (place_of w) mark ∙ kept.wide;
@@ -170,7 +172,7 @@ module _ {T : Type 0} (row : RowIs) (locks : ℕ) (by : ℕ → SeatName) (fits 
       missing_fits : FitsPass row locks by kept.accounts s.words (id, 0) missing
       missing_fits = record { same_row = mine.same_row; named = mine.named; below = mine.below; held = mine.held; turns = mine.turns }
 
-      pub missed : LocksRule row locks by fits seen (record { words = s.words; homes = s.homes; views = set s.views id (alone missing) })
+      pub missed : LocksRule row locks by fits shown (record { words = s.words; homes = s.homes; views = set s.views id (alone missing) })
       missed = record {
         accounts = kept.accounts;
         wide = kept.wide;
@@ -187,12 +189,12 @@ module _ {T : Type 0} (row : RowIs) (locks : ℕ) (by : ℕ → SeatName) (fits 
     -- a free lock is taken
     module _ (w mark : ℕ) (inside : w < locks) (shut : mark ≢ 0) (none_taken : v.taken ≡ None) (unlocked : get_or s.words (place_of w) 0 ≡ 0) where
       abbrev pub taking : Pass
-      taking = with_taken v (Some (taken w (seen (kept.free w inside unlocked).value)))
+      taking = with_taken v (Some (taken w (seen (shown (kept.free w inside unlocked).value)) (shown (kept.free w inside unlocked).value).steps))
 
       abbrev taken_accounts : Accounts
       taken_accounts = record { logs = kept.accounts.logs; holder = put kept.accounts.holder w (id, 0); owner = kept.accounts.owner; next = kept.accounts.next; who = kept.accounts.who }
 
-      pub follows : Follows v w (seen (kept.free w inside unlocked).value)
+      pub follows : Follows v w (seen (shown (kept.free w inside unlocked).value))
       follows p t there same = subst (λ l. StartsWith l t.after) (ap kept.accounts.logs same ∙ sym (kept.free w inside unlocked).saw) (mine.turns p t there).begins
 
       held_else : (z : Place) (t : Taken) → IsHeld locks kept.accounts s.words z t → IsHeld locks taken_accounts (set s.words (place_of w) mark) z t
@@ -203,7 +205,7 @@ module _ {T : Type 0} (row : RowIs) (locks : ℕ) (by : ℕ → SeatName) (fits 
         shut = λ q. held.shut (sym (word_else s.words w t.lock mark apart) ∙ q);
       }
 
-      held_here : IsHeld locks taken_accounts (set s.words (place_of w) mark) (id, 0) (taken w (seen (kept.free w inside unlocked).value))
+      held_here : IsHeld locks taken_accounts (set s.words (place_of w) mark) (id, 0) (taken w (seen (shown (kept.free w inside unlocked).value)) (shown (kept.free w inside unlocked).value).steps)
       held_here = record {
         inside = inside;
         holder = put_here kept.accounts.holder w (id, 0);
@@ -216,7 +218,7 @@ module _ {T : Type 0} (row : RowIs) (locks : ℕ) (by : ℕ → SeatName) (fits 
         same_row = mine.same_row;
         named = mine.named;
         below = mine.below;
-        held = λ t is. subst (λ (u : Taken). IsHeld locks taken_accounts (set s.words (place_of w) mark) (id, 0) u) (same_taken (taken w (seen (kept.free w inside unlocked).value)) t is) held_here;
+        held = λ t is. subst (λ (u : Taken). IsHeld locks taken_accounts (set s.words (place_of w) mark) (id, 0) u) (same_taken (taken w (seen (shown (kept.free w inside unlocked).value)) (shown (kept.free w inside unlocked).value).steps) t is) held_here;
         turns = λ p t there. let old = mine.turns p t there in record { begins = old.begins; mine = old.mine };
       }
 
@@ -229,7 +231,7 @@ module _ {T : Type 0} (row : RowIs) (locks : ℕ) (by : ℕ → SeatName) (fits 
         turns = λ p t there. let fit = old.turns p t there in record { begins = fit.begins; mine = fit.mine };
       }
 
-      pub seized : LocksRule row locks by fits seen (record { words = set s.words (place_of w) mark; homes = set s.homes w none; views = set s.views id (alone taking) })
+      pub seized : LocksRule row locks by fits shown (record { words = set s.words (place_of w) mark; homes = set s.homes w none; views = set s.views id (alone taking) })
       seized = record {
         accounts = taken_accounts;
         wide = length-set s.words (place_of w) mark ∙ kept.wide;
@@ -248,7 +250,7 @@ module _ {T : Type 0} (row : RowIs) (locks : ℕ) (by : ℕ → SeatName) (fits 
             pass = taking;
             at = ap (λ i. pass_at (set s.views id (alone taking)) i) mine.named ∙ place_here s.views id v taking at;
             name = refl;
-            taken = taken w (seen (kept.free w inside unlocked).value);
+            taken = taken w (seen (shown (kept.free w inside unlocked).value)) (shown (kept.free w inside unlocked).value).steps;
             has = refl;
             same = sym same;
           }
@@ -263,18 +265,18 @@ module _ {T : Type 0} (row : RowIs) (locks : ℕ) (by : ℕ → SeatName) (fits 
       }
 
     -- the value comes back, and has seen more
-    module _ (w : ℕ) (x : T) (b : List SeatAnswer) (has : v.taken ≡ Some (taken w b)) (fit : fits row w x) (grows : StartsWith (seen x) b) (as_many : length s.homes ≡ locks) where
-      old : IsHeld locks kept.accounts s.words (id, 0) (taken w b)
-      old = mine.held (taken w b) has
+    module _ (w : ℕ) (x : T) (b : List SeatAnswer) (c : List AtomicStep) (has : v.taken ≡ Some (taken w b c)) (fit : fits row w x) (grows : StartsWith (seen (shown x)) b) (as_many : length s.homes ≡ locks) where
+      old : IsHeld locks kept.accounts s.words (id, 0) (taken w b c)
+      old = mine.held (taken w b c) has
 
       abbrev now : Pass
-      now = with_turns v (turn w b (seen x) ∷ [])
+      now = with_turns v (turn w b (seen (shown x)) (since c (shown x)) ∷ [])
 
       abbrev who' : ℕ → ℕ → ℕ × ℕ
       who' u k = cond (u == w) (cond (ltb k (count (by w) b)) (kept.accounts.who u k) (v.number, length v.turns)) (kept.accounts.who u k)
 
       abbrev back_accounts : Accounts
-      back_accounts = record { logs = put kept.accounts.logs w (seen x); holder = kept.accounts.holder; owner = kept.accounts.owner; next = kept.accounts.next; who = who' }
+      back_accounts = record { logs = put kept.accounts.logs w (seen (shown x)); holder = kept.accounts.holder; owner = kept.accounts.owner; next = kept.accounts.next; who = who' }
 
       who_below : (u k : ℕ) → k < count (by w) b → who' u k ≡ kept.accounts.who u k
       who_below u k lt =
@@ -297,18 +299,18 @@ module _ {T : Type 0} (row : RowIs) (locks : ℕ) (by : ℕ → SeatName) (fits 
         | inl same ↦ (
             let before : StartsWith b g.after = subst (λ l. StartsWith l g.after) (ap kept.accounts.logs same ∙ sym old.log) f.begins in
             let less : count (by g.lock) g.after ≤ count (by w) b = subst (λ i. count (by i) g.after ≤ count (by w) b) (sym same) (count_more (by w) b g.after before) in record {
-              begins = subst (λ l. StartsWith l g.after) (sym (ap (put kept.accounts.logs w (seen x)) same ∙ put_here kept.accounts.logs w (seen x))) (starts_trans (seen x) b g.after grows before);
+              begins = subst (λ l. StartsWith l g.after) (sym (ap (put kept.accounts.logs w (seen (shown x))) same ∙ put_here kept.accounts.logs w (seen (shown x)))) (starts_trans (seen (shown x)) b g.after grows before);
               mine = λ k is_in. who_below g.lock k (let below = is_in.below in omega arith) ∙ f.mine k is_in;
             })
         | inr apart ↦ record {
-          begins = subst (λ l. StartsWith l g.after) (sym (put_else kept.accounts.logs w (seen x) g.lock apart)) f.begins;
+          begins = subst (λ l. StartsWith l g.after) (sym (put_else kept.accounts.logs w (seen (shown x)) g.lock apart)) f.begins;
           mine = λ k is_in. who_else g.lock k apart ∙ f.mine k is_in;
         }
       ]
 
-      new_turn : FitsTurn by back_accounts v.number (length v.turns) (turn w b (seen x))
+      new_turn : FitsTurn by back_accounts v.number (length v.turns) (turn w b (seen (shown x)) (since c (shown x)))
       new_turn = record {
-        begins = subst (λ l. StartsWith l (seen x)) (sym (put_here kept.accounts.logs w (seen x))) (starts_same (seen x));
+        begins = subst (λ l. StartsWith l (seen (shown x))) (sym (put_here kept.accounts.logs w (seen (shown x)))) (starts_same (seen (shown x)));
         mine = λ k is_in. who_new k is_in.from;
       }
 
@@ -318,7 +320,7 @@ module _ {T : Type 0} (row : RowIs) (locks : ℕ) (by : ℕ → SeatName) (fits 
         named = mine.named;
         below = mine.below;
         held = λ t is. absurd (not_taken t is);
-        turns = λ p g there. elim (at_snoc v.turns (turn w b (seen x)) g p there) [
+        turns = λ p g there. elim (at_snoc v.turns (turn w b (seen (shown x)) (since c (shown x))) g p there) [
           | inl before ↦ turn_kept v.number p g (mine.turns p g before)
           | inr last ↦ subst (λ (z : ℕ × Turn). FitsTurn by back_accounts v.number z.0 z.1) (λ i. (sym last.0 i, last.1 i)) new_turn
         ];
@@ -332,39 +334,39 @@ module _ {T : Type 0} (row : RowIs) (locks : ℕ) (by : ℕ → SeatName) (fits 
         held = λ t is. let h = f.held t is in let apart : t.lock ≢ w = λ q. away (sym h.holder ∙ ap kept.accounts.holder q ∙ old.holder) in record {
           inside = h.inside;
           holder = h.holder;
-          log = h.log ∙ sym (put_else kept.accounts.logs w (seen x) t.lock apart);
+          log = h.log ∙ sym (put_else kept.accounts.logs w (seen (shown x)) t.lock apart);
           shut = λ q. h.shut (sym (word_else s.words w t.lock 0 apart) ∙ q);
         };
         turns = λ p g there. turn_kept u.number p g (f.turns p g there);
       }
 
-      made_here : (k : ℕ) → k < count (by w) (seen x) → IsMade by kept.accounts.owner (who' w k) (set s.views id (alone now)) w k
+      made_here : (k : ℕ) → k < count (by w) (seen (shown x)) → IsMade by kept.accounts.owner (who' w k) (set s.views id (alone now)) w k
       made_here k lt = elim (cases_lt k (count (by w) b)) [
         | inl below ↦
             subst (λ z. IsMade by kept.accounts.owner z (set s.views id (alone now)) w k) (sym (who_below w k below))
-            (made_set kept.accounts.owner (kept.accounts.who w k) now w k refl (λ p t e. at_longer v.turns (turn w b (seen x) ∷ []) p t e)
+            (made_set kept.accounts.owner (kept.accounts.who w k) now w k refl (λ p t e. at_longer v.turns (turn w b (seen (shown x)) (since c (shown x)) ∷ []) p t e)
             (kept.made w k old.inside (subst (λ l. k < count (by w) l) old.log below)))
         | inr from ↦ subst (λ z. IsMade by kept.accounts.owner z (set s.views id (alone now)) w k) (sym (who_new k from)) (record {
           pass = now;
           at = ap (λ i. pass_at (set s.views id (alone now)) i) mine.named ∙ place_here s.views id v now at;
           name = refl;
-          turn = turn w b (seen x);
-          there = at_last v.turns (turn w b (seen x)) (length v.turns) refl;
+          turn = turn w b (seen (shown x)) (since c (shown x));
+          there = at_last v.turns (turn w b (seen (shown x)) (since c (shown x))) (length v.turns) refl;
           is_in = record { same = refl; from = from; below = lt };
         })
       ]
 
-      made_else : (u k : ℕ) → u ≢ w → u < locks → k < count (by u) (put kept.accounts.logs w (seen x) u) → IsMade by kept.accounts.owner (who' u k) (set s.views id (alone now)) u k
+      made_else : (u k : ℕ) → u ≢ w → u < locks → k < count (by u) (put kept.accounts.logs w (seen (shown x)) u) → IsMade by kept.accounts.owner (who' u k) (set s.views id (alone now)) u k
       made_else u k apart lt below =
           subst (λ z. IsMade by kept.accounts.owner z (set s.views id (alone now)) u k) (sym (who_else u k apart))
-          (made_set kept.accounts.owner (kept.accounts.who u k) now u k refl (λ p t e. at_longer v.turns (turn w b (seen x) ∷ []) p t e)
-          (kept.made u k lt (subst (λ l. k < count (by u) l) (put_else kept.accounts.logs w (seen x) u apart) below)))
+          (made_set kept.accounts.owner (kept.accounts.who u k) now u k refl (λ p t e. at_longer v.turns (turn w b (seen (shown x)) (since c (shown x)) ∷ []) p t e)
+          (kept.made u k lt (subst (λ l. k < count (by u) l) (put_else kept.accounts.logs w (seen (shown x)) u apart) below)))
 
       -- a turn was there before, or it is this one
-      has_now : (n k : ℕ) (t : Turn) → HasTurn (set s.views id (alone now)) n k t → (HasTurn s.views n k t) ⊎ ((n ≡ v.number) × (k ≡ length v.turns) × (turn w b (seen x) ≡ t))
+      has_now : (n k : ℕ) (t : Turn) → HasTurn (set s.views id (alone now)) n k t → (HasTurn s.views n k t) ⊎ ((n ≡ v.number) × (k ≡ length v.turns) × (turn w b (seen (shown x)) (since c (shown x)) ≡ t))
       has_now n k t h = elim (has_set now refl n k t h) [
         | inl before ↦ inl before
-        | inr own ↦ (elim (at_snoc v.turns (turn w b (seen x)) t k own.1) [
+        | inr own ↦ (elim (at_snoc v.turns (turn w b (seen (shown x)) (since c (shown x))) t k own.1) [
           | inl before ↦ inl (has_mine n k t own.0 before)
           | inr last ↦ inr (own.0, last.0, last.1)
         ])
@@ -386,27 +388,27 @@ module _ {T : Type 0} (row : RowIs) (locks : ℕ) (by : ℕ → SeatName) (fits 
         ])
       ]
 
-      pub released : LocksRule row locks by fits seen (record { words = set s.words (place_of w) 0; homes = set s.homes w (some x); views = set s.views id (alone now) })
+      pub released : LocksRule row locks by fits shown (record { words = set s.words (place_of w) 0; homes = set s.homes w (some x); views = set s.views id (alone now) })
       released = record {
         accounts = back_accounts;
         wide = length-set s.words (place_of w) 0 ∙ kept.wide;
         free = λ u lt is_zero. elim (cases_eq u w) [
-          | inl same ↦ subst (λ i. IsHome row fits seen (set s.homes w (some x)) i (put kept.accounts.logs w (seen x) i)) (sym same) (record {
+          | inl same ↦ subst (λ i. IsHome row fits shown (set s.homes w (some x)) i (put kept.accounts.logs w (seen (shown x)) i)) (sym same) (record {
             value = x;
             at = set_here s.homes w (some x) (let within : w < locks = old.inside in omega arith);
             fit = fit;
-            saw = sym (put_here kept.accounts.logs w (seen x));
+            saw = sym (put_here kept.accounts.logs w (seen (shown x)));
           })
           | inr apart ↦ (let before = kept.free u lt (sym (word_else s.words w u 0 apart) ∙ is_zero) in record {
             value = before.value;
             at = set_else s.homes w u (some x) apart ∙ before.at;
             fit = before.fit;
-            saw = before.saw ∙ sym (put_else kept.accounts.logs w (seen x) u apart);
+            saw = before.saw ∙ sym (put_else kept.accounts.logs w (seen (shown x)) u apart);
           })
         ];
         shut = λ u lt not_zero. elim (cases_eq u w) [
           | inl same ↦ absurd (not_zero (ap (λ i. get_or (set s.words (place_of w) 0) (place_of i) 0) same ∙ word_here s.words locks w 0 kept.wide old.inside))
-          | inr apart ↦ shut_set kept.accounts.owner now u refl (λ t e q. absurd (apart (sym q ∙ ap (λ (k : Taken). k.lock) (same_taken t (taken w b) (sym e ∙ has))))) (kept.shut u lt (λ z. not_zero (word_else s.words w u 0 apart ∙ z)))
+          | inr apart ↦ shut_set kept.accounts.owner now u refl (λ t e q. absurd (apart (sym q ∙ ap (λ (k : Taken). k.lock) (same_taken t (taken w b c) (sym e ∙ has))))) (kept.shut u lt (λ z. not_zero (word_else s.words w u 0 apart ∙ z)))
         ];
         passes = λ z u there. elim (place_set s.views id v now z u at there) [
           | inl here ↦ subst (λ (y : Place × Pass). FitsPass row locks by back_accounts (set s.words (place_of w) 0) y.0 y.1) (λ i. (sym here.0 i, here.1 i)) now_fits
@@ -415,7 +417,7 @@ module _ {T : Type 0} (row : RowIs) (locks : ℕ) (by : ℕ → SeatName) (fits 
         made = λ u k lt below. elim (cases_eq u w) [
           | inl same ↦
               subst (λ i. IsMade by kept.accounts.owner (who' i k) (set s.views id (alone now)) i k) (sym same)
-              (made_here k (subst (λ l. k < count (by w) l) (put_here kept.accounts.logs w (seen x)) (subst (λ i. k < count (by i) (put kept.accounts.logs w (seen x) i)) same below)))
+              (made_here k (subst (λ l. k < count (by w) l) (put_here kept.accounts.logs w (seen (shown x))) (subst (λ i. k < count (by i) (put kept.accounts.logs w (seen (shown x)) i)) same below)))
           | inr apart ↦ made_else u k apart lt below
         ];
         ordered = now_ordered;
@@ -466,7 +468,7 @@ module _ {T : Type 0} (row : RowIs) (locks : ℕ) (by : ℕ → SeatName) (fits 
     | inr last ↦ absurd (some-ne-none t (sym (ap (λ (u : Pass). get_elem? u.turns k) last.1 ∙ h.there)))
   ]
 
-  pub entered : LocksRule row locks by fits seen (record { words = s.words; homes = s.homes; views = s.views ++ alone entered_pass ∷ [] })
+  pub entered : LocksRule row locks by fits shown (record { words = s.words; homes = s.homes; views = s.views ++ alone entered_pass ∷ [] })
   entered = record {
     accounts = entered_accounts;
     wide = kept.wide;

@@ -5,11 +5,11 @@ use Rattle.atomic_table.specs.Seated.{TableId}
 use Rattle.atomic_table.specs.declared.shared.Seat.{Seat}
 use Rattle.dep_index.specs.declared.calls.Call.{Call}
 use Rattle.dep_index.specs.declared.calls.Reply.{Reply}
-use Rattle.root_row.specs.declared.view.SeatAnswer.{SeatAnswer}
-use Rattle.root_row.specs.Seats.{RowIs}
+use Rattle.root_row.specs.Seats.{RowIs, Seated}
 use Rattle.root_row.specs.History.{SeatName}
 use Rattle.managed_table.specs.declared.view.Pass.{Pass}
 use Rattle.managed_table.specs.declared.view.Passes.{Passes}
+use Rattle.managed_table.specs.Kept.{seen}
 use Rattle.managed_table.specs.Turns.{turn, taken, alone, pass_of, with_taken, with_turns, with_missed, with_misses, HasTaken, IsSame, Misses, MadeOneCall}
 use Rattle.managed_table.specs.Passes.{IsFree}
 
@@ -29,7 +29,8 @@ made_later row lock n by call reply old between new misses made =
       before = later.before;
       between = later.between;
       after = later.after;
-      turned = later.turned ∙ ap (λ (p : Pass). with_turns p (turn lock later.before later.after ∷ [])) (missed_again old lock n later.missed);
+      steps = later.steps;
+      turned = later.turned ∙ ap (λ (p : Pass). with_turns p (turn lock later.before later.after later.steps ∷ [])) (missed_again old lock n later.missed);
       ends = later.ends;
       legal = later.legal;
       own = later.own;
@@ -44,21 +45,23 @@ module _ {T : Type 0} where
   )
 
   -- the lock was taken at a later try
-  pub took_later : (fits : RowIs → ℕ → T → Type 0) (seen : T → List SeatAnswer) (lock n : ℕ) (me me1 me2 : Me T Passes) → Misses lock n me me1 → HasTaken fits seen lock (pass_of me1.0) me2 → HasTaken fits seen lock (pass_of me.0) me2
-  took_later fits seen lock n me me1 me2 misses took =
-      let later = subst (λ (p : Pass). HasTaken fits seen lock p me2) (ap pass_of misses.0) took in record {
+  pub took_later : (fits : RowIs → ℕ → T → Type 0) (shown : T → Seated) (lock n : ℕ) (me me1 me2 : Me T Passes) → Misses lock n me me1 → HasTaken fits shown lock [] (pass_of me1.0) me2 → HasTaken fits shown lock [] (pass_of me.0) me2
+  took_later fits shown lock n me me1 me2 misses took =
+      let later = subst (λ (p : Pass). HasTaken fits shown lock [] p me2) (ap pass_of misses.0) took in record {
         value = later.value;
         missed = n + later.missed;
-        view = later.view ∙ ap (λ (p : Pass). alone (with_taken p (Some (taken lock (seen later.value))))) (missed_again (pass_of me.0) lock n later.missed);
+        steps = later.steps;
+        view = later.view ∙ ap (λ (p : Pass). alone (with_taken p (Some (taken lock (seen (shown later.value)) later.steps)))) (missed_again (pass_of me.0) lock n later.missed);
+        steps_are = later.steps_are;
         hand = later.hand;
         fit = later.fit;
         follows = later.follows;
       }
 
   -- a try after a look that found the lock free
-  pub tried_then : (fits : RowIs → ℕ → T → Type 0) (seen : T → List SeatAnswer) (lock : ℕ) (me me1 me2 : Me T Passes) (took : Bool) → IsSame me me1
-      → MatchBool took (HasTaken fits seen lock (pass_of me1.0) me2) (Misses lock 1 me1 me2) → MatchBool took (HasTaken fits seen lock (pass_of me.0) me2) (Misses lock 1 me me2)
-  tried_then fits seen lock me me1 me2 took same = subst (λ (m : Me T Passes). MatchBool took (HasTaken fits seen lock (pass_of m.0) me2) (Misses lock 1 m me2)) (λ i. (same.0 i, same.1 i))
+  pub tried_then : (fits : RowIs → ℕ → T → Type 0) (shown : T → Seated) (lock : ℕ) (me me1 me2 : Me T Passes) (took : Bool) → IsSame me me1
+      → MatchBool took (HasTaken fits shown lock [] (pass_of me1.0) me2) (Misses lock 1 me1 me2) → MatchBool took (HasTaken fits shown lock [] (pass_of me.0) me2) (Misses lock 1 me me2)
+  tried_then fits shown lock me me1 me2 took same = subst (λ (m : Me T Passes). MatchBool took (HasTaken fits shown lock [] (pass_of m.0) me2) (Misses lock 1 m me2)) (λ i. (same.0 i, same.1 i))
 
   -- the pass has no lock, as before
   pub still_free : (id : TableId) (row : RowIs) (lock n : ℕ) (seat seat' : Seat T Passes) → IsFree id row seat → seat'.table_id ≡ seat.table_id → Misses lock n seat.me seat'.me → IsFree id row seat'

@@ -5,8 +5,7 @@ use mathlib.Core.Option.{some, none, some-ne-none, some-injective}
 use lib.ListN.{get_elem?}
 use Rattle.atomic_table.specs.Table.{Me, State, keeps, step, Allows, Splits, Joins}
 use Rattle.atomic_table.proofs.Lists.{at_set, set_here, set_else, set_again, at_longer, at_last}
-use Rattle.root_row.specs.declared.view.SeatAnswer.{SeatAnswer}
-use Rattle.root_row.specs.Seats.{RowIs}
+use Rattle.root_row.specs.Seats.{RowIs, Seated}
 use Rattle.root_row.specs.History.{SeatName}
 use Rattle.root_row.proofs.Replay.{at_length}
 use Rattle.root_row.proofs.Seating.{at_snoc}
@@ -28,7 +27,7 @@ not_shared by t u lock c order x y = elim order [
 ]
 
 -- Passes move to other places, and nothing else changes
-module _ {T : Type 0} (row : RowIs) (locks : ℕ) (by : ℕ → SeatName) (fits : RowIs → ℕ → T → Type 0) (seen : T → List SeatAnswer) (s : State T Passes) (kept : LocksRule row locks by fits seen s) (views : List Passes) (f : Place → Place)
+module _ {T : Type 0} (row : RowIs) (locks : ℕ) (by : ℕ → SeatName) (fits : RowIs → ℕ → T → Type 0) (shown : T → Seated) (s : State T Passes) (kept : LocksRule row locks by fits shown s) (views : List Passes) (f : Place → Place)
     (back : (z : Place) (p : Pass) → pass_at views z ≡ some p → (y : Place) × (f y ≡ z) × (pass_at s.views y ≡ some p))
     (there : (z : Place) (p : Pass) → pass_at s.views z ≡ some p → pass_at views (f z) ≡ some p) where
   abbrev moved_accounts : Accounts
@@ -46,7 +45,7 @@ module _ {T : Type 0} (row : RowIs) (locks : ℕ) (by : ℕ → SeatName) (fits 
   turn_back : (n k : ℕ) (t : Turn) → HasTurn views n k t → HasTurn s.views n k t
   turn_back n k t h = let y = back h.place h.pass h.at in record { place = y.0; pass = h.pass; at = y.2; name = h.name; there = h.there }
 
-  pub moves : LocksRule row locks by fits seen (record { words = s.words; homes = s.homes; views = views })
+  pub moves : LocksRule row locks by fits shown (record { words = s.words; homes = s.homes; views = views })
   moves = record {
     accounts = moved_accounts;
     wide = kept.wide;
@@ -181,24 +180,24 @@ module _ (views : List Passes) (id : ℕ) (p q : Pass) (at : get_elem? views id 
         ∙ ap (λ o. pass_in o z.1) (at_longer (set views id (alone p)) (alone q ∷ []) z.0 v.0 (set_else views id z.0 (alone p) away ∙ v.1)) ∙ v.2
   ]
 
-module _ {T : Type 0} (row : RowIs) (locks : ℕ) (by : ℕ → SeatName) (fits : RowIs → ℕ → T → Type 0) (seen : T → List SeatAnswer) where
-  joins_alone : (id other : ℕ) (p q : Pass) → Joins (LocksRule row locks by fits seen) id (alone p) other (alone q) (both (alone p) (alone q)) spent
+module _ {T : Type 0} (row : RowIs) (locks : ℕ) (by : ℕ → SeatName) (fits : RowIs → ℕ → T → Type 0) (shown : T → Seated) where
+  joins_alone : (id other : ℕ) (p q : Pass) → Joins (LocksRule row locks by fits shown) id (alone p) other (alone q) (both (alone p) (alone q)) spent
   joins_alone id other p q s kept at apart there =
       let there' = sym (set_else s.views id other (both (alone p) (alone q)) apart) ∙ there in
-      moves row locks by fits seen s kept (glued s.views id other p q apart at there') (glue s.views id other p q apart at there') (glue_back s.views id other p q apart at there') (glue_there s.views id other p q apart at there')
+      moves row locks by fits shown s kept (glued s.views id other p q apart at there') (glue s.views id other p q apart at there') (glue_back s.views id other p q apart at there') (glue_there s.views id other p q apart at there')
 
-  pub joins : (id other : ℕ) (v w : Passes) → v ≡ alone (pass_of v) → w ≡ alone (pass_of w) → Joins (LocksRule row locks by fits seen) id v other w (both v w) spent
+  pub joins : (id other : ℕ) (v w : Passes) → v ≡ alone (pass_of v) → w ≡ alone (pass_of w) → Joins (LocksRule row locks by fits shown) id v other w (both v w) spent
   joins id other v w one two =
-      subst (λ (y : Passes × Passes). Joins (LocksRule row locks by fits seen) id y.0 other y.1 (both y.0 y.1) spent) (λ i. (sym one i, sym two i)) (joins_alone id other (pass_of v) (pass_of w))
+      subst (λ (y : Passes × Passes). Joins (LocksRule row locks by fits shown) id y.0 other y.1 (both y.0 y.1) spent) (λ i. (sym one i, sym two i)) (joins_alone id other (pass_of v) (pass_of w))
 
-  splits_two : (id : ℕ) (p q : Pass) → Splits (LocksRule row locks by fits seen) id (both (alone p) (alone q)) (first_pass (both (alone p) (alone q))) (other_passes (both (alone p) (alone q)))
-  splits_two id p q s kept at = moves row locks by fits seen s kept (parted s.views id p q at) (part s.views id p q at) (part_back s.views id p q at) (part_there s.views id p q at)
+  splits_two : (id : ℕ) (p q : Pass) → Splits (LocksRule row locks by fits shown) id (both (alone p) (alone q)) (first_pass (both (alone p) (alone q))) (other_passes (both (alone p) (alone q)))
+  splits_two id p q s kept at = moves row locks by fits shown s kept (parted s.views id p q at) (part s.views id p q at) (part_back s.views id p q at) (part_there s.views id p q at)
 
-  pub splits : (id : ℕ) (v : Passes) (p q : Pass) → v ≡ both (alone p) (alone q) → Splits (LocksRule row locks by fits seen) id v (first_pass v) (other_passes v)
-  splits id v p q is = subst (λ (y : Passes). Splits (LocksRule row locks by fits seen) id y (first_pass y) (other_passes y)) (sym is) (splits_two id p q)
+  pub splits : (id : ℕ) (v : Passes) (p q : Pass) → v ≡ both (alone p) (alone q) → Splits (LocksRule row locks by fits shown) id v (first_pass v) (other_passes v)
+  splits id v p q is = subst (λ (y : Passes). Splits (LocksRule row locks by fits shown) id y (first_pass y) (other_passes y)) (sym is) (splits_two id p q)
 
   -- two passes of one view have two numbers, and each two of their turns at one lock are ordered
-  module _ (s : State T Passes) (kept : LocksRule row locks by fits seen s) (id : ℕ) (p q : Pass) (is : get_elem? s.views id ≡ some (both (alone p) (alone q))) where
+  module _ (s : State T Passes) (kept : LocksRule row locks by fits shown s) (id : ℕ) (p q : Pass) (is : get_elem? s.views id ≡ some (both (alone p) (alone q))) where
     first : pass_at s.views (id, 0) ≡ some p
     first = ap (λ o. pass_in o 0) is
 
@@ -222,11 +221,11 @@ module _ {T : Type 0} (row : RowIs) (locks : ℕ) (by : ℕ → SeatName) (fits 
       unshared = λ k i t u a b lock c x y. not_shared by t u lock c (order k i t u a b (x.same ∙ sym y.same)) x y;
     }
 
-  pub tells_apart : (slots' id : ℕ) (me : Me T Passes) → Allows (LocksRule row locks by fits seen) slots' id me 0 (λ n. n) (TellsApart by (step slots' 0 0 0 none) me)
+  pub tells_apart : (slots' id : ℕ) (me : Me T Passes) → Allows (LocksRule row locks by fits shown) slots' id me 0 (λ n. n) (TellsApart by (step slots' 0 0 0 none) me)
   tells_apart slots' id me s kept homes at small = (
     me.0,
     keeps,
     tt,
-    subst (λ (y : List ℕ × List Passes). LocksRule row locks by fits seen (record { words = y.0; homes = s.homes; views = y.1 })) (λ i. (sym (same_words s.words 0) i, sym (set_again s.views id me.0 at) i)) kept,
+    subst (λ (y : List ℕ × List Passes). LocksRule row locks by fits shown (record { words = y.0; homes = s.homes; views = y.1 })) (λ i. (sym (same_words s.words 0) i, sym (set_again s.views id me.0 at) i)) kept,
     (refl, refl, λ p q is. are_apart s kept id p q (at ∙ ap some is)),
   )

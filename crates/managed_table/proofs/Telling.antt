@@ -11,8 +11,8 @@ use Rattle.root_row.specs.Hearing.{HeardBoth}
 use Rattle.root_row.proofs.LeafSteps.{leaf_parts}
 use Rattle.root_row.proofs.BookSteps.{book_one}
 use Rattle.managed_table.specs.declared.view.Pass.{Pass}
-use Rattle.managed_table.specs.Kept.{seen, leaf_fits, book_fits}
-use Rattle.managed_table.specs.Turns.{MadeTurn}
+use Rattle.managed_table.specs.Kept.{seen, shown, leaf_fits, book_fits}
+use Rattle.managed_table.specs.Turns.{since, MadeTurn}
 use Rattle.managed_table.specs.Hearing.{Met}
 
 module _ (x y : Seated) (r r' : View) (heard : HeardBoth x.view r y.view r') where
@@ -38,7 +38,7 @@ module _ (x y : Seated) (r r' : View) (heard : HeardBoth x.view r y.view r') whe
     pub book_heard : book_fits row 0 x → book_fits row 0 y × StartsWith (seen y) (seen x)
     book_heard fit = ((own, book_one y.view (book_of x.view) (one_member ∙ ap (λ (p : Part). member p (seen y) ∷ []) (ap part_in fit.1))), heard_grows)
 
-module _ (fits : RowIs → ℕ → Seated → Type 0) (row : RowIs) (lock : ℕ) (by : SeatName) (Did : Seated → Seated → Type 0) (old new : Pass) (r r' : View) (t : MadeTurn fits seen lock Did old new) where
+module _ (fits : RowIs → ℕ → Seated → Type 0) (row : RowIs) (lock : ℕ) (by : SeatName) (Did : Seated → Seated → Type 0) (old new : Pass) (r r' : View) (t : MadeTurn fits shown lock Did old new) where
   met : IsOf row t.taken → name_of (part_of t.taken.view) ≡ by → HeardBoth t.taken.view r t.left.view r' → Met row lock by old new r r'
   met own named heard =
       let h = heard.one_heard in
@@ -47,6 +47,7 @@ module _ (fits : RowIs → ℕ → Seated → Type 0) (row : RowIs) (lock : ℕ)
         missed = t.missed;
         before = seen t.taken;
         after = seen t.left;
+        steps = since t.taken.steps t.left;
         turned = t.turned;
         follows = t.follows;
         begins = heard_grows t.taken t.left r r' heard;
@@ -59,12 +60,12 @@ module _ (fits : RowIs → ℕ → Seated → Type 0) (row : RowIs) (lock : ℕ)
       }
 
 module _ (row : RowIs) (old new : Pass) (same_row : old.row.value ≡ row) (Did : Seated → Seated → Type 0) (r r' : View) (told : (x y : Seated) → Did x y → HeardBoth x.view r y.view r') where
-  pub leaf_met : (lock : ℕ) → MadeTurn leaf_fits seen lock Did old new → Met row lock (name_is.Leaf lock) old new r r'
+  pub leaf_met : (lock : ℕ) → MadeTurn leaf_fits shown lock Did old new → Met row lock (name_is.Leaf lock) old new r r'
   leaf_met lock t =
       let fit = subst (λ (k : RowIs). leaf_fits k lock t.taken) same_row t.fit in
       met leaf_fits row lock (name_is.Leaf lock) Did old new r r' t fit.0 (ap name_of (ap part_in fit.2) ∙ ap name_is.Leaf fit.1) (told t.taken t.left t.did)
 
-  pub book_met : MadeTurn book_fits seen 0 Did old new → Met row 0 name_is.Book old new r r'
+  pub book_met : MadeTurn book_fits shown 0 Did old new → Met row 0 name_is.Book old new r r'
   book_met t =
       let fit = subst (λ (k : RowIs). book_fits k 0 t.taken) same_row t.fit in
       met book_fits row 0 name_is.Book Did old new r r' t fit.0 (ap name_of (ap part_in fit.1)) (told t.taken t.left t.did)

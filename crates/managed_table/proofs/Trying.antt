@@ -11,7 +11,7 @@ use Rattle.root_row.specs.Views.{book_of, count_of}
 use Rattle.root_row.specs.Steps.{LeafAnswered, leaf_call}
 use Rattle.root_row.specs.BookSteps.{BookAnswered, book_call}
 use Rattle.managed_table.specs.declared.view.Pass.{Pass}
-use Rattle.managed_table.specs.Kept.{seen, leaf_fits, book_fits}
+use Rattle.managed_table.specs.Kept.{shown, leaf_fits, book_fits}
 use Rattle.managed_table.specs.Turns.{MadeTurn, MadeOneCall, MadeNoCall}
 use Rattle.managed_table.specs.Shown.{HoldsSoOften}
 use Rattle.managed_table.specs.Callers.{ManagedIs, CallerIs, IsCallerOf, LeafMissed, BookMissed}
@@ -23,10 +23,10 @@ module _ (table : ManagedIs) (before after : CallerIs) (own : IsCallerOf table b
   is_of y = subst (λ (k : RowIs). IsOf k y) (sym own.1)
 
   abbrev BookTurned : {R : Type 0} → (R → Seated → Seated → Type 0) → Option R → Type 0
-  BookTurned {R} Did o = MatchOption o (BookMissed tries before after) (λ r. MadeTurn book_fits seen 0 (Did r) before.book.pass after.book.pass)
+  BookTurned {R} Did o = MatchOption o (BookMissed tries before after) (λ r. MadeTurn book_fits shown 0 (Did r) before.book.pass after.book.pass)
 
   abbrev LeafTurned : {R : Type 0} → ℕ → (R → Seated → Seated → Type 0) → Option R → Type 0
-  LeafTurned {R} worker Did o = MatchOption o (LeafMissed worker tries before after) (λ r. MadeTurn leaf_fits seen worker (Did r) before.leaves.pass after.leaves.pass)
+  LeafTurned {R} worker Did o = MatchOption o (LeafMissed worker tries before after) (λ r. MadeTurn leaf_fits shown worker (Did r) before.leaves.pass after.leaves.pass)
 
   pub book_tried : {R : Type 0} (slot : ℕ) (kind : BookCall) (reply : R → Reply) (Did : R → Seated → Seated → Type 0) (o : Option R) → BookTurned Did o
       → ((r : R) (x y : Seated) → Did r x y → IsOf table.row y × BookAnswered x.view slot kind (reply r) y.view)
@@ -72,7 +72,7 @@ module _ (table : ManagedIs) (before after : CallerIs) (own : IsCallerOf table b
 
 -- a get that was given up at the lock, or at the module's word, or was answered
 module _ {R : Type 0} (row : RowIs) (worker slot : ℕ) (old new : Pass) (same_row : old.row.value ≡ row) (Same : Type 0) (Did : Option R → Seated → Seated → Type 0) where
-  pub got : (reply : R → Reply) (o : Option (Option (Option R))) → IfSome o (λ p. MatchOption p Same (λ a. MadeTurn leaf_fits seen worker (Did a) old new))
+  pub got : (reply : R → Reply) (o : Option (Option (Option R))) → IfSome o (λ p. MatchOption p Same (λ a. MadeTurn leaf_fits shown worker (Did a) old new))
       → ((r : R) (x y : Seated) → Did (Some r) x y → IsOf row y × LeafAnswered x.view slot Get (reply r) y.view)
       → IfSome o (λ p. MatchOption p Same (λ a. IfSome a (λ r. MadeOneCall row worker (name_is.Leaf worker) (leaf_call Get worker slot) (reply r) old new)))
   got reply None t told = tt
@@ -81,7 +81,7 @@ module _ {R : Type 0} (row : RowIs) (worker slot : ℕ) (old new : Pass) (same_r
   got reply (Some (Some (Some r))) t told =
       let d = told r t.taken t.left t.did in leaf_call_made row worker slot (Did (Some r)) old new same_row t Get (reply r) d.0 d.1
 
-  pub missed : (o : Option (Option (Option R))) → IfSome o (λ p. MatchOption p Same (λ a. MadeTurn leaf_fits seen worker (Did a) old new))
+  pub missed : (o : Option (Option (Option R))) → IfSome o (λ p. MatchOption p Same (λ a. MadeTurn leaf_fits shown worker (Did a) old new))
       → ((x y : Seated) → Did None x y → KnowsTable x.view × (y.view ≡ x.view) × (count_of x.view slot ≡ 0))
       → IfSome o (λ p. IfSome p (λ a. IfNone a (MadeNoCall row worker (HoldsSoOften worker slot 0) old new)))
   missed None t told = tt

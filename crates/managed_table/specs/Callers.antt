@@ -10,7 +10,7 @@ use Rattle.root_row.specs.declared.view.SeatName.TheVariants as name_is
 use Rattle.root_row.specs.World.{slots}
 use Rattle.managed_table.specs.declared.view.Pass.{Pass}
 use Rattle.managed_table.specs.declared.view.Passes.{Passes}
-use Rattle.managed_table.specs.Kept.{seen, leaf_fits, book_fits}
+use Rattle.managed_table.specs.Kept.{shown, leaf_fits, book_fits}
 use Rattle.managed_table.specs.Turns.{pass_of, with_misses, MadeTurn, MadeOneCall, MadeNoCall}
 
 -- its row, and which tables of locks are its leaves' and its book's
@@ -58,11 +58,11 @@ BookMissed times old new = new ≡ record { leaves = old.leaves; book = past_mis
 
 -- through the caller, in one turn, this was done with the worker's leaf
 abbrev pub LeafTurned : ℕ → (Seated → Seated → Type 0) → CallerIs → CallerIs → Type 0
-LeafTurned worker Did old new = MadeTurn leaf_fits seen worker Did old.leaves.pass new.leaves.pass
+LeafTurned worker Did old new = MadeTurn leaf_fits shown worker Did old.leaves.pass new.leaves.pass
 
 -- or with the book
 abbrev pub BookTurned : (Seated → Seated → Type 0) → CallerIs → CallerIs → Type 0
-BookTurned Did old new = MadeTurn book_fits seen 0 Did old.book.pass new.book.pass
+BookTurned Did old new = MadeTurn book_fits shown 0 Did old.book.pass new.book.pass
 
 -- through the caller, in one turn, the worker's leaf made this one call, which was answered so
 abbrev pub LeafMade : ManagedIs → ℕ → Call → Reply → CallerIs → CallerIs → Type 0

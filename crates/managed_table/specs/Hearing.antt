@@ -2,6 +2,7 @@
 use Rattle.std.specs.Prelude.{◌≡◌, ℕ, List, [], ◌∷◌}
 use Rattle.dep_index.specs.History.{IsLegal}
 use Rattle.root_row.specs.declared.view.SeatAnswer.{SeatAnswer}
+use Rattle.root_row.specs.declared.view.AtomicStep.{AtomicStep}
 use Rattle.root_row.specs.declared.view.SeatName.TheVariants as name_is
 use Rattle.root_row.specs.declared.view.View.{View}
 use Rattle.root_row.specs.History.{SeatName, answers_in, own_answers, StartsWith}
@@ -12,13 +13,14 @@ use Rattle.managed_table.specs.Turns.{turn, with_turns, with_misses, Follows}
 use Rattle.managed_table.specs.Callers.{ManagedIs, CallerIs}
 
 -- The pass made one turn more, at this lock, which it had found taken so often. In it the seat behind the lock and a reader heard
--- of each other. Both have then seen one list. It is legal, begins with what each had seen, and has of each one's own calls just
--- those that it had
+-- of each other, by these steps of the seat. Both have then seen one list. It is legal, begins with what each had seen, and has of
+-- each one's own calls just those that it had
 pub record Met (row : RowIs) (lock : ℕ) (by : SeatName) (old new : Pass) (reader reader' : View) : Type 0 where
   pub missed : ℕ
   pub before : List SeatAnswer
   pub after : List SeatAnswer
-  pub turned : new ≡ with_turns (with_misses old lock missed) (turn lock before after ∷ [])
+  pub steps : List AtomicStep
+  pub turned : new ≡ with_turns (with_misses old lock missed) (turn lock before after steps ∷ [])
   pub follows : Follows old lock before
   pub begins : StartsWith after before
   pub tells : StartsWith after (seen_of reader)

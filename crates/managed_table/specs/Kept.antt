@@ -9,6 +9,10 @@ use Rattle.root_row.specs.Views.{seen_of, worker_of, IsLeaf, IsBook}
 abbrev pub seen : Seated → List SeatAnswer
 seen x = seen_of x.view
 
+-- a leaf, or the book, as contracts see it
+abbrev pub shown : Seated → Seated
+shown x = x
+
 abbrev pub leaf_name : ℕ → SeatName
 leaf_name lock = name_is.Leaf lock
 

@@ -5,7 +5,7 @@ use mathlib.Core.Option as core
 use lib.ListN.{get_elem?}
 use Rattle.atomic_table.specs.Table.{State}
 use Rattle.root_row.specs.declared.view.SeatAnswer.{SeatAnswer}
-use Rattle.root_row.specs.Seats.{RowIs}
+use Rattle.root_row.specs.Seats.{RowIs, Seated}
 use Rattle.root_row.specs.World.{place_of}
 use Rattle.root_row.specs.History.{SeatName, own_answers, StartsWith}
 use Rattle.managed_table.specs.declared.view.Turn.{Turn}
@@ -13,6 +13,7 @@ use Rattle.managed_table.specs.declared.view.Taken.{Taken}
 use Rattle.managed_table.specs.declared.view.Pass.{Pass}
 use Rattle.managed_table.specs.declared.view.Passes.{Passes}
 use Rattle.managed_table.specs.declared.rule.Setting.{Setting}
+use Rattle.managed_table.specs.Kept.{seen}
 use Rattle.managed_table.specs.Turns.{alone, new_pass, AreOrdered}
 
 -- how many calls the seat has made itself, in what was seen
@@ -92,18 +93,18 @@ pub record HasTurn (views : List Passes) (number k : ℕ) (turn : Turn) : Type 0
   pub there : get_elem? pass.turns k ≡ core.some turn
 
 -- the value behind the lock is at home, fits, and has seen this
-pub record IsHome {T : Type 0} (row : RowIs) (fits : RowIs → ℕ → T → Type 0) (seen : T → List SeatAnswer)
+pub record IsHome {T : Type 0} (row : RowIs) (fits : RowIs → ℕ → T → Type 0) (shown : T → Seated)
     (homes : List (core.Option T)) (lock : ℕ) (log : List SeatAnswer) : Type 0 where
   pub value : T
   pub at : get_elem? homes lock ≡ core.some (core.some value)
   pub fit : fits row lock value
-  pub saw : seen value ≡ log
+  pub saw : seen (shown value) ≡ log
 
 pub record LocksRule {T : Type 0} (row : RowIs) (locks : ℕ) (by : ℕ → SeatName) (fits : RowIs → ℕ → T → Type 0)
-    (seen : T → List SeatAnswer) (s : State T Passes) : Type 0 where
+    (shown : T → Seated) (s : State T Passes) : Type 0 where
   pub accounts : Accounts
   pub wide : length s.words ≡ place_of locks
-  pub free : (lock : ℕ) → lock < locks → slice_index s.words (place_of lock) ≡ 0 → IsHome row fits seen s.homes lock (accounts.logs lock)
+  pub free : (lock : ℕ) → lock < locks → slice_index s.words (place_of lock) ≡ 0 → IsHome row fits shown s.homes lock (accounts.logs lock)
   pub shut : (lock : ℕ) → lock < locks → slice_index s.words (place_of lock) ≢ 0 → IsShut accounts.owner s.views lock
   pub passes : (z : Place) (p : Pass) → pass_at s.views z ≡ core.some p → FitsPass row locks by accounts s.words z p
   pub made : (lock k : ℕ) → lock < locks → k < count (by lock) (accounts.logs lock) → IsMade by accounts.owner (accounts.who lock k) s.views lock k
@@ -114,5 +115,5 @@ abbrev pub first_view : Setting → Passes
 first_view setting = alone (new_pass setting.row.value 0)
 
 -- each value fits its place, and has seen nothing
-abbrev pub AreFresh : {T : Type 0} → (RowIs → ℕ → T → Type 0) → (T → List SeatAnswer) → RowIs → List T → Type 0
-AreFresh {T} fits seen row xs = (lock : ℕ) → lock < length xs → (x : T) × (get_elem? xs lock ≡ core.some x) × fits row lock x × (seen x ≡ [])
+abbrev pub AreFresh : {T : Type 0} → (RowIs → ℕ → T → Type 0) → (T → Seated) → RowIs → List T → Type 0
+AreFresh {T} fits shown row xs = (lock : ℕ) → lock < length xs → (x : T) × (get_elem? xs lock ≡ core.some x) × fits row lock x × (seen (shown x) ≡ [])

@@ -1,10 +1,10 @@
 -- A caller alone, without its table, and a teller.
-use Rattle.std.specs.Prelude.{◌≡◌, ◌<◌, ◌≤◌, ◌⊎◌, ℕ, [], Option, Some, None, MatchOption}
+use Rattle.std.specs.Prelude.{◌≡◌, ◌<◌, ◌≤◌, ◌⊎◌, ℕ, Option, Some, None, MatchOption}
 use Rattle.dep_index.specs.Table.{Table}
 use Rattle.root_row.specs.Seats.{RowIs, Seated}
 use Rattle.root_row.specs.World.{slots}
 use Rattle.managed_table.specs.Callers.{CallerIs}
-use Rattle.managed_table.specs.Turns.{no_row}
+use Rattle.managed_table.specs.Turns.{no_seat}
 use Rattle.managed_table.specs.Shown.{HasLoadedAt, HasNoneAt}
 
 abbrev pub row_of : CallerIs → RowIs
@@ -30,7 +30,7 @@ Has place found table = MatchOption found (HasNoneAt place table) (λ slot. HasL
 
 -- a teller's reader; it has none while it is in a call
 abbrev pub reader_in : Option Seated → Seated
-reader_in None = record { row = no_row.id; view = record { world = no_row.world; members = [] }; steps = [] }
+reader_in None = no_seat
 reader_in (Some reader) = reader
 
 -- neither the caller nor the teller was changed

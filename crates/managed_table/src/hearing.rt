@@ -8,7 +8,7 @@ impl ManagedTable {
     ghost use Rattle.std.specs.Prelude.{◌≡◌, ◌<◌, MatchBool};
     ghost use Rattle.std.specs.Fn.{FnOnceReturnsAtMut};
     ghost use Rattle.root_row.specs.Seats.{IsOf};
-    ghost use Rattle.managed_table.specs.Kept.{seen, leaf_fits};
+    ghost use Rattle.managed_table.specs.Kept.{shown, leaf_fits};
     ghost use Rattle.managed_table.specs.Passes.{MayActOn};
     ghost use Rattle.managed_table.specs.Callers.{IsCallerOf, LeafMissed, BookMissed, LeafTurned};
     ghost use Rattle.managed_table.specs.Hearing.{LeafMet, BookMet};
@@ -112,7 +112,7 @@ impl ManagedTable {
     ) -> A
         requires own { IsCallerOf self.now caller.old }
         requires inside { worker < self.now.row.world.workers }
-        requires may { MayActOn F.FnOnce leaf_fits seen self.now.row worker act }
+        requires may { MayActOn F.FnOnce leaf_fits shown self.now.row worker act }
         ensures own { IsCallerOf self.now caller.new }
         ensures turn { LeafTurned worker (λ x y. FnOnceReturnsAtMut F.FnOnce act x result y) caller.old caller.new }
         ensures book { caller.new.book ≡ caller.old.book }

@@ -37,7 +37,7 @@ pub struct Locks<T: Keyed> {
 impl<T: Keyed + Drop> Locks<T> {
     pub fn new(alloc: Global, row: &Row, values: Vec<T>) -> Result<Locks<T>, AllocError>
         requires few { length values.items < 4294967296 }
-        requires fresh { AreFresh T.fits T.seen row.now values.items }
+        requires fresh { AreFresh T.fits T.shown row.now values.items }
         ensures row { IfOk result (λ r. r.table.shared.key.row.value ≡ row.now) }
         ensures count { IfOk result (λ r. r.table.shared.key.locks ≡ length values.items) }
     {
@@ -73,7 +73,7 @@ impl<T: Keyed + Drop> Locks<T> {
         requires inside { lock < self.now.table.shared.key.locks }
         requires free { IsFree self.now.table.shared.table_id self.now.table.shared.key.row.value seat.old }
         ensures id { seat.new.table_id ≡ seat.old.table_id }
-        ensures told { MatchBool result (HasTaken T.fits T.seen lock (pass_of seat.old.me.0) seat.new.me) (Misses lock 1 seat.old.me seat.new.me) }
+        ensures told { MatchBool result (HasTaken T.fits T.shown lock [] (pass_of seat.old.me.0) seat.new.me) (Misses lock 1 seat.old.me seat.new.me) }
     {
         let shared = &self.table.shared;
         shared.compare_exchange::<Seize<T>>(seat, (lock + 1) * WORDS_APART, FREE, HELD) == FREE
@@ -84,7 +84,7 @@ impl<T: Keyed + Drop> Locks<T> {
         requires inside { lock < self.now.table.shared.key.locks }
         requires free { IsFree self.now.table.shared.table_id self.now.table.shared.key.row.value seat.old }
         ensures id { seat.new.table_id ≡ seat.old.table_id }
-        ensures told { MatchBool result (HasTaken T.fits T.seen lock (pass_of seat.old.me.0) seat.new.me) (Misses lock 1 seat.old.me seat.new.me) }
+        ensures told { MatchBool result (HasTaken T.fits T.shown lock [] (pass_of seat.old.me.0) seat.new.me) (Misses lock 1 seat.old.me seat.new.me) }
     {
         let shared = &self.table.shared;
         shared.swap::<Seize<T>>(seat, (lock + 1) * WORDS_APART, WAITED_FOR) == FREE
@@ -96,7 +96,7 @@ impl<T: Keyed + Drop> Locks<T> {
         requires inside { lock < self.now.table.shared.key.locks }
         requires free { IsFree self.now.table.shared.table_id self.now.table.shared.key.row.value seat.old }
         ensures id { seat.new.table_id ≡ seat.old.table_id }
-        ensures taken { HasTaken T.fits T.seen lock (pass_of seat.old.me.0) seat.new.me }
+        ensures taken { HasTaken T.fits T.shown lock [] (pass_of seat.old.me.0) seat.new.me }
     {
         if !self.try_take(seat, lock) {
             self.wait_for(rt, seat, lock);
@@ -109,7 +109,7 @@ impl<T: Keyed + Drop> Locks<T> {
         requires inside { lock < self.now.table.shared.key.locks }
         requires free { IsFree self.now.table.shared.table_id self.now.table.shared.key.row.value seat.old }
         ensures id { seat.new.table_id ≡ seat.old.table_id }
-        ensures taken { HasTaken T.fits T.seen lock (pass_of seat.old.me.0) seat.new.me }
+        ensures taken { HasTaken T.fits T.shown lock [] (pass_of seat.old.me.0) seat.new.me }
     {
         for _ in rt.forever() {
             if self.mark(seat, lock) {
@@ -144,9 +144,9 @@ impl<T: Keyed + Drop> Locks<T> {
         requires inside { lock < self.now.table.shared.key.locks }
         requires id { seat.old.table_id ≡ self.now.table.shared.table_id }
         requires row { (pass_of seat.old.me.0).row.value ≡ self.now.table.shared.key.row.value }
-        requires holds { HasInHand T.fits T.seen lock (pass_of seat.old.me.0) seat.old.me }
+        requires holds { HasInHand T.fits T.shown lock (pass_of seat.old.me.0) seat.old.me }
         ensures id { seat.new.table_id ≡ seat.old.table_id }
-        ensures told { MatchBool result ((seat.new.me.0 ≡ after_turn T.seen seat.old.me) × (seat.new.me.1 ≡ [])) (IsSame seat.old.me seat.new.me) }
+        ensures told { MatchBool result ((seat.new.me.0 ≡ after_turn T.shown seat.old.me) × (seat.new.me.1 ≡ [])) (IsSame seat.old.me seat.new.me) }
     {
         let shared = &self.table.shared;
         shared.fetch_sub::<LetGo<T>>(seat, (lock + 1) * WORDS_APART, HELD) == HELD
@@ -158,9 +158,9 @@ impl<T: Keyed + Drop> Locks<T> {
         requires inside { lock < self.now.table.shared.key.locks }
         requires id { seat.old.table_id ≡ self.now.table.shared.table_id }
         requires row { (pass_of seat.old.me.0).row.value ≡ self.now.table.shared.key.row.value }
-        requires holds { HasInHand T.fits T.seen lock (pass_of seat.old.me.0) seat.old.me }
+        requires holds { HasInHand T.fits T.shown lock (pass_of seat.old.me.0) seat.old.me }
         ensures free { IsFree self.now.table.shared.table_id self.now.table.shared.key.row.value seat.new }
-        ensures turn { seat.new.me.0 ≡ after_turn T.seen seat.old.me }
+        ensures turn { seat.new.me.0 ≡ after_turn T.shown seat.old.me }
     {
         if !self.try_let_go(seat, lock) {
             self.hand_on(seat, lock);
@@ -174,9 +174,9 @@ impl<T: Keyed + Drop> Locks<T> {
         requires inside { lock < self.now.table.shared.key.locks }
         requires id { seat.old.table_id ≡ self.now.table.shared.table_id }
         requires row { (pass_of seat.old.me.0).row.value ≡ self.now.table.shared.key.row.value }
-        requires holds { HasInHand T.fits T.seen lock (pass_of seat.old.me.0) seat.old.me }
+        requires holds { HasInHand T.fits T.shown lock (pass_of seat.old.me.0) seat.old.me }
         ensures free { IsFree self.now.table.shared.table_id self.now.table.shared.key.row.value seat.new }
-        ensures turn { seat.new.me.0 ≡ after_turn T.seen seat.old.me }
+        ensures turn { seat.new.me.0 ≡ after_turn T.shown seat.old.me }
     {
         self.let_go(seat, lock);
         self.table.shared.wake_one((lock + 1) * WORDS_APART);
@@ -193,9 +193,9 @@ impl<T: Keyed + Drop> Locks<T> {
     ) -> A
         requires inside { lock < self.now.table.shared.key.locks }
         requires free { IsFree self.now.table.shared.table_id self.now.table.shared.key.row.value seat.old }
-        requires may { MayActOn F.FnOnce T.fits T.seen self.now.table.shared.key.row.value lock act }
+        requires may { MayActOn F.FnOnce T.fits T.shown self.now.table.shared.key.row.value lock act }
         ensures free { IsFree self.now.table.shared.table_id self.now.table.shared.key.row.value seat.new }
-        ensures turn { MadeTurn T.fits T.seen lock (λ x y. FnOnceReturnsAtMut F.FnOnce act x result y) (pass_of seat.old.me.0) (pass_of seat.new.me.0) }
+        ensures turn { MadeTurn T.fits T.shown lock (λ x y. FnOnceReturnsAtMut F.FnOnce act x result y) (pass_of seat.old.me.0) (pass_of seat.new.me.0) }
     {
         self.take(rt, seat, lock);
         let answer = self.lend(seat, lock, act);

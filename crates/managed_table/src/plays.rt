@@ -11,7 +11,7 @@ pub(crate) struct Seize<T> {
 impl<T: Keyed> Play<T, Passes> for Seize<T> {
     ghost use Rattle.managed_table.specs.Turns.{Seizes};
 
-    ghost then = { Seizes T.fits T.seen };
+    ghost then = { Seizes T.fits T.shown };
 }
 
 /// A look at a lock's word, which shows whether the lock is taken.
@@ -30,7 +30,7 @@ pub(crate) struct Release<T> {
 impl<T: Keyed> Play<T, Passes> for Release<T> {
     ghost use Rattle.managed_table.specs.Turns.{Releases};
 
-    ghost then = { Releases T.seen };
+    ghost then = { Releases T.shown };
 }
 
 /// The turn is over where nobody waits for the lock.
@@ -41,7 +41,7 @@ pub(crate) struct LetGo<T> {
 impl<T: Keyed> Play<T, Passes> for LetGo<T> {
     ghost use Rattle.managed_table.specs.Turns.{LetsGo};
 
-    ghost then = { LetsGo T.seen };
+    ghost then = { LetsGo T.shown };
 }
 
 pub(crate) struct Enter;

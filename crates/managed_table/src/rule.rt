@@ -21,7 +21,7 @@ pub struct OneTurn<T> {
 impl<T: Keyed> TableRule<T, Passes, Setting> for OneTurn<T> {
     ghost use Rattle.managed_table.specs.Locks.{LocksRule, first_view};
 
-    ghost holds = { λ setting. LocksRule setting.row.value setting.locks T.by T.fits T.seen };
+    ghost holds = { λ setting. LocksRule setting.row.value setting.locks T.by T.fits T.shown };
 
     ghost first = { first_view };
 }

@@ -56,7 +56,7 @@ impl ManagedTable {
     ghost use Rattle.root_row.specs.Made.{new_reader, AreNew};
     ghost use Rattle.root_row.specs.Seats.{IsOf};
     ghost use Rattle.root_row.specs.Steps.{ReaderAnswered};
-    ghost use Rattle.managed_table.specs.Kept.{seen, leaf_fits, book_fits};
+    ghost use Rattle.managed_table.specs.Kept.{shown, leaf_fits, book_fits};
     ghost use Rattle.managed_table.specs.Passes.{MayActOn};
     ghost use Rattle.managed_table.specs.Callers.{IsCallerOf, IsInside, IsOutside, LeafTurned, BookTurned};
 
@@ -129,7 +129,7 @@ impl ManagedTable {
         act: F,
     ) -> Option<A>
         requires own { IsCallerOf self.now caller.old }
-        requires may { slot < slots self.now.row.world → MayActOn F.FnOnce leaf_fits seen self.now.row worker act }
+        requires may { slot < slots self.now.row.world → MayActOn F.FnOnce leaf_fits shown self.now.row worker act }
         ensures own { IsCallerOf self.now caller.new }
         ensures range { MatchOption result (IsOutside self.now worker slot × (caller.new ≡ caller.old)) (λ _. IsInside self.now worker slot) }
         ensures turn { IfSome result (λ r. LeafTurned worker (λ x y. FnOnceReturnsAtMut F.FnOnce act x r y) caller.old caller.new) }
@@ -156,7 +156,7 @@ impl ManagedTable {
         act: F,
     ) -> A
         requires own { IsCallerOf self.now caller.old }
-        requires may { MayActOn F.FnOnce book_fits seen self.now.row 0 act }
+        requires may { MayActOn F.FnOnce book_fits shown self.now.row 0 act }
         ensures own { IsCallerOf self.now caller.new }
         ensures turn { BookTurned (λ x y. FnOnceReturnsAtMut F.FnOnce act x result y) caller.old caller.new }
         ensures leaves { caller.new.leaves ≡ caller.old.leaves }

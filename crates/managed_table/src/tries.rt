@@ -1,11 +1,11 @@
 //! Turns that are given up where the lock is taken.
-ghost use Rattle.std.specs.Prelude.{◌≡◌, ◌<◌, ◌≤◌, ◌⊎◌, IfSome, IfNone, MatchBool, MatchOption};
+ghost use Rattle.std.specs.Prelude.{◌≡◌, ◌<◌, ◌≤◌, ◌⊎◌, [], IfSome, IfNone, MatchBool, MatchOption};
 ghost use Rattle.std.specs.Fn.{FnOnceReturnsAtMut};
 ghost use Rattle.dep_index.specs.Refusals.{reply_of, get_refusal};
 ghost use Rattle.root_row.specs.World.{slots};
 ghost use Rattle.root_row.specs.declared.view.SeatName.TheVariants as name_is;
-ghost use Rattle.managed_table.specs.Kept.{seen, leaf_fits, book_fits};
-ghost use Rattle.managed_table.specs.Turns.{HasTaken, IsSame, Misses, MadeTurn, MadeOneCall, MadeNoCall, alone, pass_of, with_misses, with_turns, turn_of, seen_in_hand};
+ghost use Rattle.managed_table.specs.Kept.{shown, leaf_fits, book_fits};
+ghost use Rattle.managed_table.specs.Turns.{HasTaken, IsSame, Misses, MadeTurn, MadeOneCall, MadeNoCall, alone, pass_of, with_misses, with_turns, turn_of, shown_in_hand};
 ghost use Rattle.managed_table.specs.Passes.{IsFree, HasInHand, MayActOn};
 ghost use Rattle.managed_table.specs.Shown.{HoldsSoOften};
 ghost use Rattle.managed_table.specs.Callers.{IsCallerOf, LeafMissed, BookMissed, LeafTurned};
@@ -41,7 +41,7 @@ impl<T: Keyed + Drop> Locks<T> {
         requires inside { lock < self.now.table.shared.key.locks }
         requires free { IsFree self.now.table.shared.table_id self.now.table.shared.key.row.value seat.old }
         ensures id { seat.new.table_id ≡ seat.old.table_id }
-        ensures told { MatchBool result (HasTaken T.fits T.seen lock (pass_of seat.old.me.0) seat.new.me) (Misses lock 1 seat.old.me seat.new.me) }
+        ensures told { MatchBool result (HasTaken T.fits T.shown lock [] (pass_of seat.old.me.0) seat.new.me) (Misses lock 1 seat.old.me seat.new.me) }
     {
         if !self.is_free(seat, lock) {
             return false;
@@ -55,7 +55,7 @@ impl<T: Keyed + Drop> Locks<T> {
         requires inside { lock < self.now.table.shared.key.locks }
         requires free { IsFree self.now.table.shared.table_id self.now.table.shared.key.row.value seat.old }
         ensures id { seat.new.table_id ≡ seat.old.table_id }
-        ensures told { MatchBool result (HasTaken T.fits T.seen lock (pass_of seat.old.me.0) seat.new.me) (Misses lock tries seat.old.me seat.new.me) }
+        ensures told { MatchBool result (HasTaken T.fits T.shown lock [] (pass_of seat.old.me.0) seat.new.me) (Misses lock tries seat.old.me seat.new.me) }
     {
         for _ in 0..tries {
             if self.take_free(seat, lock) {
@@ -71,9 +71,9 @@ impl<T: Keyed + Drop> Locks<T> {
         requires inside { lock < self.now.table.shared.key.locks }
         requires id { seat.old.table_id ≡ self.now.table.shared.table_id }
         requires row { (pass_of seat.old.me.0).row.value ≡ self.now.table.shared.key.row.value }
-        requires holds { HasInHand T.fits T.seen lock (pass_of seat.old.me.0) seat.old.me }
+        requires holds { HasInHand T.fits T.shown lock (pass_of seat.old.me.0) seat.old.me }
         ensures free { IsFree self.now.table.shared.table_id self.now.table.shared.key.row.value seat.new }
-        ensures turn { seat.new.me.0 ≡ alone (with_turns (pass_of seat.old.me.0) (turn_of (pass_of seat.old.me.0).taken (seen_in_hand T.seen seat.old.me.1))) }
+        ensures turn { seat.new.me.0 ≡ alone (with_turns (pass_of seat.old.me.0) (turn_of (pass_of seat.old.me.0).taken (shown_in_hand T.shown seat.old.me.1))) }
     {
         let shared = &self.table.shared;
         shared.swap::<Release<T>>(seat, (lock + 1) * WORDS_APART, FREE);
@@ -91,9 +91,9 @@ impl<T: Keyed + Drop> Locks<T> {
     ) -> Option<A>
         requires inside { lock < self.now.table.shared.key.locks }
         requires free { IsFree self.now.table.shared.table_id self.now.table.shared.key.row.value seat.old }
-        requires may { MayActOn F.FnOnce T.fits T.seen self.now.table.shared.key.row.value lock act }
+        requires may { MayActOn F.FnOnce T.fits T.shown self.now.table.shared.key.row.value lock act }
         ensures free { IsFree self.now.table.shared.table_id self.now.table.shared.key.row.value seat.new }
-        ensures turn { MatchOption result (seat.new.me.0 ≡ alone (with_misses (pass_of seat.old.me.0) lock tries)) (λ r. MadeTurn T.fits T.seen lock (λ x y. FnOnceReturnsAtMut F.FnOnce act x r y) (pass_of seat.old.me.0) (pass_of seat.new.me.0)) }
+        ensures turn { MatchOption result (seat.new.me.0 ≡ alone (with_misses (pass_of seat.old.me.0) lock tries)) (λ r. MadeTurn T.fits T.shown lock (λ x y. FnOnceReturnsAtMut F.FnOnce act x r y) (pass_of seat.old.me.0) (pass_of seat.new.me.0)) }
     {
         if !self.take_within(seat, lock, tries) {
             return None;
@@ -141,10 +141,10 @@ impl ManagedTable {
         act: F,
     ) -> Option<Option<A>>
         requires own { IsCallerOf self.now caller.old }
-        requires may { slot < slots self.now.row.world → MayActOn F.FnOnce leaf_fits seen self.now.row worker act }
+        requires may { slot < slots self.now.row.world → MayActOn F.FnOnce leaf_fits shown self.now.row worker act }
         ensures own { IsCallerOf self.now caller.new }
         ensures range { MatchOption result (((self.now.row.world.workers ≤ worker) ⊎ (slots self.now.row.world ≤ slot)) × (caller.new ≡ caller.old)) (λ _. (worker < self.now.row.world.workers) × (slot < slots self.now.row.world)) }
-        ensures turn { IfSome result (λ o. MatchOption o (LeafMissed worker tries caller.old caller.new) (λ r. MadeTurn leaf_fits seen worker (λ x y. FnOnceReturnsAtMut F.FnOnce act x r y) caller.old.leaves.pass caller.new.leaves.pass)) }
+        ensures turn { IfSome result (λ o. MatchOption o (LeafMissed worker tries caller.old caller.new) (λ r. MadeTurn leaf_fits shown worker (λ x y. FnOnceReturnsAtMut F.FnOnce act x r y) caller.old.leaves.pass caller.new.leaves.pass)) }
         ensures book { caller.new.book ≡ caller.old.book }
     {
         if worker >= self.leaves.count() || slot >= self.row.slots() {
@@ -162,9 +162,9 @@ impl ManagedTable {
         act: F,
     ) -> Option<A>
         requires own { IsCallerOf self.now caller.old }
-        requires may { MayActOn F.FnOnce book_fits seen self.now.row 0 act }
+        requires may { MayActOn F.FnOnce book_fits shown self.now.row 0 act }
         ensures own { IsCallerOf self.now caller.new }
-        ensures turn { MatchOption result (BookMissed tries caller.old caller.new) (λ r. MadeTurn book_fits seen 0 (λ x y. FnOnceReturnsAtMut F.FnOnce act x r y) caller.old.book.pass caller.new.book.pass) }
+        ensures turn { MatchOption result (BookMissed tries caller.old caller.new) (λ r. MadeTurn book_fits shown 0 (λ x y. FnOnceReturnsAtMut F.FnOnce act x r y) caller.old.book.pass caller.new.book.pass) }
         ensures leaves { caller.new.leaves ≡ caller.old.leaves }
     {
         self.book.try_turn(&mut caller.book, 0, tries, act)

@@ -1,20 +1,22 @@
 //! What a caller's passes know, as plain data. No value of these types is made.
 use root_row::Row;
-use root_row::view::SeatAnswer;
+use root_row::view::{AtomicStep, SeatAnswer};
 use std::collections::LinkedList;
 use std::snapshot::Snapshot;
 
-/// A lock was taken and let go once: what the seat behind it had seen then, and then.
+/// A lock was taken and let go once: what the seat behind it had seen then, and then, and the steps that it made between.
 pub struct Turn {
     pub lock: usize,
     pub before: LinkedList<SeatAnswer>,
     pub after: LinkedList<SeatAnswer>,
+    pub steps: LinkedList<AtomicStep>,
 }
 
-/// The lock that a pass has taken, and what the seat behind it had seen.
+/// The lock that a pass has taken, what the seat behind it had seen, and the steps that it had made.
 pub struct Taken {
     pub lock: usize,
     pub before: LinkedList<SeatAnswer>,
+    pub steps: LinkedList<AtomicStep>,
 }
 
 /// The row that the locks are of, and the pass's number. The lock that it has taken, and its turns, the oldest first. And the

@@ -9,5 +9,5 @@ swap-requires g c =
     let h = c.requires.holds in (
       c.requires.id,
       omega arith,
-      releases _ _ _ _ _ _ _ _ h.view c.args.lock h.value h.before h.hand h.has h.fit h.grows c.args.self.now.slots_are,
+      releases _ _ _ _ _ _ _ _ h.view c.args.lock h.value h.before h.steps h.hand h.has h.fit h.grows c.args.self.now.slots_are,
     )

@@ -9,7 +9,7 @@ fetch_sub-requires g c =
     let h = c.requires.holds in (
       c.requires.id,
       omega arith,
-      drops _ _ _ _ _ _ _ _ h.view c.args.lock h.value h.before h.hand h.has h.fit h.grows c.args.self.now.slots_are,
+      drops _ _ _ _ _ _ _ _ h.view c.args.lock h.value h.before h.steps h.hand h.has h.fit h.grows c.args.self.now.slots_are,
     )
 
 pub returns-clause-told : goal.returns-clause-told
