@@ -6,7 +6,8 @@ use Rattle.dep_index.specs.declared.calls.Reply.{Reply}
 use Rattle.dep_index.specs.Table.{Module, Table}
 use Rattle.root_row.specs.World.{slots}
 use Rattle.root_row.specs.declared.view.SeatName.TheVariants as name_is
-use Rattle.managed_table.specs.Callers.{CallerIs, LeafMissed, BookMissed}
+use Rattle.managed_table.specs.Callers.{CallerIs, LeafMissed, BookMissed, LeafTurned}
+use Rattle.managed_table.specs.Tries.{GaveUp}
 use Rattle.managed_table.specs.Turns.{MadeOneCall, MadeNoCall}
 use Rattle.managed_table.specs.Shown.{HoldsSoOften, IsInState, HasLoaded, HasLoadedAt, HasNoneAt}
 use Rattle.managed_table.specs.Owned.{row_of, SameTable, IsBeyond, IsWithin}
@@ -40,9 +41,11 @@ LeafCallEnded before worker slot tries call number after =
     MatchBool (number == out_of_range) (IsBeyond before worker slot × (after ≡ before))
     (IsWithin before worker slot × MatchBool (number == busy) (LeafMissed worker tries before after) (MatchOption (reply_at number 0) ⊥ (LeafMade before worker call after)))
 
--- a get that was busy: the lock was found taken at each try, or each try of the module's word was missed, and no call was made
+-- a get that was busy: the lock was found taken at each try, or the leaf gave up after so many tries of the module's word, and made no call
 abbrev pub GetMissed : CallerIs → ℕ → ℕ → ℕ → CallerIs → Type 0
-GetMissed before worker slot tries after = LeafMissed worker tries before after ⊎ LeafShown before worker (HoldsSoOften worker slot 0) after
+GetMissed before worker slot tries after =
+    LeafMissed worker tries before after
+    ⊎ (LeafShown before worker (HoldsSoOften worker slot 0) after × LeafTurned worker (GaveUp tries slot) before after)
 
 abbrev pub GetCallEnded : CallerIs → ℕ → ℕ → ℕ → ℕ → CallerIs → Type 0
 GetCallEnded before worker slot tries number after =
