@@ -54,20 +54,16 @@ impl Told<'_> {
         }
     }
 
-    fn begin_each(&mut self, tasks: &mut Tasks, objects: &[Object]) -> Result<(), AllocError> {
-        for object in objects {
-            self.begin(tasks, object)?;
-        }
-        Ok(())
-    }
-
     /// Tells why a name of the command line stands for modules, and begins with them.
     fn begin_word(&mut self, tasks: &mut Tasks, word: &[u8]) -> Result<(), AllocError> {
         let objects = self.tell_word(word)?;
         if objects.is_empty() {
             return self.tell_near(word);
         }
-        self.begin_each(tasks, &objects)
+        for object in &objects {
+            self.begin(tasks, object)?;
+        }
+        Ok(())
     }
 
     fn begin_words(&mut self, tasks: &mut Tasks) -> Result<(), AllocError> {
@@ -88,7 +84,7 @@ impl Told<'_> {
         if task.needs {
             self.tell_needs(tasks, &task.name)
         } else {
-            self.tell_own(tasks, &task.name, task.alias(), is_bare)
+            self.tell_own(tasks, &task.name, task.alias.as_deref(), is_bare)
         }
     }
 
@@ -96,7 +92,7 @@ impl Told<'_> {
     fn tell_tasks(&mut self, tasks: &mut Tasks, first: usize) -> Result<(), AllocError> {
         let is_bare = self.known.query.ignore_commands;
         for at in 0..usize::MAX {
-            let Some(task) = tasks.copy_at(self.alloc, at)? else {
+            let Some(task) = tasks.copy_at(at)? else {
                 return Ok(());
             };
             self.tell_task(tasks, &task, at < first && is_bare)?;
@@ -104,17 +100,12 @@ impl Told<'_> {
         Ok(())
     }
 
-    /// Begins with the words of the query, and tells what is to be told.
-    fn tell_from_words(&mut self, tasks: &mut Tasks) -> Result<(), AllocError> {
-        self.begin_words(tasks)?;
-        let first = tasks.len();
-        self.tell_tasks(tasks, first)
-    }
-
     /// Tells why the words of the query are answered as they are.
     fn tell_words(&mut self) -> Result<(), AllocError> {
         let mut tasks = Tasks::new(self.alloc);
-        self.tell_from_words(&mut tasks)
+        self.begin_words(&mut tasks)?;
+        let first = tasks.len();
+        self.tell_tasks(&mut tasks, first)
     }
 
     fn tell_all(&mut self) -> Result<(), AllocError> {
@@ -149,7 +140,7 @@ fn explained<'a>(
 }
 
 /// Why a query of a world is answered as it is, in lines for people. Control characters of names and texts are shown as
-/// question marks. Only want of memory refuses.
+/// question marks. It fails only if memory runs out.
 pub fn explanation(
     alloc: Global,
     sources: &Sources<'_>,

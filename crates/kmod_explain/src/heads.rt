@@ -12,16 +12,10 @@ pub(crate) struct Head<'a> {
 }
 
 /// The heads of lines, in the order of the texts.
+#[derive(Drop)]
 pub(crate) struct Heads<'a> {
     all: Vec<Head<'a>>,
     numbers: KeyPlaces,
-}
-
-// A derived one would be written out wherever lines are dropped.
-impl Drop for Heads<'_> {
-    fn drop(self) {
-        let Heads { all: _, numbers: _ } = self;
-    }
 }
 
 impl<'a> Heads<'a> {
@@ -83,17 +77,11 @@ impl<'a> Heads<'a> {
 
     /// The place of the line of a number.
     pub(crate) fn place(&self, number: usize) -> Option<Place> {
-        match self.all.get(number) {
-            Some(head) => Some(head.place),
-            None => None,
-        }
+        self.all.get(number).map(|head| head.place)
     }
 
     /// Whether a line has a name that no earlier one has.
     pub(crate) fn is_first(&self, number: usize, name: &[u8]) -> bool {
-        match self.numbers.of(name).first() {
-            Some(first) => *first == number,
-            None => false,
-        }
+        self.numbers.of(name).first() == Some(&number)
     }
 }

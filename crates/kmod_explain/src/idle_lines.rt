@@ -8,13 +8,9 @@ use kmod_names::AliasEntry;
 use kmod_query::{Finding, find_name};
 use std::alloc::AllocError;
 
-fn is_mark(byte: &u8) -> bool {
-    matches!(*byte, b'*' | b'?' | b'[')
-}
-
 /// Whether a name holds a mark of a pattern.
 fn is_pattern(name: &[u8]) -> bool {
-    name.iter().any(is_mark)
+    name.iter().any(|byte| matches!(*byte, b'*' | b'?' | b'['))
 }
 
 impl Told<'_> {

@@ -13,10 +13,7 @@ pub(crate) struct Known<'a> {
 
 impl Known<'_> {
     pub(crate) fn is_live(&self, name: &[u8]) -> bool {
-        match self.world.states.of(name) {
-            Some(status) => status.state == ModuleState::Live,
-            None => false,
-        }
+        matches!(self.world.states.of(name), Some(status) if status.state == ModuleState::Live)
     }
 
     /// Whether the kernel has a module now.

@@ -21,9 +21,6 @@ pub struct Sources<'a> {
 impl<'a> Sources<'a> {
     /// The path of a text of the configuration; empty where none has this number.
     pub(crate) fn path(&self, number: usize) -> &'a [u8] {
-        match self.paths.get(number) {
-            Some(path) => *path,
-            None => b"",
-        }
+        self.paths.get(number).copied().unwrap_or(b"")
     }
 }

@@ -5,36 +5,17 @@ use kmod_query::Object;
 use std::alloc::{AllocError, Global};
 
 /// A module whose own lines are to be told, with the alias by which it came; or whose needs are.
-#[derive(Drop)]
+#[derive(Clone, PartialEq, Eq, Hash, Drop)]
 pub(crate) struct Task {
     pub(crate) name: Vec<u8>,
     pub(crate) alias: Option<Vec<u8>>,
     pub(crate) needs: bool,
 }
 
-impl Task {
-    pub(crate) fn alias(&self) -> Option<&[u8]> {
-        match &self.alias {
-            Some(alias) => Some(alias.as_slice()),
-            None => None,
-        }
-    }
-}
-
-/// The parts of a task, by which it is told from others.
-type Key = (Vec<u8>, Option<Vec<u8>>, bool);
-
-fn copy_alias(alloc: Global, alias: &Option<Vec<u8>>) -> Result<Option<Vec<u8>>, AllocError> {
-    match alias {
-        Some(alias) => Ok(Some(Vec::from_slice(alloc, alias)?)),
-        None => Ok(None),
-    }
-}
-
 /// Tasks in the order in which they came.
 #[derive(Drop)]
 pub(crate) struct Tasks {
-    all: IndexSet<Key>,
+    all: IndexSet<Task>,
     /// The words of softdep lines that were told, each with whether it stands for a module.
     words: IndexMap<Vec<u8>, bool>,
 }
@@ -58,9 +39,11 @@ impl Tasks {
         alias: &Option<Vec<u8>>,
         needs: bool,
     ) -> Result<(), AllocError> {
-        let alias = copy_alias(alloc, alias)?;
-        let name = Vec::from_slice(alloc, name)?;
-        self.all.insert((name, alias, needs))?;
+        self.all.insert(Task {
+            name: Vec::from_slice(alloc, name)?,
+            alias: alias.clone()?,
+            needs,
+        })?;
         Ok(())
     }
 
@@ -96,14 +79,7 @@ impl Tasks {
     }
 
     /// The task of a number, from 0.
-    pub(crate) fn copy_at(&self, alloc: Global, at: usize) -> Result<Option<Task>, AllocError> {
-        let Some((name, alias, needs)) = self.all.get_index(at) else {
-            return Ok(None);
-        };
-        Ok(Some(Task {
-            name: Vec::from_slice(alloc, name)?,
-            alias: copy_alias(alloc, alias)?,
-            needs: *needs,
-        }))
+    pub(crate) fn copy_at(&self, at: usize) -> Result<Option<Task>, AllocError> {
+        self.all.get_index(at).cloned()
     }
 }

@@ -38,15 +38,10 @@ pub(crate) struct Saying<'a> {
 impl<'a> Saying<'a> {
     /// Words alone.
     pub(crate) fn of(words: &'a [u8]) -> Saying<'a> {
-        Saying {
-            words,
-            name: b"",
-            more: b"",
-            text: b"",
-        }
+        Saying::with_name(words, b"")
     }
 
-    /// Words, and a name behind them.
+    /// Words, and a name after them.
     pub(crate) fn with_name(words: &'a [u8], name: &'a [u8]) -> Saying<'a> {
         Saying {
             words,
@@ -56,7 +51,7 @@ impl<'a> Saying<'a> {
         }
     }
 
-    /// These words, and then more, with a text behind them.
+    /// These words, and then more, with a text after them.
     pub(crate) fn and(self, more: &'a [u8], text: &'a [u8]) -> Saying<'a> {
         Saying { more, text, ..self }
     }

@@ -21,21 +21,17 @@ const BUILTIN_MODINFO: &[u8] = b"modules.builtin.modinfo";
 /// How many near names are told.
 const NEAR_NAMES: usize = 3;
 
-/// What is said of an alias of a module, or of one that is built in.
-fn alias_of(is_built_in: bool, name: &[u8]) -> Saying<'_> {
+/// What is said of an alias of a module, or of one that is built in, and where it stands.
+fn alias_of<'a>(is_built_in: bool, line: &'a IndexLine) -> (Saying<'a>, Spot<'static>) {
+    let (name, number) = (line.name(), line.number());
     if is_built_in {
-        Saying::with_name(b"alias of the built-in ", name)
+        let what = Saying::with_name(b"alias of the built-in ", name);
+        (what, Spot::Entry(BUILTIN_MODINFO, number))
     } else {
-        Saying::with_name(b"alias of ", name)
-    }
-}
-
-/// Where an alias of a module stands, or of one that is built in.
-fn alias_spot(is_built_in: bool, number: usize) -> Spot<'static> {
-    if is_built_in {
-        Spot::Entry(BUILTIN_MODINFO, number)
-    } else {
-        Spot::Line(ALIASES, number)
+        (
+            Saying::with_name(b"alias of ", name),
+            Spot::Line(ALIASES, number),
+        )
     }
 }
 
@@ -65,8 +61,7 @@ impl Told<'_> {
         lines: &[&IndexLine],
     ) -> Result<(), AllocError> {
         for line in lines {
-            let what = alias_of(is_built_in, line.name());
-            let spot = alias_spot(is_built_in, line.number());
+            let (what, spot) = alias_of(is_built_in, line);
             self.say(word, what.and(b", as ", line.key()), spot)?;
         }
         Ok(())
@@ -127,23 +122,9 @@ impl Told<'_> {
             self.say(word, what, Spot::Nowhere)?;
             return Ok(Vec::new(self.alloc));
         };
-        self.tell_name(word, name.as_bytes())
-    }
-
-    /// Tells why a word, whose normal form is a name, stands for modules, which are answered.
-    fn tell_name(&mut self, word: &[u8], name: &[u8]) -> Result<Vec<Object>, AllocError> {
-        let finding = find_name(self.alloc, &self.known.world, name)?;
-        self.tell_found(word, name, &finding)
-    }
-
-    fn tell_found(
-        &mut self,
-        word: &[u8],
-        name: &[u8],
-        finding: &Finding<'_>,
-    ) -> Result<Vec<Object>, AllocError> {
-        self.tell_finding(word, name, finding)?;
-        finding.objects(self.alloc, name)
+        let finding = find_name(self.alloc, &self.known.world, name.as_bytes())?;
+        self.tell_finding(word, name.as_bytes(), &finding)?;
+        finding.objects(self.alloc, name.as_bytes())
     }
 
     /// Tells modules whose names are near a file's or another name.
