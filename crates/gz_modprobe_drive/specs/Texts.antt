@@ -14,17 +14,17 @@ text_in file = file.text.items
 abbrev pub texts_in : List TextFile → List (List ℕ)
 texts_in files = map text_in files
 
--- files behind what is there, each with its number
+-- files after what is there, each with its number
 abbrev pub conf_from : ℕ → Configuration → List (List ℕ) → Configuration
 conf_from source conf [] = conf
 conf_from source conf (text ∷ texts) = conf_from (source + 1) (conf_with_text conf source text) texts
 
--- the kernel's command line, where there is one, behind what is there
+-- the kernel's command line, where there is one, after what is there
 unfoldable pub with_command_line : Configuration → ℕ → Option (List ℕ) → Configuration
 with_command_line conf source None = conf
 with_command_line conf source (Some text) = conf_with_command_line conf source text
 
--- what the files say, and then the kernel's command line, behind what is there
+-- what the files say, and then the kernel's command line, after what is there
 unfoldable pub with_texts : Configuration → ConfTexts → Configuration
 with_texts conf texts =
     with_command_line (conf_from 0 conf (texts_in texts.files.items)) (length texts.files.items)

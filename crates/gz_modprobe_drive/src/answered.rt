@@ -43,28 +43,8 @@ fn writes<O: Write>(output: &mut O, text: &[u8]) -> bool
     }
 }
 
-/// Answers a query from the world of a machine, and writes the answer's output, whether it is explained or not. Only want of
-/// memory refuses.
-fn answer_world<O: Write, E: Write>(
-    alloc: Global,
-    machine: &Machine<'_>,
-    world: &World<'_>,
-    query: &Query<'_>,
-    output: &mut O,
-    messages: &mut Messages<'_, E>,
-) -> Result<Answered, AllocError>
-    requires { known_of world.now ≡ said_by machine.now }
-    ensures answer { IfOk result (λ own. IsAnswer (said_by machine.now) query.now own.answer) }
-    ensures written { IfOk result (λ own. IsTrue own.is_written → Appends (O.contents output.old) (O.contents output.new) own.answer.output) }
-{
-    let answer = answer_to(alloc, world, query)?;
-    let is_written = writes(output, answer.output());
-    explain(alloc, machine, world, query, messages);
-    Ok(Answered { answer, is_written })
-}
-
 /// Answers a query from the texts and states of a machine, and writes the answer's output, whether it is explained or not.
-/// `conf` is what the machine's configuration says. Only want of memory refuses.
+/// `conf` is what the machine's configuration says. It fails only if memory runs out.
 #[tactic(auto, unfolding(crate::specs::Answered::said_by))]
 pub(crate) fn answer_machine<O: Write, E: Write>(
     alloc: Global,
@@ -85,5 +65,8 @@ pub(crate) fn answer_machine<O: Write, E: Write>(
         states: machine.states,
         directory: machine.directory,
     };
-    answer_world(alloc, machine, &world, query, output, messages)
+    let answer = answer_to(alloc, &world, query)?;
+    let is_written = writes(output, answer.output());
+    explain(alloc, machine, &world, query, messages);
+    Ok(Answered { answer, is_written })
 }

@@ -1,7 +1,5 @@
-//! How a query is answered: what is read for it, and what is told. Each thing that is read is lent onwards, so that no
-//! refusal has to drop it.
+//! How a query is answered: what is read for it, and what is told.
 ghost use Rattle.std.specs.Prelude.{◌≤◌, IfOk};
-ghost use Rattle.gz_modprobe_drive.specs.Texts.{IsConfOf};
 
 use crate::answered::{Answered, answer_machine};
 use crate::configuration::conf_of;
@@ -11,9 +9,7 @@ use crate::sys::module_states;
 use crate::texts::Machine;
 use kmod_conf::Conf;
 use kmod_query::{Ask, Query, States};
-use modprobe_files::{
-    ConfTexts, Host, ModuleTexts, directory, is_rootless, read_configuration, read_modules,
-};
+use modprobe_files::{ConfTexts, Host, directory, is_rootless, read_configuration, read_modules};
 use modprobe_words::{Asked, Level, Messages};
 use std::alloc::{AllocError, Global};
 use std::env::Env;
@@ -56,36 +52,22 @@ fn tell_answered<R: Files + AllocGlobal, E: Write>(
     Ok(answered.status())
 }
 
-/// Tells what is wrong with the configuration, answers a query, and tells what failed. The status is answered.
+/// Takes the configuration from its texts and tells what is wrong with it, answers a query, and tells what failed. The
+/// status is answered.
 fn answer_by<R: Files + AllocGlobal, O: Write, E: Write>(
     host: &Host<'_, R>,
     machine: &Machine<'_>,
-    conf: &Conf,
     query: &Query<'_>,
     output: &mut O,
     messages: &mut Messages<'_, E>,
 ) -> Result<u8, AllocError>
-    requires { IsConfOf machine.now.conf.now conf.now }
     ensures { IfOk result (λ status. status ≤ 1) }
 {
     let alloc = host.rt.alloc();
-    tell_bad_lines(alloc, machine.conf, conf, messages)?;
-    let answered = answer_machine(alloc, machine, conf, query, output, messages)?;
+    let conf = conf_of(alloc, machine.conf)?;
+    tell_bad_lines(alloc, machine.conf, &conf, messages)?;
+    let answered = answer_machine(alloc, machine, &conf, query, output, messages)?;
     tell_answered(host, &answered, query, machine.directory, messages)
-}
-
-/// Takes the configuration from its texts, and answers a query. The status is answered.
-fn answer_texts<R: Files + AllocGlobal, O: Write, E: Write>(
-    host: &Host<'_, R>,
-    machine: &Machine<'_>,
-    query: &Query<'_>,
-    output: &mut O,
-    messages: &mut Messages<'_, E>,
-) -> Result<u8, AllocError>
-    ensures { IfOk result (λ status. status ≤ 1) }
-{
-    let conf = conf_of(host.rt.alloc(), machine.conf)?;
-    answer_by(host, machine, &conf, query, output, messages)
 }
 
 /// The states of the machine's modules, where they count.
@@ -101,44 +83,8 @@ fn states_for<R: Files + AllocGlobal, E: Write>(
     }
 }
 
-/// Reads the states that a query asks of, and answers it. The status is answered.
-fn answer_with_modules<R: Files + AllocGlobal, O: Write, E: Write>(
-    host: &Host<'_, R>,
-    conf: &ConfTexts,
-    modules: &ModuleTexts,
-    directory: &[u8],
-    query: &Query<'_>,
-    output: &mut O,
-    messages: &mut Messages<'_, E>,
-) -> Result<u8, AllocError>
-    ensures { IfOk result (λ status. status ≤ 1) }
-{
-    let states = states_for(host, query.ask, messages)?;
-    let machine = Machine {
-        conf,
-        modules,
-        states: &states,
-        directory,
-    };
-    answer_texts(host, &machine, query, output, messages)
-}
-
-/// Reads the texts of the folder of modules, and answers a query. The status is answered.
-fn answer_with_conf<R: Files + AllocGlobal, O: Write, E: Write>(
-    host: &Host<'_, R>,
-    conf: &ConfTexts,
-    directory: &[u8],
-    query: &Query<'_>,
-    output: &mut O,
-    messages: &mut Messages<'_, E>,
-) -> Result<u8, AllocError>
-    ensures { IfOk result (λ status. status ≤ 1) }
-{
-    let modules = read_modules(host, directory, messages)?;
-    answer_with_modules(host, conf, &modules, directory, query, output, messages)
-}
-
-/// Reads the configuration that counts for a folder of modules, and answers a query. The status is answered.
+/// Reads what counts for a folder of modules: the configuration, the folder's texts, and the states that a query asks of.
+/// Then it answers the query. The status is answered.
 fn answer_in<R: Files + AllocGlobal, O: Write, E: Write>(
     host: &Host<'_, R>,
     configurations: &[&[u8]],
@@ -150,7 +96,15 @@ fn answer_in<R: Files + AllocGlobal, O: Write, E: Write>(
     ensures { IfOk result (λ status. status ≤ 1) }
 {
     let conf = read_configuration(host, directory, configurations, messages)?;
-    answer_with_conf(host, &conf, directory, query, output, messages)
+    let modules = read_modules(host, directory, messages)?;
+    let states = states_for(host, query.ask, messages)?;
+    let machine = Machine {
+        conf: &conf,
+        modules: &modules,
+        states: &states,
+        directory,
+    };
+    answer_by(host, &machine, query, output, messages)
 }
 
 /// Reads what a query asks of, and answers it. The status is answered.

@@ -1,23 +1,10 @@
 //! What the texts of a configuration say.
 ghost use Rattle.std.specs.Prelude.{◌≡◌, IfOk, OnOk, option_map};
-ghost use Rattle.kmod_conf.specs.Configuration.{conf_with_text};
-ghost use Rattle.gz_modprobe_drive.specs.Texts.{conf_from, conf_of, text_in, texts_in, with_command_line, with_texts};
+ghost use Rattle.gz_modprobe_drive.specs.Texts.{conf_from, conf_of, texts_in, with_command_line};
 
 use kmod_conf::Conf;
 use modprobe_files::{ConfTexts, TextFile};
 use std::alloc::{AllocError, Global};
-
-/// Adds what a file says.
-fn add_file(
-    alloc: Global,
-    conf: &mut Conf,
-    source: usize,
-    file: &TextFile,
-) -> Result<(), AllocError>
-    ensures { OnOk result (conf.new ≡ conf_with_text conf.old source (text_in file.now)) }
-{
-    conf.add_text(alloc, source, &file.text)
-}
 
 /// Adds what the kernel's command line says, where there is one.
 #[tactic(auto, unfolding(crate::specs::Texts::with_command_line))]
@@ -42,30 +29,22 @@ fn add_files(alloc: Global, conf: &mut Conf, files: &[TextFile]) -> Result<(), A
     let mut source = 0usize;
     let mut rest = files;
     while let Some((file, later)) = rest.split_first() {
-        add_file(alloc, conf, source, file)?;
+        conf.add_text(alloc, source, &file.text)?;
         source += 1;
         rest = later;
     }
     Ok(())
 }
 
-/// Adds what the texts of a configuration say.
-#[tactic(auto, unfolding(crate::specs::Texts::with_texts))]
-fn add_texts(alloc: Global, conf: &mut Conf, texts: &ConfTexts) -> Result<(), AllocError>
-    ensures { OnOk result (conf.new ≡ with_texts conf.old texts.now) }
-{
-    add_files(alloc, conf, &texts.files)?;
-    let line = texts.command_line.as_ref();
-    add_command_line(alloc, conf, texts.files.len(), line)
-}
-
 /// What the texts of a configuration say: the files, one after another, and then the kernel's command line. A place has the
-/// number of its file, and the command line has the number behind them. Only want of memory refuses.
-#[tactic(auto, unfolding(crate::specs::Texts::conf_of))]
+/// number of its file, and the command line has the number after them. It fails only if memory runs out.
+#[tactic(auto, unfolding(crate::specs::Texts::conf_of, crate::specs::Texts::with_texts))]
 pub fn conf_of(alloc: Global, texts: &ConfTexts) -> Result<Conf, AllocError>
     ensures { IfOk result (λ conf. conf ≡ conf_of texts.now) }
 {
     let mut conf = Conf::new(alloc);
-    add_texts(alloc, &mut conf, texts)?;
+    add_files(alloc, &mut conf, &texts.files)?;
+    let line = texts.command_line.as_ref();
+    add_command_line(alloc, &mut conf, texts.files.len(), line)?;
     Ok(conf)
 }

@@ -19,7 +19,7 @@ fn hidden(alloc: Global, files: &[HiddenFile]) -> Result<Vec<Hidden<'_>>, AllocE
     Ok(hidden)
 }
 
-/// Why the answer to a query of a machine is as it is. Only want of memory refuses.
+/// Why the answer to a query of a machine is as it is. It fails only if memory runs out.
 fn explained(
     alloc: Global,
     machine: &Machine,

@@ -43,12 +43,8 @@ fn tell_failure<E: Write>(
 
 /// Whether a name was not found.
 fn is_not_found(answer: &Answer) -> bool {
-    for failure in answer.failures() {
-        if matches!(failure, Failure::NotFound(_)) {
-            return true;
-        }
-    }
-    false
+    let mut failures = answer.failures().iter();
+    failures.any(|failure| matches!(failure, Failure::NotFound(_)))
 }
 
 /// Tells that a name which was not found is a path.

@@ -20,7 +20,7 @@ fn indexed(texts: &ModuleTexts) -> IndexTexts<'_>
     }
 }
 
-/// What the texts of a folder of modules say. Only want of memory refuses.
+/// What the texts of a folder of modules say. It fails only if memory runs out.
 pub fn index_of(alloc: Global, texts: &ModuleTexts) -> Result<Index, AllocError>
     ensures { IfOk result (λ index. index ≡ index_of texts.now) }
 {

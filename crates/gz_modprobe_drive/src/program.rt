@@ -3,7 +3,7 @@ ghost use Rattle.std.specs.Prelude.{◌≤◌, IfOk};
 
 use crate::answering::answer_query;
 use crate::queries::query_of;
-use crate::refusals::refuses;
+use crate::refusals::tell_refusal;
 use modprobe_files::Host;
 use modprobe_words::{Asked, Messages, end_early, first_ending, read_words, variable_words};
 use std::alloc::{AllocError, Global};
@@ -21,10 +21,8 @@ fn answer_asked<R: Files + Env + AllocGlobal, O: Write, E: Write>(
     ensures { IfOk result (λ status. status ≤ 1) }
 {
     let wish = asked.switches.wish(!asked.words.is_empty());
-    if refuses(wish, errors) {
-        return Ok(1);
-    }
     let Some(query) = query_of(wish, asked.switches, &asked.words) else {
+        tell_refusal(wish, errors);
         return Ok(1);
     };
     let host = Host {
@@ -39,22 +37,16 @@ fn answer_asked<R: Files + Env + AllocGlobal, O: Write, E: Write>(
     answer_query(&host, asked, &query, output, &mut messages)
 }
 
-fn add_words<'a>(all: &mut Vec<&'a [u8]>, words: &'a [Vec<u8>]) -> Result<(), AllocError> {
-    for word in words {
-        all.push(word.as_slice())?;
-    }
-    Ok(())
-}
-
-/// The words of the variable, and those of the command line behind them.
+/// The words of the variable, and those of the command line after them.
 fn all_words<'a>(
     alloc: Global,
     own: &'a [Vec<u8>],
     words: &'a [Vec<u8>],
 ) -> Result<Vec<&'a [u8]>, AllocError> {
     let mut all = Vec::new(alloc);
-    add_words(&mut all, own)?;
-    add_words(&mut all, words)?;
+    for word in own.iter().chain(words) {
+        all.push(word.as_slice())?;
+    }
     Ok(all)
 }
 

@@ -1,6 +1,4 @@
 //! What people are told where a command line asks no query.
-ghost use Rattle.std.specs.Prelude.{◌≡◌, is_none};
-ghost use Rattle.gz_modprobe_drive.specs.Queries.{ask_of};
 
 use modprobe_words::{Wish, tell_line, write_parts};
 use std::io::Write;
@@ -17,10 +15,8 @@ fn tell_hint<E: Write>(what: &[u8], words: &[u8], errors: &mut E) {
     write_parts(errors, words, b"NAME", b" | sh' does it\n");
 }
 
-/// Refuses a wish that is no query, with a line that says why, at any verbosity. Whether it did is answered.
-pub(crate) fn refuses<E: Write>(wish: Wish, errors: &mut E) -> bool
-    ensures { result ≡ is_none (ask_of wish) }
-{
+/// Tells why a wish is no query, at any verbosity.
+pub(crate) fn tell_refusal<E: Write>(wish: Wish, errors: &mut E) {
     match wish {
         Wish::NoName => tell_line(errors, b"ERROR: ", b"missing parameters.", b" See -h."),
         Wish::ShowModule => {
@@ -36,7 +32,6 @@ pub(crate) fn refuses<E: Write>(wish: Wish, errors: &mut E) -> bool
         }
         Wish::Load => tell_hint(b"loaded", b"-n -v ", errors),
         Wish::Removal => tell_hint(b"removed", b"-r -n -v ", errors),
-        _ => return false,
+        _ => {}
     }
-    true
 }

@@ -40,10 +40,7 @@ fn digit_count(text: &[u8]) -> usize
 fn begins_with_space(text: &[u8]) -> bool
     ensures { result ≡ begins_with_space text.now }
 {
-    match text.first() {
-        Some(byte) => is_space(*byte),
-        None => false,
-    }
+    matches!(text.first(), Some(byte) if is_space(*byte))
 }
 
 /// The digits at the beginning, where white space follows them.
@@ -108,15 +105,6 @@ fn status_of<R: Files + AllocGlobal>(
     Ok(Some(ModuleStatus { state, users }))
 }
 
-/// What is told of the module of a name.
-fn status_named<R: Files + AllocGlobal>(
-    host: &Host<'_, R>,
-    name: &[u8],
-) -> Result<Option<ModuleStatus>, AllocError> {
-    let folder = joined(host.rt.alloc(), MODULES, b"/", name)?;
-    status_of(host, &folder)
-}
-
 /// The names in /sys/module. One that is not there has none; one that cannot be read is told.
 fn module_names<R: Files + AllocGlobal, E: Write>(
     host: &Host<'_, R>,
@@ -132,27 +120,19 @@ fn module_names<R: Files + AllocGlobal, E: Write>(
     }
 }
 
-/// Notes the states of modules, where they have any.
-fn add_states<R: Files + AllocGlobal>(
-    host: &Host<'_, R>,
-    names: &[Vec<u8>],
-    states: &mut States,
-) -> Result<(), AllocError> {
-    for name in names {
-        if let Some(status) = status_named(host, name)? {
-            states.set(host.rt.alloc(), name, status)?;
-        }
-    }
-    Ok(())
-}
-
-/// The states of the modules of these names.
+/// The states of the modules of these names, where they have any.
 fn states_of<R: Files + AllocGlobal>(
     host: &Host<'_, R>,
     names: &[Vec<u8>],
 ) -> Result<States, AllocError> {
-    let mut states = States::new(host.rt.alloc());
-    add_states(host, names, &mut states)?;
+    let alloc = host.rt.alloc();
+    let mut states = States::new(alloc);
+    for name in names {
+        let folder = joined(alloc, MODULES, b"/", name)?;
+        if let Some(status) = status_of(host, &folder)? {
+            states.set(alloc, name, status)?;
+        }
+    }
     Ok(states)
 }
 
