@@ -142,7 +142,7 @@ impl Conf {
         &self.aliases.at(i).target
     }
 
-    /// The aliases whose patterns match a text in normal form, in file order. Only want of memory refuses.
+    /// The aliases whose patterns match a text in normal form, in file order. It fails only if memory runs out.
     pub fn matching_aliases(&self, alloc: Global, text: &[u8]) -> Result<Vec<&Alias>, AllocError>
         ensures { IfOk result (λ found. map (λ alias. alias.now) found.items
             ≡ matching self.now.aliases text.now) }
@@ -181,30 +181,21 @@ impl Conf {
     pub fn install_line(&self, name: &[u8]) -> bool
         ensures { result ≡ has_install_line self.now name.now }
     {
-        match self.settings(name) {
-            Some(settings) => settings.has_install(),
-            None => false,
-        }
+        matches!(self.settings(name), Some(settings) if settings.has_install())
     }
 
     /// Whether the name has a remove line.
     pub fn remove_line(&self, name: &[u8]) -> bool
         ensures { result ≡ has_remove_line self.now name.now }
     {
-        match self.settings(name) {
-            Some(settings) => settings.has_remove(),
-            None => false,
-        }
+        matches!(self.settings(name), Some(settings) if settings.has_remove())
     }
 
     /// Whether the name has a blacklist line.
     pub fn blacklisted(&self, name: &[u8]) -> bool
         ensures { result ≡ is_blacklisted self.now name.now }
     {
-        match self.settings(name) {
-            Some(settings) => settings.is_blacklisted(),
-            None => false,
-        }
+        matches!(self.settings(name), Some(settings) if settings.is_blacklisted())
     }
 
     /// The numbers, from 1, of the lines that have a word, are no comment, and have no effect. A joined line has
@@ -216,7 +207,7 @@ impl Conf {
     }
 }
 
-/// What a whole configuration text says. Only want of memory refuses.
+/// What a whole configuration text says. It fails only if memory runs out.
 pub fn read_conf(alloc: Global, text: &[u8]) -> Result<Conf, AllocError>
     ensures { IfOk result (λ conf. conf ≡ configuration_of text.now) }
 {

@@ -1,6 +1,5 @@
 //! What one line of a configuration says.
 ghost use Rattle.std.specs.Prelude.{◌≡◌, ◌∷◌, ◌++◌, [], Bool, map, option_map, IfOk, OnOk, MatchOption, None};
-ghost use Rattle.std.specs.Str.{bytes_eq};
 ghost use Rattle.alias_match.specs.Aliases.{alias_of};
 ghost use Rattle.text_parts.specs.Text.{texts_of};
 ghost use Rattle.modprobe_conf.specs.Configuration.{alias_entry, entry_of, line_from, named_entry, soft_items, softdep_items};
@@ -11,19 +10,13 @@ use crate::softdep::Softdep;
 use crate::word::Word;
 use alias_match::Alias;
 use std::alloc::{AllocError, Global};
-use text_parts::Name;
+use text_parts::{Name, is_same};
 
 /// What one joined line says.
 #[derive(Drop)]
 pub(crate) enum Entry {
     Aliased(Alias),
     Named(Name, Line),
-}
-
-fn is_word(word: &[u8], text: &[u8]) -> bool
-    ensures { result ≡ bytes_eq word.now text.now }
-{
-    word == text
 }
 
 fn own_words(alloc: Global, words: &[&[u8]]) -> Result<Vec<Word>, AllocError>
@@ -41,19 +34,19 @@ fn read_line(alloc: Global, word: &[u8], rest: &[&[u8]]) -> Result<Option<Line>,
     ensures { IfOk result (λ line. option_map line_of line
         ≡ line_from word.now (texts_of rest.now)) }
 {
-    if is_word(word, b"blacklist") {
+    if is_same(word, b"blacklist") {
         return Ok(Some(Line::Blacklist));
     }
-    if is_word(word, b"install") {
+    if is_same(word, b"install") {
         return Ok(Some(Line::Install));
     }
-    if is_word(word, b"remove") {
+    if is_same(word, b"remove") {
         return Ok(Some(Line::Remove));
     }
-    if is_word(word, b"options") {
+    if is_same(word, b"options") {
         return Ok(Some(Line::Options(own_words(alloc, rest)?)));
     }
-    if is_word(word, b"softdep") {
+    if is_same(word, b"softdep") {
         return Ok(Some(Line::Softdep(Softdep::read(alloc, rest)?)));
     }
     Ok(None)
@@ -63,10 +56,7 @@ fn read_alias(alloc: Global, words: &[&[u8]]) -> Result<Option<Entry>, AllocErro
     ensures { IfOk result (λ entry. option_map entry_seen entry
         ≡ alias_entry (alias_of (texts_of words.now))) }
 {
-    match Alias::read(alloc, words)? {
-        Some(alias) => Ok(Some(Entry::Aliased(alias))),
-        None => Ok(None),
-    }
+    Ok(Alias::read(alloc, words)?.map(Entry::Aliased))
 }
 
 fn read_named(
@@ -89,7 +79,7 @@ fn read_short(alloc: Global, word: &[u8], name: &[u8]) -> Result<Option<Entry>, 
     ensures { IfOk result (λ entry. option_map entry_seen entry
         ≡ entry_of (word.now ∷ name.now ∷ [])) }
 {
-    if !is_word(word, b"blacklist") {
+    if !is_same(word, b"blacklist") {
         return Ok(None);
     }
     Ok(Some(Entry::Named(Name::new(alloc, name)?, Line::Blacklist)))
@@ -110,7 +100,7 @@ impl Entry {
         if rest.is_empty() {
             return read_short(alloc, word, name);
         }
-        if is_word(word, b"alias") {
+        if is_same(word, b"alias") {
             return read_alias(alloc, words);
         }
         read_named(alloc, word, name, rest)

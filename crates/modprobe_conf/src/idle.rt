@@ -77,7 +77,7 @@ fn add_line(
 
 /// The lines of a configuration that have no effect, in their order, and why: those that have a word, are no comment, and
 /// say nothing of any name. A joined line has the number of its first line. A later softdep line of a name is none of
-/// these, though it has no effect either. Only want of memory refuses.
+/// these, though it has no effect either. It fails only if memory runs out.
 pub fn idle_settings(alloc: Global, text: &[u8]) -> Result<Vec<IdleLine>, AllocError>
     ensures lines { IfOk result (λ idle. idle.items ≡ idle_settings text.now) }
     ensures skipped { IfOk result (λ idle. map (λ line. line.number) idle.items ≡ (configuration_of text.now).skipped) }

@@ -73,7 +73,7 @@ impl<'a> JoinedLines<'a> {
     }
 
     /// The next joined line with its number, None at the end. The buffer is emptied, and one of several lines is put into
-    /// it. Only want of memory refuses.
+    /// it. It fails only if memory runs out.
     pub fn next_line(
         &mut self,
         buffer: &mut Vec<u8>,

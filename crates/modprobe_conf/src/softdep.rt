@@ -23,7 +23,7 @@ impl Model for Softdep {
     ghost view = { λ s. record { pre = s.pre.items; post = s.post.items } };
 }
 
-/// Whether the word is one of the two marks, and then whether names behind it count.
+/// Whether the word is one of the two marks, and then whether names after it count.
 fn mark_at(word: &[u8], mark: &[u8], other: &[u8]) -> Option<bool>
     ensures { result
         ≡ (if bytes_eq word.now mark.now then Some true else (if bytes_eq word.now other.now then Some false else None)) }
@@ -34,7 +34,7 @@ fn mark_at(word: &[u8], mark: &[u8], other: &[u8]) -> Option<bool>
     if word == other { Some(false) } else { None }
 }
 
-/// The words behind one mark, up to the other, as names.
+/// The words after one mark, up to the other, as names.
 fn names_behind(
     alloc: Global,
     mark: &[u8],

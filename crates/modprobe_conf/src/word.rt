@@ -19,7 +19,7 @@ impl Model for Word {
 }
 
 impl Word {
-    /// A word with these bytes. Only want of memory refuses.
+    /// A word with these bytes. It fails only if memory runs out.
     pub fn new(alloc: Global, word: &[u8]) -> Result<Word, AllocError>
         ensures { IfOk result (λ own. own ≡ word.now) }
     {
