@@ -8,7 +8,7 @@ use std::sync::Wait;
 
 /// How many turns a get waits before its second look at a word, and at most: each miss doubles it. In so much time the
 /// worker that has the word's cache line makes dozens of pairs of calls, and does not lose it at each of them.
-const SHORTEST_PAUSE: u32 = 256;
+const SHORTEST_PAUSE: u32 = 32;
 
 const LONGEST_PAUSE: u32 = 1024;
 
