@@ -24,6 +24,7 @@ was_made row call reply old new law m other =
       before = m.before;
       others = m.between;
       after = m.after;
+      steps = m.steps;
       turned = ap (λ p. p.turns) m.turned;
       elsewhere = other;
       ends = m.ends;
@@ -39,7 +40,7 @@ left_unused row call m old new law removal w =
     let before = answers_in (w.before ++ w.others) in
     let ends : answers_in w.after ≡ before ++ record { call = call; reply = Done } ∷ [] = ap answers_in w.ends ∙ map-append answer_of (w.before ++ w.others) (seat_answer (seat_for call) call Done ∷ []) in
     let both = w.unheld before [] (record { call = call; reply = Done }) m ends removal refl in record {
-      turn = turn (lock_of (seat_for call)) w.before w.after;
+      turn = turn (lock_of (seat_for call)) w.before w.after w.steps;
       turned = w.turned;
       before = before;
       ends = ends;

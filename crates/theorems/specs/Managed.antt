@@ -10,6 +10,7 @@ use Rattle.dep_index.specs.Table.{pairs, users}
 use Rattle.dep_index.specs.History.{Answer, IsLegal}
 use Rattle.root_row.specs.declared.view.World.{World}
 use Rattle.root_row.specs.declared.view.SeatAnswer.{SeatAnswer}
+use Rattle.root_row.specs.declared.view.AtomicStep.{AtomicStep}
 use Rattle.root_row.specs.declared.view.SeatName.TheVariants.{Leaf, Book}
 use Rattle.root_row.specs.Seats.{RowIs}
 use Rattle.root_row.specs.World.{slots}
@@ -46,13 +47,14 @@ abbrev pub turns_of : Call → CallerIs → List Turn
 turns_of call caller = (here (seat_for call) caller).pass.turns
 
 -- The caller had one turn more. Before it the seat had seen this much; then others made these calls, and the seat made this one,
--- once, which was answered so. All that is legal, so removals are safe in it, and it begins with what each earlier turn of the
--- caller at this lock had seen.
+-- once, by these steps, which was answered so. All that is legal, so removals are safe in it, and it begins with what each earlier
+-- turn of the caller at this lock had seen.
 pub record WasMadeOnce (row : RowIs) (call : Call) (reply : Reply) (old new : CallerIs) : Type 0 where
   pub before : List SeatAnswer
   pub others : List SeatAnswer
   pub after : List SeatAnswer
-  pub turned : turns_of call new ≡ turns_of call old ++ record { lock = lock_of (seat_for call); before = before; after = after } ∷ []
+  pub steps : List AtomicStep
+  pub turned : turns_of call new ≡ turns_of call old ++ record { lock = lock_of (seat_for call); before = before; after = after; steps = steps } ∷ []
   pub elsewhere : elsewhere (seat_for call) new ≡ elsewhere (seat_for call) old
   pub ends : after ≡ (before ++ others) ++ seat_answer (seat_for call) call reply ∷ []
   pub own : own_answers (seat_for call) after ≡ own_answers (seat_for call) before ++ seat_answer (seat_for call) call reply ∷ []
