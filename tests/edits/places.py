@@ -6,7 +6,7 @@ from pathlib import Path
 
 PARTS = ("src", "specs", "proofs")
 FUNCTION_HEAD = re.compile(r'( {4})?(?:pub(?:\([a-z]+\))? )?(?:const )?(?:unsafe )?(?:extern "C" )?fn (\w+)')
-IMPL_HEAD = re.compile(r"impl(?:<.*?>)? (?:(?P<trait>.+) for )?(?P<type>\w+)")
+IMPL_HEAD = re.compile(r"impl(?P<any><.*?>)? (?:(?P<trait>.+) for )?(?P<type>\w+)(?:<(?P<one>[A-Z]\w*)>)?")
 
 
 class BadEdit(Exception):
@@ -157,6 +157,9 @@ def owner_of(crate, texts, path, block):
         raise BadEdit(f"{path}: no impl block begins with {block!r}")
     if found["trait"]:
         return f"{module_of(crate, path)}::{found['type']}{trait_word(found['trait'])}"
+    if found["one"] and not found["any"]:
+        # (an impl of one kind of a generic type, as NamedLines<TextLine>)
+        return f"{module_of(crate, path)}::{found['type']}+{found['one']}"
     declares = re.compile(rf"(?m)^(?:pub(?:\([a-z]+\))? )?(?:struct|enum|union) {found['type']}\b")
     homes = [it for it, text in texts.items() if it.startswith("src/") and declares.search(text)]
     home = [path] if path in homes else homes
