@@ -1,7 +1,7 @@
 //! An answer, from the texts of a machine to a stream.
 ghost use Rattle.std.specs.Prelude.{◌≡◌, IfOk, IsTrue};
 ghost use Rattle.std.specs.Io.KnownBytes.{Appends};
-ghost use Rattle.gz_modprobe_drive.specs.Answered.{IsAnswer, known_of, said_by, status_of};
+ghost use Rattle.gz_modprobe_drive.specs.Answered.{IsAnswer, said_by, status_of};
 ghost use Rattle.gz_modprobe_drive.specs.Texts.{IsConfOf};
 
 use crate::explained::explain;
