@@ -1,8 +1,8 @@
 -- The words of replies.
 use Rattle.std.specs.Prelude.{ℕ, Bool, true, false, List, [], ◌∷◌, find, codes, Option}
 use Rattle.std.specs.Str.{bytes_eq}
-use Rattle.dep_index.specs.declared.calls.Reply.{Reply}
-use Rattle.dep_index.specs.declared.calls.Reply.TheVariants as reply
+use Rattle.dep_index.specs.declared.table.calls.Reply.{Reply}
+use Rattle.dep_index.specs.declared.table.calls.Reply.TheVariants as reply
 use Rattle.call_words.specs.declared.reply.ReplyWord.{ReplyWord}
 use Rattle.call_words.specs.declared.reply.ReplyWord.TheVariants.{Done, Yes, No, NotLive, TooMany, NotHeld, Exists, UnknownSymbol, NeedNotLive}
 use Rattle.call_words.specs.declared.reply.ReplyWord.TheVariants.{NotLoading, NoEntry, NeededBy, Permanent, InUse, NotUnloading}

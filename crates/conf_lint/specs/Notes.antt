@@ -6,7 +6,7 @@ use Rattle.std.specs.Str.{bytes_eq}
 use Rattle.std.specs.Str.Lines.{lines}
 use Rattle.text_parts.specs.Text.{words, is_comment, normal_form}
 use Rattle.dep_index.specs.Catalogue.{description_at, slot_named}
-use Rattle.dep_index.specs.declared.params.Param.{Param}
+use Rattle.dep_index.specs.declared.catalogue.params.Param.{Param}
 use Rattle.alias_match.specs.declared.alias.Alias.{Alias}
 use Rattle.alias_match.specs.Aliases.{alias_of, matching}
 use Rattle.modprobe_conf.specs.Configuration.{Line, blacklist, install, remove, options, softdep, joined_lines, line_from, has_install_line, has_remove_line}

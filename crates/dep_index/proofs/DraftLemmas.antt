@@ -12,16 +12,16 @@ use Rattle.indexmap.specs.IndexMap.{insert_entry}
 use Rattle.indexmap.proofs.CallerLemmas.{insert_entry-new}
 use Rattle.dep_index.specs.Catalogue as spec
 use Rattle.dep_index.specs.Catalogue.{Description, Refusal, Directive, bad, duplicate, twice_exported, too_many, version, begin, size, exports, needs, softneeds, param, permanent, has_name, is_exported, exports_symbol, change, change_last, export_each, sized, with_last, with_modules, described, most_modules, has_kind, defined, limit, apply}
-use Rattle.dep_index.specs.declared.versions.Version.{Version}
-use Rattle.dep_index.specs.declared.versions.Version.TheVariants as text
-use Rattle.dep_index.specs.declared.details.Details.{Details}
-use Rattle.dep_index.specs.declared.details.Open.{Open}
-use Rattle.dep_index.specs.declared.draft.Draft.{Draft}
+use Rattle.dep_index.specs.declared.catalogue.versions.Version.{Version}
+use Rattle.dep_index.specs.declared.catalogue.versions.Version.TheVariants as text
+use Rattle.dep_index.specs.declared.catalogue.details.Details.{Details}
+use Rattle.dep_index.specs.declared.catalogue.details.Open.{Open}
+use Rattle.dep_index.specs.declared.catalogue.draft.Draft.{Draft}
 use Rattle.dep_index.specs.declared.faults.Refused.{Refused}
 use Rattle.dep_index.specs.declared.faults.Refused.TheVariants as line
-use Rattle.dep_index.specs.Descriptions.{description_of, descriptions_in, open_in}
-use Rattle.dep_index.specs.Drafts.{draft_in, last_in, modules_read, IsNew, IsSound}
-use Rattle.dep_index.specs.Exports.{Link, links_of, change_links}
+use Rattle.dep_index.specs.Catalogue.Descriptions.{description_of, descriptions_in, open_in}
+use Rattle.dep_index.specs.Catalogue.Drafts.{draft_in, last_in, modules_read, IsNew, IsSound}
+use Rattle.dep_index.specs.Catalogue.Exports.{Link, links_of, change_links}
 use Rattle.dep_index.specs.Faults.{IsRefused}
 use Rattle.dep_index.proofs.ExportLemmas.{linked, change_linked, links_of-last}
 

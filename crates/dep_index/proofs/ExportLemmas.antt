@@ -6,9 +6,9 @@ use Rattle.std.proofs.lemmas.Bool.Decides.{nat_tests}
 use Rattle.std.proofs.lemmas.List.{append_assoc, append-nil, map-append}
 use Rattle.std.proofs.lemmas.List.Folds.{list_any-append}
 use Rattle.dep_index.specs.Catalogue.{Description, Refusal, Directive, twice_exported, bad, version, begin, size, exports, needs, softneeds, param, permanent, exports_symbol, is_exported, exporter, has_kind, defined, change, export_each, sized}
-use Rattle.dep_index.specs.declared.versions.Version.{Version}
-use Rattle.dep_index.specs.declared.versions.Version.TheVariants as text
-use Rattle.dep_index.specs.Exports.{Link, slot_at, links_from, links_of, export_links, with_links, change_links}
+use Rattle.dep_index.specs.declared.catalogue.versions.Version.{Version}
+use Rattle.dep_index.specs.declared.catalogue.versions.Version.TheVariants as text
+use Rattle.dep_index.specs.Catalogue.Exports.{Link, slot_at, links_from, links_of, export_links, with_links, change_links}
 
 -- the slot of the first module from k on that passes
 abbrev place : (Description → Bool) → ℕ → List Description → Option ℕ

@@ -3,7 +3,7 @@ use Rattle.std.proofs.Common.{◌≡◌, ℕ, List, [], ◌∷◌, ◌++◌, Boo
 use Rattle.std.specs.Map.{lookup}
 use Rattle.std.specs.Str.{bytes_eq}
 use Rattle.indexmap.specs.IndexMap.{insert_entry}
-use Rattle.dep_index.specs.Exports.{Link, slot_at}
+use Rattle.dep_index.specs.Catalogue.Exports.{Link, slot_at}
 
 abbrev pub Entry : Type 0
 Entry = Bor (List ℕ) × ℕ

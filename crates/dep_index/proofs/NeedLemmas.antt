@@ -8,9 +8,9 @@ use Rattle.std.proofs.lemmas.List.{take_more, length-map, get_or-map}
 use Rattle.std.proofs.lemmas.Option.{get_or_from_slice_get}
 use Rattle.dep_index.specs.Table.{Module, no_module}
 use Rattle.dep_index.specs.Catalogue.{Description, description_at, described, exporter, exports_symbol, is_exported, needs_from, needs_of, has_unknown_symbol, module_of, modules_of, with_need}
-use Rattle.dep_index.specs.declared.details.Details.{Details}
-use Rattle.dep_index.specs.Descriptions.{description_of, descriptions_in}
-use Rattle.dep_index.specs.Exports.{Link, links_of, slot_at, needs_by}
+use Rattle.dep_index.specs.declared.catalogue.details.Details.{Details}
+use Rattle.dep_index.specs.Catalogue.Descriptions.{description_of, descriptions_in}
+use Rattle.dep_index.specs.Catalogue.Exports.{Link, links_of, slot_at, needs_by}
 use Rattle.dep_index.proofs.ExportLemmas.{link_exporter, link_exported}
 use Rattle.dep_index.proofs.SlotLemmas.{length-modules_of, module_at-modules_of}
 

@@ -9,7 +9,7 @@ use Rattle.std.proofs.lemmas.List.Sums.{sum_by_push, sum_by-set, sum_by-take-le,
 use Rattle.std.proofs.lemmas.List.Elements.{filter-append}
 use Rattle.std.proofs.lemmas.List.Folds.{list_any_at, Any-from_list_any}
 use Rattle.std.proofs.lemmas.Map.Views.{any-filter_same}
-use Rattle.dep_index.specs.Ordered.{Ordered, is_slot, slots_in, AreWithin, IsPlaced, IsCounted, IsSound}
+use Rattle.dep_index.specs.Table.Ordered.{Ordered, is_slot, slots_in, AreWithin, IsPlaced, IsCounted, IsSound}
 
 abbrev part : List ℕ → ℕ → List ℕ
 part xs n = take 256 (drop n xs)

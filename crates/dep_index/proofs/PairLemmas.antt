@@ -14,7 +14,7 @@ use Rattle.indexmap.proofs.CallerLemmas.{insert_entry-new}
 use Rattle.text_parts.specs.Text.{words, has_word, is_comment}
 use Rattle.std.specs.Str.{bytes_eq}
 use Rattle.dep_index.specs.Dependencies.{Pair, deps, is_empty, with_pair, dep_line, dep_words, dep_split, DepRefusal, at_colon, name_of, trim}
-use Rattle.dep_index.specs.Pairs.{pair_of, pairs_in}
+use Rattle.dep_index.specs.Dependencies.Pairs.{pair_of, pairs_in}
 use Rattle.dep_index.proofs.DraftLemmas.{list_any-map, none_from}
 
 abbrev Names : Type 0

@@ -7,8 +7,8 @@ use Rattle.std.specs.declared.alloc.Global.{Global}
 use Rattle.std.specs.List.{list_any}
 use Rattle.std.specs.Str.{bytes_eq}
 use Rattle.indexmap.specs.IndexSet.{insert_key}
-use Rattle.dep_index.specs.declared.params.Param.{Param}
-use Rattle.dep_index.specs.ParamNames.{names_in, later_names}
+use Rattle.dep_index.specs.declared.catalogue.params.Param.{Param}
+use Rattle.dep_index.specs.Catalogue.ParamNames.{names_in, later_names}
 
 pub any-names : (name : List ℕ) (keys : List (Vec ℕ Global)) → list_any (λ (k : Vec ℕ Global). bytes_eq name k.items) keys ≡ list_any (bytes_eq name) (names_in keys)
 any-names name [] = refl

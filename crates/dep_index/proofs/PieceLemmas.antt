@@ -2,7 +2,7 @@
 use Rattle.std.proofs.Common.{◌≡◌, ℕ, ◌+◌, ◌≤◌, List, [], ◌∷◌, ◌++◌, length, take, drop, refl, sym, ap, ◌∙◌, arith}
 use Rattle.std.proofs.lemmas.List.{take-append-le, drop-append-le, length-drop}
 use Rattle.std.proofs.Math.Seq.{take-length}
-use Rattle.dep_index.specs.Pieces.{pieces, total}
+use Rattle.dep_index.specs.Catalogue.Pieces.{pieces, total}
 
 length_zero : (bytes : List ℕ) → 0 ≡ length bytes → bytes ≡ []
 length_zero [] h = refl

@@ -6,10 +6,10 @@ use Rattle.std.proofs.lemmas.List.{get_or_past}
 use Rattle.std.proofs.lemmas.Map.Keys.{IsDistinct-cons}
 use Rattle.std.proofs.lemmas.Map.Steps.{length-le_from_distinct_below}
 use Rattle.std.specs.List.{count_by, list_any, IsDistinct, AllByRecursion}
-use Rattle.dep_index.specs.declared.states.ModuleState.TheVariants.{Absent, Loading}
-use Rattle.dep_index.specs.declared.calls.Call.TheVariants.{BeginLoad}
-use Rattle.dep_index.specs.declared.calls.Reply.{Reply}
-use Rattle.dep_index.specs.declared.calls.Reply.TheVariants.{Exists}
+use Rattle.dep_index.specs.declared.table.states.ModuleState.TheVariants.{Absent, Loading}
+use Rattle.dep_index.specs.declared.table.calls.Call.TheVariants.{BeginLoad}
+use Rattle.dep_index.specs.declared.table.calls.Reply.{Reply}
+use Rattle.dep_index.specs.declared.table.calls.Reply.TheVariants.{Exists}
 use Rattle.dep_index.specs.Table.{Module, Book, state_of, is_absent}
 use Rattle.dep_index.specs.Calls.{refuse, book_refusal, book_effect}
 use Rattle.dep_index.specs.Laws.{OrderIsExact}

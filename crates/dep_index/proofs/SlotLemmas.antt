@@ -6,8 +6,8 @@ use Rattle.std.specs.declared.alloc.Global.{Global}
 use Rattle.std.proofs.lemmas.List.{length-map}
 use Rattle.dep_index.specs.Table.{module_at, no_module}
 use Rattle.dep_index.specs.Catalogue.{Description, module_of, modules_of, modules_from, slot_named}
-use Rattle.dep_index.specs.declared.details.Details.{Details}
-use Rattle.dep_index.specs.Descriptions.{description_of}
+use Rattle.dep_index.specs.declared.catalogue.details.Details.{Details}
+use Rattle.dep_index.specs.Catalogue.Descriptions.{description_of}
 
 length-modules_from : (all : List Description) (k : ℕ) (ds : List Description) → length (modules_from all k ds) ≡ length ds
 length-modules_from all k [] = refl

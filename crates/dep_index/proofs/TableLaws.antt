@@ -5,12 +5,12 @@ use Rattle.std.proofs.lemmas.Bool.Decides.{nat_tests}
 use Rattle.std.proofs.lemmas.Bool.{cases_eq, eq-eqb, ne_eqb, not-false, false≢true}
 use Rattle.std.proofs.lemmas.List.Sums.{sum_by-cons, sum_by_push}
 use Rattle.std.specs.List.{count_by}
-use Rattle.dep_index.specs.declared.states.ModuleState.{ModuleState}
-use Rattle.dep_index.specs.declared.states.ModuleState.TheVariants.{Absent, Loading, Live, Draining, Unloading}
-use Rattle.dep_index.specs.declared.calls.Call.{Call}
-use Rattle.dep_index.specs.declared.calls.Call.TheVariants.{Get, Put, InUse as Query, BeginLoad, EndLoad, BeginDrain, BeginRemove, EndRemove}
-use Rattle.dep_index.specs.declared.calls.Reply.{Reply}
-use Rattle.dep_index.specs.declared.calls.Reply.TheVariants.{NotLive, TooMany, UnknownSymbol, NeededBy, Permanent, InUse}
+use Rattle.dep_index.specs.declared.table.states.ModuleState.{ModuleState}
+use Rattle.dep_index.specs.declared.table.states.ModuleState.TheVariants.{Absent, Loading, Live, Draining, Unloading}
+use Rattle.dep_index.specs.declared.table.calls.Call.{Call}
+use Rattle.dep_index.specs.declared.table.calls.Call.TheVariants.{Get, Put, InUse as Query, BeginLoad, EndLoad, BeginDrain, BeginRemove, EndRemove}
+use Rattle.dep_index.specs.declared.table.calls.Reply.{Reply}
+use Rattle.dep_index.specs.declared.table.calls.Reply.TheVariants.{NotLive, TooMany, UnknownSymbol, NeededBy, Permanent, InUse}
 use Rattle.dep_index.specs.Table.{Module, Book, Table, state_of, is_absent, is_loading, is_live, is_draining, is_unloading, takes_references, needs_slot, has_users, count_of, is_held, holders, module_at}
 use Rattle.dep_index.specs.Calls.{refuse, or_else, refusal, book_refusal, unload_refusal, first_missing, missing_need, effect, book_effect, with_state, without, after, IsInRange}
 use Rattle.dep_index.specs.Laws.{IsShaped, OrderIsExact, PairsAreOpen, NeedsAreLive, IsLawful}

@@ -1,12 +1,12 @@
 -- What each call answers on the one-thread table, and which table it leaves. Loads and removals refuse as
 -- init_module(2) and delete_module(2) do.
 use Rattle.std.specs.Prelude.{ℕ, ◌+◌, ◌-◌, ◌==◌, ◌<◌, nat_le, Bool, true, false, not, ◌&&◌, ◌||◌, List, [], ◌∷◌, ◌++◌, length, filter, find, replicate, slice_index, slice_index_or, slice_set, Option, Some, None, unwrap_or, is_some, if◌then◌else◌}
-use Rattle.dep_index.specs.declared.states.ModuleState.{ModuleState}
-use Rattle.dep_index.specs.declared.states.ModuleState.TheVariants.{Absent, Loading, Live, Draining, Unloading}
-use Rattle.dep_index.specs.declared.calls.Call.{Call}
-use Rattle.dep_index.specs.declared.calls.Call.TheVariants.{Get, Put, InUse as Query, BeginLoad, EndLoad, BeginDrain, BeginRemove, EndRemove}
-use Rattle.dep_index.specs.declared.calls.Reply.{Reply}
-use Rattle.dep_index.specs.declared.calls.Reply.TheVariants.{Done, Yes, No, NotLive, TooMany, NotHeld, Exists, UnknownSymbol, NeedNotLive, NotLoading, NoEntry, NeededBy, Permanent, InUse, NotUnloading}
+use Rattle.dep_index.specs.declared.table.states.ModuleState.{ModuleState}
+use Rattle.dep_index.specs.declared.table.states.ModuleState.TheVariants.{Absent, Loading, Live, Draining, Unloading}
+use Rattle.dep_index.specs.declared.table.calls.Call.{Call}
+use Rattle.dep_index.specs.declared.table.calls.Call.TheVariants.{Get, Put, InUse as Query, BeginLoad, EndLoad, BeginDrain, BeginRemove, EndRemove}
+use Rattle.dep_index.specs.declared.table.calls.Reply.{Reply}
+use Rattle.dep_index.specs.declared.table.calls.Reply.TheVariants.{Done, Yes, No, NotLive, TooMany, NotHeld, Exists, UnknownSymbol, NeedNotLive, NotLoading, NoEntry, NeededBy, Permanent, InUse, NotUnloading}
 use Rattle.dep_index.specs.Table.{Module, Book, Table, module_at, state_of, is_absent, is_loading, is_live, is_draining, is_unloading, count_of, is_held, has_users}
 
 -- the refusal, where the test holds; else what is tested next

@@ -1,16 +1,23 @@
 -- Which catalogue a text is.
+pub mod Descriptions
+pub mod Directives
+pub mod Drafts
+pub mod Exports
+pub mod Marks
+pub mod ParamNames
+pub mod Pieces
 use Rattle.std.specs.Prelude.{ℕ, suc, ◌-◌, Bool, true, false, not, if◌then◌else◌, ◌||◌, ◌==◌, nat_eq, nat_le, List, [], ◌∷◌, ◌++◌, map, length, position, codes, take, drop, Option, Some, None, Result, Ok, Err, slice_index_or}
 use Rattle.std.specs.List.{list_all, list_any}
 use Rattle.std.specs.Option.{option_map}
 use Rattle.std.specs.Str.{bytes_eq}
 use Rattle.std.specs.Str.Lines.{lines}
-use Rattle.dep_index.specs.declared.params.ParamKind.{ParamKind}
-use Rattle.dep_index.specs.declared.params.ParamKind.TheVariants.{Charp, One, Array}
-use Rattle.dep_index.specs.declared.params.Scalar.{Scalar}
-use Rattle.dep_index.specs.declared.params.Scalar.TheVariants as scalar
-use Rattle.dep_index.specs.declared.params.Param.{Param}
-use Rattle.dep_index.specs.declared.versions.Version.{Version}
-use Rattle.dep_index.specs.declared.versions.Version.TheVariants as text
+use Rattle.dep_index.specs.declared.catalogue.params.ParamKind.{ParamKind}
+use Rattle.dep_index.specs.declared.catalogue.params.ParamKind.TheVariants.{Charp, One, Array}
+use Rattle.dep_index.specs.declared.catalogue.params.Scalar.{Scalar}
+use Rattle.dep_index.specs.declared.catalogue.params.Scalar.TheVariants as scalar
+use Rattle.dep_index.specs.declared.catalogue.params.Param.{Param}
+use Rattle.dep_index.specs.declared.catalogue.versions.Version.{Version}
+use Rattle.dep_index.specs.declared.catalogue.versions.Version.TheVariants as text
 use Rattle.dep_index.specs.Table.{Module}
 use Rattle.text_parts.specs.Text.{words, is_comment, normal_form, is_name, number_within}
 

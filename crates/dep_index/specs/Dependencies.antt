@@ -1,4 +1,5 @@
 -- Which dependencies a modules.dep text says (modules.dep(5)): for each name, the names that it depends on.
+pub mod Pairs
 use Rattle.std.specs.Prelude.{ℕ, suc, Bool, true, false, not, if◌then◌else◌, ◌||◌, ◌==◌, List, [], ◌∷◌, ◌++◌, map, reverse, take_while, Option, Some, None, Result, Ok, Err}
 use Rattle.std.specs.List.{list_any}
 use Rattle.std.specs.Str.{bytes_eq}

@@ -1,10 +1,10 @@
 -- Legal histories: lists of calls with what they answered, and why removals are safe in them (a legal sequential
 -- history of Herlihy and Wing, "Linearizability", TOPLAS 1990).
 use Rattle.std.specs.Prelude.{◌≡◌, ◌≢◌, ℕ, List, [], ◌∷◌, ◌++◌, map, true}
-use Rattle.dep_index.specs.declared.calls.Call.{Call}
-use Rattle.dep_index.specs.declared.calls.Call.TheVariants.{Get, EndLoad}
-use Rattle.dep_index.specs.declared.calls.Reply.{Reply}
-use Rattle.dep_index.specs.declared.calls.Reply.TheVariants.{Done, NotLive}
+use Rattle.dep_index.specs.declared.table.calls.Call.{Call}
+use Rattle.dep_index.specs.declared.table.calls.Call.TheVariants.{Get, EndLoad}
+use Rattle.dep_index.specs.declared.table.calls.Reply.{Reply}
+use Rattle.dep_index.specs.declared.table.calls.Reply.TheVariants.{Done, NotLive}
 use Rattle.dep_index.specs.Table.{Module, Table, pairs, users}
 use Rattle.dep_index.specs.Calls.{after, opening, replies}
 use Rattle.dep_index.specs.Laws.{AllInRange, IsRemoval, IsShutting}

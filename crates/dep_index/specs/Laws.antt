@@ -1,9 +1,9 @@
 -- What holds of the one-thread table after every list of calls.
 use Rattle.std.specs.Prelude.{◌≡◌, ◌≢◌, ℕ, ◌==◌, ◌<◌, ◌≤◌, true, false, List, [], ◌∷◌, length, count_by, slice_index_or, ◌⊎◌, if◌then◌else◌}
-use Rattle.dep_index.specs.declared.states.ModuleState.TheVariants.{Live}
-use Rattle.dep_index.specs.declared.calls.Call.{Call}
-use Rattle.dep_index.specs.declared.calls.Call.TheVariants.{Get, EndLoad, BeginDrain, BeginRemove, EndRemove}
-use Rattle.dep_index.specs.declared.calls.Reply.TheVariants.{Done, NotLive}
+use Rattle.dep_index.specs.declared.table.states.ModuleState.TheVariants.{Live}
+use Rattle.dep_index.specs.declared.table.calls.Call.{Call}
+use Rattle.dep_index.specs.declared.table.calls.Call.TheVariants.{Get, EndLoad, BeginDrain, BeginRemove, EndRemove}
+use Rattle.dep_index.specs.declared.table.calls.Reply.TheVariants.{Done, NotLive}
 use Rattle.dep_index.specs.Table.{Module, Book, Table, state_of, is_absent, takes_references, needs_slot, users, pairs, count_of}
 use Rattle.dep_index.specs.Calls.{reply, next, after, opening, IsInRange}
 

@@ -7,14 +7,4 @@ pub mod Words
 pub mod Slots
 pub mod Catalogue
 pub mod Dependencies
-pub mod Descriptions
-pub mod Pieces
 pub mod Faults
-pub mod Pairs
-pub mod Exports
-pub mod Directives
-pub mod Drafts
-pub mod Marks
-pub mod Kept
-pub mod Ordered
-pub mod ParamNames

@@ -2,7 +2,7 @@
 use Rattle.std.specs.Prelude.{ℕ, ◌≡◌, ◌==◌, ◌≤◌, Bool, true, List, [], map, length, slice_index_or}
 use Rattle.std.specs.Global.{Vec}
 use Rattle.std.specs.List.{list_any}
-use Rattle.dep_index.specs.declared.slots.Slot.{Slot}
+use Rattle.dep_index.specs.declared.table.slots.Slot.{Slot}
 use Rattle.dep_index.specs.Table.{Module, needs_slot}
 
 -- a slot of the program, as a module

@@ -1,8 +1,10 @@
 -- The one-thread table: which modules are loaded, in which state, and who holds references to them.
+pub mod Kept
+pub mod Ordered
 use Rattle.std.specs.Prelude.{ℕ, ◌+◌, ◌==◌, nat_lt, Bool, true, false, List, [], length, filter, count_by, slice_index, slice_index_or}
 use Rattle.std.specs.List.{sum_by, list_any}
-use Rattle.dep_index.specs.declared.states.ModuleState.{ModuleState}
-use Rattle.dep_index.specs.declared.states.ModuleState.TheVariants.{Absent, Loading, Live, Draining, Unloading}
+use Rattle.dep_index.specs.declared.table.states.ModuleState.{ModuleState}
+use Rattle.dep_index.specs.declared.table.states.ModuleState.TheVariants.{Absent, Loading, Live, Draining, Unloading}
 
 -- what the catalogue says of a slot: the slots that it needs, in the order of its symbols
 pub record Module : Type 0 where

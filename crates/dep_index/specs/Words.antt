@@ -1,12 +1,12 @@
 -- The root words, and what one step on a word does. The words are a root of SNZI, with Arrive (get), Depart (put) and
 -- Query: Ellen, Lev, Luchangco, Moir, "SNZI: Scalable NonZero Indicators", PODC 2007.
 use Rattle.std.specs.Prelude.{◌≡◌, ◌≢◌, ◌<◌, length, ℕ, ◌+◌, ◌-◌, ◌==◌, nat_lt, Bool, true, List, Option, Some, None, if◌then◌else◌}
-use Rattle.dep_index.specs.declared.states.ModuleState.{ModuleState}
-use Rattle.dep_index.specs.declared.states.ModuleState.TheVariants.{Live, Draining}
-use Rattle.dep_index.specs.declared.calls.Call.{Call}
-use Rattle.dep_index.specs.declared.calls.Call.TheVariants.{Get, Put, InUse as Query, EndLoad, BeginDrain, BeginRemove, EndRemove}
-use Rattle.dep_index.specs.declared.calls.Reply.{Reply}
-use Rattle.dep_index.specs.declared.calls.Reply.TheVariants.{Done, Yes, No, NotLive, TooMany, NotHeld, InUse}
+use Rattle.dep_index.specs.declared.table.states.ModuleState.{ModuleState}
+use Rattle.dep_index.specs.declared.table.states.ModuleState.TheVariants.{Live, Draining}
+use Rattle.dep_index.specs.declared.table.calls.Call.{Call}
+use Rattle.dep_index.specs.declared.table.calls.Call.TheVariants.{Get, Put, InUse as Query, EndLoad, BeginDrain, BeginRemove, EndRemove}
+use Rattle.dep_index.specs.declared.table.calls.Reply.{Reply}
+use Rattle.dep_index.specs.declared.table.calls.Reply.TheVariants.{Done, Yes, No, NotLive, TooMany, NotHeld, InUse}
 pub use Rattle.dep_index.specs.declared.words.Outcome.{Outcome}
 pub use Rattle.dep_index.specs.declared.words.Outcome.TheVariants.{Effect, GoesOn}
 pub use Rattle.dep_index.specs.declared.words.WordStep.{WordStep}

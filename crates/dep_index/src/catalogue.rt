@@ -1,11 +1,22 @@
 //! A catalogue by slot.
 ghost use Rattle.std.specs.Prelude.{◌≡◌, ◌<◌, ◌≤◌, length, unwrap_or, IfOk};
 ghost use Rattle.dep_index.specs.Catalogue.{description_at, slot_named, needs_of, has_unknown_symbol, modules_of};
-ghost use Rattle.dep_index.specs.Descriptions.{descriptions_in};
+ghost use Rattle.dep_index.specs.Catalogue.Descriptions.{descriptions_in};
 
-use crate::details::Details;
-use crate::params::Param;
-use crate::slots::Slots;
+pub(crate) mod details;
+pub(crate) mod directives;
+pub(crate) mod draft;
+pub(crate) mod exporters;
+pub(crate) mod needs;
+pub(crate) mod param_list;
+pub(crate) mod params;
+pub(crate) mod symbols;
+pub(crate) mod text;
+pub(crate) mod versions;
+
+use crate::catalogue::details::Details;
+use crate::catalogue::params::Param;
+use crate::table::slots::Slots;
 use indexmap::IndexMap;
 use std::alloc::{AllocError, Global};
 use std::marker::Model;
@@ -34,7 +45,7 @@ impl Model for Catalogue {
 
     ghost Value = { List Description };
 
-    ghost use Rattle.dep_index.specs.Descriptions.{descriptions_in};
+    ghost use Rattle.dep_index.specs.Catalogue.Descriptions.{descriptions_in};
 
     ghost view = { λ c. descriptions_in c.modules.entries };
 

@@ -2,7 +2,10 @@
 ghost use Rattle.std.specs.Prelude.{◌≡◌};
 ghost use Rattle.std.specs.Option.{option_map};
 ghost use Rattle.dep_index.specs.Dependencies.{deps};
-ghost use Rattle.dep_index.specs.Pairs.{pairs_in};
+ghost use Rattle.dep_index.specs.Dependencies.Pairs.{pairs_in};
+
+pub(crate) mod paths;
+pub(crate) mod text;
 
 use indexmap::IndexMap;
 use std::marker::Model;
@@ -27,7 +30,7 @@ impl Model for DepIndex {
 
     ghost Value = { List Pair };
 
-    ghost use Rattle.dep_index.specs.Pairs.{pairs_in};
+    ghost use Rattle.dep_index.specs.Dependencies.Pairs.{pairs_in};
 
     ghost view = { λ d. pairs_in d.lines.entries };
 }

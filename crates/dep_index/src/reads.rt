@@ -2,8 +2,8 @@
 ghost use Rattle.std.specs.Prelude.{◌≡◌, not, find, slice_index_or};
 ghost use Rattle.dep_index.specs.Table.{is_absent, is_loading, is_live, is_draining, is_unloading, needs_slot};
 
-use crate::slots::Slots;
-use crate::states::ModuleState;
+use crate::table::slots::Slots;
+use crate::table::states::ModuleState;
 
 /// The state of the slot, Absent past the end.
 pub fn state_at(states: &[ModuleState], slot: usize) -> ModuleState

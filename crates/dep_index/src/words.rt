@@ -3,7 +3,7 @@
 ghost use Rattle.std.specs.Prelude.{◌≡◌, ◌<◌, ◌+◌, ◌≤◌, ◌^◌};
 ghost use Rattle.dep_index.specs.Words.{get_look, put_step, query_look, shows_holders, close_step, takes_effect};
 
-use crate::calls::Reply;
+use crate::table::calls::Reply;
 
 /// What a step on a word comes to.
 #[derive(Clone, Copy, Debug, PartialEq, Eq, Drop)]

@@ -1,6 +1,6 @@
 -- How a call on a handle ended: the handle before, the number that is answered, the handle after.
 use Rattle.std.specs.Prelude.{◌≡◌, ℕ, ◌<◌, ◌≤◌, ◌==◌, length, slice_index, Option, MatchOption, MatchBool}
-use Rattle.dep_index.specs.declared.calls.Reply.{Reply}
+use Rattle.dep_index.specs.declared.table.calls.Reply.{Reply}
 use Rattle.root_row.specs.declared.calls.LeafCall.{LeafCall}
 use Rattle.root_row.specs.declared.calls.LeafCall.TheVariants.{Get}
 use Rattle.root_row.specs.declared.calls.BookCall.{BookCall}

@@ -1,6 +1,6 @@
 -- A run that is accepted, computed.
 use Rattle.std.specs.Prelude.{List, [], ◌∷◌, false, refl}
-use Rattle.dep_index.specs.declared.calls.Call.TheVariants.{InUse as Query}
+use Rattle.dep_index.specs.declared.table.calls.Call.TheVariants.{InUse as Query}
 use Rattle.dep_index.specs.Table.{Module}
 use Rattle.step_core.specs.declared.steps.Step.TheVariants.{Invoke, Go}
 use Rattle.step_core.specs.Machine.{start}

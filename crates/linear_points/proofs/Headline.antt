@@ -3,8 +3,8 @@ use Rattle.std.proofs.Common.{map, ◌≡◌, ℕ, suc, ◌+◌, ◌<◌, ◌≤
 use Rattle.std.specs.Option.{IsSomeAnd, IfSome, MatchOption}
 use Rattle.std.specs.List.{slice_get}
 use Rattle.std.specs.Prelude.{All}
-use Rattle.dep_index.specs.declared.calls.Call.{Call}
-use Rattle.dep_index.specs.declared.calls.Reply.{Reply}
+use Rattle.dep_index.specs.declared.table.calls.Call.{Call}
+use Rattle.dep_index.specs.declared.table.calls.Reply.{Reply}
 use Rattle.dep_index.specs.Table.{Module}
 use Rattle.dep_index.specs.Calls.{opening, replies}
 use Rattle.dep_index.specs.Laws.{AllInRange}

@@ -1,7 +1,7 @@
 -- The calls of a run are numbered in the order in which they are invoked.
 use Rattle.std.proofs.Common.{◌≡◌, ℕ, zero, suc, ◌+◌, ◌<◌, Bool, true, false, eqb, cond, List, [], ◌∷◌, length, get_or, Option, Some, None, refl, sym, ap, subst, arith}
 use Rattle.std.proofs.lemmas.Bool.{eqb-true}
-use Rattle.dep_index.specs.declared.calls.Call.{Call}
+use Rattle.dep_index.specs.declared.table.calls.Call.{Call}
 use Rattle.dep_index.specs.Table.{Module}
 use Rattle.dep_index.specs.Calls.{IsInRange}
 use Rattle.dep_index.specs.Laws.{AllInRange}

@@ -1,7 +1,7 @@
 -- The calls of an accepted run are in range.
 use Rattle.std.proofs.Common.{◌≡◌, ◌<◌, ℕ, Bool, true, false, List, [], ◌∷◌, cond, length, ltb, ltb-true, refl, arith}
 use Rattle.std.specs.Prelude.{Option, Some, None, is_some}
-use Rattle.dep_index.specs.declared.calls.Call.{Call}
+use Rattle.dep_index.specs.declared.table.calls.Call.{Call}
 use Rattle.dep_index.specs.Table.{Module}
 use Rattle.dep_index.specs.Calls.{IsInRange, IsWorkerInRange, slot_of, worker_of}
 use Rattle.dep_index.specs.Laws.{AllInRange}

@@ -3,8 +3,8 @@
 -- one-thread table, and each point lies between its call's first step and its last.
 use Rattle.std.specs.Prelude.{◌≡◌, ℕ, ◌+◌, ◌==◌, ◌<◌, ◌≤◌, Bool, false, List, [], ◌∷◌, length, map, count_by, if◌then◌else◌, Option, Some, None, IfSome, IsSomeAnd, MatchOption, All}
 use Rattle.std.specs.List.Sorted.{IsStrictlyIncreasing}
-use Rattle.dep_index.specs.declared.calls.Call.{Call}
-use Rattle.dep_index.specs.declared.calls.Reply.{Reply}
+use Rattle.dep_index.specs.declared.table.calls.Call.{Call}
+use Rattle.dep_index.specs.declared.table.calls.Reply.{Reply}
 use Rattle.dep_index.specs.Table.{Module}
 use Rattle.dep_index.specs.History.{Answer, IsLegal}
 use Rattle.dep_index.specs.Words.{closed}

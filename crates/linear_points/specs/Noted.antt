@@ -1,8 +1,8 @@
 -- What the events of a run say of the next step, and of points. It serves proofs alone.
 use Rattle.std.specs.Prelude.{◌≡◌, ℕ, ◌+◌, ◌<◌, List, [], ◌∷◌, ◌++◌, map, slice_set, slice_index_or, Some, None, is_some, if◌then◌else◌}
-use Rattle.dep_index.specs.declared.calls.Call.{Call}
-use Rattle.dep_index.specs.declared.calls.Call.TheVariants.{InUse as Query}
-use Rattle.dep_index.specs.declared.calls.Reply.{Reply}
+use Rattle.dep_index.specs.declared.table.calls.Call.{Call}
+use Rattle.dep_index.specs.declared.table.calls.Call.TheVariants.{InUse as Query}
+use Rattle.dep_index.specs.declared.table.calls.Reply.{Reply}
 use Rattle.step_core.specs.declared.steps.Step.{Step}
 use Rattle.step_core.specs.declared.steps.Step.TheVariants.{Invoke, Go}
 use Rattle.step_core.specs.declared.steps.Event.{Event}

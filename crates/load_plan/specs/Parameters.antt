@@ -5,11 +5,11 @@ use Rattle.std.specs.Option.{option_map}
 use Rattle.std.specs.Str.{bytes_eq}
 use Rattle.text_parts.specs.Text.{normal_form, is_digit}
 use Rattle.dep_index.specs.Catalogue.{Description}
-use Rattle.dep_index.specs.declared.params.ParamKind.{ParamKind}
-use Rattle.dep_index.specs.declared.params.ParamKind.TheVariants.{Charp, One, Array}
-use Rattle.dep_index.specs.declared.params.Scalar.{Scalar}
-use Rattle.dep_index.specs.declared.params.Scalar.TheVariants.{Byte, Short, Ushort, Int, Uint, Long, Ulong, Ullong, Hexint, Bool as Boolean, Bint, Invbool}
-use Rattle.dep_index.specs.declared.params.Param.{Param}
+use Rattle.dep_index.specs.declared.catalogue.params.ParamKind.{ParamKind}
+use Rattle.dep_index.specs.declared.catalogue.params.ParamKind.TheVariants.{Charp, One, Array}
+use Rattle.dep_index.specs.declared.catalogue.params.Scalar.{Scalar}
+use Rattle.dep_index.specs.declared.catalogue.params.Scalar.TheVariants.{Byte, Short, Ushort, Int, Uint, Long, Ulong, Ullong, Hexint, Bool as Boolean, Bint, Invbool}
+use Rattle.dep_index.specs.declared.catalogue.params.Param.{Param}
 use Rattle.load_plan.specs.declared.values.Base.{Base}
 use Rattle.load_plan.specs.declared.values.Base.TheVariants.{Decimal, Hexadecimal}
 

@@ -1,8 +1,8 @@
 -- A turn in which the value made one call, or none.
 use Rattle.std.proofs.Common.{◌≡◌, ℕ, [], ◌∷◌, ◌++◌, Option, Some, None, IfSome, IfNone, MatchOption, sym, ap, ◌∙◌, subst, append_assoc, append-nil}
 use lib.ListN.{get_elem?}
-use Rattle.dep_index.specs.declared.calls.Call.{Call}
-use Rattle.dep_index.specs.declared.calls.Reply.{Reply}
+use Rattle.dep_index.specs.declared.table.calls.Call.{Call}
+use Rattle.dep_index.specs.declared.table.calls.Reply.{Reply}
 use Rattle.dep_index.specs.History.{IsLegal}
 use Rattle.dep_index.specs.Table.{Table}
 use Rattle.root_row.specs.declared.view.World.{World}

@@ -1,6 +1,6 @@
 -- A turn that was given up, or in which the value made one call, or none.
 use Rattle.std.proofs.Common.{◌≡◌, ℕ, Option, Some, None, IfSome, IfNone, MatchOption, refl, sym, ◌∙◌, subst}
-use Rattle.dep_index.specs.declared.calls.Reply.{Reply}
+use Rattle.dep_index.specs.declared.table.calls.Reply.{Reply}
 use Rattle.dep_index.specs.Table.{Table}
 use Rattle.root_row.specs.declared.view.SeatName.TheVariants as name_is
 use Rattle.root_row.specs.declared.calls.BookCall.{BookCall}

@@ -1,8 +1,8 @@
 -- A caller's pass that has a worker's leaf in hand, and one that has let it go.
 use Rattle.std.specs.Prelude.{◌≡◌, ℕ, List}
 use Rattle.atomic_table.specs.declared.shared.Seat.{Seat}
-use Rattle.dep_index.specs.declared.calls.Call.{Call}
-use Rattle.dep_index.specs.declared.calls.Reply.{Reply}
+use Rattle.dep_index.specs.declared.table.calls.Call.{Call}
+use Rattle.dep_index.specs.declared.table.calls.Reply.{Reply}
 use Rattle.root_row.specs.declared.view.AtomicStep.{AtomicStep}
 use Rattle.root_row.specs.Seats.{Seated}
 use Rattle.root_row.specs.declared.view.SeatName.TheVariants as name_is

@@ -2,7 +2,7 @@
 use Rattle.std.specs.Prelude.{◌≡◌, ℕ, ◌<◌, ◌≤◌, List, length, slice_index}
 use mathlib.Core.Option.{some}
 use lib.ListN.{get_elem?}
-use Rattle.dep_index.specs.declared.states.ModuleState.{ModuleState}
+use Rattle.dep_index.specs.declared.table.states.ModuleState.{ModuleState}
 use Rattle.dep_index.specs.Table.{Table, state_of}
 
 -- the worker holds the module so often

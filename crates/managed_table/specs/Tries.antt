@@ -1,6 +1,6 @@
 -- How often a leaf tried a get, as the steps that it made show it.
 use Rattle.std.specs.Prelude.{ℕ}
-use Rattle.dep_index.specs.declared.calls.Reply.{Reply}
+use Rattle.dep_index.specs.declared.table.calls.Reply.{Reply}
 use Rattle.root_row.specs.Seats.{Seated}
 use Rattle.root_row.specs.StepsMade.{SameView}
 use Rattle.root_row.specs.Views.{count_of}

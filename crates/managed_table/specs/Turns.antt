@@ -3,8 +3,8 @@ use Rattle.std.specs.Prelude.{◌≡◌, ◌⊎◌, ℕ, ◌==◌, List, [], ◌
 use mathlib.Core.Option as core
 use lib.ListN.{get_elem?}
 use Rattle.atomic_table.specs.Table.{Me, Step}
-use Rattle.dep_index.specs.declared.calls.Call.{Call}
-use Rattle.dep_index.specs.declared.calls.Reply.{Reply}
+use Rattle.dep_index.specs.declared.table.calls.Call.{Call}
+use Rattle.dep_index.specs.declared.table.calls.Reply.{Reply}
 use Rattle.dep_index.specs.History.{IsLegal}
 use Rattle.dep_index.specs.Table.{Table}
 use Rattle.root_row.specs.declared.view.SeatAnswer.{SeatAnswer}

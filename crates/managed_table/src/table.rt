@@ -51,7 +51,7 @@ impl ManagedTable {
     ghost use Rattle.std.specs.Fn.{FnOnceReturnsAtMut};
     ghost use Rattle.dep_index.specs.Catalogue.{modules_of};
     ghost use Rattle.dep_index.specs.Words.{closed};
-    ghost use Rattle.dep_index.specs.declared.calls.Reply.TheVariants.{Yes, No};
+    ghost use Rattle.dep_index.specs.declared.table.calls.Reply.TheVariants.{Yes, No};
     ghost use Rattle.root_row.specs.World.{slots};
     ghost use Rattle.root_row.specs.Made.{new_reader, AreNew};
     ghost use Rattle.root_row.specs.Seats.{IsOf};

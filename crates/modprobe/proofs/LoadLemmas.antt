@@ -3,11 +3,11 @@ use Rattle.std.proofs.Common.{◌≡◌, ◌≢◌, ℕ, ◌<◌, Bool, true, fa
 use Rattle.std.specs.Prelude.{is_some, unwrap_or, find}
 use Rattle.std.specs.List.{list_all}
 use Rattle.std.proofs.Math.ListN.{set}
-use Rattle.dep_index.specs.declared.states.ModuleState.{ModuleState}
-use Rattle.dep_index.specs.declared.states.ModuleState.TheVariants.{Absent, Loading, Live}
-use Rattle.dep_index.specs.declared.calls.Call.TheVariants.{BeginLoad, EndLoad}
-use Rattle.dep_index.specs.declared.calls.Reply.{Reply}
-use Rattle.dep_index.specs.declared.calls.Reply.TheVariants.{Done, Exists, UnknownSymbol, NotLoading}
+use Rattle.dep_index.specs.declared.table.states.ModuleState.{ModuleState}
+use Rattle.dep_index.specs.declared.table.states.ModuleState.TheVariants.{Absent, Loading, Live}
+use Rattle.dep_index.specs.declared.table.calls.Call.TheVariants.{BeginLoad, EndLoad}
+use Rattle.dep_index.specs.declared.table.calls.Reply.{Reply}
+use Rattle.dep_index.specs.declared.table.calls.Reply.TheVariants.{Done, Exists, UnknownSymbol, NotLoading}
 use Rattle.dep_index.specs.Table.{Module, Book, Table, module_at, state_of, is_absent, is_loading, is_live}
 use Rattle.dep_index.specs.Calls.{refuse, or_else, missing_need, refusal, next, effect}
 use Rattle.dep_index.specs.Catalogue.{description_at, module_of, modules_of, needs_of, has_unknown_symbol}

@@ -3,10 +3,10 @@ use Rattle.std.specs.Prelude.{ℕ, Bool, true, false, if◌then◌else◌, List,
 use Rattle.dep_index.specs.Table.{Table, state_of, is_draining}
 use Rattle.dep_index.specs.Catalogue.{description_at, modules_of}
 use Rattle.dep_index.specs.Calls.{reply, next}
-use Rattle.dep_index.specs.declared.calls.Call.{Call}
-use Rattle.dep_index.specs.declared.calls.Call.TheVariants as call
-use Rattle.dep_index.specs.declared.calls.Reply.{Reply}
-use Rattle.dep_index.specs.declared.calls.Reply.TheVariants as reply_is
+use Rattle.dep_index.specs.declared.table.calls.Call.{Call}
+use Rattle.dep_index.specs.declared.table.calls.Call.TheVariants as call
+use Rattle.dep_index.specs.declared.table.calls.Reply.{Reply}
+use Rattle.dep_index.specs.declared.table.calls.Reply.TheVariants as reply_is
 use Rattle.load_plan.specs.Parameters.{are_valid}
 use Rattle.modprobe.specs.declared.refusal.Code.{Code}
 use Rattle.modprobe.specs.declared.refusal.Code.TheVariants.{Einval}

@@ -2,8 +2,8 @@
 use Rattle.std.specs.Prelude.{◌≡◌, ℕ, ◌+◌, ◌≤◌, Bool, true, false, List, ◌++◌, ◌∷◌, [], length, codes, Option, Some, None, ⊤, Result, Ok, Err}
 use Rattle.text_parts.specs.Text.{Line, cut_lines, texts_of}
 use Rattle.dep_index.specs.Catalogue.{Description, description_at}
-use Rattle.dep_index.specs.declared.calls.Call.{Call}
-use Rattle.dep_index.specs.declared.calls.Call.TheVariants as call
+use Rattle.dep_index.specs.declared.table.calls.Call.{Call}
+use Rattle.dep_index.specs.declared.table.calls.Call.TheVariants as call
 use Rattle.dep_index.specs.declared.faults.CatError.{CatError}
 use Rattle.dep_index.specs.declared.faults.CatError.TheVariants as cat
 use Rattle.dep_index.specs.declared.faults.DepError.{DepError}

@@ -6,7 +6,7 @@ use Rattle.load_plan.specs.declared.items.Item.{Item}
 use Rattle.load_plan.specs.declared.items.PlanError.{PlanError}
 use Rattle.load_plan.specs.Sources.{is_kept}
 use Rattle.load_plan.specs.Items.{removal_plan_of}
-use Rattle.dep_index.specs.declared.states.ModuleState.{ModuleState}
+use Rattle.dep_index.specs.declared.table.states.ModuleState.{ModuleState}
 use Rattle.modprobe.specs.declared.request.Aim.{Aim}
 use Rattle.modprobe.specs.declared.request.Aim.TheVariants.{Live, Absent}
 use Rattle.modprobe.specs.Setup.{Setup, name_at}

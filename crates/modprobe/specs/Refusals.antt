@@ -1,8 +1,8 @@
 -- Why a command is refused, and how that is told. The codes are those of init_module(2) and delete_module(2), as far as
 -- these have one.
 use Rattle.std.specs.Prelude.{ℕ, List, [], ◌∷◌, ◌++◌, codes, Option, Some}
-use Rattle.dep_index.specs.declared.calls.Reply.{Reply}
-use Rattle.dep_index.specs.declared.calls.Reply.TheVariants as reply_is
+use Rattle.dep_index.specs.declared.table.calls.Reply.{Reply}
+use Rattle.dep_index.specs.declared.table.calls.Reply.TheVariants as reply_is
 use Rattle.load_plan.specs.declared.items.PlanError.{PlanError}
 use Rattle.load_plan.specs.declared.items.PlanError.TheVariants as plan_error
 use Rattle.modprobe.specs.declared.refusal.Code.{Code}

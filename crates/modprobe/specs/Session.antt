@@ -4,8 +4,8 @@ use Rattle.std.specs.List.{starts_with}
 use Rattle.std.specs.Char.{is_ascii_uppercase}
 use Rattle.dep_index.specs.Table.{Table, is_held}
 use Rattle.dep_index.specs.Catalogue.{slot_named}
-use Rattle.dep_index.specs.declared.calls.Call.{Call}
-use Rattle.dep_index.specs.declared.calls.Call.TheVariants as call
+use Rattle.dep_index.specs.declared.table.calls.Call.{Call}
+use Rattle.dep_index.specs.declared.table.calls.Call.TheVariants as call
 use Rattle.proc_modules.specs.Listings.{lsmod_text, proc_text}
 use Rattle.proc_modules.specs.Details.{modinfo_text}
 use Rattle.modprobe.specs.declared.refusal.Code.TheVariants.{Enoent, Worker, Syntax}

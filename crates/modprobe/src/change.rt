@@ -1,7 +1,7 @@
 //! What is made of one module of the table: a load, a removal, a drain, a reference. It takes no memory.
 ghost use Rattle.std.specs.Prelude.{◌≡◌, ◌<◌, length};
 ghost use Rattle.text_parts.specs.Text.{texts_of};
-ghost use Rattle.dep_index.specs.declared.calls.Call.TheVariants as calls;
+ghost use Rattle.dep_index.specs.declared.table.calls.Call.TheVariants as calls;
 ghost use Rattle.modprobe.specs.Refusals.{code_of, unload_code};
 ghost use Rattle.modprobe.specs.Changes.{call_change, end_of_load, one_load, one_removal};
 ghost use Rattle.modprobe.specs.ForProofs.{refusal_in, call_of};

@@ -1,7 +1,7 @@
 -- Which atomic steps a call of the book makes.
 use Rattle.std.specs.Prelude.{ℕ, true, false, ◌&&◌, [], ◌∷◌, MatchBool}
-use Rattle.dep_index.specs.declared.calls.Reply.{Reply}
-use Rattle.dep_index.specs.declared.calls.Reply.TheVariants.{Done, InUse}
+use Rattle.dep_index.specs.declared.table.calls.Reply.{Reply}
+use Rattle.dep_index.specs.declared.table.calls.Reply.TheVariants.{Done, InUse}
 use Rattle.dep_index.specs.Table.{is_draining}
 use Rattle.dep_index.specs.Calls.{is_done}
 use Rattle.dep_index.specs.Words.{closed, drained}

@@ -47,7 +47,7 @@ impl Manager {
     ghost use Rattle.root_row.specs.Made.{new_reader, AreNew};
     ghost use Rattle.root_row.specs.Seats.{IsOf};
     ghost use Rattle.root_row.specs.Steps.{ReaderAnswered};
-    ghost use Rattle.dep_index.specs.declared.calls.Reply.TheVariants.{Yes, No};
+    ghost use Rattle.dep_index.specs.declared.table.calls.Reply.TheVariants.{Yes, No};
 
     /// A manager over a catalogue, with a reader for each worker. Every module is Absent, and nothing is held.
     pub fn new(

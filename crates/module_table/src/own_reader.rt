@@ -26,7 +26,7 @@ impl Model for OwnReader {
 impl OwnReader {
     ghost use Rattle.std.specs.Prelude.{◌≡◌, ◌<◌, ◌≤◌, IfSome, MatchOption, if◌then◌else◌};
     ghost use Rattle.std.specs.Arc.{arc_value};
-    ghost use Rattle.dep_index.specs.declared.calls.Reply.TheVariants.{Yes, No};
+    ghost use Rattle.dep_index.specs.declared.table.calls.Reply.TheVariants.{Yes, No};
     ghost use Rattle.root_row.specs.World.{slots};
     ghost use Rattle.root_row.specs.Seats.{IsOf};
     ghost use Rattle.root_row.specs.Steps.{ReaderAnswered};

@@ -21,7 +21,7 @@ use Rattle.proc_modules.specs.declared.line.Line.{Line}
 use Rattle.proc_modules.specs.LineText.{line_text, head_text, tail_text, with_comma, is_used}
 use Rattle.std.proofs.Common.{not}
 use Rattle.std.proofs.lemmas.List.Concat.{flat_map-append}
-use Rattle.dep_index.specs.declared.params.Param.{Param}
+use Rattle.dep_index.specs.declared.catalogue.params.Param.{Param}
 use Rattle.proc_modules.specs.Listings.{newest_first}
 use Rattle.proc_modules.specs.Details.{param_line}
 use Rattle.proc_modules.specs.UserRows.{WithUser, if_user, HaveUsers, AllListed}

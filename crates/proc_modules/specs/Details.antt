@@ -1,11 +1,11 @@
 -- What modinfo(8) tells of a module of a catalogue.
 use Rattle.std.specs.Prelude.{ℕ, List, ◌++◌, flat_map, codes, decimal}
 use Rattle.std.specs.List.{join_with_byte}
-use Rattle.dep_index.specs.declared.params.ParamKind.{ParamKind}
-use Rattle.dep_index.specs.declared.params.ParamKind.TheVariants.{Charp, One, Array}
-use Rattle.dep_index.specs.declared.params.Scalar.{Scalar}
-use Rattle.dep_index.specs.declared.params.Scalar.TheVariants.{Byte, Short, Ushort, Int, Uint, Long, Ulong, Ullong, Hexint, Bool, Bint, Invbool}
-use Rattle.dep_index.specs.declared.params.Param.{Param}
+use Rattle.dep_index.specs.declared.catalogue.params.ParamKind.{ParamKind}
+use Rattle.dep_index.specs.declared.catalogue.params.ParamKind.TheVariants.{Charp, One, Array}
+use Rattle.dep_index.specs.declared.catalogue.params.Scalar.{Scalar}
+use Rattle.dep_index.specs.declared.catalogue.params.Scalar.TheVariants.{Byte, Short, Ushort, Int, Uint, Long, Ulong, Ullong, Hexint, Bool, Bint, Invbool}
+use Rattle.dep_index.specs.declared.catalogue.params.Param.{Param}
 use Rattle.dep_index.specs.Catalogue.{Description, description_at, needs_of}
 use Rattle.proc_modules.specs.Listings.{left_in, name_of, names_of, size_of}
 

@@ -1,8 +1,8 @@
 -- The listings of a table of modules: /proc/modules (proc(5)) and lsmod(8).
 use Rattle.std.specs.Prelude.{ℕ, Bool, true, false, ◌-◌, List, [], ◌∷◌, ◌++◌, map, flat_map, reverse, replicate, length, codes, decimal, unwrap_or}
 use Rattle.std.specs.List.{join_with_byte}
-use Rattle.dep_index.specs.declared.states.ModuleState.{ModuleState}
-use Rattle.dep_index.specs.declared.states.ModuleState.TheVariants as module_is
+use Rattle.dep_index.specs.declared.table.states.ModuleState.{ModuleState}
+use Rattle.dep_index.specs.declared.table.states.ModuleState.TheVariants as module_is
 use Rattle.dep_index.specs.Catalogue.{Description, description_at, modules_of}
 use Rattle.dep_index.specs.Table.{Table, state_of, users, references}
 use Rattle.proc_modules.specs.declared.entry.Entry.{Entry}

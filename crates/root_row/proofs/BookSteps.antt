@@ -5,10 +5,10 @@ use lib.ListN.{get_elem?}
 use prog.Atomic.{either}
 use Rattle.atomic_table.specs.Table.{Me, Step, Act, Valid, keeps, carried_after, step, stepped, Allows}
 use Rattle.atomic_table.proofs.Lists.{exchanged}
-use Rattle.dep_index.specs.declared.states.ModuleState.{ModuleState}
-use Rattle.dep_index.specs.declared.states.ModuleState.TheVariants as state_is
-use Rattle.dep_index.specs.declared.calls.Reply.{Reply}
-use Rattle.dep_index.specs.declared.calls.Reply.TheVariants.{Done, InUse, NotLoading, NotUnloading}
+use Rattle.dep_index.specs.declared.table.states.ModuleState.{ModuleState}
+use Rattle.dep_index.specs.declared.table.states.ModuleState.TheVariants as state_is
+use Rattle.dep_index.specs.declared.table.calls.Reply.{Reply}
+use Rattle.dep_index.specs.declared.table.calls.Reply.TheVariants.{Done, InUse, NotLoading, NotUnloading}
 use Rattle.dep_index.specs.Table.{Book, Table, state_of, is_loading, is_draining, is_unloading, holders}
 use Rattle.dep_index.specs.Calls.{or_else, refuse, book_refusal, reply, next, effect, book_effect, book_given, is_done, IsInRange}
 use Rattle.dep_index.specs.Words.{word_in, word_of, book_step, close_step, takes_effect, unless_refused, closed, drained, MatchOutcome, is_open}

@@ -5,11 +5,11 @@ use lib.ListN.{get_elem?}
 use prog.Atomic.{either}
 use Rattle.atomic_table.specs.Table.{Me, Step, Act, Valid, keeps, carried_after, step, stepped, Allows}
 use Rattle.atomic_table.proofs.Lists.{set_here, set_else, exchanged}
-use Rattle.dep_index.specs.declared.states.ModuleState.{ModuleState}
-use Rattle.dep_index.specs.declared.states.ModuleState.TheVariants as state_is
-use Rattle.dep_index.specs.declared.calls.Call.TheVariants as call_is
-use Rattle.dep_index.specs.declared.calls.Reply.{Reply}
-use Rattle.dep_index.specs.declared.calls.Reply.TheVariants.{Done, NotLive, TooMany, NotHeld}
+use Rattle.dep_index.specs.declared.table.states.ModuleState.{ModuleState}
+use Rattle.dep_index.specs.declared.table.states.ModuleState.TheVariants as state_is
+use Rattle.dep_index.specs.declared.table.calls.Call.TheVariants as call_is
+use Rattle.dep_index.specs.declared.table.calls.Reply.{Reply}
+use Rattle.dep_index.specs.declared.table.calls.Reply.TheVariants.{Done, NotLive, TooMany, NotHeld}
 use Rattle.dep_index.specs.declared.words.Outcome.{Outcome}
 use Rattle.dep_index.specs.declared.words.Outcome.TheVariants.{Effect, GoesOn}
 use Rattle.dep_index.specs.Table as dep

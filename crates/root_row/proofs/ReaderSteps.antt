@@ -2,8 +2,8 @@
 use Rattle.std.proofs.Common.{◌≡◌, ℕ, ◌<◌, cond, List, [], ◌∷◌, get_or, refl, sym, subst}
 use mathlib.Core.Option.{none}
 use Rattle.atomic_table.specs.Table.{Me, Step, keeps, step, Allows}
-use Rattle.dep_index.specs.declared.calls.Call.TheVariants as call_is
-use Rattle.dep_index.specs.declared.calls.Reply.TheVariants.{Yes, No}
+use Rattle.dep_index.specs.declared.table.calls.Call.TheVariants as call_is
+use Rattle.dep_index.specs.declared.table.calls.Reply.TheVariants.{Yes, No}
 use Rattle.dep_index.specs.Table.{Table}
 use Rattle.dep_index.specs.Calls.{next}
 use Rattle.dep_index.specs.Words.{query_look, shows_holders, IsRightStep}

@@ -5,7 +5,7 @@ use lib.ListN.{get_elem?}
 use prog.Atomic.{either}
 use Rattle.atomic_table.specs.Table.{State, Step, homes_after, step, Allows, Splits, Joins}
 use Rattle.atomic_table.proofs.Lists.{at_map}
-use Rattle.dep_index.specs.declared.states.ModuleState.TheVariants as state_is
+use Rattle.dep_index.specs.declared.table.states.ModuleState.TheVariants as state_is
 use Rattle.dep_index.specs.Words.{closed, drained}
 use Rattle.root_row.specs.declared.calls.LeafCall.{LeafCall}
 use Rattle.root_row.specs.declared.calls.BookCall.{BookCall}

@@ -1,8 +1,8 @@
 -- Histories of a row: calls with what they were answered, each with the seat that made it.
 use Rattle.std.specs.Prelude.{◌≡◌, Bool, true, false, IsTrue, ◌==◌, List, ◌++◌, filter, map, All}
-use Rattle.dep_index.specs.declared.calls.Call.{Call}
-use Rattle.dep_index.specs.declared.calls.Call.TheVariants.{Get, Put, InUse as Query}
-use Rattle.dep_index.specs.declared.calls.Reply.{Reply}
+use Rattle.dep_index.specs.declared.table.calls.Call.{Call}
+use Rattle.dep_index.specs.declared.table.calls.Call.TheVariants.{Get, Put, InUse as Query}
+use Rattle.dep_index.specs.declared.table.calls.Reply.{Reply}
 use Rattle.dep_index.specs.Table.{Table}
 use Rattle.dep_index.specs.History as history
 use Rattle.dep_index.specs.History.{Answer}

@@ -1,10 +1,10 @@
 -- What each step on the row tells the seat that makes it.
 use Rattle.std.specs.Prelude.{◌≡◌, ℕ, Bool, ◌==◌, if◌then◌else◌, List, [], ◌∷◌, ◌++◌, MatchBool}
 use Rattle.atomic_table.specs.Table.{Me, Step}
-use Rattle.dep_index.specs.declared.calls.Call.{Call}
-use Rattle.dep_index.specs.declared.calls.Call.TheVariants as call_is
-use Rattle.dep_index.specs.declared.calls.Reply.{Reply}
-use Rattle.dep_index.specs.declared.calls.Reply.TheVariants.{Done, Yes, No}
+use Rattle.dep_index.specs.declared.table.calls.Call.{Call}
+use Rattle.dep_index.specs.declared.table.calls.Call.TheVariants as call_is
+use Rattle.dep_index.specs.declared.table.calls.Reply.{Reply}
+use Rattle.dep_index.specs.declared.table.calls.Reply.TheVariants.{Done, Yes, No}
 use Rattle.dep_index.specs.declared.words.Outcome.{Outcome}
 use Rattle.dep_index.specs.declared.words.Outcome.TheVariants.{GoesOn}
 use Rattle.dep_index.specs.History.{IsLegal}

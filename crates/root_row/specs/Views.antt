@@ -1,6 +1,6 @@
 -- What a seat's view shows. A seat of one member is a leaf's, a reader's or the book's.
 use Rattle.std.specs.Prelude.{◌≡◌, ℕ, Bool, List, [], ◌∷◌, map, slice_index}
-use Rattle.dep_index.specs.declared.states.ModuleState.{ModuleState}
+use Rattle.dep_index.specs.declared.table.states.ModuleState.{ModuleState}
 use Rattle.dep_index.specs.Table.{Book, state_of, is_draining}
 use Rattle.root_row.specs.declared.view.Part as part
 use Rattle.root_row.specs.declared.view.Part.TheVariants as part_is

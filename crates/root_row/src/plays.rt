@@ -38,7 +38,7 @@ pub(crate) struct Depart;
 
 impl Play<(), Trail> for Depart {
     ghost use Rattle.root_row.specs.Steps.{AtSlot, LeafAnswered};
-    ghost use Rattle.dep_index.specs.declared.calls.Reply.TheVariants.{Done};
+    ghost use Rattle.dep_index.specs.declared.table.calls.Reply.TheVariants.{Done};
     ghost use Rattle.root_row.specs.declared.calls.LeafCall.TheVariants.{Put};
     ghost use Rattle.root_row.specs.Trails.{Recorded, subtract_step};
 
@@ -103,7 +103,7 @@ impl Play<(), Trail> for Open {
     ghost use Rattle.std.specs.Prelude.{◌≡◌, true};
     ghost use Rattle.root_row.specs.Steps.{AtSlot};
     ghost use Rattle.root_row.specs.BookSteps.{BookAnswered};
-    ghost use Rattle.dep_index.specs.declared.calls.Reply.TheVariants.{Done};
+    ghost use Rattle.dep_index.specs.declared.table.calls.Reply.TheVariants.{Done};
     ghost use Rattle.root_row.specs.declared.calls.BookCall.TheVariants.{EndLoad};
     ghost use Rattle.root_row.specs.Trails.{Recorded, exchange_step};
 
@@ -115,7 +115,7 @@ pub(crate) struct Drain;
 impl Play<(), Trail> for Drain {
     ghost use Rattle.root_row.specs.Steps.{AtSlot};
     ghost use Rattle.root_row.specs.BookSteps.{BookAnswered};
-    ghost use Rattle.dep_index.specs.declared.calls.Reply.TheVariants.{Done};
+    ghost use Rattle.dep_index.specs.declared.table.calls.Reply.TheVariants.{Done};
     ghost use Rattle.root_row.specs.declared.calls.BookCall.TheVariants.{BeginDrain};
     ghost use Rattle.root_row.specs.Trails.{Recorded, add_step};
 

@@ -4,8 +4,8 @@ use Rattle.std.proofs.Math.ListN.{set, replicate}
 use Rattle.std.proofs.lemmas.List.{length-replicate}
 use Rattle.std.proofs.lemmas.Bool.{lt-leb}
 use Rattle.std.specs.Global.{Vec}
-use Rattle.dep_index.specs.declared.calls.Call.{Call}
-use Rattle.dep_index.specs.declared.calls.Call.TheVariants.{Get}
+use Rattle.dep_index.specs.declared.table.calls.Call.{Call}
+use Rattle.dep_index.specs.declared.table.calls.Call.TheVariants.{Get}
 use Rattle.dep_index.specs.Table.{Module, Table, is_live, state_of, count_of}
 use Rattle.dep_index.specs.Calls.{next, effect, opening, IsInRange}
 use Rattle.dep_index.specs.Laws.{IsShaped, IsLawful}

@@ -4,7 +4,7 @@ use Rattle.std.proofs.lemmas.Bool.{cases_lt, eqb-true, eq-eqb, false≢true}
 use Rattle.std.proofs.lemmas.List.{get_or_past}
 use Rattle.std.proofs.lemmas.List.Sums.{get_or-le-sum_by, length-filter, count_by-le-length}
 use Rattle.std.proofs.lemmas.List.Elements.{All-contains, All-filter, All-contains_itself, filter_passes, Contains-append_right}
-use Rattle.dep_index.specs.declared.states.ModuleState.TheVariants.{Absent}
+use Rattle.dep_index.specs.declared.table.states.ModuleState.TheVariants.{Absent}
 use Rattle.dep_index.specs.Table.{Module, Book, state_of, is_absent, needs_slot, users}
 use Rattle.dep_index.specs.Laws.{OrderIsExact}
 use Rattle.dep_index.proofs.Lists.{count_by-cons}

@@ -1,7 +1,7 @@
 //! The counts: how often each worker holds each slot.
 ghost use Rattle.std.specs.Prelude.{ℕ, ◌≡◌, ◌<◌, ◌≤◌, [], length, slice_index, slice_index_or, slice_set, replicate, IfOk};
 ghost use Rattle.dep_index.specs.Calls.{IsWorkerInRange, worker_of, slot_of, rows_effect};
-ghost use Rattle.dep_index.specs.declared.calls.Call.TheVariants.{Get};
+ghost use Rattle.dep_index.specs.declared.table.calls.Call.TheVariants.{Get};
 
 use dep_index::Call;
 use std::alloc::{AllocError, Global};

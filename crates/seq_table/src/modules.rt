@@ -5,7 +5,7 @@ ghost use Rattle.dep_index.specs.Calls.{reply, next};
 ghost use Rattle.dep_index.specs.Refusals.{reply_of, get_refusal, put_refusal, begin_load_refusal, end_load_refusal};
 ghost use Rattle.dep_index.specs.Refusals.{begin_drain_refusal, begin_remove_refusal, end_remove_refusal};
 ghost use Rattle.dep_index.specs.Laws.{IsShaped, IsLawful};
-ghost use Rattle.dep_index.specs.declared.calls.Call.TheVariants.{Get, Put, BeginLoad, EndLoad, BeginDrain, BeginRemove, EndRemove};
+ghost use Rattle.dep_index.specs.declared.table.calls.Call.TheVariants.{Get, Put, BeginLoad, EndLoad, BeginDrain, BeginRemove, EndRemove};
 
 use dep_index::{
     BeginDrainError, BeginLoadError, BeginRemoveError, EndLoadError, EndRemoveError, GetError,

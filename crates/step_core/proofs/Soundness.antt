@@ -2,8 +2,8 @@
 use Rattle.std.proofs.Common.{◌≡◌, ◌≢◌, ℕ, ◌<◌, ◌⊎◌, List, length, get_or, Option, Some, None, refl, sym, ◌∙◌, ap, subst, inl, inr, get_or-set_same, get_or-set_other}
 use Rattle.std.proofs.Math.ListN.{set}
 use Rattle.std.proofs.lemmas.Bool.{cases_eq}
-use Rattle.dep_index.specs.declared.calls.Call.{Call}
-use Rattle.dep_index.specs.declared.calls.Call.TheVariants.{Get, Put, InUse as Query, BeginLoad, EndLoad, BeginDrain, BeginRemove, EndRemove}
+use Rattle.dep_index.specs.declared.table.calls.Call.{Call}
+use Rattle.dep_index.specs.declared.table.calls.Call.TheVariants.{Get, Put, InUse as Query, BeginLoad, EndLoad, BeginDrain, BeginRemove, EndRemove}
 use Rattle.dep_index.specs.Table.{Module, Table, count_of}
 use Rattle.dep_index.specs.Laws.{IsShaped, IsLawful}
 use Rattle.dep_index.specs.Words.{word_of}

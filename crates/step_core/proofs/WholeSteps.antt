@@ -4,10 +4,10 @@ use Rattle.std.proofs.Math.ListN.{set}
 use Rattle.std.proofs.lemmas.Bool.{cases_eq, eqb-true, ltb-true, lt-ltb}
 use Rattle.std.proofs.lemmas.List.{set-get_or, get_or-replicate, length-replicate}
 use Rattle.std.specs.Option.{is_some, IsSomeAnd}
-use Rattle.dep_index.specs.declared.calls.Call.{Call}
-use Rattle.dep_index.specs.declared.calls.Call.TheVariants.{Get, Put, InUse as Query, BeginLoad, EndLoad, BeginDrain, BeginRemove, EndRemove}
-use Rattle.dep_index.specs.declared.calls.Reply.{Reply}
-use Rattle.dep_index.specs.declared.calls.Reply.TheVariants.{Done, Yes, No, NotLive, TooMany, NotHeld, Exists, UnknownSymbol, NeedNotLive, NotLoading, NoEntry, NeededBy, Permanent, InUse, NotUnloading}
+use Rattle.dep_index.specs.declared.table.calls.Call.{Call}
+use Rattle.dep_index.specs.declared.table.calls.Call.TheVariants.{Get, Put, InUse as Query, BeginLoad, EndLoad, BeginDrain, BeginRemove, EndRemove}
+use Rattle.dep_index.specs.declared.table.calls.Reply.{Reply}
+use Rattle.dep_index.specs.declared.table.calls.Reply.TheVariants.{Done, Yes, No, NotLive, TooMany, NotHeld, Exists, UnknownSymbol, NeedNotLive, NotLoading, NoEntry, NeededBy, Permanent, InUse, NotUnloading}
 use Rattle.dep_index.specs.Table.{Module, Table, state_of, count_of, holders, is_draining}
 use Rattle.dep_index.specs.Calls.{opening, book_refusal, reply, next, slot_of, worker_of, IsInRange, IsWorkerInRange}
 use Rattle.dep_index.specs.Laws.{IsLawful}
@@ -15,7 +15,7 @@ use Rattle.dep_index.specs.Words.{closed, is_open, word_in, word_of, word_step, 
 use Rattle.dep_index.specs.declared.words.Outcome.{Outcome}
 use Rattle.dep_index.specs.declared.words.Outcome.TheVariants.{Effect, GoesOn}
 use Rattle.dep_index.specs.declared.words.WordStep.{WordStep}
-use Rattle.dep_index.specs.declared.states.ModuleState.{ModuleState}
+use Rattle.dep_index.specs.declared.table.states.ModuleState.{ModuleState}
 use Rattle.dep_index.proofs.RunLaws.{opening_shaped, opening_lawful, opening_absent, replicated}
 use Rattle.dep_index.proofs.StepLaws.{word_steps_are_right}
 use Rattle.step_core.specs.declared.steps.Step.TheVariants.{Invoke, Go}

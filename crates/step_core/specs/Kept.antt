@@ -1,7 +1,7 @@
 -- For proofs alone: what a write needs.
 use Rattle.std.specs.Prelude.{ℕ, ◌≡◌, ◌<◌, [], length, slice_index_or}
-use Rattle.dep_index.specs.declared.calls.Call.{Call}
-use Rattle.dep_index.specs.declared.calls.Call.TheVariants.{Get, BeginLoad}
+use Rattle.dep_index.specs.declared.table.calls.Call.{Call}
+use Rattle.dep_index.specs.declared.table.calls.Call.TheVariants.{Get, BeginLoad}
 use Rattle.dep_index.specs.Table.{Table, count_of}
 use Rattle.dep_index.specs.Calls.{IsInRange}
 

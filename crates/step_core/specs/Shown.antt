@@ -1,6 +1,6 @@
 -- The table that a state of the machine shows.
 use Rattle.std.specs.Prelude.{◌≡◌, ◌≢◌, ℕ, List, [], ◌∷◌, slice_index_or, Option, Some, None}
-use Rattle.dep_index.specs.declared.calls.Call.{Call}
+use Rattle.dep_index.specs.declared.table.calls.Call.{Call}
 use Rattle.dep_index.specs.Table.{Book, Table}
 use Rattle.dep_index.specs.Calls.{book_effect, row_effect, worker_of}
 use Rattle.step_core.specs.declared.steps.Line.{Line}

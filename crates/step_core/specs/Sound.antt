@@ -1,7 +1,7 @@
 -- For proofs alone: what holds of every state that the machine can come to.
 use Rattle.std.specs.Prelude.{◌≡◌, ℕ, ◌<◌, List, length, slice_index, Option, Some, None}
-use Rattle.dep_index.specs.declared.calls.Call.{Call}
-use Rattle.dep_index.specs.declared.calls.Call.TheVariants.{Get}
+use Rattle.dep_index.specs.declared.table.calls.Call.{Call}
+use Rattle.dep_index.specs.declared.table.calls.Call.TheVariants.{Get}
 use Rattle.dep_index.specs.Table.{Module, Table, count_of}
 use Rattle.dep_index.specs.Calls.{reply, opening, IsInRange}
 use Rattle.dep_index.specs.Laws.{IsShaped, IsLawful}

@@ -1,7 +1,7 @@
 -- What each step means for the table that the machine shows: each call takes effect at one point
 -- (linearizability: Herlihy and Wing 1990).
 use Rattle.std.specs.Prelude.{◌≡◌, ℕ, ◌<◌, List, length, slice_index, None, IsSomeAnd}
-use Rattle.dep_index.specs.declared.calls.Reply.{Reply}
+use Rattle.dep_index.specs.declared.table.calls.Reply.{Reply}
 use Rattle.dep_index.specs.Table.{Module}
 use Rattle.dep_index.specs.Calls.{reply, next}
 use Rattle.dep_index.specs.Words.{closed, word_of}

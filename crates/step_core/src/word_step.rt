@@ -1,6 +1,6 @@
 //! The first step of a call on its slot's word.
 ghost use Rattle.std.specs.Prelude.{ℕ, ◌≡◌, ◌<◌, ◌^◌, ◌==◌, if◌then◌else◌, length, slice_index};
-ghost use Rattle.dep_index.specs.declared.calls.Call.TheVariants.{Put};
+ghost use Rattle.dep_index.specs.declared.table.calls.Call.TheVariants.{Put};
 ghost use Rattle.dep_index.specs.Table.{count_of};
 ghost use Rattle.dep_index.specs.Calls.{slot_of, IsInRange};
 ghost use Rattle.dep_index.specs.Words.{word_step, book_step, closed};

@@ -7,8 +7,8 @@ use Rattle.std.proofs.lemmas.Bool.{ltb-true}
 use Rattle.std.proofs.lemmas.List.{length-replicate}
 use Rattle.std.proofs.Math.ListN.{replicate}
 use Rattle.std.specs.Option.{is_some}
-use Rattle.dep_index.specs.declared.calls.Call.{Call}
-use Rattle.dep_index.specs.declared.calls.Call.TheVariants as call
+use Rattle.dep_index.specs.declared.table.calls.Call.{Call}
+use Rattle.dep_index.specs.declared.table.calls.Call.TheVariants as call
 use Rattle.dep_index.specs.Table.{Module, Table, state_of, is_live, is_absent, is_draining}
 use Rattle.dep_index.specs.Calls.{after, next, effect, refusal, IsInRange}
 use Rattle.dep_index.specs.Catalogue.{description_at, slot_named, modules_of}

@@ -5,15 +5,15 @@ use Rattle.std.specs.Prelude.{◌==◌}
 use Rattle.std.proofs.lemmas.List.{length-replicate}
 use Rattle.std.proofs.lemmas.List.FromFn.{length-map-range_with_len, get_or-map-range_with_len}
 use Rattle.dep_index.proofs.RunLaws.{replicated}
-use Rattle.dep_index.specs.declared.calls.Call.TheVariants as call
-use Rattle.dep_index.specs.declared.calls.Reply.{Reply}
+use Rattle.dep_index.specs.declared.table.calls.Call.TheVariants as call
+use Rattle.dep_index.specs.declared.table.calls.Reply.{Reply}
 use Rattle.dep_index.specs.Table.{Module, Table, count_of, state_of, is_draining}
 use Rattle.dep_index.specs.Calls.{book_refusal, or_else}
 use Rattle.dep_index.specs.Words.{word_step, word_of, unless_refused, book_step, takes_effect, close_step, drained, closed, get_look, put_step, is_open}
 use Rattle.dep_index.specs.Laws.{IsLawful}
 use Rattle.dep_index.specs.declared.words.WordStep.{WordStep}
 use Rattle.dep_index.specs.declared.words.Outcome.TheVariants.{GoesOn}
-use Rattle.dep_index.specs.declared.calls.Reply.TheVariants.{Done}
+use Rattle.dep_index.specs.declared.table.calls.Reply.TheVariants.{Done}
 use Rattle.std.proofs.lemmas.Bool.{cond-false, cond-true, eq-eqb, false_from_ne_true}
 use Rattle.root_row.specs.declared.view.World.{World}
 use Rattle.root_row.specs.declared.calls.BookCall.{BookCall}

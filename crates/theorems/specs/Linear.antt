@@ -1,7 +1,7 @@
 -- What a schedule's points are, said in full (Herlihy and Wing, Linearizability: a correctness condition for concurrent
 -- objects, ACM TOPLAS 12(3), 1990).
 use Rattle.std.specs.Prelude.{◌≡◌, ℕ, ◌+◌, ◌<◌, ◌≤◌, List, map, length, slice_index, Contains, Some, None}
-use Rattle.dep_index.specs.declared.calls.Reply.{Reply}
+use Rattle.dep_index.specs.declared.table.calls.Reply.{Reply}
 use Rattle.dep_index.specs.Table.{Module}
 use Rattle.dep_index.specs.Calls.{opening, replies}
 use Rattle.dep_index.specs.History.{calls_in, replies_in}

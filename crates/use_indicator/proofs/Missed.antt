@@ -1,6 +1,6 @@
 -- The tries of a get, one after another.
 use Rattle.std.proofs.Common.{◌≡◌, ℕ, ◌+◌, List, [], ◌∷◌, ◌++◌, refl, sym, ap, ◌∙◌, arith, append_assoc, append-nil, length-append, Bool, false, Option, Some, None, IfSome, IfNone}
-use Rattle.dep_index.specs.declared.calls.Reply.{Reply}
+use Rattle.dep_index.specs.declared.table.calls.Reply.{Reply}
 use Rattle.root_row.specs.declared.view.AtomicStep.TheVariants.{Load, Exchange}
 use Rattle.root_row.specs.Seats.{Seated}
 use Rattle.root_row.specs.StepsMade.{StepsMade}

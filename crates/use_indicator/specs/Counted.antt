@@ -1,7 +1,7 @@
 -- Which atomic steps the calls of a leaf make.
 use Rattle.std.specs.Prelude.{◌≡◌, ℕ, ◌+◌, ◌<◌, ◌==◌, true, false, List, [], ◌∷◌, ◌++◌, length, if◌then◌else◌, MatchBool}
 use Rattle.dep_index.specs.Calls.{is_done}
-use Rattle.dep_index.specs.declared.calls.Reply.{Reply}
+use Rattle.dep_index.specs.declared.table.calls.Reply.{Reply}
 use Rattle.root_row.specs.declared.view.AtomicStep.{AtomicStep}
 use Rattle.root_row.specs.declared.view.AtomicStep.TheVariants.{Load, Exchange, Subtract}
 use Rattle.root_row.specs.Seats.{Seated}

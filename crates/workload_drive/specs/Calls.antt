@@ -1,9 +1,9 @@
 -- The calls of a script's lines.
 use Rattle.std.specs.Prelude.{◌≡◌, ℕ, true, Option, Some, None}
-use Rattle.dep_index.specs.declared.calls.Call.{Call}
-use Rattle.dep_index.specs.declared.calls.Call.TheVariants as calls
-use Rattle.dep_index.specs.declared.calls.Reply.{Reply}
-use Rattle.dep_index.specs.declared.calls.Reply.TheVariants.{Done}
+use Rattle.dep_index.specs.declared.table.calls.Call.{Call}
+use Rattle.dep_index.specs.declared.table.calls.Call.TheVariants as calls
+use Rattle.dep_index.specs.declared.table.calls.Reply.{Reply}
+use Rattle.dep_index.specs.declared.table.calls.Reply.TheVariants.{Done}
 use Rattle.workload_drive.specs.declared.script.acts.Change.{Change}
 use Rattle.workload_drive.specs.declared.script.acts.Change.TheVariants.{Load, Remove, Drain, Finish}
 use Rattle.workload_drive.specs.declared.script.acts.Deed.{Deed}

@@ -1,7 +1,7 @@
 -- The report of a schedule: a line for each call of its run.
 use Rattle.std.specs.Prelude.{◌≡◌, ◌≢◌, ℕ, ◌+◌, ◌==◌, List, [], ◌∷◌, ◌++◌}
 use Rattle.std.specs.Prelude.{codes, decimal, find, slice_index_or, unwrap_or, Option, Some, None, Err, IsOkAnd}
-use Rattle.dep_index.specs.declared.calls.Call.{Call}
+use Rattle.dep_index.specs.declared.table.calls.Call.{Call}
 use Rattle.dep_index.specs.Calls.{slot_of}
 use Rattle.dep_index.specs.Catalogue.{Description, description_at, modules_of}
 use Rattle.call_words.specs.Replies.{reply_in, reply_text}

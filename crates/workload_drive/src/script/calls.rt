@@ -1,7 +1,7 @@
 //! Who makes the calls of a script.
 ghost use Rattle.std.specs.Prelude.{IfSome};
-ghost use Rattle.dep_index.specs.declared.calls.Call.{Call};
-ghost use Rattle.dep_index.specs.declared.calls.Reply.{Reply};
+ghost use Rattle.dep_index.specs.declared.table.calls.Call.{Call};
+ghost use Rattle.dep_index.specs.declared.table.calls.Reply.{Reply};
 
 use dep_index::{Call, ModuleState, Reply};
 use std::sync::Wait;

@@ -1,6 +1,6 @@
 use Rattle.std.proofs.Common.{◌∙◌, ◌++◌, List, ℕ, codes, decimal, flat_map, ap}
 use Rattle.std.proofs.lemmas.List.{take_all}
-use Rattle.dep_index.specs.declared.params.Param.{Param}
+use Rattle.dep_index.specs.declared.catalogue.params.Param.{Param}
 use Rattle.dep_index.specs.Catalogue.{description_at}
 use Rattle.proc_modules.specs.Listings.{name_of, size_of}
 use Rattle.proc_modules.specs.Details.{field, depends_line, param_line}

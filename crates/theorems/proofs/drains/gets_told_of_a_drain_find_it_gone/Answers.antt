@@ -1,5 +1,5 @@
 use Rattle.std.proofs.Common.{refl, inl, inr}
-use Rattle.dep_index.specs.declared.calls.Call.TheVariants.{EndRemove}
+use Rattle.dep_index.specs.declared.table.calls.Call.TheVariants.{EndRemove}
 use Rattle.theorems.proofs.Telling.{finds_it_gone}
 use Rattle.theorems.proofs.drains.gets_told_of_a_drain_find_it_gone.Goals as goal
 

@@ -1,5 +1,5 @@
 use Rattle.std.proofs.Common.{refl, inr}
-use Rattle.dep_index.specs.declared.calls.Call.TheVariants.{EndRemove}
+use Rattle.dep_index.specs.declared.table.calls.Call.TheVariants.{EndRemove}
 use Rattle.dep_index.specs.Refusals.{end_remove_refusal}
 use Rattle.theorems.proofs.Managing.{if_removed}
 use Rattle.theorems.proofs.drains.managed_drains_end_unused.Goals as goal

@@ -1,5 +1,5 @@
 use Rattle.std.proofs.Common.{refl, inl}
-use Rattle.dep_index.specs.declared.calls.Call.TheVariants.{BeginRemove}
+use Rattle.dep_index.specs.declared.table.calls.Call.TheVariants.{BeginRemove}
 use Rattle.dep_index.specs.Refusals.{begin_remove_refusal}
 use Rattle.theorems.proofs.Managing.{if_removed}
 use Rattle.theorems.proofs.managed.managed_removals_find_no_user.Goals as goal

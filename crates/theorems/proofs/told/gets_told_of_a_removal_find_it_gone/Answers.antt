@@ -1,5 +1,5 @@
 use Rattle.std.proofs.Common.{refl, inl}
-use Rattle.dep_index.specs.declared.calls.Call.TheVariants.{BeginRemove}
+use Rattle.dep_index.specs.declared.table.calls.Call.TheVariants.{BeginRemove}
 use Rattle.theorems.proofs.Telling.{finds_it_gone}
 use Rattle.theorems.proofs.told.gets_told_of_a_removal_find_it_gone.Goals as goal
 

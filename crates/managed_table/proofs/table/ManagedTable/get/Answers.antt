@@ -1,5 +1,5 @@
 use Rattle.std.proofs.Common.{ap, subst}
-use Rattle.dep_index.specs.declared.calls.Call.TheVariants.{Get}
+use Rattle.dep_index.specs.declared.table.calls.Call.TheVariants.{Get}
 use Rattle.dep_index.specs.Refusals.{reply_of, get_refusal}
 use Rattle.root_row.specs.declared.view.SeatName.TheVariants as name_is
 use Rattle.managed_table.specs.Turns.{pass_of, MadeOneCall}

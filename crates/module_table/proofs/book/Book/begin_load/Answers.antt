@@ -1,6 +1,6 @@
 use Rattle.std.proofs.Common.{rules, ◌≡◌, None}
 use Rattle.dep_index.specs.Calls.{book_refusal}
-use Rattle.dep_index.specs.declared.calls.Call.TheVariants.{BeginLoad}
+use Rattle.dep_index.specs.declared.table.calls.Call.TheVariants.{BeginLoad}
 use Rattle.module_table.proofs.Room.{load_has_room}
 use Rattle.module_table.proofs.book.Book.begin_load.Goals as goal
 

@@ -1,5 +1,5 @@
 use Rattle.std.proofs.Common.{◌≡◌, ◌⊎◌, ◌==◌, false, cond, set, sym, ap, ◌∙◌, subst, refl, arith, length-set, eq-eqb}
-use Rattle.dep_index.specs.declared.states.ModuleState.TheVariants as state_is
+use Rattle.dep_index.specs.declared.table.states.ModuleState.TheVariants as state_is
 use Rattle.root_row.specs.declared.view.View.{View}
 use Rattle.root_row.specs.World.{slots}
 use Rattle.root_row.specs.Seats.{Seated}

@@ -1,5 +1,5 @@
 use Rattle.std.proofs.Common.{rules}
-use Rattle.dep_index.specs.declared.calls.Call.TheVariants.{BeginDrain}
+use Rattle.dep_index.specs.declared.table.calls.Call.TheVariants.{BeginDrain}
 use Rattle.seq_table.proofs.Kept.{kept_after}
 use Rattle.seq_table.proofs.table.TableModules.begin_drain.Goals as goal
 

@@ -1,5 +1,5 @@
 use Rattle.std.proofs.Common.{rules, ◌≡◌, None}
-use Rattle.dep_index.specs.declared.calls.Call.TheVariants.{BeginLoad}
+use Rattle.dep_index.specs.declared.table.calls.Call.TheVariants.{BeginLoad}
 use Rattle.dep_index.specs.Calls.{book_refusal}
 use Rattle.dep_index.proofs.Room.{load_has_room}
 use Rattle.seq_table.proofs.Kept.{kept_after}

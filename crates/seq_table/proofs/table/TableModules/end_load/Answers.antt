@@ -1,5 +1,5 @@
 use Rattle.std.proofs.Common.{rules, false}
-use Rattle.dep_index.specs.declared.calls.Call.TheVariants.{EndLoad}
+use Rattle.dep_index.specs.declared.table.calls.Call.TheVariants.{EndLoad}
 use Rattle.seq_table.proofs.Kept.{kept_after}
 use Rattle.seq_table.proofs.table.TableModules.end_load.Goals as goal
 

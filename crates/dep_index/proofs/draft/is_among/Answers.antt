@@ -1,6 +1,0 @@
-use Rattle.std.proofs.Common.{◌∙◌}
-use Rattle.dep_index.proofs.DraftLemmas.{name_found}
-use Rattle.dep_index.proofs.draft.is_among.Goals as goal
-
-pub returns : goal.returns
-returns c = c.contains_key.ensures ∙ name_found c.args.name.now c.args.earlier.now.entries
