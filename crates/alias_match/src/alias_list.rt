@@ -1,6 +1,6 @@
 //! Aliases in the order of their lines, and those that match a text.
-ghost use Rattle.std.specs.Prelude.{◌≡◌, ◌<◌, suc, ◌∷◌, ◌++◌, [], filter, length, map, slice_get, take};
-ghost use Rattle.std.specs.Prelude.{IfOk, OnOk, OnErr, Some, None, nat_le, if◌then◌else◌, option_copied};
+ghost use Rattle.std.specs.Prelude.{◌≡◌, ◌<◌, suc, ◌∷◌, ◌++◌, [], filter, length, map, slice_get};
+ghost use Rattle.std.specs.Prelude.{IfOk, OnOk, OnErr, Some, option_copied};
 ghost use Rattle.std.specs.List.{filter_map};
 ghost use Rattle.alias_match.specs.Aliases.{matching, matching_places};
 ghost use Rattle.alias_match.specs.ForProofs.{HaveFronts, KeepsEach, is_match_at, matches_below, matches_under, places_of};
@@ -43,25 +43,6 @@ impl Model for AliasList {
     ghost invariant = { λ l. KeepsEach l.table l.fronts.items l.entries.items };
 }
 
-/// The first bytes of a text, None where it has fewer.
-fn first_bytes(text: &[u8], count: usize) -> Option<&[u8]>
-    ensures { option_copied result
-        ≡ (if nat_le count (length text.entry.now) then Some (take count text.entry.now) else None) }
-{
-    if count <= text.len() {
-        Some(&text[..count])
-    } else {
-        None
-    }
-}
-
-/// The alias at a place, None behind the last.
-fn alias_at(entries: &[Alias], place: usize) -> Option<&Alias>
-    ensures { option_copied result ≡ slice_get entries.entry.now place }
-{
-    entries.get(place)
-}
-
 /// Whether the alias at a place matches. The alias is read only where the text begins as its front says, so a look-up that
 /// tries many aliases in vain stays in the processor's cache.
 #[inline(always)]
@@ -70,13 +51,7 @@ fn is_match_at(entries: &[Alias], fronts: &[Front], text: &NumberedText, place: 
     requires within { place < length entries.now }
     ensures { result ≡ is_match_at entries.now text.now place }
 {
-    if !text.begins_with(fronts[place]) {
-        return false;
-    }
-    match alias_at(entries, place) {
-        Some(alias) => alias.pattern.matches(text.bytes()),
-        None => false,
-    }
+    text.begins_with(fronts[place]) && entries[place].pattern.matches(text.bytes())
 }
 
 /// Adds the places of a key at which an alias matches the text.
@@ -114,7 +89,7 @@ fn add_of_beginning(
     ensures { OnOk result (found.new.items
         ≡ found.old.items ++ matches_under entries.now table.now text.now count) }
 {
-    if let Some(beginning) = first_bytes(text.bytes(), count) {
+    if let Some(beginning) = text.bytes().get(..count) {
         add_of_key(entries, fronts, table, text, mark(beginning), found)?;
     }
     Ok(())
@@ -141,6 +116,13 @@ fn places_by_marks(
     Ok(found)
 }
 
+/// The alias at a place, None past the last.
+fn alias_at(entries: &[Alias], place: usize) -> Option<&Alias>
+    ensures { option_copied result ≡ slice_get entries.entry.now place }
+{
+    entries.get(place)
+}
+
 /// The aliases at the places.
 fn aliases_at<'a>(
     alloc: Global,
@@ -158,28 +140,6 @@ fn aliases_at<'a>(
     Ok(found)
 }
 
-/// Adds an alias behind the others, and its key behind theirs. Where memory runs out both stay as they were.
-fn push_with_key(
-    alloc: Global,
-    entries: &mut Vec<Alias>,
-    table: &mut HashTable,
-    alias: Alias,
-    key: u64,
-) -> Result<(), AllocError>
-    ensures adds_alias { OnOk result (entries.new.items ≡ entries.old.items ++ alias ∷ []) }
-    ensures adds_key { OnOk result (table.new ≡ table.old ++ key ∷ []) }
-
-    ensures keeps_aliases { OnErr result (entries.new.items ≡ entries.old.items) }
-    ensures keeps_keys { OnErr result (table.new ≡ table.old) }
-{
-    entries.push(alias)?;
-    let added = table.add(alloc, key);
-    if added.is_err() {
-        entries.pop();
-    }
-    added
-}
-
 impl AliasList {
     pub fn new(alloc: Global) -> AliasList
         ensures { result ≡ [] }
@@ -191,18 +151,17 @@ impl AliasList {
         }
     }
 
-    /// Adds an alias behind the others. Where memory runs out the list stays as it was.
+    /// Adds an alias after the others. Where memory runs out the list stays as it was.
     pub fn push(&mut self, alloc: Global, alias: Alias) -> Result<(), AllocError>
         ensures ok { OnOk result (self.new ≡ self.old ++ alias ∷ []) }
         ensures err { OnErr result (self.new ≡ self.old) }
     {
-        let key = alias.pattern.mark();
+        self.entries.reserve(1)?;
+        self.fronts.reserve(1)?;
+        self.table.add(alloc, alias.pattern.mark())?;
         self.fronts.push(alias.pattern.front())?;
-        let added = push_with_key(alloc, &mut self.entries, &mut self.table, alias, key);
-        if added.is_err() {
-            self.fronts.pop();
-        }
-        added
+        self.entries.push(alias)?;
+        Ok(())
     }
 
     /// How many aliases there are.
@@ -220,7 +179,7 @@ impl AliasList {
         &self.entries[i]
     }
 
-    /// The places, from 0, of the aliases whose patterns match the text, in rising order. Only want of memory refuses.
+    /// The places, from 0, of the aliases whose patterns match the text, in rising order. It fails only if memory runs out.
     pub fn matching_places(&self, alloc: Global, text: &[u8]) -> Result<Vec<usize>, AllocError>
         ensures { IfOk result (λ places. places.items ≡ matching_places self.now text.now) }
     {
@@ -230,7 +189,7 @@ impl AliasList {
         Ok(places)
     }
 
-    /// The aliases whose patterns match the text, in the order of the lines. Only want of memory refuses.
+    /// The aliases whose patterns match the text, in the order of the lines. It fails only if memory runs out.
     pub fn matching(&self, alloc: Global, text: &[u8]) -> Result<Vec<&Alias>, AllocError>
         ensures { IfOk result (λ found. map (λ alias. alias.now) found.items ≡ matching self.now text.now) }
     {

@@ -93,7 +93,7 @@ impl Aliases {
         &self.entries.at(i).target
     }
 
-    /// The aliases whose patterns match a text in normal form, in the order of the lines. Only want of memory refuses.
+    /// The aliases whose patterns match a text in normal form, in the order of the lines. It fails only if memory runs out.
     pub fn matching(&self, alloc: Global, text: &[u8]) -> Result<Vec<&Alias>, AllocError>
         ensures { IfOk result (λ found. map (λ alias. alias.now) found.items
             ≡ matching self.now.entries text.now) }
@@ -109,7 +109,7 @@ impl Aliases {
     }
 }
 
-/// The aliases of a whole modules.alias text. Only want of memory refuses.
+/// The aliases of a whole modules.alias text. It fails only if memory runs out.
 pub fn read_aliases(alloc: Global, text: &[u8]) -> Result<Aliases, AllocError>
     ensures { IfOk result (λ aliases. aliases ≡ aliases_of text.now) }
 {

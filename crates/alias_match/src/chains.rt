@@ -22,7 +22,7 @@ pub(crate) fn bucket_of(key: u64, buckets: usize) -> usize
     ((key.wrapping_mul(SPREAD) as u128 * buckets as u128) >> 64) as usize
 }
 
-/// Puts the entry at a place behind those of its chain. The chains have the entries before that place.
+/// Puts the entry at a place after those of its chain. The chains have the entries before that place.
 pub(crate) fn chain(buckets: &mut [usize], entries: &mut [ChainEntry], place: usize)
     requires within { place < length entries.old }
     requires size { length buckets.old ≢ 0 }

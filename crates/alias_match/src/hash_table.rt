@@ -64,7 +64,7 @@ impl HashTable {
         }
     }
 
-    /// Adds a key behind the others. Where memory runs out they stay as they were. Half of the buckets are left over, so that
+    /// Adds a key after the others. Where memory runs out they stay as they were. Half of the buckets are left over, so that
     /// chains are short.
     pub fn add(&mut self, alloc: Global, key: u64) -> Result<(), AllocError>
         ensures ok { OnOk result (self.new ≡ self.old ++ key ∷ []) }

@@ -74,7 +74,7 @@ fn add_line(
 }
 
 /// The lines of a modules.alias text that have no effect, in their order, and why: those that have a word and are no
-/// comment and no alias. Without them the text has the same aliases. Only want of memory refuses.
+/// comment and no alias. Without them the text has the same aliases. It fails only if memory runs out.
 pub fn idle_aliases(alloc: Global, text: &[u8]) -> Result<Vec<IdleLine>, AllocError>
     ensures lines { IfOk result (λ idle. idle.items ≡ idle_aliases text.now) }
     ensures skipped { IfOk result (λ idle. map (λ line. line.number) idle.items ≡ (aliases_of text.now).skipped) }

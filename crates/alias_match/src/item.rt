@@ -65,7 +65,7 @@ fn is_member(members: &[u8], byte: u8) -> bool
 }
 
 impl<'a> Set<'a> {
-    /// The set that stands behind its bracket, and what follows it.
+    /// The set that stands after its bracket, and what follows it.
     #[inline(never)]
     pub fn read(text: &'a [u8]) -> Result<(Set<'a>, &'a [u8]), PatternError>
         ensures value { MatchResult result

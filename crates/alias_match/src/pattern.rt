@@ -33,7 +33,7 @@ impl Model for Pattern {
     ghost invariant = { λ p. BeginsPlainly p.text.items p.plain };
 }
 
-/// What stands behind the last run, and the end of the text at which it was tried last.
+/// What follows the last run, and the end of the text at which it was tried last.
 #[derive(Drop)]
 struct Retry<'p, 't> {
     items: Items<'p>,
@@ -62,7 +62,7 @@ fn next_end<'t>(items: &Items, text: &'t [u8]) -> &'t [u8]
 }
 
 impl<'p, 't> Retry<'p, 't> {
-    /// The same items, at the next end of the text behind its first byte.
+    /// The same items, at the next end of the text after its first byte.
     #[inline(always)]
     fn later(self) -> Option<Retry<'p, 't>>
         ensures { MatchOption result (self.entry.text.now ≡ []) (IsLater self.entry) }
@@ -199,7 +199,7 @@ impl Pattern {
         Front::of(bytes)
     }
 
-    /// The bytes at the beginning that stand for themselves, and the items behind them.
+    /// The bytes at the beginning that stand for themselves, and the items after them.
     #[inline(always)]
     fn parts(&self) -> (&[u8], Items)
         ensures { self.now ≡ map (λ b. byte b) result.0.now ++ result.1 }

@@ -11,13 +11,13 @@ use crate::item::{Item, Items};
 struct LeadingBytes<'a> {
     /// How many they are.
     count: usize,
-    /// The mark of these, behind a front.
+    /// The mark of these, after a front.
     mark: u64,
-    /// The items behind them, from the first that is no single byte on.
+    /// The items after them, from the first that is no single byte on.
     behind: Items<'a>,
 }
 
-/// The single bytes with which items begin that stand behind a front.
+/// The single bytes with which items begin that stand after a front.
 fn leading_bytes<'a>(front: &[u8], items: Items<'a>) -> LeadingBytes<'a>
     ensures count { result.count ≡ length (literal_beginning items.entry) }
     ensures mark { result.mark ≡ mark (front.now ++ literal_beginning items.entry) }
@@ -38,7 +38,7 @@ fn leading_bytes<'a>(front: &[u8], items: Items<'a>) -> LeadingBytes<'a>
     }
 }
 
-/// The items behind the first, if their text has more bytes than that. Else none of their runs has.
+/// The items after the first, if their text has more bytes than that. Else none of their runs has.
 fn longer_behind_first<'a>(items: Items<'a>, longest: usize) -> Option<Items<'a>>
     ensures behind { IfSome result (λ after. after ≡ drop 1 items.entry) }
     ensures shorter { IfSome result (λ after. length after < length items.entry) }
@@ -51,8 +51,8 @@ fn longer_behind_first<'a>(items: Items<'a>, longest: usize) -> Option<Items<'a>
     }
 }
 
-/// The mark of the longest run of single bytes in a pattern: bytes that stand for themselves, and items behind them. A run
-/// behind other items counts only where it fills a mark.
+/// The mark of the longest run of single bytes in a pattern: bytes that stand for themselves, and items after them. A run
+/// after other items counts only where it fills a mark.
 pub(crate) fn longest_run_mark(front: &[u8], items: Items) -> u64
     ensures { IsMarkOf result (map (λ b. byte b) front.now ++ items.entry) }
 {
