@@ -1,23 +1,11 @@
 //! Why an answer is as it is, for people.
 
+use crate::reasons::{Sources, explanation};
 use crate::texts::Machine;
-use kmod_explain::{Hidden, Sources, explanation};
 use kmod_query::{Query, World};
-use modprobe_files::HiddenFile;
 use modprobe_words::{Level, Messages};
 use std::alloc::{AllocError, Global};
 use std::io::Write;
-
-fn hidden(alloc: Global, files: &[HiddenFile]) -> Result<Vec<Hidden<'_>>, AllocError> {
-    let mut hidden = Vec::new(alloc);
-    for file in files {
-        hidden.push(Hidden {
-            path: &file.path,
-            by: &file.by,
-        })?;
-    }
-    Ok(hidden)
-}
 
 /// Why the answer to a query of a machine is as it is. It fails only if memory runs out.
 fn explained(
@@ -27,10 +15,9 @@ fn explained(
     query: &Query<'_>,
 ) -> Result<Vec<u8>, AllocError> {
     let paths = machine.conf.paths(alloc)?;
-    let hidden = hidden(alloc, &machine.conf.hidden)?;
     let sources = Sources {
         paths: &paths,
-        hidden: &hidden,
+        hidden: &machine.conf.hidden,
         builtin: &machine.modules.builtin,
     };
     explanation(alloc, &sources, world, query)

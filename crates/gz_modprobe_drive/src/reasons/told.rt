@@ -1,12 +1,12 @@
 //! Lines for people: of whom, what, and where it stands.
 ghost use Rattle.std.specs.Prelude.{◌≡◌, true};
 ghost use Rattle.std.specs.List.{list_all};
-ghost use Rattle.kmod_explain.specs.Told.{is_shown};
+ghost use Rattle.gz_modprobe_drive.specs.Told.{is_shown};
 
-use crate::heads::Heads;
-use crate::known::Known;
-use crate::shown::Shown;
-use crate::sources::Sources;
+use crate::reasons::heads::Heads;
+use crate::reasons::known::Known;
+use crate::reasons::shown::Shown;
+use crate::reasons::sources::Sources;
 use kmod_names::Place;
 use std::alloc::{AllocError, Global};
 
@@ -146,7 +146,7 @@ impl<'a> Told<'a> {
     pub(crate) fn say_hidden(&mut self) -> Result<(), AllocError> {
         for file in self.sources.hidden {
             let what = Saying::of(b"not read, since a file of its name comes first");
-            self.say(file.path, what, Spot::Whole(file.by))?;
+            self.say(&file.path, what, Spot::Whole(&file.by))?;
         }
         Ok(())
     }

@@ -1,13 +1,13 @@
 //! Why an answer is as it is: which line of which file says so.
 ghost use Rattle.std.specs.Prelude.{◌≡◌, IfOk, true};
 ghost use Rattle.std.specs.List.{list_all};
-ghost use Rattle.kmod_explain.specs.Told.{is_shown};
+ghost use Rattle.gz_modprobe_drive.specs.Told.{is_shown};
 
-use crate::known::Known;
-use crate::named_lines::NamedLines;
-use crate::sources::Sources;
-use crate::tasks::{Task, Tasks};
-use crate::told::Told;
+use crate::reasons::known::Known;
+use crate::reasons::named_lines::NamedLines;
+use crate::reasons::sources::Sources;
+use crate::reasons::tasks::{Task, Tasks};
+use crate::reasons::told::Told;
 use kmod_query::{Ask, Object, Query, World};
 use std::alloc::{AllocError, Global};
 

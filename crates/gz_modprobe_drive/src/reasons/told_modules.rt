@@ -1,9 +1,9 @@
 //! What is told of a module: the lines that count for it, and those that do not.
 
-use crate::heads::Heads;
-use crate::tasks::Tasks;
-use crate::told::{Saying, Spot, Told};
-use crate::told_words::DEPENDENCIES;
+use crate::reasons::heads::Heads;
+use crate::reasons::tasks::Tasks;
+use crate::reasons::told::{Saying, Spot, Told};
+use crate::reasons::told_words::DEPENDENCIES;
 use kmod_conf::TextLine;
 use kmod_names::{Place, Text};
 use kmod_query::{Ask, ModuleStatus, install_line, remove_line};

@@ -1,8 +1,8 @@
 //! Lines of the configuration that have no effect.
 
-use crate::heads::{Head, Heads};
-use crate::told::{Saying, Told};
-use crate::told_modules::LATER;
+use crate::reasons::heads::{Head, Heads};
+use crate::reasons::told::{Saying, Told};
+use crate::reasons::told_modules::LATER;
 use kmod_conf::TextLine;
 use kmod_names::AliasEntry;
 use kmod_query::{Finding, find_name};

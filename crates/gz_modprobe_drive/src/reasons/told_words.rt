@@ -1,7 +1,7 @@
 //! What is told of a word of a command line or of a softdep line.
 
-use crate::near_names::is_near;
-use crate::told::{Saying, Spot, Told};
+use crate::reasons::near_names::is_near;
+use crate::reasons::told::{Saying, Spot, Told};
 use kmod_index::IndexLine;
 use kmod_names::{AliasEntry, name_of_path, normal_alias};
 use kmod_query::{Finding, Object, find_name};

@@ -1,5 +1,4 @@
 //! Why kmod answers as it does: which line of which file says so.
-#![tactic(auto)]
 
 mod explaining;
 mod heads;
@@ -15,4 +14,4 @@ mod told_modules;
 mod told_words;
 
 pub use explaining::explanation;
-pub use sources::{Hidden, Sources};
+pub use sources::Sources;

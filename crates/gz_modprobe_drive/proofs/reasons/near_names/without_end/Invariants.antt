@@ -1,5 +1,5 @@
 use Rattle.std.proofs.Common.{length}
-use Rattle.kmod_explain.proofs.near_names.without_beginning.Given as goal
+use Rattle.gz_modprobe_drive.proofs.reasons.near_names.without_end.Given as goal
 
 abbrev pub decreases-bytes : goal.decreases-bytes
 decreases-bytes l = length l.left

@@ -1,6 +1,6 @@
 //! All lines that are found by their very names.
 
-use crate::heads::Heads;
+use crate::reasons::heads::Heads;
 use kmod_conf::Conf;
 use kmod_names::{KeyPlaces, name_of_path};
 use std::alloc::{AllocError, Global};

@@ -1,5 +1,5 @@
 use Rattle.std.proofs.Common.{◌+◌, ◌≤◌, length}
-use Rattle.kmod_explain.proofs.named_lines.add_files.Given as goal
+use Rattle.gz_modprobe_drive.proofs.reasons.named_lines.add_files.Given as goal
 
 abbrev pub invariant-lines : goal.invariant-lines
 invariant-lines l = l.number + length l.lines ≤ length l.fn.text + 1

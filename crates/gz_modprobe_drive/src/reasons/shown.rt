@@ -1,7 +1,7 @@
 //! Bytes as people are shown them.
 ghost use Rattle.std.specs.Prelude.{◌≡◌, true};
 ghost use Rattle.std.specs.List.{list_all};
-ghost use Rattle.kmod_explain.specs.Told.{is_shown, shown_byte};
+ghost use Rattle.gz_modprobe_drive.specs.Told.{is_shown, shown_byte};
 
 use std::alloc::{AllocError, Global};
 

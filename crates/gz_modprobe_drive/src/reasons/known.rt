@@ -1,6 +1,6 @@
 //! What an explanation is of.
 
-use crate::named_lines::NamedLines;
+use crate::reasons::named_lines::NamedLines;
 use kmod_query::{ModuleState, Object, Query, World};
 
 /// A world, a query of it, and the lines of the world's texts by their names.

@@ -1,19 +1,14 @@
 //! What an explanation is told of files.
 
-/// A file of the configuration that was not read, and the one of its name that was.
-#[derive(Clone, Copy)]
-pub struct Hidden<'a> {
-    pub path: &'a [u8],
-    pub by: &'a [u8],
-}
+use modprobe_files::HiddenFile;
 
 /// Where a world was read from.
 #[derive(Clone, Copy)]
 pub struct Sources<'a> {
     /// The paths of the texts of the configuration, by the numbers that places of its lines have.
     pub paths: &'a [&'a [u8]],
-    /// In the order in which they are told.
-    pub hidden: &'a [Hidden<'a>],
+    /// The files of the configuration that were not read, in the order in which they are told.
+    pub hidden: &'a [HiddenFile],
     /// The text of modules.builtin, whose lines the index does not number.
     pub builtin: &'a [u8],
 }
