@@ -1,7 +1,7 @@
 -- Reading the users of a line, part by part.
 use Rattle.std.proofs.Common.{◌≡◌, ◌==◌, Bool, true, false, not, ◌&&◌, ◌||◌, List, [], ◌∷◌, ◌++◌, length, refl, sym, ◌∙◌, ap, ℕ, Option, Some, None, append_assoc}
-use Rattle.std.proofs.Common.{◌<◌, ◌+◌, drop, get_or, drop-cons, add-one, eqb}
-use Rattle.std.proofs.lemmas.List.{length-map}
+use Rattle.std.proofs.Common.{◌<◌, ◌≤◌, ◌+◌, ◌-◌, arith, take, drop, get_or, drop-cons, add-one, eqb}
+use Rattle.std.proofs.lemmas.List.{length-map, take_rest}
 use Rattle.std.specs.List.{list_any}
 use Rattle.std.specs.Borrow.{Bor}
 use Rattle.text_parts.specs.Text.{is_name, normal_form, texts_of}
@@ -57,6 +57,18 @@ kept_name word name = undashed word (at (is_name word) (list_any (λ byte. byte 
 texts_of-drop : (parts : List (Bor (List ℕ))) (i : ℕ) (d : Bor (List ℕ)) → i < length parts
     → texts_of (drop i parts) ≡ (get_or parts i d).now ∷ texts_of (drop (i + 1) parts)
 texts_of-drop parts i d below = rw (add-one, drop-cons parts i d) refl
+
+-- fields that are six at least
+pub six_texts : (fields : List (Bor (List ℕ))) (d : Bor (List ℕ)) → 6 ≤ length fields
+    → texts_of fields ≡ (get_or fields 0 d).now ∷ (get_or fields 1 d).now ∷ (get_or fields 2 d).now ∷ (get_or fields 3 d).now ∷ (get_or fields 4 d).now ∷ (get_or fields 5 d).now ∷ texts_of (take (length fields - 6) (drop 6 fields))
+six_texts (a ∷ b ∷ c ∷ d ∷ e ∷ f ∷ more) other six =
+    ap (λ (rest : List (Bor (List ℕ))). a.now ∷ b.now ∷ c.now ∷ d.now ∷ e.now ∷ f.now ∷ texts_of rest) (sym (take_rest (a ∷ b ∷ c ∷ d ∷ e ∷ f ∷ more) 6))
+six_texts (a ∷ b ∷ c ∷ d ∷ e ∷ []) other six = absurd (omega arith)
+six_texts (a ∷ b ∷ c ∷ d ∷ []) other six = absurd (omega arith)
+six_texts (a ∷ b ∷ c ∷ []) other six = absurd (omega arith)
+six_texts (a ∷ b ∷ []) other six = absurd (omega arith)
+six_texts (a ∷ []) other six = absurd (omega arith)
+six_texts [] other six = absurd (omega arith)
 
 -- one name more was read
 pub users_in-step : (parts later : List (Bor (List ℕ))) (users after : List (List ℕ)) (i : ℕ) (name : List ℕ) (d : Bor (List ℕ)) → i < length parts

@@ -1,6 +1,5 @@
 pub mod LineText
 pub mod Reading
-pub mod Fields
 pub mod Laws
 pub mod Listings
 pub mod Details

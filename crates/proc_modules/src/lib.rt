@@ -16,7 +16,7 @@ mod write;
 pub use entry::{Entry, push_line};
 pub use line::{Line, LineError, LineState};
 pub use listing::{lsmod_text, proc_text};
-pub use modinfo::modinfo_text;
+pub use modinfo::{modinfo_text, push_kind};
 pub use names::Names;
 pub use read::read_line;
 pub use write::{push_number, write_line};

@@ -29,7 +29,8 @@ fn scalar_text(scalar: Scalar) -> &'static [u8]
     }
 }
 
-fn push_kind(text: &mut Vec<u8>, kind: ParamKind) -> Result<(), AllocError>
+/// Adds the type of a parameter. It fails only if memory runs out; what stands in the text then is not said.
+pub fn push_kind(text: &mut Vec<u8>, kind: ParamKind) -> Result<(), AllocError>
     ensures { OnOk result (text.new.items ≡ text.old.items ++ kind_text kind) }
 {
     match kind {

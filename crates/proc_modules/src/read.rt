@@ -1,9 +1,8 @@
 //! Reading lines of /proc/modules.
-ghost use Rattle.std.specs.Prelude.{◌≡◌, ◌≢◌, ◌<◌, ◌==◌, ◌&&◌, length, position, MatchOption, MatchResult, IfOk, IfErr, Ok, Err, Some, None};
+ghost use Rattle.std.specs.Prelude.{◌≡◌, ◌≢◌, ◌==◌, ◌&&◌, position, IfOk, IfErr, Ok, Err};
 ghost use Rattle.std.specs.List.{slice_split};
 ghost use Rattle.text_parts.specs.Text.{texts_of};
 ghost use Rattle.proc_modules.specs.Reading.{is_mark, is_end, users_in, users_of, numbers_in, state_in, first_line, line_in, line_of, ReadsLine, ReadsUsers};
-ghost use Rattle.proc_modules.specs.Fields.{texts_in};
 
 use crate::line::{Line, LineError, LineState};
 use crate::names::Names;
@@ -18,12 +17,6 @@ fn parts<'a>(alloc: Global, text: &'a [u8], divider: u8) -> Result<Vec<&'a [u8]>
     text.split(|byte| *byte == divider).collect(alloc)
 }
 
-fn is_mark(word: &[u8]) -> bool
-    ensures { result ≡ is_mark word.now }
-{
-    is_same(word, b"[permanent]")
-}
-
 fn is_end(parts: &[&[u8]]) -> bool
     ensures { result ≡ is_end (texts_of parts.now) }
 {
@@ -33,10 +26,11 @@ fn is_end(parts: &[&[u8]]) -> bool
     }
 }
 
+/// Whether the part is the mark of a permanent module, with the empty last part alone after it.
 fn is_last_mark(part: &[u8], later: &[&[u8]]) -> bool
     ensures { result ≡ (is_mark part.now && is_end (texts_of later.now)) }
 {
-    is_mark(part) && is_end(later)
+    is_same(part, b"[permanent]") && is_end(later)
 }
 
 /// The users and the mark that the parts of their field are.
@@ -100,43 +94,17 @@ fn state(word: &[u8], address: &[u8], more: &[&[u8]]) -> Result<LineState, LineE
     Ok(state)
 }
 
-/// The fields of a line, in order.
-#[derive(Drop)]
-struct Fields<'f, 'a> {
-    name: &'a [u8],
-    size: &'a [u8],
-    count: &'a [u8],
-    users: &'a [u8],
-    state: &'a [u8],
-    address: &'a [u8],
-    more: &'f [&'a [u8]],
-}
-
-fn six_fields<'f, 'a>(fields: &'f [&'a [u8]]) -> Option<Fields<'f, 'a>>
-    ensures { MatchOption result (length fields.now < 6) (λ f. texts_of fields.now ≡ texts_in f) }
-{
-    match fields {
-        [name, size, count, users, state, address, more @ ..] => Some(Fields {
-            name,
-            size,
-            count,
-            users,
-            state,
-            address,
-            more,
-        }),
-        _ => None,
-    }
-}
-
 /// The line that fields are.
-fn good_line(alloc: Global, fields: Fields<'_, '_>) -> Result<Line, LineError>
-    ensures { ReadsLine (line_in (texts_in fields.entry)) result }
+fn good_line(alloc: Global, fields: &[&[u8]]) -> Result<Line, LineError>
+    ensures { ReadsLine (line_in (texts_of fields.now)) result }
 {
-    let (size, count) = numbers(fields.name, fields.size, fields.count)?;
-    let (users, permanent) = users(alloc, fields.users)?;
-    let state = state(fields.state, fields.address, fields.more)?;
-    let name = Name::new(alloc, fields.name)?;
+    let [name, size, count, used_by, word, address, more @ ..] = fields else {
+        return Err(LineError::MissingField);
+    };
+    let (size, count) = numbers(name, size, count)?;
+    let (users, permanent) = users(alloc, used_by)?;
+    let state = state(word, address, more)?;
+    let name = Name::new(alloc, name)?;
     Ok(Line {
         name,
         size,
@@ -168,10 +136,7 @@ fn read_fields(alloc: Global, line: &[u8]) -> Result<Line, LineError>
     ensures { ReadsLine (line_in (slice_split (λ byte. byte == 32) line.now)) result }
 {
     let fields = parts(alloc, line, b' ')?;
-    let Some(fields) = six_fields(&fields) else {
-        return Err(LineError::MissingField);
-    };
-    good_line(alloc, fields)
+    good_line(alloc, &fields)
 }
 
 /// Reads the line of /proc/modules (proc(5)) with which the text begins, and says how many bytes it takes. The line

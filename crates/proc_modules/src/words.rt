@@ -27,10 +27,7 @@ pub(crate) fn line_number(word: &[u8]) -> Option<u32>
     if word.len() > 1 && word[0] == b'0' {
         return None;
     }
-    match number_within(4294967295, word) {
-        Some(n) => Some(n as u32),
-        None => None,
-    }
+    Some(number_within(4294967295, word)? as u32)
 }
 
 /// The state that the word is.
