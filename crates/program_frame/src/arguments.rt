@@ -6,8 +6,9 @@ ghost use Rattle.program_frame.specs.declared.status.Status.TheVariants as statu
 
 use crate::status::Status;
 use crate::told::tell_no_memory;
-use clap::Error as ClapError;
 use clap::error::ErrorKind;
+use clap::{Arg, ArgAction, Error as ClapError};
+use std::alloc::Global;
 use std::env::{self, Env};
 use std::io;
 use std::io::Write;
@@ -21,10 +22,15 @@ pub fn words<R: Env + AllocGlobal>(rt: &R) -> Result<Vec<String>, Status>
         Err(error) if error.kind() == io::ErrorKind::OutOfMemory => return Err(Status::Fault),
         Err(_) => return Err(Status::Refused),
     };
-    match args.collect(rt.alloc()) {
-        Ok(words) => Ok(words),
-        Err(_) => Err(Status::Fault),
-    }
+    args.collect(rt.alloc()).map_err(|_| Status::Fault)
+}
+
+/// An option of a program without a value.
+pub fn flag<'a>(alloc: Global, name: &'a str, help: &'a str) -> Arg<'a> {
+    Arg::new(alloc, name)
+        .long(name)
+        .action(ArgAction::SetTrue)
+        .help(help)
 }
 
 /// Ends the program of this name where its words ask for no work: help and the version go to `writer`, and why words are

@@ -25,10 +25,7 @@ fn names_in(alloc: Global, listing: &[u8]) -> Result<Vec<Vec<u8>>, AllocError> {
 
 /// Whether a path leads to a folder, also through a link.
 pub fn is_folder<R: Files>(rt: &R, path: &str) -> bool {
-    match fs::metadata(rt, path) {
-        Ok(found) => found.is_dir(),
-        Err(_) => false,
-    }
+    fs::metadata(rt, path).is_ok_and(|found| found.is_dir())
 }
 
 /// The names of a folder, in any order, without `.` and `..`. The system's error says why it is not listed.

@@ -11,7 +11,7 @@ mod status;
 mod streams;
 mod told;
 
-pub use arguments::{end_by, words};
+pub use arguments::{end_by, flag, words};
 pub use folder::{counted_names, counts, folder_names, is_folder};
 pub use line::first_word;
 pub use path::{PathFault, read_path};

@@ -1,24 +1,14 @@
 //! A line of an input, as an explanation looks at it.
 ghost use Rattle.std.specs.Prelude.{◌≡◌, [], unwrap_or};
 ghost use Rattle.std.specs.List.{find, slice_split};
-ghost use Rattle.std.specs.Option.{option_map};
 ghost use Rattle.text_parts.specs.Text.{is_blank, is_filled};
 
 use text_parts::is_blank;
-
-fn found_word(line: &[u8]) -> Option<&[u8]>
-    ensures { option_map (λ word. word.now) result ≡ find is_filled (slice_split is_blank line.now) }
-{
-    let mut parts = line.split(|byte| is_blank(*byte));
-    parts.find(|part| !part.is_empty())
-}
 
 /// The first word of a line, between blanks and tabs; empty where it has none.
 pub fn first_word(line: &[u8]) -> &[u8]
     ensures { result.now ≡ unwrap_or (find is_filled (slice_split is_blank line.now)) [] }
 {
-    match found_word(line) {
-        Some(word) => word,
-        None => b"",
-    }
+    let mut parts = line.split(|byte| is_blank(*byte));
+    parts.find(|part| !part.is_empty()).unwrap_or(b"")
 }

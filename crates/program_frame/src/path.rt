@@ -67,8 +67,5 @@ impl<T: Drop> From<AllocFailed<T>> for PathFault {
 
 /// All bytes of the file of a path; or why it is not read, by the kind of the system's error.
 pub fn read_path<R: Files + AllocGlobal>(rt: &R, path: &str) -> Result<Vec<u8>, PathFault> {
-    match fs::read(rt, path) {
-        Ok(bytes) => Ok(bytes),
-        Err(error) => Err(PathFault::from(error)),
-    }
+    Ok(fs::read(rt, path)?)
 }

@@ -62,14 +62,8 @@ impl<'a> Source<'a> {
         ensures fault { IfErr result (IsFaultOf self.entry) }
     {
         match self {
-            Source::Standard => match read_input(rt.alloc(), reader) {
-                Ok(input) => Ok(input),
-                Err(fault) => Err(InputFault::Stream(fault)),
-            },
-            Source::File(path) => match read_path(rt, path) {
-                Ok(input) => Ok(input),
-                Err(fault) => Err(InputFault::Path(fault)),
-            },
+            Source::Standard => read_input(rt.alloc(), reader).map_err(InputFault::Stream),
+            Source::File(path) => read_path(rt, path).map_err(InputFault::Path),
         }
     }
 }

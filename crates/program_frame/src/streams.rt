@@ -37,8 +37,5 @@ pub fn write_text<O: Write>(text: &[u8], writer: &mut O) -> Result<(), StreamFau
     ensures bytes { OnOk result (Appends (O.contents writer.old) (O.contents writer.new) text.now) }
     ensures fault { IfErr result (λ fault. fault ≡ faults.Write) }
 {
-    match writer.write_all(text) {
-        Ok(()) => Ok(()),
-        Err(_) => Err(StreamFault::Write),
-    }
+    writer.write_all(text).map_err(|_| StreamFault::Write)
 }
