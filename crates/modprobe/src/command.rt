@@ -1,8 +1,8 @@
 //! What a session line asks for.
 ghost use Rattle.std.specs.Prelude.{◌≡◌, IfOk, option_map};
 ghost use Rattle.text_parts.specs.Text.{texts_of};
-ghost use Rattle.modprobe.specs.Commands.{listing_of, plain_request_of, request_of, worker_request_of, takes_worker, is_option};
-ghost use Rattle.modprobe.specs.Commands.{with_name, with_worker, with_removal, is_removal, by_second, by_words};
+ghost use Rattle.modprobe.specs.Commands.{listing_of, plain_request_of, request_of, worker_request_of};
+ghost use Rattle.modprobe.specs.Commands.{with_name, with_worker, with_removal, by_second, by_words};
 ghost use Rattle.modprobe.specs.ForProofs.{request_from, command_from};
 
 use std::alloc::{AllocError, Global};
@@ -112,18 +112,6 @@ fn worker_request_of<'a>(first: &[u8], worker: u64) -> Option<Request<'a>>
     }
 }
 
-fn takes_worker(first: &[u8]) -> bool
-    ensures { result ≡ takes_worker first.now }
-{
-    first == b"get".as_slice() || first == b"put".as_slice()
-}
-
-fn is_option(word: &[u8]) -> bool
-    ensures { result ≡ is_option word.now }
-{
-    word.first() == Some(&b'-')
-}
-
 fn with_name<'a>(
     alloc: Global,
     first: &'a [u8],
@@ -135,7 +123,7 @@ fn with_name<'a>(
     let Some(request) = request else {
         return Ok(Command::Malformed(first));
     };
-    if is_option(name) {
+    if name.first() == Some(&b'-') {
         return Ok(Command::Malformed(first));
     }
     Ok(Command::ByName(Name::new(alloc, name)?, request))
@@ -153,13 +141,6 @@ fn with_worker<'a>(
         (Some(worker), [name]) => with_name(alloc, first, *name, worker_request_of(first, worker)),
         _ => Ok(Command::Malformed(first)),
     }
-}
-
-/// Whether the line is a removal by modprobe.
-fn is_removal(first: &[u8], second: &[u8]) -> bool
-    ensures { result ≡ is_removal first.now second.now }
-{
-    first == b"modprobe".as_slice() && second == b"-r".as_slice()
 }
 
 fn with_removal<'a>(
@@ -183,10 +164,10 @@ fn by_second<'a>(
 ) -> Result<Command<'a>, AllocError>
     ensures { IfOk result (λ command. command_from command ≡ by_second first.entry.now second.entry.now (texts_of rest.entry.now)) }
 {
-    if takes_worker(first) {
+    if first == b"get".as_slice() || first == b"put".as_slice() {
         return with_worker(alloc, first, number_within(LARGEST_WORKER, second), rest);
     }
-    if is_removal(first, second) {
+    if first == b"modprobe".as_slice() && second == b"-r".as_slice() {
         return with_removal(alloc, first, rest);
     }
     with_name(alloc, first, second, request_of(first, rest))
@@ -196,11 +177,9 @@ fn by_second<'a>(
 pub(crate) fn parse<'a>(alloc: Global, words: &'a [&'a [u8]]) -> Result<Command<'a>, AllocError>
     ensures { IfOk result (λ command. command_from command ≡ by_words (texts_of words.entry.now)) }
 {
-    let Some((first, rest)) = words.split_first() else {
-        return Ok(Command::Nothing);
-    };
-    match rest.split_first() {
-        Some((second, behind)) => by_second(alloc, *first, *second, behind),
-        None => Ok(listing_of(*first)),
+    match words {
+        [] => Ok(Command::Nothing),
+        [first] => Ok(listing_of(*first)),
+        [first, second, rest @ ..] => by_second(alloc, *first, *second, rest),
     }
 }

@@ -14,27 +14,39 @@ use std::fmt;
 use thiserror::Error;
 
 /// What is wrong with the sections of an input, or what stopped their reading.
-#[derive(Clone, Copy, Debug, PartialEq, Eq, Drop)]
+#[derive(Clone, Copy, Debug, PartialEq, Eq, Drop, Error)]
 pub enum SetupCode {
     /// A line of the catalogue is none of its forms.
+    #[error("C1")]
     C1,
     /// A module of the catalogue has the name of an earlier one.
+    #[error("C2")]
     C2,
     /// A symbol of the catalogue is exported twice.
+    #[error("C3")]
     C3,
     /// The catalogue has too many modules.
+    #[error("C4")]
     C4,
     /// A line of modules.dep has no colon.
+    #[error("M1")]
     M1,
     /// A line of modules.dep has an empty name.
+    #[error("M2")]
     M2,
     /// A name has two lines in modules.dep.
+    #[error("M3")]
     M3,
     /// A line stands before the first section line.
+    #[error("B1")]
     B1,
+    #[error("read fault")]
     Read,
+    #[error("out of memory")]
     Memory,
+    #[error("turn limit")]
     Turns,
+    #[error("long line")]
     LongLine,
 }
 
@@ -77,28 +89,9 @@ pub enum ServeFault {
     Memory,
 }
 
-impl SetupCode {
-    fn text(self) -> &'static str {
-        match self {
-            SetupCode::C1 => "C1",
-            SetupCode::C2 => "C2",
-            SetupCode::C3 => "C3",
-            SetupCode::C4 => "C4",
-            SetupCode::M1 => "M1",
-            SetupCode::M2 => "M2",
-            SetupCode::M3 => "M3",
-            SetupCode::B1 => "B1",
-            SetupCode::Read => "read fault",
-            SetupCode::Memory => "out of memory",
-            SetupCode::Turns => "turn limit",
-            SetupCode::LongLine => "long line",
-        }
-    }
-}
-
 impl fmt::Display for SetupFault {
     fn fmt<W: fmt::Write>(&self, f: &mut fmt::Formatter<W>) -> fmt::Result {
-        let code = self.code.text();
+        let code = self.code;
         match self.line {
             Some(line) => write!(f, "{code} line {line}"),
             None => write!(f, "{code}"),

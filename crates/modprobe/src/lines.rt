@@ -89,15 +89,7 @@ impl<'a, R: Source> Lines<'a, R> {
         ensures same_reader { result.ghost_name ≡ self.entry.reader.ghost_name }
         ensures value { result.now ≡ self.entry.reader.now }
     {
-        let Lines {
-            reader,
-            turns: _,
-            piece: _,
-            at_end: _,
-            line: _,
-            ending: _,
-        } = self;
-        reader
+        self.reader
     }
 
     /// The line that was read last.

@@ -14,7 +14,7 @@ use std::marker::Model;
 /// The modules that are removed for a target, itself first. Contracts see it as their list.
 #[derive(Drop)]
 pub(crate) struct RemovalPlan {
-    order: Vec<usize>,
+    pub(crate) order: Vec<usize>,
 }
 
 impl Model for RemovalPlan {
@@ -23,20 +23,6 @@ impl Model for RemovalPlan {
     ghost Value = { List ℕ };
 
     ghost view = { λ p. p.order.items };
-}
-
-impl RemovalPlan {
-    pub(crate) fn new(order: Vec<usize>) -> RemovalPlan
-        ensures { result ≡ order.items }
-    {
-        RemovalPlan { order }
-    }
-
-    fn order(&self) -> &[usize]
-        ensures { result.now ≡ self.now }
-    {
-        &self.order
-    }
 }
 
 #[tactic(auto, using(crate::proofs::SlotLemmas::modules_of_length))]
@@ -83,7 +69,7 @@ impl<'s, 't, M: Modules> Session<'s, 't, M> {
         ensures { Makes self.old self.new (refusal_in self.old.setup.now result) (λ s t. removals s plans.now t) }
     {
         for plan in plans {
-            self.remove_plan(plan.order())?;
+            self.remove_plan(&plan.order)?;
         }
         Ok(())
     }

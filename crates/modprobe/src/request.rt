@@ -1,8 +1,8 @@
 //! What a request by a name needs: the modules that are found for it, and their plans.
-ghost use Rattle.std.specs.Prelude.{◌≡◌, ◌<◌, [], false, All, IfOk, filter, length, not, replicate};
+ghost use Rattle.std.specs.Prelude.{◌≡◌, ◌<◌, [], All, IfOk, length};
 ghost use Rattle.text_parts.specs.Text.{texts_of};
-ghost use Rattle.load_plan.specs.Items.{Answers, plan_of, removal_plan_of};
-ghost use Rattle.modprobe.specs.Plans.{targets_of, items_of_plans, whole_plan};
+ghost use Rattle.load_plan.specs.Items.{Answers, plan_of};
+ghost use Rattle.modprobe.specs.Plans.{targets_of, whole_plan};
 ghost use Rattle.modprobe.specs.Loads.{has_reached, is_there, load_plan, removal_plans_of, removal_plans};
 ghost use Rattle.modprobe.specs.Settling.{LoadsAs, PlansFor};
 
@@ -13,7 +13,7 @@ use dep_index::ModuleState;
 use dep_index::reads::{is_absent, is_live};
 use load_plan::{FindError, Item, PlanError, Planner, find};
 use seq_table::Modules;
-use std::alloc::{AllocError, Global};
+use std::alloc::Global;
 use text_parts::Name;
 
 /// What modprobe(8) makes of the modules that are found.
@@ -52,18 +52,6 @@ fn targets_of(alloc: Global, setup: &Setup, name: Name) -> Result<Vec<Name>, Pla
     }
 }
 
-/// What plans these modules. No module is settled.
-fn planner_of<'a>(
-    alloc: Global,
-    setup: &'a Setup,
-    targets: &[Name],
-) -> Result<Planner<'a>, AllocError>
-    ensures plans { IfOk result (PlansFor setup.now) }
-    ensures settled { IfOk result (λ planner. planner.settled ≡ replicate (length setup.now.catalogue) false) }
-{
-    Planner::new(alloc, targets, &setup.sources())
-}
-
 /// The items of the plan of one module, each of a module of the catalogue.
 pub(crate) fn plan_of<'a>(
     alloc: Global,
@@ -80,26 +68,6 @@ pub(crate) fn plan_of<'a>(
     planner.plan(alloc, target, words)
 }
 
-/// The items of the plans of these modules, in order, each with the words.
-fn items_of_plans<'a>(
-    alloc: Global,
-    setup: &Setup,
-    planner: &Planner<'a>,
-    words: &[&'a [u8]],
-    targets: &[Name],
-) -> Result<Vec<Item<'a>>, PlanError>
-    requires { PlansFor setup.now planner.now }
-    ensures items { Answers (λ items. items.items) result (items_of_plans setup.now (texts_of words.now) [] targets.now) }
-    ensures within { IfOk result (λ items. All (λ item. item.slot < length setup.now.catalogue) items.items) }
-{
-    let mut items = Vec::new(alloc);
-    for target in targets {
-        let mut more = plan_of(alloc, setup, planner, words, target)?;
-        items.append(&mut more)?;
-    }
-    Ok(items)
-}
-
 /// All that is planned for a name without words.
 pub(crate) fn whole_plan<'a>(
     alloc: Global,
@@ -109,23 +77,13 @@ pub(crate) fn whole_plan<'a>(
     ensures { Answers (λ items. items.items) result (whole_plan setup.now name) }
 {
     let targets = targets_of(alloc, setup, name)?;
-    let planner = planner_of(alloc, setup, &targets)?;
-    items_of_plans(alloc, setup, &planner, &[], &targets)
-}
-
-/// The removal plan of one module, of modules of the catalogue.
-fn removal_plan_of(
-    alloc: Global,
-    setup: &Setup,
-    planner: &Planner<'_>,
-    target: &Name,
-) -> Result<RemovalPlan, PlanError>
-    requires { PlansFor setup.now planner.now }
-    ensures plan { Answers (λ plan. plan) result (removal_plan_of setup.now.catalogue setup.now.dependencies setup.now.configuration target.now) }
-    ensures within { IfOk result (λ plan. All (λ slot. slot < length setup.now.catalogue) plan) }
-{
-    let order = planner.removal_plan(alloc, target)?;
-    Ok(RemovalPlan::new(order))
+    let planner = Planner::new(alloc, &targets, &setup.sources())?;
+    let mut items = Vec::new(alloc);
+    for target in &targets {
+        let mut more = plan_of(alloc, setup, &planner, &[], target)?;
+        items.append(&mut more)?;
+    }
+    Ok(items)
 }
 
 /// The removal plans of these modules, in order.
@@ -141,7 +99,8 @@ fn removal_plans_of(
 {
     let mut plans = Vec::new(alloc);
     for target in targets {
-        plans.push(removal_plan_of(alloc, setup, planner, target)?)?;
+        let order = planner.removal_plan(alloc, target)?;
+        plans.push(RemovalPlan { order })?;
     }
     Ok(plans)
 }
@@ -158,24 +117,6 @@ impl<'s, 't, M: Modules> Session<'s, 't, M> {
         }
     }
 
-    /// The names of modules that are not there yet.
-    fn without_those_there(
-        &self,
-        alloc: Global,
-        names: &[Name],
-        aim: Aim,
-    ) -> Result<Vec<Name>, AllocError>
-        ensures { IfOk result (λ left. left.items ≡ filter (λ name. not (is_there aim self.now.setup.now (M.table self.now.table.now) name)) names.now) }
-    {
-        let mut left = Vec::new(alloc);
-        for name in names {
-            if !self.is_there(name, aim) {
-                left.push(name.copy(alloc)?)?;
-            }
-        }
-        Ok(left)
-    }
-
     /// What to load for a name and words: what is planned for each module that is found and not live, without plans of
     /// modules that are all live by then.
     pub(crate) fn load_plan<'a>(
@@ -190,9 +131,9 @@ impl<'s, 't, M: Modules> Session<'s, 't, M> {
             (load_plan self.now.setup.now name (texts_of words.now) (M.table self.now.table.now)) }
         ensures within { IfOk result (λ items. All (λ item. item.slot < length self.now.setup.now.catalogue) items.items) }
     {
-        let found = targets_of(alloc, self.setup, name)?;
-        let targets = self.without_those_there(alloc, &found, Aim::Live)?;
-        let mut planner = planner_of(alloc, self.setup, &targets)?;
+        let mut targets = targets_of(alloc, self.setup, name)?;
+        targets.retain(|name| !self.is_there(name, Aim::Live));
+        let mut planner = Planner::new(alloc, &targets, &self.setup.sources())?;
         self.items_to_load(alloc, &mut planner, words, &targets)
     }
 
@@ -205,9 +146,9 @@ impl<'s, 't, M: Modules> Session<'s, 't, M> {
         ensures plans { Answers (λ plans. plans.items) result (removal_plans self.now.setup.now name (M.table self.now.table.now)) }
         ensures within { IfOk result (λ plans. All (λ plan. All (λ slot. slot < length self.now.setup.now.catalogue) plan) plans.items) }
     {
-        let found = targets_of(alloc, self.setup, name)?;
-        let targets = self.without_those_there(alloc, &found, Aim::Absent)?;
-        let planner = planner_of(alloc, self.setup, &targets)?;
+        let mut targets = targets_of(alloc, self.setup, name)?;
+        targets.retain(|name| !self.is_there(name, Aim::Absent));
+        let planner = Planner::new(alloc, &targets, &self.setup.sources())?;
         removal_plans_of(alloc, self.setup, &planner, &targets)
     }
 }

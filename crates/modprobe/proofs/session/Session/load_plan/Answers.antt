@@ -1,4 +1,5 @@
-use Rattle.std.proofs.Common.{◌≡◌, ◌∙◌, ap, sym, subst, List, ℕ, [], filter, not, Result}
+use Rattle.std.proofs.Common.{rules, ◌≡◌, ◌∙◌, ap, sym, subst, Bool, List, ℕ, [], filter, not, Result}
+use Rattle.std.proofs.lemmas.Fn.{filter_same}
 use Rattle.text_parts.specs.Text.{texts_of}
 use Rattle.load_plan.specs.declared.items.Item.{Item}
 use Rattle.load_plan.specs.declared.items.PlanError.{PlanError}
@@ -13,8 +14,9 @@ returns-clause-items g c =
     let s = c.args.self.now.setup.now in
     let t = g.M.Modules.table c.args.self.now.table.now in
     let words = texts_of c.args.words.now in
-    let left = rw c.deref.ensures.value at c.in_ok-targets.ensures in
-    let given : load_plan s c.args.name words t ≡ items_of_plans s words [] c.deref-3.result.now =
-    ap (λ (r : Result (List (List ℕ)) PlanError). r >>= λ names. items_of_plans s words [] (filter (λ name. not (is_there Live s t name)) names)) c.in_ok-found.ensures
-    ∙ ap (items_of_plans s words []) (sym (c.deref-3.ensures.value ∙ left)) in
+    let test : List ℕ → Bool = λ name. not (is_there Live s t name) in
+    let kept : c.retain.new.self.items ≡ filter test c.in_ok-targets.targets.items = filter_same _ _ _ (λ x b f' k. search rules) _ _ c.retain.ensures.filtered in
+    let given : load_plan s c.args.name words t ≡ items_of_plans s words [] c.deref-2.result.now =
+    ap (λ (r : Result (List (List ℕ)) PlanError). r >>= λ names. items_of_plans s words [] (filter test names)) c.in_ok-targets.ensures
+    ∙ ap (items_of_plans s words []) (sym (c.deref-2.ensures.value ∙ kept)) in
     subst (λ (r : Result (List Item) PlanError). LoadsAs s t (λ items. items.items) c.items_to_load.result r) (sym given) c.items_to_load.ensures.items
