@@ -1,27 +1,19 @@
--- The words of the modules that were read.
-use Rattle.std.proofs.Common.{◌≡◌, ℕ, zero, suc, ◌<◌, List, length, get_or, set, replicate, Option, Some, None, IfSome, Bor, inl, inr, refl, sym, ◌∙◌, ap, subst}
+-- Which modules have no options.
+use Rattle.std.proofs.Common.{◌≡◌, ℕ, ◌<◌, Bool, true, false, List, [], length, get_or, set, replicate, inl, inr, sym, ◌∙◌, ap}
 use Rattle.std.proofs.lemmas.Bool.Decides.{eqb_tells}
 use Rattle.std.proofs.lemmas.List.{get_or-set_same, get_or-set_other}
 use Rattle.load_plan.specs.declared.sources.Sources.{Sources}
-use Rattle.load_plan.specs.OptionWords.{AreOptions}
+use Rattle.load_plan.specs.OptionWords.{AreBare}
 use Rattle.load_plan.specs.Sources.{options_from}
+use Rattle.load_plan.proofs.Reaching.{none_known}
 
--- none was read
-pub no_options : (s : Sources) (n : ℕ) → AreOptions s (replicate n None)
-no_options s zero zero = tt
-no_options s zero (suc m) = tt
-no_options s (suc n) m = subst (λ o. IfSome o (λ words. words.now ≡ options_from s m)) (sym (none_at (suc n) m)) tt
-  where
-    none_at : (n m : ℕ) → get_or (replicate {A = Option (Bor (List (List ℕ)))} n None) m None ≡ None
-    none_at zero zero = refl
-    none_at zero (suc m) = refl
-    none_at (suc n) zero = refl
-    none_at (suc n) (suc m) = none_at n m
+-- of none it is known
+pub bare-none : (s : Sources) (n : ℕ) → AreBare s (replicate n false)
+bare-none s n m h = (let no : get_or (replicate n false) m false ≡ false = none_known n m in absurd (cc))
 
--- one more was read
-pub options-set : (s : Sources) (options : List (Option (Bor (List (List ℕ))))) (slot : ℕ) (words : Bor (List (List ℕ)))
-    → slot < length options → words.now ≡ options_from s slot → AreOptions s options → AreOptions s (set options slot (Some words))
-options-set s options slot words within is before m = elim (eqb_tells m slot) [
-  | inl t ↦ subst (λ o. IfSome o (λ w. w.now ≡ options_from s m)) (sym (ap (λ j. get_or (set options slot (Some words)) j None) t.1 ∙ get_or-set_same options slot (Some words) None within)) (is ∙ ap (options_from s) (sym t.1))
-  | inr t ↦ subst (λ o. IfSome o (λ w. w.now ≡ options_from s m)) (sym (get_or-set_other options slot m (Some words) None t.1)) (before m)
+-- of one more it is known, or it has some
+pub bare-set : (s : Sources) (bare : List Bool) (slot : ℕ) (flag : Bool) → slot < length bare → (flag ≡ true → options_from s slot ≡ []) → AreBare s bare → AreBare s (set bare slot flag)
+bare-set s bare slot flag within is before m h = elim (eqb_tells m slot) [
+  | inl t ↦ ap (options_from s) t.1 ∙ is (sym (get_or-set_same bare slot flag false within) ∙ ap (λ j. get_or (set bare slot flag) j false) (sym t.1) ∙ h)
+  | inr t ↦ before m (sym (get_or-set_other bare slot m flag false t.1) ∙ h)
 ]

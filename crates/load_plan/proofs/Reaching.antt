@@ -1,9 +1,8 @@
 -- What a graph is read to: all that its module reaches.
-use Rattle.std.proofs.Common.{◌≡◌, ℕ, zero, suc, ◌+◌, ◌<◌, ◌⊎◌, Bool, true, false, ◌&&◌, ◌||◌, List, [], ◌∷◌, ◌++◌, length, take, get_or, set, length-set, replicate, inl, inr, refl, sym, ◌∙◌, ap, arith}
+use Rattle.std.proofs.Common.{◌≡◌, ℕ, zero, suc, ◌+◌, ◌<◌, ◌⊎◌, Bool, true, false, ◌&&◌, ◌||◌, List, [], ◌∷◌, ◌++◌, length, drop, get_or, set, length-set, replicate, inl, inr, refl, sym, ◌∙◌, ap, arith}
 use Rattle.std.specs.List.{list_all, sum_by}
 use Rattle.std.proofs.lemmas.Bool.Decides.{eqb_tells}
-use Rattle.std.proofs.lemmas.List.{get_or-set_same, get_or-set_other, length-append, length-replicate}
-use Rattle.std.proofs.lemmas.List.Folds.{list_all_more}
+use Rattle.std.proofs.lemmas.List.{at_drop_more, get_or-set_same, get_or-set_other, length-append, length-replicate}
 use Rattle.std.proofs.lemmas.List.Sums.{sum_by-set}
 use Rattle.load_plan.specs.declared.graph.Target.{Target}
 use Rattle.load_plan.specs.declared.graph.Target.TheVariants.{Slot, Missing}
@@ -76,16 +75,11 @@ targets_grow p q grows (Slot m ∷ ts) h =
     and_makes (q m) (list_all (is_target_in q) ts) (grows m both.0) (targets_grow p q grows ts both.1)
 targets_grow p q grows (Missing name ∷ ts) h = targets_grow p q grows ts h
 
--- one target more is known
-pub targets-slot : (known most : List Bool) (ts : List Target) (i : ℕ) (t : Target) (m : ℕ) → i < length ts → t ≡ get_or ts i t → t ≡ Slot m → ((q : ℕ) → known_at known q ≡ true → known_at most q ≡ true) → list_all (is_target_in (known_at known)) (take i ts) ≡ true → known_at most m ≡ true → list_all (is_target_in (known_at most)) (take (i + 1) ts) ≡ true
-targets-slot known most ts i t m within at is grows all here =
-    list_all_more (is_target_in (known_at most)) ts i t within
-    ∙ and_makes (list_all (is_target_in (known_at most)) (take i ts)) (is_target_in (known_at most) (get_or ts i t)) (targets_grow (known_at known) (known_at most) grows (take i ts) all) (ap (is_target_in (known_at most)) (sym at ∙ is) ∙ here)
-
-pub targets-missing : (known : List Bool) (ts : List Target) (i : ℕ) (t : Target) (name : List ℕ) → i < length ts → t ≡ get_or ts i t → t ≡ Missing name → list_all (is_target_in (known_at known)) (take i ts) ≡ true → list_all (is_target_in (known_at known)) (take (i + 1) ts) ≡ true
-targets-missing known ts i t name within at is all =
-    list_all_more (is_target_in (known_at known)) ts i t within
-    ∙ and_makes (list_all (is_target_in (known_at known)) (take i ts)) (is_target_in (known_at known) (get_or ts i t)) all (ap (is_target_in (known_at known)) (sym at ∙ is))
+-- the target at a place is known, as those after it are
+pub targets-from : (known more : List Bool) (ts : List Target) (i : ℕ) (t : Target) → i < length ts → t ≡ get_or ts i t → ((m : ℕ) → known_at known m ≡ true → known_at more m ≡ true) → is_target_in (known_at more) t ≡ true → list_all (is_target_in (known_at known)) (drop (i + 1) ts) ≡ true → list_all (is_target_in (known_at more)) (drop i ts) ≡ true
+targets-from known more ts i t within at grows here after =
+    at_drop_more (list_all (is_target_in (known_at more))) ts i t within
+    ∙ and_makes (is_target_in (known_at more) (get_or ts i t)) (list_all (is_target_in (known_at more)) (drop (i + 1) ts)) (ap (is_target_in (known_at more)) (sym at) ∙ here) (targets_grow (known_at known) (known_at more) grows (drop (i + 1) ts) after)
 
 pub names_grow : (p q : ℕ → Bool) → ((m : ℕ) → p m ≡ true → q m ≡ true) → (node : Node) → names_in p node ≡ true → names_in q node ≡ true
 names_grow p q grows node h =
@@ -115,7 +109,7 @@ known_from [] m flag within is h = absurd (omega arith)
 known_from (b ∷ bs) zero flag within is h = sym is ∙ h
 known_from (b ∷ bs) (suc m) flag within is h = known_from bs m flag (omega arith) is h
 
-none_known : (n m : ℕ) → known_at (replicate n false) m ≡ false
+pub none_known : (n m : ℕ) → known_at (replicate n false) m ≡ false
 none_known zero m = refl
 none_known (suc n) zero = refl
 none_known (suc n) (suc m) = none_known n m

@@ -15,7 +15,7 @@ use Rattle.load_plan.specs.declared.walk.Mark.TheVariants.{New, Open, Done}
 use Rattle.load_plan.specs.declared.walk.Frame.{Frame}
 use Rattle.load_plan.specs.Graph.{Node, node_at, no_node, is_bounded, is_within}
 use Rattle.load_plan.specs.Walk.{◌>>=◌, has, walk_each, walk}
-use Rattle.load_plan.specs.ForProofs.{mark_of, mark_at, AreMarks, left_of, next_frame, Leads}
+use Rattle.load_plan.specs.ForProofs.{mark_of, mark_at, AreMarks, left_of, next_frame, Leads, Passes, here, past}
 use Rattle.load_plan.proofs.Bounds.{named_within}
 use Rattle.load_plan.proofs.Lists.{and_true, either_way, or_false, or_comes, has-same, has-other, has-last_same, has-last_other, apart_from, below_cons, nothing_apart, room_for}
 
@@ -298,6 +298,21 @@ effort-enter w marks f fs m leads mark within inside =
     let most : length (node_at w m).hard ≤ links w = hard-le-links w m within in
     omega (arith, times, old, new, next, shorter, most)
 
+-- the targets that are passed are of one module
+pub passes-slot : (w : List Node) (marks : List Mark) (f g : Frame) → Passes w marks f g → g.slot ≡ f.slot
+passes-slot w marks f _ here = refl
+passes-slot w marks f _ (past g m passes leads mark within) = passes-slot w marks f g passes
+
+-- they are left no more
+pub effort-passes : (w : List Node) (marks : List Mark) (f g : Frame) (fs : List Frame) → Passes w marks f g → effort w marks (g ∷ fs) ≤ effort w marks (f ∷ fs)
+effort-passes w marks f _ fs here = omega arith
+effort-passes w marks f _ fs (past g m passes leads mark within) =
+    let before : effort w marks (g ∷ fs) ≤ effort w marks (f ∷ fs) = effort-passes w marks f g fs passes in
+    let old : work w (g ∷ fs) ≡ (length (left_of w g) + 1) + work w fs = sum_by-cons (λ x. length (left_of w x) + 1) g fs in
+    let next : work w (next_frame g ∷ fs) ≡ (length (left_of w (next_frame g)) + 1) + work w fs = sum_by-cons (λ x. length (left_of w x) + 1) (next_frame g) fs in
+    let shorter : length (left_of w g) ≡ suc (length (left_of w (next_frame g))) = ap length leads in
+    omega (arith, before, old, next, shorter)
+
 -- what the loop of a walk keeps, for each way and list from which it may have begun
 pub record KeepsWalk (w : List Node) (tests : Bool) (start : ℕ) (first marks : List Mark) (order : List ℕ) (fs : List Frame) : Type 0 where
   pub inside : IsInGraph (length w) marks fs
@@ -325,6 +340,17 @@ KeepsWalk-pass k m leads mark within = record {
   inside = record { long = k.inside.long; below = k.inside.below };
   walks = λ way done marked. Walks-pass (k.walks way done marked) m leads mark within;
 }
+
+pub KeepsWalk-passes : {w : List Node} {tests : Bool} {start : ℕ} {first marks : List Mark} {order : List ℕ} {f : Frame} {fs : List Frame} (g : Frame) → KeepsWalk w tests start first marks order (f ∷ fs) → Passes w marks f g → KeepsWalk w tests start first marks order (g ∷ fs)
+KeepsWalk-passes _ k here = k
+KeepsWalk-passes _ k (past g m passes leads mark within) = KeepsWalk-pass (KeepsWalk-passes g k passes) m leads mark within
+
+-- a module is finished past its last target
+pub KeepsWalk-finished : {w : List Node} {tests : Bool} {start : ℕ} {first marks : List Mark} {order after : List ℕ} {f : Frame} {fs : List Frame} (g : Frame) → KeepsWalk w tests start first marks order (f ∷ fs) → Passes w marks f g → left_of w g ≡ [] → after ≡ order ++ f.slot ∷ [] → KeepsWalk w tests start first (set marks f.slot Done) after fs
+KeepsWalk-finished {w} {tests} {start} {first} {marks} {order} {after} {f} {fs} g k passes over grown =
+    let same : g.slot ≡ f.slot = passes-slot w marks f g passes in
+    subst (λ m. KeepsWalk w tests start first (set marks m Done) after fs) same
+    (KeepsWalk-finish (KeepsWalk-passes g k passes) over (grown ∙ ap (λ m. order ++ m ∷ []) (sym same)))
 
 pub KeepsWalk-enter : {w : List Node} {tests : Bool} {start : ℕ} {first marks : List Mark} {order : List ℕ} {f : Frame} {fs : List Frame} → KeepsWalk w tests start first marks order (f ∷ fs) → (m : ℕ) → Leads w f (Slot m) → mark_at marks m ≡ New → (tests && (node_at w m).installs) ≡ false → m < length w → KeepsWalk w tests start first (set marks m Open) order (first_frame m ∷ next_frame f ∷ fs)
 KeepsWalk-enter k m leads mark free within = record {

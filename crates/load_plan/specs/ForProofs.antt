@@ -7,7 +7,7 @@ use Rattle.load_plan.specs.declared.walk.Mark.{Mark}
 use Rattle.load_plan.specs.declared.walk.Mark.TheVariants.{New, Open, Done}
 use Rattle.load_plan.specs.declared.walk.Frame.{Frame}
 use Rattle.load_plan.specs.declared.walk.Step.{Step}
-use Rattle.load_plan.specs.declared.walk.Step.TheVariants.{Finish, Pass, Enter, Again, Blocked, Nowhere}
+use Rattle.load_plan.specs.declared.walk.Step.TheVariants.{Finish, Enter, Again, Blocked, Nowhere}
 use Rattle.load_plan.specs.Graph.{Node, node_at, is_bounded}
 use Rattle.load_plan.specs.Laws.{IsOrder}
 use Rattle.load_plan.specs.Walk.{has}
@@ -36,17 +36,27 @@ next_frame frame = record { slot = frame.slot; walked = frame.walked + 1 }
 abbrev pub Leads : List Node → Frame → Target → Type 0
 Leads graph frame target = left_of graph frame ≡ target ∷ left_of graph (next_frame frame)
 
-abbrev pub IsStep : List Node → Bool → List Mark → Frame → Step → Type 0
-IsStep graph tests marks frame Finish = left_of graph frame ≡ []
-IsStep graph tests marks frame (Pass next) =
-    (m : ℕ) × Leads graph frame (Slot m) × (mark_at marks m ≡ Done) × (m < length graph) × (next ≡ next_frame frame)
-IsStep graph tests marks frame (Enter m next) =
+-- what the first target that is left asks, where it is not finished
+abbrev pub IsAsked : List Node → Bool → List Mark → Frame → Step → Type 0
+IsAsked graph tests marks frame Finish = left_of graph frame ≡ []
+IsAsked graph tests marks frame (Enter m next) =
     Leads graph frame (Slot m) × (mark_at marks m ≡ New) × ((tests && (node_at graph m).installs) ≡ false)
     × (m < length graph) × (next ≡ next_frame frame)
-IsStep graph tests marks frame (Again m) = Leads graph frame (Slot m) × (mark_at marks m ≡ Open) × (m < length graph)
-IsStep graph tests marks frame (Blocked m) =
+IsAsked graph tests marks frame (Again m) = Leads graph frame (Slot m) × (mark_at marks m ≡ Open) × (m < length graph)
+IsAsked graph tests marks frame (Blocked m) =
     Leads graph frame (Slot m) × (mark_at marks m ≡ New) × ((tests && (node_at graph m).installs) ≡ true) × (m < length graph)
-IsStep graph tests marks frame (Nowhere name) = Leads graph frame (Missing name.now)
+IsAsked graph tests marks frame (Nowhere name) = Leads graph frame (Missing name.now)
+
+-- a frame of the same module, past some targets that are finished
+pub data Passes (graph : List Node) (marks : List Mark) (frame : Frame) : Frame → Type 0 where
+  here : Passes graph marks frame frame
+  past : (f : Frame) (m : ℕ) → Passes graph marks frame f → Leads graph f (Slot m) → mark_at marks m ≡ Done → m < length graph → Passes graph marks frame (next_frame f)
+
+-- what is asked past the targets that are finished
+pub record IsStep (graph : List Node) (tests : Bool) (marks : List Mark) (frame : Frame) (step : Step) : Type 0 where
+  pub at : Frame
+  pub passes : Passes graph marks frame at
+  pub asked : IsAsked graph tests marks at step
 
 -- what a visit has made so far: an order without a module in progress, of modules that a walk may enter
 pub record IsKept (graph : List Node) (progress done : List ℕ) : Type 0 where
@@ -64,6 +74,9 @@ abbrev pub is_done_mark : Mark → Bool
 is_done_mark Done = true
 is_done_mark _ = false
 
--- the steps of a list, soft where the mark is not Done
+-- a module as a step of a plan, soft where its mark is not Done
+abbrev pub step_of : List Mark → ℕ → PlanStep
+step_of marks m = record { slot = m; soft = not (is_done_mark (slice_index_or marks m New)) }
+
 abbrev pub steps_of : List Mark → List ℕ → List PlanStep
-steps_of marks ms = map (λ m. record { slot = m; soft = not (is_done_mark (slice_index_or marks m New)) }) ms
+steps_of marks ms = map (step_of marks) ms

@@ -1,6 +1,5 @@
--- Serves proofs alone: the words of the options lines of the modules that were read, and an item for a command.
-use Rattle.std.specs.Prelude.{◌≡◌, ℕ, List, Option, None, IfSome, Result, slice_index_or}
-use Rattle.std.specs.Borrow.{Bor}
+-- Serves proofs alone: which modules have no options, and an item for a command.
+use Rattle.std.specs.Prelude.{◌≡◌, ℕ, Bool, true, false, List, [], Result, slice_index_or}
 use Rattle.text_parts.specs.Text.{texts_of}
 use Rattle.load_plan.specs.declared.items.Asked.{Asked}
 use Rattle.load_plan.specs.declared.graph.Target.TheVariants.{Slot}
@@ -11,9 +10,9 @@ use Rattle.load_plan.specs.declared.sources.Sources.{Sources}
 use Rattle.load_plan.specs.Items.{item_of, plan_at, removal_at}
 use Rattle.load_plan.specs.Sources.{options_from}
 
--- what there is of a module's words is what the configuration says of its name
-abbrev pub AreOptions : Sources → List (Option (Bor (List (List ℕ)))) → Type 0
-AreOptions s options = (slot : ℕ) → IfSome (slice_index_or options slot None) (λ words. words.now ≡ options_from s slot)
+-- a module's flag says that the configuration has no options of its name
+abbrev pub AreBare : Sources → List Bool → Type 0
+AreBare s bare = (slot : ℕ) → slice_index_or bare slot false ≡ true → options_from s slot ≡ []
 
 abbrev pub item_for : Sources → Asked → PlanStep → Item
 item_for s asked step = item_of s.catalogue.now s.configuration.now asked.slot (texts_of asked.words.now) step

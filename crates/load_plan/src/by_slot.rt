@@ -1,5 +1,5 @@
 //! Values by slot, of which few differ from the usual one.
-ghost use Rattle.std.specs.Prelude.{◌≡◌, ◌<◌, length, replicate, set, slice_get, slice_index_or, IfOk, OnOk};
+ghost use Rattle.std.specs.Prelude.{◌≡◌, ◌<◌, length, replicate, set, slice_index_or, IfOk, OnOk};
 
 use crate::filled::filled;
 use std::alloc::{AllocError, Global};
@@ -53,17 +53,6 @@ impl<T: Copy + Drop> BySlot<T> {
         match self.places[slot] {
             0 => self.usual,
             place => self.own[place - 1],
-        }
-    }
-
-    /// The value of a slot; None past the last slot.
-    pub(crate) fn get(&self, slot: usize) -> Option<T>
-        ensures { result ≡ slice_get self.now slot }
-    {
-        if slot < self.len() {
-            Some(self.at(slot))
-        } else {
-            None
         }
     }
 

@@ -1,23 +1,54 @@
 //! A dependency graph: for each module the modules that it names.
-ghost use Rattle.std.specs.Prelude.{◌≡◌, ◌+◌, ◌^◌, ◌<◌, [], ◌∷◌, drop, length, true, IfSome, MatchOption};
+ghost use Rattle.std.specs.Prelude.{◌≡◌, ◌+◌, ◌^◌, ◌<◌, [], ◌∷◌, drop, length, true, IfOk, IfSome, MatchOption};
 ghost use Rattle.std.specs.List.{list_all};
 ghost use Rattle.load_plan.specs.Cuts.{nodes_in, IsGraph};
 ghost use Rattle.load_plan.specs.SoftModules.{is_missing, HasNoSoftModules};
 ghost use Rattle.load_plan.specs.Graph.{is_bounded, is_within, node_at, targets_of};
 
 use crate::by_slot::BySlot;
+use std::alloc::{AllocError, Global};
 use std::marker::Model;
 use text_parts::Name;
 
+/// A name that the catalogue does not have, where it was read: most graphs name some, and a plan copies none of them.
+/// Contracts see it as its bytes.
+#[derive(Drop)]
+pub(crate) struct MissingName<'a> {
+    name: &'a Name,
+}
+
+impl<'a> Model for MissingName<'a> {
+    ghost use Rattle.std.specs.Prelude.{ℕ, List};
+
+    ghost Value = { List ℕ };
+
+    ghost view = { λ m. m.name.now };
+}
+
+impl<'a> MissingName<'a> {
+    pub(crate) fn new(name: &'a Name) -> MissingName<'a>
+        ensures { result ≡ name.entry.now }
+    {
+        MissingName { name }
+    }
+
+    /// The name, for another owner.
+    pub(crate) fn copy(&self, alloc: Global) -> Result<Name, AllocError>
+        ensures { IfOk result (λ copied. copied ≡ self.now) }
+    {
+        self.name.copy(alloc)
+    }
+}
+
 /// A module that a module names: a slot of the catalogue, or a name that the catalogue does not have.
 #[derive(Drop)]
-pub(crate) enum Target {
+pub(crate) enum Target<'a> {
     Slot(usize),
-    Missing(Name),
+    Missing(MissingName<'a>),
 }
 
 /// The target at an index, where there is one.
-pub(crate) fn target_at(targets: &[Target], index: usize) -> Option<&Target>
+pub(crate) fn target_at<'t, 'a>(targets: &'t [Target<'a>], index: usize) -> Option<&'t Target<'a>>
     ensures first { MatchOption result
         (drop index targets.entry.now ≡ [])
         (λ t. drop index targets.entry.now ≡ t.now ∷ drop (index + 1) targets.entry.now) }
@@ -35,7 +66,8 @@ pub(crate) fn are_missing(targets: &[Target]) -> bool
         .all(|target| matches!(target, Target::Missing(_)))
 }
 
-/// As what a module names others, in the order of a visit.
+/// The three lists of what a module names, in the order in which a visit takes them: its pre items, its hard
+/// dependencies, its post items.
 #[derive(Clone, Copy)]
 pub(crate) enum Phase {
     Pre,
@@ -44,7 +76,7 @@ pub(crate) enum Phase {
 }
 
 /// Where the targets of a module stand among those of all: its hard dependencies, its pre items and its post items,
-/// one behind the other.
+/// in this order.
 #[derive(Clone, Copy)]
 pub(crate) struct Row {
     pub(crate) hard_from: usize,
@@ -57,14 +89,14 @@ pub(crate) struct Row {
 
 /// The modules by slot; each slot that a module names is one of them. Contracts see it as the list of its nodes.
 #[derive(Drop)]
-pub(crate) struct DependencyGraph {
+pub(crate) struct DependencyGraph<'a> {
     rows: BySlot<Row>,
     // those of all modules, so that none has an allocation of its own
-    targets: Vec<Target>,
+    targets: Vec<Target<'a>>,
     has_soft: bool,
 }
 
-impl Model for DependencyGraph {
+impl<'a> Model for DependencyGraph<'a> {
     ghost use Rattle.std.specs.Prelude.{List};
     ghost use Rattle.load_plan.specs.Graph.{Node};
 
@@ -77,11 +109,15 @@ impl Model for DependencyGraph {
     ghost invariant = { λ g. IsGraph g.targets.items g.rows g.has_soft };
 }
 
-impl DependencyGraph {
+impl<'a> DependencyGraph<'a> {
     /// The modules of these rows. Where `has_soft` is false no soft item is a module.
-    pub(crate) fn new(rows: BySlot<Row>, targets: Vec<Target>, has_soft: bool) -> DependencyGraph
+    pub(crate) fn new(
+        rows: BySlot<Row>,
+        targets: Vec<Target<'a>>,
+        has_soft: bool,
+    ) -> DependencyGraph<'a>
         requires { IsGraph targets.items rows has_soft }
-        ensures { result ≡ nodes_in targets.items rows }
+        ensures { result ≡ nodes_in targets.entry.items rows }
     {
         DependencyGraph {
             rows,
@@ -99,7 +135,7 @@ impl DependencyGraph {
     }
 
     /// What a module names in a phase.
-    pub(crate) fn targets(&self, slot: usize, phase: Phase) -> &[Target]
+    pub(crate) fn targets(&self, slot: usize, phase: Phase) -> &[Target<'a>]
         requires { slot < length self.now }
         ensures targets { result.now ≡ targets_of (node_at self.now slot) phase }
         ensures within { list_all (is_within (length self.now)) result.now ≡ true }

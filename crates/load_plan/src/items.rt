@@ -3,8 +3,9 @@ ghost use Rattle.std.specs.Prelude.{◌≡◌, ◌<◌, length, map, true, All, 
 ghost use Rattle.text_parts.specs.Text.{normal_form, texts_of};
 ghost use Rattle.load_plan.specs.declared.refusal.WalkError.TheVariants.{Refused};
 ghost use Rattle.load_plan.specs.declared.graph.Target.TheVariants.{Slot};
+ghost use Rattle.load_plan.specs.ForProofs.{steps_of};
 ghost use Rattle.load_plan.specs.Items.{Answers, error_of, name_at, plan_from, removal_plan_from};
-ghost use Rattle.load_plan.specs.OptionWords.{item_for, plan_for, removal_for, AreOptions};
+ghost use Rattle.load_plan.specs.OptionWords.{item_for, plan_for, removal_for, AreBare};
 ghost use Rattle.load_plan.specs.Parts.{known_at};
 ghost use Rattle.load_plan.specs.Reading.{IsRead};
 ghost use Rattle.load_plan.specs.Results.{IsRefusalWithin};
@@ -12,10 +13,11 @@ ghost use Rattle.load_plan.specs.Sources.{options_from};
 
 use crate::kept::is_kept;
 use crate::options::Options;
-use crate::plans::{PlanStep, plan_in, removal_plan_in};
+use crate::plans::{PlanStep, plan_in, removal_plan_in, step_of};
 use crate::reach::{Part, part_from};
 use crate::refusal::{PlanRefusal, WalkError};
 use crate::sources::{Sources, slot_of};
+use crate::walk::Walked;
 use dep_index::Catalogue;
 use modprobe_conf::Word;
 use std::alloc::{AllocError, AllocFailed, Global};
@@ -43,7 +45,7 @@ pub enum PlanError {
     /// The catalogue has no module of that name.
     #[error("the catalogue has no module of the name")]
     Unknown(Name),
-    /// Want of memory.
+    /// Memory ran out.
     #[error("out of memory")]
     Memory,
     /// The module has a remove line and no softdep line (modprobe.d(5)).
@@ -103,14 +105,14 @@ pub(crate) struct Asked<'a, 'b> {
     pub(crate) words: &'b [&'a [u8]],
 }
 
-/// The words of the options lines of a slot: where they were read, as read.
+/// The words of the options lines of a slot. They are looked up where its name may have some.
 fn options_at<'a>(sources: &Sources<'a>, part: &Part<'a>, slot: usize) -> &'a [Word]
     requires slot { slot < length sources.now.catalogue.now }
-    requires read { AreOptions sources.now part.now.options }
+    requires bare { AreBare sources.now part.now.bare.items }
     ensures { result.now ≡ options_from sources.now slot }
 {
-    match part.options.get(slot) {
-        Some(Some(words)) => words,
+    match part.bare.get(slot) {
+        Some(true) => &[],
         _ => sources.configuration.options(sources.catalogue.name(slot)),
     }
 }
@@ -123,7 +125,7 @@ fn item_of<'a>(
     step: PlanStep,
 ) -> Result<Item<'a>, AllocError>
     requires slot { step.slot < length sources.now.catalogue.now }
-    requires read { AreOptions sources.now part.now.options }
+    requires bare { AreBare sources.now part.now.bare.items }
     ensures { IfOk result (λ item. item ≡ item_for sources.now asked.entry step) }
 {
     let mut options = Options::new(alloc);
@@ -143,16 +145,18 @@ fn items_of<'a>(
     sources: &Sources<'a>,
     part: &Part<'a>,
     asked: Asked<'a, '_>,
-    steps: &[PlanStep],
+    planned: &Walked,
 ) -> Result<Vec<Item<'a>>, AllocError>
-    requires within { All (λ step. step.slot < length sources.now.catalogue.now) steps.now }
-    requires read { AreOptions sources.now part.now.options }
-    ensures items { IfOk result (λ items. items.items ≡ map (item_for sources.now asked.entry) steps.now) }
+    requires within { All (λ slot. slot < length sources.now.catalogue.now) planned.now.order.items }
+    requires bare { AreBare sources.now part.now.bare.items }
+    ensures items { IfOk result (λ items. items.items
+        ≡ map (item_for sources.now asked.entry) (steps_of planned.now.marks.items planned.now.order.items)) }
     ensures within { IfOk result (λ items. All (λ item. item.slot < length sources.now.catalogue.now) items.items) }
 {
-    let mut items = Vec::with_capacity(alloc, steps.len())?;
-    for step in steps {
-        items.push(item_of(alloc, sources, part, asked, *step)?)?;
+    let mut items = Vec::with_capacity(alloc, planned.order.len())?;
+    for slot in &planned.order {
+        let step = step_of(&planned.marks, *slot);
+        items.push(item_of(alloc, sources, part, asked, step)?)?;
     }
     Ok(items)
 }
@@ -170,17 +174,17 @@ pub(crate) fn planned<'a>(
     ensures within { IfOk result (λ items. All (λ item. item.slot < length sources.now.catalogue.now) items.items) }
 {
     match plan_in(alloc, &part.graph, asked.slot) {
-        Ok(steps) => Ok(items_of(alloc, sources, part, asked, &steps)?),
+        Ok(planned) => Ok(items_of(alloc, sources, part, asked, &planned)?),
         Err(WalkError::Refused(refusal)) => Err(error_of(alloc, sources.catalogue, refusal)?),
         Err(WalkError::Memory) => Err(PlanError::Memory),
     }
 }
 
 /// The plan of a name: the modules that are loaded for it, in order. Hard dependencies stand before their users,
-/// none stands twice; soft items stand before or after (modprobe.d(5)), and are passed over where they can't be
+/// none stands twice; soft items stand before or after (modprobe.d(5)), and are skipped where they can't be
 /// loaded. The words of the command are the last words of the name's own module. It is refused at the first module
 /// of the hard walk that is on the way to itself (Cycle), that the catalogue does not have (Unknown), or that has
-/// an install line and no softdep line (Install), and for want of memory.
+/// an install line and no softdep line (Install), and where memory runs out.
 pub fn plan<'a>(
     alloc: Global,
     name: &[u8],
@@ -219,7 +223,7 @@ pub(crate) fn removal_planned(
 
 /// The removal plan of a name: its module, and then what it stands on, each user before its dependencies. It is
 /// refused where the name has a remove line and no softdep line (Remove), else at the first module of the hard walk
-/// that is on the way to itself (Cycle) or that the catalogue does not have (Unknown), and for want of memory.
+/// that is on the way to itself (Cycle) or that the catalogue does not have (Unknown), and where memory runs out.
 pub fn removal_plan(alloc: Global, name: &[u8], sources: &Sources) -> Result<Vec<usize>, PlanError>
     ensures order { Answers (λ order. order.items) result (removal_plan_from sources.now name.now) }
     ensures within { IfOk result (λ order. All (λ slot. slot < length sources.now.catalogue.now) order.items) }

@@ -1,8 +1,8 @@
 //! The plan of a module: what is loaded for it, in order, and what is removed with it.
-ghost use Rattle.std.specs.Prelude.{◌≡◌, ◌<◌, length, not, slice_index_or, All, IfErr, IfOk};
+ghost use Rattle.std.specs.Prelude.{◌≡◌, ◌<◌, length, All, IfErr, IfOk};
 ghost use Rattle.load_plan.specs.declared.graph.Target.TheVariants.{Slot};
-ghost use Rattle.load_plan.specs.declared.walk.Mark.TheVariants.{New};
-ghost use Rattle.load_plan.specs.ForProofs.{is_done_mark, steps_of};
+ghost use Rattle.load_plan.specs.declared.walk.Walked.{Walked};
+ghost use Rattle.load_plan.specs.ForProofs.{step_of, steps_of};
 ghost use Rattle.load_plan.specs.Plan.{plan, removal_plan};
 ghost use Rattle.load_plan.specs.Results.{Gives, IsRefusalWithin};
 
@@ -10,7 +10,7 @@ use crate::graph::DependencyGraph;
 use crate::refusal::WalkError;
 use crate::visit::visit;
 use crate::walk::{Mark, Walked, hard_walk};
-use std::alloc::{AllocError, Global};
+use std::alloc::Global;
 
 /// A module that a plan loads, and whether only soft items ask for it.
 #[derive(Clone, Copy, Debug, PartialEq, Eq)]
@@ -19,36 +19,26 @@ pub(crate) struct PlanStep {
     pub(crate) soft: bool,
 }
 
-/// Whether the hard walk that left these marks did not reach a module.
-fn is_soft(marks: &[Mark], slot: usize) -> bool
-    ensures { result ≡ not (is_done_mark (slice_index_or marks.now slot New)) }
+/// The module as a step of the plan: it is soft where the hard walk that left these marks did not reach it.
+pub(crate) fn step_of(marks: &[Mark], slot: usize) -> PlanStep
+    ensures { result ≡ step_of marks.now slot }
 {
-    !matches!(marks.get(slot), Some(Mark::Done))
-}
-
-/// The modules in order, each soft where the hard walk did not reach it.
-fn with_marks(alloc: Global, marks: &[Mark], order: &[usize]) -> Result<Vec<PlanStep>, AllocError>
-    ensures { IfOk result (λ steps. steps.items ≡ steps_of marks.now order.now) }
-{
-    let mut steps = Vec::with_capacity(alloc, order.len())?;
-    for slot in order {
-        steps.push(PlanStep {
-            slot: *slot,
-            soft: is_soft(marks, *slot),
-        })?;
+    PlanStep {
+        slot,
+        soft: !matches!(marks.get(slot), Some(Mark::Done)),
     }
-    Ok(steps)
 }
 
-/// The plan of a module of the graph: the modules that are loaded, in order, or why there is none.
+/// The plan of a module of the graph: the modules that are loaded, in order, and the marks that the hard walk left; or
+/// why there is none.
 pub(crate) fn plan_in(
     alloc: Global,
     graph: &DependencyGraph,
     start: usize,
-) -> Result<Vec<PlanStep>, WalkError>
+) -> Result<Walked, WalkError>
     requires { start < length graph.now }
-    ensures steps { Gives (λ steps. steps.items) result (plan graph.now (Slot start)) }
-    ensures within { IfOk result (λ steps. All (λ step. step.slot < length graph.now) steps.items) }
+    ensures steps { Gives (λ (planned : Walked). steps_of planned.marks.items planned.order.items) result (plan graph.now (Slot start)) }
+    ensures within { IfOk result (λ planned. All (λ slot. slot < length graph.now) planned.order.items) }
     ensures refusal { IfErr result (IsRefusalWithin (length graph.now)) }
 {
     let Walked { order, marks } = hard_walk(alloc, graph, true, start)?;
@@ -57,7 +47,7 @@ pub(crate) fn plan_in(
     } else {
         visit(alloc, graph, start)?
     };
-    Ok(with_marks(alloc, &marks, &order)?)
+    Ok(Walked { order, marks })
 }
 
 /// The removal plan of a module of the graph: the modules that are removed, the module first, or why there is none.

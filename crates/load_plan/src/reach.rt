@@ -12,7 +12,6 @@ use crate::filled::filled;
 use crate::graph::{DependencyGraph, Phase, Row, Target, are_missing};
 use crate::sources::{Sources, add_node, slot_of};
 use dep_index::Catalogue;
-use modprobe_conf::Word;
 use std::alloc::{AllocError, Global};
 use text_parts::Name;
 
@@ -59,17 +58,29 @@ impl Reach {
         Ok(())
     }
 
-    /// Reaches these targets.
+    /// Reaches a target, if it is a module.
+    fn add_target(&mut self, target: &Target) -> Result<(), AllocError>
+        requires { is_within (length self.old.known.items) target.now ≡ true }
+        ensures adds { OnOk result (Adds self.old.known.items self.old.left.items self.new.known.items self.new.left.items) }
+        ensures here { OnOk result (is_target_in (known_at self.new.known.items) target.now ≡ true) }
+    {
+        match target {
+            Target::Slot(slot) => self.add(*slot),
+            Target::Missing(_) => Ok(()),
+        }
+    }
+
+    /// Reaches these targets, the last of them first: what is left last is read first, so that modules are read in the
+    /// order in which a hard walk enters them.
     fn add_targets(&mut self, targets: &[Target]) -> Result<(), AllocError>
         requires { list_all (is_within (length self.old.known.items)) targets.now ≡ true }
         ensures adds { OnOk result (Adds self.old.known.items self.old.left.items self.new.known.items self.new.left.items) }
         ensures all { OnOk result (list_all (is_target_in (known_at self.new.known.items)) targets.now ≡ true) }
     {
-        for target in targets {
-            match target {
-                Target::Slot(slot) => self.add(*slot)?,
-                Target::Missing(_) => {}
-            }
+        let mut place = targets.len();
+        'last: while place > 0 {
+            place -= 1;
+            self.add_target(&targets[place])?;
         }
         Ok(())
     }
@@ -88,12 +99,12 @@ impl Reach {
     }
 }
 
-/// The dependency graph as far as some modules reach, by slot the words of the options lines of what was read, and
-/// which modules those are. The others name nothing in the graph.
+/// The dependency graph as far as some modules reach, of which of these the names have no options, and which modules
+/// they are. The others name nothing in the graph.
 #[derive(Drop)]
 pub(crate) struct Part<'a> {
-    pub(crate) graph: DependencyGraph,
-    pub(crate) options: BySlot<Option<&'a [Word]>>,
+    pub(crate) graph: DependencyGraph<'a>,
+    pub(crate) bare: Vec<bool>,
     pub(crate) known: Vec<bool>,
 }
 
@@ -111,18 +122,18 @@ fn read_part<'a>(
     let mut rows = BySlot::new(alloc, NOTHING, count)?;
     let mut targets = Vec::new(alloc);
     let mut has_soft = false;
-    let mut options = BySlot::new(alloc, None, count)?;
+    let mut bare = filled(alloc, false, count)?;
     'modules: while let Some(slot) = reach.left.pop() {
-        let (row, words) = add_node(alloc, sources, slot, &mut targets)?;
+        let (row, is_bare) = add_node(sources, slot, &mut targets)?;
         reach.add_targets(&targets[row.hard_from..row.end])?;
         has_soft = has_soft || !are_missing(&targets[row.pre_from..row.end]);
         rows.set(slot, row)?;
-        options.set(slot, Some(words))?;
+        bare[slot] = is_bare;
     }
     let graph = DependencyGraph::new(rows, targets, has_soft);
     Ok(Part {
         graph,
-        options,
+        bare,
         known: reach.known,
     })
 }

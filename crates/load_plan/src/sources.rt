@@ -1,5 +1,5 @@
 //! What plans are made from, and what it says of a module.
-ghost use Rattle.std.specs.Prelude.{◌≡◌, ◌<◌, ◌++◌, length, map, IfOk, IfSome, OnOk};
+ghost use Rattle.std.specs.Prelude.{◌≡◌, ◌<◌, ◌++◌, [], length, map, true, IfOk, IfSome, OnOk};
 ghost use Rattle.dep_index.specs.Catalogue.{description_at, slot_named};
 ghost use Rattle.load_plan.specs.declared.graph.Target.TheVariants.{Slot};
 ghost use Rattle.load_plan.specs.Cuts.{Appends};
@@ -8,10 +8,10 @@ ghost use Rattle.dep_index.specs.Dependencies.{deps};
 ghost use Rattle.modprobe_conf.specs.Configuration.{options_of, softdep_of};
 ghost use Rattle.std.specs.Option.{option_copied};
 
-use crate::graph::{Row, Target};
+use crate::graph::{MissingName, Row, Target};
 use dep_index::{Catalogue, DepIndex};
-use modprobe_conf::{Conf, Softdep, Word};
-use std::alloc::{AllocError, Global};
+use modprobe_conf::{Conf, Softdep};
+use std::alloc::AllocError;
 use text_parts::Name;
 
 /// What plans are made from: the catalogue, the modules.dep text that goes before its needs, and the configuration.
@@ -31,30 +31,29 @@ pub(crate) fn slot_of(catalogue: &Catalogue, name: &Name) -> Option<usize>
 }
 
 /// The module of a name.
-fn target_of(alloc: Global, catalogue: &Catalogue, name: &Name) -> Result<Target, AllocError>
-    ensures { IfOk result (λ target. target ≡ target_of catalogue.now name.now) }
+fn target_of<'a>(catalogue: &Catalogue, name: &'a Name) -> Target<'a>
+    ensures { result ≡ target_of catalogue.now name.entry.now }
 {
     match slot_of(catalogue, name) {
-        Some(slot) => Ok(Target::Slot(slot)),
-        None => Ok(Target::Missing(name.copy(alloc)?)),
+        Some(slot) => Target::Slot(slot),
+        None => Target::Missing(MissingName::new(name)),
     }
 }
 
-fn add_names(
-    alloc: Global,
+fn add_names<'a>(
     catalogue: &Catalogue,
-    names: &[Name],
-    targets: &mut Vec<Target>,
+    names: &'a [Name],
+    targets: &mut Vec<Target<'a>>,
 ) -> Result<(), AllocError>
     ensures { OnOk result (targets.new.items ≡ targets.old.items ++ map (target_of catalogue.now) names.now) }
 {
     for name in names {
-        targets.push(target_of(alloc, catalogue, name)?)?;
+        targets.push(target_of(catalogue, name))?;
     }
     Ok(())
 }
 
-fn add_slots(needs: &[u16], targets: &mut Vec<Target>) -> Result<(), AllocError>
+fn add_slots(needs: &[u16], targets: &mut Vec<Target<'_>>) -> Result<(), AllocError>
     ensures { OnOk result (targets.new.items ≡ targets.old.items ++ map Slot needs.now) }
 {
     for slot in needs {
@@ -64,71 +63,68 @@ fn add_slots(needs: &[u16], targets: &mut Vec<Target>) -> Result<(), AllocError>
 }
 
 /// Adds the hard dependencies of a slot.
-fn add_hard(
-    alloc: Global,
+fn add_hard<'a>(
     catalogue: &Catalogue,
-    dependencies: &DepIndex,
+    dependencies: &'a DepIndex,
     slot: usize,
-    targets: &mut Vec<Target>,
+    targets: &mut Vec<Target<'a>>,
 ) -> Result<(), AllocError>
     requires { slot < length catalogue.now }
     ensures { OnOk result (targets.new.items ≡ targets.old.items
         ++ hard_of catalogue.now slot (deps dependencies.now (description_at catalogue.now slot).name)) }
 {
     match dependencies.deps(catalogue.name(slot)) {
-        Some(names) => add_names(alloc, catalogue, names, targets),
+        Some(names) => add_names(catalogue, names, targets),
         None => add_slots(catalogue.needs(slot), targets),
     }
 }
 
 /// Adds the pre items of a slot, by the softdep line of its name.
-fn add_pre(
-    alloc: Global,
-    catalogue: &Catalogue,
-    softdep: Option<&Softdep>,
+fn add_pre<'a>(
+    catalogue: &'a Catalogue,
+    softdep: Option<&'a Softdep>,
     slot: usize,
-    targets: &mut Vec<Target>,
+    targets: &mut Vec<Target<'a>>,
 ) -> Result<(), AllocError>
     requires { slot < length catalogue.now }
     ensures { OnOk result (targets.new.items ≡ targets.old.items
         ++ map (target_of catalogue.now) (pre_of (description_at catalogue.now slot) (option_copied softdep.entry))) }
 {
     match softdep {
-        Some(softdep) => add_names(alloc, catalogue, softdep.pre(), targets),
-        None => add_names(alloc, catalogue, catalogue.softneeds(slot), targets),
+        Some(softdep) => add_names(catalogue, softdep.pre(), targets),
+        None => add_names(catalogue, catalogue.softneeds(slot), targets),
     }
 }
 
 /// Adds the post items of a module, by the softdep line of its name.
-fn add_post(
-    alloc: Global,
+fn add_post<'a>(
     catalogue: &Catalogue,
-    softdep: Option<&Softdep>,
-    targets: &mut Vec<Target>,
+    softdep: Option<&'a Softdep>,
+    targets: &mut Vec<Target<'a>>,
 ) -> Result<(), AllocError>
     ensures { OnOk result (targets.new.items ≡ targets.old.items
         ++ map (target_of catalogue.now) (post_of (option_copied softdep.entry))) }
 {
     match softdep {
-        Some(softdep) => add_names(alloc, catalogue, softdep.post(), targets),
+        Some(softdep) => add_names(catalogue, softdep.post(), targets),
         None => Ok(()),
     }
 }
 
 /// What a plan reads of the settings of a name: its softdep line, whether an install line stands in the way of its
-/// module, and the words of its options lines.
+/// module, and whether it has no options.
 #[derive(Clone, Copy)]
 struct Said<'a> {
     softdep: Option<&'a Softdep>,
     stops: bool,
-    options: &'a [Word],
+    is_bare: bool,
 }
 
 /// What is said of a name, by one look-up.
 fn said_of<'a>(configuration: &'a Conf, name: &[u8]) -> Said<'a>
     ensures softdep { option_copied result.softdep ≡ softdep_of configuration.entry.now name.now }
     ensures stops { result.stops ≡ is_stopped configuration.entry.now name.now }
-    ensures options { result.options.now ≡ options_of configuration.entry.now name.now }
+    ensures bare { result.is_bare ≡ true → options_of configuration.entry.now name.now ≡ [] }
 {
     match configuration.settings(name) {
         Some(settings) => {
@@ -136,27 +132,26 @@ fn said_of<'a>(configuration: &'a Conf, name: &[u8]) -> Said<'a>
             Said {
                 softdep,
                 stops: settings.has_install() && softdep.is_none(),
-                options: settings.options(),
+                is_bare: settings.options().is_empty(),
             }
         }
         None => Said {
             softdep: None,
             stops: false,
-            options: &[],
+            is_bare: true,
         },
     }
 }
 
-/// Adds what a plan asks of a slot behind the targets of others, and tells the words of its options lines.
+/// Adds what a plan asks of a slot after the targets of others, and tells whether its name has no options.
 pub(crate) fn add_node<'a>(
-    alloc: Global,
     sources: &Sources<'a>,
     slot: usize,
-    targets: &mut Vec<Target>,
-) -> Result<(Row, &'a [Word]), AllocError>
+    targets: &mut Vec<Target<'a>>,
+) -> Result<(Row, bool), AllocError>
     requires { slot < length sources.now.catalogue.now }
     ensures row { IfOk result (λ read. Appends targets.old.items targets.new.items read.0 (node_from sources.now slot)) }
-    ensures options { IfOk result (λ read. read.1.now ≡ options_from sources.now slot) }
+    ensures bare { IfOk result (λ read. read.1 ≡ true → options_from sources.now slot ≡ []) }
 {
     let Sources {
         catalogue,
@@ -165,11 +160,11 @@ pub(crate) fn add_node<'a>(
     } = *sources;
     let said = said_of(configuration, catalogue.name(slot));
     let hard_from = targets.len();
-    add_hard(alloc, catalogue, dependencies, slot, targets)?;
+    add_hard(catalogue, dependencies, slot, targets)?;
     let pre_from = targets.len();
-    add_pre(alloc, catalogue, said.softdep, slot, targets)?;
+    add_pre(catalogue, said.softdep, slot, targets)?;
     let post_from = targets.len();
-    add_post(alloc, catalogue, said.softdep, targets)?;
+    add_post(catalogue, said.softdep, targets)?;
     let row = Row {
         hard_from,
         pre_from,
@@ -177,5 +172,5 @@ pub(crate) fn add_node<'a>(
         end: targets.len(),
         installs: said.stops,
     };
-    Ok((row, said.options))
+    Ok((row, said.is_bare))
 }

@@ -31,17 +31,20 @@ fn is_on_way(learnt: &Learnt, way: &[Frame], last: usize, slot: usize) -> bool
         }
 }
 
-/// The last hard dependency that is left, and the frame behind it. A visit enters the first ones first, and forgets what
+/// The last hard dependency that is left, and the frame after it. A visit enters the first ones first, and forgets what
 /// was learnt later than of the module that it enters: so it forgets the least where the first ones are learnt last.
-fn last_left(graph: &DependencyGraph, frame: Frame) -> Option<(&Target, Frame)>
+fn last_left<'g, 'a>(
+    graph: &'g DependencyGraph<'a>,
+    frame: Frame,
+) -> Option<(&'g Target<'a>, Frame)>
     requires { frame.slot < length graph.now }
     ensures hard { IfSome result (λ x. IsHard graph.entry.now frame.slot x.0.now) }
     ensures within { IfSome result (λ x. is_within (length graph.entry.now) x.0.now ≡ true) }
     ensures next { IfSome result (λ x. x.1.slot ≡ frame.slot) }
 {
     let hard = graph.targets(frame.slot, Phase::Hard);
-    let behind = hard.len().checked_sub(frame.walked)?;
-    let target = target_at(hard, behind.checked_sub(1)?)?;
+    let left = hard.len().checked_sub(frame.walked)?;
+    let target = target_at(hard, left.checked_sub(1)?)?;
     let walked = frame.walked + 1;
     Some((target, Frame { walked, ..frame }))
 }

@@ -134,8 +134,11 @@ fn enters(
     }
 }
 
-/// The first target that is left, and the stage behind it.
-fn first_left(graph: &DependencyGraph, stage: Stage) -> Option<(&Target, Stage)>
+/// The first target that is left, and the stage after it.
+fn first_left<'g, 'a>(
+    graph: &'g DependencyGraph<'a>,
+    stage: Stage,
+) -> Option<(&'g Target<'a>, Stage)>
     requires { stage.slot < length graph.now }
     ensures first { MatchOption result (left_of graph.entry.now stage ≡ []) (λ x. Leads graph.entry.now stage x.0.now) }
     ensures within { IfSome result (λ x. is_within (length graph.entry.now) x.0.now ≡ true) }
@@ -146,8 +149,8 @@ fn first_left(graph: &DependencyGraph, stage: Stage) -> Option<(&Target, Stage)>
     Some((target, Stage { visited, ..stage }))
 }
 
-/// What comes behind the last target of a phase.
-fn behind(stage: Stage) -> Move
+/// What comes after the last target of a phase.
+fn after(stage: Stage) -> Move
     ensures moves { (graph : List Node) (marks : List Mark) → left_of graph stage ≡ [] → IsMove graph marks stage result }
     ensures taken { (graph : List Node) (progress done : List ℕ) → IsTaken graph progress done stage result }
 {
@@ -176,7 +179,7 @@ fn next_move(
     ensures known { OnOk result (StaysKnown graph.now marks.now learnt.old learnt.new) }
 {
     match first_left(graph, stage) {
-        None => Ok(behind(stage)),
+        None => Ok(after(stage)),
         Some((Target::Missing(_), next)) => Ok(Move::Pass(next)),
         Some((Target::Slot(slot), next)) => {
             if enters(alloc, graph, marks, learnt, stage.phase, *slot)? {

@@ -9,10 +9,9 @@ ghost use Rattle.load_plan.specs.Results.{Gives, IsRefusalWithin};
 ghost use Rattle.load_plan.specs.Walk.{hard_walk, walk};
 
 use crate::filled::filled;
-use crate::graph::{DependencyGraph, Phase, Target, target_at};
+use crate::graph::{DependencyGraph, MissingName, Phase, Target, target_at};
 use crate::refusal::{PlanRefusal, WalkError};
 use std::alloc::{AllocError, Global};
-use text_parts::Name;
 
 /// Where a walk or a visit is with a module.
 #[derive(Clone, Copy, Debug, PartialEq, Eq)]
@@ -29,18 +28,17 @@ pub(crate) struct Frame {
     pub(crate) walked: usize,
 }
 
-/// What the first dependency that is left asks of a walk.
+/// What the first dependency that is left and not finished asks of a walk.
 #[derive(Clone, Copy)]
-enum Step<'a> {
+enum Step<'g, 'a> {
     Finish,
-    Pass(Frame),
     Enter(usize, Frame),
     Again(usize),
     Blocked(usize),
-    Nowhere(&'a Name),
+    Nowhere(&'g MissingName<'a>),
 }
 
-/// What a walk finished, in order, and the marks behind it.
+/// What a walk finished, in order, and the marks that it left.
 #[derive(Drop)]
 pub(crate) struct Walked {
     pub(crate) order: Vec<usize>,
@@ -55,8 +53,11 @@ fn is_blocked(graph: &DependencyGraph, tests: bool, slot: usize) -> bool
     tests && graph.installs(slot)
 }
 
-/// The first hard dependency that is left, and the frame behind it.
-pub(crate) fn first_left(graph: &DependencyGraph, frame: Frame) -> Option<(&Target, Frame)>
+/// The first hard dependency that is left, and the frame after it.
+pub(crate) fn first_left<'g, 'a>(
+    graph: &'g DependencyGraph<'a>,
+    frame: Frame,
+) -> Option<(&'g Target<'a>, Frame)>
     requires { frame.slot < length graph.now }
     ensures first { MatchOption result (left_of graph.entry.now frame ≡ []) (λ x. Leads graph.entry.now frame x.0.now) }
     ensures within { IfSome result (λ x. is_within (length graph.entry.now) x.0.now ≡ true) }
@@ -71,21 +72,29 @@ pub(crate) fn first_left(graph: &DependencyGraph, frame: Frame) -> Option<(&Targ
     }
 }
 
-fn next_step<'a>(graph: &'a DependencyGraph, tests: bool, marks: &[Mark], frame: Frame) -> Step<'a>
+/// The next step of a walk, past the dependencies that are finished.
+fn next_step<'g, 'a>(
+    graph: &'g DependencyGraph<'a>,
+    tests: bool,
+    marks: &[Mark],
+    mut frame: Frame,
+) -> Step<'g, 'a>
     requires slot { frame.slot < length graph.now }
     requires marks { length marks.now ≡ length graph.now }
     ensures { IsStep graph.entry.now tests marks.now frame result }
 {
-    match first_left(graph, frame) {
-        None => Step::Finish,
-        Some((Target::Missing(name), _)) => Step::Nowhere(name),
-        Some((Target::Slot(slot), next)) => match marks[*slot] {
-            Mark::Done => Step::Pass(next),
-            Mark::Open => Step::Again(*slot),
-            Mark::New if is_blocked(graph, tests, *slot) => Step::Blocked(*slot),
-            Mark::New => Step::Enter(*slot, next),
-        },
+    'finished: while let Some((target, next)) = first_left(graph, frame) {
+        match target {
+            Target::Missing(name) => return Step::Nowhere(name),
+            Target::Slot(slot) => match marks[*slot] {
+                Mark::Done => frame = next,
+                Mark::Open => return Step::Again(*slot),
+                Mark::New if is_blocked(graph, tests, *slot) => return Step::Blocked(*slot),
+                Mark::New => return Step::Enter(*slot, next),
+            },
+        }
     }
+    Step::Finish
 }
 
 /// Whether a module is marked Open.
@@ -141,7 +150,6 @@ pub(crate) fn walk(
                     None => return Ok(Walked { order, marks }),
                 }
             }
-            Step::Pass(next) => frame = next,
             Step::Enter(slot, next) => {
                 marks[slot] = Mark::Open;
                 waiting.push(next)?;

@@ -16,7 +16,6 @@ returns-in_ok-items_of-in-Ok-clause-items c =
     let words = texts_of c.args.asked.words.now in
     let same : plan c.args.part.now.graph (Slot slot) ≡ plan (graph_from s) (Slot slot) = plan-part (graph_from s) c.args.part.now.graph (known_at c.args.part.now.known.items) slot c.requires.read.graph c.requires.known in
     ap (named s.catalogue.now (map (item_of s.catalogue.now s.configuration.now slot words))) (sym same ∙ c.in-Ok.ensures.steps)
-    ∙ ap (λ steps. Ok (map (item_of s.catalogue.now s.configuration.now slot words) steps)) (sym c.deref.ensures.value)
     ∙ ap Ok (sym c.in_ok-items_of-in-Ok.ensures.items)
 
 pub returns-in_ok-error_of-in-Err-Refused-clause-items : goal.returns-in_ok-error_of-in-Err-Refused-clause-items

@@ -1,11 +1,11 @@
-use Rattle.std.proofs.Common.{◌≡◌, ◌<◌, [], ◌∙◌, ap, arith, length, length-set, replicate, Some, None, sym, true, false}
+use Rattle.std.proofs.Common.{◌≡◌, ◌<◌, [], ◌∙◌, ap, arith, length, length-set, replicate, sym, true, false}
 use Rattle.std.proofs.lemmas.List.{length-map, length-replicate}
 use Rattle.load_plan.specs.Cuts.{node_in, nodes_in, no_row}
 use Rattle.load_plan.specs.Graph.{is_within, names_within}
 use Rattle.load_plan.specs.Parts.{IsPart, is_target_in, known_at}
 use Rattle.load_plan.specs.Sources.{graph_from, node_from}
 use Rattle.load_plan.proofs.Cuts.{nodes_in-none, none_fit, nodes_in-set, fit-set, if_not, plain-none, plain-set, passes-whole, whole-passes}
-use Rattle.load_plan.proofs.OptionWords.{no_options, options-set}
+use Rattle.load_plan.proofs.OptionWords.{bare-none, bare-set}
 use Rattle.load_plan.proofs.Lists.{none_of_length}
 use Rattle.load_plan.proofs.Reaching.{Reaching-begin, Reaching-slot, Reaching-read, Reaching-part, Reaching-bounded, cost-falls}
 use Rattle.load_plan.proofs.SourceLemmas.{graph_from-at, length-graph_from, node_from-within}
@@ -22,8 +22,8 @@ modules-init c =
       grows = λ m h. h;
       fit = rw (c.in_ok-rows.ensures) (none_fit (length c.new-targets.result.items) c.len-count.result);
       plain = λ _. rw (c.in_ok-rows.ensures) (plain-none c.new-targets.result.items c.len-count.result);
-      options = rw (c.in_ok-options.ensures) (no_options c.args.sources.now c.len-count.result);
-      options_long = ap length c.in_ok-options.ensures ∙ length-replicate c.len-count.result None ∙ c.len-count.ensures.result_is;
+      bare = rw (c.in_ok-bare.ensures) (bare-none c.args.sources.now c.len-count.result);
+      bare_long = ap length c.in_ok-bare.ensures ∙ length-replicate c.len-count.result false ∙ c.len-count.ensures.result_is;
     }
 
 pub add_node-requires : goal.add_node-requires
@@ -42,10 +42,10 @@ set-requires c =
     let k = Reaching-slot c.pop.new.self.items c.in-Some.slot (rw c.in-Some.ensures.items at c.modules.invariant.reaching) in
     omega (arith, k, c.modules.invariant.reaching.long, length-map c.modules.rows (node_in c.modules.targets.items))
 
-pub set-requires-in-Some : goal.set-requires-in-Some
-set-requires-in-Some c =
+pub index_mut-requires : goal.index_mut-requires
+index_mut-requires c =
     let k = Reaching-slot c.pop.new.self.items c.in-Some.slot (rw c.in-Some.ensures.items at c.modules.invariant.reaching) in
-    omega (arith, k, length-graph_from c.args.sources.now, c.modules.invariant.options_long)
+    omega (arith, k, length-graph_from c.args.sources.now, c.modules.invariant.bare_long, c.modules.bare.ok.0)
 
 pub modules-preserved : goal.modules-preserved
 modules-preserved c =
@@ -55,7 +55,7 @@ modules-preserved c =
     let inside : c.in-Some.slot < length c.args.sources.now.catalogue.now = omega (arith, k, long) in
     let rows_long = length-map c.modules.rows (node_in c.modules.targets.items) in
     let of_rows : c.in-Some.slot < length c.modules.rows = omega (arith, k, c.modules.invariant.reaching.long, rows_long) in
-    let of_options : c.in-Some.slot < length c.modules.options = omega (arith, inside, c.modules.invariant.options_long) in
+    let of_bare : c.in-Some.slot < length c.modules.bare.items = omega (arith, inside, c.modules.invariant.bare_long) in
     let node = node_from c.args.sources.now c.in-Some.slot in
     record {
       reaching = rw (c.in_ok-set.ensures, nodes_in-set c.modules.rows c.in-Some.slot c.modules.invariant.fit c.in_ok-row.ensures.row)
@@ -72,8 +72,8 @@ modules-preserved c =
         | else-has_soft w ↦ plain-set c.modules.rows c.in-Some.slot of_rows c.modules.invariant.fit c.in_ok-row.ensures.row (c.modules.invariant.plain w.if-has_soft.false)
             (sym (rw w.deref-else-has_soft.ensures.value at w.are_missing.ensures) ∙ if_not w.are_missing.result (sym w.has_soft-is ∙ is))
       ]);
-      options = rw (c.in_ok-set-2.ensures) (options-set c.args.sources.now c.modules.options c.in-Some.slot c.in_ok-row.words of_options c.in_ok-row.ensures.options c.modules.invariant.options);
-      options_long = ap length c.in_ok-set-2.ensures ∙ length-set c.modules.options c.in-Some.slot (Some c.in_ok-row.words) ∙ c.modules.invariant.options_long;
+      bare = bare-set c.args.sources.now c.modules.bare.items c.in-Some.slot c.in_ok-row.is_bare of_bare c.in_ok-row.ensures.bare c.modules.invariant.bare;
+      bare_long = length-set c.modules.bare.items c.in-Some.slot c.in_ok-row.is_bare ∙ c.modules.invariant.bare_long;
     }
 
 pub modules-smaller : goal.modules-smaller
@@ -91,7 +91,7 @@ returns-clause-read c =
       graph = rw c.new-graph.ensures part;
       long = c.modules.invariant.reaching.known_long ∙ length-graph_from c.args.sources.now;
       wide = ap length c.new-graph.ensures ∙ c.modules.invariant.reaching.long ∙ length-graph_from c.args.sources.now;
-      options = c.modules.invariant.options;
+      bare = c.modules.invariant.bare;
     }
 
 pub returns-clause-known : goal.returns-clause-known

@@ -1,6 +1,6 @@
 use Rattle.std.proofs.Common.{◌≡◌, ℕ, true, false, length}
 use Rattle.load_plan.specs.Cuts.{nodes_in, AllFit}
-use Rattle.load_plan.specs.OptionWords.{AreOptions}
+use Rattle.load_plan.specs.OptionWords.{AreBare}
 use Rattle.load_plan.specs.SoftModules.{HasNoSoftModules}
 use Rattle.load_plan.specs.Sources.{graph_from}
 use Rattle.load_plan.specs.Parts.{cost, known_at}
@@ -13,8 +13,8 @@ invariant-modules l = record {
   grows : (m : ℕ) → known_at l.fn.reach.known.items m ≡ true → known_at l.reach.known.items m ≡ true;
   fit : AllFit (length l.targets.items) l.rows;
   plain : l.has_soft ≡ false → HasNoSoftModules (nodes_in l.targets.items l.rows);
-  options : AreOptions l.sources l.options;
-  options_long : length l.options ≡ length l.sources.catalogue.now;
+  bare : AreBare l.sources l.bare.items;
+  bare_long : length l.bare.items ≡ length l.sources.catalogue.now;
 }
 
 abbrev pub decreases-modules : goal.decreases-modules

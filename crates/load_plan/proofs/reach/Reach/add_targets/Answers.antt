@@ -1,31 +1,33 @@
-use Rattle.std.proofs.Common.{◌≡◌, ◌<◌, arith, length, refl, sym, true}
+use Rattle.std.proofs.Common.{◌≡◌, ◌+◌, ◌-◌, arith, drop, length, sym, ◌∙◌, ap}
+use Rattle.std.specs.List.{list_all}
+use Rattle.std.proofs.lemmas.List.{at_drop_all}
 use Rattle.load_plan.specs.Graph.{is_within}
-use Rattle.load_plan.proofs.Bounds.{lt-true}
+use Rattle.load_plan.specs.Parts.{is_target_in, known_at}
 use Rattle.load_plan.proofs.Lists.{passes_contained}
-use Rattle.load_plan.proofs.Reaching.{adds-none, adds-both, targets-slot, targets-missing}
+use Rattle.load_plan.proofs.Reaching.{adds-none, adds-both, targets-from}
 use Rattle.load_plan.proofs.reach.Reach.add_targets.Goals as goal
-use Rattle.load_plan.proofs.reach.Reach.add_targets.Goals.{in-Slot+in_ok-add-in-Slot, in-Missing}
 
-pub loop-target-init : goal.loop-target-init
-loop-target-init c = record {
+pub last-init : goal.last-init
+last-init c = record {
   adds = adds-none c.args.self.now.known.items c.args.self.now.left.items;
-  all = refl;
+  within = omega arith;
+  all = at_drop_all (list_all (is_target_in (known_at c.args.self.now.known.items))) c.args.targets.now (length c.args.targets.now) (omega arith);
 }
 
-pub add-requires : goal.add-requires
-add-requires c =
-    let passes : is_within (length c.args.self.now.known.items) c.target-item.result ≡ true = passes_contained (is_within (length c.args.self.now.known.items)) c.args.targets.now c.target-item.result c.requires c.loop-target.target-index c.loop-target-test.true (sym c.target-item.is) in
-    let inside : c.in-Slot.slot < length c.args.self.now.known.items = lt-true c.in-Slot.slot (length c.args.self.now.known.items) (rw c.in-Slot.is at passes) in
-    omega (arith, inside, c.loop-target.invariant.adds.long)
+pub add_target-requires : goal.add_target-requires
+add_target-requires c = rw c.last.invariant.adds.long (passes_contained (is_within (length c.args.self.now.known.items)) c.args.targets.now c.index-targets-place.result c.requires (c.last.place - 1) (omega (arith, c.last.invariant.within, c.last-test.true)) (sym c.index-targets-place.is))
 
-pub loop-target-preserved : goal.loop-target-preserved
-loop-target-preserved c = elim c.match-target.branch [
-  | in-Slot+in_ok-add-in-Slot w ↦ rw w.self-is (record {
-    adds = adds-both c.loop-target.invariant.adds w.in_ok-add-in-Slot.ensures.adds;
-    all = targets-slot c.loop-target.self.known.items w.add.new.self.known.items c.args.targets.now c.loop-target.target-index c.target-item.result w.in-Slot.slot c.loop-target-test.true c.target-item.is w.in-Slot.is w.in_ok-add-in-Slot.ensures.adds.grows c.loop-target.invariant.all w.in_ok-add-in-Slot.ensures.here;
-  })
-  | in-Missing w ↦ rw w.self-is (record {
-    adds = c.loop-target.invariant.adds;
-    all = targets-missing c.loop-target.self.known.items c.args.targets.now c.loop-target.target-index c.target-item.result _ c.loop-target-test.true c.target-item.is w.in-Missing.is c.loop-target.invariant.all;
-  })
-]
+pub last-preserved : goal.last-preserved
+last-preserved c =
+    let next : (c.last.place - 1) + 1 ≡ c.last.place = omega (arith, c.last-test.true) in
+    record {
+      adds = adds-both c.last.invariant.adds c.in_ok-add_target.ensures.adds;
+      within = omega (arith, c.last.invariant.within);
+      all = targets-from c.last.self.known.items c.add_target.new.self.known.items c.args.targets.now (c.last.place - 1) c.index-targets-place.result (omega (arith, c.last.invariant.within, c.last-test.true)) c.index-targets-place.is c.in_ok-add_target.ensures.adds.grows c.in_ok-add_target.ensures.here
+          (ap (λ n. list_all (is_target_in (known_at c.last.self.known.items)) (drop n c.args.targets.now)) next ∙ c.last.invariant.all);
+    }
+
+pub returns-clause-all : goal.returns-clause-all
+returns-clause-all c =
+    let none : 0 ≡ c.last.place = omega (arith, c.last-test.false) in
+    ap (λ n. list_all (is_target_in (known_at c.last.self.known.items)) (drop n c.args.targets.now)) none ∙ c.last.invariant.all
