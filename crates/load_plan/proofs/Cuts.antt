@@ -19,7 +19,7 @@ range-stays xs ys a b order within =
     ap (take (b - a)) (drop-append-le a xs ys (omega (arith, order, within)))
     ∙ take-append-le (b - a) (drop a xs) ys (omega (arith, long, order, within))
 
--- two ranges one behind the other
+-- two ranges one after the other
 range-joined : {A : Type 0} (xs : List A) (a b c : ℕ) → a ≤ b → b ≤ c → c ≤ length xs → slice_range xs a c ≡ slice_range xs a b ++ slice_range xs b c
 range-joined xs a b c first second within =
     ap (take (c - a)) (drop_split xs a b first)
@@ -75,7 +75,7 @@ parts_pass p ts row f =
     (ap (list_all p) (range-joined ts row.hard_from row.pre_from row.post_from f.hard f.pre (omega (arith, f.post, f.within)))
     ∙ list_all-append p (slice_range ts row.hard_from row.pre_from) (slice_range ts row.pre_from row.post_from))
 
--- whole: what a row cuts out at once, where the node came behind the others
+-- whole: what a row cuts out at once, where the node came after the others
 pub whole-passes : (p : Target → Bool) {before after : List Target} {row : Row} {node : Node} → Appends before after row node → (list_all p node.hard && list_all p node.pre && list_all p node.post) ≡ true → list_all p (slice_range after row.hard_from row.end) ≡ true
 whole-passes p {before} {after} {row} {node} added all =
     parts_pass p after row added.fits ∙ ap (λ (n : Node). list_all p n.hard && list_all p n.pre && list_all p n.post) added.same ∙ all

@@ -22,7 +22,7 @@ use Rattle.load_plan.specs.PlanLaws.{item_slots, IsLawful}
 use Rattle.load_plan.proofs.Reached.{Parts, parts_of, plan_order, marks_are_right}
 use Rattle.load_plan.proofs.SourceLemmas.{graph_bounded, length-graph_of}
 
--- the steps behind the items of a plan
+-- the steps from which the items of a plan are made
 named_ok : {A B : Type 0} (catalogue : List Description) (view : A → B) (r : Result A PlanRefusal) (y : B) → named catalogue view r ≡ Ok y → (x : A) × (r ≡ Ok x) × (view x ≡ y)
 named_ok catalogue view (Ok x) y h = let same : view x ≡ y = cc in (x, refl, same)
 named_ok catalogue view (Err e) y h = absurd (cc)

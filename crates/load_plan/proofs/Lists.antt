@@ -31,7 +31,7 @@ pub either_way : (b : Bool) → (b ≡ true) ⊎ (b ≡ false)
 either_way true = inl refl
 either_way false = inr refl
 
--- what holds of all holds of the first behind any number of them
+-- what holds of all holds of the first after any number of them
 pub passes_at : {A : Type 0} (p : A → Bool) (ts : List A) (k : ℕ) (t : A) (rest : List A) → list_all p ts ≡ true → drop k ts ≡ t ∷ rest → p t ≡ true
 passes_at p [] zero t rest all e = absurd (cc)
 passes_at p [] (suc k) t rest all e = absurd (cc)
@@ -130,7 +130,7 @@ all-append p (x ∷ xs) ys h k =
     let a : (p x ≡ true) × (list_all p xs ≡ true) = and_true (p x) (list_all p xs) h in
     and_makes (p x) (list_all p (xs ++ ys)) a.0 (all-append p xs ys a.1 k)
 
--- one more than the first k, where t comes behind them
+-- one more than the first k, where t comes after them
 take-next : {A : Type 0} (ts : List A) (k : ℕ) (t : A) (rest : List A) → drop k ts ≡ t ∷ rest → take (suc k) ts ≡ take k ts ++ t ∷ []
 take-next [] zero t rest e = absurd (cc)
 take-next [] (suc k) t rest e = absurd (cc)

@@ -22,7 +22,7 @@ node_in targets row =
 abbrev pub nodes_in : List Target → List Row → List Node
 nodes_in targets rows = map (node_in targets) rows
 
--- the parts of a row stand one behind the other, among so many targets
+-- the parts of a row stand one after the other, among so many targets
 pub record Fits (n : ℕ) (row : Row) : Type 0 where
   pub hard : row.hard_from ≤ row.pre_from
   pub pre : row.pre_from ≤ row.post_from
@@ -42,7 +42,7 @@ pub record IsGraph (targets : List Target) (rows : List Row) (has_soft : Bool) :
   pub are_rows : AreRows targets rows
   pub plain : has_soft ≡ false → HasNoSoftModules (nodes_in targets rows)
 
--- the targets of a node came behind the others, where its row says
+-- the targets of a node came after the others, where its row says
 pub record Appends (before after : List Target) (row : Row) (node : Node) : Type 0 where
   pub more : List Target
   pub behind : after ≡ before ++ more

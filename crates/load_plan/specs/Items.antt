@@ -29,7 +29,7 @@ abbrev pub named : {A B : Type 0} → List Description → (A → B) → Result 
 named catalogue view (Ok x) = Ok (view x)
 named catalogue view (Err refusal) = Err (error_of catalogue refusal)
 
--- an item of a plan: the words of the options lines of its name, and for the target the words of the command behind them
+-- an item of a plan: the words of the options lines of its name, and for the target the words of the command after them
 abbrev pub item_of : List Description → Configuration → ℕ → List (List ℕ) → PlanStep → Item
 item_of catalogue configuration target words step =
     record {

@@ -44,7 +44,7 @@ Holds graph m Faulty = IsBarred graph m
 Holds graph m (Meets r) = Needs graph m r
 Holds graph m _ = Unit {0}
 
--- each module of the list stands behind those of its hard dependencies that are not in the other list
+-- each module of the list stands after those of its hard dependencies that are not in the other list
 pub data IsOver (graph : List Node) (done : List ℕ) : List ℕ → Type 0 where
   none : IsOver graph done []
   more : (ms : List ℕ) (m : ℕ) → IsOver graph done ms → m < length graph → (node_at graph m).installs ≡ false → list_all (is_in (done ++ ms)) (node_at graph m).hard ≡ true → IsOver graph done (ms ++ m ∷ [])

@@ -14,7 +14,7 @@ targets_of [] name = []
 targets_of (alias ∷ later) name =
     if is_match alias.pattern name then alias.target ∷ targets_of later name else targets_of later name
 
--- a name behind others, unless it stands there already
+-- a name after others, unless it stands there already
 abbrev pub with_name : List (List ℕ) → List ℕ → List (List ℕ)
 with_name found name = if list_any (bytes_eq name) found then found else found ++ name ∷ []
 

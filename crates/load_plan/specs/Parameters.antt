@@ -20,7 +20,7 @@ is_equals byte = byte == 61
 abbrev pub name_of : List ℕ → List ℕ
 name_of word = before_first is_equals word
 
--- the part behind it, where there is one
+-- the part after it, where there is one
 abbrev pub value_of : List ℕ → Option (List ℕ)
 value_of word = option_map (λ place. drop (place + 1) word) (position is_equals word)
 
@@ -39,7 +39,7 @@ abbrev pub with_digit : Base → ℕ → Option ℕ → (ℕ → Option ℕ) →
 with_digit base high None rest = None
 with_digit base high (Some digit) rest = rest (high * radix base + digit)
 
--- the number that digits are, behind what came before them, where all are digits
+-- the number that digits are, after those that came before them, where all are digits
 abbrev pub number_from : Base → ℕ → List ℕ → Option ℕ
 number_from base high [] = Some high
 number_from base high (byte ∷ bytes) = with_digit base high (digit_of base byte) (λ next. number_from base next bytes)
@@ -49,7 +49,7 @@ abbrev pub number_of : Base → List ℕ → Option ℕ
 number_of base [] = None
 number_of base (byte ∷ bytes) = number_from base 0 (byte ∷ bytes)
 
--- a number without its sign: hexadecimal behind `0x` or `0X`, else decimal, also with leading zeros
+-- a number without its sign: hexadecimal after `0x` or `0X`, else decimal, also with leading zeros
 abbrev pub magnitude : List ℕ → Option ℕ
 magnitude (first ∷ second ∷ digits) =
     if first == 48 && (second == 120 || second == 88)
@@ -65,7 +65,7 @@ at_most limit (Some n) = nat_le n limit
 abbrev pub is_unsigned : ℕ → List ℕ → Bool
 is_unsigned limit value = at_most limit (magnitude value)
 
--- a number at most the limit, and behind `-` at most one more
+-- a number at most the limit, and after `-` at most one more
 abbrev pub is_signed : ℕ → List ℕ → Bool
 is_signed limit [] = false
 is_signed limit (byte ∷ bytes) = if byte == 45 then at_most (limit + 1) (magnitude bytes) else at_most limit (magnitude (byte ∷ bytes))

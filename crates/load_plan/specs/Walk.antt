@@ -21,7 +21,7 @@ abbrev pub walk_each : (List ℕ → Target → Result (List ℕ) PlanRefusal) �
 walk_each go done [] = Ok done
 walk_each go done (t ∷ ts) = go done t >>= λ d. walk_each go d ts
 
--- The walk from a target: the modules in the order in which it finishes them, behind those that were finished
+-- The walk from a target: the modules in the order in which it finishes them, after those that were finished
 -- before. The way leads from the first module to here. The fuel is the number of modules that may still come
 -- onto the way; no walk needs more than there are modules. The install lines are tested or not.
 abbrev pub walk : List Node → Bool → ℕ → List ℕ → List ℕ → Target → Result (List ℕ) PlanRefusal

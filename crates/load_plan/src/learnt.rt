@@ -20,7 +20,7 @@ pub(crate) enum Verdict {
     Unknown,
     /// It is on the way, if the way has it at this depth.
     Begun(usize),
-    /// Its visit began behind so many others.
+    /// Its visit began when so many others were on the way.
     Entered(usize),
     /// The walk has a fault, whatever is in progress.
     Faulty,
@@ -46,7 +46,7 @@ pub(crate) struct Meeting {
     pub(crate) named: usize,
 }
 
-/// Verdicts, and the modules whose hard walks are free: each stands behind those of its hard dependencies that are not
+/// Verdicts, and the modules whose hard walks are free: each stands after those of its hard dependencies that are not
 /// in the list.
 #[derive(Drop)]
 pub(crate) struct Learnt {
@@ -316,7 +316,7 @@ impl Learnt {
         }
     }
 
-    /// The visit of a module begins. What was learnt of the modules behind it in the order is forgotten: their walks may
+    /// The visit of a module begins. What was learnt of the modules after it in the order is forgotten: their walks may
     /// meet it.
     pub(crate) fn enter(&mut self, slot: usize, depth: usize)
         requires { slot < length self.old.verdicts.items }

@@ -17,7 +17,7 @@ pub enum FindError {
     /// No alias matches the name, and no module has it.
     #[error("no alias matches the name, and no module has it")]
     NotFound,
-    /// Want of memory.
+    /// Memory ran out.
     #[error("out of memory")]
     Memory,
 }

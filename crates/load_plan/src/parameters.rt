@@ -16,7 +16,7 @@ fn equals_at(word: &[u8]) -> Option<usize>
     word.iter().position(|byte| *byte == b'=')
 }
 
-/// The part of a word before its first `=`, and the part behind it.
+/// The part of a word before its first `=`, and the part after it.
 fn split_word(word: &[u8]) -> (&[u8], Option<&[u8]>)
     ensures name { result.0.now ≡ name_of word.entry.now }
     ensures value { option_map (λ bytes. bytes.now) result.1 ≡ value_of word.entry.now }
@@ -36,7 +36,7 @@ fn is_named(word: &[u8], name: &[u8]) -> bool
     'bytes: while let Some((byte, later)) = left.split_first() {
         let byte = if *byte == b'-' { b'_' } else { *byte };
         match rest.split_first() {
-            Some((own, behind)) if *own == byte => rest = behind,
+            Some((own, after)) if *own == byte => rest = after,
             _ => return false,
         }
         left = later;

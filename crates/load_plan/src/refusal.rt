@@ -15,7 +15,7 @@ pub(crate) enum PlanRefusal {
     Unknown(Name),
 }
 
-/// Why a walk ends early: a refusal, or want of memory.
+/// Why a walk ends early: a refusal, or no memory left.
 #[derive(Drop)]
 pub(crate) enum WalkError {
     Refused(PlanRefusal),
