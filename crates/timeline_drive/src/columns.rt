@@ -47,10 +47,8 @@ impl Columns {
 
     /// The column of a step that is named.
     pub(crate) fn of(&self, step: u32) -> u32 {
-        match self.steps.binary_search(&step) {
-            Ok(at) => self.places.get(at).copied().unwrap_or(0),
-            Err(_) => 0,
-        }
+        let at = self.steps.binary_search(&step).unwrap_or(0);
+        self.places.get(at).copied().unwrap_or(0)
     }
 
     /// The last column; 0 where no step is named.

@@ -71,11 +71,7 @@ pub(crate) fn call_of<'w, 'a>(words: &'w [&'a [u8]]) -> Option<Said<'w, 'a>>
         return None;
     };
     let said = call_words::call_of(words, decimal_within(LAST_THREAD, worker))?;
-    if is_shown_name(said.name) {
-        Some(said)
-    } else {
-        None
-    }
+    is_shown_name(said.name).then_some(said)
 }
 
 pub(crate) fn last_of(word: &[u8]) -> Option<Option<u32>>

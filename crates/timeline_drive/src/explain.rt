@@ -38,7 +38,12 @@ pub(crate) fn explain<E: Write>(
         "A line is not the call of a report that should stand there.",
         errors,
     );
-    let flaw = flaw_of(before, &words(alloc, line)?);
-    let _ = writeln!(errors, "  hint: {flaw}");
+    let _ = match flaw_of(before, &words(alloc, line)?) {
+        Some(flaw) => writeln!(errors, "  hint: {flaw}"),
+        None => writeln!(
+            errors,
+            "  hint: it should be call {before}: a line a call, numbered from 0 without leading zeros"
+        ),
+    };
     Ok(())
 }

@@ -2,53 +2,12 @@
 
 use crate::entries::{after, call_of, effect_of, last_of};
 use crate::numbers::{index_of, thread_of};
-use std::fmt;
 use text_parts::is_same;
 
-/// The first part of a line that is not what it should be.
-#[derive(Clone, Copy, Drop)]
-pub(crate) enum Flaw {
-    Spaces,
-    Script,
-    Head,
-    /// The line should be the call of this number.
-    Number(usize),
-    Thread,
-    Call,
-    Marks,
-    Step,
-    Effect,
-    Order,
-}
+const THREAD: &str = "behind the number stands the thread, t0 to t63";
 
-impl fmt::Display for Flaw {
-    fn fmt<W: fmt::Write>(&self, f: &mut fmt::Formatter<W>) -> fmt::Result {
-        let text = match self {
-            Flaw::Number(number) => {
-                return write!(
-                    f,
-                    "it should be call {number}: a line a call, numbered from 0 without leading zeros"
-                );
-            }
-            Flaw::Spaces => "single spaces divide the words, and none stands before or behind them",
-            Flaw::Script =>
-                "this is what workload --threads writes: timeline draws the report of a schedule",
-            Flaw::Head => "a line is: call N tT CALL first A last B point P reply R",
-            Flaw::Thread => "behind the number stands the thread, t0 to t63",
-            Flaw::Call =>
-                "behind the thread stands a call, as begin_load NAME, end_load NAME ok or get W NAME: W is 0 to 63, and NAME has _ for each -",
-            Flaw::Marks =>
-                "behind the call stands: first A last B point P reply R, and nothing behind that",
-            Flaw::Step =>
-                "A, B and P are 0 to 999999 without leading zeros; - stands for a B or a P that the call has not",
-            Flaw::Effect =>
-                "R is ok, yes, no or the name of a refusal; P and R are both -, or neither is",
-            Flaw::Order =>
-                "the point lies from the first step to the last, and a call with a last step has a point",
-        };
-        f.write_str(text)
-    }
-}
+const MARKS: &str =
+    "behind the call stands: first A last B point P reply R, and nothing behind that";
 
 /// Whether a word begins a line that `workload` writes of a script.
 fn is_of_script(word: &[u8]) -> bool {
@@ -62,51 +21,54 @@ fn is_step(word: &[u8]) -> bool {
 }
 
 /// What is wrong with the words after a call.
-fn flaw_of_times(words: &[&[u8]]) -> Flaw {
+fn flaw_of_times(words: &[&[u8]]) -> &'static str {
     let [head, first, to, last, at, point, with, reply] = words else {
-        return Flaw::Marks;
+        return MARKS;
     };
     let is_marked = is_same(*head, b"first") && is_same(*to, b"last");
     if !is_marked || !is_same(*at, b"point") || !is_same(*with, b"reply") {
-        return Flaw::Marks;
+        return MARKS;
     }
     if index_of(*first).is_none() || last_of(*last).is_none() || !is_step(*point) {
-        return Flaw::Step;
+        return "A, B and P are 0 to 999999 without leading zeros; - stands for a B or a P that the call has not";
     }
     if effect_of(*point, *reply).is_none() {
-        return Flaw::Effect;
+        return "R is ok, yes, no or the name of a refusal; P and R are both -, or neither is";
     }
-    Flaw::Order
+    "the point lies from the first step to the last, and a call with a last step has a point"
 }
 
 /// What is wrong with the words after the number of a call.
-fn flaw_of_call(words: &[&[u8]]) -> Flaw {
+fn flaw_of_call(words: &[&[u8]]) -> &'static str {
     let Some((thread, call)) = words.split_first() else {
-        return Flaw::Thread;
+        return THREAD;
     };
     if thread_of(*thread).is_none() {
-        return Flaw::Thread;
+        return THREAD;
     }
     match call_of(call) {
         Some(said) => flaw_of_times(said.later),
-        None => Flaw::Call,
+        None =>
+            "behind the thread stands a call, as begin_load NAME, end_load NAME ok or get W NAME: W is 0 to 63, and NAME has _ for each -",
     }
 }
 
-/// What is wrong with a line of these words, which is not the call of this number.
-pub(crate) fn flaw_of(number: usize, words: &[&[u8]]) -> Flaw {
+/// What is wrong with a line of these words, which is not the call of this number. None: its number.
+pub(crate) fn flaw_of(number: usize, words: &[&[u8]]) -> Option<&'static str> {
     let head = words.first().copied().unwrap_or(b"");
     if is_of_script(head) {
-        return Flaw::Script;
+        return Some(
+            "this is what workload --threads writes: timeline draws the report of a schedule",
+        );
     }
     if words.len() > 1 && words.iter().any(|word| word.is_empty()) {
-        return Flaw::Spaces;
+        return Some("single spaces divide the words, and none stands before or behind them");
     }
     let Some(found) = after(b"call", words) else {
-        return Flaw::Head;
+        return Some("a line is: call N tT CALL first A last B point P reply R");
     };
     match index_of(found.value) {
-        Some(own) if own as usize == number => flaw_of_call(found.later),
-        _ => Flaw::Number(number),
+        Some(own) if own as usize == number => Some(flaw_of_call(found.later)),
+        _ => None,
     }
 }

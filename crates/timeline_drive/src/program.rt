@@ -34,12 +34,11 @@ fn status_of(fault: Fault) -> Status {
 /// The picture of the report that an input is.
 fn picture(alloc: Global, in_letters: bool, input: &[u8]) -> Result<String, ReportFault> {
     let entries = read_report(alloc, input)?;
-    let picture = if in_letters {
-        terminal_text(alloc, &entries)?
+    if in_letters {
+        Ok(terminal_text(alloc, &entries)?)
     } else {
-        svg_text(alloc, &entries)?
-    };
-    Ok(picture)
+        Ok(svg_text(alloc, &entries)?)
+    }
 }
 
 /// Reads a report and writes its picture.

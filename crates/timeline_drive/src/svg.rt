@@ -9,7 +9,7 @@ use crate::entries::Entry;
 use crate::layout::Layout;
 use bands::{band_height, push_band};
 use std::alloc::{AllocError, Global};
-use style::{LEGEND, STYLE, push_narrow_style};
+use style::push_head;
 
 /// Pixels. The letters are those of a font of 11 pixels, with a little room.
 const SCALE: Scale = Scale {
@@ -56,13 +56,7 @@ pub(crate) fn svg_text(alloc: Global, entries: &[Entry<'_>]) -> Result<String, A
         .max(NARROWEST);
     let height = height(&layout);
     let mut page = String::new(alloc);
-    write!(
-        page,
-        "<svg xmlns=\"http://www.w3.org/2000/svg\" width=\"{width}\" height=\"{height}\" viewBox=\"0 0 {width} {height}\">\n"
-    )?;
-    page.push_str(STYLE)?;
-    push_narrow_style(&mut page, width)?;
-    page.push_str(LEGEND)?;
+    push_head(&mut page, width, height)?;
     let mut top = HEAD;
     for band in &layout.bands {
         push_band(alloc, &mut page, &layout, band, top)?;

@@ -81,11 +81,8 @@ fn push_shape(page: &mut String, bar: &Bar<'_>, top: u32) -> Result<(), AllocErr
         (false, true) => "bar cut",
         (false, false) => "bar",
     };
-    let corner = if is_refused(bar.entry) || is_cut {
-        0
-    } else {
-        6
-    };
+    let is_sharp = is_cut || is_refused(bar.entry);
+    let corner = if is_sharp { 0 } else { 6 };
     write!(
         page,
         "<rect class=\"{shape}\" x=\"{begin}\" y=\"{top}\" width=\"{width}\" height=\"{BAR}\" rx=\"{corner}\"/>"
@@ -136,10 +133,8 @@ pub(crate) fn push_lead(page: &mut String, bar: &Bar<'_>, top: u32) -> Result<()
     let Label::Above { row, .. } = bar.label else {
         return Ok(());
     };
-    let (x, upper) = (
-        SCALE.width(bar.from).saturating_add(LEFT + 3),
-        base(top, row).saturating_sub(8),
-    );
+    let x = SCALE.width(bar.from).saturating_add(LEFT + 3);
+    let upper = base(top, row).saturating_sub(8);
     write!(page, "<path class=\"lead\" d=\"M{x} {top}V{upper}\"/>\n")
 }
 

@@ -3,7 +3,7 @@
 use std::alloc::AllocError;
 
 /// The title, the colours in light and dark, and the fading of open calls.
-pub(crate) const STYLE: &str = "<title>Calls of a schedule</title>
+const STYLE: &str = "<title>Calls of a schedule</title>
 <style>
 svg{max-width:100%;height:auto}
 text{font:11px ui-monospace,Menlo,Consolas,'DejaVu Sans Mono','Liberation Mono',monospace;fill:#1f2328}
@@ -66,7 +66,7 @@ text{fill:#e6edf3}
 ";
 
 /// What the shapes of a picture mean.
-pub(crate) const LEGEND: &str = "<g class=\"legend\" transform=\"translate(52 12)\">
+const LEGEND: &str = "<g class=\"legend\" transform=\"translate(52 12)\">
 <g class=\"done\"><rect class=\"bar\" x=\"0\" y=\"0\" width=\"48\" height=\"18\" rx=\"6\"/><circle class=\"mark\" cx=\"24\" cy=\"18\" r=\"4.5\"/></g>
 <text x=\"56\" y=\"13\">call, its point</text>
 <g class=\"refused\"><rect class=\"bar\" x=\"176\" y=\"0\" width=\"48\" height=\"18\"/><path class=\"mark\" d=\"M200 12l6 6-6 6-6-6z\"/></g>
@@ -76,12 +76,14 @@ pub(crate) const LEGEND: &str = "<g class=\"legend\" transform=\"translate(52 12
 </g>
 ";
 
-/// Adds the style of a picture of this width where it is shown less than 500 pixels wide: no texts but the names of the lanes, and
-/// these and the points larger.
-pub(crate) fn push_narrow_style(page: &mut String, width: u32) -> Result<(), AllocError> {
+/// Adds the beginning of a picture of this size: its style and its legend. Where it is shown less than 500 pixels wide, it has no
+/// texts but the names of the lanes, and these and the points are larger.
+pub(crate) fn push_head(page: &mut String, width: u32, height: u32) -> Result<(), AllocError> {
     let letter = width / 40;
     write!(
         page,
-        "<style>@media(max-width:500px){{text,.legend{{display:none}}.lane{{display:inline;font-size:{letter}px;dominant-baseline:central}}.mark{{stroke-width:8px}}.done .mark{{stroke:#2563ab}}.refused .mark{{stroke:#b1430a}}}}</style>\n"
+        "<svg xmlns=\"http://www.w3.org/2000/svg\" width=\"{width}\" height=\"{height}\" viewBox=\"0 0 {width} {height}\">
+{STYLE}<style>@media(max-width:500px){{text,.legend{{display:none}}.lane{{display:inline;font-size:{letter}px;dominant-baseline:central}}.mark{{stroke-width:8px}}.done .mark{{stroke:#2563ab}}.refused .mark{{stroke:#b1430a}}}}</style>
+{LEGEND}"
     )
 }
