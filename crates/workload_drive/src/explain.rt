@@ -32,19 +32,13 @@ fn step_sentence(cause: StepError) -> &'static str {
     }
 }
 
-/// Whether the code counts lines in the text of the catalogue.
-fn is_of_catalogue(code: LineCode) -> bool {
-    matches!(
-        code,
-        LineCode::C1 | LineCode::C2 | LineCode::C3 | LineCode::C4
-    )
-}
-
-/// The number of the line `%catalogue`, from 1; 0 where there is none.
-fn head_number(input: &[u8]) -> usize {
-    match whole_lines(input).position(|line| is_same(line, b"%catalogue")) {
-        Some(before) => before.saturating_add(1),
-        None => 0,
+/// How many lines of the input stand before the text in which the code counts lines: the catalogue, or the whole input.
+fn lines_before(code: LineCode, input: &[u8]) -> usize {
+    match code {
+        LineCode::C1 | LineCode::C2 | LineCode::C3 | LineCode::C4 => whole_lines(input)
+            .position(|line| is_same(line, b"%catalogue"))
+            .map_or(0, |before| before.saturating_add(1)),
+        LineCode::H1 | LineCode::H2 | LineCode::H3 => 0,
     }
 }
 
@@ -107,12 +101,7 @@ fn hint_of(threads: bool, code: LineCode, word: &[u8]) -> Option<&'static str> {
 }
 
 fn explain_line<E: Write>(threads: bool, fault: LineFault, input: &[u8], errors: &mut E) {
-    let head = if is_of_catalogue(fault.code) {
-        head_number(input)
-    } else {
-        0
-    };
-    let number = head.saturating_add(fault.line);
+    let number = lines_before(fault.code, input).saturating_add(fault.line);
     let line = line_at(input, number);
     match line {
         Some(line) => tell_line(number, line, errors),

@@ -6,9 +6,8 @@ ghost use Rattle.workload_drive.specs.declared.fault.ScheduleFault.TheVariants a
 use dep_index::CatError;
 use linear_points::PointsError;
 use std::alloc::{AllocError, AllocFailed};
-use std::error::Error;
-use std::fmt;
 use step_core::StepError;
+use thiserror::Error;
 
 /// What is wrong with a line.
 #[derive(Clone, Copy, Debug, PartialEq, Eq, Drop)]
@@ -30,46 +29,26 @@ pub enum LineCode {
 }
 
 /// The first faulty line of an input. For C1 to C4 it counts in the text of the catalogue, else in the whole input.
-#[derive(Clone, Copy, Debug, PartialEq, Eq, Drop)]
+#[derive(Clone, Copy, Debug, PartialEq, Eq, Drop, Error)]
+#[error("{code:?} line {line}")]
 pub struct LineFault {
     pub code: LineCode,
     pub line: usize,
 }
 
 /// Why an input has no report.
-#[derive(Clone, Copy, Debug, PartialEq, Eq, Drop)]
+#[derive(Clone, Copy, Debug, PartialEq, Eq, Drop, Error)]
 pub enum ScheduleFault {
     /// This line is the first faulty one.
+    #[error("{0}")]
     Line(LineFault),
     /// No line is faulty, and the machine refuses the step of this index.
+    #[error("{code} at step {index}", code = step_code(*.cause))]
     Step { index: usize, cause: StepError },
     /// There was no memory.
+    #[error("out of memory")]
     Memory,
 }
-
-impl LineCode {
-    fn text(self) -> &'static str {
-        match self {
-            LineCode::C1 => "C1",
-            LineCode::C2 => "C2",
-            LineCode::C3 => "C3",
-            LineCode::C4 => "C4",
-            LineCode::H1 => "H1",
-            LineCode::H2 => "H2",
-            LineCode::H3 => "H3",
-        }
-    }
-}
-
-impl fmt::Display for LineFault {
-    fn fmt<W: fmt::Write>(&self, f: &mut fmt::Formatter<W>) -> fmt::Result {
-        let code = self.code.text();
-        let line = self.line;
-        write!(f, "{code} line {line}")
-    }
-}
-
-impl Error for LineFault {}
 
 fn step_code(cause: StepError) -> &'static str {
     match cause {
@@ -79,21 +58,6 @@ fn step_code(cause: StepError) -> &'static str {
         StepError::Calls => "S4",
     }
 }
-
-impl fmt::Display for ScheduleFault {
-    fn fmt<W: fmt::Write>(&self, f: &mut fmt::Formatter<W>) -> fmt::Result {
-        match *self {
-            ScheduleFault::Line(fault) => write!(f, "{fault}"),
-            ScheduleFault::Step { index, cause } => {
-                let code = step_code(cause);
-                write!(f, "{code} at step {index}")
-            }
-            ScheduleFault::Memory => write!(f, "out of memory"),
-        }
-    }
-}
-
-impl Error for ScheduleFault {}
 
 impl From<AllocError> for ScheduleFault {
     ghost from_gives = { λ _ fault. fault ≡ faults.Memory };

@@ -20,17 +20,14 @@ pub(crate) struct Line<'a> {
 fn ended<'a>(number: usize, part: &'a [u8]) -> Line<'a>
     ensures { line_in result ≡ with_number number (ended part.now) }
 {
-    match part {
-        [text @ .., b'\r'] => Line {
-            number,
-            text,
-            ending: b"\r\n",
-        },
-        _ => Line {
-            number,
-            text: part,
-            ending: b"\n",
-        },
+    let (text, ending): (&[u8], &[u8]) = match part {
+        [text @ .., b'\r'] => (text, b"\r\n"),
+        _ => (part, b"\n"),
+    };
+    Line {
+        number,
+        text,
+        ending,
     }
 }
 

@@ -136,13 +136,10 @@ fn setting_in(word: &[u8], words: &[&[u8]]) -> Option<u64>
     ensures value { result ≡ setting_in word.now (texts_of words.now) }
     ensures within { IfSome result (λ n. n ≤ 64) }
 {
-    let [first, number] = words else {
-        return None;
-    };
-    if !is_same(first, word) {
-        return None;
+    match words {
+        [first, number] if is_same(first, word) => from_one(number_within(MOST, number)),
+        _ => None,
     }
-    from_one(number_within(MOST, number))
 }
 
 /// The number of the first statement, and the later ones.

@@ -46,9 +46,6 @@ pub(crate) fn order_of<'a>(words: &[&'a [u8]]) -> Option<Order<'a>>
         return None;
     };
     let said = call_of(words, number_within(LARGEST, worker))?;
-    if said.later.is_empty() {
-        Some(Order::Make(said.verb, said.name))
-    } else {
-        None
-    }
+    let order = Order::Make(said.verb, said.name);
+    said.later.is_empty().then_some(order)
 }

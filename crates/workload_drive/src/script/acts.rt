@@ -122,21 +122,16 @@ fn deed_of(verb: &[u8]) -> Option<Deed>
 pub(crate) fn named_act_of<'a>(words: &[&'a [u8]]) -> Option<NamedAct<'a>>
     ensures { option_map named_act_in result ≡ named_act_of (texts_of words.now) }
 {
-    match words {
+    let (act, name) = match words {
         [verb, name] => match deed_of(verb)? {
-            Deed::Make(change) => Some(NamedAct {
-                act: Act::Opens(change),
-                name,
-            }),
-            _ => None,
+            Deed::Make(change) => (Act::Opens(change), name),
+            _ => return None,
         },
         [worker, verb, name] => {
             let worker = marked(b'w', worker)? as usize;
-            Some(NamedAct {
-                act: Act::Works(worker, deed_of(verb)?),
-                name,
-            })
+            (Act::Works(worker, deed_of(verb)?), name)
         }
-        _ => None,
-    }
+        _ => return None,
+    };
+    Some(NamedAct { act, name })
 }

@@ -97,22 +97,21 @@ fn entry_at(
     }
 }
 
-/// What a line of these words asks, where workers' lines stand before it or not.
+/// What a statement asks, where workers' lines stand before it or not.
 fn entry_of(
     alloc: Global,
     catalogue: &Catalogue,
     workers: usize,
     after_works: bool,
-    line: usize,
-    words: &[&[u8]],
+    said: &Statement<'_>,
 ) -> Result<Entry, ScheduleFault>
-    ensures { Reads (entry_of catalogue.now workers after_works line (named_act_of (texts_of words.now))) (λ entry. entry) result }
+    ensures { Reads (entry_of catalogue.now workers after_works said.now.number (named_act_of (texts_of said.now.words.items))) (λ entry. entry) result }
 {
-    match named_act_of(words) {
+    match named_act_of(&said.words) {
         Some(asked) if has_place(workers, after_works, asked.act) => {
-            entry_at(alloc, catalogue, line, asked)
+            entry_at(alloc, catalogue, said.number, asked)
         }
-        _ => Err(ScheduleFault::at(LineCode::H1, line)),
+        _ => Err(ScheduleFault::at(LineCode::H1, said.number)),
     }
 }
 
@@ -128,14 +127,7 @@ pub(crate) fn entries_of(
     let mut entries = Vec::new(alloc);
     let mut after_works = false;
     for said in statements {
-        let entry = entry_of(
-            alloc,
-            catalogue,
-            workers,
-            after_works,
-            said.number,
-            &said.words,
-        )?;
+        let entry = entry_of(alloc, catalogue, workers, after_works, said)?;
         after_works = after_works || entry.act.is_works();
         entries.push(entry)?;
     }
