@@ -15,28 +15,18 @@ use dep_index::{CatError, read_catalogue};
 use std::alloc::Global;
 use text_parts::Name;
 
-fn fault(error: CatError, line: &mut usize) -> u32
-    ensures { (read : Result (List Description) (Refusal × ℕ)) → IsFirstFault error read → FaultTold result line.old line.new read }
+fn fault(error: CatError, told: &mut usize) -> u32
+    ensures { (read : Result (List Description) (Refusal × ℕ)) → IsFirstFault error read → FaultTold result told.old told.new read }
 {
-    match error {
-        CatError::Bad { line: at } => {
-            *line = at;
-            BAD_LINE
-        }
-        CatError::Duplicate { line: at } => {
-            *line = at;
-            DUPLICATE
-        }
-        CatError::TwiceExported { line: at } => {
-            *line = at;
-            TWICE_EXPORTED
-        }
-        CatError::TooMany { line: at } => {
-            *line = at;
-            TOO_MANY_MODULES
-        }
-        CatError::Memory => OUT_OF_MEMORY,
-    }
+    let (number, line) = match error {
+        CatError::Bad { line } => (BAD_LINE, line),
+        CatError::Duplicate { line } => (DUPLICATE, line),
+        CatError::TwiceExported { line } => (TWICE_EXPORTED, line),
+        CatError::TooMany { line } => (TOO_MANY_MODULES, line),
+        CatError::Memory => return OUT_OF_MEMORY,
+    };
+    *told = line;
+    number
 }
 
 /// Reads a catalogue from its text, and fills an empty handle with it.
