@@ -15,12 +15,8 @@ const READS: usize = 150;
 
 pub fn measure<R: Print + Clock + AllocGlobal>(rt: &R) -> Result<()> {
     let text = text_of(rt.alloc(), "version 2\n", MODULES, push_module)?;
-    measure_text(rt, text.as_bytes())
-}
-
-fn measure_text<R: Print + Clock + AllocGlobal>(rt: &R, text: &[u8]) -> Result<()> {
     let megabytes = text.len().wrapping_mul(READS) / 1_000_000;
-    let read = || read_often(rt.alloc(), text);
+    let read = || read_often(rt.alloc(), text.as_bytes());
     let needs = measure_rate(rt, "read_catalogue", megabytes, "MB/s", read)?;
     print_figure(rt, "catalogue_needs", needs as u128, "needs")
 }

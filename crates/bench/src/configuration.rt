@@ -3,7 +3,7 @@
 use crate::figure::{measure_rate, measure_time};
 use crate::texts::text_of;
 use anyhow::{Result, ensure};
-use modprobe_conf::{Conf, read_conf};
+use modprobe_conf::read_conf;
 use std::alloc::AllocError;
 use std::rt::Clock;
 
@@ -27,16 +27,8 @@ blacklist other-{module}"
 
 pub fn measure<R: Print + Clock + AllocGlobal>(rt: &R) -> Result<()> {
     let text = text_of(rt.alloc(), "", MODULES, push_module)?;
-    measure_text(rt, text.as_bytes())
-}
-
-fn measure_text<R: Print + Clock + AllocGlobal>(rt: &R, text: &[u8]) -> Result<()> {
-    let read = || Ok(read_conf(rt.alloc(), text)?);
+    let read = || Ok(read_conf(rt.alloc(), text.as_bytes())?);
     let conf = measure_rate(rt, "read_conf", text.len(), "bytes/s", read)?;
-    measure_conf(rt, &conf)
-}
-
-fn measure_conf<R: Print + Clock>(rt: &R, conf: &Conf) -> Result<()> {
     let look_up = |turn: usize| Ok(conf.options(NAMES[turn % NAMES.len()]).len());
     let words = measure_time(rt, "options_of_a_name", LOOKUPS, look_up)?;
     ensure!(words == 3 * LOOKUPS as u128, "an option is missing");

@@ -3,7 +3,7 @@
 use crate::figure::print_figure;
 use crate::processor::processor_time;
 use crate::shapes::{SESSIONS, Session, Sizes, push_session};
-use anyhow::{Result, bail};
+use anyhow::Result;
 use modprobe::{FromRead, FromWrite, serve};
 use std::io;
 use std::rt::Files;
@@ -32,12 +32,8 @@ fn measure_session<R: Print + Files + AllocGlobal>(rt: &R, session: &Session) ->
     let mut before = None;
     for size in [whole / 4, whole / 2, whole] {
         let time = time_of(rt, texts, Sizes { size, others })?;
-        print_figure(
-            rt,
-            format_args!("{name}_{size}"),
-            u128::from(time / MICROSECOND),
-            "us",
-        )?;
+        let microseconds = u128::from(time / MICROSECOND);
+        print_figure(rt, format_args!("{name}_{size}"), microseconds, "us")?;
         if let Some(half) = before {
             print_growth(rt, name, size, time, half)?;
         }
@@ -46,31 +42,22 @@ fn measure_session<R: Print + Files + AllocGlobal>(rt: &R, session: &Session) ->
     Ok(())
 }
 
-/// How long a session of this size takes.
+/// How long a session of this size takes: the least of some rounds.
 fn time_of<R: Files + AllocGlobal>(rt: &R, texts: &[&str], sizes: Sizes) -> Result<u64> {
     let mut text = String::new(rt.alloc());
     push_session(&mut text, texts, sizes)?;
-    least_time(rt, text.as_bytes())
+    let mut least = u64::MAX;
+    for _ in 0..ROUNDS {
+        least = least.min(mean_time(rt, text.as_bytes())?);
+    }
+    Ok(least)
 }
 
 /// Prints how much of the time at half the size the time at this size is.
 fn print_growth<R: Print>(rt: &R, name: &str, size: usize, time: u64, half: u64) -> Result<()> {
     let percent = u128::from(time).saturating_mul(100) / u128::from(half).max(1);
-    print_figure(
-        rt,
-        format_args!("{name}_{size}_to_half"),
-        percent,
-        "percent",
-    )
-}
-
-/// How long a session takes: the least of some rounds.
-fn least_time<R: Files + AllocGlobal>(rt: &R, text: &[u8]) -> Result<u64> {
-    let mut least = u64::MAX;
-    for _ in 0..ROUNDS {
-        least = least.min(mean_time(rt, text)?);
-    }
-    Ok(least)
+    let name = format_args!("{name}_{size}_to_half");
+    print_figure(rt, name, percent, "percent")
 }
 
 /// How long each run of a session takes in a round, which has as many as it takes to be long enough.
@@ -92,8 +79,5 @@ fn mean_time<R: Files + AllocGlobal>(rt: &R, text: &[u8]) -> Result<u64> {
 fn answer<R: AllocGlobal>(rt: &R, text: &[u8]) -> Result<()> {
     let mut reader = FromRead::new(text);
     let mut writer = FromWrite::new(io::sink());
-    match serve(rt.alloc(), WORKERS, &mut reader, &mut writer) {
-        Ok(()) => Ok(()),
-        Err(fault) => bail!("{fault}"),
-    }
+    Ok(serve(rt.alloc(), WORKERS, &mut reader, &mut writer)?)
 }

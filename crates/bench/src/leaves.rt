@@ -7,23 +7,15 @@ ghost use Rattle.root_row.specs.Made.{new_book, new_leaf};
 ghost use Rattle.dep_index.specs.Catalogue.{modules_of};
 
 use crate::texts::plain_catalogue;
-use crate::workers::{COUNT, Figure, SlotRange, Worker, measure_workers, worker_counts};
-use anyhow::{Result, bail};
+use crate::workers::{COUNT, Host, SlotRange, Worker, measure_workers, worker_counts};
+use anyhow::{Result, ensure};
 use crossbeam_utils::CachePadded;
 use dep_index::Catalogue;
 use module_table::Book;
 use root_row::{BookSeat, LeafSeat, Row};
 use std::alloc::{AllocError, Global};
-use std::io::Input;
-use std::rt::Clock;
 use std::sync::Wait;
-use std::thread::Threads;
 use use_indicator::Leaf;
-
-const FIGURE: Figure = Figure {
-    name: "leaf_pairs",
-    kind: "",
-};
 
 /// A leaf of a row that has all slots.
 #[derive(Drop)]
@@ -75,9 +67,7 @@ fn make_round<R: Wait>(rt: &R, row: &Row, leaf: &mut Leaf, range: SlotRange)
     }
 }
 
-pub fn measure<R: Print + Input + Clock + AllocGlobal + Threads + Wait + Sync>(
-    rt: &R,
-) -> Result<()> {
+pub fn measure<R: Host>(rt: &R) -> Result<()> {
     let catalogue = plain_catalogue(rt.alloc(), COUNT)?;
     for workers in &worker_counts(rt)? {
         measure_count(rt, &catalogue, *workers)?;
@@ -85,16 +75,12 @@ pub fn measure<R: Print + Input + Clock + AllocGlobal + Threads + Wait + Sync>(
     Ok(())
 }
 
-fn measure_count<R: Print + Input + Clock + AllocGlobal + Threads + Wait + Sync>(
-    rt: &R,
-    catalogue: &Catalogue,
-    workers: u8,
-) -> Result<()> {
+fn measure_count<R: Host>(rt: &R, catalogue: &Catalogue, workers: u8) -> Result<()> {
     let (row, seats, seat, _) = Row::new(rt.alloc(), catalogue, usize::from(workers), 0)?;
     measure_row(rt, catalogue, &row, seats, seat)
 }
 
-fn measure_row<R: Print + Input + Clock + AllocGlobal + Threads + Wait + Sync>(
+fn measure_row<R: Host>(
     rt: &R,
     catalogue: &Catalogue,
     row: &Row,
@@ -105,39 +91,23 @@ fn measure_row<R: Print + Input + Clock + AllocGlobal + Threads + Wait + Sync>(
     requires same { modules_of catalogue.now ≡ row.now.world.catalogue }
     requires leaves { All (λ s. s ≡ new_leaf row.now.id row.now.world (worker_of s.view)) seats.items }
 {
-    if row.slots() < COUNT {
-        bail!("too few slots");
-    }
+    ensure!(row.slots() >= COUNT, "too few slots");
     let mut book = Book::new(rt.alloc(), seat, catalogue)?;
-    if !are_loaded(row, &mut book) {
-        bail!("a module is not loaded");
-    }
-    measure_seats(rt, row, seats)
+    load_all(row, &mut book)?;
+    let mut leaves = leaves_of(rt.alloc(), row, seats)?;
+    measure_workers(rt, "leaf_pairs", &mut leaves)
 }
 
-/// Loads all modules. Whether that was done.
-fn are_loaded(row: &Row, book: &mut Book) -> bool
+/// Loads all modules.
+fn load_all(row: &Row, book: &mut Book) -> Result<()>
     requires eight { 8 ≤ slots row.now.world }
     requires own { IsOf row.now book.old }
 {
     for slot in 0..COUNT {
-        if book.begin_load(row, slot).is_err() || book.end_load(row, slot, true).is_err() {
-            return false;
-        }
+        book.begin_load(row, slot)?;
+        book.end_load(row, slot, true)?;
     }
-    true
-}
-
-fn measure_seats<R: Print + Input + Clock + AllocGlobal + Threads + Wait + Sync>(
-    rt: &R,
-    row: &Row,
-    seats: Vec<LeafSeat>,
-) -> Result<()>
-    requires eight { 8 ≤ slots row.now.world }
-    requires leaves { All (λ s. s ≡ new_leaf row.now.id row.now.world (worker_of s.view)) seats.items }
-{
-    let mut leaves = leaves_of(rt.alloc(), row, seats)?;
-    measure_workers(rt, FIGURE, &mut leaves)
+    Ok(())
 }
 
 /// The leaves, each on cache lines of its own: counts of another leaf may lie beside it.

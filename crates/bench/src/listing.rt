@@ -27,12 +27,8 @@ pub fn measure<R: Print + Clock + AllocGlobal>(rt: &R) -> Result<()> {
 
 fn measure_size<R: Print + Clock + AllocGlobal>(rt: &R, modules: usize) -> Result<()> {
     let catalogue = numbered_catalogue(rt.alloc(), modules, push_module)?;
-    measure_catalogue(rt, &catalogue)
-}
-
-fn measure_catalogue<R: Print + Clock + AllocGlobal>(rt: &R, catalogue: &Catalogue) -> Result<()> {
-    let table = loaded(rt.alloc(), catalogue)?;
-    measure_table(rt, catalogue, &table)
+    let table = loaded(rt.alloc(), &catalogue)?;
+    measure_table(rt, &catalogue, &table)
 }
 
 /// Prints how long each of the listings takes, and how many bytes both have.

@@ -3,8 +3,7 @@
 use crate::figure::{measure_rate, print_figure};
 use crate::points::{MODULES, THREADS, loads};
 use crate::texts::plain_catalogue;
-use anyhow::{Result, bail};
-use dep_index::Catalogue;
+use anyhow::Result;
 use std::rt::Clock;
 use step_core::{Call, Event, Machine, Step};
 
@@ -12,27 +11,12 @@ const STEPS: usize = 10_000_000;
 
 pub fn measure<R: Print + Clock + AllocGlobal>(rt: &R) -> Result<()> {
     let catalogue = plain_catalogue(rt.alloc(), MODULES)?;
-    measure_catalogue(rt, &catalogue)
-}
-
-fn measure_catalogue<R: Print + Clock + AllocGlobal>(rt: &R, catalogue: &Catalogue) -> Result<()> {
-    let mut machine = Machine::new(rt.alloc(), catalogue, THREADS, THREADS, STEPS)?;
-    measure_machine(rt, &mut machine)
-}
-
-fn measure_machine<R: Print + Clock + AllocGlobal>(rt: &R, machine: &mut Machine) -> Result<()> {
+    let mut machine = Machine::new(rt.alloc(), &catalogue, THREADS, THREADS, STEPS)?;
     for loading in &loads(rt.alloc(), 0)? {
-        step(machine, *loading)?;
+        machine.step(*loading)?;
     }
-    let points = measure_rate(rt, "machine_steps", STEPS, "steps/s", || run(machine))?;
+    let points = measure_rate(rt, "machine_steps", STEPS, "steps/s", || run(&mut machine))?;
     print_figure(rt, "machine_points", points as u128, "points")
-}
-
-fn step(machine: &mut Machine, step: Step) -> Result<Event> {
-    match machine.step(step) {
-        Ok(event) => Ok(event),
-        Err(error) => bail!("{error:?}"),
-    }
 }
 
 /// Each thread in turn makes its next line, or begins its next call. How many calls took effect.
@@ -46,7 +30,7 @@ fn run(machine: &mut Machine) -> Result<usize> {
         } else {
             Step::Go(thread)
         };
-        match step(machine, next)? {
+        match machine.step(next)? {
             Event::Invoked(_) => idle[thread] = false,
             Event::Returned(_, _) => idle[thread] = true,
             Event::Point(_, _) => points = points.wrapping_add(1),

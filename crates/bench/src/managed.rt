@@ -5,27 +5,14 @@ ghost use Rattle.managed_table.specs.Callers.{IsCallerOf};
 use crate::manager;
 use crate::texts::plain_catalogue;
 use crate::workers::{
-    COUNT, CROWD, CROWDED, Figure, SlotRange, Worker, measure_beside, worker_counts,
+    COUNT, CROWD, CROWDED, Host, SlotRange, Worker, measure_beside, worker_counts,
 };
 use anyhow::{Result, ensure};
 use dep_index::Catalogue;
 use managed_table::{Caller, ManagedTable};
 use module_table::Manager;
 use std::alloc::Global;
-use std::io::Input;
-use std::rt::Clock;
 use std::sync::Wait;
-use std::thread::Threads;
-
-const OURS: Figure = Figure {
-    name: "managed_pairs",
-    kind: "",
-};
-
-const BESIDE: Figure = Figure {
-    name: "managed_pairs",
-    kind: "@manager",
-};
 
 /// A thread that calls a managed table for a worker.
 #[derive(Drop)]
@@ -95,17 +82,19 @@ impl<'a> ManagedWorker<'a> {
         }
     }
 
-    /// Loads a module. Whether that was done.
-    fn is_loaded<R: Wait>(&mut self, rt: &R, slot: usize) -> bool {
+    /// Loads a module.
+    fn load<R: Wait>(&mut self, rt: &R, slot: usize) -> Result<()> {
         let begun = self.table.begin_load(rt, &mut self.caller, slot);
         let ended = self.table.end_load(rt, &mut self.caller, slot, true);
-        begun == Some(Ok(())) && ended == Some(Ok(()))
+        ensure!(
+            begun == Some(Ok(())) && ended == Some(Ok(())),
+            "a module is not loaded"
+        );
+        Ok(())
     }
 }
 
-pub fn measure<R: Print + Input + Clock + AllocGlobal + Threads + Wait + Sync>(
-    rt: &R,
-) -> Result<()> {
+pub fn measure<R: Host>(rt: &R) -> Result<()> {
     let catalogue = plain_catalogue(rt.alloc(), COUNT)?;
     for workers in &worker_counts(rt)? {
         measure_both(rt, &catalogue, *workers, *workers)?;
@@ -114,18 +103,13 @@ pub fn measure<R: Print + Input + Clock + AllocGlobal + Threads + Wait + Sync>(
 }
 
 /// Measures so many threads that call for so many workers.
-fn measure_both<R: Print + Input + Clock + AllocGlobal + Threads + Wait + Sync>(
-    rt: &R,
-    catalogue: &Catalogue,
-    workers: u8,
-    threads: u8,
-) -> Result<()> {
+fn measure_both<R: Host>(rt: &R, catalogue: &Catalogue, workers: u8, threads: u8) -> Result<()> {
     let (table, _) = ManagedTable::new(rt.alloc(), catalogue, usize::from(workers))?;
     measure_table(rt, catalogue, &table, workers, threads)
 }
 
 // The table is lent, and so is the manager: with a large value at hand each `?` is long to prove.
-fn measure_table<R: Print + Input + Clock + AllocGlobal + Threads + Wait + Sync>(
+fn measure_table<R: Host>(
     rt: &R,
     catalogue: &Catalogue,
     table: &ManagedTable,
@@ -137,17 +121,17 @@ fn measure_table<R: Print + Input + Clock + AllocGlobal + Threads + Wait + Sync>
 }
 
 /// The same, once all modules are loaded in both.
-fn measure_loaded<R: Print + Input + Clock + AllocGlobal + Threads + Wait + Sync>(
+fn measure_loaded<R: Host>(
     rt: &R,
     table: &ManagedTable,
     manager: &Manager,
     threads: u8,
 ) -> Result<()> {
-    let are_loaded = are_loaded(rt, table) && manager::are_loaded(rt, manager);
-    ensure!(are_loaded, "a module is not loaded");
+    load_all(rt, table)?;
+    manager::load_all(rt, manager)?;
     let mut ours = callers_of(rt.alloc(), table, threads)?;
     let mut others = manager::workers_of(rt.alloc(), manager, threads)?;
-    measure_beside(rt, [OURS, BESIDE], &mut ours, &mut others)
+    measure_beside(rt, "managed_pairs", "@manager", &mut ours, &mut others)
 }
 
 /// So many threads' callers, who call for the workers in turn.
@@ -160,13 +144,11 @@ fn callers_of(alloc: Global, table: &ManagedTable, threads: u8) -> Result<Vec<Ma
     Ok(all)
 }
 
-/// Loads all modules. Whether that was done.
-fn are_loaded<R: Wait>(rt: &R, table: &ManagedTable) -> bool {
+/// Loads all modules.
+fn load_all<R: Wait>(rt: &R, table: &ManagedTable) -> Result<()> {
     let mut worker = ManagedWorker::of(table, 0);
     for slot in 0..COUNT {
-        if !worker.is_loaded(rt, slot) {
-            return false;
-        }
+        worker.load(rt, slot)?;
     }
-    true
+    Ok(())
 }

@@ -79,23 +79,13 @@ pub fn measure<R: Print + Clock + AllocGlobal>(rt: &R) -> Result<()> {
         let pattern = Pattern::read(rt.alloc(), pattern)?;
         let matches = |turn: usize| Ok(usize::from(pattern.matches(texts[turn % 2])));
         let hits = measure_time(rt, *name, ROUNDS, matches)?;
-        ensure!(
-            hits == if *is_hit { ROUNDS as u128 } else { 0 },
-            "another answer"
-        );
+        let wanted = if *is_hit { ROUNDS } else { 0 };
+        ensure!(hits == wanted as u128, "another answer");
     }
     let text = text_of(rt.alloc(), "", DEVICES, push_alias)?;
-    measure_text(rt, text.as_bytes())
-}
-
-fn measure_text<R: Print + Clock + AllocGlobal>(rt: &R, text: &[u8]) -> Result<()> {
-    let read = || Ok(read_aliases(rt.alloc(), text)?);
+    let read = || Ok(read_aliases(rt.alloc(), text.as_bytes())?);
     let aliases = measure_rate(rt, "read_aliases", text.len(), "bytes/s", read)?;
-    measure_look_ups(rt, &aliases)
-}
-
-fn measure_look_ups<R: Print + Clock>(rt: &R, aliases: &Aliases) -> Result<()> {
-    let found = measure_time(rt, "lookup_26000_patterns", LOOKUPS, |_| Ok(hits(aliases)))?;
+    let found = measure_time(rt, "lookup_26000_patterns", LOOKUPS, |_| Ok(hits(&aliases)))?;
     ensure!(found == LOOKUPS as u128, "another number of patterns");
     Ok(())
 }

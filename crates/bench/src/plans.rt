@@ -3,9 +3,8 @@
 use crate::figure::{measure_time, print_figure};
 use crate::patterns::{DEVICE, aliases};
 use crate::texts::{numbered_catalogue, text_of};
-use alias_match::Aliases;
 use anyhow::{Result, ensure};
-use dep_index::{Catalogue, DepIndex, read_dep};
+use dep_index::read_dep;
 use load_plan::{Sources, find, plan, removal_plan};
 use modprobe_conf::{Conf, read_conf};
 use std::alloc::{AllocError, Global};
@@ -63,34 +62,11 @@ fn over_sources<F: FnOnce(&Sources<'_>) -> Result<()>>(
     let push = |text: &mut String, slot| push_module(text, slot, has_symbols);
     let paths = text_of(alloc, "", if has_symbols { 0 } else { MODULES }, push_paths)?;
     let catalogue = numbered_catalogue(alloc, MODULES, push)?;
-    over_paths(alloc, &catalogue, paths.as_bytes(), measure)
-}
-
-/// The same over this text of modules.dep.
-fn over_paths<F: FnOnce(&Sources<'_>) -> Result<()>>(
-    alloc: Global,
-    catalogue: &Catalogue,
-    paths: &[u8],
-    measure: F,
-) -> Result<()>
-    requires { F.IsAlwaysCallable measure }
-{
-    let dependencies = read_dep(alloc, paths)?;
-    over_dependencies(alloc, catalogue, &dependencies, measure)
-}
-
-fn over_dependencies<F: FnOnce(&Sources<'_>) -> Result<()>>(
-    alloc: Global,
-    catalogue: &Catalogue,
-    dependencies: &DepIndex,
-    measure: F,
-) -> Result<()>
-    requires { F.IsAlwaysCallable measure }
-{
+    let dependencies = read_dep(alloc, paths.as_bytes())?;
     let configuration = configuration(alloc)?;
     measure(&Sources {
-        catalogue,
-        dependencies,
+        catalogue: &catalogue,
+        dependencies: &dependencies,
         configuration: &configuration,
     })
 }
@@ -123,17 +99,9 @@ fn len_of(alloc: Global, sources: &Sources, asked: Asked) -> Result<usize> {
 
 fn measure_find<R: Print + Clock + AllocGlobal>(rt: &R, sources: &Sources) -> Result<()> {
     let aliases = aliases(rt.alloc())?;
-    measure_look_ups(rt, sources, &aliases)
-}
-
-fn measure_look_ups<R: Print + Clock + AllocGlobal>(
-    rt: &R,
-    sources: &Sources,
-    aliases: &Aliases,
-) -> Result<()> {
     let (catalogue, configuration) = (sources.catalogue, sources.configuration);
     let look_up = |_| {
-        let found = find(rt.alloc(), DEVICE, catalogue, configuration, aliases);
+        let found = find(rt.alloc(), DEVICE, catalogue, configuration, &aliases);
         Ok(usize::from(found.is_ok()))
     };
     let found = measure_time(rt, "find_in_26000_aliases", LOOKUPS, look_up)?;

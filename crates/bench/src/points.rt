@@ -21,13 +21,9 @@ const SIZES: [usize; 2] = [250_000, 1_000_000];
 
 pub fn measure<R: Print + Clock + AllocGlobal>(rt: &R) -> Result<()> {
     let catalogue = plain_catalogue(rt.alloc(), MODULES)?;
-    measure_sizes(rt, &catalogue)
-}
-
-fn measure_sizes<R: Print + Clock + AllocGlobal>(rt: &R, catalogue: &Catalogue) -> Result<()> {
     for len in &SIZES {
         let steps = schedule(rt.alloc(), *len)?;
-        measure_points(rt, catalogue, &steps)?;
+        measure_points(rt, &catalogue, &steps)?;
     }
     Ok(())
 }

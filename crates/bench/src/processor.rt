@@ -1,6 +1,6 @@
 //! The time that this program has run on a processor, whatever else the machine does.
 
-use anyhow::{Result, bail};
+use anyhow::{Context, Result};
 use std::fs;
 use std::rt::Files;
 
@@ -12,8 +12,5 @@ fn first_number(line: &str) -> Option<u64> {
 /// The nanoseconds that the main thread has run on a processor (proc(5)).
 pub fn processor_time<R: Files + AllocGlobal>(rt: &R) -> Result<u64> {
     let line = fs::read_to_string(rt, "/proc/self/schedstat")?;
-    match first_number(line.as_str()) {
-        Some(time) => Ok(time),
-        None => bail!("/proc/self/schedstat has no number"),
-    }
+    first_number(line.as_str()).context("/proc/self/schedstat has no number")
 }

@@ -1,16 +1,15 @@
-//! The sessions whose growth is measured, written at any size. Two letters before the `|` of a line tell from which number
-//! up to which other it stands; with none it stands once. `@` in it is its number. `[..]` is a part that stands for
-//! numbers likewise.
+//! The sessions whose growth is measured, written at any size. Each begins with a catalogue of version 3. Two letters
+//! before the `|` of a line tell from which number up to which other it stands; with none it stands once. `@` in it is
+//! its number. `[..]` is a part that stands for numbers likewise.
 
 use std::alloc::AllocError;
+use std::ops::Range;
 
 type Written = Result<(), AllocError>;
 
 /// Soft items s, each of which asks for a hard chain z, for the next item, and for the chain again. The end of the chain
 /// needs the first item, and each of the chain needs the others.
-const OVER_A_CHAIN: &str = "|%catalogue
-|version 3
-0S|module s@
+const OVER_A_CHAIN: &str = "0S|module s@
 0C|module z@
 0O|module d@
 |%dep
@@ -32,9 +31,7 @@ const LOAD_AN_ALIAS: &str = "|%alias
 ";
 
 /// Modules of which each needs all behind it; the size is the number of pairs.
-const PAIRS: &str = "|%catalogue
-|version 3
-0P|module m@
+const PAIRS: &str = "0P|module m@
 |%dep
 0P|k/m@.ko:[NP| k/m@.ko]
 |%conf
@@ -53,9 +50,7 @@ const LOAD_THE_FIRST: &str = "|%session
 ";
 
 /// A chain of modules of which each asks for one of its own.
-const CHAIN: &str = "|%catalogue
-|version 3
-0S|module m@
+const CHAIN: &str = "0S|module m@
 0S|module t@
 |%dep
 0S|k/m@.ko:[NA| k/m@.ko]
@@ -64,9 +59,7 @@ const CHAIN: &str = "|%catalogue
 ";
 
 /// The same chain below soft items in a row, each of which needs it.
-const BELOW_SOFT_ITEMS: &str = "|%catalogue
-|version 3
-0S|module m@
+const BELOW_SOFT_ITEMS: &str = "0S|module m@
 0S|module t@
 0S|module s@
 |%dep
@@ -80,9 +73,7 @@ const BELOW_SOFT_ITEMS: &str = "|%catalogue
 ";
 
 /// A chain below soft items, each of which needs a module of its own first, and that one asks for the next item.
-const BELOW_LEAVES: &str = "|%catalogue
-|version 3
-0S|module m@
+const BELOW_LEAVES: &str = "0S|module m@
 0S|module d@
 0S|module s@
 |module start
@@ -97,9 +88,7 @@ const BELOW_LEAVES: &str = "|%catalogue
 ";
 
 /// A module that asks for many, each of which asks for a chain that needs all of them.
-const ITEMS_OF_A_CHAIN: &str = "|%catalogue
-|version 3
-0S|module x@
+const ITEMS_OF_A_CHAIN: &str = "0S|module x@
 0S|module s@
 |module start
 |%dep
@@ -113,9 +102,7 @@ LS|k/x@.ko:[0R| k/s@.ko]
 ";
 
 /// A chain that is loaded, and removed.
-const LOADED_CHAIN: &str = "|%catalogue
-|version 3
-0S|module m@
+const LOADED_CHAIN: &str = "0S|module m@
 |%dep
 0S|k/m@.ko:[NA| k/m@.ko]
 |%session
@@ -124,18 +111,14 @@ const LOADED_CHAIN: &str = "|%catalogue
 ";
 
 /// Modules that are loaded one by one, and removed one by one.
-const LOADED_ALONE: &str = "|%catalogue
-|version 3
-0S|module m@
+const LOADED_ALONE: &str = "0S|module m@
 |%session
 0S|insmod m@
 0S|rmmod m@
 ";
 
 /// One module with many parameters.
-const PARAMETERS: &str = "|%catalogue
-|version 3
-|module m
+const PARAMETERS: &str = "|module m
 0S|param p@ int
 |%session
 |modprobe m p0=1
@@ -143,9 +126,7 @@ const PARAMETERS: &str = "|%catalogue
 
 /// Aliases whose longest runs of bytes are the same, and a hundred names that have it. A match of each stops where the
 /// numbers begin.
-const ALIASES: &str = "|%catalogue
-|version 3
-|module m0
+const ALIASES: &str = "|module m0
 |%alias
 0S|alias device:@*same-longest-run m0
 |%session
@@ -200,17 +181,19 @@ impl Sizes {
         }
     }
 
-    /// From which number up to which other.
-    fn range(self, letters: &str, own: usize) -> (usize, usize) {
+    /// For which numbers a text stands, by the letters before its `|`, and the text behind it.
+    fn spread(self, text: &str, own: usize) -> (Range<usize>, &str) {
+        let (letters, text) = text.split_once('|').unwrap_or(("", text));
         match letters.as_bytes() {
-            [from, to] => (self.number(*from, own), self.number(*to, own)),
-            _ => (0, 1),
+            [from, to] => (self.number(*from, own)..self.number(*to, own), text),
+            _ => (0..1, text),
         }
     }
 }
 
 /// Adds the lines of a session.
 pub fn push_session(text: &mut String, texts: &[&str], sizes: Sizes) -> Written {
+    text.push_str("%catalogue\nversion 3\n")?;
     for lines in texts {
         for line in lines.lines() {
             push_lines(text, line, sizes)?;
@@ -221,9 +204,8 @@ pub fn push_session(text: &mut String, texts: &[&str], sizes: Sizes) -> Written 
 
 /// Adds what a line stands for.
 fn push_lines(text: &mut String, line: &str, sizes: Sizes) -> Written {
-    let (letters, line) = line.split_once('|').unwrap_or(("", line));
-    let (from, to) = sizes.range(letters, 0);
-    for number in from..to {
+    let (numbers, line) = sizes.spread(line, 0);
+    for number in numbers {
         push_line(text, line, sizes, number)?;
     }
     Ok(())
@@ -232,20 +214,13 @@ fn push_lines(text: &mut String, line: &str, sizes: Sizes) -> Written {
 fn push_line(text: &mut String, line: &str, sizes: Sizes, number: usize) -> Written {
     for part in line.split('[') {
         let (further, behind) = part.split_once(']').unwrap_or(("", part));
-        push_further(text, further, sizes, number)?;
+        let (numbers, further) = sizes.spread(further, number);
+        for other in numbers {
+            push_numbered(text, further, other)?;
+        }
         push_numbered(text, behind, number)?;
     }
     text.push('\n')
-}
-
-/// Adds what a part in brackets stands for.
-fn push_further(text: &mut String, part: &str, sizes: Sizes, own: usize) -> Written {
-    let (letters, part) = part.split_once('|').unwrap_or(("", ""));
-    let (from, to) = sizes.range(letters, own);
-    for number in from..to {
-        push_numbered(text, part, number)?;
-    }
-    Ok(())
 }
 
 /// Adds a text, with a number for each `@`.

@@ -1,5 +1,5 @@
 use Rattle.root_row.specs.Seats.{IsOf}
-use Rattle.bench.proofs.leaves.are_loaded.Given as goal
+use Rattle.bench.proofs.leaves.load_all.Given as goal
 
 abbrev pub invariant-loop-slot : goal.invariant-loop-slot
 invariant-loop-slot l = IsOf l.row l.book
