@@ -1,7 +1,7 @@
 //! What the arguments of the program ask for.
 
 use clap::{Arg, ArgAction, Command, Error as ClapError};
-use program_frame::Source;
+use program_frame::{Source, flag};
 use std::alloc::{AllocError, Global};
 
 /// What stands at the end of the help text.
@@ -25,14 +25,6 @@ pub(crate) struct Asked<'a> {
     pub(crate) in_letters: bool,
     /// Whether a refused report is explained.
     pub(crate) explain: bool,
-}
-
-/// An option without a value.
-fn flag<'a>(alloc: Global, name: &'a str, help: &'a str) -> Arg<'a> {
-    Arg::new(alloc, name)
-        .long(name)
-        .action(ArgAction::SetTrue)
-        .help(help)
 }
 
 /// The file of the report.

@@ -2,7 +2,7 @@
 
 use crate::script::Numbering;
 use clap::{Arg, ArgAction, ArgMatches, Command, Error as ClapError};
-use program_frame::Source;
+use program_frame::{Source, flag};
 use std::alloc::{AllocError, Global};
 
 /// The version of the program.
@@ -35,14 +35,6 @@ pub(crate) struct Asked<'a> {
     pub(crate) replies: Option<Numbering>,
     /// Whether faults are explained.
     pub(crate) explain: bool,
-}
-
-/// An option without a value.
-fn flag<'a>(alloc: Global, name: &'a str, help: &'a str) -> Arg<'a> {
-    Arg::new(alloc, name)
-        .long(name)
-        .action(ArgAction::SetTrue)
-        .help(help)
 }
 
 /// The file of the input.
