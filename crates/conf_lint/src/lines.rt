@@ -23,10 +23,7 @@ fn add_words(
     ensures softdeps { OnOk result (found.new.softdeps.keys
         ≡ with_words known.now found.old.softdeps.keys (texts_of words.now)) }
 {
-    let Some((word, behind)) = words.split_first() else {
-        return Ok(());
-    };
-    let Some((name, rest)) = behind.split_first() else {
+    let [word, name, rest @ ..] = words else {
         return Ok(());
     };
     if is_same(word, b"alias") {

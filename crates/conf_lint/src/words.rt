@@ -2,7 +2,6 @@
 ghost use Rattle.std.specs.Prelude.{◌≡◌, ◌<◌, ◌++◌, length, OnOk};
 ghost use Rattle.text_parts.specs.Text.{texts_of};
 ghost use Rattle.dep_index.specs.Catalogue.{description_at};
-ghost use Rattle.load_plan.specs.Parameters.{is_valid_word};
 ghost use Rattle.conf_lint.specs.Notes.{has_pattern, pattern_notes, value_notes};
 
 use crate::note::{Note, NoteKind};
@@ -19,14 +18,6 @@ pub(crate) fn has_pattern(word: &[u8]) -> bool
         .any(|byte| *byte == b'*' || *byte == b'?' || *byte == b'[')
 }
 
-/// Whether the module in the slot takes the word.
-fn is_valid_word(catalogue: &Catalogue, slot: usize, word: &[u8]) -> bool
-    requires { slot < length catalogue.now }
-    ensures { result ≡ is_valid_word (description_at catalogue.now slot).params word.now }
-{
-    params_valid(catalogue, slot, &[word])
-}
-
 /// Notes the words of an options line that the module in the slot refuses.
 pub(crate) fn note_values(
     alloc: Global,
@@ -41,7 +32,7 @@ pub(crate) fn note_values(
         ≡ notes.old.items ++ value_notes number (description_at catalogue.now slot).params (texts_of words.now)) }
 {
     for word in words {
-        if !is_valid_word(catalogue, slot, word) {
+        if !params_valid(catalogue, slot, &[word]) {
             let kind = NoteKind::RefusedValue(Word::new(alloc, word)?);
             notes.push(Note { number, kind })?;
         }
