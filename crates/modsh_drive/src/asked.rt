@@ -2,6 +2,7 @@
 ghost use Rattle.std.specs.Prelude.{◌≤◌};
 
 use clap::{Arg, ArgAction, ArgMatches, Command, Error as ClapError, value_parser};
+use program_frame::flag;
 use std::alloc::{AllocError, Global};
 
 /// The version of the program.
@@ -25,14 +26,6 @@ Exit status:
   1  with --fail, a reply was an error; with --lint, a line was listed
   2  an argument, a file or a section is refused
   3  a read or a write failed, memory ran out, or a limit was reached";
-
-/// An option without a value.
-fn flag<'a>(alloc: Global, name: &'a str, help: &'a str) -> Arg<'a> {
-    Arg::new(alloc, name)
-        .long(name)
-        .action(ArgAction::SetTrue)
-        .help(help)
-}
 
 /// How many workers a session has.
 fn workers<'a>(alloc: Global) -> Arg<'a> {

@@ -6,7 +6,7 @@ use crate::commands::{form_of, near_commands};
 use crate::holders::{holders, users};
 use crate::lists::Row;
 use crate::near::is_near;
-use crate::values::tell_value;
+use crate::witness::Kept;
 use dep_index::ModuleState;
 use modprobe::Setup;
 use program_frame::Shown;
@@ -25,7 +25,17 @@ pub(crate) struct Cause<'a, M> {
     pub(crate) name: &'a [u8],
 }
 
-impl<M: Modules> Cause<'_, M> {
+fn state_word(state: ModuleState) -> &'static str {
+    match state {
+        ModuleState::Absent => "absent",
+        ModuleState::Loading => "loading",
+        ModuleState::Live => "live",
+        ModuleState::Draining => "draining",
+        ModuleState::Unloading => "unloading",
+    }
+}
+
+impl<'a, M: Modules> Cause<'a, M> {
     /// The slot of the module of the name.
     pub(crate) fn slot(&self) -> Option<usize>
         ensures named { IfSome result (λ slot. slot_named self.now.setup.now.catalogue self.now.name.now ≡ Some slot) }
@@ -44,171 +54,151 @@ impl<M: Modules> Cause<'_, M> {
     pub(crate) fn is_command(&self, word: &[u8]) -> bool {
         self.words.first().is_some_and(|first| *first == word)
     }
-}
 
-fn state_word(state: ModuleState) -> &'static str {
-    match state {
-        ModuleState::Absent => "absent",
-        ModuleState::Loading => "loading",
-        ModuleState::Live => "live",
-        ModuleState::Draining => "draining",
-        ModuleState::Unloading => "unloading",
+    /// Tells why, after what was told before.
+    fn tell_why<E: Write>(&self, why: &str, errors: &mut E) {
+        let _ = write!(errors, ": {why}");
     }
-}
 
-/// Tells why, after what was told before.
-fn tell_why<E: Write>(why: &str, errors: &mut E) {
-    let _ = write!(errors, ": {why}");
-}
-
-/// Tells the state of the module.
-fn tell_state<M: Modules, E: Write>(cause: &Cause<'_, M>, errors: &mut E) {
-    if let Some(slot) = cause.slot() {
-        let state = state_word(cause.table.state(slot));
-        let _ = write!(errors, ": it is {state}");
-    }
-}
-
-/// Tells the state of a module that is needed.
-fn tell_need<M: Modules, E: Write>(cause: &Cause<'_, M>, errors: &mut E) {
-    if let Some(slot) = cause.slot() {
-        let (name, state) = (Shown(cause.name), state_word(cause.table.state(slot)));
-        let _ = write!(errors, ": it needs {name}, which is {state}");
-    }
-}
-
-/// Tells why a module is busy.
-fn tell_busy<M: Modules, E: Write>(cause: &Cause<'_, M>, errors: &mut E) {
-    match cause.slot() {
-        Some(slot) if cause.setup.catalogue().permanent(slot) => {
-            tell_why("it is permanent", errors)
-        }
-        _ => tell_state(cause, errors),
-    }
-}
-
-/// The names of the modules in these slots.
-fn names_at<'a>(
-    alloc: Global,
-    setup: &'a Setup,
-    slots: &[usize],
-) -> Result<Vec<Shown<'a>>, AllocError> {
-    let catalogue = setup.catalogue();
-    let mut names = Vec::new(alloc);
-    for slot in slots {
-        if *slot < catalogue.len() {
-            names.push(Shown(catalogue.name(*slot)))?;
+    /// Tells the state of the module.
+    fn tell_state<E: Write>(&self, errors: &mut E) {
+        if let Some(slot) = self.slot() {
+            let state = state_word(self.table.state(slot));
+            let _ = write!(errors, ": it is {state}");
         }
     }
-    Ok(names)
-}
 
-/// Tells the workers that hold the module in the slot.
-fn tell_holders<E: Write>(workers: &[usize], errors: &mut E) {
-    let row = Row::all(workers);
-    let _ = match workers.len() {
-        0 => Ok(()),
-        1 => write!(errors, ": worker {row} holds it"),
-        _ => write!(errors, ": workers {row} hold it"),
-    };
-}
-
-/// Tells the modules that need the module, or else the workers that hold it.
-fn tell_use<M: Modules, E: Write>(cause: &Cause<'_, M>, errors: &mut E) -> Result<(), AllocError> {
-    let Some(slot) = cause.slot() else {
-        return Ok(());
-    };
-    let users = users(cause.alloc, cause.table, slot)?;
-    let names = names_at(cause.alloc, cause.setup, &users)?;
-    if names.is_empty() {
-        let workers = holders(cause.alloc, cause.table, slot)?;
-        tell_holders(&workers, errors);
-    } else {
-        let row = Row::all(&names);
-        let _ = write!(errors, ": needed by {row}");
-    }
-    Ok(())
-}
-
-/// The names of modules that are nearly this one.
-fn near_names<'a>(
-    alloc: Global,
-    setup: &'a Setup,
-    name: &[u8],
-) -> Result<Vec<Shown<'a>>, AllocError> {
-    let catalogue = setup.catalogue();
-    let mut near = Vec::new(alloc);
-    for slot in 0..catalogue.len() {
-        let own = catalogue.name(slot);
-        if is_near(own, name) {
-            near.push(Shown(own))?;
+    /// Tells the state of a module that is needed.
+    fn tell_need<E: Write>(&self, errors: &mut E) {
+        if let Some(slot) = self.slot() {
+            let (name, state) = (Shown(self.name), state_word(self.table.state(slot)));
+            let _ = write!(errors, ": it needs {name}, which is {state}");
         }
     }
-    Ok(near)
-}
 
-/// Asks whether one of these names was meant, where there is one.
-fn tell_near<E: Write>(near: &[Shown<'_>], errors: &mut E) {
-    if !near.is_empty() {
-        let row = Row::one(near);
-        let _ = write!(errors, ": is it {row}?");
-    }
-}
-
-/// Tells why there is no module: it is absent, or no module has the name.
-fn tell_absent<M: Modules, E: Write>(
-    cause: &Cause<'_, M>,
-    errors: &mut E,
-) -> Result<(), AllocError> {
-    if cause.slot().is_some() {
-        tell_why("it is absent", errors);
-        return Ok(());
-    }
-    tell_why("no module has this name", errors);
-    let near = near_names(cause.alloc, cause.setup, cause.name)?;
-    tell_near(&near, errors);
-    Ok(())
-}
-
-/// Tells the form of a command that begins with this word, or that there is none.
-fn tell_form<E: Write>(alloc: Global, first: &[u8], errors: &mut E) -> Result<(), AllocError> {
-    if let Some(form) = form_of(first) {
-        let _ = write!(errors, ": the form is {form}");
-        return Ok(());
-    }
-    tell_why("no command has this name", errors);
-    let near = near_commands(alloc, first)?;
-    tell_near(&near, errors);
-    Ok(())
-}
-
-/// Tells which workers there are.
-fn tell_workers<E: Write>(count: usize, errors: &mut E) {
-    match count.saturating_sub(1) {
-        0 => tell_why("the one worker is 0", errors),
-        last => {
-            let _ = write!(errors, ": the workers are 0 to {last}");
+    /// Tells why a module is busy.
+    fn tell_busy<E: Write>(&self, errors: &mut E) {
+        match self.slot() {
+            Some(slot) if self.setup.catalogue().permanent(slot) => {
+                self.tell_why("it is permanent", errors)
+            }
+            _ => self.tell_state(errors),
         }
     }
-}
 
-/// Tells why a command was refused, after its code.
-pub(crate) fn tell_cause<M: Modules, E: Write>(
-    cause: &Cause<'_, M>,
-    errors: &mut E,
-) -> Result<(), AllocError> {
-    match cause.code {
-        b"SYNTAX" => return tell_form(cause.alloc, cause.name, errors),
-        b"ENOENT" => return tell_absent(cause, errors),
-        b"EINVAL" => return tell_value(cause, errors),
-        b"EWOULDBLOCK" => return tell_use(cause, errors),
-        b"TOOMANY" => tell_why("the worker holds 65,535 references to it", errors),
-        b"NOTHELD" => tell_why("the worker holds no reference to it", errors),
-        b"WORKER" => tell_workers(cause.table.workers(), errors),
-        b"EEXIST" | b"NOTLIVE" => tell_state(cause, errors),
-        b"EBUSY" => tell_busy(cause, errors),
-        b"NEEDNOTLIVE" => tell_need(cause, errors),
-        _ => {}
+    /// The names of the modules in these slots.
+    fn names_at(&self, slots: &[usize]) -> Result<Vec<Shown<'a>>, AllocError> {
+        let catalogue = self.setup.catalogue();
+        let mut names = Vec::new(self.alloc);
+        for slot in slots {
+            if *slot < catalogue.len() {
+                names.push(Shown(catalogue.name(*slot)))?;
+            }
+        }
+        Ok(names)
     }
-    Ok(())
+
+    /// Tells the workers that hold the module in a slot.
+    fn tell_holders<E: Write>(&self, workers: &[usize], errors: &mut E) {
+        let row = Row::all(workers);
+        let _ = match workers.len() {
+            0 => Ok(()),
+            1 => write!(errors, ": worker {row} holds it"),
+            _ => write!(errors, ": workers {row} hold it"),
+        };
+    }
+
+    /// Tells the modules that need the module, or else the workers that hold it.
+    fn tell_use<E: Write>(&self, errors: &mut E) -> Result<(), AllocError> {
+        let Some(slot) = self.slot() else {
+            return Ok(());
+        };
+        let users = users(self.alloc, self.table, slot)?;
+        let names = self.names_at(&users)?;
+        if names.is_empty() {
+            let workers = holders(self.alloc, self.table, slot)?;
+            self.tell_holders(&workers, errors);
+        } else {
+            let row = Row::all(&names);
+            let _ = write!(errors, ": needed by {row}");
+        }
+        Ok(())
+    }
+
+    /// The names of modules that are nearly this one.
+    fn near_names(&self) -> Result<Vec<Shown<'a>>, AllocError> {
+        let catalogue = self.setup.catalogue();
+        let mut near = Vec::new(self.alloc);
+        for slot in 0..catalogue.len() {
+            let own = catalogue.name(slot);
+            if is_near(own, self.name) {
+                near.push(Shown(own))?;
+            }
+        }
+        Ok(near)
+    }
+
+    /// Asks whether one of these names was meant, where there is one.
+    fn tell_near<E: Write>(&self, near: &[Shown<'_>], errors: &mut E) {
+        if !near.is_empty() {
+            let row = Row::one(near);
+            let _ = write!(errors, ": is it {row}?");
+        }
+    }
+
+    /// Tells why there is no module: it is absent, or no module has the name.
+    fn tell_absent<E: Write>(&self, errors: &mut E) -> Result<(), AllocError> {
+        if self.slot().is_some() {
+            self.tell_why("it is absent", errors);
+            return Ok(());
+        }
+        self.tell_why("no module has this name", errors);
+        let near = self.near_names()?;
+        self.tell_near(&near, errors);
+        Ok(())
+    }
+
+    /// Tells the form of a command that begins with the name, or that there is none.
+    fn tell_form<E: Write>(&self, errors: &mut E) -> Result<(), AllocError> {
+        if let Some(form) = form_of(self.name) {
+            let _ = write!(errors, ": the form is {form}");
+            return Ok(());
+        }
+        self.tell_why("no command has this name", errors);
+        let near = near_commands(self.alloc, self.name)?;
+        self.tell_near(&near, errors);
+        Ok(())
+    }
+
+    /// Tells which workers there are.
+    fn tell_workers<E: Write>(&self, errors: &mut E) {
+        match self.table.workers().saturating_sub(1) {
+            0 => self.tell_why("the one worker is 0", errors),
+            last => {
+                let _ = write!(errors, ": the workers are 0 to {last}");
+            }
+        }
+    }
+
+    /// Tells why a command was refused, after its code.
+    pub(crate) fn tell<E: Write>(&self, kept: &Kept<'_>, errors: &mut E) -> Result<(), AllocError> {
+        match self.code {
+            b"SYNTAX" => return self.tell_form(errors),
+            b"ENOENT" => return self.tell_absent(errors),
+            b"EINVAL" => return self.tell_value(errors),
+            b"EWOULDBLOCK" => return self.tell_use(errors),
+            b"INSTALL" => return self.tell_setting(b"install", kept, errors),
+            b"REMOVE" => return self.tell_setting(b"remove", kept, errors),
+            b"CYCLE" => return self.tell_cycle(kept, errors),
+            b"UNKNOWNSYMBOL" => return self.tell_symbol(kept, errors),
+            b"TOOMANY" => self.tell_why("the worker holds 65,535 references to it", errors),
+            b"NOTHELD" => self.tell_why("the worker holds no reference to it", errors),
+            b"WORKER" => self.tell_workers(errors),
+            b"EEXIST" | b"NOTLIVE" => self.tell_state(errors),
+            b"EBUSY" => self.tell_busy(errors),
+            b"NEEDNOTLIVE" => self.tell_need(errors),
+            _ => {}
+        }
+        Ok(())
+    }
 }

@@ -25,12 +25,8 @@ const COMMANDS: [(&[u8], &str); 11] = [
 
 /// What a line is that begins with this word, by these forms.
 pub(crate) fn form_in(forms: &[(&[u8], &'static str)], word: &[u8]) -> Option<&'static str> {
-    for (own, form) in forms {
-        if is_same(word, *own) {
-            return Some(*form);
-        }
-    }
-    None
+    let found = forms.iter().find(|form| is_same(word, form.0));
+    found.map(|form| form.1)
 }
 
 /// What a line of the command is that begins with this word.

@@ -4,23 +4,10 @@ use crate::hints::{Faulty, hint_of};
 use crate::notes::{note_about, note_idle};
 use crate::places::Place;
 use crate::witness::Kept;
-use modprobe::{RunFault, Section, ServeFault, SetupCode, SetupFault, Texts};
+use modprobe::{RunFault, Section, ServeFault, SetupCode, SetupFault};
 use program_frame::{Shown, tell_hint, tell_sentence};
 use std::alloc::AllocError;
 use std::io::Write;
-use text_parts::whole_lines;
-
-const READ: &str = "Standard input could not be read.";
-
-const WRITE: &str = "Standard output could not be written, or took nothing.";
-
-const MEMORY: &str = "There was no memory.";
-
-const TURNS: &str = "A session has read its input 16,777,216 times.";
-
-const LONG_LINE: &str = "A line of the input has more than 65,535 bytes.";
-
-const NO_SESSION: &str = "The input has no line %session, and so no command.";
 
 fn setup_sentence(code: SetupCode) -> &'static str {
     match code {
@@ -32,20 +19,20 @@ fn setup_sentence(code: SetupCode) -> &'static str {
         SetupCode::M2 => "A path of modules.dep has an empty name.",
         SetupCode::M3 => "A name has a line in modules.dep already.",
         SetupCode::B1 => "A line stands before the first section line.",
-        SetupCode::Read => READ,
-        SetupCode::Memory => MEMORY,
-        SetupCode::Turns => TURNS,
-        SetupCode::LongLine => LONG_LINE,
+        SetupCode::Read => run_sentence(RunFault::Read),
+        SetupCode::Memory => run_sentence(RunFault::Memory),
+        SetupCode::Turns => run_sentence(RunFault::Turns),
+        SetupCode::LongLine => run_sentence(RunFault::LongLine),
     }
 }
 
 fn run_sentence(fault: RunFault) -> &'static str {
     match fault {
-        RunFault::Read => READ,
-        RunFault::Write => WRITE,
-        RunFault::Memory => MEMORY,
-        RunFault::Turns => TURNS,
-        RunFault::LongLine => LONG_LINE,
+        RunFault::Read => "Standard input could not be read.",
+        RunFault::Write => "Standard output could not be written, or took nothing.",
+        RunFault::Memory => "There was no memory.",
+        RunFault::Turns => "A session has read its input 16,777,216 times.",
+        RunFault::LongLine => "A line of the input has more than 65,535 bytes.",
     }
 }
 
@@ -64,39 +51,22 @@ fn tell_line<E: Write>(place: Place<'_>, line: &[u8], errors: &mut E) {
     let _ = writeln!(errors, "  {place}: {text}");
 }
 
-/// Explains a fault in a line of a section's text, by its number.
-fn explain_text<E: Write>(
-    code: SetupCode,
-    section: Section,
-    number: u64,
-    texts: &Texts,
-    kept: &Kept<'_>,
-    errors: &mut E,
-) {
-    let text = texts.text(section);
-    let before = number.saturating_sub(1) as usize;
-    let line = whole_lines(text).nth(before).unwrap_or(b"");
-    tell_line(kept.places.in_section(section, number), line, errors);
-    tell_sentence(setup_sentence(code), errors);
-    let faulty = Faulty { text, before, line };
-    tell_hint(hint_of(code, &faulty), errors);
-}
-
-/// Explains a fault of the sections.
+/// Explains a fault of the sections: the line that it is in, what is wrong with it, and what may have been meant.
 fn explain_setup<E: Write>(fault: &SetupFault, kept: &Kept<'_>, errors: &mut E) {
-    let section = section_of(fault.code);
-    if let (Some(section), Some(number), Some(texts)) = (section, fault.line, &kept.texts) {
-        return explain_text(fault.code, section, number, texts, kept, errors);
-    }
-    if matches!(fault.code, SetupCode::B1 | SetupCode::LongLine) {
-        tell_in_hand(kept, errors);
-    }
-    tell_sentence(setup_sentence(fault.code), errors);
-    let faulty = Faulty {
-        text: b"",
-        before: 0,
-        line: kept.in_hand.as_slice(),
+    let faulty = match (section_of(fault.code), fault.line) {
+        (Some(section), Some(number)) => {
+            let faulty = Faulty::of(kept.text(section), number);
+            tell_line(kept.places.in_section(section, number), faulty.line, errors);
+            faulty
+        }
+        _ => {
+            if matches!(fault.code, SetupCode::B1 | SetupCode::LongLine) {
+                tell_in_hand(kept, errors);
+            }
+            Faulty::in_hand(kept.in_hand.as_slice())
+        }
     };
+    tell_sentence(setup_sentence(fault.code), errors);
     tell_hint(hint_of(fault.code, &faulty), errors);
 }
 
@@ -115,38 +85,46 @@ fn explain_fault<E: Write>(fault: &ServeFault, kept: &Kept<'_>, errors: &mut E) 
             }
             tell_sentence(run_sentence(*fault), errors);
         }
-        ServeFault::Memory => tell_sentence(MEMORY, errors),
+        ServeFault::Memory => tell_sentence(run_sentence(RunFault::Memory), errors),
     }
+}
+
+/// Tells a fault, or that the input has no session.
+pub(crate) fn tell_answer<E: Write>(
+    answer: &Result<u64, ServeFault>,
+    kept: &Kept<'_>,
+    errors: &mut E,
+) {
+    let _ = match answer {
+        Err(fault) => writeln!(errors, "modsh: {fault}"),
+        Ok(_) if kept.lines == 0 => writeln!(errors, "modsh: the input is empty"),
+        Ok(_) if !kept.has_session => writeln!(errors, "modsh: the input has no line %session"),
+        Ok(_) => Ok(()),
+    };
 }
 
 /// Tells all that is told after a session: its fault, lines without effect, and lines about nothing.
 pub(crate) fn explain<E: Write>(answer: &Result<u64, ServeFault>, kept: &Kept<'_>, errors: &mut E) {
     match answer {
         Err(fault) => explain_fault(fault, kept, errors),
-        Ok(_) if !kept.has_session => tell_sentence(NO_SESSION, errors),
+        Ok(_) if !kept.has_session => tell_sentence(
+            "The input has no line %session, and so no command.",
+            errors,
+        ),
         Ok(_) => {}
     }
-    let idle = match &kept.texts {
-        Some(texts) => note_idle(kept.alloc, texts, &kept.places, errors),
-        None => Ok(0),
-    };
+    let idle = note_idle(kept, errors);
     let _ = errors.write_all(kept.notes.as_slice());
-    let about = match &kept.texts {
-        Some(texts) => note_about(kept.alloc, &kept.about, texts, &kept.places, errors),
-        None => Ok(()),
-    };
-    if idle.is_err() || about.is_err() || kept.is_short {
+    note_about(kept, errors);
+    if idle.is_err() || kept.is_short {
         let _ = writeln!(errors, "modsh: note: there was no memory to explain more");
     }
 }
 
 /// Tells the notes of a lint, and answers how many there are. No memory refuses, also where there was none to keep them.
 pub(crate) fn tell_lint<E: Write>(kept: &Kept<'_>, errors: &mut E) -> Result<usize, AllocError> {
-    let Some(texts) = &kept.texts else {
-        return Ok(0);
-    };
-    let idle = note_idle(kept.alloc, texts, &kept.places, errors)?;
-    note_about(kept.alloc, &kept.about, texts, &kept.places, errors)?;
+    let idle = note_idle(kept, errors)?;
+    note_about(kept, errors);
     if kept.is_short {
         return Err(AllocError);
     }

@@ -7,57 +7,38 @@ use crate::words::add_section;
 use modprobe::Section;
 use program_frame::{PathFault, counted_names, folder_names};
 use std::alloc::{AllocError, Global};
+use std::borrow::CowStr;
 use std::io::Read;
 use std::rt::Files;
 use std::{io, str};
 
-/// The path of a file: that of a word, or that of a file in the folder of a word.
-#[derive(Drop)]
-pub(crate) enum FilePath<'a> {
-    Word(&'a str),
-    InFolder(String),
-}
-
-impl FilePath<'_> {
-    pub(crate) fn as_str(&self) -> &str {
-        match self {
-            FilePath::Word(path) => *path,
-            FilePath::InFolder(path) => path.as_str(),
-        }
-    }
-}
-
 /// The path of a name in a folder.
-fn path_in<'a>(alloc: Global, folder: &str, name: &str) -> Result<FilePath<'a>, AllocError> {
-    let mut path = String::from_str(alloc, folder)?;
-    if !folder.ends_with('/') {
-        path.push('/')?;
-    }
-    path.push_str(name)?;
-    Ok(FilePath::InFolder(path))
+fn path_in(alloc: Global, folder: &str, name: &str) -> Result<String, AllocError> {
+    let slash = if folder.ends_with('/') { "" } else { "/" };
+    format!(in alloc; "{folder}{slash}{name}")
 }
 
 /// The paths of the files of a folder that count as a configuration (modprobe.d(5)), in the order of their names' bytes.
-pub(crate) fn paths_in<'a, R: Files>(
+pub(crate) fn paths_in<R: Files>(
     alloc: Global,
     rt: &R,
     folder: &str,
-) -> Result<Vec<FilePath<'a>>, PathFault> {
+) -> Result<Vec<String>, PathFault> {
     let names = counted_names(folder_names(alloc, rt, folder)?);
     let mut paths = Vec::new(alloc);
     for name in &names {
-        let Ok(name) = str::from_utf8(name) else {
-            return Err(PathFault::Name);
-        };
+        let name = str::from_utf8(name).map_err(|_| PathFault::Name)?;
         paths.push(path_in(alloc, folder, name)?)?;
     }
     Ok(paths)
 }
 
-/// A file that was read: its path, and where its section ends in the joined text.
+/// A file that was read: its path, which is that of a word or of a file in the folder of a word, how many lines its
+/// section has, with its section line, and where that ends in the joined text.
 #[derive(Drop)]
-struct File<'a> {
-    path: FilePath<'a>,
+pub(crate) struct File<'a> {
+    pub(crate) path: CowStr<'a>,
+    pub(crate) lines: u64,
     end: usize,
 }
 
@@ -87,11 +68,14 @@ impl<'a> JoinedFiles<'a> {
     }
 
     /// Notes that all after the earlier files is the file of this path.
-    pub(crate) fn end_file(&mut self, path: FilePath<'a>) -> Result<(), AllocError>
+    pub(crate) fn end_file(&mut self, path: CowStr<'a>) -> Result<(), AllocError>
         ensures { self.new.text ≡ self.old.text }
     {
+        let start = self.files.last().map_or(0, |file| file.end);
+        let section = self.text.get(start..).unwrap_or(b"");
+        let lines = section.iter().filter(|byte| **byte == b'\n').count() as u64;
         let end = self.text.len();
-        self.files.push(File { path, end })?;
+        self.files.push(File { path, lines, end })?;
         Ok(())
     }
 
@@ -102,19 +86,8 @@ impl<'a> JoinedFiles<'a> {
         self.text.as_slice()
     }
 
-    /// How many files there are.
-    pub(crate) fn len(&self) -> usize {
-        self.files.len()
-    }
-
-    /// The path of a file and its section in the text, by its place, from 0.
-    pub(crate) fn file(&self, i: usize) -> Option<(&str, &[u8])> {
-        let file = self.files.get(i)?;
-        let start = match i.checked_sub(1) {
-            Some(before) => self.files.get(before)?.end,
-            None => 0,
-        };
-        let text = self.text.get(start..file.end)?;
-        Some((file.path.as_str(), text))
+    /// The files, in their order.
+    pub(crate) fn files(&self) -> &[File<'a>] {
+        &self.files
     }
 }

@@ -13,6 +13,24 @@ pub(crate) struct Faulty<'a> {
     pub(crate) line: &'a [u8],
 }
 
+impl<'a> Faulty<'a> {
+    /// The line of this number, from 1, of a section's text.
+    pub(crate) fn of(text: &'a [u8], number: u64) -> Faulty<'a> {
+        let before = number.saturating_sub(1) as usize;
+        let line = whole_lines(text).nth(before).unwrap_or(b"");
+        Faulty { text, before, line }
+    }
+
+    /// A line of no section.
+    pub(crate) fn in_hand(line: &'a [u8]) -> Faulty<'a> {
+        Faulty {
+            text: b"",
+            before: 0,
+            line,
+        }
+    }
+}
+
 /// What lines of a catalogue that name symbols have to have.
 const SYMBOLS: &str = "exports and needs have one or more symbols";
 
@@ -46,15 +64,6 @@ const FORMS: [(&[u8], &str); 8] = [
 /// The first words of lines of a configuration, but for `alias`.
 const SETTINGS: [&[u8]; 5] = [b"blacklist", b"install", b"options", b"remove", b"softdep"];
 
-fn is_among(word: &[u8], known: &[&[u8]]) -> bool {
-    known.iter().any(|own| is_same(word, own))
-}
-
-/// What a line of a catalogue with this first word has to have.
-fn form_hint(word: &[u8]) -> Option<&'static str> {
-    form_in(&FORMS, word)
-}
-
 /// What is likely wrong with a line in the wrong section that begins with this word.
 fn word_in_section_hint(word: &[u8]) -> Option<&'static str> {
     if word.first() == Some(&b'%') {
@@ -63,11 +72,11 @@ fn word_in_section_hint(word: &[u8]) -> Option<&'static str> {
         Some("the text begins with a byte order mark: save it without")
     } else if form_of(word).is_some() {
         Some("this is a command of a session: is %session missing before it?")
-    } else if form_hint(word).is_some() {
+    } else if form_in(&FORMS, word).is_some() {
         Some(
             "this is a line of a catalogue: is %catalogue missing before it, or catalogue= before its file?",
         )
-    } else if is_among(word, &SETTINGS) {
+    } else if SETTINGS.iter().any(|own| is_same(word, *own)) {
         Some(
             "this is a line of a configuration: is %conf missing before it, or conf= before its file?",
         )
@@ -102,7 +111,7 @@ fn catalogue_hint(faulty: &Faulty<'_>) -> Option<&'static str> {
     if word.is_empty() {
         return None;
     }
-    let Some(form) = form_hint(word) else {
+    let Some(form) = form_in(&FORMS, word) else {
         return section_hint(faulty.line).or(Some(
             "a line of a catalogue begins with module, size, exports, needs, param or permanent",
         ));

@@ -9,7 +9,6 @@ mod files;
 mod hints;
 mod holders;
 mod lists;
-mod messages;
 mod near;
 mod notes;
 mod parameters;

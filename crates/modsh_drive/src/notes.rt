@@ -3,9 +3,11 @@ ghost use Rattle.std.specs.Prelude.{◌<◌, length};
 
 use crate::parameters::kind_of;
 use crate::places::Places;
+use crate::witness::Kept;
 use alias_match::{IdleLine, NoEffect, idle_aliases};
-use conf_lint::{Note, NoteKind};
-use modprobe::{Section, Setup, Texts};
+use bstr::Lines;
+use conf_lint::NoteKind;
+use modprobe::{Section, Setup};
 use modprobe_conf::idle_settings;
 use program_frame::Shown;
 use std::alloc::{AllocError, Global};
@@ -20,30 +22,12 @@ fn reason(why: NoEffect) -> &'static str {
     }
 }
 
-/// What is told of a line: its number in its section's text, why, and the word that it is about, or none for the line.
-#[derive(Clone, Copy, Drop)]
-struct Told<'a> {
-    number: usize,
-    why: &'static str,
-    word: Option<&'a [u8]>,
-}
-
-fn told_idle<'a>(alloc: Global, idle: &[IdleLine]) -> Result<Vec<Told<'a>>, AllocError> {
-    let mut told = Vec::new(alloc);
-    for line in idle {
-        told.push(Told {
-            number: line.number,
-            why: reason(line.why),
-            word: None,
-        })?;
-    }
-    Ok(told)
-}
-
-fn told_of(note: &Note) -> Told<'_> {
-    let (why, word) = match &note.kind {
+/// What is told of a line by a note, and the word that it is about, or none for the line.
+fn about(kind: &NoteKind) -> (&'static str, Option<&[u8]>) {
+    let unread = "no pattern is read here, and no module has this name";
+    match kind {
         NoteKind::UnknownName => ("no module or alias has this name", None),
-        NoteKind::PatternName => ("no pattern is read here, and no module has this name", None),
+        NoteKind::PatternName => (unread, None),
         NoteKind::UnknownTarget => ("no module has the name that it leads to", None),
         NoteKind::LaterSoftdep => (
             "no effect, an earlier softdep line of the module counts",
@@ -53,45 +37,43 @@ fn told_of(note: &Note) -> Told<'_> {
             "the module does not take this value",
             Some(word.as_bytes()),
         ),
-        NoteKind::PatternItem(word) => (
-            "no pattern is read here, and no module has this name",
-            Some(word.as_bytes()),
-        ),
-    };
-    Told {
-        number: note.number,
-        why,
-        word,
+        NoteKind::PatternItem(word) => (unread, Some(word.as_bytes())),
     }
 }
 
-fn told_about<'a>(alloc: Global, notes: &'a [Note]) -> Result<Vec<Told<'a>>, AllocError> {
-    let mut told = Vec::new(alloc);
-    for note in notes {
-        told.push(told_of(note))?;
-    }
-    Ok(told)
-}
-
-/// Tells what is told of the lines of a section's text, whose numbers rise.
-fn tell_lines<E: Write>(
+/// Notes of the lines of a section's text, whose numbers rise.
+#[derive(Drop)]
+struct LineNotes<'a, 'e, E> {
     section: Section,
-    text: &[u8],
-    told: &[Told<'_>],
-    places: &Places<'_>,
-    errors: &mut E,
-) {
-    let mut lines = whole_lines(text);
-    let (mut next, mut line): (usize, &[u8]) = (1, b"");
-    for own in told {
-        if own.number >= next {
-            line = lines.nth(own.number.saturating_sub(next)).unwrap_or(b"");
-            next = own.number.saturating_add(1);
+    places: &'a Places<'a>,
+    lines: Lines<'a>,
+    next: usize,
+    line: &'a [u8],
+    errors: &'e mut E,
+}
+
+impl<'a, 'e, E: Write> LineNotes<'a, 'e, E> {
+    fn new(section: Section, kept: &'a Kept<'_>, errors: &'e mut E) -> LineNotes<'a, 'e, E> {
+        LineNotes {
+            section,
+            places: &kept.places,
+            lines: whole_lines(kept.text(section)),
+            next: 1,
+            line: b"",
+            errors,
         }
-        let place = places.in_section(section, own.number as u64);
-        let why = own.why;
-        let text = Shown(own.word.unwrap_or(line));
-        let _ = writeln!(errors, "modsh: note: {place}: {why}: {text}");
+    }
+
+    /// Tells where a line stands, why it is noted, and the word that this is about, or else the line.
+    fn tell(&mut self, number: usize, why: &str, word: Option<&[u8]>) {
+        if number >= self.next {
+            let between = number.saturating_sub(self.next);
+            self.line = self.lines.nth(between).unwrap_or(b"");
+            self.next = number.saturating_add(1);
+        }
+        let place = self.places.in_section(self.section, number as u64);
+        let text = Shown(word.unwrap_or(self.line));
+        let _ = writeln!(self.errors, "modsh: note: {place}: {why}: {text}");
     }
 }
 
@@ -130,32 +112,29 @@ pub(crate) fn note_words<E: Write>(
     Ok(())
 }
 
+/// Tells lines of a section that have no effect.
+fn tell_idle<E: Write>(section: Section, idle: &[IdleLine], kept: &Kept<'_>, errors: &mut E) {
+    let mut notes = LineNotes::new(section, kept, errors);
+    for line in idle {
+        notes.tell(line.number, reason(line.why), None);
+    }
+}
+
 /// Tells the lines of aliases and of the configuration that have no effect, by file and line, and answers how many there
 /// are.
-pub(crate) fn note_idle<E: Write>(
-    alloc: Global,
-    texts: &Texts,
-    places: &Places<'_>,
-    errors: &mut E,
-) -> Result<usize, AllocError> {
-    let (aliases, settings) = (texts.text(Section::Alias), texts.text(Section::Conf));
-    let in_aliases = told_idle(alloc, &idle_aliases(alloc, aliases)?)?;
-    tell_lines(Section::Alias, aliases, &in_aliases, places, errors);
-    let in_settings = told_idle(alloc, &idle_settings(alloc, settings)?)?;
-    tell_lines(Section::Conf, settings, &in_settings, places, errors);
-    Ok(in_aliases.len().saturating_add(in_settings.len()))
+pub(crate) fn note_idle<E: Write>(kept: &Kept<'_>, errors: &mut E) -> Result<usize, AllocError> {
+    let aliases = idle_aliases(kept.alloc, kept.text(Section::Alias))?;
+    tell_idle(Section::Alias, &aliases, kept, errors);
+    let settings = idle_settings(kept.alloc, kept.text(Section::Conf))?;
+    tell_idle(Section::Conf, &settings, kept, errors);
+    Ok(aliases.len().saturating_add(settings.len()))
 }
 
 /// Tells the notes of lines of the configuration that are about nothing, by file and line.
-pub(crate) fn note_about<E: Write>(
-    alloc: Global,
-    notes: &[Note],
-    texts: &Texts,
-    places: &Places<'_>,
-    errors: &mut E,
-) -> Result<(), AllocError> {
-    let told = told_about(alloc, notes)?;
-    let settings = texts.text(Section::Conf);
-    tell_lines(Section::Conf, settings, &told, places, errors);
-    Ok(())
+pub(crate) fn note_about<E: Write>(kept: &Kept<'_>, errors: &mut E) {
+    let mut notes = LineNotes::new(Section::Conf, kept, errors);
+    for note in &kept.about {
+        let (why, word) = about(&note.kind);
+        notes.tell(note.number, why, word);
+    }
 }

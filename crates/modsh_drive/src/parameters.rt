@@ -5,44 +5,9 @@ ghost use Rattle.std.specs.Str.{bytes_eq};
 ghost use Rattle.text_parts.specs.Text.{normal_form};
 ghost use Rattle.load_plan.specs.Parameters.{is_equals, name_of};
 
-use dep_index::{Param, ParamKind, Scalar};
+use dep_index::{Param, ParamKind};
 use std::alloc::{AllocError, Global};
-use std::fmt;
 use text_parts::{Name, is_same};
-
-/// What values a parameter takes, as modinfo(8) tells it.
-#[derive(Clone, Copy, Drop)]
-pub(crate) struct Kind(pub(crate) ParamKind);
-
-fn scalar_word(scalar: Scalar) -> &'static str {
-    match scalar {
-        Scalar::Byte => "byte",
-        Scalar::Short => "short",
-        Scalar::Ushort => "ushort",
-        Scalar::Int => "int",
-        Scalar::Uint => "uint",
-        Scalar::Long => "long",
-        Scalar::Ulong => "ulong",
-        Scalar::Ullong => "ullong",
-        Scalar::Hexint => "hexint",
-        Scalar::Bool => "bool",
-        Scalar::Bint => "bint",
-        Scalar::Invbool => "invbool",
-    }
-}
-
-impl fmt::Display for Kind {
-    fn fmt<W: fmt::Write>(&self, f: &mut fmt::Formatter<W>) -> fmt::Result {
-        match self.0 {
-            ParamKind::Charp => f.write_str("charp"),
-            ParamKind::One(scalar) => f.write_str(scalar_word(scalar)),
-            ParamKind::Array(scalar) => {
-                f.write_str(scalar_word(scalar))?;
-                f.write_str("[]")
-            }
-        }
-    }
-}
 
 fn equals_at(word: &[u8]) -> Option<usize>
     ensures { result ≡ position is_equals word.now }

@@ -1,6 +1,6 @@
 //! Where the lines of an input stand, by file and number.
 
-use crate::files::JoinedFiles;
+use crate::files::File;
 use modprobe::Section;
 use program_frame::Shown;
 use std::alloc::{AllocError, Global};
@@ -21,13 +21,6 @@ impl fmt::Display for Place<'_> {
     }
 }
 
-/// A file, and how many lines its section has, with its section line.
-#[derive(Clone, Copy, Drop)]
-struct FileLines<'a> {
-    path: &'a str,
-    count: u64,
-}
-
 /// A section, and the number of its section line among the lines of the input.
 #[derive(Clone, Copy, Drop)]
 struct Begun {
@@ -38,32 +31,17 @@ struct Begun {
 /// The files of an input, and where its sections begin.
 #[derive(Drop)]
 pub(crate) struct Places<'a> {
-    files: Vec<FileLines<'a>>,
+    files: &'a [File<'a>],
     sections: Vec<Begun>,
 }
 
-fn count_feeds(text: &[u8]) -> u64 {
-    text.iter().filter(|byte| **byte == b'\n').count() as u64
-}
-
 impl<'a> Places<'a> {
-    /// Those of an input that nothing is known of.
-    pub(crate) fn new(alloc: Global) -> Places<'a> {
+    /// Those of an input that begins with these files, and of which nothing else is known.
+    pub(crate) fn new(alloc: Global, files: &'a [File<'_>]) -> Places<'a> {
         Places {
-            files: Vec::new(alloc),
+            files,
             sections: Vec::new(alloc),
         }
-    }
-
-    /// Adds the files, which stand first.
-    pub(crate) fn add_files(&mut self, files: &'a JoinedFiles<'_>) -> Result<(), AllocError> {
-        for i in 0..files.len() {
-            if let Some((path, text)) = files.file(i) {
-                let count = count_feeds(text);
-                self.files.push(FileLines { path, count })?;
-            }
-        }
-        Ok(())
     }
 
     /// Adds a section whose section line has this number.
@@ -75,14 +53,14 @@ impl<'a> Places<'a> {
     /// Where the line of this number stands. The section line of a file is its line 0.
     pub(crate) fn of_line(&self, number: u64) -> Place<'a> {
         let mut left = number;
-        for file in &self.files {
-            if left <= file.count {
+        for file in self.files {
+            if left <= file.lines {
                 return Place {
-                    path: Some(file.path),
+                    path: Some(file.path.as_str()),
                     number: left.saturating_sub(1),
                 };
             }
-            left = left.saturating_sub(file.count);
+            left = left.saturating_sub(file.lines);
         }
         Place {
             path: None,

@@ -8,7 +8,6 @@ mod reading;
 
 use crate::asked::{Asked, matches_of};
 use crate::files::JoinedFiles;
-use crate::messages::tell_bad_word;
 use crate::sections::read_sections;
 use crate::status::status_after;
 use crate::witness::Witness;
@@ -50,8 +49,7 @@ impl<'a, 'e, E: Write> Program<'a, 'e, E> {
         let mut named = Vec::new(self.alloc);
         for word in words {
             let Some(file) = NamedFile::of(*word) else {
-                tell_bad_word(*word, self.asked.explain, self.errors);
-                return Err(Status::Refused);
+                return Err(self.refuse_word(*word));
             };
             if named.push(file).is_err() {
                 return Err(tell_no_memory("modsh", self.errors));

@@ -1,5 +1,6 @@
 //! Lines of the sections' texts that a refusal comes from.
 
+use modprobe_conf::JoinedLines;
 use program_frame::first_word;
 use std::alloc::{AllocError, Global};
 use text_parts::{Name, is_same, whole_lines, words};
@@ -21,20 +22,13 @@ pub(crate) fn setting_line(
     word: &[u8],
     name: &[u8],
 ) -> Result<Option<u64>, AllocError> {
-    let (mut number, mut joined) = (1u64, Vec::new(alloc));
-    let mut count = 0u64;
-    for line in whole_lines(text) {
-        count = count.saturating_add(1);
-        if let Some(front) = line.strip_suffix(b"\\") {
-            joined.extend_from_slice(front)?;
-            continue;
+    let mut lines = JoinedLines::new(text);
+    let mut buffer = Vec::new(alloc);
+    'lines: while let Some((number, line)) = lines.next_line(&mut buffer)? {
+        let line = line.text(&buffer);
+        if is_same(first_word(line), word) && is_of(alloc, line, name)? {
+            return Ok(Some(number as u64));
         }
-        joined.extend_from_slice(line)?;
-        if is_same(first_word(&joined), word) && is_of(alloc, &joined, name)? {
-            return Ok(Some(number));
-        }
-        joined.clear();
-        number = count.saturating_add(1);
     }
     Ok(None)
 }

@@ -55,13 +55,12 @@ impl Dependencies<'_> {
 impl Walk {
     /// Begins a walk at a module.
     fn new(alloc: Global, modules: usize, start: usize) -> Result<Walk, AllocError> {
-        let mut seen = Vec::new(alloc);
-        seen.resize(modules, false)?;
         let mut way = Vec::new(alloc);
         way.push(Tried {
             slot: start,
             count: 0,
         })?;
+        let seen = vec![in alloc; false; modules]?;
         Ok(Walk { way, seen, start })
     }
 
@@ -93,15 +92,6 @@ impl Walk {
         }
         Ok(Step::On)
     }
-
-    /// The modules on the way, in order.
-    fn slots(&self, alloc: Global) -> Result<Vec<usize>, AllocError> {
-        let mut slots = Vec::new(alloc);
-        for tried in &self.way {
-            slots.push(tried.slot)?;
-        }
-        Ok(slots)
-    }
 }
 
 /// The modules of a cycle from this one back to it, each of which has the next as a hard dependency; none where no cycle is
@@ -115,7 +105,7 @@ pub(crate) fn cycle_from(
     for _ in 0..MOST_STEPS {
         match walk.step(dependencies)? {
             Step::On => {}
-            Step::Back => return walk.slots(alloc),
+            Step::Back => return walk.way.iter().map(|tried| tried.slot).collect(alloc),
             Step::End => break,
         }
     }

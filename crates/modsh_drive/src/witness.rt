@@ -1,9 +1,8 @@
 //! What is kept of a session to explain it.
 ghost use Rattle.std.specs.Prelude.{◌≡◌, ◌≢◌, ◌+◌, ◌<◌, ◌^◌, ◌++◌, ◌||◌, false, true, is_err, length, min, take, Some};
 
-use crate::explain::{explain, tell_lint};
+use crate::explain::{explain, tell_answer, tell_lint};
 use crate::files::JoinedFiles;
-use crate::messages::tell_answer;
 use crate::notes::note_words;
 use crate::places::Places;
 use crate::refusals::tell_refusal;
@@ -18,13 +17,6 @@ use std::io::Write;
 /// How much of a line that is in hand at a fault is kept: what is shown, and whether it has more.
 const MOST_KEPT: usize = 64;
 
-/// The front of a line that is kept.
-fn front_of(line: &[u8]) -> &[u8]
-    ensures { result.now ≡ take (min (length line.entry.now) 64) line.entry.now }
-{
-    &line[..line.len().min(MOST_KEPT)]
-}
-
 /// What is kept to explain a session, where that is asked for, and in any case whether it began.
 #[derive(Drop)]
 pub(crate) struct Kept<'a> {
@@ -33,7 +25,7 @@ pub(crate) struct Kept<'a> {
     pub(crate) lines: u64,
     pub(crate) has_session: bool,
     pub(crate) places: Places<'a>,
-    pub(crate) texts: Option<Texts>,
+    texts: Option<Texts>,
     /// The front of the line in hand at a fault.
     pub(crate) in_hand: Vec<u8>,
     /// The notes of words that no module takes, as they are told.
@@ -45,12 +37,12 @@ pub(crate) struct Kept<'a> {
 }
 
 impl<'a> Kept<'a> {
-    fn new(alloc: Global) -> Kept<'a> {
+    fn new(alloc: Global, files: &'a JoinedFiles<'_>) -> Kept<'a> {
         Kept {
             alloc,
             lines: 0,
             has_session: false,
-            places: Places::new(alloc),
+            places: Places::new(alloc, files.files()),
             texts: None,
             in_hand: Vec::new(alloc),
             notes: Vec::new(alloc),
@@ -59,28 +51,32 @@ impl<'a> Kept<'a> {
         }
     }
 
+    /// The text of a section, as far as it was read.
+    pub(crate) fn text(&self, section: Section) -> &[u8] {
+        match &self.texts {
+            Some(texts) => texts.text(section),
+            None => b"",
+        }
+    }
+
     /// Keeps the front of a line.
     fn keep_line(&mut self, line: &[u8])
         ensures { self.new.is_short ≡ false →
             self.new.in_hand.items ≡ self.old.in_hand.items ++ take (min (length line.now) 64) line.now }
     {
-        match self.in_hand.extend_from_slice(front_of(line)) {
-            Ok(()) => {}
-            Err(_) => self.is_short = true,
-        }
+        let front = &line[..line.len().min(MOST_KEPT)];
+        let kept = self.in_hand.extend_from_slice(front);
+        self.mind(kept);
     }
 
     /// Keeps the notes of lines that are about nothing.
     fn lint(&mut self, setup: &Setup) {
-        let Some(texts) = &self.texts else {
-            return;
-        };
         let known = Known {
             catalogue: setup.catalogue(),
             aliases: setup.aliases(),
             configuration: setup.configuration(),
         };
-        match lint(self.alloc, &known, texts.text(Section::Conf)) {
+        match lint(self.alloc, &known, self.text(Section::Conf)) {
             Ok(notes) => self.about = notes,
             Err(_) => self.is_short = true,
         }
@@ -110,14 +106,9 @@ impl<'a, 'e, E: Write> Witness<'a, 'e, E> {
         files: &'a JoinedFiles<'_>,
         errors: &'e mut E,
     ) -> Witness<'a, 'e, E> {
-        let mut kept = Kept::new(alloc);
-        if explains {
-            let added = kept.places.add_files(files);
-            kept.mind(added);
-        }
         Witness {
             explains,
-            kept,
+            kept: Kept::new(alloc, files),
             errors,
         }
     }

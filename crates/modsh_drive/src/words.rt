@@ -41,10 +41,8 @@ impl<'a> NamedFile<'a> {
         ensures none { IfNone result (section_named (before_first is_equals word.entry.now) ≡ None ⊎ (position_or_len is_equals word.entry.now ≡ length word.entry.now)) }
     {
         let (name, path) = word.split_once('=')?;
-        match section_named(name.as_bytes()) {
-            Some(section) => Some(NamedFile { section, path }),
-            None => None,
-        }
+        let section = section_named(name.as_bytes())?;
+        Some(NamedFile { section, path })
     }
 }
 

@@ -1,11 +1,14 @@
 //! Reads the files that words name.
 
 use super::Program;
-use crate::files::{FilePath, paths_in};
-use crate::messages::tell_unread;
+use crate::files::paths_in;
+use crate::hints::{path_hint, word_hint};
 use crate::words::NamedFile;
 use modprobe::Section;
-use program_frame::{PathFault, Status, is_folder, tell_no_memory};
+use program_frame::{
+    PathFault, Status, is_folder, tell_hint, tell_no_memory, tell_sentence, tell_unread,
+};
+use std::borrow::CowStr;
 use std::fs::File;
 use std::io::Write;
 use std::rt::Files;
@@ -16,7 +19,21 @@ impl<'a, 'e, E: Write> Program<'a, 'e, E> {
         if why == PathFault::Memory {
             return tell_no_memory("modsh", self.errors);
         }
-        tell_unread(path, why, self.asked.explain, self.errors);
+        tell_unread("modsh", path, why, self.errors);
+        if self.asked.explain {
+            tell_sentence("The system could not read the file.", self.errors);
+            tell_hint(path_hint(path), self.errors);
+        }
+        Status::Refused
+    }
+
+    /// Tells a word that has not its form, and answers how that ends.
+    pub(super) fn refuse_word(&mut self, word: &str) -> Status {
+        let _ = writeln!(self.errors, "modsh: bad word {word}");
+        if self.asked.explain {
+            tell_sentence("An argument has none of the forms of a word.", self.errors);
+            tell_hint(Some(word_hint(word)), self.errors);
+        }
         Status::Refused
     }
 
@@ -25,7 +42,7 @@ impl<'a, 'e, E: Write> Program<'a, 'e, E> {
         &mut self,
         rt: &R,
         section: Section,
-        path: FilePath<'a>,
+        path: CowStr<'a>,
     ) -> Result<(), Status> {
         let added = match File::open(rt, path.as_str()) {
             Ok(mut file) => self.files.add(section, &mut file),
@@ -55,11 +72,10 @@ impl<'a, 'e, E: Write> Program<'a, 'e, E> {
             let _ = writeln!(self.errors, "modsh: no configuration in {folder}");
         }
         for path in paths {
-            if is_folder(rt, path.as_str()) {
-                let path = path.as_str();
+            if is_folder(rt, &path) {
                 let _ = writeln!(self.errors, "modsh: skipped the folder {path}");
             } else {
-                self.read_file(rt, section, path)?;
+                self.read_file(rt, section, CowStr::Owned(path))?;
             }
         }
         Ok(())
@@ -74,6 +90,6 @@ impl<'a, 'e, E: Write> Program<'a, 'e, E> {
         if named.section == Section::Conf && is_folder(rt, named.path) {
             return self.read_folder(rt, named.section, named.path);
         }
-        self.read_file(rt, named.section, FilePath::Word(named.path))
+        self.read_file(rt, named.section, CowStr::Borrowed(named.path))
     }
 }
