@@ -33,7 +33,7 @@ impl ManagedTable {
         ensures ends { (p : Pass) → HasLeaf self.now worker p seat.old → MatchOption result (HasLeaf self.now worker p seat.new) (λ r. LeafMadeIt self.now worker (Call.Get worker slot) (reply_of get_refusal r) p seat.new) }
     {
         let leaf = seat.slot_mut(&self.leaves.table.shared, worker);
-        let answer = leaf.try_get(&self.row, slot, TRIES)?;
+        let answer = leaf.try_get_unused(&self.row, slot, TRIES)?;
         self.leaves.put_back(seat, worker);
         Some(answer)
     }

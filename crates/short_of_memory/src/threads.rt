@@ -1,4 +1,6 @@
 //! Rows of root words, leaves, books and managers.
+ghost use Rattle.std.specs.Prelude.{◌≡◌};
+ghost use Rattle.root_row.specs.World.{slots};
 
 use crate::outcome::{Stop, needed, over, tell, tell_judged};
 use crate::sound::{sound, sound_slots};
@@ -16,6 +18,13 @@ fn is_manager((manager, readers): &(Manager, Vec<Reader>)) -> bool {
     manager.workers() == 2 && manager.slots() == 2 && readers.len() == 2
 }
 
+/// Whether a leaf of two slots holds nothing.
+fn holds_nothing(leaf: &Leaf) -> bool
+    requires { slots leaf.now.view.world ≡ 2 }
+{
+    leaf.held(0) == 0 && leaf.held(1) == 0
+}
+
 /// Whether the leaf of the last seat holds nothing.
 fn try_leaf(alloc: Global) -> Result<bool, Stop> {
     let (row, mut seats, _, _) = needed(Row::new(alloc, &sound(alloc)?, 2, 0))?;
@@ -23,7 +32,7 @@ fn try_leaf(alloc: Global) -> Result<bool, Stop> {
         return Ok(false);
     };
     let leaf = Leaf::new(alloc, seat, row.slots())?;
-    Ok(row.slots() == 2 && leaf.held(0) == 0 && leaf.held(1) == 0)
+    Ok(row.slots() == 2 && holds_nothing(&leaf))
 }
 
 /// Whether the book has two modules, of which none is loaded.

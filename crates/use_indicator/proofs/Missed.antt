@@ -1,10 +1,11 @@
 -- The tries of a get, one after another.
-use Rattle.std.proofs.Common.{◌≡◌, ℕ, ◌+◌, List, [], ◌∷◌, ◌++◌, refl, sym, ap, ◌∙◌, arith, append_assoc, append-nil, length-append, Bool, false, Option, Some, None, IfSome, IfNone}
+use Rattle.std.proofs.Common.{◌≡◌, ℕ, ◌+◌, List, [], ◌∷◌, ◌++◌, refl, sym, ap, ◌∙◌, arith, append_assoc, append-nil, length-append, Bool, true, false, inr, Option, Some, None, IfSome, IfNone}
 use Rattle.dep_index.specs.declared.table.calls.Reply.{Reply}
 use Rattle.root_row.specs.declared.view.AtomicStep.TheVariants.{Load, Exchange}
+use Rattle.root_row.specs.declared.view.AtomicStep.{AtomicStep}
 use Rattle.root_row.specs.Seats.{Seated}
 use Rattle.root_row.specs.StepsMade.{StepsMade}
-use Rattle.use_indicator.specs.Counted.{missed, last_try, FirstSteps, GivenUp, TrySteps}
+use Rattle.use_indicator.specs.Counted.{missed, last_try, guess, FirstSteps, GivenUp, TrySteps, UnusedSteps, UnusedGivenUp}
 
 missed_more : (m : ℕ) (ns ms : List ℕ) → missed m (ns ++ ms) ≡ missed m ns ++ missed m ms
 missed_more m [] ms = refl
@@ -55,6 +56,25 @@ tried_again tries m answer old mid new u t = (
   (let once = u.1 in let few = t.1 in omega (arith, length-append u.0 t.0)),
   (answered_again m answer old mid new u (t.0, t.2)).1,
 )
+
+-- steps behind a guess that was wrong
+behind_guess : (m : ℕ) (made : Bool) (more : List AtomicStep) (old mid new : Seated) → made ≡ false → StepsMade old (guess m made ∷ []) mid → StepsMade mid more new → StepsMade old (guess m false ∷ more) new
+behind_guess m made more old mid new wrong before after =
+    after ∙ ap (λ l. l ++ more) before ∙ append_assoc old.steps (guess m made ∷ []) more ∙ ap (λ b. old.steps ++ (guess m b ∷ more)) wrong
+
+pub guessed_in_vain : (tries m : ℕ) (made : Bool) (old mid new : Seated) → made ≡ false → StepsMade old (guess m made ∷ []) mid → GivenUp tries m mid new → UnusedGivenUp tries m old new
+guessed_in_vain tries m made old mid new wrong before t = (true, t.0, t.1, behind_guess m made (missed m t.0) old mid new wrong before t.2)
+
+pub guessed_wrong : (tries m : ℕ) (answer : Reply) (made : Bool) (old mid new : Seated) → made ≡ false → StepsMade old (guess m made ∷ []) mid → TrySteps tries m 0 answer mid new → UnusedSteps tries m 0 answer old new
+guessed_wrong tries m answer made old mid new wrong before t =
+    inr (true, t.0, t.1, t.2.0, behind_guess m made (missed m t.0 ++ last_try m t.2.0 answer) old mid new wrong before t.2.1)
+
+-- tries without a guess
+pub unguessed_in_vain : (tries m : ℕ) (old new : Seated) → GivenUp tries m old new → UnusedGivenUp tries m old new
+unguessed_in_vain tries m old new t = (false, t.0, t.1, t.2)
+
+pub unguessed : (tries m : ℕ) (answer : Reply) (old new : Seated) → TrySteps tries m 0 answer old new → UnusedSteps tries m 0 answer old new
+unguessed tries m answer old new t = inr (false, t.0, t.1, t.2.0, t.2.1)
 
 pub none_more : {T : Type 0} (o : Option T) (P Q : Type 0) → (P → Q) → IfNone o P → IfNone o Q
 none_more None P Q f p = f p

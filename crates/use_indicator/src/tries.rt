@@ -1,4 +1,5 @@
 //! How a leaf takes its first reference to a slot: a look and an exchange, and again after a short, growing pause.
+//! If it guesses that nobody holds the slot, an exchange without a look comes first.
 use crate::leaf::Leaf;
 use dep_index::GetError;
 use dep_index::words::CLOSED;
@@ -33,7 +34,7 @@ impl Leaf {
     ghost use Rattle.root_row.specs.Views.{count_of};
     ghost use Rattle.root_row.specs.Steps.{LeafAnswered};
     ghost use Rattle.root_row.specs.StepsMade.{SameView};
-    ghost use Rattle.use_indicator.specs.Counted.{FirstSteps, TrySteps, GivenUp};
+    ghost use Rattle.use_indicator.specs.Counted.{FirstSteps, TrySteps, GivenUp, UnusedSteps, UnusedGivenUp};
 
     // The worker does not hold the slot yet: one look and one exchange. None: the exchange was missed.
     fn attempt(&mut self, row: &Row, slot: usize) -> Option<Result<(), GetError>>
@@ -46,6 +47,7 @@ impl Leaf {
         ensures steps { IfSome result (λ r. FirstSteps slot [] (reply_of get_refusal r) self.old self.new) }
     {
         let word = row.look(&mut self.seat, slot, LeafCall::Get);
+        **self.found_unused = word == 0;
         if word >= CLOSED {
             return Some(Err(GetError::NotLive));
         }
@@ -117,6 +119,32 @@ impl Leaf {
             Some(answer) => Some(answer),
             None => self.try_again(row, slot, tries - 1),
         }
+    }
+
+    // A guess that nobody holds the slot, if it is likely, and if it is wrong, tries.
+    #[inline]
+    pub(crate) fn guess_first(
+        &mut self,
+        row: &Row,
+        slot: usize,
+        tries: u32,
+    ) -> Option<Result<(), GetError>>
+        requires own { IsOf row.now self.old }
+        requires inside { slot < slots row.now.world }
+        requires none_held { count_of self.old.view slot ≡ 0 }
+        ensures own { IsOf row.now self.new }
+        ensures call { IfSome result (λ r. LeafAnswered self.old.view slot LeafCall.Get (reply_of get_refusal r) self.new.view) }
+        ensures missed { IfNone result (SameView self.old self.new × UnusedGivenUp tries slot self.old self.new) }
+        ensures steps { IfSome result (λ r. UnusedSteps tries slot 0 (reply_of get_refusal r) self.old self.new) }
+    {
+        if !**self.found_unused {
+            return self.try_first(row, slot, tries);
+        }
+        if row.try_arrive(&mut self.seat, slot, 0) {
+            self.counts[slot] = 1;
+            return Some(Ok(()));
+        }
+        self.try_first(row, slot, tries)
     }
 
     // A try was missed: so many others may follow.

@@ -19,6 +19,7 @@ mod one_thread;
 mod owned;
 pub(crate) mod steps;
 pub(crate) mod threads;
+mod unused;
 mod words;
 
 /// Whether the first of two modules needs nothing and may be removed.
