@@ -69,13 +69,6 @@ pub guessed_wrong : (tries m : ℕ) (answer : Reply) (made : Bool) (old mid new 
 guessed_wrong tries m answer made old mid new wrong before t =
     inr (true, t.0, t.1, t.2.0, behind_guess m made (missed m t.0 ++ last_try m t.2.0 answer) old mid new wrong before t.2.1)
 
--- tries without a guess
-pub unguessed_in_vain : (tries m : ℕ) (old new : Seated) → GivenUp tries m old new → UnusedGivenUp tries m old new
-unguessed_in_vain tries m old new t = (false, t.0, t.1, t.2)
-
-pub unguessed : (tries m : ℕ) (answer : Reply) (old new : Seated) → TrySteps tries m 0 answer old new → UnusedSteps tries m 0 answer old new
-unguessed tries m answer old new t = inr (false, t.0, t.1, t.2.0, t.2.1)
-
 pub none_more : {T : Type 0} (o : Option T) (P Q : Type 0) → (P → Q) → IfNone o P → IfNone o Q
 none_more None P Q f p = f p
 none_more (Some x) P Q f p = tt
