@@ -5,16 +5,16 @@ use crate::notes::{note_about, note_idle};
 use crate::places::Place;
 use crate::witness::Kept;
 use modprobe::{RunFault, Section, ServeFault, SetupCode, SetupFault};
-use program_frame::{Shown, tell_hint, tell_sentence};
+use program_frame::{Shown, catalogue_faults, tell_hint, tell_sentence};
 use std::alloc::AllocError;
 use std::io::Write;
 
 fn setup_sentence(code: SetupCode) -> &'static str {
     match code {
-        SetupCode::C1 => "A line has no form of a catalogue line, or stands where it may not.",
-        SetupCode::C2 => "A module of this name stands already.",
-        SetupCode::C3 => "A symbol is exported already, by this module or another one.",
-        SetupCode::C4 => "There is one module more than the limit of 256, 1,024 or 65,535.",
+        SetupCode::C1 => catalogue_faults::NO_LINE,
+        SetupCode::C2 => catalogue_faults::SECOND_MODULE,
+        SetupCode::C3 => catalogue_faults::SECOND_EXPORT,
+        SetupCode::C4 => catalogue_faults::TOO_MANY,
         SetupCode::M1 => "A line of modules.dep has no colon.",
         SetupCode::M2 => "A path of modules.dep has an empty name.",
         SetupCode::M3 => "A name has a line in modules.dep already.",

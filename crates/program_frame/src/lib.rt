@@ -2,6 +2,7 @@
 #![tactic(auto)]
 
 mod arguments;
+pub mod catalogue_faults;
 mod folder;
 mod line;
 mod path;

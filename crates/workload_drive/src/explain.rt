@@ -4,7 +4,7 @@ use crate::fault::{LineCode, LineFault, ScheduleFault};
 use crate::schedule::{Order, order_of};
 use crate::script::WorkFault;
 use crate::statement::{Statement, marked, read_parts};
-use program_frame::{Shown, first_word, tell_hint, tell_sentence};
+use program_frame::{Shown, catalogue_faults, first_word, tell_hint, tell_sentence};
 use std::alloc::Global;
 use std::io::Write;
 use step_core::StepError;
@@ -12,10 +12,10 @@ use text_parts::{is_same, whole_lines};
 
 fn line_sentence(code: LineCode) -> &'static str {
     match code {
-        LineCode::C1 => "A line has no form of a catalogue line, or stands where it may not.",
-        LineCode::C2 => "A module of this name stands already.",
-        LineCode::C3 => "A symbol is exported already, by this module or another one.",
-        LineCode::C4 => "There is one module more than the limit of 256, 1,024 or 65,535.",
+        LineCode::C1 => catalogue_faults::NO_LINE,
+        LineCode::C2 => catalogue_faults::SECOND_MODULE,
+        LineCode::C3 => catalogue_faults::SECOND_EXPORT,
+        LineCode::C4 => catalogue_faults::TOO_MANY,
         LineCode::H1 =>
             "A line has no form, or another line should stand there, or a number is out of its range.",
         LineCode::H2 => "The module is not in the catalogue.",
