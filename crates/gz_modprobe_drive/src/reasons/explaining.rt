@@ -27,13 +27,15 @@ impl Told<'_> {
     fn begin_load(&mut self, tasks: &mut Tasks, object: &Object) -> Result<(), AllocError> {
         let is_dry = self.known.query.ask == Ask::DryRun;
         if is_dry && (object.builtin || self.known.is_in_kernel(&object.name)) {
-            return self.tell_in_kernel(&object.name, b", so nothing is loaded");
+            self.tell_in_kernel(&object.name, b", so nothing is loaded");
+            return Ok(());
         }
         if self.known.is_barred(object) {
-            return self.tell_blacklist(&object.name, b", so it is not loaded");
+            self.tell_blacklist(&object.name, b", so it is not loaded");
+            return Ok(());
         }
         let why = b", which does not hold for its own name without -b";
-        self.tell_blacklist(&object.name, why)?;
+        self.tell_blacklist(&object.name, why);
         tasks.add(self.alloc, object)
     }
 
@@ -41,7 +43,8 @@ impl Told<'_> {
     fn begin_removal(&mut self, tasks: &mut Tasks, object: &Object) -> Result<(), AllocError> {
         let is_there = self.known.world.states.of(&object.name).is_some();
         if self.known.query.ask == Ask::Remove && !is_there {
-            return self.tell_state(&object.name, b"not loaded", b"");
+            self.tell_state(&object.name, b"not loaded", b"");
+            return Ok(());
         }
         tasks.add(self.alloc, object)
     }
@@ -113,7 +116,8 @@ impl Told<'_> {
         if self.known.query.ask == Ask::ShowConfig {
             self.tell_idle()?;
         }
-        self.say_hidden()
+        self.say_hidden();
+        Ok(())
     }
 }
 
@@ -136,7 +140,7 @@ fn explained<'a>(
     };
     let mut told = Told::new(alloc, known, *sources);
     told.tell_all()?;
-    Ok(told.into_lines())
+    told.into_lines()
 }
 
 /// Why a query of a world is answered as it is, in lines for people. Control characters of names and texts are shown as

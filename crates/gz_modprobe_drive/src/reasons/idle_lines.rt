@@ -20,32 +20,25 @@ impl Told<'_> {
         Ok(!matches!(finding, Finding::Nothing))
     }
 
-    fn tell_idle_aliases(&mut self, lines: &[AliasEntry]) -> Result<(), AllocError> {
+    fn tell_idle_aliases(&mut self, lines: &[AliasEntry]) {
         for line in lines {
             let target = line.target.as_bytes();
             if !self.known.is_module(target) {
                 let what = Saying::with_name(b"alias of ", target);
                 let what = what.and(b", but no module has that name", b"");
-                self.say_of(line.pattern.as_bytes(), what, line.place)?;
+                self.say_of(line.pattern.as_bytes(), what, line.place);
             }
         }
-        Ok(())
     }
 
-    /// Tells the lines whose name no module has, but for patterns where the names of lines may be some.
-    fn tell_idle_names(
-        &mut self,
-        lines: &[Head<'_>],
-        has_patterns: bool,
-        what: Saying<'_>,
-    ) -> Result<(), AllocError> {
+    /// Tells the lines whose name no module has. If `has_patterns`, a name that is a pattern is skipped.
+    fn tell_idle_names(&mut self, lines: &[Head<'_>], has_patterns: bool, what: Saying<'_>) {
         for line in lines {
             let passes = has_patterns && is_pattern(line.name);
             if !passes && !self.known.is_module(line.name) {
-                self.say_of(line.name, what, line.place)?;
+                self.say_of(line.name, what, line.place);
             }
         }
-        Ok(())
     }
 
     fn tell_idle_options(&mut self, lines: &[TextLine]) -> Result<(), AllocError> {
@@ -53,20 +46,19 @@ impl Told<'_> {
             let name = line.name.as_bytes();
             if !self.is_known(name)? {
                 let what = Saying::of(b"options, but no module or alias has this name");
-                self.say_of(name, what, line.place)?;
+                self.say_of(name, what, line.place);
             }
         }
         Ok(())
     }
 
     /// Tells lines of a kind whose name an earlier one has.
-    fn tell_later_lines(&mut self, kind: &[u8], lines: &Heads<'_>) -> Result<(), AllocError> {
+    fn tell_later_lines(&mut self, kind: &[u8], lines: &Heads<'_>) {
         for (number, line) in lines.all().iter().enumerate() {
             if !lines.is_first(number, line.name) {
-                self.say_of(line.name, Saying::with_name(kind, LATER), line.place)?;
+                self.say_of(line.name, Saying::with_name(kind, LATER), line.place);
             }
         }
-        Ok(())
     }
 
     /// Tells the lines of the configuration that have no effect.
@@ -74,13 +66,14 @@ impl Told<'_> {
         let conf = self.known.world.conf;
         let named = self.known.named;
         let what = Saying::of(b"blacklisted, but no module has this name");
-        self.tell_idle_names(named.blacklist.all(), false, what)?;
-        self.tell_idle_aliases(conf.aliases())?;
+        self.tell_idle_names(named.blacklist.all(), false, what);
+        self.tell_idle_aliases(conf.aliases());
         self.tell_idle_options(conf.options())?;
         let what = Saying::of(b"softdep, but no module has this name");
-        self.tell_idle_names(named.softdeps.all(), true, what)?;
-        self.tell_later_lines(b"install", &named.installs)?;
-        self.tell_later_lines(b"remove", &named.removes)?;
-        self.tell_later_lines(b"softdep", &named.softdeps)
+        self.tell_idle_names(named.softdeps.all(), true, what);
+        self.tell_later_lines(b"install", &named.installs);
+        self.tell_later_lines(b"remove", &named.removes);
+        self.tell_later_lines(b"softdep", &named.softdeps);
+        Ok(())
     }
 }

@@ -1,5 +1,5 @@
 //! Lines for people: of whom, what, and where it stands.
-ghost use Rattle.std.specs.Prelude.{◌≡◌, true};
+ghost use Rattle.std.specs.Prelude.{◌≡◌, IfOk, true};
 ghost use Rattle.std.specs.List.{list_all};
 ghost use Rattle.gz_modprobe_drive.specs.Told.{is_shown};
 
@@ -69,7 +69,7 @@ pub(crate) struct Told<'a> {
 }
 
 impl<'a> Told<'a> {
-    /// No lines yet; the sources are the texts of the configuration that places count.
+    /// No lines yet. `sources` says in which files lines stand.
     pub(crate) fn new(alloc: Global, known: Known<'a>, sources: Sources<'a>) -> Told<'a> {
         Told {
             alloc,
@@ -80,48 +80,41 @@ impl<'a> Told<'a> {
         }
     }
 
-    pub(crate) fn into_lines(self) -> Vec<u8>
-        ensures { list_all is_shown result.items ≡ true }
+    /// All that was told. It fails only if memory ran out before.
+    pub(crate) fn into_lines(self) -> Result<Vec<u8>, AllocError>
+        ensures { IfOk result (λ lines. list_all is_shown lines.items ≡ true) }
     {
         self.lines.into_bytes()
     }
 
     /// Adds a file and a number of it.
-    fn push_number(&mut self, file: &[u8], unit: &[u8], number: usize) -> Result<(), AllocError> {
-        let text = format!(in self.alloc; "{number}")?;
-        self.lines.push(&[b" (", file, unit, text.as_bytes(), b")"])
+    fn push_number(&mut self, file: &[u8], unit: &[u8], number: usize) {
+        match format!(in self.alloc; "{number}") {
+            Ok(text) => self.lines.push(&[b" (", file, unit, text.as_bytes(), b")"]),
+            Err(_) => self.lines.cut(),
+        }
     }
 
-    fn push_spot(&mut self, spot: Spot<'_>) -> Result<(), AllocError> {
+    fn push_spot(&mut self, spot: Spot<'_>) {
         match spot {
             Spot::Line(file, number) => self.push_number(file, b" line ", number),
             Spot::Entry(file, number) => self.push_number(file, b" entry ", number),
             Spot::Whole(file) => self.lines.push(&[b" (", file, b")"]),
-            Spot::Nowhere => Ok(()),
+            Spot::Nowhere => {}
         }
     }
 
     /// Adds a line: of whom, what is said, and where that stands.
-    pub(crate) fn say(
-        &mut self,
-        whom: &[u8],
-        what: Saying<'_>,
-        spot: Spot<'_>,
-    ) -> Result<(), AllocError> {
-        self.lines.push(&[whom, b": ", what.words, what.name, what.more, what.text])?;
-        self.push_spot(spot)?;
-        self.lines.end_line()
+    pub(crate) fn say(&mut self, whom: &[u8], what: Saying<'_>, spot: Spot<'_>) {
+        self.lines.push(&[whom, b": ", what.words, what.name, what.more, what.text]);
+        self.push_spot(spot);
+        self.lines.end_line();
     }
 
     /// Adds a line of what stands in the configuration.
-    pub(crate) fn say_of(
-        &mut self,
-        whom: &[u8],
-        what: Saying<'_>,
-        place: Place,
-    ) -> Result<(), AllocError> {
+    pub(crate) fn say_of(&mut self, whom: &[u8], what: Saying<'_>, place: Place) {
         let path = self.sources.path(place.source);
-        self.say(whom, what, Spot::Line(path, place.line))
+        self.say(whom, what, Spot::Line(path, place.line));
     }
 
     /// Adds a line for each line of a name, but for the one that counts.
@@ -132,22 +125,20 @@ impl<'a> Told<'a> {
         lines: &Heads<'_>,
         name: &[u8],
         counting: Option<Place>,
-    ) -> Result<(), AllocError> {
+    ) {
         for number in lines.numbers(name) {
             match lines.place(*number) {
-                Some(place) if counting != Some(place) => self.say_of(whom, what, place)?,
+                Some(place) if counting != Some(place) => self.say_of(whom, what, place),
                 _ => {}
             }
         }
-        Ok(())
     }
 
     /// Tells the files of the configuration that are hidden by others of their names.
-    pub(crate) fn say_hidden(&mut self) -> Result<(), AllocError> {
+    pub(crate) fn say_hidden(&mut self) {
         for file in self.sources.hidden {
             let what = Saying::of(b"not read, since a file of its name comes first");
-            self.say(&file.path, what, Spot::Whole(&file.by))?;
+            self.say(&file.path, what, Spot::Whole(&file.by));
         }
-        Ok(())
     }
 }

@@ -17,30 +17,25 @@ pub(crate) const LATER: &[u8] = b" line does not count, since another comes firs
 
 impl Told<'_> {
     /// Tells what /sys/module says of a module, and what follows.
-    pub(crate) fn tell_state(
-        &mut self,
-        name: &[u8],
-        state: &[u8],
-        why: &[u8],
-    ) -> Result<(), AllocError> {
+    pub(crate) fn tell_state(&mut self, name: &[u8], state: &[u8], why: &[u8]) {
         let what = Saying::with_name(state, why);
-        self.say(name, what, Spot::Whole(MODULES))
+        self.say(name, what, Spot::Whole(MODULES));
     }
 
     /// Tells that the kernel has a module, and what follows.
-    pub(crate) fn tell_in_kernel(&mut self, name: &[u8], why: &[u8]) -> Result<(), AllocError> {
+    pub(crate) fn tell_in_kernel(&mut self, name: &[u8], why: &[u8]) {
         if self.known.is_live(name) {
-            self.tell_state(name, b"loaded already", why)
+            self.tell_state(name, b"loaded already", why);
         } else {
-            self.tell_built_in(name, name, why)
+            self.tell_built_in(name, name, why);
         }
     }
 
     /// Tells the blacklist lines of a module.
-    pub(crate) fn tell_blacklist(&mut self, name: &[u8], why: &[u8]) -> Result<(), AllocError> {
+    pub(crate) fn tell_blacklist(&mut self, name: &[u8], why: &[u8]) {
         let named = self.known.named;
         let what = Saying::with_name(b"blacklisted", why);
-        self.say_of_each(name, what, &named.blacklist, name, None)
+        self.say_of_each(name, what, &named.blacklist, name, None);
     }
 
     /// Tells a module that another one needs.
@@ -52,7 +47,7 @@ impl Told<'_> {
         number: usize,
     ) -> Result<(), AllocError> {
         let what = Saying::with_name(b"needed by ", name);
-        self.say(need, what, Spot::Line(DEPENDENCIES, number))?;
+        self.say(need, what, Spot::Line(DEPENDENCIES, number));
         tasks.add_need(self.alloc, need)
     }
 
@@ -80,7 +75,7 @@ impl Told<'_> {
             } else {
                 what.and(b", of the alias ", own)
             };
-            self.say_of(name, what, line.place)?;
+            self.say_of(name, what, line.place);
         }
         Ok(())
     }
@@ -94,16 +89,13 @@ impl Told<'_> {
         line: Option<&TextLine>,
         lines: &Heads<'_>,
         why: &[u8],
-    ) -> Result<(), AllocError> {
-        let counting = match line {
-            Some(line) => {
-                let what = Saying::with_name(kind, b" ").and(line.text.as_bytes(), why);
-                self.say_of(name, what, line.place)?;
-                Some(line.place)
-            }
-            None => None,
-        };
-        self.say_of_each(name, Saying::with_name(kind, LATER), lines, name, counting)
+    ) {
+        if let Some(line) = line {
+            let what = Saying::with_name(kind, b" ").and(line.text.as_bytes(), why);
+            self.say_of(name, what, line.place);
+        }
+        let counting = line.map(|line| line.place);
+        self.say_of_each(name, Saying::with_name(kind, LATER), lines, name, counting);
     }
 
     /// Tells why a word of a softdep line stands for modules, once. Whether it stands for any is answered.
@@ -127,7 +119,7 @@ impl Told<'_> {
         let mut found = false;
         for word in words {
             let what = Saying::with_name(when, name);
-            self.say_of(word.as_bytes(), what, place)?;
+            self.say_of(word.as_bytes(), what, place);
             found = self.tell_soft(tasks, word.as_bytes())? || found;
         }
         Ok(found)
@@ -144,7 +136,7 @@ impl Told<'_> {
         let after = self.tell_items(tasks, name, b"softdep after ", items.post(), place)?;
         let named = self.known.named;
         let what = Saying::with_name(b"softdep", LATER);
-        self.say_of_each(name, what, &named.softdeps, name, Some(place))?;
+        self.say_of_each(name, what, &named.softdeps, name, Some(place));
         Ok(before || after)
     }
 
@@ -158,7 +150,8 @@ impl Told<'_> {
     ) -> Result<(), AllocError> {
         let has_items = !is_bare && self.tell_softdep(tasks, name)?;
         if self.known.query.ask == Ask::DryRun && self.known.is_in_kernel(name) {
-            return self.tell_in_kernel(name, b"");
+            self.tell_in_kernel(name, b"");
+            return Ok(());
         }
         self.tell_options(name, alias)?;
         let why: &[u8] = match (is_bare, has_items) {
@@ -168,7 +161,8 @@ impl Told<'_> {
         };
         let named = self.known.named;
         let line = install_line(self.alloc, &self.known.world, name, alias)?;
-        self.tell_commands(name, b"install", line, &named.installs, why)
+        self.tell_commands(name, b"install", line, &named.installs, why);
+        Ok(())
     }
 
     /// Tells how many use a module.
@@ -176,8 +170,8 @@ impl Told<'_> {
         match status.users {
             Some(users) if users > 0 => {
                 let number = format!(in self.alloc; "{users}")?;
-                let what = Saying::with_name(b"its count of users is ", number.as_bytes());
-                self.say(name, what, Spot::Whole(MODULES))
+                self.tell_state(name, b"its count of users is ", number.as_bytes());
+                Ok(())
             }
             _ => Ok(()),
         }
@@ -200,7 +194,8 @@ impl Told<'_> {
         let why: &[u8] = if is_bare { b", passed over by -i" } else { b"" };
         let named = self.known.named;
         let line = remove_line(self.alloc, &self.known.world, name, alias)?;
-        self.tell_commands(name, b"remove", line, &named.removes, why)
+        self.tell_commands(name, b"remove", line, &named.removes, why);
+        Ok(())
     }
 
     /// Tells the lines of a module that count, and those of its name that do not.

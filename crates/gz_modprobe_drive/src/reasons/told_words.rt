@@ -36,67 +36,49 @@ fn alias_of<'a>(is_built_in: bool, line: &'a IndexLine) -> (Saying<'a>, Spot<'st
 }
 
 impl Told<'_> {
-    fn tell_configured(&mut self, word: &[u8], entries: &[&AliasEntry]) -> Result<(), AllocError> {
+    fn tell_configured(&mut self, word: &[u8], entries: &[&AliasEntry]) {
         for entry in entries {
             let pattern = entry.pattern.as_bytes();
             let what = Saying::with_name(b"alias of ", entry.target.as_bytes());
-            self.say_of(word, what.and(b", as ", pattern), entry.place)?;
+            self.say_of(word, what.and(b", as ", pattern), entry.place);
         }
-        Ok(())
     }
 
-    fn tell_exported(&mut self, word: &[u8], lines: &[&IndexLine]) -> Result<(), AllocError> {
+    fn tell_exported(&mut self, word: &[u8], lines: &[&IndexLine]) {
         for line in lines {
             let what = Saying::with_name(b"exported by ", line.name());
-            self.say(word, what, Spot::Line(SYMBOLS, line.number()))?;
+            self.say(word, what, Spot::Line(SYMBOLS, line.number()));
         }
-        Ok(())
     }
 
     /// Tells the aliases of modules, or those of modules that are built in.
-    fn tell_aliased(
-        &mut self,
-        word: &[u8],
-        is_built_in: bool,
-        lines: &[&IndexLine],
-    ) -> Result<(), AllocError> {
+    fn tell_aliased(&mut self, word: &[u8], is_built_in: bool, lines: &[&IndexLine]) {
         for line in lines {
             let (what, spot) = alias_of(is_built_in, line);
-            self.say(word, what.and(b", as ", line.key()), spot)?;
+            self.say(word, what.and(b", as ", line.key()), spot);
         }
-        Ok(())
     }
 
     /// Tells the lines of commands of this very name.
-    fn tell_commanded(&mut self, word: &[u8], name: &[u8]) -> Result<(), AllocError> {
+    fn tell_commanded(&mut self, word: &[u8], name: &[u8]) {
         let named = self.known.named;
         let what = Saying::of(b"name of an install line");
-        self.say_of_each(word, what, &named.installs, name, None)?;
+        self.say_of_each(word, what, &named.installs, name, None);
         let what = Saying::of(b"name of a remove line");
-        self.say_of_each(word, what, &named.removes, name, None)
+        self.say_of_each(word, what, &named.removes, name, None);
     }
 
     /// Tells the line of a module that is built in.
-    pub(crate) fn tell_built_in(
-        &mut self,
-        word: &[u8],
-        name: &[u8],
-        why: &[u8],
-    ) -> Result<(), AllocError> {
+    pub(crate) fn tell_built_in(&mut self, word: &[u8], name: &[u8], why: &[u8]) {
         let spot = match self.known.named.builtins.of(name).first() {
             Some(number) => Spot::Line(BUILTIN, *number),
             None => Spot::Nowhere,
         };
-        self.say(word, Saying::with_name(b"built in", why), spot)
+        self.say(word, Saying::with_name(b"built in", why), spot);
     }
 
     /// Tells why a word, whose normal form is a name, stands for modules, or that it stands for none.
-    fn tell_finding(
-        &mut self,
-        word: &[u8],
-        name: &[u8],
-        finding: &Finding<'_>,
-    ) -> Result<(), AllocError> {
+    fn tell_finding(&mut self, word: &[u8], name: &[u8], finding: &Finding<'_>) {
         match finding {
             Finding::Configured(entries) => self.tell_configured(word, entries),
             Finding::Module(line) => {
@@ -119,15 +101,15 @@ impl Told<'_> {
     pub(crate) fn tell_word(&mut self, word: &[u8]) -> Result<Vec<Object>, AllocError> {
         let Some(name) = normal_alias(self.alloc, word)? else {
             let what = Saying::of(b"no name, since a bracket stands alone");
-            self.say(word, what, Spot::Nowhere)?;
+            self.say(word, what, Spot::Nowhere);
             return Ok(Vec::new(self.alloc));
         };
         let finding = find_name(self.alloc, &self.known.world, name.as_bytes())?;
-        self.tell_finding(word, name.as_bytes(), &finding)?;
+        self.tell_finding(word, name.as_bytes(), &finding);
         finding.objects(self.alloc, name.as_bytes())
     }
 
-    /// Tells modules whose names are near a file's or another name.
+    /// Tells at most `NEAR_NAMES` modules whose names are `name` or near it.
     fn tell_near_names(&mut self, word: &[u8], name: &[u8]) -> Result<(), AllocError> {
         let index = self.known.world.index;
         let mut left = NEAR_NAMES;
@@ -136,7 +118,7 @@ impl Told<'_> {
             let own = own.as_bytes();
             if left > 0 && (is_same(own, name) || is_near(own, name)) {
                 let spot = Spot::Line(DEPENDENCIES, line.number());
-                self.say(word, Saying::with_name(b"there is ", own), spot)?;
+                self.say(word, Saying::with_name(b"there is ", own), spot);
                 left -= 1;
             }
         }
