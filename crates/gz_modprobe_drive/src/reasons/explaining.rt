@@ -8,7 +8,7 @@ use crate::reasons::named_lines::NamedLines;
 use crate::reasons::sources::Sources;
 use crate::reasons::tasks::{Task, Tasks};
 use crate::reasons::told::Told;
-use kmod_query::{Ask, Object, Query, World};
+use kmod_query::{Ask, Object, Query, World, remove_line};
 use std::alloc::{AllocError, Global};
 
 /// How many words of a query are names.
@@ -39,11 +39,29 @@ impl Told<'_> {
         tasks.add(self.alloc, object)
     }
 
+    /// Whether it counts what the kernel has of a module that is to be removed: not if a remove line has its command.
+    fn counts_state(&self, object: &Object) -> Result<bool, AllocError> {
+        let query = &self.known.query;
+        if query.ask != Ask::Remove || query.ignore_commands {
+            return Ok(query.ask == Ask::Remove);
+        }
+        let alias = object.alias.as_deref();
+        let line = remove_line(self.alloc, &self.known.world, &object.name, alias)?;
+        Ok(line.is_none())
+    }
+
     /// Begins with a module that is to be removed.
     fn begin_removal(&mut self, tasks: &mut Tasks, object: &Object) -> Result<(), AllocError> {
-        let is_there = self.known.world.states.of(&object.name).is_some();
-        if self.known.query.ask == Ask::Remove && !is_there {
-            self.tell_state(&object.name, b"not loaded", b"");
+        let name = object.name.as_slice();
+        if !self.counts_state(object)? {
+            return tasks.add(self.alloc, object);
+        }
+        if object.builtin || self.known.world.index.is_builtin(name) {
+            self.tell_built_in(name, name, b", so it is not removed");
+            return Ok(());
+        }
+        if !self.known.is_there(name) {
+            self.tell_state(name, b"not loaded", b"");
             return Ok(());
         }
         tasks.add(self.alloc, object)

@@ -16,6 +16,11 @@ impl Known<'_> {
         matches!(self.world.states.of(name), Some(status) if status.state == ModuleState::Live)
     }
 
+    /// Whether /sys/module has a module.
+    pub(crate) fn is_there(&self, name: &[u8]) -> bool {
+        matches!(self.world.states.of(name), Some(status) if status.state != ModuleState::Other)
+    }
+
     /// Whether the kernel has a module now.
     pub(crate) fn is_in_kernel(&self, name: &[u8]) -> bool {
         self.world.index.is_builtin(name) || self.is_live(name)
