@@ -11,6 +11,6 @@ mod text;
 pub use alias_table::{AliasEntry, AliasTable};
 pub use key_places::KeyPlaces;
 pub use names::{name_of_path, normal_alias};
-pub use pattern_list::{PatternList, matches_pattern};
+pub use pattern_list::PatternList;
 pub use place::Place;
 pub use text::Text;

@@ -4,7 +4,7 @@ ghost use Rattle.std.specs.List.{filter_map, list_any};
 ghost use Rattle.std.specs.Result.{result_ok};
 ghost use Rattle.std.specs.Str.{bytes_eq};
 ghost use Rattle.alias_match.specs.Reading.{pattern_of};
-ghost use Rattle.kmod_names.specs.Patterns.{IsReadAs, MatchesNothing, first_pattern, matches_pattern, pattern_places, place_named};
+ghost use Rattle.kmod_names.specs.Patterns.{IsReadAs, MatchesNothing, first_pattern, pattern_places, place_named};
 ghost use Rattle.kmod_names.specs.ForProofs.{is_literal, is_special};
 
 use crate::key_places::{KeyPlaces, merged};
@@ -14,8 +14,9 @@ use std::alloc::{AllocError, Global};
 use std::marker::Model;
 use text_parts::is_same;
 
-/// Patterns in order, given as their texts. Those that match a text are found fast: literal ones by a hash, the others by
-/// their beginnings. A pattern that cannot be read is kept, and matches nothing. Contracts see the list of the texts.
+/// Patterns in order, given as their texts. Those that match a text are found fast: literal ones by a hash of the whole text,
+/// the others by eight of their bytes (`AliasList`). A pattern that cannot be read is kept, and matches nothing. Contracts see
+/// the list of the texts.
 pub struct PatternList {
     patterns: Vec<Text>,
     literals: KeyPlaces,
@@ -111,15 +112,6 @@ fn alias_for(alloc: Global, pattern: &[u8]) -> Result<Alias, AllocError>
         Some(alias) => Ok(alias),
         None => no_match(alloc),
     }
-}
-
-/// Whether the text matches the pattern, a text too; false where the pattern cannot be read (fnmatch(3)). It fails
-/// only if memory runs out.
-pub fn matches_pattern(alloc: Global, pattern: &[u8], text: &[u8]) -> Result<bool, AllocError>
-    ensures { IfOk result (λ matches. matches ≡ matches_pattern pattern.now text.now) }
-{
-    let alias = alias_for(alloc, pattern)?;
-    Ok(alias.pattern.matches(text))
 }
 
 impl PatternList {
