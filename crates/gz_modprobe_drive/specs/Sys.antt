@@ -18,12 +18,12 @@ abbrev pub begins_with_space : List ℕ → Bool
 begins_with_space [] = false
 begins_with_space (byte ∷ rest) = is_space byte
 
--- the digits at the beginning, where white space follows them
+-- the number that one to ten digits at the beginning are, where white space follows them
 abbrev pub number_of : List ℕ → Option ℕ
 number_of text =
     if begins_with_space (drop (prefix_len is_digit text) text)
     then number_within 18446744073709551615 (take (prefix_len is_digit text) text) else None
 
--- the number that a text of `refcnt` tells, as strtol(3) reads it: white space, decimal digits, white space
+-- the number that a text of `refcnt` tells: white space or nothing, one to ten digits, white space. strtol(3) takes more
 abbrev pub count_of : List ℕ → Option ℕ
 count_of text = number_of (behind_spaces text)

@@ -43,7 +43,7 @@ fn begins_with_space(text: &[u8]) -> bool
     matches!(text.first(), Some(byte) if is_space(*byte))
 }
 
-/// The digits at the beginning, where white space follows them.
+/// The number that one to ten digits at the beginning are, where white space follows them.
 fn number_of(text: &[u8]) -> Option<u64>
     ensures { result ≡ number_of text.now }
 {
@@ -55,7 +55,7 @@ fn number_of(text: &[u8]) -> Option<u64>
     }
 }
 
-/// The number that a text of `refcnt` tells, of at most ten digits, as the kernel writes an `int`.
+/// The number that a text of `refcnt` tells: one to ten digits, enough for the kernel's `int`, and white space after them.
 fn count_of(text: &[u8]) -> Option<u64>
     ensures { result ≡ count_of text.now }
 {

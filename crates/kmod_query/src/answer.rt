@@ -6,14 +6,15 @@ use std::alloc::{AllocError, Global};
 use std::marker::Model;
 
 /// Why a name was not answered, with the name that a message tells. Messages are a FATAL, or a WARNING under `--all`,
-/// but for `AlreadyLoaded`, which is an ERROR. A word that is no name has no message under `Ask::Remove`.
+/// but for `AlreadyLoaded`, which is an ERROR. A word that is no name fails without a message under `Ask::Remove` and
+/// `Ask::ShowRemoval`.
 #[derive(Drop)]
 pub enum Failure {
     /// `Module NAME not found in directory DIRECTORY`: the word as it was given.
     NotFound(Text),
     /// `could not insert 'NAME': Module already in kernel`: the module.
     AlreadyLoaded(Text),
-    /// `Module NAME not found.`: the word as it was given, under `Ask::Remove`.
+    /// `Module NAME not found.`: the word as it was given, under `Ask::Remove` and `Ask::ShowRemoval`.
     NothingToRemove(Text),
     /// `Module NAME is not in kernel.`: the module, under `Ask::Remove`.
     NotInKernel(Text),

@@ -11,7 +11,8 @@ pub enum Ask {
     Resolve,
     /// `--remove` with `--dry-run`: the lines that remove names now. They are shown at a verbosity above 4.
     Remove,
-    /// `--remove` with `--show-depends`: the lines that remove names, whatever is loaded.
+    /// `--remove` with `--show-depends`: the lines that remove names, even if their modules are in use or not loaded. A module
+    /// that one of them needs has a line only if its `refcnt` is 0 now.
     ShowRemoval,
     /// `--showconfig`: the configuration and the indexes.
     ShowConfig,

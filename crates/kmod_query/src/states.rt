@@ -21,7 +21,7 @@ pub enum ModuleState {
     Folder,
 }
 
-/// The state of a module, and how many use it: `refcnt`, where that is there and a number of 64 bits without sign.
+/// The state of a module, and how many use it: the number in `refcnt`. None where there is no such file or no number in it.
 #[derive(Clone, Copy, Debug, PartialEq, Eq)]
 pub struct ModuleStatus {
     pub state: ModuleState,

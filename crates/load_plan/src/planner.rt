@@ -110,8 +110,11 @@ impl<'a> Planner<'a> {
         self.settled[slot] = true;
     }
 
-    /// Whether a name has a plan, and all that its module reaches is settled. The plan is not made, and no module is
-    /// looked at twice in calls that answer true.
+    /// Whether a name has a plan, and all that its module reaches is settled. If it answers false, neither is said. The plan
+    /// is not made. An error is the one with which `plan` refuses the name.
+    ///
+    /// What was found settled is not tested again in later calls, but each call that finds all settled makes the hard walk of
+    /// its module.
     pub fn has_settled_plan(&mut self, alloc: Global, name: &Name) -> Result<bool, PlanError>
         ensures same { self.new ≡ self.old }
         ensures settled { IfOk result (λ is. is ≡ true → (words : List (List ℕ)) → IsSettled self.old name.now words) }

@@ -9,9 +9,12 @@ use std::sync::Arc;
 
 /// A caller with a share of a table that only such callers have, for threads that must not wait. Contracts see the caller.
 ///
-/// Its calls never wait, and so wake nobody: each tries its lock at most so many times. The outer None: the worker or the slot is out of range. The
-/// next None, which is the outer one of `loaded` and `loaded_at`: the lock was taken at each try. Nothing is changed then. That no module stands at a
-/// place is an answer of `loaded_at`, after one turn.
+/// Its calls never wait, and so wake nobody. Each tries its lock at most `tries` times:
+///
+/// - The outer None: the worker or the slot is out of range.
+/// - The next None, which is the outer one of `loaded` and `loaded_at`: another caller had the lock at each try.
+///
+/// At both nothing is changed. The inner None of `loaded_at` is an answer, after one turn: no module stands at the place.
 #[derive(Drop)]
 pub struct OwnCaller {
     pub(crate) caller: Caller,
@@ -107,8 +110,8 @@ impl OwnCaller {
         self.table.slots()
     }
 
-    /// Takes one reference for the worker. The innermost None: the lock was taken, the worker holds no reference to the module,
-    /// and each of so many tries of the module's word was missed.
+    /// Takes one reference for the worker. The innermost None: this caller had the lock, the worker holds no reference to the
+    /// module, and each of `tries` tries of the module's word was missed.
     pub fn get(
         &mut self,
         worker: usize,

@@ -12,11 +12,14 @@ use use_indicator::{Leaf, Reader};
 
 /// A row of root words, and its leaves and its book behind locks that know whose they are. Contracts see its row.
 ///
-/// Any thread calls it, with a caller of its own. A call takes one lock, makes one call and lets go. It answers None where
-/// the worker or the slot is out of range, and nothing is changed then. That no module stands at a place is an answer of
-/// `loaded_at`, after one turn.
+/// Any thread calls it, with a caller of its own. A managed call waits for one lock, makes one call of a leaf or of the book,
+/// and lets go. `held`, `state`, `loaded`, `loaded_at`, `meet_leaf` and `meet_book` take a lock and make no call. `query` and
+/// `compare` take none.
 ///
-/// Each lock's word has cache lines of its own, so workers who hold a module don't slow each other.
+/// None: the worker or the slot is out of range, and nothing was done. The None of `loaded_at` is an answer, after one turn: no
+/// module stands at the place.
+///
+/// Each lock's word has cache lines of its own. So a worker that holds a module gets and puts without slowing others.
 pub struct ManagedTable {
     pub(crate) row: Row,
     pub(crate) leaves: Locks<Leaf>,

@@ -1,5 +1,5 @@
-//! Turns of a leaf's lock that are spelled out: behind each call that may wait the compiled code has a check, so nothing here
-//! may wait where the lock is free and the first try is not missed.
+//! Managed gets and puts. After each call that may wait the compiled code tests a byte. So none is made here, unless the lock
+//! is taken, or a get has missed its first tries of the module's word.
 use crate::table::ManagedTable;
 use crate::view::Passes;
 use atomic_table::Seat;
@@ -7,7 +7,8 @@ use dep_index::{Call, GetError, PutError};
 use std::sync::Wait;
 use use_indicator::Leaf;
 
-/// How often a get tries before it goes on where it may wait. Each miss doubles the pause, as there, so more are rare.
+/// How many tries of the module's word a get makes by a call that can't wait, before it goes on with `Leaf::get`. Each miss
+/// doubles the pause before the next try, so few gets need more.
 const TRIES: u32 = 64;
 
 impl ManagedTable {
@@ -19,8 +20,8 @@ impl ManagedTable {
     ghost use Rattle.managed_table.specs.Callers.{IsInside};
     ghost use Rattle.managed_table.specs.InHand.{HasLeaf, LeafMadeIt};
 
-    // The leaf in hand makes a get in a few tries, and the lock is let go. None: each try was missed, and the leaf is still in
-    // hand.
+    // The leaf in hand makes a get in at most `TRIES` tries, and the lock is let go. None: each was missed, and the leaf is
+    // still in hand.
     #[inline(always)]
     pub(crate) fn end_by_get(
         &self,

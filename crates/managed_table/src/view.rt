@@ -4,7 +4,8 @@ use root_row::view::{AtomicStep, SeatAnswer};
 use std::collections::LinkedList;
 use std::snapshot::Snapshot;
 
-/// A lock was taken and let go once: what the seat behind it had seen then, and then, and the steps that it made between.
+/// A lock was taken and let go once. `before` and `after` are what the seat behind it had seen at these two moments, `steps`
+/// the steps that it made between.
 pub struct Turn {
     pub lock: usize,
     pub before: LinkedList<SeatAnswer>,
@@ -19,8 +20,8 @@ pub struct Taken {
     pub steps: LinkedList<AtomicStep>,
 }
 
-/// The row that the locks are of, and the pass's number. The lock that it has taken, and its turns, the oldest first. And the
-/// locks that it found taken, one for each time, the last first.
+/// What a pass knows: the row that its locks are of, its own number, the lock that it has taken, its turns, the oldest first,
+/// and the locks that it found taken, one for each time, the last first.
 pub struct Pass {
     pub row: Snapshot<Row>,
     pub number: u64,

@@ -54,11 +54,15 @@ fn tell_stop<T: Watch>(answer: &Result<u64, ServeFault>, line: &[u8], watch: &mu
     }
 }
 
-/// Answers a whole input: reads its sections, makes a table of so many workers in which every module is absent, and
-/// answers the lines of its session. `Setup`: the input has no setup, or could not be read up to its session; nothing
-/// is written then. `Run`: the session stopped, as `run` says. `Memory`: there is none for the lines or the table, and
-/// nothing is written. It reads 16,777,216 times at most, and as often where it answers a fault of turns.
-/// It answers how many replies were errors, 2^64 - 1 of them at most. The watch is told what `Watch` says.
+/// Answers a whole input: reads its sections, makes a table of `workers` workers in which every module is absent, and answers
+/// the lines of its session. It answers how many replies were errors, 2^64 - 1 at most, and tells the watch what `Watch`
+/// lists.
+///
+/// - `Setup`: the input has no setup, or could not be read up to its session (`read_setup_watched`). Nothing was written.
+/// - `Run`: the session stopped (`run_watched`).
+/// - `Memory`: there is none for the lines or the table. Nothing was written.
+///
+/// It reads at most 16,777,216 times, and exactly so often if the fault is `Turns`.
 pub fn serve_watched<R: Source, W: Sink, T: Watch>(
     alloc: Global,
     workers: usize,

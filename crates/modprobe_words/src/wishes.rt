@@ -11,18 +11,19 @@ pub enum Wish {
     ShowDepends,
     DryRun,
     Resolve,
+    /// `-r -n`: the lines that remove names now.
     Remove,
-    /// A removal, whatever is loaded.
+    /// `-r -D`: these lines, even if the modules are in use or not loaded.
     ShowRemoval,
-    /// No name was given.
+    /// Refused: no name was given.
     NoName,
-    /// What the file of a module has.
+    /// Refused: what the file of a module has.
     ShowModule,
-    /// Modules that hold one that is to be removed.
+    /// Refused: to remove also the modules that hold one.
     RemoveHolders,
-    /// A load that is no dry run.
+    /// Refused: a load that is no dry run.
     Load,
-    /// A removal that is no dry run.
+    /// Refused: a removal that is no dry run.
     Removal,
 }
 

@@ -77,7 +77,7 @@ pub(crate) struct Asked {
     pub(crate) workers: usize,
     /// Whether faults are explained, and lines without effect are listed.
     pub(crate) explain: bool,
-    /// Whether a reply that is an error makes the status 1.
+    /// Whether a reply that is an error, or an input without a session, makes the status 1.
     pub(crate) fail: bool,
     /// Whether lines of the sections are listed that have no effect or are about nothing, and no command is answered.
     pub(crate) lint: bool,

@@ -116,10 +116,15 @@ impl<'a, 'e, E: Write> Program<'a, 'e, E> {
     }
 }
 
-/// Runs the program on these words, the first of which is its own name, and answers its status: 0 at the end of the
-/// input, 1 there where a reply was an error and `--fail` is asked for, or `--lint` tells a line, 2 where an argument, a
-/// file or the setup is refused, 3 for a fault. What is refused, what failed, and what `--lint` tells is said on `errors`;
-/// help goes to `writer`.
+/// Runs the program on these words, the first of which is its own name, and answers its status:
+///
+/// - 0: the input was answered to its end, or help or the version was written to `writer`.
+/// - 1: with `--fail`, it was answered to its end, and a reply was an error or there was no session; with `--lint`, a line
+///   was listed.
+/// - 2: an argument, a file or the setup is refused.
+/// - 3: a read or a write failed, memory ran out, or a limit was reached.
+///
+/// What is refused, what failed, and what `--lint` and `--explain` list is written to `errors`.
 pub fn drive<R: Files + AllocGlobal, I: Read + Drop, O: Write, E: Write>(
     rt: &R,
     words: &[String],

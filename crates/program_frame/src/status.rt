@@ -6,7 +6,7 @@ ghost use Rattle.program_frame.specs.Ends.{number_of};
 #[derive(Clone, Copy, Drop)]
 pub enum Status {
     Done = 0,
-    /// All was answered, one reply was an error, and the status is to say so.
+    /// The status was to say this, and it is so: a reply was an error, there was no session, or a lint listed a line.
     ErrorReply = 1,
     /// An argument or the input is refused.
     Refused = 2,

@@ -13,8 +13,8 @@ use crate::table::slots::Slots;
 use indexmap::IndexMap;
 use std::alloc::{AllocError, Global};
 
-/// Adds a need to the needs of a slot, where it is another slot and not there. Of the marks, those of the needs that
-/// are there are the turn.
+/// Adds a need to the needs of a slot, unless it is the slot itself or is there already. `marks` has `turn` at just the needs
+/// that are there, so no list is searched.
 fn add_need(
     needs: &mut Vec<u16>,
     marks: &mut [u16],
