@@ -1,5 +1,5 @@
 -- Whatever matches a text is kept under a mark of the text, and found there.
-use Rattle.std.proofs.Common.{◌≡◌, ◌≢◌, ℕ, zero, suc, ◌+◌, ◌<◌, ◌≤◌, nat_le, nat_eq, eqb-true, eq-eqb, arith, true, false, map, Vec, Result, Ok, Err, IfOk, List, [], ◌∷◌, ◌++◌, length, take, slice_get, Option, Some, None, Contains, ◌↔◌, refl, sym, ◌∙◌, ap, subst, ◌⊎◌, inl, inr}
+use Rattle.std.proofs.Common.{◌≡◌, ◌≢◌, ℕ, zero, suc, ◌+◌, ◌<◌, ◌≤◌, nat_eq, eqb-true, eq-eqb, arith, true, false, map, Vec, Result, Ok, Err, IfOk, List, [], ◌∷◌, ◌++◌, length, take, slice_get, Option, Some, None, Contains, ◌↔◌, refl, sym, ◌∙◌, ap, subst, ◌⊎◌, inl, inr}
 use Rattle.std.specs.Borrow.{Bor}
 use Rattle.std.specs.Global.{Global}
 use Rattle.std.specs.declared.alloc.AllocError.{AllocError}
@@ -7,7 +7,6 @@ use Rattle.std.specs.List.{dedup, filter_map}
 use Rattle.std.specs.List.Sorted.{IsPermutation}
 use Rattle.std.specs.Prelude.{slice_index}
 use Rattle.std.proofs.Math.Seq.{get_or-append_seam}
-use Rattle.std.proofs.lemmas.Bool.{le-leb}
 use Rattle.std.proofs.lemmas.List.{get_or_append_left, length-append}
 use Rattle.std.proofs.lemmas.Option.{slice_get_within}
 use Rattle.std.proofs.lemmas.List.Elements.{Contains-append_left, Contains-append_right, Contains-append_cases}
@@ -39,10 +38,7 @@ below_one aliases numbers text (suc k) n i le h = elim (told (nat_eq n k)) [
 ]
 
 under_matches : (aliases : List Alias) (numbers : List ℕ) (text : List ℕ) (n i : ℕ) → Contains (matches_under aliases numbers text n) i → is_match_at aliases text i ≡ true
-under_matches aliases numbers text n i h = elim (told (nat_le n (length text))) [
-  | inl t ↦ passes_filter (is_match_at aliases text) (places_of (mark (take n text)) numbers) i (rw t at h)
-  | inr t ↦ absurd (nothing_in (rw t at h))
-]
+under_matches aliases numbers text n i h = passes_filter (is_match_at aliases text) (places_of (mark (take n text)) numbers) i h
 
 below_matches : (aliases : List Alias) (numbers : List ℕ) (text : List ℕ) (k i : ℕ) → Contains (matches_below aliases numbers text k) i → is_match_at aliases text i ≡ true
 below_matches aliases numbers text zero i h = absurd (nothing_in h)
@@ -61,10 +57,9 @@ kept_below numbers fronts aliases text keeps i h =
     let own : (alias : Alias) × (slice_get aliases i ≡ Some alias) × (is_match alias.pattern text ≡ true) = alias_of_match (slice_get aliases i) text h in
     let within : i < length aliases = slice_get_within aliases i own.0 own.1 in
     let has : HasMark text (slice_index numbers i) = keeps.each i own.0 own.1 text (match_yes own.0.pattern text own.2) in
-    let fits : nat_le has.0 (length text) ≡ true = le-leb has.0 (length text) has.1 in
     let place : Contains (places_of (mark (take has.0 text)) numbers) i = has_place (mark (take has.0 text)) numbers (length numbers) i (omega (arith, within, keeps.as_many)) (sym has.2) in
     below_one aliases numbers text (suc (length text)) has.0 i (omega (arith, has.1))
-    (rw fits (kept_by_filter (is_match_at aliases text) (places_of (mark (take has.0 text)) numbers) i place h))
+    (kept_by_filter (is_match_at aliases text) (places_of (mark (take has.0 text)) numbers) i place h)
 
 -- an item of a list that has grown by one is of the list before, or is the new one
 old_or_new : {X : Type 0} (items : List X) (item : X) (i : ℕ) (own : X) → slice_get (items ++ item ∷ []) i ≡ Some own → (slice_get items i ≡ Some own) ⊎ ((length items ≡ i) × (item ≡ own))

@@ -3,11 +3,11 @@ ghost use Rattle.std.specs.Prelude.{◌≡◌, ◌<◌, suc, ◌∷◌, ◌++◌
 ghost use Rattle.std.specs.Prelude.{IfOk, OnOk, OnErr, Some, option_copied};
 ghost use Rattle.std.specs.List.{filter_map};
 ghost use Rattle.alias_match.specs.Aliases.{matching, matching_places};
-ghost use Rattle.alias_match.specs.ForProofs.{HaveFronts, KeepsEach, is_match_at, matches_below, matches_under, places_of};
+ghost use Rattle.alias_match.specs.ForProofs.{HaveFronts, KeepsEach, is_match_at, matches_below, places_of};
 
 use crate::alias::Alias;
-use crate::front::{Front, NumberedText};
-use crate::hash_table::{HashTable, mark};
+use crate::front::{Front, NumberedText, next_number};
+use crate::hash_table::HashTable;
 use std::alloc::{AllocError, Global};
 use std::marker::Model;
 
@@ -76,26 +76,7 @@ fn add_of_key(
     Ok(())
 }
 
-/// The same, where the key is the mark of the first bytes of the text, as many as given.
-fn add_of_beginning(
-    entries: &[Alias],
-    fronts: &[Front],
-    table: &HashTable,
-    text: &NumberedText,
-    count: usize,
-    found: &mut Vec<usize>,
-) -> Result<(), AllocError>
-    requires { KeepsEach table.now fronts.now entries.now }
-    ensures { OnOk result (found.new.items
-        ≡ found.old.items ++ matches_under entries.now table.now text.now count) }
-{
-    if let Some(beginning) = text.bytes().get(..count) {
-        add_of_key(entries, fronts, table, text, mark(beginning), found)?;
-    }
-    Ok(())
-}
-
-/// The places of the aliases that match, for each mark of the text.
+/// The places of the aliases that match, for each mark of the text. The mark of one byte more is made of the one before.
 fn places_by_marks(
     alloc: Global,
     entries: &[Alias],
@@ -109,10 +90,12 @@ fn places_by_marks(
 {
     let numbered = NumberedText::of(text);
     let mut found = Vec::new(alloc);
+    let mut mark = 0u64;
     for count in 0..text.len() {
-        add_of_beginning(entries, fronts, table, &numbered, count, &mut found)?;
+        add_of_key(entries, fronts, table, &numbered, mark, &mut found)?;
+        mark = next_number(mark, text, count);
     }
-    add_of_beginning(entries, fronts, table, &numbered, text.len(), &mut found)?;
+    add_of_key(entries, fronts, table, &numbered, mark, &mut found)?;
     Ok(found)
 }
 

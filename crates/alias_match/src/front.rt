@@ -45,7 +45,7 @@ impl<'t> Model for NumberedText<'t> {
 }
 
 /// The number of one byte more of a text, where it has one.
-fn next_number(number: u64, text: &[u8], count: usize) -> u64
+pub(crate) fn next_number(number: u64, text: &[u8], count: usize) -> u64
     requires { number ≡ mark (take count text.now) }
     ensures { result ≡ mark (take (count + 1) text.now) }
 {
