@@ -59,7 +59,7 @@ def mended(text):
 
 
 def is_configuration(path):
-    return path.endswith((b".conf", b"/modules.softdep", b"/modprobe.d")) or path.startswith(b"/own")
+    return path.endswith((b".conf", b".alias", b"/modules.softdep", b"/modprobe.d")) or path.startswith(b"/own")
 
 
 def with_right_softdeps(files):

@@ -17,8 +17,8 @@ SIGNS += rb"[ab]* dev[0-9]-x [!a] x-[a-c-]y * a] q[ e\*e ? [[:alpha:]]z net-pf-[
 SETS = {b"[ab]": b"a", b"[0-9]": b"7", b"[!a]": b"w", b"[a-c-]": b"-", b"[1-3]": b"2", b"[[:alpha:]]": b"k"}
 FOLDERS = (b"kernel/drivers/net", b"kernel/fs", b"kernel", b"updates", b"extra", b"kernel/sound/pci/hda")
 CONFIGURED = (b"/etc/modprobe.d", b"/run/modprobe.d", b"/usr/local/lib/modprobe.d", b"/lib/modprobe.d", b"/usr/lib/modprobe.d")
-FILES = (b"a.conf", b"b.conf", b"blacklist.conf", b"modules.conf", b"modules.softdep.conf", b"n.conf", b"Z.conf", "é.conf".encode(), b"dist.conf")
-ODD_FILES = (b"\xe9.conf", b".hidden.conf", b"x.conf~", b".conf", b"x.con", b"x", b"modules.softdep", b"c.conf.conf")
+FILES = (b"a.conf", b"b.conf", b"blacklist.conf", b"modules.conf", b"modules.softdep.conf", b"n.conf", b"m.alias", b"Z.conf", "é.conf".encode(), b"dist.conf")
+ODD_FILES = (b"\xe9.conf", b".hidden.conf", b".h.alias", b".alias", b"x.aliases", b"x.conf~", b".conf", b"x.con", b"x", b"modules.softdep", b"c.conf.conf")
 
 
 @dataclass

@@ -8,8 +8,7 @@ use Rattle.std.proofs.lemmas.List.Elements.{filter-append}
 use Rattle.std.proofs.lemmas.List.Folds.{list_any-append}
 use Rattle.std.proofs.lemmas.List.Sums.{fold-append}
 use Rattle.std.proofs.lemmas.Slice.Eq.{bytes_eq-Decides}
-use Rattle.program_frame.specs.Folders.{counts}
-use Rattle.modprobe_files.specs.Files.{File, Source, candidates, counted, counted_files, file_in, folder, has_name, in_order, is_before, is_named, with_file}
+use Rattle.modprobe_files.specs.Files.{File, Source, candidates, counted, counted_files, file_in, folder, has_name, in_order, is_before, is_named, is_read, with_file}
 
 -- ---- lists
 
@@ -85,11 +84,11 @@ hidden-file before after file h =
 
 -- the files of a folder's names
 abbrev files_in : List ℕ → List (List ℕ) → List File
-files_in path names = map (file_in path) (filter counts names)
+files_in path names = map (file_in path) (filter is_read names)
 
 files_in-append : (path : List ℕ) (names others : List (List ℕ)) → files_in path (names ++ others) ≡ files_in path names ++ files_in path others
 files_in-append path names others =
-    ap (map (file_in path)) (filter-append counts names others) ∙ map-append (file_in path) (filter counts names) (filter counts others)
+    ap (map (file_in path)) (filter-append is_read names others) ∙ map-append (file_in path) (filter is_read names) (filter is_read others)
 
 regroup : (before names some after : List File) → before ++ ((names ++ some) ++ after) ≡ (before ++ names) ++ (some ++ after)
 regroup before names some after = ap (λ l. before ++ l) (append_assoc names some after) ∙ sym (append_assoc before names (some ++ after))
@@ -107,7 +106,7 @@ pub hidden-name : (before after : List Source) (path name : List ℕ) (names oth
     → has_name (flat_map candidates before) name ≡ true
     → counted_files (before ++ folder path (names ++ name ∷ others) ∷ after) ≡ counted_files (before ++ folder path (names ++ others) ∷ after)
 hidden-name before after path name names others h =
-    counted-folder before after path names (name ∷ others) ∙ at (counts name) ∙ sym (counted-folder before after path names others)
+    counted-folder before after path names (name ∷ others) ∙ at (is_read name) ∙ sym (counted-folder before after path names others)
   where
     earlier : List File
     earlier = flat_map candidates before ++ files_in path names
@@ -118,7 +117,7 @@ hidden-name before after path name names others h =
         ∙ ap (λ b. b || has_name (files_in path names) name) h
 
     at : (b : Bool)
-        → counted (earlier ++ (map (file_in path) (cond b (name ∷ filter counts others) (filter counts others)) ++ flat_map candidates after))
+        → counted (earlier ++ (map (file_in path) (cond b (name ∷ filter is_read others) (filter is_read others)) ++ flat_map candidates after))
         ≡ counted (earlier ++ (files_in path others ++ flat_map candidates after))
     at true = hidden-file earlier (files_in path others ++ flat_map candidates after) (file_in path name) is_there
     at false = refl

@@ -1,8 +1,8 @@
--- Which files of a configuration count (modprobe.d(5)).
-use Rattle.std.specs.Prelude.{ℕ, Bool, if◌then◌else◌, List, [], ◌∷◌, ◌++◌, map, filter, fold, insert}
+-- Which files of a configuration count (modprobe.d(5), and libkmod).
+use Rattle.std.specs.Prelude.{ℕ, ◌-◌, Bool, not, ◌&&◌, ◌||◌, nat_eq, nat_lt, if◌then◌else◌, List, [], ◌∷◌, ◌++◌, length, drop, codes, map, filter, fold, insert}
 use Rattle.std.specs.Cmp.Lexicographic.{slice_cmp}
 use Rattle.std.specs.Ordering.{is_lt, nat_cmp}
-use Rattle.std.specs.List.{flat_map, list_any, position_or_len}
+use Rattle.std.specs.List.{flat_map, list_any, position_or_len, starts_with}
 use Rattle.std.specs.Str.{bytes_eq}
 use Rattle.program_frame.specs.Folders.{counts}
 use Rattle.modprobe_files.specs.declared.files.File.{File as CodeFile}
@@ -20,12 +20,20 @@ pub data Source : Type 0 where
   single : List ℕ → List ℕ → Source
   folder : List ℕ → List (List ℕ) → Source
 
+-- libkmod reads these too, of which modprobe.d(5) does not speak
+abbrev pub is_alias_file : List ℕ → Bool
+is_alias_file name =
+    not (starts_with nat_eq name (codes ".")) && nat_lt 6 (length name) && bytes_eq (drop (length name - 6) name) (codes ".alias")
+
+abbrev pub is_read : List ℕ → Bool
+is_read name = counts name || is_alias_file name
+
 abbrev pub file_in : List ℕ → List ℕ → File
 file_in path name = record { name = name; path = path ++ (47 ∷ name) }
 
 abbrev pub candidates : Source → List File
 candidates (single name path) = record { name = name; path = path } ∷ []
-candidates (folder path names) = map (file_in path) (filter counts names)
+candidates (folder path names) = map (file_in path) (filter is_read names)
 
 abbrev pub is_named : List ℕ → File → Bool
 is_named name file = bytes_eq file.name name

@@ -2,7 +2,7 @@
 ghost use Rattle.std.specs.Prelude.{◌≡◌, ◌≤◌, length, IfOk, OnOk, fold};
 ghost use Rattle.std.specs.List.{position_or_len};
 ghost use Rattle.modprobe_words.specs.Variable.{bytes_of};
-ghost use Rattle.modprobe_files.specs.Files.{candidates, counted_files, file_in, file_of, files_of, folder, has_name, is_before, source_of, sources_of, with_file};
+ghost use Rattle.modprobe_files.specs.Files.{candidates, counted_files, file_in, file_of, files_of, folder, has_name, is_alias_file, is_before, is_read, source_of, sources_of, with_file};
 
 use crate::host::joined;
 use program_frame::counts;
@@ -23,6 +23,21 @@ pub enum Source {
     Single(Vec<u8>, Vec<u8>),
     /// The path of a folder, and the names of all in it that is no folder.
     Folder(Vec<u8>, Vec<Vec<u8>>),
+}
+
+/// Whether a name of a folder ends in `.alias`, has a byte before that, and is not hidden. modprobe.d(5) does not speak of
+/// such files, and libkmod reads them.
+fn is_alias_file(name: &[u8]) -> bool
+    ensures { result ≡ is_alias_file name.now }
+{
+    !name.starts_with(b".") && name.len() > 6 && is_same(&name[name.len() - 6..], b".alias")
+}
+
+/// Whether a name of a folder is that of a file which is read.
+pub(crate) fn is_read(name: &[u8]) -> bool
+    ensures { result ≡ is_read name.now }
+{
+    counts(name) || is_alias_file(name)
 }
 
 /// Whether a name stands before another, by their bytes.
@@ -79,7 +94,7 @@ fn add_folder(
     ensures { OnOk result (files_of files.new.items ≡ fold with_file (files_of files.old.items) (candidates (folder path.now (bytes_of names.now)))) }
 {
     for name in names {
-        if counts(name) {
+        if is_read(name) {
             add_file(files, file_in(alloc, path, name)?)?;
         }
     }

@@ -1,8 +1,7 @@
 //! Files of a configuration that do not count, since others of their names come first.
 
-use crate::files::{File, Source, file_in};
+use crate::files::{File, Source, file_in, is_read};
 use crate::texts::HiddenFile;
-use program_frame::counts;
 use std::alloc::{AllocError, Global};
 use text_parts::is_same;
 
@@ -32,7 +31,7 @@ fn add_folder(
     names: &[Vec<u8>],
 ) -> Result<(), AllocError> {
     for name in names {
-        if counts(name) {
+        if is_read(name) {
             add_file(alloc, hidden, files, file_in(alloc, folder, name)?)?;
         }
     }

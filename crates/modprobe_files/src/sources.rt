@@ -1,10 +1,9 @@
 //! The files of the configuration, as they lie on the machine.
 
 use crate::faults::reason;
-use crate::files::Source;
+use crate::files::{Source, is_read};
 use crate::host::{Host, Kind, joined, last_name};
 use modprobe_words::{Level, Messages};
-use program_frame::counts;
 use std::alloc::AllocError;
 use std::io::{ErrorKind, Write};
 use std::rt::Files;
@@ -49,7 +48,7 @@ fn names_in<R: Files + AllocGlobal, E: Write>(
         }
     };
     for name in all.into_iter() {
-        if counts(&name) && !is_folder(host, path, &name, messages)? {
+        if is_read(&name) && !is_folder(host, path, &name, messages)? {
             names.push(name)?;
         }
     }
