@@ -6,8 +6,8 @@ use std::alloc::Global;
 
 /// A query, the world of which it asks, and the memory that its answer is made in.
 #[derive(Clone, Copy)]
-pub(crate) struct Asked<'a> {
-    pub(crate) alloc: Global,
-    pub(crate) world: World<'a>,
-    pub(crate) query: Query<'a>,
+pub struct Asked<'a> {
+    pub alloc: Global,
+    pub world: World<'a>,
+    pub query: Query<'a>,
 }

@@ -20,8 +20,8 @@ pub fn show_depends_ignores_states()
         → answer_of one query ≡ answer_of other query }
 {}
 
-/// Under `--all` the lines are those of each name alone, in turn; so are the failures, and the status is 1 where it is so
-/// for a name.
+/// Under `--all`, but for removals, the lines are those of each name alone, in turn; so are the failures, and the status is 1
+/// where it is so for a name.
 pub fn names_are_answered_in_turn()
     ensures lines { (facts : Facts) (query : Query) (words : List (List ℕ)) → query.all ≡ true
         → (answer_names facts query words).output
@@ -34,7 +34,8 @@ pub fn names_are_answered_in_turn()
         ≡ list_any (λ word. (answer_names facts query (word ∷ [])).failed) words }
 {}
 
-/// A module of the blacklist is not loaded for an alias, whatever is asked, and under `--use-blacklist` not for its name.
+/// A module that is asked for is not loaded, nor what goes with it, where it is on the blacklist and was found by an alias, or
+/// is on it under `--use-blacklist`. Needs and soft items of another module are not held against the blacklist.
 pub fn blacklisted_modules_are_not_loaded()
     ensures alias { (facts : Facts) (query : Query) (parameters : List ℕ) (object : Object)
         → facts.is_blacklisted object.name ≡ true → is_some object.alias ≡ true

@@ -29,14 +29,17 @@ mod world;
 
 pub use answer::{Answer, Failure};
 pub use answering::answer_to;
+pub use asked::Asked;
 pub use commands::{install_line, remove_line};
 pub use finding::Finding;
 pub use laws::{
     blacklisted_modules_are_not_loaded, hard_needs_come_first, names_are_answered_in_turn,
     show_depends_ignores_states,
 };
+pub use loading::{is_barred, is_passed};
 pub use look_up::find_name;
 pub use object::Object;
 pub use query::{Ask, Query};
+pub use removal_check::{Verdict, is_fatal, is_in_use, judge};
 pub use states::{ModuleState, ModuleStatus, States};
 pub use world::World;

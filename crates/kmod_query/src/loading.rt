@@ -40,14 +40,14 @@ fn shows_lines(query: &Query) -> bool
 }
 
 /// Whether an object is passed over since the kernel has it.
-fn is_passed(world: &World, query: &Query, object: &Object) -> bool
+pub fn is_passed(world: &World, query: &Query, object: &Object) -> bool
     ensures { result ≡ is_passed (facts_of world.now) query.now (object_of object.now) }
 {
     !is_show_depends(query.ask) && is_in_kernel(world, object)
 }
 
 /// Whether the blacklist bars an object.
-fn is_barred(world: &World, query: &Query, object: &Object) -> bool
+pub fn is_barred(world: &World, query: &Query, object: &Object) -> bool
     ensures { result ≡ is_barred (facts_of world.now) query.now (object_of object.now) }
 {
     is_blacklisted(world, &object.name) && (object.alias.is_some() || query.use_blacklist)

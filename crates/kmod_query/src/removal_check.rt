@@ -19,9 +19,12 @@ use std::alloc::{AllocError, Global};
 
 /// What becomes of an object that is to be removed.
 #[derive(Drop)]
-pub(crate) enum Verdict {
+pub enum Verdict {
+    /// It is removed, as far as it is not in use.
     Remove,
+    /// Nothing is done, and nothing failed.
     Pass,
+    /// Nothing is done, and this is why.
     Refuse(Failure),
 }
 
@@ -43,8 +46,8 @@ pub(crate) fn shows_removal(query: &Query) -> bool
     is_show_removal(query.ask) || query.verbosity > 4
 }
 
-/// Whether a message that is shown ends the program.
-pub(crate) fn is_fatal(query: &Query) -> bool
+/// Whether a message that is shown ends a removal.
+pub fn is_fatal(query: &Query) -> bool
     ensures { result ≡ is_fatal query.now }
 {
     !query.all && 2 <= query.verbosity
@@ -126,8 +129,8 @@ fn builtin_verdict(alloc: Global, soft: bool, object: &Object) -> Result<Verdict
     Ok(Verdict::Refuse(Failure::Builtin(Text::new(alloc, &object.name)?)))
 }
 
-/// What becomes of an object that is to be removed, a soft item or not.
-pub(crate) fn judge(asked: &Asked, soft: bool, object: &Object) -> Result<Verdict, AllocError>
+/// What becomes of an object that is to be removed, a soft item or not. It fails only if memory runs out.
+pub fn judge(asked: &Asked, soft: bool, object: &Object) -> Result<Verdict, AllocError>
     ensures { IfOk result (λ own. verdict_of own ≡ verdict (facts_of asked.now.world) asked.now.query soft (object_of object.now)) }
 {
     if !counts_state(asked, object)? {
@@ -142,7 +145,8 @@ pub(crate) fn judge(asked: &Asked, soft: bool, object: &Object) -> Result<Verdic
     Ok(Verdict::Remove)
 }
 
-pub(crate) fn is_in_use(asked: &Asked, object: &Object) -> Result<bool, AllocError>
+/// Whether an object that is to be removed is not, since it has users. It fails only if memory runs out.
+pub fn is_in_use(asked: &Asked, object: &Object) -> Result<bool, AllocError>
     ensures { IfOk result (λ used. used ≡ is_in_use (facts_of asked.now.world) asked.now.query (object_of object.now)) }
 {
     Ok(counts_state(asked, object)? && has_users(status_of(&asked.world, &object.name)))
