@@ -11,6 +11,7 @@ mod sources;
 mod tasks;
 mod told;
 mod told_modules;
+mod told_removals;
 mod told_words;
 
 pub use explaining::explanation;

@@ -6,9 +6,9 @@ ghost use Rattle.gz_modprobe_drive.specs.Told.{is_shown};
 use crate::reasons::known::Known;
 use crate::reasons::named_lines::NamedLines;
 use crate::reasons::sources::Sources;
-use crate::reasons::tasks::{Task, Tasks};
+use crate::reasons::tasks::{Part, Task, Tasks};
 use crate::reasons::told::Told;
-use kmod_query::{Ask, Object, Query, World, remove_line};
+use kmod_query::{Ask, Object, Query, World, is_barred, is_fatal, is_passed};
 use std::alloc::{AllocError, Global};
 
 /// How many words of a query are names.
@@ -25,98 +25,79 @@ fn name_count(query: &Query<'_>) -> usize {
 impl Told<'_> {
     /// Begins with a module that is to be loaded.
     fn begin_load(&mut self, tasks: &mut Tasks, object: &Object) -> Result<(), AllocError> {
-        let is_dry = self.known.query.ask == Ask::DryRun;
-        if is_dry && (object.builtin || self.known.is_in_kernel(&object.name)) {
+        let Known { world, query, .. } = self.known;
+        if is_passed(&world, &query, object) {
             self.tell_in_kernel(&object.name, b", so nothing is loaded");
             return Ok(());
         }
-        if self.known.is_barred(object) {
+        if is_barred(&world, &query, object) {
             self.tell_blacklist(&object.name, b", so it is not loaded");
             return Ok(());
         }
         let why = b", which does not hold for its own name without -b";
         self.tell_blacklist(&object.name, why);
-        tasks.add(self.alloc, object)
+        tasks.add_load(self.alloc, object, Part::Named)
     }
 
-    /// Whether it counts what the kernel has of a module that is to be removed: not if a remove line has its command.
-    fn counts_state(&self, object: &Object) -> Result<bool, AllocError> {
-        let query = &self.known.query;
-        if query.ask != Ask::Remove || query.ignore_commands {
-            return Ok(query.ask == Ask::Remove);
-        }
-        let alias = object.alias.as_deref();
-        let line = remove_line(self.alloc, &self.known.world, &object.name, alias)?;
-        Ok(line.is_none())
-    }
-
-    /// Begins with a module that is to be removed.
-    fn begin_removal(&mut self, tasks: &mut Tasks, object: &Object) -> Result<(), AllocError> {
-        let name = object.name.as_slice();
-        if !self.counts_state(object)? {
-            return tasks.add(self.alloc, object);
-        }
-        if object.builtin || self.known.world.index.is_builtin(name) {
-            self.tell_built_in(name, name, b", so it is not removed");
-            return Ok(());
-        }
-        if !self.known.is_there(name) {
-            self.tell_state(name, b"not loaded", b"");
-            return Ok(());
-        }
-        tasks.add(self.alloc, object)
-    }
-
-    fn begin(&mut self, tasks: &mut Tasks, object: &Object) -> Result<(), AllocError> {
+    /// Begins with a module that a name stands for. Whether it is refused is answered.
+    fn begin(&mut self, tasks: &mut Tasks, object: &Object) -> Result<bool, AllocError> {
         match self.known.query.ask {
-            Ask::ShowDepends | Ask::DryRun => self.begin_load(tasks, object),
-            Ask::Remove | Ask::ShowRemoval => self.begin_removal(tasks, object),
-            Ask::Resolve | Ask::ShowConfig => Ok(()),
+            Ask::ShowDepends | Ask::DryRun => {
+                self.begin_load(tasks, object)?;
+                Ok(false)
+            }
+            Ask::Remove | Ask::ShowRemoval => self.begin_removal(tasks, object, false),
+            Ask::Resolve | Ask::ShowConfig => Ok(false),
         }
     }
 
-    /// Tells why a name of the command line stands for modules, and begins with them.
-    fn begin_word(&mut self, tasks: &mut Tasks, word: &[u8]) -> Result<(), AllocError> {
-        let objects = self.tell_word(word)?;
+    /// Begins with the modules of a name, up to one that is refused. Whether one is refused is answered.
+    fn begin_each(&mut self, tasks: &mut Tasks, objects: &[Object]) -> Result<bool, AllocError> {
+        for object in objects {
+            if self.begin(tasks, object)? {
+                return Ok(true);
+            }
+        }
+        Ok(false)
+    }
+
+    /// Tells why a name of the command line stands for modules, and begins with them. Whether it is refused is answered.
+    fn begin_word(&mut self, tasks: &mut Tasks, word: &[u8]) -> Result<bool, AllocError> {
+        let found = self.tell_word(word)?;
+        let objects = found.as_deref().unwrap_or(&[]);
         if objects.is_empty() {
-            return self.tell_near(word);
+            self.tell_near(word)?;
+            return Ok(found.is_some());
         }
-        for object in &objects {
-            self.begin(tasks, object)?;
-        }
-        Ok(())
+        self.begin_each(tasks, objects)
     }
 
+    /// Begins with the names, up to one whose refusal ends a removal.
     fn begin_words(&mut self, tasks: &mut Tasks) -> Result<(), AllocError> {
-        let words = self.known.query.words;
-        let count = name_count(&self.known.query);
-        for word in words.iter().take(count) {
-            self.begin_word(tasks, word)?;
+        let query = self.known.query;
+        for word in query.words.iter().take(name_count(&query)) {
+            if self.begin_word(tasks, word)? && self.known.is_removal() && is_fatal(&query) {
+                return Ok(());
+            }
         }
         Ok(())
     }
 
-    fn tell_task(
-        &mut self,
-        tasks: &mut Tasks,
-        task: &Task,
-        is_bare: bool,
-    ) -> Result<(), AllocError> {
-        if task.needs {
-            self.tell_needs(tasks, &task.name)
-        } else {
-            self.tell_own(tasks, &task.name, task.alias.as_deref(), is_bare)
+    fn tell_task(&mut self, tasks: &mut Tasks, task: &Task) -> Result<(), AllocError> {
+        match task.part {
+            Part::Needs => self.tell_needs(tasks, &task.name),
+            Part::Held => self.tell_held(tasks, &task.name),
+            Part::Named | Part::Own => self.tell_own(tasks, task),
         }
     }
 
-    /// Tells what is to be told, and what that leads to. The first ones are of the names that were asked for.
-    fn tell_tasks(&mut self, tasks: &mut Tasks, first: usize) -> Result<(), AllocError> {
-        let is_bare = self.known.query.ignore_commands;
+    /// Tells what is to be told, and what that leads to.
+    fn tell_tasks(&mut self, tasks: &mut Tasks) -> Result<(), AllocError> {
         for at in 0..usize::MAX {
             let Some(task) = tasks.copy_at(at)? else {
                 return Ok(());
             };
-            self.tell_task(tasks, &task, at < first && is_bare)?;
+            self.tell_task(tasks, &task)?;
         }
         Ok(())
     }
@@ -125,8 +106,7 @@ impl Told<'_> {
     fn tell_words(&mut self) -> Result<(), AllocError> {
         let mut tasks = Tasks::new(self.alloc);
         self.begin_words(&mut tasks)?;
-        let first = tasks.len();
-        self.tell_tasks(&mut tasks, first)
+        self.tell_tasks(&mut tasks)
     }
 
     fn tell_all(&mut self) -> Result<(), AllocError> {

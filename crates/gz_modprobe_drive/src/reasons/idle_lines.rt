@@ -14,31 +14,38 @@ fn is_pattern(name: &[u8]) -> bool {
 }
 
 impl Told<'_> {
-    /// Whether a name stands for a module.
+    /// Whether a name stands for a module, or may be that of one.
     fn is_known(&self, name: &[u8]) -> Result<bool, AllocError> {
         let finding = find_name(self.alloc, &self.known.world, name)?;
-        Ok(!matches!(finding, Finding::Nothing))
+        Ok(!matches!(finding, Finding::Nothing) || self.known.is_module(self.alloc, name)?)
     }
 
-    fn tell_idle_aliases(&mut self, lines: &[AliasEntry]) {
+    fn tell_idle_aliases(&mut self, lines: &[AliasEntry]) -> Result<(), AllocError> {
         for line in lines {
             let target = line.target.as_bytes();
-            if !self.known.is_module(target) {
+            if !self.known.is_module(self.alloc, target)? {
                 let what = Saying::with_name(b"alias of ", target);
                 let what = what.and(b", but no module has that name", b"");
                 self.say_of(line.pattern.as_bytes(), what, line.place);
             }
         }
+        Ok(())
     }
 
     /// Tells the lines whose name no module has. If `has_patterns`, a name that is a pattern is skipped.
-    fn tell_idle_names(&mut self, lines: &[Head<'_>], has_patterns: bool, what: Saying<'_>) {
+    fn tell_idle_names(
+        &mut self,
+        lines: &[Head<'_>],
+        has_patterns: bool,
+        what: Saying<'_>,
+    ) -> Result<(), AllocError> {
         for line in lines {
             let passes = has_patterns && is_pattern(line.name);
-            if !passes && !self.known.is_module(line.name) {
+            if !passes && !self.known.is_module(self.alloc, line.name)? {
                 self.say_of(line.name, what, line.place);
             }
         }
+        Ok(())
     }
 
     fn tell_idle_options(&mut self, lines: &[TextLine]) -> Result<(), AllocError> {
@@ -66,11 +73,11 @@ impl Told<'_> {
         let conf = self.known.world.conf;
         let named = self.known.named;
         let what = Saying::of(b"blacklisted, but no module has this name");
-        self.tell_idle_names(named.blacklist.all(), false, what);
-        self.tell_idle_aliases(conf.aliases());
+        self.tell_idle_names(named.blacklist.all(), false, what)?;
+        self.tell_idle_aliases(conf.aliases())?;
         self.tell_idle_options(conf.options())?;
         let what = Saying::of(b"softdep, but no module has this name");
-        self.tell_idle_names(named.softdeps.all(), true, what);
+        self.tell_idle_names(named.softdeps.all(), true, what)?;
         self.tell_later_lines(b"install", &named.installs);
         self.tell_later_lines(b"remove", &named.removes);
         self.tell_later_lines(b"softdep", &named.softdeps);

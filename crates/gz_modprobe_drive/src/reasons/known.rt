@@ -1,7 +1,8 @@
 //! What an explanation is of.
 
 use crate::reasons::named_lines::NamedLines;
-use kmod_query::{ModuleState, Object, Query, World};
+use kmod_query::{Ask, ModuleState, Query, World};
+use std::alloc::{AllocError, Global};
 
 /// A world, a query of it, and the lines of the world's texts by their names.
 #[derive(Clone, Copy)]
@@ -16,27 +17,36 @@ impl Known<'_> {
         matches!(self.world.states.of(name), Some(status) if status.state == ModuleState::Live)
     }
 
-    /// Whether /sys/module has a module.
-    pub(crate) fn is_there(&self, name: &[u8]) -> bool {
-        matches!(self.world.states.of(name), Some(status) if status.state != ModuleState::Other)
-    }
-
     /// Whether the kernel has a module now.
     pub(crate) fn is_in_kernel(&self, name: &[u8]) -> bool {
         self.world.index.is_builtin(name) || self.is_live(name)
     }
 
-    /// Whether the blacklist keeps a module from being loaded.
-    pub(crate) fn is_barred(&self, object: &Object) -> bool {
-        self.world.conf.is_blacklisted(&object.name)
-            && (object.alias.is_some() || self.query.use_blacklist)
+    /// Whether modules are to be removed.
+    pub(crate) fn is_removal(&self) -> bool {
+        matches!(self.query.ask, Ask::Remove | Ask::ShowRemoval)
     }
 
-    /// Whether a line or a text has a module of this name.
-    pub(crate) fn is_module(&self, name: &[u8]) -> bool {
+    /// Whether modules.dep has a module.
+    pub(crate) fn has_file(&self, name: &[u8]) -> bool {
         self.world.index.dependencies().find(name).is_some()
-            || self.world.index.is_builtin(name)
-            || self.world.conf.has_install_named(name)
-            || self.world.conf.has_remove_named(name)
+    }
+
+    /// Whether an object is built in.
+    pub(crate) fn is_built_in(&self, name: &[u8], is_alias: bool) -> bool {
+        is_alias || self.world.index.is_builtin(name)
+    }
+
+    /// Whether a line or a text has a module of this name, or a pattern of commands matches it.
+    pub(crate) fn is_module(&self, alloc: Global, name: &[u8]) -> Result<bool, AllocError> {
+        let (conf, index) = (self.world.conf, self.world.index);
+        Ok(
+            self.has_file(name)
+                || index.is_builtin(name)
+                || conf.has_install_named(name)
+                || conf.has_remove_named(name)
+                || conf.install_of(alloc, name)?.is_some()
+                || conf.remove_of(alloc, name)?.is_some(),
+        )
     }
 }

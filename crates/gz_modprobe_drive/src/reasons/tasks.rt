@@ -4,12 +4,27 @@ use indexmap::{IndexMap, IndexSet};
 use kmod_query::Object;
 use std::alloc::{AllocError, Global};
 
-/// A module whose own lines are to be told, with the alias by which it came; or whose needs are.
+/// What is to be told of a module.
+#[derive(Clone, Copy, PartialEq, Eq, Hash)]
+pub(crate) enum Part {
+    /// The lines of a module that a name of the query stands for.
+    Named,
+    /// The lines of another module.
+    Own,
+    /// The soft items that are removed before a module, which stays since it is in use.
+    Held,
+    /// What a module needs.
+    Needs,
+}
+
+/// A module of which something is to be told, with the alias by which it came. `builtin` says that this was an alias of
+/// modules.builtin.modinfo.
 #[derive(Clone, PartialEq, Eq, Hash, Drop)]
 pub(crate) struct Task {
     pub(crate) name: Vec<u8>,
     pub(crate) alias: Option<Vec<u8>>,
-    pub(crate) needs: bool,
+    pub(crate) builtin: bool,
+    pub(crate) part: Part,
 }
 
 /// Tasks in the order in which they came.
@@ -28,34 +43,52 @@ impl Tasks {
         }
     }
 
-    pub(crate) fn len(&self) -> usize {
-        self.all.len()
-    }
-
     fn insert(
         &mut self,
         alloc: Global,
         name: &[u8],
         alias: &Option<Vec<u8>>,
-        needs: bool,
+        builtin: bool,
+        part: Part,
     ) -> Result<(), AllocError> {
         self.all.insert(Task {
             name: Vec::from_slice(alloc, name)?,
             alias: alias.clone()?,
-            needs,
+            builtin,
+            part,
         })?;
         Ok(())
     }
 
     /// Adds a module that another one needs.
     pub(crate) fn add_need(&mut self, alloc: Global, name: &[u8]) -> Result<(), AllocError> {
-        self.insert(alloc, name, &None, false)
+        self.insert(alloc, name, &None, false, Part::Own)
     }
 
-    /// Adds a module, and then what it needs.
-    pub(crate) fn add(&mut self, alloc: Global, object: &Object) -> Result<(), AllocError> {
-        self.insert(alloc, &object.name, &object.alias, false)?;
-        self.insert(alloc, &object.name, &None, true)
+    /// Adds what a module needs.
+    pub(crate) fn add_needs(&mut self, alloc: Global, name: &[u8]) -> Result<(), AllocError> {
+        self.insert(alloc, name, &None, false, Part::Needs)
+    }
+
+    /// Adds a part of a module.
+    pub(crate) fn add_part(
+        &mut self,
+        alloc: Global,
+        object: &Object,
+        part: Part,
+    ) -> Result<(), AllocError> {
+        self.insert(alloc, &object.name, &object.alias, object.builtin, part)
+    }
+
+    /// Adds a module that is to be loaded, and then what it needs.
+    pub(crate) fn add_load(
+        &mut self,
+        alloc: Global,
+        object: &Object,
+        part: Part,
+    ) -> Result<(), AllocError> {
+        self.add_part(alloc, object, part)?;
+        self.add_needs(alloc, &object.name)
     }
 
     /// Whether a word of a softdep line stands for a module, None where it was not told.
@@ -63,19 +96,15 @@ impl Tasks {
         self.words.get(word).copied()
     }
 
-    /// Adds the modules for which a word of a softdep line stands, which was told. Whether there are any is answered.
+    /// Notes that a word of a softdep line was told, and whether it stands for a module.
     pub(crate) fn add_word(
         &mut self,
         alloc: Global,
         word: &[u8],
-        objects: &[Object],
-    ) -> Result<bool, AllocError> {
-        let found = !objects.is_empty();
-        for object in objects {
-            self.add(alloc, object)?;
-        }
+        found: bool,
+    ) -> Result<(), AllocError> {
         self.words.insert(Vec::from_slice(alloc, word)?, found)?;
-        Ok(found)
+        Ok(())
     }
 
     /// The task of a number, from 0.

@@ -1,12 +1,12 @@
 //! What is told of a module: the lines that count for it, and those that do not.
 
 use crate::reasons::heads::Heads;
-use crate::reasons::tasks::Tasks;
+use crate::reasons::tasks::{Part, Task, Tasks};
 use crate::reasons::told::{Saying, Spot, Told};
 use crate::reasons::told_words::DEPENDENCIES;
 use kmod_conf::TextLine;
 use kmod_names::{Place, Text};
-use kmod_query::{Ask, ModuleStatus, install_line, remove_line};
+use kmod_query::{Ask, Object, install_line};
 use std::alloc::AllocError;
 use text_parts::is_same;
 
@@ -38,28 +38,32 @@ impl Told<'_> {
         self.say_of_each(name, what, &named.blacklist, name, None);
     }
 
-    /// Tells a module that another one needs.
-    fn tell_need(
-        &mut self,
-        tasks: &mut Tasks,
-        name: &[u8],
-        need: &[u8],
-        number: usize,
-    ) -> Result<(), AllocError> {
-        let what = Saying::with_name(b"needed by ", name);
-        self.say(need, what, Spot::Line(DEPENDENCIES, number));
-        tasks.add_need(self.alloc, need)
-    }
-
-    /// Tells what a module needs.
-    pub(crate) fn tell_needs(&mut self, tasks: &mut Tasks, name: &[u8]) -> Result<(), AllocError> {
+    /// Tells what a module needs, and answers it.
+    fn tell_needed(&mut self, name: &[u8]) -> Result<Vec<Text>, AllocError> {
         let index = self.known.world.index;
         let Some(line) = index.dependencies().find(name) else {
-            return Ok(());
+            return Ok(Vec::new(self.alloc));
         };
         let needs = line.needed_names(self.alloc)?;
         for need in needs.iter() {
-            self.tell_need(tasks, name, need.as_bytes(), line.number())?;
+            let what = Saying::with_name(b"needed by ", name);
+            self.say(
+                need.as_bytes(),
+                what,
+                Spot::Line(DEPENDENCIES, line.number()),
+            );
+        }
+        Ok(needs)
+    }
+
+    /// Tells what a module needs, and goes on with it: what is loaded by its own lines, what is to be removed by its state.
+    pub(crate) fn tell_needs(&mut self, tasks: &mut Tasks, name: &[u8]) -> Result<(), AllocError> {
+        for need in &self.tell_needed(name)? {
+            if self.known.is_removal() {
+                self.tell_need_state(need.as_bytes())?;
+            } else {
+                tasks.add_need(self.alloc, need.as_bytes())?;
+            }
         }
         Ok(())
     }
@@ -82,7 +86,7 @@ impl Told<'_> {
 
     /// Tells the line whose command counts for a module, or why it is passed over, and the lines of this very name that
     /// do not count.
-    fn tell_commands(
+    pub(crate) fn tell_commands(
         &mut self,
         name: &[u8],
         kind: &[u8],
@@ -98,17 +102,32 @@ impl Told<'_> {
         self.say_of_each(name, Saying::with_name(kind, LATER), lines, name, counting);
     }
 
+    /// Goes on with the modules for which a word of a softdep line stands.
+    fn follow(&mut self, tasks: &mut Tasks, objects: &[Object]) -> Result<(), AllocError> {
+        for object in objects {
+            if self.known.is_removal() {
+                let _ = self.begin_removal(tasks, object, true)?;
+            } else {
+                tasks.add_load(self.alloc, object, Part::Own)?;
+            }
+        }
+        Ok(())
+    }
+
     /// Tells why a word of a softdep line stands for modules, once. Whether it stands for any is answered.
     fn tell_soft(&mut self, tasks: &mut Tasks, word: &[u8]) -> Result<bool, AllocError> {
         if let Some(found) = tasks.is_found(word) {
             return Ok(found);
         }
-        let objects = self.tell_word(word)?;
-        tasks.add_word(self.alloc, word, &objects)
+        let found = self.tell_word(word)?;
+        let objects = found.as_deref().unwrap_or(&[]);
+        tasks.add_word(self.alloc, word, !objects.is_empty())?;
+        self.follow(tasks, objects)?;
+        Ok(!objects.is_empty())
     }
 
     /// Tells words of a softdep line. Whether one of them stands for a module is answered.
-    fn tell_items(
+    pub(crate) fn tell_items(
         &mut self,
         tasks: &mut Tasks,
         name: &[u8],
@@ -126,7 +145,11 @@ impl Told<'_> {
     }
 
     /// Tells the soft items of a module. Whether it has some is answered.
-    fn tell_softdep(&mut self, tasks: &mut Tasks, name: &[u8]) -> Result<bool, AllocError> {
+    pub(crate) fn tell_softdep(
+        &mut self,
+        tasks: &mut Tasks,
+        name: &[u8],
+    ) -> Result<bool, AllocError> {
         let conf = self.known.world.conf;
         let Some(line) = conf.softdep_of(self.alloc, name)? else {
             return Ok(false);
@@ -140,75 +163,46 @@ impl Told<'_> {
         Ok(before || after)
     }
 
-    /// Tells what counts for a load of a module.
-    fn tell_loaded(
-        &mut self,
-        tasks: &mut Tasks,
-        name: &[u8],
-        alias: Option<&[u8]>,
-        is_bare: bool,
-    ) -> Result<(), AllocError> {
-        let has_items = !is_bare && self.tell_softdep(tasks, name)?;
-        if self.known.query.ask == Ask::DryRun && self.known.is_in_kernel(name) {
-            self.tell_in_kernel(name, b"");
-            return Ok(());
-        }
-        self.tell_options(name, alias)?;
+    /// Tells what counts for a load of a module that the kernel does not have.
+    fn tell_line(&mut self, task: &Task, is_bare: bool, has_items: bool) -> Result<(), AllocError> {
+        let (name, alias) = (task.name.as_slice(), task.alias.as_deref());
+        let line = install_line(self.alloc, &self.known.world, name, alias)?;
         let why: &[u8] = match (is_bare, has_items) {
             (true, _) => b", passed over by -i",
             (false, true) => b", passed over since it has soft items",
             (false, false) => b"",
         };
+        let is_loaded = self.known.has_file(name) || (line.is_some() && !is_bare && !has_items);
+        if is_loaded {
+            self.tell_options(name, alias)?;
+        }
         let named = self.known.named;
-        let line = install_line(self.alloc, &self.known.world, name, alias)?;
         self.tell_commands(name, b"install", line, &named.installs, why);
+        if !is_loaded && !self.known.is_built_in(name, task.builtin) {
+            self.say(name, Saying::of(b"no module has this name"), Spot::Nowhere);
+        }
         Ok(())
     }
 
-    /// Tells how many use a module.
-    fn tell_users(&mut self, name: &[u8], status: ModuleStatus) -> Result<(), AllocError> {
-        match status.users {
-            Some(users) if users > 0 => {
-                let number = format!(in self.alloc; "{users}")?;
-                self.tell_state(name, b"its count of users is ", number.as_bytes());
-                Ok(())
-            }
-            _ => Ok(()),
+    /// Tells what counts for a load of a module.
+    fn tell_loaded(&mut self, tasks: &mut Tasks, task: &Task) -> Result<(), AllocError> {
+        let name = task.name.as_slice();
+        let is_bare = self.known.query.ignore_commands && task.part == Part::Named;
+        let has_items = !is_bare && self.tell_softdep(tasks, name)?;
+        let is_dry = self.known.query.ask == Ask::DryRun;
+        if is_dry && (task.builtin || self.known.is_in_kernel(name)) {
+            self.tell_in_kernel(name, b"");
+            return Ok(());
         }
-    }
-
-    /// Tells what counts for a removal of a module.
-    fn tell_removed(
-        &mut self,
-        tasks: &mut Tasks,
-        name: &[u8],
-        alias: Option<&[u8]>,
-    ) -> Result<(), AllocError> {
-        let is_bare = self.known.query.ignore_commands;
-        if let Some(status) = self.known.world.states.of(name) {
-            self.tell_users(name, status)?;
-        }
-        if !is_bare {
-            let _ = self.tell_softdep(tasks, name)?;
-        }
-        let why: &[u8] = if is_bare { b", passed over by -i" } else { b"" };
-        let named = self.known.named;
-        let line = remove_line(self.alloc, &self.known.world, name, alias)?;
-        self.tell_commands(name, b"remove", line, &named.removes, why);
-        Ok(())
+        self.tell_line(task, is_bare, has_items)
     }
 
     /// Tells the lines of a module that count, and those of its name that do not.
-    pub(crate) fn tell_own(
-        &mut self,
-        tasks: &mut Tasks,
-        name: &[u8],
-        alias: Option<&[u8]>,
-        is_bare: bool,
-    ) -> Result<(), AllocError> {
-        match self.known.query.ask {
-            Ask::Remove | Ask::ShowRemoval => self.tell_removed(tasks, name, alias),
-            _ => self.tell_loaded(tasks, name, alias, is_bare),
+    pub(crate) fn tell_own(&mut self, tasks: &mut Tasks, task: &Task) -> Result<(), AllocError> {
+        if self.known.is_removal() {
+            self.tell_removed(tasks, &task.name, task.alias.as_deref())
+        } else {
+            self.tell_loaded(tasks, task)
         }
     }
 }

@@ -97,16 +97,16 @@ impl Told<'_> {
         }
     }
 
-    /// Tells why a word stands for modules, which are answered.
-    pub(crate) fn tell_word(&mut self, word: &[u8]) -> Result<Vec<Object>, AllocError> {
+    /// Tells why a word stands for modules, which are answered. None where it is no name.
+    pub(crate) fn tell_word(&mut self, word: &[u8]) -> Result<Option<Vec<Object>>, AllocError> {
         let Some(name) = normal_alias(self.alloc, word)? else {
             let what = Saying::of(b"no name, since a bracket stands alone");
             self.say(word, what, Spot::Nowhere);
-            return Ok(Vec::new(self.alloc));
+            return Ok(None);
         };
         let finding = find_name(self.alloc, &self.known.world, name.as_bytes())?;
         self.tell_finding(word, name.as_bytes(), &finding);
-        finding.objects(self.alloc, name.as_bytes())
+        Ok(Some(finding.objects(self.alloc, name.as_bytes())?))
     }
 
     /// Tells at most `NEAR_NAMES` modules whose names are `name` or near it.

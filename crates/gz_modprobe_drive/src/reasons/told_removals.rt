@@ -1,0 +1,118 @@
+//! What is told of a module that is to be removed.
+
+use crate::reasons::tasks::{Part, Tasks};
+use crate::reasons::told::Told;
+use kmod_query::{Asked, ModuleStatus, Object, Verdict, is_in_use, judge, remove_line};
+use std::alloc::AllocError;
+
+impl Told<'_> {
+    /// Tells how many use a module, where some do.
+    fn tell_users(&mut self, name: &[u8], status: ModuleStatus) -> Result<(), AllocError> {
+        match status.users {
+            Some(users) if users > 0 => {
+                let number = format!(in self.alloc; "{users}")?;
+                self.tell_state(name, b"its count of users is ", number.as_bytes());
+                Ok(())
+            }
+            _ => Ok(()),
+        }
+    }
+
+    /// Tells why a module that another one needs stays, where it does.
+    pub(crate) fn tell_need_state(&mut self, name: &[u8]) -> Result<(), AllocError> {
+        match self.known.world.states.of(name) {
+            Some(status) => self.tell_users(name, status),
+            None => {
+                self.tell_state(name, b"not loaded", b"");
+                Ok(())
+            }
+        }
+    }
+
+    /// Tells why a module is not removed: it is built in, or not loaded.
+    fn tell_kept(&mut self, object: &Object) {
+        let name = object.name.as_slice();
+        if self.known.is_built_in(name, object.builtin) {
+            self.tell_built_in(name, name, b", so it is not removed");
+        } else {
+            self.tell_state(name, b"not loaded", b"");
+        }
+    }
+
+    /// Goes on with a module that is removed if it is not in use. Whether it is in use is answered.
+    fn begin_removed(
+        &mut self,
+        tasks: &mut Tasks,
+        object: &Object,
+        is_held: bool,
+    ) -> Result<bool, AllocError> {
+        let part = if is_held { Part::Held } else { Part::Own };
+        tasks.add_part(self.alloc, object, part)?;
+        if is_held {
+            self.tell_need_state(&object.name)?;
+        }
+        Ok(is_held)
+    }
+
+    /// Begins with a module that is to be removed, a soft item or not. Whether it is refused is answered.
+    pub(crate) fn begin_removal(
+        &mut self,
+        tasks: &mut Tasks,
+        object: &Object,
+        is_soft: bool,
+    ) -> Result<bool, AllocError> {
+        let asked = Asked {
+            alloc: self.alloc,
+            world: self.known.world,
+            query: self.known.query,
+        };
+        match judge(&asked, is_soft, object)? {
+            Verdict::Remove => {
+                let is_held = is_in_use(&asked, object)?;
+                self.begin_removed(tasks, object, is_held)
+            }
+            Verdict::Pass => {
+                self.tell_kept(object);
+                Ok(false)
+            }
+            Verdict::Refuse(_) => {
+                self.tell_kept(object);
+                Ok(true)
+            }
+        }
+    }
+
+    /// Tells the soft items that are removed before a module that is in use.
+    pub(crate) fn tell_held(&mut self, tasks: &mut Tasks, name: &[u8]) -> Result<(), AllocError> {
+        if self.known.query.ignore_commands {
+            return Ok(());
+        }
+        let conf = self.known.world.conf;
+        if let Some(line) = conf.softdep_of(self.alloc, name)? {
+            let (items, place) = (line.items.post(), line.place);
+            let _ = self.tell_items(tasks, name, b"softdep after ", items, place)?;
+        }
+        Ok(())
+    }
+
+    /// Tells what counts for a removal of a module.
+    pub(crate) fn tell_removed(
+        &mut self,
+        tasks: &mut Tasks,
+        name: &[u8],
+        alias: Option<&[u8]>,
+    ) -> Result<(), AllocError> {
+        let is_bare = self.known.query.ignore_commands;
+        if !is_bare {
+            let _ = self.tell_softdep(tasks, name)?;
+        }
+        let why: &[u8] = if is_bare { b", passed over by -i" } else { b"" };
+        let named = self.known.named;
+        let line = remove_line(self.alloc, &self.known.world, name, alias)?;
+        self.tell_commands(name, b"remove", line, &named.removes, why);
+        if is_bare || line.is_none() {
+            tasks.add_needs(self.alloc, name)?;
+        }
+        Ok(())
+    }
+}
