@@ -5,14 +5,20 @@ use std::io::Write;
 
 /// Tells that nothing is loaded or removed, and how to see what would be done. No word of the command line is shown: a
 /// name may hold what a shell would do.
-fn tell_hint<E: Write>(what: &[u8], words: &[u8], errors: &mut E) {
+fn tell_hint<E: Write>(what: &[u8], words: &[u8], verb: &[u8], errors: &mut E) {
     write_parts(
         errors,
         b"gz-modprobe: ERROR: nothing is ",
         what,
         b" here: the same words with -n -v show what would be done, and 'gz-modprobe ",
     );
-    write_parts(errors, words, b"NAME", b" | sh' does it\n");
+    write_parts(
+        errors,
+        words,
+        b"NAME",
+        b" | sh' does it if each line begins with ",
+    );
+    write_parts(errors, verb, b"\n", b"");
 }
 
 /// Tells why a wish is no query, at any verbosity.
@@ -24,14 +30,15 @@ pub(crate) fn tell_refusal<E: Write>(wish: Wish, errors: &mut E) {
                 errors,
                 b"ERROR: ",
                 b"files of modules are not read:",
-                b" see modinfo(8)",
+                b" see modinfo(8) and nm(1)",
             );
         }
         Wish::RemoveHolders => {
-            tell_line(errors, b"ERROR: ", b"--remove-holders", b" is not answered");
+            let text = b"--remove-holders, --remove-dependencies";
+            tell_line(errors, b"ERROR: ", text, b" are not answered: see lsmod(8)");
         }
-        Wish::Load => tell_hint(b"loaded", b"-n -v ", errors),
-        Wish::Removal => tell_hint(b"removed", b"-r -n -v ", errors),
+        Wish::Load => tell_hint(b"loaded", b"-n -v ", b"insmod", errors),
+        Wish::Removal => tell_hint(b"removed", b"-r -n -v ", b"rmmod", errors),
         _ => {}
     }
 }

@@ -10,8 +10,10 @@ pub(crate) const HELP: &str = "Usage:
   gz-modprobe -n [-v] [options] [-i] [-b] modulename [parameter...]
   gz-modprobe -n [-v] [options] -a [-i] [-b] modulename [modulename...]
   gz-modprobe -n [-v] [options] -r [-a] [-i] modulename [modulename...]
-  gz-modprobe -D [options] [-a] [-i] [-b] modulename [modulename...]
-  gz-modprobe -R [options] [-a] modulename [modulename...]
+  gz-modprobe -D [options] [-i] [-b] modulename [parameter...]
+  gz-modprobe -D [options] -a [-i] [-b] modulename [modulename...]
+  gz-modprobe -R [options] modulename
+  gz-modprobe -R [options] -a modulename [modulename...]
   gz-modprobe -c [options]
 
 It answers what modprobe(8) of kmod 30 answers, and loads and removes nothing.
@@ -46,6 +48,7 @@ Accepted without effect: -f, --force, --force-modversion, --force-vermagic,
 -s, --syslog and -w, --wait=MSEC.
 Options of MODPROBE_OPTIONS come first.
 
-Example, all that would be done for a device, done by a shell:
+Example, all that would be done for a device, done by a shell if each line begins
+with insmod:
   gz-modprobe -n -v snd_hda_intel | sh
 ";
