@@ -64,6 +64,7 @@ static void names(gz_catalogue *catalogue)
     CHECK(strcmp(name, "snd_pcm"), 0);
     memset(name, 'x', sizeof name);
     CHECK(gz_name(catalogue, PCM, name, 7), GZ_TOO_SHORT);
+    CHECK(gz_name(catalogue, PCM, name, 0), GZ_TOO_SHORT);
     CHECK(name[0], 'x');
     CHECK(gz_name(catalogue, PCM, name, 8), GZ_DONE);
     CHECK(strcmp(name, "snd_pcm"), 0);

@@ -22,10 +22,12 @@
  *   - A handle begins as GZ_EMPTY, and gz_read or a gz_new call fills it. Every other call wants full handles, and fills
  *     no full one. The gz_free_ calls also take an empty one.
  *   - A handle is in one call at a time. Handles of one table may be in calls of several threads at once.
- *   - A handle is moved, not copied: after `b = a` only b is used. After gz_free_ it is empty.
+ *   - A handle is moved, not copied: after `b = a` only b is used. After gz_free_ it is empty. A catalogue is a handle too:
+ *     threads that ask one lock it, or each reads one of its own.
  *   - A teller meets callers of its own table.
  *   - A hand-over of a handle to another thread is ordered by a lock, a thread's start or join, or a seq_cst atomic.
- *   - Lengths are true, and what a pointer points to is not changed by others during the call.
+ *   - Lengths are true. Pointers are not NULL, but for that of an array of length 0, and lead to different places. What they
+ *     lead to is not changed by others during the call.
  *   - No call from a signal handler, and none in the forked child of a process with threads.
  *   - malloc, realloc and free are of one allocator, whose blocks are aligned as C's are.
  * Each comment names the numbers that a call may answer beside GZ_DONE. A refusal changes nothing.
@@ -83,7 +85,7 @@ typedef enum gz_number {
     GZ_BAD_LINE = 24,       /* the line is none of a catalogue, or stands where it may not */
     GZ_DUPLICATE = 25,      /* a module of the name stands already */
     GZ_TWICE_EXPORTED = 26, /* the symbol is exported already */
-    GZ_TOO_MANY_MODULES = 27, /* more than 256 modules, 1,024 in version 2 or 65,535 in version 3 */
+    GZ_TOO_MANY_MODULES = 27, /* more than 256, after a line `version 2` 1,024, after `version 3` 65,535 */
     GZ_OUT_OF_MEMORY = 28,  /* malloc answered NULL, and nothing is kept */
     GZ_BUSY = 32,           /* each try was missed: others changed the module's word between, or had the lock */
     GZ_OUT_OF_RANGE = 33,   /* the worker, the slot or the place is none of the table */
@@ -153,9 +155,11 @@ uint32_t gz_caller_meet_book(gz_caller *caller, uint32_t tries, gz_teller *telle
 void gz_caller_free(gz_caller caller);
 void gz_teller_free(gz_teller teller);
 
-/* What a call of a table orders. The library's atomics are sequentially consistent: of two calls on one table the later
- * sees what was written before the earlier. The thread sanitizer does not see into the library, so it is told here. It is
- * told of all tables at once: a race between users of two tables may then stay unseen. */
+/* What calls order. What was written before gz_end_load is seen after a get that succeeds, and what was written before a
+ * reference was given back is seen after a call that finds the module unused. Of two managed calls for one worker, or of
+ * two of the book, the later sees what was written before the earlier. Nothing more is promised. The thread sanitizer does
+ * not see into the library, so it is told here, and more than that: that each call sees what was written before any earlier
+ * one, of any table. So a race of threads that have only calls of the library between them may stay unseen. */
 #ifdef GZ_THREAD_SANITIZER
 static inline void gz_before_call(void) { __tsan_release((void *)(uintptr_t)gz_version); }
 static inline gz_number gz_after_call(uint32_t number)
@@ -171,7 +175,8 @@ static inline gz_number gz_after_call(uint32_t number)
 /* ---- Catalogues ---- */
 
 /* Reads a catalogue from `length` bytes of text into an empty handle. Line by line: `module NAME`, `exports SYMBOL..`,
- * `needs SYMBOL..`, `size N`, `param NAME int|bool|charp`, `permanent`; a line that begins with # says nothing.
+ * `needs SYMBOL..`, `size N`, `param NAME int|bool|charp`, `permanent`; a line that begins with # says nothing. gourzhiel(5)
+ * has all lines, among them `version N`.
  * GZ_BAD_LINE, GZ_DUPLICATE, GZ_TWICE_EXPORTED, GZ_TOO_MANY_MODULES: the first fault, its line in *line, from 1.
  * GZ_OUT_OF_MEMORY. The handle is full only after GZ_DONE. */
 static inline gz_number gz_read(gz_catalogue *catalogue, const char *text, size_t length, size_t *line)
@@ -206,12 +211,12 @@ static inline bool gz_needs(gz_catalogue *catalogue, size_t slot, size_t other)
     return false;
 }
 
-/* The name of the module in a slot, ended with 0, in a buffer of `room` bytes, which is at least 1.
+/* The name of the module in a slot, ended with 0, in a buffer of `room` bytes.
  * GZ_OUT_OF_RANGE. GZ_TOO_SHORT: GZ_NAME_ROOM bytes are always enough. The buffer is left as it is then. */
 static inline gz_number gz_name(gz_catalogue *catalogue, size_t slot, char *buffer, size_t room)
 {
-    size_t length = 0;
-    gz_number number = (gz_number)gz_catalogue_name(catalogue, slot, (uint8_t *)buffer, room - 1, &length);
+    size_t length = 0, most = room ? room - 1 : 0; /* no name is empty */
+    gz_number number = (gz_number)gz_catalogue_name(catalogue, slot, (uint8_t *)buffer, most, &length);
     if (number == GZ_DONE)
         buffer[length] = 0;
     return number;

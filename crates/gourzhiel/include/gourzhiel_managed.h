@@ -1,8 +1,8 @@
 /* gourzhiel_managed.h: managed tables. gourzhiel.h includes it. */
+#include "gourzhiel.h" /* before the guard, so that this file may be included alone */
+
 #ifndef GOURZHIEL_MANAGED_H
 #define GOURZHIEL_MANAGED_H
-
-#include "gourzhiel.h"
 
 #ifdef __cplusplus
 extern "C" {
@@ -36,9 +36,9 @@ static inline size_t gz_workers(gz_caller *caller) { return gz_caller_workers(ca
 
 /* Managed calls. Each takes one lock, makes one call of a worker's leaf or of the book, and lets go: so that any thread
  * may call for any worker at any time, and each call that returns was made once. The library's own call tries the lock so
- * many times and then answers GZ_BUSY, with nothing changed; it never waits. The functions here wait: while it is GZ_BUSY
- * they let another thread run, by sched_yield, and call again. A thread that shall not wait calls gz_caller_ itself.
- * No promise is made that a lock comes free. */
+ * many times, and a get the module's word too, and then answers GZ_BUSY, with nothing changed; it never waits. The functions
+ * here wait: while it is GZ_BUSY they let another thread run, by sched_yield, and call again. A thread that shall not wait
+ * calls gz_caller_ itself. No promise is made that a lock comes free. */
 #define GZ_TRIES 64
 #define GZ_WAIT_FOR(call) \
     gz_number number; \
@@ -140,7 +140,7 @@ static inline gz_number gz_call_loaded_at(gz_caller *caller, size_t place, size_
     GZ_WAIT_FOR(gz_caller_loaded_at(caller, place, GZ_TRIES, slot));
 }
 
-/* The slot of a loaded module that needs the module, as gz_user. */
+/* The slot of a loaded module that needs the module, as gz_user. The catalogue is this thread's own, or locked. */
 static inline gz_number gz_call_user(gz_caller *caller, gz_catalogue *catalogue, size_t slot, size_t place, size_t *user)
 {
     size_t loaded = 0;

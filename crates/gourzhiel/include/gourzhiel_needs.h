@@ -11,7 +11,7 @@ extern "C" {
 /* ---- Loads and removals with needs ---- */
 
 /* What the program does for a module between the two halves of its load or removal: whether it went well. Of a removal
- * the answer is not looked at. It may not use the book, or the caller, that is in the call. */
+ * the answer is not looked at. It may not use the book, or the caller, that is in the call; it may use the catalogue. */
 typedef bool gz_work(void *data, size_t slot);
 
 /* The calls below, of a book or of a caller: the other is NULL. */
@@ -98,9 +98,9 @@ static inline gz_number gz_side_remove(gz_side side, gz_catalogue *catalogue, si
 
 /* Loads a module, and before it each module that it needs and that is not live, in the order of a plan: a module's needs
  * before it, in the order of the text. For each it begins the load, has `work` done, and ends it.
- * GZ_OUT_OF_MEMORY, and what gz_begin_load answers; GZ_EXISTS too where it is live already, and GZ_NEED_NOT_LIVE where
- * needs go round. GZ_NOT_LIVE: `work` said that it went wrong. *at is then the module of the refusal, and what was loaded
- * before it stays. */
+ * GZ_OUT_OF_MEMORY, and what gz_begin_load answers. GZ_EXISTS: *at is not absent; it is the module itself, or one that it
+ * needs and that is loading, draining or unloading. GZ_NEED_NOT_LIVE: needs go round. GZ_NOT_LIVE: `work` said that it went
+ * wrong. *at is then the module of the refusal, and what was loaded before it stays. */
 static inline gz_number gz_load_with_needs(gz_book *book, gz_catalogue *catalogue, size_t slot, gz_work *work, void *data,
                                            size_t *at)
 {
@@ -108,7 +108,8 @@ static inline gz_number gz_load_with_needs(gz_book *book, gz_catalogue *catalogu
     return gz_side_load(side, gz_slots(catalogue), slot, work, data, at);
 }
 
-/* The same by managed calls. Others may load and remove beside it. */
+/* The same by managed calls. Others may load and remove beside it: GZ_EXISTS may then tell of a need that another thread
+ * has just loaded, and the call is made again. The catalogue is this thread's own, or locked. */
 static inline gz_number gz_call_load_with_needs(gz_caller *caller, gz_catalogue *catalogue, size_t slot, gz_work *work,
                                                 void *data, size_t *at)
 {
@@ -125,7 +126,7 @@ static inline gz_number gz_remove_with_needs(gz_book *book, gz_catalogue *catalo
     return gz_side_remove(side, catalogue, slot, work, data);
 }
 
-/* The same by managed calls. */
+/* The same by managed calls. The catalogue is this thread's own, or locked. */
 static inline gz_number gz_call_remove_with_needs(gz_caller *caller, gz_catalogue *catalogue, size_t slot, gz_work *work,
                                                   void *data)
 {
