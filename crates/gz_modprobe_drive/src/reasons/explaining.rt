@@ -7,7 +7,7 @@ use crate::reasons::known::Known;
 use crate::reasons::named_lines::NamedLines;
 use crate::reasons::sources::Sources;
 use crate::reasons::tasks::{Part, Task, Tasks};
-use crate::reasons::told::Told;
+use crate::reasons::told::{Saying, Spot, Told};
 use kmod_query::{Ask, Object, Query, World, is_barred, is_fatal, is_passed};
 use std::alloc::{AllocError, Global};
 
@@ -36,7 +36,12 @@ impl Told<'_> {
         }
         let why = b", which does not hold for its own name without -b";
         self.tell_blacklist(&object.name, why);
-        tasks.add_load(self.alloc, object, Part::Named)
+        let part = if query.ignore_commands {
+            Part::Named
+        } else {
+            Part::Own
+        };
+        tasks.add_load(self.alloc, object, part)
     }
 
     /// Begins with a module that a name stands for. Whether it is refused is answered.
@@ -51,10 +56,21 @@ impl Told<'_> {
         }
     }
 
+    /// Tells the modules of a name that are left out, since an earlier one is refused.
+    fn tell_left_out(&mut self, refused: &Object, objects: &[Object]) {
+        for object in objects {
+            let what = Saying::with_name(b"not asked for, since ", &refused.name);
+            let what = what.and(b" is not removed", b"");
+            self.say(&object.name, what, Spot::Nowhere);
+        }
+    }
+
     /// Begins with the modules of a name, up to one that is refused. Whether one is refused is answered.
     fn begin_each(&mut self, tasks: &mut Tasks, objects: &[Object]) -> Result<bool, AllocError> {
-        for object in objects {
+        for (at, object) in objects.iter().enumerate() {
             if self.begin(tasks, object)? {
+                let later = objects.get(at.saturating_add(1)..);
+                self.tell_left_out(object, later.unwrap_or(&[]));
                 return Ok(true);
             }
         }
@@ -72,13 +88,26 @@ impl Told<'_> {
         self.begin_each(tasks, objects)
     }
 
-    /// Begins with the names, up to one whose refusal ends a removal.
+    /// Begins with a name. A removal is told to its end, which the refusal of a name may be.
+    fn tell_name(&mut self, tasks: &mut Tasks, word: &[u8]) -> Result<(), AllocError> {
+        let refused = self.begin_word(tasks, word)?;
+        if self.known.is_removal() {
+            self.tell_tasks(tasks)?;
+            if refused && is_fatal(&self.known.query) {
+                tasks.end();
+            }
+        }
+        Ok(())
+    }
+
+    /// Begins with the names, as far as they are asked for.
     fn begin_words(&mut self, tasks: &mut Tasks) -> Result<(), AllocError> {
         let query = self.known.query;
         for word in query.words.iter().take(name_count(&query)) {
-            if self.begin_word(tasks, word)? && self.known.is_removal() && is_fatal(&query) {
+            if tasks.has_ended() {
                 return Ok(());
             }
+            self.tell_name(tasks, word)?;
         }
         Ok(())
     }
@@ -93,8 +122,8 @@ impl Told<'_> {
 
     /// Tells what is to be told, and what that leads to.
     fn tell_tasks(&mut self, tasks: &mut Tasks) -> Result<(), AllocError> {
-        for at in 0..usize::MAX {
-            let Some(task) = tasks.copy_at(at)? else {
+        for _task in 0..usize::MAX {
+            let Some(task) = tasks.next()? else {
                 return Ok(());
             };
             self.tell_task(tasks, &task)?;
@@ -104,7 +133,7 @@ impl Told<'_> {
 
     /// Tells why the words of the query are answered as they are.
     fn tell_words(&mut self) -> Result<(), AllocError> {
-        let mut tasks = Tasks::new(self.alloc);
+        let mut tasks = Tasks::new(self.alloc, !self.known.query.all);
         self.begin_words(&mut tasks)?;
         self.tell_tasks(&mut tasks)
     }

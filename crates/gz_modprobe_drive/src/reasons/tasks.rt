@@ -31,14 +31,24 @@ pub(crate) struct Task {
 #[derive(Drop)]
 pub(crate) struct Tasks {
     all: IndexSet<Task>,
+    /// How many were told.
+    told: usize,
+    /// Whether nothing more is to be told, since a refusal ended the query.
+    ended: bool,
+    /// Whether a module that a name stands for is the same where another one asks for it.
+    merges: bool,
     /// The words of softdep lines that were told, each with whether it stands for a module.
     words: IndexMap<Vec<u8>, bool>,
 }
 
 impl Tasks {
-    pub(crate) fn new(alloc: Global) -> Tasks {
+    /// No tasks yet. `merges` says that a module which a name stands for is the same where another one asks for it.
+    pub(crate) fn new(alloc: Global, merges: bool) -> Tasks {
         Tasks {
             all: IndexSet::new(alloc),
+            told: 0,
+            ended: false,
+            merges,
             words: IndexMap::new(alloc),
         }
     }
@@ -51,12 +61,17 @@ impl Tasks {
         builtin: bool,
         part: Part,
     ) -> Result<(), AllocError> {
-        self.all.insert(Task {
+        let mut task = Task {
             name: Vec::from_slice(alloc, name)?,
             alias: alias.clone()?,
             builtin,
-            part,
-        })?;
+            part: Part::Named,
+        };
+        if part == Part::Own && self.merges && self.all.contains(&task) {
+            return Ok(());
+        }
+        task.part = part;
+        self.all.insert(task)?;
         Ok(())
     }
 
@@ -107,8 +122,24 @@ impl Tasks {
         Ok(())
     }
 
-    /// The task of a number, from 0.
-    pub(crate) fn copy_at(&self, at: usize) -> Result<Option<Task>, AllocError> {
-        self.all.get_index(at).cloned()
+    /// Notes that nothing more is to be told.
+    pub(crate) fn end(&mut self) {
+        self.ended = true;
+    }
+
+    pub(crate) fn has_ended(&self) -> bool {
+        self.ended
+    }
+
+    /// The next task.
+    pub(crate) fn next(&mut self) -> Result<Option<Task>, AllocError> {
+        if self.ended {
+            return Ok(None);
+        }
+        let task = self.all.get_index(self.told).cloned()?;
+        if task.is_some() {
+            self.told = self.told.saturating_add(1);
+        }
+        Ok(task)
     }
 }

@@ -106,7 +106,7 @@ impl Told<'_> {
     fn follow(&mut self, tasks: &mut Tasks, objects: &[Object]) -> Result<(), AllocError> {
         for object in objects {
             if self.known.is_removal() {
-                let _ = self.begin_removal(tasks, object, true)?;
+                self.follow_removal(tasks, object)?;
             } else {
                 tasks.add_load(self.alloc, object, Part::Own)?;
             }
@@ -142,6 +142,15 @@ impl Told<'_> {
             found = self.tell_soft(tasks, word.as_bytes())? || found;
         }
         Ok(found)
+    }
+
+    /// Tells the softdep line of a module that -i passes over, so that it has no soft items.
+    pub(crate) fn tell_bare_softdep(&mut self, name: &[u8]) -> Result<bool, AllocError> {
+        let conf = self.known.world.conf;
+        if let Some(line) = conf.softdep_of(self.alloc, name)? {
+            self.say_of(name, Saying::of(b"softdep, passed over by -i"), line.place);
+        }
+        Ok(false)
     }
 
     /// Tells the soft items of a module. Whether it has some is answered.
@@ -188,7 +197,11 @@ impl Told<'_> {
     fn tell_loaded(&mut self, tasks: &mut Tasks, task: &Task) -> Result<(), AllocError> {
         let name = task.name.as_slice();
         let is_bare = self.known.query.ignore_commands && task.part == Part::Named;
-        let has_items = !is_bare && self.tell_softdep(tasks, name)?;
+        let has_items = if is_bare {
+            self.tell_bare_softdep(name)?
+        } else {
+            self.tell_softdep(tasks, name)?
+        };
         let is_dry = self.known.query.ask == Ask::DryRun;
         if is_dry && (task.builtin || self.known.is_in_kernel(name)) {
             self.tell_in_kernel(name, b"");

@@ -1,25 +1,30 @@
 //! What is told of a module that is to be removed.
 
 use crate::reasons::tasks::{Part, Tasks};
-use crate::reasons::told::Told;
-use kmod_query::{Asked, ModuleStatus, Object, Verdict, is_in_use, judge, remove_line};
+use crate::reasons::told::{Saying, Spot, Told};
+use kmod_query::{Asked, ModuleStatus, Object, Verdict, is_fatal, is_in_use, judge, remove_line};
 use std::alloc::AllocError;
 
 impl Told<'_> {
-    /// Tells how many use a module, where some do.
+    /// Tells how many use a module, unless none does.
     fn tell_users(&mut self, name: &[u8], status: ModuleStatus) -> Result<(), AllocError> {
         match status.users {
-            Some(users) if users > 0 => {
+            Some(0) => {}
+            Some(users) => {
                 let number = format!(in self.alloc; "{users}")?;
                 self.tell_state(name, b"its count of users is ", number.as_bytes());
-                Ok(())
             }
-            _ => Ok(()),
+            None => self.tell_state(name, b"its count of users is not known", b""),
         }
+        Ok(())
     }
 
-    /// Tells why a module that another one needs stays, where it does.
+    /// Tells why a module stays that another one needs, or that is in use.
     pub(crate) fn tell_need_state(&mut self, name: &[u8]) -> Result<(), AllocError> {
+        if self.known.is_built_in(name, false) {
+            self.tell_built_in(name, name, b", so it is not removed");
+            return Ok(());
+        }
         match self.known.world.states.of(name) {
             Some(status) => self.tell_users(name, status),
             None => {
@@ -27,6 +32,21 @@ impl Told<'_> {
                 Ok(())
             }
         }
+    }
+
+    /// Goes on with a module for which a soft item stands. A refusal may end the removal.
+    pub(crate) fn follow_removal(
+        &mut self,
+        tasks: &mut Tasks,
+        object: &Object,
+    ) -> Result<(), AllocError> {
+        let refused = self.begin_removal(tasks, object, true)?;
+        if refused && is_fatal(&self.known.query) {
+            let what = Saying::of(b"stays, so the removal ends");
+            self.say(&object.name, what, Spot::Nowhere);
+            tasks.end();
+        }
+        Ok(())
     }
 
     /// Tells why a module is not removed: it is built in, or not loaded.
@@ -85,6 +105,7 @@ impl Told<'_> {
     /// Tells the soft items that are removed before a module that is in use.
     pub(crate) fn tell_held(&mut self, tasks: &mut Tasks, name: &[u8]) -> Result<(), AllocError> {
         if self.known.query.ignore_commands {
+            let _ = self.tell_bare_softdep(name)?;
             return Ok(());
         }
         let conf = self.known.world.conf;
@@ -103,8 +124,13 @@ impl Told<'_> {
         alias: Option<&[u8]>,
     ) -> Result<(), AllocError> {
         let is_bare = self.known.query.ignore_commands;
-        if !is_bare {
-            let _ = self.tell_softdep(tasks, name)?;
+        let _ = if is_bare {
+            self.tell_bare_softdep(name)?
+        } else {
+            self.tell_softdep(tasks, name)?
+        };
+        if tasks.has_ended() {
+            return Ok(());
         }
         let why: &[u8] = if is_bare { b", passed over by -i" } else { b"" };
         let named = self.known.named;
