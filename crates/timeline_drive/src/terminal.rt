@@ -63,10 +63,11 @@ fn push_axis(alloc: Global, text: &mut String, ticks: &[Tick]) -> Result<(), All
         if free <= at {
             let step = tick.step;
             let number = format!(in alloc; "{step}")?;
-            write_at(&mut line, at, number.as_bytes());
-            free = at
-                .saturating_add(letters(number.as_bytes()))
-                .saturating_add(1);
+            let end = at.saturating_add(letters(number.as_bytes()));
+            if end as usize <= line.len() {
+                write_at(&mut line, at, number.as_bytes());
+                free = end.saturating_add(1);
+            }
         }
     }
     push_line(text, &line)
