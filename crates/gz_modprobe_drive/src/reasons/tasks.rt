@@ -7,9 +7,9 @@ use std::alloc::{AllocError, Global};
 /// What is to be told of a module.
 #[derive(Clone, Copy, PartialEq, Eq, Hash)]
 pub(crate) enum Part {
-    /// The lines of a module that a name of the query stands for.
+    /// The lines of a module that a name of the query stands for, under -i, which passes its commands and soft items over.
     Named,
-    /// The lines of another module.
+    /// The lines of a module.
     Own,
     /// The soft items that are removed before a module, which stays since it is in use.
     Held,
