@@ -156,10 +156,11 @@ void gz_caller_free(gz_caller caller);
 void gz_teller_free(gz_teller teller);
 
 /* What calls order. What was written before gz_end_load is seen after a get that succeeds, and what was written before a
- * reference was given back is seen after a call that finds the module unused. Of two managed calls for one worker, or of
- * two of the book, the later sees what was written before the earlier. Nothing more is promised. The thread sanitizer does
- * not see into the library, so it is told here, and more than that: that each call sees what was written before any earlier
- * one, of any table. So a race of threads that have only calls of the library between them may stay unseen. */
+ * reference was given back is seen after a call that finds the module unused. Of two managed calls that took the lock of
+ * one worker, or of the book, the later sees what was written before the earlier. Nothing more is promised. The thread
+ * sanitizer does not see into the library, so it is told here, and more than that: that each call sees what was written
+ * before any earlier one, of any table. So a race of threads that have only calls of the library between them may stay
+ * unseen. */
 #ifdef GZ_THREAD_SANITIZER
 static inline void gz_before_call(void) { __tsan_release((void *)(uintptr_t)gz_version); }
 static inline gz_number gz_after_call(uint32_t number)
