@@ -18,7 +18,8 @@ fn tell_hint<E: Write>(what: &[u8], words: &[u8], verb: &[u8], errors: &mut E) {
         b"NAME",
         b" | sh' does it if each line begins with ",
     );
-    write_parts(errors, verb, b"\n", b"");
+    let end = b", and holds nothing that a shell takes for its own\n";
+    write_parts(errors, verb, end, b"");
 }
 
 /// Tells why a wish is no query, at any verbosity.

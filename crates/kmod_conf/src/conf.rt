@@ -149,7 +149,7 @@ impl Conf {
         self.softdeps.lines()
     }
 
-    /// The lines that say nothing, each with its first word, and the place of the last of the lines that are joined in it.
+    /// The bad lines, each with its first word, and the place of the last of the lines that are joined in it.
     pub fn bad(&self) -> &[NameLine]
         ensures { result.now ≡ self.now.bad }
     {

@@ -4,14 +4,14 @@ ghost use Rattle.std.specs.Prelude.{◌≡◌, ℕ, List};
 use crate::softdep::SoftItems;
 use kmod_names::{Place, Text};
 
-/// A name, as a blacklist line has it; or the first word of a line that says nothing, and the place of its end.
+/// A name, as a blacklist line has it; or the first word of a bad line, and the place of its end.
 #[derive(Drop)]
 pub struct NameLine {
     pub name: Text,
     pub place: Place,
 }
 
-/// A name, and the text after it as it stands: options, or the command of an install or a remove line.
+/// A name, and the text after it: options, with blanks for tabs, or the command of an install or a remove line as it stands.
 #[derive(Drop)]
 pub struct TextLine {
     pub name: Text,

@@ -1,4 +1,4 @@
-//! A line of modules.alias or modules.symbols.
+//! A line of modules.alias or modules.symbols, or an entry of modules.builtin.modinfo.
 ghost use Rattle.std.specs.Prelude.{◌≡◌, None, Some, slice_get, IfOk, MatchOption, option_copied};
 ghost use Rattle.std.specs.List.{filter_map};
 ghost use Rattle.kmod_names.specs.Names.{normal_alias};
@@ -11,7 +11,7 @@ use kmod_names::{Text, normal_alias};
 use std::alloc::{AllocError, Global};
 use std::marker::Model;
 
-/// A line `alias KEY MODULE`, with its number, from 1.
+/// A line `alias KEY MODULE`, or an entry `MODULE.alias=KEY`, with its number, from 1.
 #[derive(Drop)]
 pub struct IndexLine {
     key: Text,
@@ -102,7 +102,7 @@ impl IndexLine {
         self.name.as_bytes()
     }
 
-    /// The number of the line, from 1.
+    /// The number of the line or the entry, from 1.
     pub fn number(&self) -> usize
         ensures { result ≡ self.now.number }
     {

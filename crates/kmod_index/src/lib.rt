@@ -1,4 +1,4 @@
-//! The texts that depmod writes into a folder of modules, as kmod reads what it writes beside them.
+//! The texts that depmod and the kernel's build write into a folder of modules, as kmod reads the tables beside them.
 #![tactic(auto)]
 
 mod aliases;

@@ -2,7 +2,8 @@
 use Rattle.std.specs.Prelude.{ℕ, Bool, List, Option}
 use Rattle.kmod_query.specs.declared.states.ModuleStatus.{ModuleStatus}
 
--- Names are in normal form, but for words of softdep lines, which stand as they were read.
+-- A name that is asked for is in normal form. Modules that lines and files name stand as they were read, and so do words of
+-- softdep lines.
 pub record Facts : Type 0 where
   -- the normal form of a word, None where its brackets do not match
   pub normal : List ℕ → Option (List ℕ)

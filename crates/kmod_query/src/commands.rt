@@ -38,8 +38,9 @@ fn own_remove<'a>(world: &World<'a>, name: &[u8], alias: Option<&[u8]>) -> Optio
     }
 }
 
-/// The install line whose command loads a module, by the module's name and the alias by which it came: the line of just
-/// this name that found it, or else the first whose pattern matches. It fails only if memory runs out.
+/// The install line that counts for a module where it has no soft items, by the module's name and the alias by which it
+/// came: the line of just this name that found it, or else the first whose pattern matches. It fails only if memory runs
+/// out.
 pub fn install_line<'a>(
     alloc: Global,
     world: &World<'a>,

@@ -12,8 +12,8 @@ ghost use Rattle.kmod_query.specs.declared.query.Ask.TheVariants.{ShowDepends};
 ghost use Rattle.kmod_query.specs.declared.query.Query.{Query};
 ghost use Rattle.kmod_query.specs.declared.world.World.{World};
 
-/// What `--show-depends` answers does not depend on the states of modules: worlds with the same configuration, the same
-/// texts and the same folder answer the same.
+/// What `--show-depends` without `--remove` answers does not depend on the states of modules: worlds with the same
+/// configuration, the same texts and the same folder answer the same.
 pub fn show_depends_ignores_states()
     ensures { (one other : World) (query : Query) → query.ask ≡ ShowDepends
         → one.conf.now ≡ other.conf.now → one.index.now ≡ other.index.now → one.directory.now ≡ other.directory.now
@@ -35,7 +35,7 @@ pub fn names_are_answered_in_turn()
 {}
 
 /// A module that is asked for is not loaded, nor what goes with it, where it is on the blacklist and was found by an alias, or
-/// is on it under `--use-blacklist`. Needs and soft items of another module are not held against the blacklist.
+/// is on it under `--use-blacklist`. Of needs and soft items of other modules it says nothing.
 pub fn blacklisted_modules_are_not_loaded()
     ensures alias { (facts : Facts) (query : Query) (parameters : List ℕ) (object : Object)
         → facts.is_blacklisted object.name ≡ true → is_some object.alias ≡ true
@@ -45,9 +45,10 @@ pub fn blacklisted_modules_are_not_loaded()
         → (load facts query parameters object).output ≡ [] }
 {}
 
-/// What a module needs hard is loaded before it. What `--show-depends` shows of a module that is not barred are the lines of its
-/// probe list, one after another. In that list stand the modules that it needs hard, in the order of modules.dep turned round, and
-/// then the module; others may stand before, between and after them. It is said of a list that is done within the steps.
+/// What a module needs hard stands before an occurrence of it. What `--show-depends` without `--remove` shows of a module
+/// that is not barred are the lines of its probe list, one after another. In that list stand the modules that it needs
+/// hard, in the order of modules.dep turned round, and then the module; others may stand before, between and after them.
+/// It is said of a list that is done within the steps.
 pub fn hard_needs_come_first()
     ensures order { (facts : Facts) (bare : Bool) (top : Object) → is_done facts step_limit (top ∷ []) (first_tasks facts bare top) ≡ true
         → StandInOrder (map by_name (facts.needs top.name) ++ top ∷ []) (probe_list facts bare top) }

@@ -34,6 +34,6 @@ pub struct Query<'a> {
     /// 4 at first; each `--verbose` adds one, and `--quiet` sets it to 0. A message of FATAL is shown at 2 or more, an
     /// ERROR at 3, a WARNING at 4.
     pub verbosity: u64,
-    /// A name and its parameters, or names. None of them stands for an empty name.
+    /// A name and its parameters, or names. Without words nothing is answered, and nothing fails.
     pub words: &'a [&'a [u8]],
 }

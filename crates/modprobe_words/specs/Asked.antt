@@ -10,7 +10,7 @@ use Rattle.modprobe_words.specs.declared.switches.Switches.{Switches}
 use Rattle.modprobe_words.specs.declared.asked.Asked.{Asked as CodeAsked}
 use Rattle.modprobe_words.specs.Words.{Item, plain, with_value, operand, fault}
 
--- one option more; `-D` is a dry run too, `-q` sets the verbosity to 0 and `-v` adds 1 to it
+-- one option more; `-q` sets the verbosity to 0 and `-v` adds 1 to it
 abbrev pub with_switch : Switches → SwitchOption → Switches
 with_switch s switch.All = record s { all = true }
 with_switch s switch.Remove = record s { remove = true }

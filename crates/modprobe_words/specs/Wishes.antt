@@ -11,7 +11,7 @@ loads s =
     else (if s.show_depends then wish.ShowDepends
     else (if s.dry_run then wish.DryRun else wish.Load))
 
--- a removal is no dry run without `--dry-run` and `--show-depends`
+-- a removal with neither `--dry-run` nor `--show-depends` is refused
 abbrev pub removes : Switches → Wish
 removes s =
     if s.remove_holders then wish.RemoveHolders

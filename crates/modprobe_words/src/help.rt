@@ -39,7 +39,7 @@ Options of queries:
       --explain               Say on standard error which lines gave the answer
 
 General options:
-  -q, --quiet                 Tell no faults
+  -q, --quiet                 Show no lines of -n, and few messages
   -v, --verbose               Tell more
   -V, --version               Show the version
   -h, --help                  Show this help
@@ -49,6 +49,6 @@ Accepted without effect: -f, --force, --force-modversion, --force-vermagic,
 Options of MODPROBE_OPTIONS come first.
 
 Example, all that would be done for a device, done by a shell if each line begins
-with insmod:
+with insmod and holds nothing that a shell takes for its own, as a quote or a $:
   gz-modprobe -n -v snd_hda_intel | sh
 ";

@@ -15,7 +15,7 @@ pub(crate) struct Shown {
     ghost shown: { list_all is_shown bytes.items ≡ true },
 }
 
-/// A byte of a text as it is shown: a control character has no effect on a terminal, and ends no line.
+/// A byte of a text as it is shown: one below 32, or 127, has no effect on a terminal, and ends no line.
 fn shown_byte(byte: u8) -> u8
     ensures { result ≡ shown_byte byte }
 {
