@@ -9,7 +9,7 @@ fn main(rt: HostRuntime) -> ExitCode {
     let (Ok(words), Ok(options)) = (given_words(&rt), given_options(&rt)) else {
         return ExitCode::from(1);
     };
-    let options = options.as_ref().map(|text| text.as_slice());
+    let options = options.as_deref();
     let status = drive(&rt, &words, options, &mut rt.stdout(), &mut rt.stderr());
     ExitCode::from(status)
 }

@@ -1,6 +1,7 @@
 //! An answer, from the texts of a machine to a stream.
 ghost use Rattle.std.specs.Prelude.{◌≡◌, IfOk, IsTrue};
 ghost use Rattle.std.specs.Io.KnownBytes.{Appends};
+ghost use Rattle.kmod_query.specs.AnswerOf.{answer_of};
 ghost use Rattle.gz_modprobe_drive.specs.Answered.{IsAnswer, said_by, status_of};
 ghost use Rattle.gz_modprobe_drive.specs.Texts.{IsConfOf};
 
@@ -43,6 +44,25 @@ fn writes<O: Write>(output: &mut O, text: &[u8]) -> bool
     }
 }
 
+/// Answers a query of a world, which has what `machine` has, and writes the answer's output. It fails only if memory runs
+/// out.
+fn answer_world<O: Write, E: Write>(
+    alloc: Global,
+    machine: &Machine<'_>,
+    world: &World<'_>,
+    query: &Query<'_>,
+    output: &mut O,
+    messages: &mut Messages<'_, E>,
+) -> Result<Answered, AllocError>
+    ensures answer { IfOk result (λ own. own.answer ≡ answer_of world.now query.now) }
+    ensures written { IfOk result (λ own. IsTrue own.is_written → Appends (O.contents output.old) (O.contents output.new) own.answer.output) }
+{
+    let answer = answer_to(alloc, world, query)?;
+    let is_written = writes(output, answer.output());
+    explain(alloc, machine, world, query, messages);
+    Ok(Answered { answer, is_written })
+}
+
 /// Answers a query from the texts and states of a machine, and writes the answer's output, whether it is explained or not.
 /// `conf` is what the machine's configuration says. It fails only if memory runs out.
 #[tactic(auto, unfolding(crate::specs::Answered::said_by))]
@@ -65,8 +85,5 @@ pub(crate) fn answer_machine<O: Write, E: Write>(
         states: machine.states,
         directory: machine.directory,
     };
-    let answer = answer_to(alloc, &world, query)?;
-    let is_written = writes(output, answer.output());
-    explain(alloc, machine, &world, query, messages);
-    Ok(Answered { answer, is_written })
+    answer_world(alloc, machine, &world, query, output, messages)
 }

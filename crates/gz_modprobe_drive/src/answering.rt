@@ -5,11 +5,13 @@ use crate::answered::{Answered, answer_machine};
 use crate::configuration::conf_of;
 use crate::failures::tell_failures;
 use crate::queries::asks_states;
-use crate::sys::module_states;
+use crate::sys::add_states;
 use crate::texts::Machine;
 use kmod_conf::Conf;
-use kmod_query::{Ask, Query, States};
-use modprobe_files::{ConfTexts, Host, directory, is_rootless, read_configuration, read_modules};
+use kmod_query::{Query, States};
+use modprobe_files::{
+    ConfTexts, Host, ModuleTexts, directory, is_rootless, read_configuration, read_modules,
+};
 use modprobe_words::{Asked, Level, Messages};
 use std::alloc::{AllocError, Global};
 use std::env::Env;
@@ -70,21 +72,33 @@ fn answer_by<R: Files + AllocGlobal, O: Write, E: Write>(
     tell_answered(host, &answered, query, machine.directory, messages)
 }
 
-/// The states of the machine's modules, where they count.
-fn states_for<R: Files + AllocGlobal, E: Write>(
+/// Reads the states that a query asks of, and answers it from texts and states. The status is answered.
+fn answer_from<R: Files + AllocGlobal, O: Write, E: Write>(
     host: &Host<'_, R>,
-    ask: Ask,
+    conf: &ConfTexts,
+    modules: &ModuleTexts,
+    directory: &[u8],
+    query: &Query<'_>,
+    output: &mut O,
     messages: &mut Messages<'_, E>,
-) -> Result<States, AllocError> {
-    if asks_states(ask) {
-        module_states(host, messages)
-    } else {
-        Ok(States::new(host.rt.alloc()))
+) -> Result<u8, AllocError>
+    ensures { IfOk result (λ status. status ≤ 1) }
+{
+    let mut states = States::new(host.rt.alloc());
+    if asks_states(query.ask) {
+        add_states(host, &mut states, messages)?;
     }
+    let machine = Machine {
+        conf,
+        modules,
+        states: &states,
+        directory,
+    };
+    answer_by(host, &machine, query, output, messages)
 }
 
-/// Reads what counts for a folder of modules: the configuration, the folder's texts, and the states that a query asks of.
-/// Then it answers the query. The status is answered.
+/// Reads what counts for a folder of modules: the configuration and the folder's texts. Then it answers a query from them.
+/// The status is answered.
 fn answer_in<R: Files + AllocGlobal, O: Write, E: Write>(
     host: &Host<'_, R>,
     configurations: &[&[u8]],
@@ -97,14 +111,7 @@ fn answer_in<R: Files + AllocGlobal, O: Write, E: Write>(
 {
     let conf = read_configuration(host, directory, configurations, messages)?;
     let modules = read_modules(host, directory, messages)?;
-    let states = states_for(host, query.ask, messages)?;
-    let machine = Machine {
-        conf: &conf,
-        modules: &modules,
-        states: &states,
-        directory,
-    };
-    answer_by(host, &machine, query, output, messages)
+    answer_from(host, &conf, &modules, directory, query, output, messages)
 }
 
 /// Reads what a query asks of, and answers it. The status is answered.

@@ -1,26 +1,10 @@
 //! What the texts of a configuration say.
-ghost use Rattle.std.specs.Prelude.{◌≡◌, IfOk, OnOk, option_map};
-ghost use Rattle.gz_modprobe_drive.specs.Texts.{conf_from, conf_of, texts_in, with_command_line};
+ghost use Rattle.std.specs.Prelude.{◌≡◌, IfOk, OnOk};
+ghost use Rattle.gz_modprobe_drive.specs.Texts.{conf_from, conf_of, texts_in};
 
 use kmod_conf::Conf;
 use modprobe_files::{ConfTexts, TextFile};
 use std::alloc::{AllocError, Global};
-
-/// Adds what the kernel's command line says, where there is one.
-#[tactic(auto, unfolding(crate::specs::Texts::with_command_line))]
-fn add_command_line(
-    alloc: Global,
-    conf: &mut Conf,
-    source: usize,
-    line: Option<&Vec<u8>>,
-) -> Result<(), AllocError>
-    ensures { OnOk result (conf.new ≡ with_command_line conf.old source (option_map (λ text. text.now.items) line.entry)) }
-{
-    match line {
-        Some(text) => conf.add_command_line(alloc, source, text),
-        None => Ok(()),
-    }
-}
 
 /// Adds what files say, one after another. A place has the number of its file.
 fn add_files(alloc: Global, conf: &mut Conf, files: &[TextFile]) -> Result<(), AllocError>
@@ -38,13 +22,15 @@ fn add_files(alloc: Global, conf: &mut Conf, files: &[TextFile]) -> Result<(), A
 
 /// What the texts of a configuration say: the files, one after another, and then the kernel's command line. A place has the
 /// number of its file, and the command line has the number after them. It fails only if memory runs out.
-#[tactic(auto, unfolding(crate::specs::Texts::conf_of, crate::specs::Texts::with_texts))]
+#[tactic(auto, unfolding(crate::specs::Texts::conf_of, crate::specs::Texts::with_texts, crate::specs::Texts::with_command_line))]
 pub fn conf_of(alloc: Global, texts: &ConfTexts) -> Result<Conf, AllocError>
     ensures { IfOk result (λ conf. conf ≡ conf_of texts.now) }
 {
     let mut conf = Conf::new(alloc);
     add_files(alloc, &mut conf, &texts.files)?;
-    let line = texts.command_line.as_ref();
-    add_command_line(alloc, &mut conf, texts.files.len(), line)?;
+    match &texts.command_line {
+        Some(line) => conf.add_command_line(alloc, texts.files.len(), line)?,
+        None => {}
+    }
     Ok(conf)
 }

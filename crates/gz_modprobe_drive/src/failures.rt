@@ -41,25 +41,16 @@ fn tell_failure<E: Write>(
     messages.tell(level, b"Module ", name.as_bytes(), what, more);
 }
 
-/// Whether a name was not found.
-fn is_not_found(answer: &Answer) -> bool {
-    let mut failures = answer.failures().iter();
-    failures.any(|failure| matches!(failure, Failure::NotFound(_)))
-}
-
-/// Tells that a name which was not found is a path.
+/// Tells of a word that was not found whether it is a path.
 fn tell_path<E: Write>(
     alloc: Global,
-    failure: &Failure,
+    word: &[u8],
     messages: &mut Messages<'_, E>,
 ) -> Result<(), AllocError> {
-    if let Failure::NotFound(word) = failure {
-        let word = word.as_bytes();
-        if word.contains(&b'/') {
-            let name = name_of_path(alloc, word)?;
-            let text = b" is a path: the name of its module is ";
-            messages.tell(Level::Notice, word, text, name.as_bytes(), b"");
-        }
+    if word.contains(&b'/') {
+        let name = name_of_path(alloc, word)?;
+        let text = b" is a path: the name of its module is ";
+        messages.tell(Level::Notice, word, text, name.as_bytes(), b"");
     }
     Ok(())
 }
@@ -72,11 +63,15 @@ pub(crate) fn tell_failures<R: Files + AllocGlobal, E: Write>(
     directory: &[u8],
     messages: &mut Messages<'_, E>,
 ) -> Result<(), AllocError> {
+    let mut is_found = true;
     for failure in answer.failures() {
         tell_failure(failure, query, directory, messages);
-        tell_path(host.rt.alloc(), failure, messages)?;
+        if let Failure::NotFound(word) = failure {
+            is_found = false;
+            tell_path(host.rt.alloc(), word.as_bytes(), messages)?;
+        }
     }
-    if is_not_found(answer) {
+    if !is_found {
         tell_folder(host, directory, messages)?;
     }
     Ok(())

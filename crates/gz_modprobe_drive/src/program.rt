@@ -50,6 +50,23 @@ fn all_words<'a>(
     Ok(all)
 }
 
+/// Runs the program on all words. The status is answered.
+fn run_words<R: Files + Env + AllocGlobal, O: Write, E: Write>(
+    rt: &R,
+    words: &[&[u8]],
+    output: &mut O,
+    errors: &mut E,
+) -> Result<u8, AllocError>
+    ensures { IfOk result (λ status. status ≤ 1) }
+{
+    let items = read_words(rt.alloc(), words)?;
+    if let Some(ending) = first_ending(&items) {
+        return Ok(end_early(ending, output, errors));
+    }
+    let asked = Asked::by(rt.alloc(), &items)?;
+    answer_asked(rt, &asked, output, errors)
+}
+
 /// Runs the program on its words and the text of MODPROBE_OPTIONS. The status is answered.
 fn run<R: Files + Env + AllocGlobal, O: Write, E: Write>(
     rt: &R,
@@ -63,12 +80,7 @@ fn run<R: Files + Env + AllocGlobal, O: Write, E: Write>(
     let alloc = rt.alloc();
     let own = variable_words(alloc, options.unwrap_or(b""))?;
     let all = all_words(alloc, &own, words)?;
-    let items = read_words(alloc, &all)?;
-    if let Some(ending) = first_ending(&items) {
-        return Ok(end_early(ending, output, errors));
-    }
-    let asked = Asked::by(alloc, &items)?;
-    answer_asked(rt, &asked, output, errors)
+    run_words(rt, &all, output, errors)
 }
 
 /// Runs the program on its words, without its own name, and the text of MODPROBE_OPTIONS. It writes the answer to

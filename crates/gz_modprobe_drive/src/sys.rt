@@ -83,11 +83,10 @@ fn state_in<R: Files + AllocGlobal>(
     if let Some(text) = text_in(host, folder, b"initstate")? {
         return Ok(Some(state_of(&text)));
     }
-    Ok(if host.kind(folder)? == Kind::Folder {
-        Some(ModuleState::Folder)
-    } else {
-        None
-    })
+    match host.kind(folder)? {
+        Kind::Folder => Ok(Some(ModuleState::Folder)),
+        _ => Ok(None),
+    }
 }
 
 /// What the folder of a module tells; None where it tells nothing.
@@ -120,27 +119,28 @@ fn module_names<R: Files + AllocGlobal, E: Write>(
     }
 }
 
-/// The states of the modules of these names, where they have any.
-fn states_of<R: Files + AllocGlobal>(
+/// Adds the state of a module, where it has one.
+fn add_state<R: Files + AllocGlobal>(
     host: &Host<'_, R>,
-    names: &[Vec<u8>],
-) -> Result<States, AllocError> {
+    name: &[u8],
+    states: &mut States,
+) -> Result<(), AllocError> {
     let alloc = host.rt.alloc();
-    let mut states = States::new(alloc);
-    for name in names {
-        let folder = joined(alloc, MODULES, b"/", name)?;
-        if let Some(status) = status_of(host, &folder)? {
-            states.set(alloc, name, status)?;
-        }
+    let folder = joined(alloc, MODULES, b"/", name)?;
+    match status_of(host, &folder)? {
+        Some(status) => states.set(alloc, name, status),
+        None => Ok(()),
     }
-    Ok(states)
 }
 
-/// The states of all modules that /sys/module has.
-pub(crate) fn module_states<R: Files + AllocGlobal, E: Write>(
+/// Adds the states of all modules that /sys/module has.
+pub(crate) fn add_states<R: Files + AllocGlobal, E: Write>(
     host: &Host<'_, R>,
+    states: &mut States,
     messages: &mut Messages<'_, E>,
-) -> Result<States, AllocError> {
-    let names = module_names(host, messages)?;
-    states_of(host, &names)
+) -> Result<(), AllocError> {
+    for name in &module_names(host, messages)? {
+        add_state(host, name, states)?;
+    }
+    Ok(())
 }

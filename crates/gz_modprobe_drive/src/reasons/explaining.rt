@@ -26,11 +26,11 @@ impl Told<'_> {
     /// Begins with a module that is to be loaded.
     fn begin_load(&mut self, tasks: &mut Tasks, object: &Object) -> Result<(), AllocError> {
         let Known { world, query, .. } = self.known;
-        if is_passed(&world, &query, object) {
+        if is_passed(world, query, object) {
             self.tell_in_kernel(&object.name, b", so nothing is loaded");
             return Ok(());
         }
-        if is_barred(&world, &query, object) {
+        if is_barred(world, query, object) {
             self.tell_blacklist(&object.name, b", so it is not loaded");
             return Ok(());
         }
@@ -93,23 +93,23 @@ impl Told<'_> {
         let refused = self.begin_word(tasks, word)?;
         if self.known.is_removal() {
             self.tell_tasks(tasks)?;
-            if refused && is_fatal(&self.known.query) {
+            if refused && is_fatal(self.known.query) {
                 tasks.end();
             }
         }
         Ok(())
     }
 
-    /// Begins with the names, as far as they are asked for.
-    fn begin_words(&mut self, tasks: &mut Tasks) -> Result<(), AllocError> {
+    /// Tells the names, as far as they are asked for, and what they lead to.
+    fn tell_names(&mut self, tasks: &mut Tasks) -> Result<(), AllocError> {
         let query = self.known.query;
-        for word in query.words.iter().take(name_count(&query)) {
+        for word in query.words.iter().take(name_count(query)) {
             if tasks.has_ended() {
                 return Ok(());
             }
             self.tell_name(tasks, word)?;
         }
-        Ok(())
+        self.tell_tasks(tasks)
     }
 
     fn tell_task(&mut self, tasks: &mut Tasks, task: &Task) -> Result<(), AllocError> {
@@ -134,13 +134,12 @@ impl Told<'_> {
     /// Tells why the words of the query are answered as they are.
     fn tell_words(&mut self) -> Result<(), AllocError> {
         let mut tasks = Tasks::new(self.alloc, !self.known.query.all);
-        self.begin_words(&mut tasks)?;
-        self.tell_tasks(&mut tasks)
+        self.tell_names(&mut tasks)
     }
 
     fn tell_all(&mut self) -> Result<(), AllocError> {
         self.tell_words()?;
-        if self.known.query.ask == Ask::ShowConfig {
+        if matches!(self.known.query.ask, Ask::ShowConfig) {
             self.tell_idle()?;
         }
         self.say_hidden();
@@ -161,8 +160,8 @@ fn explained<'a>(
 {
     named.add(alloc, world.conf, sources.builtin)?;
     let known = Known {
-        world: *world,
-        query: *query,
+        world,
+        query,
         named,
     };
     let mut told = Told::new(alloc, known, *sources);

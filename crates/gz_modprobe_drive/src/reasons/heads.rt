@@ -1,7 +1,7 @@
 //! Lines of one kind by the very names that they have.
 
 use kmod_conf::{NameLine, SoftdepLine, TextLine};
-use kmod_names::{KeyPlaces, Place};
+use kmod_names::{AliasEntry, KeyPlaces, Place};
 use std::alloc::{AllocError, Global};
 
 /// The name of a line, and where the line stands.
@@ -65,6 +65,17 @@ impl<'a> Heads<'a> {
         Ok(())
     }
 
+    pub(crate) fn add_aliases(
+        &mut self,
+        alloc: Global,
+        lines: &'a [AliasEntry],
+    ) -> Result<(), AllocError> {
+        for line in lines {
+            self.push(alloc, line.pattern.as_bytes(), line.place)?;
+        }
+        Ok(())
+    }
+
     /// The heads, in the order of their numbers, from 0.
     pub(crate) fn all(&self) -> &[Head<'a>] {
         &self.all
@@ -73,15 +84,5 @@ impl<'a> Heads<'a> {
     /// The numbers of the lines of a name.
     pub(crate) fn numbers(&self, name: &[u8]) -> &[usize] {
         self.numbers.of(name)
-    }
-
-    /// The place of the line of a number.
-    pub(crate) fn place(&self, number: usize) -> Option<Place> {
-        self.all.get(number).map(|head| head.place)
-    }
-
-    /// Whether a line has a name that no earlier one has.
-    pub(crate) fn is_first(&self, number: usize, name: &[u8]) -> bool {
-        self.numbers.of(name).first() == Some(&number)
     }
 }

@@ -10,14 +10,20 @@ use std::alloc::AllocError;
 
 /// Whether a name holds a mark of a pattern.
 fn is_pattern(name: &[u8]) -> bool {
-    name.iter().any(|byte| matches!(*byte, b'*' | b'?' | b'['))
+    name.contains(&b'*') || name.contains(&b'?') || name.contains(&b'[')
 }
 
 impl Told<'_> {
-    /// Whether a name stands for a module, or may be that of one.
+    /// Whether options of a name may count: it stands for a module, may be that of one, or is the pattern of an alias line.
     fn is_known(&self, name: &[u8]) -> Result<bool, AllocError> {
-        let finding = find_name(self.alloc, &self.known.world, name)?;
-        Ok(!matches!(finding, Finding::Nothing) || self.known.is_module(self.alloc, name)?)
+        if !self.known.named.aliases.numbers(name).is_empty() {
+            return Ok(true);
+        }
+        let finding = find_name(self.alloc, self.known.world, name)?;
+        if !matches!(finding, Finding::Nothing) {
+            return Ok(true);
+        }
+        self.known.is_module(self.alloc, name)
     }
 
     fn tell_idle_aliases(&mut self, lines: &[AliasEntry]) -> Result<(), AllocError> {
@@ -62,7 +68,7 @@ impl Told<'_> {
     /// Tells lines of a kind whose name an earlier one has.
     fn tell_later_lines(&mut self, kind: &[u8], lines: &Heads<'_>) {
         for (number, line) in lines.all().iter().enumerate() {
-            if !lines.is_first(number, line.name) {
+            if lines.numbers(line.name).first() != Some(&number) {
                 self.say_of(line.name, Saying::with_name(kind, LATER), line.place);
             }
         }

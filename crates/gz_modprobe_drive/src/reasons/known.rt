@@ -1,25 +1,26 @@
 //! What an explanation is of.
 
 use crate::reasons::named_lines::NamedLines;
-use kmod_query::{Ask, ModuleState, Query, World};
+use kmod_query::{Ask, ModuleState, ModuleStatus, Query, World};
 use std::alloc::{AllocError, Global};
 
 /// A world, a query of it, and the lines of the world's texts by their names.
 #[derive(Clone, Copy)]
 pub(crate) struct Known<'a> {
-    pub(crate) world: World<'a>,
-    pub(crate) query: Query<'a>,
+    pub(crate) world: &'a World<'a>,
+    pub(crate) query: &'a Query<'a>,
     pub(crate) named: &'a NamedLines<'a>,
 }
 
 impl Known<'_> {
     pub(crate) fn is_live(&self, name: &[u8]) -> bool {
-        matches!(self.world.states.of(name), Some(status) if status.state == ModuleState::Live)
-    }
-
-    /// Whether the kernel has a module now.
-    pub(crate) fn is_in_kernel(&self, name: &[u8]) -> bool {
-        self.world.index.is_builtin(name) || self.is_live(name)
+        matches!(
+            self.world.states.of(name),
+            Some(ModuleStatus {
+                state: ModuleState::Live,
+                ..
+            })
+        )
     }
 
     /// Whether modules are to be removed.

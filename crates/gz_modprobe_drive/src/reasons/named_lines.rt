@@ -9,6 +9,8 @@ use text_parts::whole_lines;
 /// The lines of a configuration by kinds, and those of modules.builtin by their numbers, from 1.
 #[derive(Drop)]
 pub(crate) struct NamedLines<'a> {
+    /// Those of aliases, by the texts of their patterns.
+    pub(crate) aliases: Heads<'a>,
     pub(crate) blacklist: Heads<'a>,
     pub(crate) installs: Heads<'a>,
     pub(crate) removes: Heads<'a>,
@@ -47,6 +49,7 @@ impl<'a> NamedLines<'a> {
     /// No lines yet.
     pub(crate) fn new(alloc: Global) -> NamedLines<'a> {
         NamedLines {
+            aliases: Heads::new(alloc),
             blacklist: Heads::new(alloc),
             installs: Heads::new(alloc),
             removes: Heads::new(alloc),
@@ -62,6 +65,7 @@ impl<'a> NamedLines<'a> {
         conf: &'a Conf,
         builtin: &[u8],
     ) -> Result<(), AllocError> {
+        self.aliases.add_aliases(alloc, conf.aliases())?;
         self.blacklist.add_names(alloc, conf.blacklist())?;
         self.installs.add_texts(alloc, conf.installs())?;
         self.removes.add_texts(alloc, conf.removes())?;

@@ -67,7 +67,7 @@ impl Tasks {
             builtin,
             part: Part::Named,
         };
-        if part == Part::Own && self.merges && self.all.contains(&task) {
+        if matches!(part, Part::Own) && self.merges && self.all.contains(&task) {
             return Ok(());
         }
         task.part = part;
@@ -75,14 +75,14 @@ impl Tasks {
         Ok(())
     }
 
-    /// Adds a module that another one needs.
-    pub(crate) fn add_need(&mut self, alloc: Global, name: &[u8]) -> Result<(), AllocError> {
-        self.insert(alloc, name, &None, false, Part::Own)
-    }
-
-    /// Adds what a module needs.
-    pub(crate) fn add_needs(&mut self, alloc: Global, name: &[u8]) -> Result<(), AllocError> {
-        self.insert(alloc, name, &None, false, Part::Needs)
+    /// Adds a part of a module that came by its own name.
+    pub(crate) fn add_name(
+        &mut self,
+        alloc: Global,
+        name: &[u8],
+        part: Part,
+    ) -> Result<(), AllocError> {
+        self.insert(alloc, name, &None, false, part)
     }
 
     /// Adds a part of a module.
@@ -103,7 +103,7 @@ impl Tasks {
         part: Part,
     ) -> Result<(), AllocError> {
         self.add_part(alloc, object, part)?;
-        self.add_needs(alloc, &object.name)
+        self.add_name(alloc, &object.name, Part::Needs)
     }
 
     /// Whether a word of a softdep line stands for a module, None where it was not told.

@@ -127,8 +127,8 @@ impl<'a> Told<'a> {
         counting: Option<Place>,
     ) {
         for number in lines.numbers(name) {
-            match lines.place(*number) {
-                Some(place) if counting != Some(place) => self.say_of(whom, what, place),
+            match lines.all().get(*number) {
+                Some(head) if counting != Some(head.place) => self.say_of(whom, what, head.place),
                 _ => {}
             }
         }

@@ -62,7 +62,7 @@ impl Told<'_> {
             if self.known.is_removal() {
                 self.tell_need_state(need.as_bytes())?;
             } else {
-                tasks.add_need(self.alloc, need.as_bytes())?;
+                tasks.add_name(self.alloc, need.as_bytes(), Part::Own)?;
             }
         }
         Ok(())
@@ -94,11 +94,12 @@ impl Told<'_> {
         lines: &Heads<'_>,
         why: &[u8],
     ) {
+        let mut counting = None;
         if let Some(line) = line {
             let what = Saying::with_name(kind, b" ").and(line.text.as_bytes(), why);
             self.say_of(name, what, line.place);
+            counting = Some(line.place);
         }
-        let counting = line.map(|line| line.place);
         self.say_of_each(name, Saying::with_name(kind, LATER), lines, name, counting);
     }
 
@@ -144,25 +145,22 @@ impl Told<'_> {
         Ok(found)
     }
 
-    /// Tells the softdep line of a module that -i passes over, so that it has no soft items.
-    pub(crate) fn tell_bare_softdep(&mut self, name: &[u8]) -> Result<bool, AllocError> {
-        let conf = self.known.world.conf;
-        if let Some(line) = conf.softdep_of(self.alloc, name)? {
-            self.say_of(name, Saying::of(b"softdep, passed over by -i"), line.place);
-        }
-        Ok(false)
-    }
-
-    /// Tells the soft items of a module. Whether it has some is answered.
+    /// Tells the soft items of a module, or under -i, which `is_bare` says, that they are passed over. Whether any is taken
+    /// is answered.
     pub(crate) fn tell_softdep(
         &mut self,
         tasks: &mut Tasks,
         name: &[u8],
+        is_bare: bool,
     ) -> Result<bool, AllocError> {
         let conf = self.known.world.conf;
         let Some(line) = conf.softdep_of(self.alloc, name)? else {
             return Ok(false);
         };
+        if is_bare {
+            self.say_of(name, Saying::of(b"softdep, passed over by -i"), line.place);
+            return Ok(false);
+        }
         let (items, place) = (&line.items, line.place);
         let before = self.tell_items(tasks, name, b"softdep before ", items.pre(), place)?;
         let after = self.tell_items(tasks, name, b"softdep after ", items.post(), place)?;
@@ -175,7 +173,7 @@ impl Told<'_> {
     /// Tells what counts for a load of a module that the kernel does not have.
     fn tell_line(&mut self, task: &Task, is_bare: bool, has_items: bool) -> Result<(), AllocError> {
         let (name, alias) = (task.name.as_slice(), task.alias.as_deref());
-        let line = install_line(self.alloc, &self.known.world, name, alias)?;
+        let line = install_line(self.alloc, self.known.world, name, alias)?;
         let why: &[u8] = match (is_bare, has_items) {
             (true, _) => b", passed over by -i",
             (false, true) => b", passed over since it has soft items",
@@ -196,14 +194,10 @@ impl Told<'_> {
     /// Tells what counts for a load of a module.
     fn tell_loaded(&mut self, tasks: &mut Tasks, task: &Task) -> Result<(), AllocError> {
         let name = task.name.as_slice();
-        let is_bare = self.known.query.ignore_commands && task.part == Part::Named;
-        let has_items = if is_bare {
-            self.tell_bare_softdep(name)?
-        } else {
-            self.tell_softdep(tasks, name)?
-        };
-        let is_dry = self.known.query.ask == Ask::DryRun;
-        if is_dry && (task.builtin || self.known.is_in_kernel(name)) {
+        let is_bare = self.known.query.ignore_commands && matches!(task.part, Part::Named);
+        let has_items = self.tell_softdep(tasks, name, is_bare)?;
+        let is_dry = matches!(self.known.query.ask, Ask::DryRun);
+        if is_dry && (self.known.is_built_in(name, task.builtin) || self.known.is_live(name)) {
             self.tell_in_kernel(name, b"");
             return Ok(());
         }

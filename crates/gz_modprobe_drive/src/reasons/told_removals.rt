@@ -41,7 +41,7 @@ impl Told<'_> {
         object: &Object,
     ) -> Result<(), AllocError> {
         let refused = self.begin_removal(tasks, object, true)?;
-        if refused && is_fatal(&self.known.query) {
+        if refused && is_fatal(self.known.query) {
             let what = Saying::of(b"stays, so the removal ends");
             self.say(&object.name, what, Spot::Nowhere);
             tasks.end();
@@ -59,19 +59,10 @@ impl Told<'_> {
         }
     }
 
-    /// Goes on with a module that is removed if it is not in use. Whether it is in use is answered.
-    fn begin_removed(
-        &mut self,
-        tasks: &mut Tasks,
-        object: &Object,
-        is_held: bool,
-    ) -> Result<bool, AllocError> {
-        let part = if is_held { Part::Held } else { Part::Own };
-        tasks.add_part(self.alloc, object, part)?;
-        if is_held {
-            self.tell_need_state(&object.name)?;
-        }
-        Ok(is_held)
+    /// Goes on with a module that is in use: what is removed before it, and that it stays.
+    fn begin_held(&mut self, tasks: &mut Tasks, object: &Object) -> Result<(), AllocError> {
+        tasks.add_part(self.alloc, object, Part::Held)?;
+        self.tell_need_state(&object.name)
     }
 
     /// Begins with a module that is to be removed, a soft item or not. Whether it is refused is answered.
@@ -83,13 +74,17 @@ impl Told<'_> {
     ) -> Result<bool, AllocError> {
         let asked = Asked {
             alloc: self.alloc,
-            world: self.known.world,
-            query: self.known.query,
+            world: *self.known.world,
+            query: *self.known.query,
         };
         match judge(&asked, is_soft, object)? {
             Verdict::Remove => {
-                let is_held = is_in_use(&asked, object)?;
-                self.begin_removed(tasks, object, is_held)
+                if is_in_use(&asked, object)? {
+                    self.begin_held(tasks, object)?;
+                    return Ok(true);
+                }
+                tasks.add_part(self.alloc, object, Part::Own)?;
+                Ok(false)
             }
             Verdict::Pass => {
                 self.tell_kept(object);
@@ -105,7 +100,7 @@ impl Told<'_> {
     /// Tells the soft items that are removed before a module that is in use.
     pub(crate) fn tell_held(&mut self, tasks: &mut Tasks, name: &[u8]) -> Result<(), AllocError> {
         if self.known.query.ignore_commands {
-            let _ = self.tell_bare_softdep(name)?;
+            let _ = self.tell_softdep(tasks, name, true)?;
             return Ok(());
         }
         let conf = self.known.world.conf;
@@ -124,20 +119,16 @@ impl Told<'_> {
         alias: Option<&[u8]>,
     ) -> Result<(), AllocError> {
         let is_bare = self.known.query.ignore_commands;
-        let _ = if is_bare {
-            self.tell_bare_softdep(name)?
-        } else {
-            self.tell_softdep(tasks, name)?
-        };
+        let _ = self.tell_softdep(tasks, name, is_bare)?;
         if tasks.has_ended() {
             return Ok(());
         }
         let why: &[u8] = if is_bare { b", passed over by -i" } else { b"" };
         let named = self.known.named;
-        let line = remove_line(self.alloc, &self.known.world, name, alias)?;
+        let line = remove_line(self.alloc, self.known.world, name, alias)?;
         self.tell_commands(name, b"remove", line, &named.removes, why);
         if is_bare || line.is_none() {
-            tasks.add_needs(self.alloc, name)?;
+            tasks.add_name(self.alloc, name, Part::Needs)?;
         }
         Ok(())
     }

@@ -104,7 +104,7 @@ impl Told<'_> {
             self.say(word, what, Spot::Nowhere);
             return Ok(None);
         };
-        let finding = find_name(self.alloc, &self.known.world, name.as_bytes())?;
+        let finding = find_name(self.alloc, self.known.world, name.as_bytes())?;
         self.tell_finding(word, name.as_bytes(), &finding);
         Ok(Some(finding.objects(self.alloc, name.as_bytes())?))
     }
