@@ -38,12 +38,12 @@ pub fn tell_folder<R: Files + AllocGlobal, E: Write>(
     directory: &[u8],
     messages: &mut Messages<'_, E>,
 ) -> Result<(), AllocError> {
-    if host.kind(directory)? != Kind::Folder {
+    if !matches!(host.kind(directory)?, Kind::Folder) {
         messages.tell(Level::Notice, b"there is no folder ", directory, b"", b"");
         return Ok(());
     }
     let file = joined(host.rt.alloc(), directory, b"/modules.dep", b"")?;
-    if host.kind(&file)? == Kind::Nothing {
+    if matches!(host.kind(&file)?, Kind::Nothing) {
         let why = b", which depmod(8) writes";
         messages.tell(Level::Notice, b"there is no file ", &file, why, b"");
     }
@@ -55,7 +55,7 @@ pub fn is_rootless<R: Files + AllocGlobal, E: Write>(
     host: &Host<'_, R>,
     messages: &mut Messages<'_, E>,
 ) -> Result<bool, AllocError> {
-    if host.root.is_empty() || host.kind(b"/")? == Kind::Folder {
+    if host.root.is_empty() || matches!(host.kind(b"/")?, Kind::Folder) {
         return Ok(false);
     }
     let text = b"there is no folder ";

@@ -1,6 +1,7 @@
 //! Files of a configuration that do not count, since others of their names come first.
 
-use crate::files::{File, Source, file_in, is_read};
+use crate::files::{File, Source, is_read};
+use crate::host::joined;
 use crate::texts::HiddenFile;
 use std::alloc::{AllocError, Global};
 use text_parts::is_same;
@@ -10,12 +11,13 @@ fn add_file(
     alloc: Global,
     hidden: &mut Vec<HiddenFile>,
     files: &[File],
-    own: File,
+    name: &[u8],
+    path: &[u8],
 ) -> Result<(), AllocError> {
-    match files.iter().find(|file| is_same(&file.name, &own.name)) {
-        Some(file) if !is_same(&file.path, &own.path) => {
+    match files.iter().find(|file| is_same(&file.name, name)) {
+        Some(file) if !is_same(&file.path, path) => {
+            let path = Vec::from_slice(alloc, path)?;
             let by = Vec::from_slice(alloc, &file.path)?;
-            let File { name: _name, path } = own;
             hidden.push(HiddenFile { path, by })?;
             Ok(())
         }
@@ -32,7 +34,8 @@ fn add_folder(
 ) -> Result<(), AllocError> {
     for name in names {
         if is_read(name) {
-            add_file(alloc, hidden, files, file_in(alloc, folder, name)?)?;
+            let path = joined(alloc, folder, b"/", name)?;
+            add_file(alloc, hidden, files, name, &path)?;
         }
     }
     Ok(())
@@ -47,16 +50,8 @@ pub(crate) fn hidden_files(
     let mut hidden = Vec::new(alloc);
     for source in sources {
         match source {
-            Source::Single(name, path) => {
-                let own = File {
-                    name: Vec::from_slice(alloc, name)?,
-                    path: Vec::from_slice(alloc, path)?,
-                };
-                add_file(alloc, &mut hidden, files, own)?;
-            }
-            Source::Folder(folder, names) => {
-                add_folder(alloc, &mut hidden, files, folder, names)?;
-            }
+            Source::Single(name, path) => add_file(alloc, &mut hidden, files, name, path)?,
+            Source::Folder(path, names) => add_folder(alloc, &mut hidden, files, path, names)?,
         }
     }
     Ok(hidden)

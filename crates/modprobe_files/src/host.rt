@@ -3,9 +3,9 @@ ghost use Rattle.std.specs.Prelude.{◌≡◌, ◌++◌, IfOk};
 
 use program_frame::folder_names;
 use std::alloc::{AllocError, Global};
+use std::fs::{self, Metadata};
 use std::io::{self, ErrorKind};
 use std::rt::Files;
-use std::{fs, str};
 
 /// The files below a folder that stands for `/`.
 #[derive(Drop)]
@@ -16,7 +16,7 @@ pub struct Host<'a, R> {
 }
 
 /// What a path leads to.
-#[derive(Clone, Copy, PartialEq, Eq)]
+#[derive(Clone, Copy)]
 pub enum Kind {
     Nothing,
     Folder,
@@ -25,45 +25,40 @@ pub enum Kind {
 
 impl<R: Files + AllocGlobal> Host<'_, R> {
     /// Where a path of the machine stands.
-    fn place(&self, path: &[u8]) -> Result<Vec<u8>, AllocError> {
-        let mut place = Vec::from_slice(self.rt.alloc(), self.root)?;
-        if !self.root.is_empty() && !path.starts_with(b"/") {
-            place.push(b'/')?;
+    fn place(&self, path: &[u8]) -> io::Result<String> {
+        let slash: &[u8] = if self.root.is_empty() || path.starts_with(b"/") {
+            b""
+        } else {
+            b"/"
+        };
+        match String::from_utf8(joined(self.rt.alloc(), self.root, slash, path)?) {
+            Ok(place) => Ok(place),
+            Err(_) => Err(io::Error::from(ErrorKind::InvalidFilename)),
         }
-        place.extend_from_slice(path)?;
-        Ok(place)
     }
 
     /// All bytes of a file.
     pub fn read(&self, path: &[u8]) -> io::Result<Vec<u8>> {
-        let place = self.place(path)?;
-        match str::from_utf8(&place) {
-            Ok(text) => fs::read(self.rt, text),
-            Err(_) => Err(io::Error::from(ErrorKind::InvalidFilename)),
-        }
+        fs::read(self.rt, &self.place(path)?)
+    }
+
+    fn metadata(&self, path: &[u8]) -> io::Result<Metadata> {
+        fs::metadata(self.rt, &self.place(path)?)
     }
 
     /// What a path leads to, through links.
     pub fn kind(&self, path: &[u8]) -> Result<Kind, AllocError> {
-        let place = self.place(path)?;
-        let Ok(text) = str::from_utf8(&place) else {
-            return Ok(Kind::Nothing);
-        };
-        Ok(match fs::metadata(self.rt, text) {
-            Ok(found) if found.is_dir() => Kind::Folder,
-            Ok(_) => Kind::File,
-            Err(error) if error.kind() == ErrorKind::OutOfMemory => return Err(AllocError),
-            Err(_) => Kind::Nothing,
-        })
+        match self.metadata(path) {
+            Ok(found) if found.is_dir() => Ok(Kind::Folder),
+            Ok(_) => Ok(Kind::File),
+            Err(error) if error.kind() == ErrorKind::OutOfMemory => Err(AllocError),
+            Err(_) => Ok(Kind::Nothing),
+        }
     }
 
     /// The names of a folder, in any order, without `.` and `..`.
     pub fn names(&self, path: &[u8]) -> io::Result<Vec<Vec<u8>>> {
-        let place = self.place(path)?;
-        match str::from_utf8(&place) {
-            Ok(text) => folder_names(self.rt.alloc(), self.rt, text),
-            Err(_) => Err(io::Error::from(ErrorKind::InvalidFilename)),
-        }
+        folder_names(self.rt.alloc(), self.rt, &self.place(path)?)
     }
 }
 

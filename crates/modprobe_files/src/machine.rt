@@ -5,7 +5,7 @@ use crate::files::{File, counted_files};
 use crate::hidden_files::hidden_files;
 use crate::host::{Host, joined};
 use crate::sources::configuration_sources;
-use crate::texts::{COMMAND_LINE, ConfTexts, ModuleTexts, TextFile};
+use crate::texts::{COMMAND_LINE, ConfTexts, HiddenFile, ModuleTexts, TextFile};
 use modprobe_words::{Asked, Level, Messages};
 use std::alloc::AllocError;
 use std::env::{self, Env};
@@ -32,22 +32,24 @@ fn text_of<R: Files + AllocGlobal, E: Write>(
     }
 }
 
-/// The release of the machine's kernel; None where it is not known, which is told.
+/// The release that is asked for, or that of the machine's kernel; None where that is not known, which is told.
 fn release<R: Files + AllocGlobal, E: Write>(
     host: &Host<'_, R>,
+    asked: Option<&[u8]>,
     messages: &mut Messages<'_, E>,
 ) -> Result<Option<Vec<u8>>, AllocError> {
+    if let Some(release) = asked {
+        return Ok(Some(Vec::from_slice(host.rt.alloc(), release)?));
+    }
     match host.read(RELEASE) {
         Ok(mut text) => {
-            if text.last() == Some(&b'\n') {
+            if text.ends_with(b"\n") {
                 text.pop();
             }
             Ok(Some(text))
         }
-        Err(error) => {
-            if error.kind() == ErrorKind::OutOfMemory {
-                return Err(AllocError);
-            }
+        Err(error) if error.kind() == ErrorKind::OutOfMemory => Err(AllocError),
+        Err(_) => {
             let text = b": name a release with -S";
             messages.tell_always(Level::Error, b"cannot read ", RELEASE, text, b"");
             Ok(None)
@@ -55,24 +57,25 @@ fn release<R: Files + AllocGlobal, E: Write>(
     }
 }
 
-/// What stands before a path that does not begin at the root: the current folder, which below another root is `/`.
-fn before<R: Files + Env + AllocGlobal>(
+/// The folder that holds lib/modules, as it is printed. A path that does not begin at the root stands below the current
+/// folder, which below another root is `/`.
+fn parent<R: Files + Env + AllocGlobal>(
     host: &Host<'_, R>,
     path: &[u8],
 ) -> Result<Vec<u8>, AllocError> {
     let alloc = host.rt.alloc();
     if path.is_empty() || path.starts_with(b"/") {
-        return Ok(Vec::new(alloc));
+        return Vec::from_slice(alloc, path);
     }
     match env::current_dir(host.rt) {
         Ok(current) if host.root.is_empty() => joined(
             alloc,
             current.as_str().as_bytes(),
             b"/",
-            b"",
+            path,
         ),
         Err(error) if error.kind() == ErrorKind::OutOfMemory => Err(AllocError),
-        _ => joined(alloc, b"//", b"", b""),
+        _ => joined(alloc, b"//", path, b""),
     }
 }
 
@@ -82,19 +85,11 @@ pub fn directory<R: Files + Env + AllocGlobal, E: Write>(
     asked: &Asked<'_>,
     messages: &mut Messages<'_, E>,
 ) -> Result<Option<Vec<u8>>, AllocError> {
-    let alloc = host.rt.alloc();
-    let own = match asked.release {
-        Some(release) => Some(Vec::from_slice(alloc, release)?),
-        None => release(host, messages)?,
-    };
-    let Some(release) = own else {
+    let Some(release) = release(host, asked.release, messages)? else {
         return Ok(None);
     };
-    let parent = asked.directory.unwrap_or(b"");
-    let before = before(host, parent)?;
-    let mut path = joined(alloc, &before, parent, b"/lib/modules/")?;
-    path.extend_from_slice(&release)?;
-    Ok(Some(path))
+    let parent = parent(host, asked.directory.unwrap_or(b""))?;
+    Ok(Some(joined(host.rt.alloc(), &parent, b"/lib/modules/", &release)?))
 }
 
 /// Reads the files that count. One that is missing or cannot be read is left out.
@@ -113,6 +108,24 @@ fn read_files<R: Files + AllocGlobal, E: Write>(
     Ok(texts)
 }
 
+/// The files that count, and, where answers are explained, those that do not.
+fn chosen_files<R: Files + AllocGlobal, E: Write>(
+    host: &Host<'_, R>,
+    directory: &[u8],
+    paths: &[&[u8]],
+    messages: &mut Messages<'_, E>,
+) -> Result<(Vec<File>, Vec<HiddenFile>), AllocError> {
+    let alloc = host.rt.alloc();
+    let sources = configuration_sources(host, directory, paths, messages)?;
+    let files = counted_files(alloc, &sources)?;
+    let hidden = if messages.explains {
+        hidden_files(alloc, &sources, &files)?
+    } else {
+        Vec::new(alloc)
+    };
+    Ok((files, hidden))
+}
+
 /// The texts of the configuration: the files that count, and the kernel's command line.
 pub fn read_configuration<R: Files + AllocGlobal, E: Write>(
     host: &Host<'_, R>,
@@ -120,13 +133,7 @@ pub fn read_configuration<R: Files + AllocGlobal, E: Write>(
     paths: &[&[u8]],
     messages: &mut Messages<'_, E>,
 ) -> Result<ConfTexts, AllocError> {
-    let sources = configuration_sources(host, directory, paths, messages)?;
-    let files = counted_files(host.rt.alloc(), &sources)?;
-    let hidden = if messages.explains {
-        hidden_files(host.rt.alloc(), &sources, &files)?
-    } else {
-        Vec::new(host.rt.alloc())
-    };
+    let (files, hidden) = chosen_files(host, directory, paths, messages)?;
     Ok(ConfTexts {
         files: read_files(host, files, messages)?,
         command_line: text_of(host, COMMAND_LINE, messages)?,

@@ -1,7 +1,7 @@
 //! The files of the configuration, as they lie on the machine.
 
 use crate::faults::reason;
-use crate::files::{Source, is_read};
+use crate::files::{File, Source, file_in, is_read};
 use crate::host::{Host, Kind, joined, last_name};
 use modprobe_words::{Level, Messages};
 use std::alloc::AllocError;
@@ -24,7 +24,7 @@ fn is_folder<R: Files + AllocGlobal, E: Write>(
     messages: &mut Messages<'_, E>,
 ) -> Result<bool, AllocError> {
     let own = joined(host.rt.alloc(), path, b"/", name)?;
-    let is_folder = host.kind(&own)? == Kind::Folder;
+    let is_folder = matches!(host.kind(&own)?, Kind::Folder);
     if is_folder {
         let text = b"Directories inside directories are not supported: ";
         messages.tell_always(Level::Error, text, &own, b"", b"");
@@ -38,15 +38,15 @@ fn names_in<R: Files + AllocGlobal, E: Write>(
     path: &[u8],
     messages: &mut Messages<'_, E>,
 ) -> Result<Vec<Vec<u8>>, AllocError> {
-    let mut names = Vec::new(host.rt.alloc());
     let all = match host.names(path) {
         Ok(all) => all,
         Err(error) if error.kind() == ErrorKind::OutOfMemory => return Err(AllocError),
         Err(error) => {
             messages.tell_always(Level::Error, b"opendir(", path, b"): ", reason(&error));
-            return Ok(names);
+            return Ok(Vec::new(host.rt.alloc()));
         }
     };
+    let mut names = Vec::new(host.rt.alloc());
     for name in all.into_iter() {
         if is_read(&name) && !is_folder(host, path, &name, messages)? {
             names.push(name)?;
@@ -55,45 +55,32 @@ fn names_in<R: Files + AllocGlobal, E: Write>(
     Ok(names)
 }
 
-/// Adds the source of a path: a folder, a file, or nothing, which is told of a path that was named.
-fn add_source<R: Files + AllocGlobal, E: Write>(
+/// The source of a path: a folder, a file, or nothing, which is told of a path that was named.
+fn source_at<R: Files + AllocGlobal, E: Write>(
     host: &Host<'_, R>,
     path: &[u8],
     is_named: bool,
-    sources: &mut Vec<Source>,
     messages: &mut Messages<'_, E>,
-) -> Result<(), AllocError> {
+) -> Result<Option<Source>, AllocError> {
     let alloc = host.rt.alloc();
-    match host.kind(path)? {
-        Kind::Nothing if is_named => {
-            let text = b"there is no configuration ";
-            messages.tell(Level::Warning, text, path, b"", b"");
+    let source = match host.kind(path)? {
+        Kind::Nothing => {
+            if is_named {
+                let text = b"there is no configuration ";
+                messages.tell(Level::Warning, text, path, b"", b"");
+            }
+            return Ok(None);
         }
-        Kind::Nothing => {}
         Kind::Folder => {
             let names = names_in(host, path, messages)?;
-            sources.push(Source::Folder(Vec::from_slice(alloc, path)?, names))?;
+            Source::Folder(Vec::from_slice(alloc, path)?, names)
         }
         Kind::File => {
             let name = Vec::from_slice(alloc, last_name(path))?;
-            sources.push(Source::Single(name, Vec::from_slice(alloc, path)?))?;
+            Source::Single(name, Vec::from_slice(alloc, path)?)
         }
-    }
-    Ok(())
-}
-
-/// Adds the sources of paths.
-fn add_sources<R: Files + AllocGlobal, E: Write>(
-    host: &Host<'_, R>,
-    paths: &[&[u8]],
-    are_named: bool,
-    sources: &mut Vec<Source>,
-    messages: &mut Messages<'_, E>,
-) -> Result<(), AllocError> {
-    for path in paths {
-        add_source(host, *path, are_named, sources, messages)?;
-    }
-    Ok(())
+    };
+    Ok(Some(source))
 }
 
 /// The sources of the configuration by their rank: modules.softdep of the folder of modules, and these paths, or the
@@ -105,13 +92,15 @@ pub(crate) fn configuration_sources<R: Files + AllocGlobal, E: Write>(
     messages: &mut Messages<'_, E>,
 ) -> Result<Vec<Source>, AllocError> {
     let alloc = host.rt.alloc();
+    let File { name, path } = file_in(alloc, directory, b"modules.softdep")?;
     let mut sources = Vec::new(alloc);
-    let own = joined(alloc, directory, b"/modules.softdep", b"")?;
-    sources.push(Source::Single(Vec::from_slice(alloc, b"modules.softdep")?, own))?;
-    if paths.is_empty() {
-        add_sources(host, &FOLDERS, false, &mut sources, messages)?;
-    } else {
-        add_sources(host, paths, true, &mut sources, messages)?;
+    sources.push(Source::Single(name, path))?;
+    let are_named = !paths.is_empty();
+    let paths: &[&[u8]] = if are_named { paths } else { &FOLDERS };
+    for path in paths {
+        if let Some(source) = source_at(host, *path, are_named, messages)? {
+            sources.push(source)?;
+        }
     }
     Ok(sources)
 }

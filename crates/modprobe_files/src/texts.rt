@@ -23,7 +23,6 @@ pub struct HiddenFile {
 }
 
 /// The texts of a configuration.
-#[derive(Drop)]
 pub struct ConfTexts {
     /// In the order in which they count.
     pub files: Vec<TextFile>,
@@ -32,14 +31,36 @@ pub struct ConfTexts {
     pub hidden: Vec<HiddenFile>,
 }
 
+// By hand, since a derived drop is written out, and proved, at each place where a value is let go.
+impl Drop for ConfTexts {
+    fn drop(self) {
+        let ConfTexts {
+            files: _,
+            command_line: _,
+            hidden: _,
+        } = self;
+    }
+}
+
 /// The texts of a folder of modules; one that is not there is empty.
-#[derive(Drop)]
 pub struct ModuleTexts {
     pub dep: Vec<u8>,
     pub alias: Vec<u8>,
     pub symbols: Vec<u8>,
     pub builtin: Vec<u8>,
     pub builtin_modinfo: Vec<u8>,
+}
+
+impl Drop for ModuleTexts {
+    fn drop(self) {
+        let ModuleTexts {
+            dep: _,
+            alias: _,
+            symbols: _,
+            builtin: _,
+            builtin_modinfo: _,
+        } = self;
+    }
 }
 
 impl ConfTexts {

@@ -7,7 +7,7 @@ use std::env::{Env, FillError};
 const TURNS: usize = 20;
 
 /// What is asked of the environment.
-#[derive(Clone, Copy, Drop)]
+#[derive(Clone, Copy)]
 enum Asking<'a> {
     Word(usize),
     Variable(&'a str),

@@ -1,6 +1,6 @@
 //! What a command line asks for.
 ghost use Rattle.std.specs.Prelude.{◌≡◌, IfOk, OnOk};
-ghost use Rattle.modprobe_words.specs.Asked.{asked_by, asked_of, nothing_asked, with_item, with_option};
+ghost use Rattle.modprobe_words.specs.Asked.{asked_by, asked_of, nothing_asked, with_item};
 ghost use Rattle.modprobe_words.specs.Words.{item_of, items_of};
 
 use crate::items::Item;
@@ -38,27 +38,17 @@ impl<'a> Asked<'a> {
         }
     }
 
-    fn add_option(&mut self, option: Valued, text: &'a [u8]) -> Result<(), AllocError>
-        ensures { OnOk result (asked_of self.new ≡ with_option (asked_of self.old) option text.entry.now) }
-    {
-        match option {
-            Valued::Wait => {}
-            Valued::Config => self.configurations.push(text)?,
-            Valued::Dirname => self.directory = Some(text),
-            Valued::SetVersion => self.release = Some(text),
-            Valued::Root => self.root = Some(text),
-        }
-        Ok(())
-    }
-
     fn add(&mut self, item: Item<'a>) -> Result<(), AllocError>
         ensures { OnOk result (asked_of self.new ≡ with_item (asked_of self.old) (item_of item.entry)) }
     {
         match item {
             Item::Plain(option) => self.switches = self.switches.with(option),
-            Item::WithValue(option, text) => self.add_option(option, text)?,
+            Item::WithValue(Valued::Config, text) => self.configurations.push(text)?,
+            Item::WithValue(Valued::Dirname, text) => self.directory = Some(text),
+            Item::WithValue(Valued::SetVersion, text) => self.release = Some(text),
+            Item::WithValue(Valued::Root, text) => self.root = Some(text),
             Item::Operand(word) => self.words.push(word)?,
-            Item::Refused(_) => {}
+            Item::WithValue(Valued::Wait, _) | Item::Refused(_) => {}
         }
         Ok(())
     }

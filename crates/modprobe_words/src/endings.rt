@@ -8,7 +8,7 @@ use crate::numbers::is_number;
 use crate::options::{Switch, Valued};
 
 /// What ends a command line before a query is answered.
-#[derive(Clone, Copy, Drop)]
+#[derive(Clone, Copy)]
 pub enum Ending<'a> {
     Version,
     Help,

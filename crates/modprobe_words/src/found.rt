@@ -8,7 +8,7 @@ use crate::options::{LONG_OPTIONS, LongOption};
 use text_parts::is_same;
 
 /// What a long word stands for.
-#[derive(Clone, Copy, Drop)]
+#[derive(Clone, Copy)]
 pub(crate) enum Found {
     One(LongOption),
     /// It is the beginning of options that mean different things.

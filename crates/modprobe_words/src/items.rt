@@ -5,7 +5,7 @@ ghost use Rattle.modprobe_words.specs.Words.{fault_of, wanting};
 use crate::options::{LongOption, Switch, Valued};
 
 /// Why words are refused.
-#[derive(Clone, Copy, Drop)]
+#[derive(Clone, Copy)]
 pub enum Fault<'a> {
     BadLetter(u8),
     LetterWantsValue(u8),
@@ -17,7 +17,7 @@ pub enum Fault<'a> {
 }
 
 /// An option, an option with its value, another word, or why the words are refused.
-#[derive(Clone, Copy, Drop)]
+#[derive(Clone, Copy)]
 pub enum Item<'a> {
     Plain(Switch),
     WithValue(Valued, &'a [u8]),
@@ -26,14 +26,14 @@ pub enum Item<'a> {
 }
 
 /// By what an option was given.
-#[derive(Clone, Copy, Drop)]
+#[derive(Clone, Copy)]
 pub(crate) enum Asker {
     ByLetter(u8),
     ByWord(LongOption),
 }
 
 /// An option whose value is the next word.
-#[derive(Clone, Copy, Drop)]
+#[derive(Clone, Copy)]
 pub(crate) struct Waiting {
     pub(crate) valued: Valued,
     pub(crate) asker: Asker,

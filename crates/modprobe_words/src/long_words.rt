@@ -8,7 +8,7 @@ use crate::items::{Asker, Fault, Item, Waiting};
 use crate::options::{LongOption, Meaning};
 
 /// What a long word says, or the option whose value is the next word.
-#[derive(Clone, Copy, Drop)]
+#[derive(Clone, Copy)]
 pub(crate) enum Step<'a> {
     Ready(Item<'a>),
     Waits(Waiting),

@@ -3,7 +3,7 @@
 use std::io::Write;
 
 /// How grave a message is.
-#[derive(Clone, Copy, Drop)]
+#[derive(Clone, Copy)]
 pub enum Level {
     Fatal,
     Error,

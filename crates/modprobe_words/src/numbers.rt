@@ -21,7 +21,7 @@ fn is_octal(byte: u8) -> bool
 pub fn is_digit(byte: u8) -> bool
     ensures { result ≡ is_digit byte }
 {
-    b'0' <= byte && byte <= b'9'
+    byte.is_ascii_digit()
 }
 
 fn is_hexadecimal(byte: u8) -> bool

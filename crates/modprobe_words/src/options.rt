@@ -3,7 +3,7 @@ ghost use Rattle.std.specs.Prelude.{◌≡◌};
 ghost use Rattle.modprobe_words.specs.Options.{kind_of, meaning_of_letter, meaning_of, word_of};
 
 /// An option without a value.
-#[derive(Clone, Copy, Drop)]
+#[derive(Clone, Copy)]
 pub enum Switch {
     All,
     Remove,
@@ -29,7 +29,7 @@ pub enum Switch {
 }
 
 /// An option with a value.
-#[derive(Clone, Copy, Drop)]
+#[derive(Clone, Copy)]
 pub enum Valued {
     Wait,
     Config,
@@ -39,14 +39,14 @@ pub enum Valued {
 }
 
 /// What an option stands for.
-#[derive(Clone, Copy, Drop)]
+#[derive(Clone, Copy)]
 pub(crate) enum Meaning {
     Plain(Switch),
     WithValue(Valued),
 }
 
 /// An option by a word of more than one letter.
-#[derive(Clone, Copy, Drop)]
+#[derive(Clone, Copy)]
 pub enum LongOption {
     AllWord,
     RemoveWord,

@@ -5,7 +5,7 @@ ghost use Rattle.modprobe_words.specs.Asked.{no_switch, with_switch};
 use crate::options::Switch;
 
 /// Which options without values were given.
-#[derive(Clone, Copy, Drop)]
+#[derive(Clone, Copy)]
 pub struct Switches {
     pub all: bool,
     pub remove: bool,

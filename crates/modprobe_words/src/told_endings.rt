@@ -23,9 +23,7 @@ fn tell_possibilities<E: Write>(text: &[u8], errors: &mut E) {
             Some(other) => !is_alike(word, other, *option),
         };
         if is_told {
-            let _ = errors.write_all(b" '--");
-            let _ = errors.write_all(option.word());
-            let _ = errors.write_all(b"'");
+            write_parts(errors, b" '--", option.word(), b"'");
         }
         first = first.or(Some(*option));
     }
@@ -68,35 +66,25 @@ fn tell_fault<E: Write>(fault: Fault<'_>, errors: &mut E) {
     }
 }
 
-/// Whether a text was written.
-fn writes<O: Write>(output: &mut O, text: &str) -> bool {
-    output.write_all(text.as_bytes()).is_ok()
-}
-
-/// Tells what a word asks for that ends the program, or why it is refused. Whether all went well is answered.
-fn tell_ending<O: Write, E: Write>(ending: Ending<'_>, output: &mut O, errors: &mut E) -> bool {
-    match ending {
-        Ending::Version => writes(output, VERSION),
-        Ending::Help => writes(output, HELP),
-        Ending::BadWait(text) => {
-            tell_line(errors, b"ERROR: unexpected wait value '", text, b"'.");
-            false
-        }
-        Ending::Refused(fault) => {
-            tell_fault(fault, errors);
-            false
-        }
-    }
-}
-
 /// Ends the program where a word says so: the version and the help go to `output`, and why words are refused to `errors`.
 /// The exit status is answered: 0, or 1 where words are refused or the output was not written.
 pub fn end_early<O: Write, E: Write>(ending: Ending<'_>, output: &mut O, errors: &mut E) -> u8
     ensures { result ≤ 1 }
 {
-    if tell_ending(ending, output, errors) {
-        0
-    } else {
-        1
+    let text = match ending {
+        Ending::Version => VERSION,
+        Ending::Help => HELP,
+        Ending::BadWait(text) => {
+            tell_line(errors, b"ERROR: unexpected wait value '", text, b"'.");
+            return 1;
+        }
+        Ending::Refused(fault) => {
+            tell_fault(fault, errors);
+            return 1;
+        }
+    };
+    match output.write_all(text.as_bytes()) {
+        Ok(()) => 0,
+        Err(_) => 1,
     }
 }

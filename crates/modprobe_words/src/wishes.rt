@@ -5,7 +5,7 @@ ghost use Rattle.modprobe_words.specs.Wishes.{loads, wish_of};
 use crate::switches::Switches;
 
 /// What is asked, or why it is not answered.
-#[derive(Clone, Copy, Drop)]
+#[derive(Clone, Copy)]
 pub enum Wish {
     ShowConfig,
     ShowDepends,

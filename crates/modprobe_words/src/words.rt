@@ -1,7 +1,7 @@
 //! The words of a command line.
 ghost use Rattle.std.specs.Prelude.{◌≡◌, ◌++◌, [], IfOk, OnOk, map};
 ghost use Rattle.text_parts.specs.Text.{texts_of};
-ghost use Rattle.modprobe_words.specs.Words.{is_end, items, items_from, items_of, letters_read, long_read, next_read, operand, word_read};
+ghost use Rattle.modprobe_words.specs.Words.{is_end, items, items_from, items_of, letters_read, next_read, operand, step_of, word_read};
 
 use crate::items::{Asker, Fault, Item, Waiting};
 use crate::long_words::{Step, long_read};
@@ -9,7 +9,21 @@ use crate::options::{Meaning, meaning_of_letter};
 use std::alloc::{AllocError, Global};
 use text_parts::is_same;
 
-/// Adds what joined letters say. An option whose value is the next word is answered.
+/// Adds what was read. An option whose value is the next word is answered.
+fn push_step<'a>(items: &mut Vec<Item<'a>>, step: Step<'a>) -> Result<Option<Waiting>, AllocError>
+    ensures items { OnOk result (items_of items.new.items ≡ items_of items.old.items ++ (step_of step.entry).items) }
+    ensures waiting { IfOk result (λ waiting. waiting ≡ (step_of step.entry).waiting) }
+{
+    match step {
+        Step::Ready(item) => {
+            items.push(item)?;
+            Ok(None)
+        }
+        Step::Waits(waiting) => Ok(Some(waiting)),
+    }
+}
+
+/// Adds what joined letters say.
 fn push_letters<'a>(
     items: &mut Vec<Item<'a>>,
     letters: &'a [u8],
@@ -19,40 +33,22 @@ fn push_letters<'a>(
 {
     let mut rest = letters;
     while let Some((letter, later)) = rest.split_first() {
-        match meaning_of_letter(*letter) {
-            None => {
-                items.push(Item::Refused(Fault::BadLetter(*letter)))?;
-                return Ok(None);
+        let last = match meaning_of_letter(*letter) {
+            Some(Meaning::Plain(switch)) => {
+                items.push(Item::Plain(switch))?;
+                rest = later;
+                continue;
             }
-            Some(Meaning::Plain(switch)) => items.push(Item::Plain(switch))?,
-            Some(Meaning::WithValue(valued)) if later.is_empty() => {
-                return Ok(Some(Waiting {
-                    valued,
-                    asker: Asker::ByLetter(*letter),
-                }));
-            }
-            Some(Meaning::WithValue(valued)) => {
-                items.push(Item::WithValue(valued, later))?;
-                return Ok(None);
-            }
-        }
-        rest = later;
+            None => Step::Ready(Item::Refused(Fault::BadLetter(*letter))),
+            Some(Meaning::WithValue(valued)) if later.is_empty() => Step::Waits(Waiting {
+                valued,
+                asker: Asker::ByLetter(*letter),
+            }),
+            Some(Meaning::WithValue(valued)) => Step::Ready(Item::WithValue(valued, later)),
+        };
+        return push_step(items, last);
     }
     Ok(None)
-}
-
-/// Adds what stands behind `--`.
-fn push_long<'a>(items: &mut Vec<Item<'a>>, text: &'a [u8]) -> Result<Option<Waiting>, AllocError>
-    ensures items { OnOk result (items_of items.new.items ≡ items_of items.old.items ++ (long_read text.entry.now).items) }
-    ensures waiting { IfOk result (λ waiting. waiting ≡ (long_read text.entry.now).waiting) }
-{
-    match long_read(text) {
-        Step::Ready(item) => {
-            items.push(item)?;
-            Ok(None)
-        }
-        Step::Waits(waiting) => Ok(Some(waiting)),
-    }
 }
 
 /// Adds what a word says that is not `--`.
@@ -62,12 +58,11 @@ fn push_word<'a>(items: &mut Vec<Item<'a>>, word: &'a [u8]) -> Result<Option<Wai
     ensures waiting { IfOk result (λ waiting. waiting ≡ (word_read word.entry.now).waiting) }
 {
     if word.starts_with(b"--") {
-        push_long(items, &word[2..])
+        push_step(items, long_read(&word[2..]))
     } else if word.starts_with(b"-") && word.len() > 1 {
         push_letters(items, &word[1..])
     } else {
-        items.push(Item::Operand(word))?;
-        Ok(None)
+        push_step(items, Step::Ready(Item::Operand(word)))
     }
 }
 
@@ -91,10 +86,7 @@ fn push_next<'a>(
     ensures waiting { IfOk result (λ later. later ≡ (next_read waiting word.entry.now).waiting) }
 {
     match waiting {
-        Some(asked) => {
-            items.push(Item::WithValue(asked.valued, word))?;
-            Ok(None)
-        }
+        Some(asked) => push_step(items, Step::Ready(Item::WithValue(asked.valued, word))),
         None => push_word(items, word),
     }
 }

@@ -1,8 +1,12 @@
-use Rattle.std.proofs.Common.{◌≡◌, ◌≤◌, ◌∙◌, ◌++◌, ◌∷◌, [], ap, arith, length, map, take_all}
+use Rattle.std.proofs.Common.{◌≤◌, ◌∙◌, ◌++◌, ◌∷◌, [], ap, arith, length, map, take_all}
+use Rattle.std.proofs.lemmas.Grind.{common_steps}
 use Rattle.std.proofs.lemmas.List.{map-append}
 use Rattle.text_parts.specs.Text.{texts_of}
 use Rattle.modprobe_files.specs.Paths.{command_line_path, path_in}
 use Rattle.modprobe_files.proofs.texts.ConfTexts.paths.Goals as goal
+
+pub loop-file-preserved : goal.loop-file-preserved
+loop-file-preserved c = grind (arith, common_steps)
 
 pub returns : goal.returns
 returns c =
