@@ -1,10 +1,25 @@
--- The line at the place of the first name that matches is the first whose name matches.
-use Rattle.std.proofs.Common.{◌≡◌, ℕ, Bool, ◌||◌, List, [], ◌∷◌, map, Option, refl, ◌∙◌, ap}
-use Rattle.std.specs.List.{find, list_any}
+-- The lines at the places of names that match are those whose names match.
+use Rattle.std.proofs.Common.{◌≡◌, ℕ, Bool, ◌||◌, List, [], ◌∷◌, map, filter, slice_get, Option, Vec, Result, Ok, Err, IfOk, refl, ◌∙◌, ap}
+use Rattle.std.specs.Borrow.{Bor}
+use Rattle.std.specs.Global.{Global}
+use Rattle.std.specs.List.{filter_map, find, list_any}
+use Rattle.std.specs.declared.alloc.AllocError.{AllocError}
 use Rattle.std.specs.Str.{bytes_eq}
-use Rattle.kmod_names.specs.Patterns.{first_pattern, matches_pattern, place_named}
-use Rattle.kmod_names.proofs.PlaceLemmas.{at_first, at_place}
+use Rattle.kmod_names.specs.Patterns.{first_pattern, matches_pattern, pattern_places, place_named}
+use Rattle.kmod_names.proofs.PlaceLemmas.{all_at_places, at_first, at_place}
 
+pub all_found : {X : Type 0} (f : X → List ℕ) (result : Result (Vec (Bor X) Global) AllocError) (at inside lines : List X) (names : List (List ℕ)) (places name : List ℕ)
+    → IfOk result (λ found. map (λ line. line.now) found.items ≡ filter_map (slice_get at) places)
+    → at ≡ inside → places ≡ pattern_places names name → names ≡ map f inside → inside ≡ lines
+    → IfOk result (λ found. map (λ line. line.now) found.items ≡ filter (λ x. matches_pattern (f x) name) lines)
+all_found f (Err e) at inside lines names places name h here found same all = tt
+all_found f (Ok found-lines) at inside lines names places name h here found same all =
+    h ∙ ap (λ l. filter_map (slice_get l) places) here
+    ∙ ap (filter_map (slice_get inside)) (found ∙ ap (λ l. pattern_places l name) same)
+    ∙ all_at_places f (λ pattern. matches_pattern pattern name) inside
+    ∙ ap (filter (λ x. matches_pattern (f x) name)) all
+
+-- and the line at the place of the first is the first
 pub first_found : {X : Type 0} (f : X → List ℕ) (inside lines : List X) (names : List (List ℕ)) (name : List ℕ) (found : Option ℕ)
     → found ≡ first_pattern names name → names ≡ map f inside → inside ≡ lines → at_place inside found ≡ find (λ x. matches_pattern (f x) name) lines
 first_found f inside lines names name found h same all =

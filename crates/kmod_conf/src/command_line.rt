@@ -1,7 +1,7 @@
 //! What the kernel's command line says.
-ghost use Rattle.std.specs.Prelude.{◌≡◌, [], OnOk, ◌≤◌, ◌==◌, ◌+◌, length, take, drop, IfOk, MatchOption, None, Some};
+ghost use Rattle.std.specs.Prelude.{◌≡◌, [], OnOk, ◌≤◌, ◌==◌, ◌+◌, length, take, IfOk, MatchOption, None, Some};
 ghost use Rattle.std.specs.List.{position_or_len};
-ghost use Rattle.kmod_conf.specs.CommandLine.{counted, cut_parameter, ends_name, is_blacklist, is_parameter, unquoted, with_quote};
+ghost use Rattle.kmod_conf.specs.CommandLine.{counted, cut_parameter, ends_name, is_parameter, unquoted, with_quote};
 ghost use Rattle.kmod_conf.specs.CommandLine.{blacklist_from, conf_with_command_line, options_said, with_entries, word_said};
 ghost use Rattle.kmod_conf.specs.Configuration.{with_entry};
 ghost use Rattle.kmod_conf.specs.declared.entry.Entry.TheVariants.{Blacklist};
@@ -91,20 +91,6 @@ fn with_quote(alloc: Global, is_quoted: bool, parameter: &[u8]) -> Result<Text, 
     Ok(Text::of(quoted))
 }
 
-/// Whether the parameter has names for the blacklist.
-fn is_blacklist(name: &[u8], parameter: &[u8]) -> bool
-    ensures { result ≡ is_blacklist name.now parameter.now }
-{
-    is_same(name, b"modprobe") && is_same(front(parameter, 10), b"blacklist=")
-}
-
-/// What stands after the first ten bytes, those of `blacklist=`.
-fn blacklist_names(parameter: &[u8]) -> &[u8]
-    ensures { result.now ≡ drop 10 parameter.entry.now }
-{
-    parameter.get(10..).unwrap_or(&[])
-}
-
 impl Conf {
     fn add_blacklisted(
         &mut self,
@@ -164,8 +150,10 @@ impl Conf {
             return Ok(());
         }
         let parameter = with_quote(alloc, is_quoted, parameter)?;
-        if is_blacklist(name, parameter.as_bytes()) {
-            return self.add_blacklist(alloc, blacklist_names(parameter.as_bytes()), place);
+        if is_same(name, b"modprobe")
+            && let Some(names) = parameter.as_bytes().strip_prefix(b"blacklist=")
+        {
+            return self.add_blacklist(alloc, names, place);
         }
         self.add_options(alloc, name, parameter.as_bytes(), place)
     }

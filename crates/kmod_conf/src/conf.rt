@@ -1,6 +1,6 @@
 //! A whole configuration.
 ghost use Rattle.std.specs.Prelude.{◌≡◌, ◌∷◌, ◌++◌, [], map, option_map, option_copied, IfOk, OnOk};
-ghost use Rattle.kmod_conf.specs.Configuration.{conf_with_text, no_lines, place_in, with_entry};
+ghost use Rattle.kmod_conf.specs.Configuration.{conf_with_text, no_lines, with_entry};
 ghost use Rattle.kmod_conf.specs.LookUps.{has_install_named, has_remove_named, install_named, install_of, is_blacklisted, matching_aliases};
 ghost use Rattle.kmod_conf.specs.LookUps.{options_of, remove_named, remove_of, softdep_of};
 
@@ -9,14 +9,14 @@ use crate::line::{NameLine, SoftdepLine, TextLine};
 use crate::named_lines::NamedLines;
 use crate::pattern_lines::PatternLines;
 use crate::wrapped_lines::WrappedLines;
-use kmod_names::{AliasEntry, AliasTable, Place};
+use kmod_names::{AliasEntry, Place};
 use std::alloc::{AllocError, Global};
 use std::marker::Model;
 
 /// A configuration: the lines of each kind in the order of the texts that were added. Names are compared as they
 /// stand, so give them in normal form.
 pub struct Conf {
-    aliases: AliasTable,
+    aliases: PatternLines<AliasEntry>,
     blacklist: NamedLines<NameLine>,
     options: NamedLines<TextLine>,
     installs: PatternLines<TextLine>,
@@ -56,20 +56,13 @@ impl Model for Conf {
     } };
 }
 
-/// Where a line of a source stands.
-fn place_in(source: usize, line: usize) -> Place
-    ensures { result ≡ place_in source line }
-{
-    Place { source, line }
-}
-
 impl Conf {
     /// A configuration without lines.
     pub fn new(alloc: Global) -> Conf
         ensures { result ≡ no_lines }
     {
         Conf {
-            aliases: AliasTable::new(alloc),
+            aliases: PatternLines::new(alloc),
             blacklist: NamedLines::new(alloc),
             options: NamedLines::new(alloc),
             installs: PatternLines::new(alloc),
@@ -83,15 +76,17 @@ impl Conf {
         ensures { OnOk result (self.new ≡ with_entry self.old entry) }
     {
         match entry {
-            Entry::Alias(line) => self.aliases.push(alloc, line)?,
-            Entry::Blacklist(line) => self.blacklist.push(alloc, line)?,
-            Entry::Options(line) => self.options.push(alloc, line)?,
-            Entry::Install(line) => self.installs.push(alloc, line)?,
-            Entry::Remove(line) => self.removes.push(alloc, line)?,
-            Entry::Softdep(line) => self.softdeps.push(alloc, line)?,
-            Entry::Bad(line) => self.bad.push(line)?,
+            Entry::Alias(line) => self.aliases.push(alloc, line),
+            Entry::Blacklist(line) => self.blacklist.push(alloc, line),
+            Entry::Options(line) => self.options.push(alloc, line),
+            Entry::Install(line) => self.installs.push(alloc, line),
+            Entry::Remove(line) => self.removes.push(alloc, line),
+            Entry::Softdep(line) => self.softdeps.push(alloc, line),
+            Entry::Bad(line) => {
+                self.bad.push(line)?;
+                Ok(())
+            }
         }
-        Ok(())
     }
 
     /// Adds what the lines of a text of modprobe.d say (modprobe.d(5)), after what is there; `source` is kept in
@@ -103,8 +98,14 @@ impl Conf {
         let mut lines = WrappedLines::new(text);
         let mut line = Vec::new(alloc);
         'lines: while let Some(numbers) = lines.next_line(&mut line)? {
-            let place = place_in(source, numbers.first);
-            let end = place_in(source, numbers.last);
+            let place = Place {
+                source,
+                line: numbers.first,
+            };
+            let end = Place {
+                source,
+                line: numbers.last,
+            };
             if let Some(entry) = Entry::read(alloc, &line, place, end)? {
                 self.add_entry(alloc, entry)?;
             }
@@ -116,7 +117,7 @@ impl Conf {
     pub fn aliases(&self) -> &[AliasEntry]
         ensures { result.now ≡ self.now.aliases }
     {
-        self.aliases.entries()
+        self.aliases.lines()
     }
 
     pub fn blacklist(&self) -> &[NameLine]

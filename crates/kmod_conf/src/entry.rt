@@ -1,7 +1,7 @@
 //! What one line says.
 ghost use Rattle.std.specs.Prelude.{◌≡◌, map, IfOk};
-ghost use Rattle.kmod_conf.specs.Configuration.{alias_entry, blacklist_entry, install_entry, known_entry, line_entry};
-ghost use Rattle.kmod_conf.specs.Configuration.{name_of_word, options_entry, remove_entry, softdep_entry, text_line, untabbed};
+ghost use Rattle.kmod_conf.specs.Configuration.{alias_entry, blacklist_entry, known_entry, line_entry};
+ghost use Rattle.kmod_conf.specs.Configuration.{name_of_word, options_entry, softdep_entry, text_line, untabbed};
 
 use crate::bytes::{cut_word, line_text};
 use crate::line::{NameLine, SoftdepLine, TextLine};
@@ -54,8 +54,10 @@ fn read_blacklist(alloc: Global, text: &[u8], place: Place) -> Result<Option<Ent
     ensures { IfOk result (λ entry. entry ≡ blacklist_entry place text.now) }
 {
     let (word, _) = cut_word(text);
-    let name = name_of_word(alloc, word)?;
-    Ok(name.map(|name| Entry::Blacklist(NameLine { name, place })))
+    let Some(name) = name_of_word(alloc, word)? else {
+        return Ok(None);
+    };
+    Ok(Some(Entry::Blacklist(NameLine { name, place })))
 }
 
 /// A name and the text after it, None where it has not both.
@@ -102,18 +104,6 @@ fn read_options(alloc: Global, text: &[u8], place: Place) -> Result<Option<Entry
     })))
 }
 
-fn read_install(alloc: Global, text: &[u8], place: Place) -> Result<Option<Entry>, AllocError>
-    ensures { IfOk result (λ entry. entry ≡ install_entry place text.now) }
-{
-    Ok(read_text_line(alloc, text, place)?.map(Entry::Install))
-}
-
-fn read_remove(alloc: Global, text: &[u8], place: Place) -> Result<Option<Entry>, AllocError>
-    ensures { IfOk result (λ entry. entry ≡ remove_entry place text.now) }
-{
-    Ok(read_text_line(alloc, text, place)?.map(Entry::Remove))
-}
-
 fn read_softdep(alloc: Global, text: &[u8], place: Place) -> Result<Option<Entry>, AllocError>
     ensures { IfOk result (λ entry. entry ≡ softdep_entry place text.now) }
 {
@@ -144,9 +134,9 @@ fn read_known(
     } else if is_same(word, b"options") {
         read_options(alloc, text, place)
     } else if is_same(word, b"install") {
-        read_install(alloc, text, place)
+        Ok(read_text_line(alloc, text, place)?.map(Entry::Install))
     } else if is_same(word, b"remove") {
-        read_remove(alloc, text, place)
+        Ok(read_text_line(alloc, text, place)?.map(Entry::Remove))
     } else if is_same(word, b"softdep") {
         read_softdep(alloc, text, place)
     } else {

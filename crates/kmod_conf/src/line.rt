@@ -2,7 +2,7 @@
 ghost use Rattle.std.specs.Prelude.{◌≡◌, ℕ, List};
 
 use crate::softdep::SoftItems;
-use kmod_names::{Place, Text};
+use kmod_names::{AliasEntry, Place, Text};
 
 /// A name, as a blacklist line has it; or the first word of a bad line, and the place of its end.
 #[derive(Drop)]
@@ -33,6 +33,15 @@ pub(crate) trait Named: Drop {
 
     fn name(&self) -> &[u8]
         ensures { result.now ≡ name self.now };
+}
+
+/// An alias is found by its pattern.
+impl Named for AliasEntry {
+    ghost name = { λ line. line.pattern };
+
+    fn name(&self) -> &[u8] {
+        self.pattern.as_bytes()
+    }
 }
 
 impl Named for NameLine {

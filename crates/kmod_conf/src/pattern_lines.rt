@@ -1,6 +1,6 @@
-//! Lines with names that are patterns, and the first that concerns a module.
-ghost use Rattle.std.specs.Prelude.{◌≡◌, ◌∷◌, ◌++◌, [], IfOk, OnOk, OnErr, option_copied, slice_get};
-ghost use Rattle.std.specs.List.{find, list_any};
+//! Lines with names that are patterns, and those that concern a module.
+ghost use Rattle.std.specs.Prelude.{◌≡◌, ◌∷◌, ◌++◌, [], filter, map, IfOk, OnOk, OnErr, option_copied, slice_get};
+ghost use Rattle.std.specs.List.{filter_map, find, list_any};
 ghost use Rattle.std.specs.Str.{bytes_eq};
 ghost use Rattle.kmod_names.specs.Patterns.{matches_pattern};
 
@@ -33,6 +33,23 @@ fn line_at<L>(lines: &[L], place: usize) -> Option<&L>
     lines.get(place)
 }
 
+/// The lines at the places.
+fn lines_at<'a, L>(
+    alloc: Global,
+    lines: &'a [L],
+    places: &[usize],
+) -> Result<Vec<&'a L>, AllocError>
+    ensures { IfOk result (λ found. map (λ line. line.now) found.items ≡ filter_map (slice_get lines.entry.now) places.now) }
+{
+    let mut found = Vec::new(alloc);
+    for place in places {
+        if let Some(line) = line_at(lines, *place) {
+            found.push(line)?;
+        }
+    }
+    Ok(found)
+}
+
 impl<L: Named> PatternLines<L> {
     pub(crate) fn new(alloc: Global) -> PatternLines<L>
         ensures { result ≡ [] }
@@ -58,6 +75,14 @@ impl<L: Named> PatternLines<L> {
         ensures { result.now ≡ self.now }
     {
         &self.lines
+    }
+
+    /// The lines whose names, as patterns, match, in order.
+    pub(crate) fn matching(&self, alloc: Global, name: &[u8]) -> Result<Vec<&L>, AllocError>
+        ensures { IfOk result (λ found. map (λ line. line.now) found.items ≡ filter (λ own. matches_pattern (L.name own) name.now) self.now) }
+    {
+        let places = self.names.places(alloc, name)?;
+        lines_at(alloc, &self.lines, &places)
     }
 
     /// The first line whose name, as a pattern, matches.

@@ -56,13 +56,6 @@ fn add_line(
 }
 
 impl Builtins {
-    /// The names, in the order of the text.
-    pub fn names(&self) -> &[Text]
-        ensures { result.now ≡ self.now }
-    {
-        &self.names
-    }
-
     /// Whether the module of this name is built in. Names have `_` for each `-`.
     pub fn has(&self, name: &[u8]) -> bool
         ensures { result ≡ is_among self.now name.now }

@@ -65,13 +65,6 @@ impl DepLine {
         self.path.as_bytes()
     }
 
-    /// The paths of the modules that it needs, in the order of the line. It fails only if memory runs out.
-    pub fn needs(&self, alloc: Global) -> Result<Vec<&[u8]>, AllocError>
-        ensures { IfOk result (λ needs. texts_of needs.items ≡ self.now.needs) }
-    {
-        words(alloc, self.needs.as_bytes())
-    }
-
     /// The number of the line, from 1.
     pub fn number(&self) -> usize
         ensures { result ≡ self.now.number }
@@ -91,7 +84,7 @@ impl DepLine {
     pub fn needed_names(&self, alloc: Global) -> Result<Vec<Text>, AllocError>
         ensures { IfOk result (λ names. names.items ≡ needed_names self.now) }
     {
-        let needs = self.needs(alloc)?;
+        let needs = words(alloc, self.needs.as_bytes())?;
         let mut names = names_of(alloc, &needs)?;
         names.reverse();
         Ok(names)

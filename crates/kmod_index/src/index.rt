@@ -30,13 +30,25 @@ pub struct IndexTexts<'a> {
 }
 
 /// What the texts of a folder of modules say.
-#[derive(Drop)]
 pub struct Index {
     dependencies: ModulesDep,
     aliases: Aliases,
     symbols: Symbols,
     builtins: Builtins,
     builtin_aliases: Aliases,
+}
+
+// By hand, since a derived drop is written out, and proved, at each place where a value is let go.
+impl Drop for Index {
+    fn drop(self) {
+        let Index {
+            dependencies: _,
+            aliases: _,
+            symbols: _,
+            builtins: _,
+            builtin_aliases: _,
+        } = self;
+    }
 }
 
 impl Model for Index {

@@ -1,7 +1,6 @@
 pub mod NameLemmas
 pub mod PlaceLemmas
 pub mod PatternLemmas
-pub mod TableLemmas
 pub mod KeyLemmas
 pub mod MergeLemmas
 pub mod LiteralLemmas

@@ -14,22 +14,22 @@ was_false : (b : Bool) → not b ≡ true → b ≡ false
 was_false false h = refl
 was_false true h = absurd (cc)
 
+none_of : (a b c d e : Bool) → (a || b || c || d || e) ≡ false → (a ≡ false) × (b ≡ false) × (c ≡ false) × (d ≡ false) × (e ≡ false)
+none_of true b c d e h = absurd (cc)
+none_of false true c d e h = absurd (cc)
+none_of false false true d e h = absurd (cc)
+none_of false false false true e h = absurd (cc)
+none_of false false false false true h = absurd (cc)
+none_of false false false false false h = (refl, refl, refl, refl, refl)
+
 -- a byte that is not special is an item
 plain_item : (b : ℕ) (s : List ℕ) → is_special b ≡ false → item_of b s ≡ Ok (byte b, s)
 plain_item b [] h =
-    let not_run : (b == 42) ≡ false = grind (arith, nat_tests, h) in
-    let not_dash : (b == 45) ≡ false = grind (arith, nat_tests, h) in
-    let not_any : (b == 63) ≡ false = grind (arith, nat_tests, h) in
-    let not_set : (b == 91) ≡ false = grind (arith, nat_tests, h) in
-    let not_escaped : (b == 92) ≡ false = grind (arith, nat_tests, h) in
-    rw (not_set, not_run, not_any, not_escaped, not_dash) refl
+    let none = none_of (b == 42) (b == 45) (b == 63) (b == 91) (b == 92) h in
+    rw (none.3, none.0, none.2, none.4, none.1) refl
 plain_item b (c ∷ s) h =
-    let not_run : (b == 42) ≡ false = grind (arith, nat_tests, h) in
-    let not_dash : (b == 45) ≡ false = grind (arith, nat_tests, h) in
-    let not_any : (b == 63) ≡ false = grind (arith, nat_tests, h) in
-    let not_set : (b == 91) ≡ false = grind (arith, nat_tests, h) in
-    let not_escaped : (b == 92) ≡ false = grind (arith, nat_tests, h) in
-    rw (not_set, not_run, not_any, not_escaped, not_dash) refl
+    let none = none_of (b == 42) (b == 45) (b == 63) (b == 91) (b == 92) h in
+    rw (none.3, none.0, none.2, none.4, none.1) refl
 
 literal_pieces : (pattern : List ℕ) → list_any is_special pattern ≡ false → pattern_of pattern ≡ Ok (map byte pattern)
 literal_pieces [] h = refl

@@ -1,4 +1,4 @@
--- Tables of aliases.
+-- Aliases that match.
 use Rattle.std.specs.Prelude.{ℕ, List, filter}
 use Rattle.kmod_names.specs.declared.alias_table.AliasEntry.{AliasEntry}
 use Rattle.kmod_names.specs.Patterns.{matches_pattern}

@@ -8,7 +8,7 @@ mod pattern_list;
 mod place;
 mod text;
 
-pub use alias_table::{AliasEntry, AliasTable};
+pub use alias_table::AliasEntry;
 pub use key_places::KeyPlaces;
 pub use names::{name_of_path, normal_alias};
 pub use pattern_list::PatternList;

@@ -1,5 +1,5 @@
 //! Patterns in order, and those that match a text.
-ghost use Rattle.std.specs.Prelude.{◌≡◌, ◌∷◌, ◌++◌, [], codes, false, length, option_map, slice_get, true, IfOk, OnOk, OnErr};
+ghost use Rattle.std.specs.Prelude.{◌≡◌, ◌∷◌, ◌++◌, [], codes, false, option_map, slice_get, true, IfOk, OnOk, OnErr};
 ghost use Rattle.std.specs.List.{filter_map, list_any};
 ghost use Rattle.std.specs.Result.{result_ok};
 ghost use Rattle.std.specs.Str.{bytes_eq};
@@ -126,26 +126,27 @@ impl PatternList {
         }
     }
 
-    fn push_literal(&mut self, alloc: Global, own: Text) -> Result<(), AllocError>
-        requires { is_literal own ≡ true }
-        ensures ok { OnOk result (self.new ≡ self.old ++ own ∷ []) }
+    fn push_literal(&mut self, alloc: Global, pattern: &[u8]) -> Result<(), AllocError>
+        requires { is_literal pattern.now ≡ true }
+        ensures ok { OnOk result (self.new ≡ self.old ++ pattern.now ∷ []) }
         ensures err { OnErr result (self.new ≡ self.old) }
     {
         self.patterns.reserve(1)?;
-        self.literals
-            .add(alloc, own.as_bytes(), self.patterns.len())?;
+        let own = Text::new(alloc, pattern)?;
+        self.literals.add(alloc, pattern, self.patterns.len())?;
         self.patterns.push(own)?;
         Ok(())
     }
 
-    fn push_other(&mut self, alloc: Global, own: Text) -> Result<(), AllocError>
-        requires { is_literal own ≡ false }
-        ensures ok { OnOk result (self.new ≡ self.old ++ own ∷ []) }
+    fn push_other(&mut self, alloc: Global, pattern: &[u8]) -> Result<(), AllocError>
+        requires { is_literal pattern.now ≡ false }
+        ensures ok { OnOk result (self.new ≡ self.old ++ pattern.now ∷ []) }
         ensures err { OnErr result (self.new ≡ self.old) }
     {
-        let alias = alias_for(alloc, own.as_bytes())?;
         self.patterns.reserve(1)?;
         self.other_places.reserve(1)?;
+        let own = Text::new(alloc, pattern)?;
+        let alias = alias_for(alloc, pattern)?;
         self.others.push(alloc, alias)?;
         self.other_places.push(self.patterns.len())?;
         self.patterns.push(own)?;
@@ -157,19 +158,11 @@ impl PatternList {
         ensures ok { OnOk result (self.new ≡ self.old ++ pattern.now ∷ []) }
         ensures err { OnErr result (self.new ≡ self.old) }
     {
-        let own = Text::new(alloc, pattern)?;
         if is_literal(pattern) {
-            self.push_literal(alloc, own)
+            self.push_literal(alloc, pattern)
         } else {
-            self.push_other(alloc, own)
+            self.push_other(alloc, pattern)
         }
-    }
-
-    /// How many patterns there are.
-    pub fn len(&self) -> usize
-        ensures { result ≡ length self.now }
-    {
-        self.patterns.len()
     }
 
     /// Whether some pattern has just this text.

@@ -8,3 +8,6 @@ loop-byte-preserved-in_ok-add_word c =
     space_read c.loop-byte.self c.add_word.new.self _ c.loop-byte.is_quoted c.loop-byte.word.items c.clear.new.self.items c.in-Some.byte.now c.in-Some.later.now c.loop-byte.rest.now
     c.in-Some.ensures.cases.0 (grind (arith, common_steps)) (grind (arith, common_steps)) c.clear.ensures.items (grind (arith, common_steps))
     ∙ c.loop-byte.invariant
+
+pub loop-byte-preserved : goal.loop-byte-preserved
+loop-byte-preserved c = grind (arith, common_steps)
