@@ -10,7 +10,7 @@ use Rattle.kmod_query.specs.declared.query.Query.{Query}
 use Rattle.kmod_query.specs.declared.answer.Failure.{Failure}
 use Rattle.kmod_query.specs.declared.answer.Failure.TheVariants.{InUse}
 use Rattle.kmod_query.specs.declared.removal.Removal.{Removal}
-use Rattle.kmod_query.specs.declared.removal.Removal.TheVariants.{Take, Release, Leave}
+use Rattle.kmod_query.specs.declared.removal.Removal.TheVariants.{Release, Leave}
 use Rattle.kmod_query.specs.declared.removal.Step.{Step}
 use Rattle.kmod_query.specs.Answers.{Answer, nothing, said, and_also}
 use Rattle.kmod_query.specs.Facts.{Facts}

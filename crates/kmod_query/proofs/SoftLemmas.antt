@@ -1,12 +1,14 @@
 -- What maps know of names, and what was met at the front of lists.
-use Rattle.std.proofs.Common.{◌≡◌, ℕ, zero, suc, ◌+◌, Bool, true, false, cond, ◌||◌, List, [], ◌∷◌, ◌++◌, slice_get, Option, Some, None, Vec, refl, sym, ◌∙◌, ap, subst, arith, inl, inr}
+use Rattle.std.proofs.Common.{◌≡◌, ℕ, zero, suc, ◌+◌, Bool, true, false, cond, ◌||◌, List, [], ◌∷◌, ◌++◌, slice_get, Option, Some, None, Vec, refl, sym, ◌∙◌, ap, subst, arith, inl, inr, is_some, nat_lt, length}
 use Rattle.std.specs.Bool.{beq}
 use Rattle.std.specs.Global.{Global}
 use Rattle.std.specs.List.{list_any}
 use Rattle.std.specs.Map.{lookup}
 use Rattle.std.specs.Option.{option_eq, unwrap_or}
 use Rattle.std.specs.Str.{bytes_eq}
+use Rattle.std.proofs.lemmas.Bool.{lt-ltb}
 use Rattle.std.proofs.lemmas.List.Folds.{list_any-append}
+use Rattle.std.proofs.Math.Nat.{zero-lt-suc}
 use Rattle.std.proofs.lemmas.Slice.Eq.{bytes_eq-Decides}
 use Rattle.indexmap.specs.IndexMap.{insert_entry}
 use Rattle.kmod_names.proofs.PlaceLemmas.{told}
@@ -16,6 +18,7 @@ use Rattle.kmod_query.specs.declared.look_up.SoftItems.{SoftItems}
 use Rattle.kmod_query.specs.declared.fronts.Fronts.{Fronts}
 use Rattle.kmod_query.specs.declared.soft_lists.Found.{Found}
 use Rattle.kmod_query.specs.Facts.{Facts}
+use Rattle.kmod_query.specs.Lines.{has_soft_items}
 use Rattle.kmod_query.specs.Objects.{Object, has, is_same, with_object}
 use Rattle.kmod_query.specs.Probes.{before_of, after_of}
 use Rattle.kmod_query.specs.Stacks.{AreFronts, AreFrontsAt, Each, IsFound, IsFront, IsSoft, count_in, side_of, soft_of}
@@ -59,6 +62,20 @@ soft_sides facts name items b a After = a
 pub found_soft : (facts : Facts) (name : List ℕ) (items : SoftItems) (place : Place) (index : ℕ) (found : Option Found)
     → IsSoft facts name items → IsFound (side_of place items) index found → IsFound (soft_of facts place name) index found
 found_soft facts name items place index found soft h = subst (λ l. IsFound l index found) (soft place) h
+
+first_found : (xs : List Object) (found : Option Found) → IsFound xs 0 found → is_some found ≡ nat_lt 0 (length xs)
+first_found [] None h = refl
+first_found [] (Some found) h = absurd (cc (h.0))
+first_found (x ∷ xs) None h = absurd (cc (h))
+first_found (x ∷ xs) (Some found) h = sym (lt-ltb 0 (length (x ∷ xs)) (zero-lt-suc (length xs)))
+
+-- where the first item before a module is none, that after it tells whether the module has soft items
+pub has_after : (facts : Facts) (name : List ℕ) (before after : Option Found) (b a : Bool) → b ≡ is_some before → a ≡ is_some after → b ≡ false
+    → IsFound (soft_of facts Before name) 0 before → IsFound (soft_of facts After name) 0 after → a ≡ has_soft_items facts name
+has_after facts name before after b a p q none x y =
+    q
+    ∙ ap (λ t. t || is_some after) (sym none ∙ p ∙ first_found (before_of facts name) before x)
+    ∙ ap (λ t. nat_lt 0 (length (before_of facts name)) || t) (first_found (after_of facts name) after y)
 
 -- ---- what was met
 

@@ -1,12 +1,6 @@
 -- Folds over references, and texts that are added one after another.
 use Rattle.std.proofs.Common.{◌≡◌, ◌≤◌, ℕ, zero, suc, List, [], ◌∷◌, ◌++◌, fold, length, map, take, refl, ◌∙◌, ap, arith, Result, Ok, Err, IfOk}
 use Rattle.std.specs.List.{flat_map}
-use Rattle.std.specs.Borrow.{Bor}
-use Rattle.text_parts.specs.Text.{texts_of}
-
-pub fold-texts : {B : Type 0} (f : B → List ℕ → B) (a : B) (texts : List (Bor (List ℕ))) → fold f a (texts_of texts) ≡ fold (λ b text. f b text.now) a texts
-fold-texts f a [] = refl
-fold-texts f a (text ∷ texts) = fold-texts f (f a text.now) texts
 
 taken_all : {X : Type 0} (k : ℕ) (xs : List X) → length xs ≤ k → take k xs ≡ xs
 taken_all zero [] h = refl
@@ -23,6 +17,13 @@ map-both g f k xs h = ap (map (λ x. f (g x))) (taken_all k xs h) ∙ fused g f 
 
 pub map-all : {W X Y Z : Type 0} (h : W → X) (g : X → Y) (f : Y → Z) (k : ℕ) (ws : List W) → length ws ≤ k → map (λ w. f (g (h w))) (take k ws) ≡ map f (map g (map h ws))
 map-all h g f k ws over = map-both h (λ x. f (g x)) k ws over ∙ fused g f (map h ws)
+
+fold-map : {B X Y Z : Type 0} (g : X → Y) (f : Y → Z) (h : B → Z → B) (a : B) (xs : List X) → fold (λ b x. h b (f (g x))) a xs ≡ fold h a (map f (map g xs))
+fold-map g f h a [] = refl
+fold-map g f h a (x ∷ xs) = fold-map g f h (h a (f (g x))) xs
+
+pub fold-all : {B X Y Z : Type 0} (g : X → Y) (f : Y → Z) (h : B → Z → B) (a : B) (k : ℕ) (xs : List X) → length xs ≤ k → fold (λ b x. h b (f (g x))) a (take k xs) ≡ fold h a (map f (map g xs))
+fold-all g f h a k xs over = ap (fold (λ b x. h b (f (g x))) a) (taken_all k xs over) ∙ fold-map g f h a xs
 
 flat_map-map : {X Y Z : Type 0} (g : X → Y) (f : Y → List Z) (xs : List X) → flat_map (λ x. f (g x)) xs ≡ flat_map f (map g xs)
 flat_map-map g f [] = refl

@@ -5,7 +5,7 @@ ghost use Rattle.std.specs.Prelude.{◌≡◌, IfOk, option_copied, option_map};
 ghost use Rattle.kmod_query.specs.Commands.{install_of, is_unlisted, own_install, own_remove, remove_of};
 ghost use Rattle.kmod_query.specs.World.{facts_of, text_of};
 
-use crate::world::{World, is_loadable};
+use crate::world::World;
 use kmod_conf::TextLine;
 use std::alloc::{AllocError, Global};
 
@@ -13,7 +13,7 @@ use std::alloc::{AllocError, Global};
 fn is_unlisted(world: &World, name: &[u8], alias: Option<&[u8]>) -> bool
     ensures { result ≡ is_unlisted (facts_of world.now) name.now (option_map (λ own. own.now) alias.entry) }
 {
-    alias.is_none() && !is_loadable(world, name)
+    alias.is_none() && world.index.dependencies().find(name).is_none()
 }
 
 /// The install line by which a module was found.

@@ -1,5 +1,5 @@
 //! The lines of an index by their keys.
-ghost use Rattle.std.specs.Prelude.{◌≡◌, ◌++◌, [], fold, map, option_map, unwrap_or, IfOk, OnOk};
+ghost use Rattle.std.specs.Prelude.{◌≡◌, ◌++◌, [], fold, map, unwrap_or, IfOk, OnOk};
 ghost use Rattle.std.specs.List.{flat_map};
 ghost use Rattle.kmod_query.specs.Objects.{alias_of};
 ghost use Rattle.kmod_query.specs.Shown.{shown_index, text_of_key, with_index_line, without_key, with_text};
@@ -23,16 +23,6 @@ impl Model for Groups {
     ghost Value = { GroupList };
 
     ghost view = { λ g. map (λ entry. (entry.0.items, entry.1.items)) g.texts.entries };
-}
-
-/// The text, or an empty one.
-fn or_empty(alloc: Global, text: Option<Vec<u8>>) -> Vec<u8>
-    ensures { result.items ≡ unwrap_or (alias_of text) [] }
-{
-    match text {
-        Some(text) => text,
-        None => Vec::new(alloc),
-    }
 }
 
 impl Groups {
@@ -64,8 +54,7 @@ impl Groups {
     fn add(&mut self, alloc: Global, own: &IndexLine) -> Result<(), AllocError>
         ensures { OnOk result (self.new ≡ with_index_line self.old own.now) }
     {
-        let had = self.take(own.key());
-        let mut text = or_empty(alloc, had);
+        let mut text = self.take(own.key()).unwrap_or(Vec::new(alloc));
         push_line(&mut text, b"alias ", own.key(), own.name())?;
         self.put(alloc, own.key(), text)
     }

@@ -1,17 +1,29 @@
 //! The lines that load a module, with its options.
-ghost use Rattle.std.specs.Prelude.{◌≡◌, ◌++◌, ◌∷◌, [], codes, IfOk, OnOk, option_copied};
+ghost use Rattle.std.specs.Prelude.{◌≡◌, ◌++◌, ◌∷◌, [], fold, map, IfOk, OnOk, option_copied};
 ghost use Rattle.kmod_query.specs.Facts.{Facts};
 ghost use Rattle.kmod_query.specs.Lines.{command_of, has_soft_items, is_built_in, is_commandless, is_in_kernel, is_live};
-ghost use Rattle.kmod_query.specs.Lines.{line, line_by, load_line, option_text, own_parameters};
+ghost use Rattle.kmod_query.specs.Lines.{joined, line, line_by, load_line, option_text, own_parameters};
 ghost use Rattle.kmod_query.specs.Objects.{alias_of, object_of};
-ghost use Rattle.kmod_query.specs.World.{facts_of};
+ghost use Rattle.kmod_query.specs.World.{facts_of, text_of};
 
 use crate::commands::{install_line, text_in};
 use crate::object::Object;
-use crate::parameters::{join, push_joined};
+use crate::parameters::push_joined;
 use crate::states::{ModuleState, ModuleStatus};
-use crate::world::{World, alias_bytes, is_builtin, options_of, path_of, status_of};
+use crate::world::{World, alias_bytes, is_builtin, path_of, status_of};
+use kmod_conf::TextLine;
 use std::alloc::{AllocError, Global};
+
+/// The texts of lines as one, with blanks between them.
+fn joined_texts(alloc: Global, lines: &[&TextLine]) -> Result<Vec<u8>, AllocError>
+    ensures { IfOk result (λ text. text.items ≡ fold joined [] (map text_of (map (λ line. line.now) lines.now))) }
+{
+    let mut text = Vec::new(alloc);
+    'lines: for line in lines {
+        push_joined(&mut text, line.text.as_bytes())?;
+    }
+    Ok(text)
+}
 
 /// The options of an object, and the parameters after them.
 fn option_text(
@@ -22,8 +34,10 @@ fn option_text(
 ) -> Result<Vec<u8>, AllocError>
     ensures { IfOk result (λ text. text.items ≡ option_text (facts_of world.now) (object_of object.now) parameters.now) }
 {
-    let texts = options_of(alloc, world, object)?;
-    let mut text = join(alloc, &texts)?;
+    let lines = world
+        .conf
+        .options_of(alloc, &object.name, alias_bytes(object))?;
+    let mut text = joined_texts(alloc, &lines)?;
     push_joined(&mut text, parameters)?;
     Ok(text)
 }
@@ -100,12 +114,20 @@ fn line(alloc: Global, verb: &[u8], what: &[u8], options: &[u8]) -> Result<Vec<u
     Ok(text)
 }
 
-fn builtin_line(alloc: Global, name: &[u8]) -> Result<Vec<u8>, AllocError>
-    ensures { IfOk result (λ text. text.items ≡ codes "builtin " ++ name.now ++ (10 ∷ [])) }
+/// Adds a line of a name alone, with what stands before it.
+pub(crate) fn push_name(lines: &mut Vec<u8>, front: &[u8], name: &[u8]) -> Result<(), AllocError>
+    ensures { OnOk result (lines.new.items ≡ lines.old.items ++ front.now ++ name.now ++ (10 ∷ [])) }
 {
-    let mut text = Vec::from_slice(alloc, b"builtin ")?;
-    text.extend_from_slice(name)?;
-    text.push(b'\n')?;
+    lines.extend_from_slice(front)?;
+    lines.extend_from_slice(name)?;
+    lines.extend_from_slice(b"\n")
+}
+
+pub(crate) fn name_line(alloc: Global, front: &[u8], name: &[u8]) -> Result<Vec<u8>, AllocError>
+    ensures { IfOk result (λ text. text.items ≡ front.now ++ name.now ++ (10 ∷ [])) }
+{
+    let mut text = Vec::new(alloc);
+    push_name(&mut text, front, name)?;
     Ok(text)
 }
 
@@ -125,7 +147,7 @@ fn line_by(
         (None, Some(path)) => line(alloc, b"insmod ", &path, options),
         (None, None) => {
             if builtin {
-                return builtin_line(alloc, name);
+                return name_line(alloc, b"builtin ", name);
             }
             Ok(Vec::new(alloc))
         }

@@ -1,17 +1,17 @@
 //! What is answered of an object that is to be loaded or resolved.
-ghost use Rattle.std.specs.Prelude.{◌≡◌, ◌++◌, ◌∷◌, [], IfOk};
+ghost use Rattle.std.specs.Prelude.{◌≡◌, IfOk};
 ghost use Rattle.std.specs.List.{flat_map};
 ghost use Rattle.kmod_query.specs.Lines.{has_soft_items};
 ghost use Rattle.kmod_query.specs.Loading.{already, answer_object};
-ghost use Rattle.kmod_query.specs.Loading.{is_barred, is_passed, is_resolve, is_show_depends, line_unless_passed, load, load_lines};
+ghost use Rattle.kmod_query.specs.Loading.{is_barred, is_passed, is_show_depends, line_unless_passed, load, load_lines};
 ghost use Rattle.kmod_query.specs.Loading.{shows_lines};
-ghost use Rattle.kmod_query.specs.Objects.{alias_of, object_of, objects_of};
+ghost use Rattle.kmod_query.specs.Objects.{object_of, objects_of};
 ghost use Rattle.kmod_query.specs.Stacks.{AreSoftLists, IsStart};
 ghost use Rattle.kmod_query.specs.World.{facts_of};
 
 use crate::answer::{Answer, Failure};
 use crate::asked::Asked;
-use crate::lines::{is_in_kernel, load_line};
+use crate::lines::{is_in_kernel, load_line, name_line};
 use crate::object::Object;
 use crate::probes::{Course, probe_list, start};
 use crate::query::{Ask, Query};
@@ -24,12 +24,6 @@ fn is_show_depends(ask: Ask) -> bool
     ensures { result ≡ is_show_depends ask }
 {
     matches!(ask, Ask::ShowDepends)
-}
-
-fn is_resolve(ask: Ask) -> bool
-    ensures { result ≡ is_resolve ask }
-{
-    matches!(ask, Ask::Resolve)
 }
 
 /// Whether lines are shown.
@@ -152,14 +146,6 @@ fn load(asked: &Asked, parameters: &[u8], top: &Object) -> Result<Answer, AllocE
     Ok(Answer::said(asked.alloc, lines))
 }
 
-fn name_line(alloc: Global, name: &[u8]) -> Result<Vec<u8>, AllocError>
-    ensures { IfOk result (λ text. text.items ≡ name.now ++ (10 ∷ [])) }
-{
-    let mut text = Vec::from_slice(alloc, name)?;
-    text.push(b'\n')?;
-    Ok(text)
-}
-
 pub(crate) fn answer_object(
     asked: &Asked,
     parameters: &[u8],
@@ -167,8 +153,9 @@ pub(crate) fn answer_object(
 ) -> Result<Answer, AllocError>
     ensures { IfOk result (λ answer. answer ≡ answer_object (facts_of asked.now.world) asked.now.query parameters.now (object_of object.now)) }
 {
-    if is_resolve(asked.query.ask) {
-        return Ok(Answer::said(asked.alloc, name_line(asked.alloc, &object.name)?));
+    if matches!(asked.query.ask, Ask::Resolve) {
+        let line = name_line(asked.alloc, b"", &object.name)?;
+        return Ok(Answer::said(asked.alloc, line));
     }
     load(asked, parameters, object)
 }

@@ -6,12 +6,12 @@ ghost use Rattle.kmod_index.specs.ForProofs.{pointed};
 ghost use Rattle.kmod_query.specs.LookUp.{found, look_up, look_up_each};
 ghost use Rattle.kmod_query.specs.Objects.{objects_of};
 ghost use Rattle.kmod_query.specs.Probes.{after_of, before_of};
-ghost use Rattle.kmod_query.specs.Reasons.{exporters_of, found_by, reason_of, said_by};
+ghost use Rattle.kmod_query.specs.Reasons.{aliased_reason, exported_reason, exporters_of, found_by, reason_of, said_by};
 ghost use Rattle.kmod_query.specs.World.{facts_of, name_of};
 
 use crate::finding::Finding;
 use crate::object::Object;
-use crate::world::{World, is_builtin, is_commanded};
+use crate::world::{World, is_builtin};
 use kmod_index::IndexLine;
 use kmod_names::{Text, normal_alias};
 use std::alloc::{AllocError, Global};
@@ -31,24 +31,14 @@ fn exporters<'a>(
     }
 }
 
-/// The first list that has a name.
-fn first_list<'a>(alloc: Global, world: &World<'a>, name: &[u8]) -> Result<Finding<'a>, AllocError>
-    ensures { IfOk result (λ finding. said_by world.now finding ≡ reason_of (facts_of world.now) name.now) }
+/// The first of modules.alias, modules.builtin and modules.builtin.modinfo that has a name.
+fn aliased_list<'a>(
+    alloc: Global,
+    world: &World<'a>,
+    name: &[u8],
+) -> Result<Finding<'a>, AllocError>
+    ensures { IfOk result (λ finding. said_by world.now finding ≡ aliased_reason (facts_of world.now) name.now) }
 {
-    let entries = world.conf.matching_aliases(alloc, name)?;
-    if entries.len() > 0 {
-        return Ok(Finding::Configured(entries));
-    }
-    if let Some(line) = world.index.dependencies().find(name) {
-        return Ok(Finding::Module(line));
-    }
-    let lines = exporters(alloc, world, name)?;
-    if lines.len() > 0 {
-        return Ok(Finding::Exported(lines));
-    }
-    if is_commanded(world, name) {
-        return Ok(Finding::Commanded);
-    }
     let lines = world.index.aliases().matching(alloc, name)?;
     if lines.len() > 0 {
         return Ok(Finding::Aliased(lines));
@@ -61,6 +51,38 @@ fn first_list<'a>(alloc: Global, world: &World<'a>, name: &[u8]) -> Result<Findi
         return Ok(Finding::AliasedBuiltIn(lines));
     }
     Ok(Finding::Nothing)
+}
+
+/// The first of modules.symbols, the commands and the lists after them that has a name.
+fn exported_list<'a>(
+    alloc: Global,
+    world: &World<'a>,
+    name: &[u8],
+) -> Result<Finding<'a>, AllocError>
+    ensures { IfOk result (λ finding. said_by world.now finding ≡ exported_reason (facts_of world.now) name.now) }
+{
+    let lines = exporters(alloc, world, name)?;
+    if lines.len() > 0 {
+        return Ok(Finding::Exported(lines));
+    }
+    if world.conf.has_install_named(name) || world.conf.has_remove_named(name) {
+        return Ok(Finding::Commanded);
+    }
+    aliased_list(alloc, world, name)
+}
+
+/// The first list that has a name.
+fn first_list<'a>(alloc: Global, world: &World<'a>, name: &[u8]) -> Result<Finding<'a>, AllocError>
+    ensures { IfOk result (λ finding. said_by world.now finding ≡ reason_of (facts_of world.now) name.now) }
+{
+    let entries = world.conf.matching_aliases(alloc, name)?;
+    if entries.len() > 0 {
+        return Ok(Finding::Configured(entries));
+    }
+    if let Some(line) = world.index.dependencies().find(name) {
+        return Ok(Finding::Module(line));
+    }
+    exported_list(alloc, world, name)
 }
 
 /// The first list that has a name in normal form, in the order in which `answer_to` looks it up (modprobe(8)). The name

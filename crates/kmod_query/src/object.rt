@@ -1,5 +1,5 @@
 //! What a name stands for, and which of such things a load has met.
-ghost use Rattle.std.specs.Prelude.{◌≡◌, ◌++◌, ◌∷◌, [], IfOk, OnOk, not};
+ghost use Rattle.std.specs.Prelude.{◌≡◌, [], IfOk, OnOk, not};
 ghost use Rattle.kmod_query.specs.Objects.{alias_of, has, is_same, object_of, object_with, with_object};
 
 use indexmap::IndexSet;
@@ -8,7 +8,7 @@ use std::marker::Model;
 
 /// A module, and the alias by which it was found, where it was by one. `builtin` says that this was an alias of
 /// modules.builtin.modinfo.
-#[derive(Debug, PartialEq, Eq, Drop)]
+#[derive(PartialEq, Drop)]
 pub struct Object {
     pub name: Vec<u8>,
     pub alias: Option<Vec<u8>>,

@@ -1,16 +1,9 @@
 //! The parameters of a command as one text.
-ghost use Rattle.std.specs.Prelude.{◌≡◌, ◌≤◌, ◌++◌, [], fold, length, codes, slice_index, IfOk, OnOk};
-ghost use Rattle.std.specs.List.{list_any};
+ghost use Rattle.std.specs.Prelude.{◌≡◌, ◌≤◌, ◌++◌, length, codes, slice_index, IfOk, OnOk};
 ghost use Rattle.text_parts.specs.Text.{texts_of};
-ghost use Rattle.kmod_query.specs.Lines.{is_quote, is_space, joined, name_len, needs_quotes, parameter_text, quoted};
+ghost use Rattle.kmod_query.specs.Lines.{is_quote, joined, name_len, needs_quotes, parameter_text, quoted};
 
 use std::alloc::{AllocError, Global};
-
-fn has_space(value: &[u8]) -> bool
-    ensures { result ≡ list_any is_space value.now }
-{
-    value.iter().any(|byte| *byte == b' ')
-}
 
 fn starts_with_quote(value: &[u8]) -> bool
     ensures { result ≡ is_quote (slice_index value.now 0) }
@@ -24,7 +17,7 @@ fn starts_with_quote(value: &[u8]) -> bool
 fn needs_quotes(value: &[u8]) -> bool
     ensures { result ≡ needs_quotes value.now }
 {
-    has_space(value) && !starts_with_quote(value)
+    value.contains(&b' ') && !starts_with_quote(value)
 }
 
 /// Where the name of a parameter ends.
@@ -65,17 +58,6 @@ pub(crate) fn push_joined(front: &mut Vec<u8>, text: &[u8]) -> Result<(), AllocE
     }
     front.push(b' ')?;
     front.extend_from_slice(text)
-}
-
-/// The texts as one, with blanks between them.
-pub(crate) fn join(alloc: Global, texts: &[&[u8]]) -> Result<Vec<u8>, AllocError>
-    ensures { IfOk result (λ text. text.items ≡ fold joined [] (texts_of texts.now)) }
-{
-    let mut joined = Vec::new(alloc);
-    'texts: for text in texts {
-        push_joined(&mut joined, text)?;
-    }
-    Ok(joined)
 }
 
 /// The parameters as one text.

@@ -1,7 +1,7 @@
 //! What is asked.
 
 /// What modprobe(8) is asked for.
-#[derive(Clone, Copy, Debug, PartialEq, Eq)]
+#[derive(Clone, Copy)]
 pub enum Ask {
     /// `--show-depends`: the lines that load a name, whatever is loaded already.
     ShowDepends,

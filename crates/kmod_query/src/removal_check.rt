@@ -2,7 +2,7 @@
 ghost use Rattle.std.specs.Prelude.{◌≡◌, IfOk, option_copied};
 ghost use Rattle.kmod_query.specs.Objects.{object_of};
 ghost use Rattle.kmod_query.specs.Removal.{absent_verdict, builtin_verdict, counts_state, has_no_users, has_users, is_absent, is_fatal};
-ghost use Rattle.kmod_query.specs.Removal.{is_in_use, is_remove, is_show_removal, removal_command, shows_removal, verdict};
+ghost use Rattle.kmod_query.specs.Removal.{is_in_use, removal_command, shows_removal, verdict};
 ghost use Rattle.kmod_query.specs.Verdicts.{verdict_of};
 ghost use Rattle.kmod_query.specs.World.{facts_of};
 
@@ -28,22 +28,10 @@ pub enum Verdict {
     Refuse(Failure),
 }
 
-fn is_remove(ask: Ask) -> bool
-    ensures { result ≡ is_remove ask }
-{
-    matches!(ask, Ask::Remove)
-}
-
-fn is_show_removal(ask: Ask) -> bool
-    ensures { result ≡ is_show_removal ask }
-{
-    matches!(ask, Ask::ShowRemoval)
-}
-
 pub(crate) fn shows_removal(query: &Query) -> bool
     ensures { result ≡ shows_removal query.now }
 {
-    is_show_removal(query.ask) || query.verbosity > 4
+    matches!(query.ask, Ask::ShowRemoval) || query.verbosity > 4
 }
 
 /// Whether a message that is shown ends a removal.
@@ -71,7 +59,7 @@ fn counts_state(asked: &Asked, object: &Object) -> Result<bool, AllocError>
     ensures { IfOk result (λ counts. counts ≡ counts_state (facts_of asked.now.world) asked.now.query (object_of object.now)) }
 {
     let command = removal_command(asked, object)?;
-    Ok(command.is_none() && is_remove(asked.query.ask))
+    Ok(command.is_none() && matches!(asked.query.ask, Ask::Remove))
 }
 
 fn is_absent(status: Option<ModuleStatus>) -> bool

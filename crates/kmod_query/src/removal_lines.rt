@@ -1,21 +1,16 @@
 //! The lines that remove an object.
-ghost use Rattle.std.specs.Prelude.{◌≡◌, ◌++◌, ◌∷◌, [], codes, nat_eq, IfOk, OnOk};
-ghost use Rattle.std.specs.List.{flat_map, starts_with};
+ghost use Rattle.std.specs.Prelude.{◌≡◌, ◌++◌, ◌∷◌, [], codes, IfOk, OnOk};
+ghost use Rattle.std.specs.List.{flat_map};
 ghost use Rattle.kmod_query.specs.Objects.{names_of, object_of};
-ghost use Rattle.kmod_query.specs.Removal.{option_mark, removal_lines, rmmod_line, unmarked, unused_line};
+ghost use Rattle.kmod_query.specs.Removal.{removal_lines, rmmod_line, unmarked, unused_line};
 ghost use Rattle.kmod_query.specs.World.{facts_of};
 
 use crate::asked::Asked;
+use crate::lines::push_name;
 use crate::object::Object;
 use crate::removal_check::{has_no_users, removal_command, shows_removal};
 use crate::world::{World, needs_of, status_of};
 use std::alloc::{AllocError, Global};
-
-fn starts_with_mark(text: &[u8]) -> bool
-    ensures { result ≡ starts_with nat_eq text.now option_mark }
-{
-    text.starts_with(b"$CMDLINE_OPTS")
-}
 
 /// Adds a command without the mark that stands for options.
 fn push_unmarked(text: &mut Vec<u8>, command: &[u8]) -> Result<(), AllocError>
@@ -26,7 +21,7 @@ fn push_unmarked(text: &mut Vec<u8>, command: &[u8]) -> Result<(), AllocError>
     'bytes: while let Some((byte, later)) = rest.split_first() {
         if skipped > 0 {
             skipped -= 1;
-        } else if starts_with_mark(rest) {
+        } else if rest.starts_with(b"$CMDLINE_OPTS") {
             skipped = 12;
         } else {
             text.push(*byte)?;
@@ -36,19 +31,11 @@ fn push_unmarked(text: &mut Vec<u8>, command: &[u8]) -> Result<(), AllocError>
     Ok(())
 }
 
-fn push_rmmod(lines: &mut Vec<u8>, name: &[u8]) -> Result<(), AllocError>
-    ensures { OnOk result (lines.new.items ≡ lines.old.items ++ rmmod_line name.now) }
-{
-    lines.extend_from_slice(b"rmmod ")?;
-    lines.extend_from_slice(name)?;
-    lines.extend_from_slice(b"\n")
-}
-
 fn push_unused(lines: &mut Vec<u8>, world: &World, name: &[u8]) -> Result<(), AllocError>
     ensures { OnOk result (lines.new.items ≡ lines.old.items ++ unused_line (facts_of world.now) name.now) }
 {
     if has_no_users(status_of(world, name)) {
-        return push_rmmod(lines, name);
+        return push_name(lines, b"rmmod ", name);
     }
     Ok(())
 }
@@ -80,7 +67,7 @@ fn push_module(
     ensures { OnOk result (lines.new.items ≡ lines.old.items ++ rmmod_line (object_of object.now).name
         ++ flat_map (unused_line (facts_of world.now)) ((facts_of world.now).needs (object_of object.now).name)) }
 {
-    push_rmmod(lines, &object.name)?;
+    push_name(lines, b"rmmod ", &object.name)?;
     let needs = needs_of(alloc, world, &object.name)?;
     push_all_unused(lines, world, &needs)
 }

@@ -5,26 +5,18 @@ ghost use Rattle.kmod_query.specs.Shown.{alias_line, blacklist_line, marked};
 ghost use Rattle.kmod_query.specs.Shown.{shown, shown_configuration, softdep_line, spaced, text_line};
 
 use crate::groups::push_index;
-use crate::lines::push_line;
+use crate::lines::{push_line, push_name};
 use crate::parameters::push_joined;
 use kmod_conf::{Conf, NameLine, SoftdepLine, TextLine};
 use kmod_index::Index;
 use kmod_names::{AliasEntry, Text};
 use std::alloc::{AllocError, Global};
 
-fn push_blacklist(lines: &mut Vec<u8>, own: &NameLine) -> Result<(), AllocError>
-    ensures { OnOk result (lines.new.items ≡ lines.old.items ++ blacklist_line own.now) }
-{
-    lines.extend_from_slice(b"blacklist ")?;
-    lines.extend_from_slice(own.name.as_bytes())?;
-    lines.extend_from_slice(b"\n")
-}
-
 fn push_blacklists(lines: &mut Vec<u8>, all: &[NameLine]) -> Result<(), AllocError>
     ensures { OnOk result (lines.new.items ≡ lines.old.items ++ flat_map blacklist_line all.now) }
 {
     'all: for own in all {
-        push_blacklist(lines, own)?;
+        push_name(lines, b"blacklist ", own.name.as_bytes())?;
     }
     Ok(())
 }

@@ -101,8 +101,8 @@ impl SoftLists {
         ensures has { IfOk result (λ has. AreSoftLists (facts_of world.now) self.old → has ≡ has_soft_items (facts_of world.now) name.now) }
         ensures lists { OnOk result (AreSoftLists (facts_of world.now) self.old → AreSoftLists (facts_of world.now) self.new) }
     {
-        let before = self.item(alloc, world, Place::Before, name, 0)?;
-        let after = self.item(alloc, world, Place::After, name, 0)?;
-        Ok(before.is_some() || after.is_some())
+        let before = self.item(alloc, world, Place::Before, name, 0)?.is_some();
+        let after = self.item(alloc, world, Place::After, name, 0)?.is_some();
+        Ok(before || after)
     }
 }

@@ -1,5 +1,5 @@
 //! The states of modules, as /sys/module tells them.
-ghost use Rattle.std.specs.Prelude.{◌≡◌, [], OnOk, option_copied};
+ghost use Rattle.std.specs.Prelude.{◌≡◌, [], OnOk};
 ghost use Rattle.kmod_query.specs.States.{status_in, with_status};
 
 use indexmap::IndexMap;
@@ -7,7 +7,7 @@ use std::alloc::{AllocError, Global};
 use std::marker::Model;
 
 /// What /sys/module says of a module (sysfs(5)): the text of its `initstate`, or that it has a folder without one.
-#[derive(Clone, Copy, Debug, PartialEq, Eq)]
+#[derive(Clone, Copy)]
 pub enum ModuleState {
     /// `live`
     Live,
@@ -22,7 +22,7 @@ pub enum ModuleState {
 }
 
 /// The state of a module, and how many use it: the number in `refcnt`. None where there is no such file or no number in it.
-#[derive(Clone, Copy, Debug, PartialEq, Eq)]
+#[derive(Clone, Copy)]
 pub struct ModuleStatus {
     pub state: ModuleState,
     pub users: Option<u64>,

@@ -1,14 +1,13 @@
 //! What the machine's texts and states say.
 #![tactic(auto, unfolding(crate::specs::World::facts_of))]
 
-ghost use Rattle.std.specs.Prelude.{◌≡◌, IfOk, map, option_map};
-ghost use Rattle.text_parts.specs.Text.{texts_of};
-ghost use Rattle.kmod_query.specs.Objects.{alias_of, names_of, object_of};
-ghost use Rattle.kmod_query.specs.World.{facts_of, file_of, text_of};
+ghost use Rattle.std.specs.Prelude.{◌≡◌, IfOk, option_map};
+ghost use Rattle.kmod_query.specs.Objects.{alias_of, names_of};
+ghost use Rattle.kmod_query.specs.World.{facts_of, file_of};
 
 use crate::object::Object;
 use crate::states::{ModuleStatus, States};
-use kmod_conf::{Conf, TextLine};
+use kmod_conf::Conf;
 use kmod_index::Index;
 use kmod_names::Text;
 use std::alloc::{AllocError, Global};
@@ -45,18 +44,6 @@ pub(crate) fn needs_of(
     copied_names(alloc, &needs)
 }
 
-pub(crate) fn is_commanded(world: &World, name: &[u8]) -> bool
-    ensures { result ≡ (facts_of world.now).is_commanded name.now }
-{
-    world.conf.has_install_named(name) || world.conf.has_remove_named(name)
-}
-
-pub(crate) fn is_loadable(world: &World, name: &[u8]) -> bool
-    ensures { result ≡ (facts_of world.now).is_loadable name.now }
-{
-    world.index.dependencies().find(name).is_some()
-}
-
 pub(crate) fn is_builtin(world: &World, name: &[u8]) -> bool
     ensures { result ≡ (facts_of world.now).is_builtin name.now }
 {
@@ -75,35 +62,11 @@ pub(crate) fn status_of(world: &World, name: &[u8]) -> Option<ModuleStatus>
     world.states.of(name)
 }
 
-fn line_texts<'a>(alloc: Global, lines: &[&'a TextLine]) -> Result<Vec<&'a [u8]>, AllocError>
-    ensures { IfOk result (λ texts. texts_of texts.items ≡ map text_of (map (λ line. line.now) lines.now)) }
-{
-    let mut texts = Vec::new(alloc);
-    'lines: for line in lines {
-        texts.push(line.text.as_bytes())?;
-    }
-    Ok(texts)
-}
-
 /// The alias by which an object came.
 pub(crate) fn alias_bytes(object: &Object) -> Option<&[u8]>
     ensures { option_map (λ text. text.now) result ≡ alias_of object.entry.now.alias }
 {
     object.alias.as_deref()
-}
-
-/// The texts of the options lines of an object.
-pub(crate) fn options_of<'a>(
-    alloc: Global,
-    world: &World<'a>,
-    object: &Object,
-) -> Result<Vec<&'a [u8]>, AllocError>
-    ensures { IfOk result (λ texts. texts_of texts.items ≡ (facts_of world.now).options (object_of object.now).name (object_of object.now).alias) }
-{
-    let lines = world
-        .conf
-        .options_of(alloc, &object.name, alias_bytes(object))?;
-    line_texts(alloc, &lines)
 }
 
 /// The file of a path of modules.dep.
