@@ -12,3 +12,6 @@ returns-clause-skipped c =
     let text = c.args.text.now in
     let whole : c.lines.idle.items ≡ idle_aliases text = grind (arith, common_steps) in
     rw whole (idle_are_skipped alias_of why_no_alias (enumerate_from 1 (lines text)))
+
+pub lines-preserved : goal.lines-preserved
+lines-preserved c = grind (arith, common_steps)

@@ -1,4 +1,5 @@
-use Rattle.std.proofs.Common.{◌≤◌, ◌++◌, List, length, map, sym, subst}
+use Rattle.std.proofs.Common.{◌≤◌, ◌++◌, List, length, map, sym, subst, arith}
+use Rattle.std.proofs.lemmas.Grind.{common_steps}
 use Rattle.alias_match.specs.Marks.{IsMarkOf}
 use Rattle.alias_match.specs.Pattern.{Piece, byte, literal_beginning}
 use Rattle.alias_match.proofs.MarkLemmas.{IsTail, marked, marked_front, marked_tail, tail_behind_front, tail_dropped}
@@ -28,3 +29,9 @@ runs-preserved c =
       marked = c.runs.invariant.marked;
       left = subst (IsTail all) (sym c.leading_bytes-run.ensures.behind) (tail_dropped all c.in-Some.after c.leading_bytes-run.result.count behind);
     }
+
+pub runs-smaller-then-run-longest : goal.runs-smaller-then-run-longest
+runs-smaller-then-run-longest c = grind (arith, common_steps)
+
+pub runs-smaller : goal.runs-smaller
+runs-smaller c = grind (arith, common_steps)
