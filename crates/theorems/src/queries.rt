@@ -18,8 +18,8 @@ pub fn queries_are_answered_as_defined(
     answer_to(alloc, world, query)
 }
 
-/// What `--show-depends` answers is the same on each machine with this configuration, these texts and this folder, whatever is loaded
-/// there.
+/// What `--show-depends` without `--remove` answers is the same on each machine with this configuration, these texts and this
+/// folder, whatever is loaded there.
 pub fn machines_show_the_same_depends(
     alloc: Global,
     one: &World,
