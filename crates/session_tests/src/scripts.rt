@@ -3,88 +3,75 @@
 use dep_index::Reply;
 use managed_table::ManagedTable;
 use module_table::Manager;
-use std::alloc::{AllocError, Global};
 use std::sync::Wait;
 use std::sync::atomic::{AtomicBool, AtomicUsize, Ordering};
 use std::test::Fail;
 use std::thread::Threads;
 use workload_drive::{Gate, OpenGate, WorkFault, read_script, run_managed, run_threads};
 
-/// The catalogue of all scripts here.
-const SND: &[u8] = b"module snd
-size 114688
-";
-
 /// How often a gate looks before it gives up.
 const TURNS: usize = 50_000_000;
 
 /// What a script comes to, and how often the workers 0 and 1 hold snd then.
-#[derive(Drop)]
-struct Course {
-    answer: Result<Vec<u8>, WorkFault>,
-    first: Option<u32>,
-    second: Option<u32>,
-}
+type Course = (Result<Vec<u8>, WorkFault>, [Option<u32>; 2]);
 
-impl Course {
-    /// The script comes to this text, or to this fault.
-    fn is(&self, wanted: Result<&str, WorkFault>) -> bool {
-        match (&self.answer, wanted) {
-            (Ok(text), Ok(wanted)) => text.as_slice() == wanted.as_bytes(),
-            (Err(fault), Err(wanted)) => *fault == wanted,
-            _ => false,
-        }
-    }
+/// The text or the fault that a script ought to come to, and how often the workers ought to hold snd then.
+type Wanted = (Result<&'static str, WorkFault>, [Option<u32>; 2]);
 
-    fn are_held(&self, first: u32, second: u32) -> bool {
-        self.first == Some(first) && self.second == Some(second)
-    }
-}
-
-/// The input of a script of these lines.
-fn input(alloc: Global, lines: &[u8]) -> Result<Vec<u8>, AllocError> {
-    let mut input = Vec::from_slice(alloc, b"%catalogue\n")?;
-    input.extend_from_slice(SND)?;
-    input.extend_from_slice(b"%script\n")?;
-    input.extend_from_slice(lines)?;
-    Ok(input)
-}
-
-/// Runs a script of these lines on a manager of its own.
+/// Runs a script on a manager of its own.
 fn run<R: AllocGlobal + Threads + Wait + Sync, G: Gate + Sync>(
     rt: &R,
-    lines: &[u8],
+    input: &[u8],
     gate: &G,
 ) -> Result<Course, Fail> {
-    let script = read_script(rt.alloc(), &input(rt.alloc(), lines)?)?;
+    let script = read_script(rt.alloc(), input)?;
     let (manager, readers) = Manager::new(rt.alloc(), script.catalogue(), script.workers())?;
     let answer = run_threads(rt, script.catalogue(), &manager, readers, &script, gate);
-    Ok(Course {
-        answer,
-        first: manager.held(rt, 0, 0),
-        second: manager.held(rt, 1, 0),
-    })
+    Ok((answer, [manager.held(rt, 0, 0), manager.held(rt, 1, 0)]))
 }
 
 /// The same on a managed table.
 fn run_by_callers<R: AllocGlobal + Threads + Wait + Sync, G: Gate + Sync>(
     rt: &R,
-    lines: &[u8],
+    input: &[u8],
     gate: &G,
 ) -> Result<Course, Fail> {
-    let script = read_script(rt.alloc(), &input(rt.alloc(), lines)?)?;
+    let script = read_script(rt.alloc(), input)?;
     let (table, readers) = ManagedTable::new(rt.alloc(), script.catalogue(), script.workers())?;
     let answer = run_managed(rt, script.catalogue(), &table, readers, &script, gate);
     let mut caller = table.caller();
-    Ok(Course {
-        answer,
-        first: table.held(rt, &mut caller, 0, 0),
-        second: table.held(rt, &mut caller, 1, 0),
-    })
+    let first = table.held(rt, &mut caller, 0, 0);
+    Ok((answer, [first, table.held(rt, &mut caller, 1, 0)]))
+}
+
+fn is_right(course: &Course, wanted: &Wanted) -> bool {
+    let is_answer = match (&course.0, &wanted.0) {
+        (Ok(text), Ok(wanted)) => text.as_slice() == wanted.as_bytes(),
+        (Err(fault), Err(wanted)) => fault == wanted,
+        _ => false,
+    };
+    is_answer && course.1 == wanted.1
+}
+
+/// Whether the script comes to this on a manager and on a managed table, each with a gate of its own.
+fn are_right<R: AllocGlobal + Threads + Wait + Sync, G: Gate + Sync>(
+    rt: &R,
+    input: &[u8],
+    gates: &[G; 2],
+    wanted: &Wanted,
+) -> Result<bool, Fail> {
+    Ok(
+        is_right(&run(rt, input, &gates[0])?, wanted)
+            && is_right(&run_by_callers(rt, input, &gates[1])?, wanted),
+    )
 }
 
 /// Both workers keep what they get.
-const KEPT: &[u8] = b"workers 2
+const KEPT: &[u8] = b"%catalogue
+module snd
+size 114688
+%script
+workers 2
 load snd
 w0 get snd
 w1 get snd
@@ -94,42 +81,44 @@ w1 get snd
 #[test]
 fn references_are_left(rt: HostRuntime) -> Result<(), Fail> {
     let text = "snd 114688 3 - Live 0x0000000000000000\ncalls 4\n";
-    let course = run(&rt, KEPT, &OpenGate)?;
-    assert!(rt; course.is(Ok(text)) && course.are_held(1, 2));
-    let course = run_by_callers(&rt, KEPT, &OpenGate)?;
-    assert!(rt; course.is(Ok(text)) && course.are_held(1, 2));
+    let wanted = (Ok(text), [Some(1), Some(2)]);
+    assert!(rt; are_right(&rt, KEPT, &[OpenGate, OpenGate], &wanted)?);
     Ok(())
 }
 
-/// What must have come before each line of a removal that is refused while another worker holds the module.
+/// What must have come before each line of a removal that is refused while another worker holds the module. These come in
+/// turn: worker 1 is about to ask, worker 0 gets, worker 1 sees it and is refused, worker 0 puts, worker 1 removes.
 #[derive(Drop)]
 struct Meeting {
-    asked: AtomicBool,
-    got: AtomicBool,
-    seen: AtomicBool,
-    refused: AtomicBool,
-    put: AtomicBool,
-    removed: AtomicBool,
+    /// How many of these have come.
+    come: AtomicUsize,
     turns: AtomicUsize,
 }
 
 impl Meeting {
     fn new() -> Meeting {
         Meeting {
-            asked: AtomicBool::new(false),
-            got: AtomicBool::new(false),
-            seen: AtomicBool::new(false),
-            refused: AtomicBool::new(false),
-            put: AtomicBool::new(false),
-            removed: AtomicBool::new(false),
+            come: AtomicUsize::new(0),
             turns: AtomicUsize::new(0),
         }
     }
 
-    /// Looks until it is so, or until the gate has looked too often.
-    fn wait_for(&self, flag: &AtomicBool) -> bool {
+    /// One more has come behind so many; nothing where it is not its turn.
+    fn comes_behind(&self, count: usize) {
+        let next = count.saturating_add(1);
+        let _ = self
+            .come
+            .compare_exchange(count, next, Ordering::SeqCst, Ordering::SeqCst);
+    }
+
+    fn have_all_come(&self) -> bool {
+        self.come.load(Ordering::SeqCst) == 6
+    }
+
+    /// Looks until so many have come, or until the gate has looked too often.
+    fn wait_for(&self, count: usize) -> bool {
         for _ in 0..TURNS {
-            if flag.load(Ordering::SeqCst) {
+            if self.come.load(Ordering::SeqCst) >= count {
                 return true;
             }
             if self.turns.fetch_add(1, Ordering::SeqCst) >= TURNS {
@@ -143,31 +132,35 @@ impl Meeting {
 impl Gate for Meeting {
     fn before(&self, worker: usize, line: usize) -> bool {
         match (worker, line) {
-            (0, 0) => self.wait_for(&self.asked),
+            (0, 0) => self.wait_for(1),
             (1, 0) => {
-                self.asked.store(true, Ordering::SeqCst);
-                self.wait_for(&self.got)
+                self.comes_behind(0);
+                self.wait_for(2)
             }
-            (0, 1) => self.wait_for(&self.seen) && self.wait_for(&self.refused),
-            (1, 2) => self.wait_for(&self.put),
+            (0, 1) => self.wait_for(4),
+            (1, 2) => self.wait_for(5),
             _ => true,
         }
     }
 
     fn after(&self, worker: usize, line: usize, reply: Reply) {
         match (worker, line, reply) {
-            (0, 0, Reply::Done) => self.got.store(true, Ordering::SeqCst),
-            (1, 0, Reply::Yes) => self.seen.store(true, Ordering::SeqCst),
-            (1, 1, Reply::InUse) => self.refused.store(true, Ordering::SeqCst),
-            (0, 1, Reply::Done) => self.put.store(true, Ordering::SeqCst),
-            (1, 2, Reply::Done) => self.removed.store(true, Ordering::SeqCst),
+            (0, 0, Reply::Done) => self.comes_behind(1),
+            (1, 0, Reply::Yes) => self.comes_behind(2),
+            (1, 1, Reply::InUse) => self.comes_behind(3),
+            (0, 1, Reply::Done) => self.comes_behind(4),
+            (1, 2, Reply::Done) => self.comes_behind(5),
             _ => {}
         }
     }
 }
 
 /// A removal beside a worker that holds the module.
-const MET: &[u8] = b"workers 2
+const MET: &[u8] = b"%catalogue
+module snd
+size 114688
+%script
+workers 2
 load snd
 w0 get snd
 w0 put snd
@@ -178,12 +171,10 @@ w1 remove snd
 
 #[test]
 fn workers_run_at_once(rt: HostRuntime) -> Result<(), Fail> {
-    let meeting = Meeting::new();
-    let course = run(&rt, MET, &meeting)?;
-    assert!(rt; course.is(Ok("calls 6\n")) && meeting.removed.load(Ordering::SeqCst));
-    let meeting = Meeting::new();
-    let course = run_by_callers(&rt, MET, &meeting)?;
-    assert!(rt; course.is(Ok("calls 6\n")) && meeting.removed.load(Ordering::SeqCst));
+    let meetings = [Meeting::new(), Meeting::new()];
+    let wanted = (Ok("calls 6\n"), [Some(0), Some(0)]);
+    assert!(rt; are_right(&rt, MET, &meetings, &wanted)?);
+    assert!(rt; meetings[0].have_all_come() && meetings[1].have_all_come());
     Ok(())
 }
 
@@ -213,7 +204,11 @@ impl Gate for Shut {
 }
 
 /// Two workers, the first of which is shut out.
-const SHUT_OUT: &[u8] = b"workers 2
+const SHUT_OUT: &[u8] = b"%catalogue
+module snd
+size 114688
+%script
+workers 2
 load snd
 w0 get snd
 w0 put snd
@@ -224,13 +219,9 @@ w1 query snd
 
 #[test]
 fn a_gate_is_shut(rt: HostRuntime) -> Result<(), Fail> {
-    let shut = Shut::new();
-    let course = run(&rt, SHUT_OUT, &shut)?;
-    let asked = shut.asked.load(Ordering::SeqCst);
-    assert!(rt; asked && course.is(Err(WorkFault::Gate)) && course.are_held(1, 0));
-    let shut = Shut::new();
-    let course = run_by_callers(&rt, SHUT_OUT, &shut)?;
-    let asked = shut.asked.load(Ordering::SeqCst);
-    assert!(rt; asked && course.is(Err(WorkFault::Gate)) && course.are_held(1, 0));
+    let gates = [Shut::new(), Shut::new()];
+    let wanted = (Err(WorkFault::Gate), [Some(1), Some(0)]);
+    assert!(rt; are_right(&rt, SHUT_OUT, &gates, &wanted)?);
+    assert!(rt; gates[0].asked.load(Ordering::SeqCst) && gates[1].asked.load(Ordering::SeqCst));
     Ok(())
 }

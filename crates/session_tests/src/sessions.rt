@@ -4,12 +4,12 @@ ghost use Rattle.std.specs.Prelude.{◌≡◌, false};
 use crate::devices::{Broken, Dripping, Narrow, Trickling};
 use dep_index::ModuleState;
 use modprobe::{
-    Buffer, FromRead, FromWrite, Lines, RunFault, ServeFault, Setup, SetupCode, SetupFault,
+    Buffer, FromRead, FromWrite, Lines, RunFault, ServeFault, SetupCode, SetupFault, Sink, Source,
     read_setup, run, serve,
 };
 use seq_table::{Modules, Table};
 use std::alloc::{AllocError, Global};
-use std::io::{Chain, Read};
+use std::io::Read;
 use std::test::Fail;
 
 const FIRST_RUN: &[u8] =
@@ -28,150 +28,121 @@ fn a_reader_that_fails_in_a_line(rt: HostRuntime) {
     assert!(rt; holds);
 }
 
-/// Whether a run over a writer that takes one byte, and then fails or takes none, ends with that fault, the byte
-/// written and the module loaded.
-fn stops_after_a_byte(
+/// Answers a session in so many turns, those of its sections included: how it ends, and whether its one module is live then.
+fn run_in_turns<R: Source, W: Sink>(
     alloc: Global,
-    setup: &Setup,
-    lines: &mut Lines<'_, FromRead<&[u8]>>,
-    fails: bool,
-) -> Result<bool, AllocError>
-    requires { lines.old.reader.now.failed ≡ false }
-{
-    let mut table = Table::new(alloc, setup.catalogue(), 1)?;
-    let mut output = FromWrite::new(Narrow::new(1, fails));
-    let result = run(alloc, setup, lines, &mut output, &mut table);
-    Ok(
-        matches!(result, Err(RunFault::Write))
-            && output.writer.text() == b"o".as_slice()
-            && table.slots() == 1
-            && matches!(table.state(0), ModuleState::Live),
-    )
-}
-
-/// The same of the first run, from its input.
-fn first_run_stops(alloc: Global, fails: bool) -> Result<bool, ServeFault> {
-    let mut reader = FromRead::new(FIRST_RUN);
-    let buffer = Buffer::new(alloc)?;
-    let mut lines = Lines::new(alloc, buffer, &mut reader, 100);
-    let setup = read_setup(alloc, &mut lines)?;
-    Ok(stops_after_a_byte(alloc, &setup, &mut lines, fails)?)
-}
-
-#[test]
-fn a_writer_that_fails(rt: HostRuntime) -> Result<(), Fail> {
-    let stops = first_run_stops(rt.alloc(), true)?;
-    assert!(rt; stops);
-    Ok(())
-}
-
-#[test]
-fn a_writer_that_takes_nothing(rt: HostRuntime) -> Result<(), Fail> {
-    let stops = first_run_stops(rt.alloc(), false)?;
-    assert!(rt; stops);
-    Ok(())
-}
-
-/// The code of the setup that is read in so many turns.
-fn code_after(
-    alloc: Global,
-    reader: &mut FromRead<Chain<&[u8], Dripping>>,
+    reader: &mut R,
+    writer: &mut W,
     turns: u64,
-) -> Option<SetupCode>
-    requires { reader.old.failed ≡ false }
+) -> Result<(Result<(), RunFault>, bool), ServeFault>
+    requires reader_works { R.has_failed reader.old ≡ false }
+    requires writer_works { W.has_failed writer.old ≡ false }
 {
-    let buffer = Buffer::new(alloc).ok()?;
+    let buffer = Buffer::new(alloc)?;
     let mut lines = Lines::new(alloc, buffer, reader, turns);
-    match read_setup(alloc, &mut lines) {
-        Ok(_) => None,
-        Err(fault) => Some(fault.code),
-    }
+    let setup = read_setup(alloc, &mut lines)?;
+    let mut table = Table::new(alloc, setup.catalogue(), 1)?;
+    let ended = run(alloc, &setup, &mut lines, writer, &mut table);
+    let is_live = table.slots() == 1 && table.state(0) == ModuleState::Live;
+    Ok((ended, is_live))
+}
+
+/// Whether the first run over a writer that takes one byte, and then fails or takes none, ends with that fault, the byte
+/// written and the module loaded.
+fn stops_after_a_byte(alloc: Global, fails: bool) -> bool {
+    let mut reader = FromRead::new(FIRST_RUN);
+    let mut output = FromWrite::new(Narrow::new(1, fails));
+    let ended = run_in_turns(alloc, &mut reader, &mut output, 100);
+    ended == Ok((Err(RunFault::Write), true)) && output.writer.text() == b"o".as_slice()
+}
+
+#[test]
+fn a_writer_that_fails(rt: HostRuntime) {
+    assert!(rt; stops_after_a_byte(rt.alloc(), true));
+}
+
+#[test]
+fn a_writer_that_takes_nothing(rt: HostRuntime) {
+    assert!(rt; stops_after_a_byte(rt.alloc(), false));
 }
 
 #[test]
 fn a_reader_that_never_ends(rt: HostRuntime) {
     let mut reader = FromRead::new(b"%catalogue\n".as_slice().chain(Dripping));
-    let code = code_after(rt.alloc(), &mut reader, 3);
-    assert!(rt; code == Some(SetupCode::Turns) && reader.answered == 3);
+    let mut output = FromWrite::new(Narrow::new(0, true));
+    let ended = run_in_turns(rt.alloc(), &mut reader, &mut output, 3);
+    let is_code = matches!(ended, Err(ServeFault::Setup(fault)) if fault.code == SetupCode::Turns);
+    assert!(rt; is_code && reader.answered == 3);
 }
 
-/// Answers a session in so many turns, those of its sections included.
-fn run_in_turns(
-    alloc: Global,
-    reader: &mut FromRead<Trickling<'_>>,
-    writer: &mut FromWrite<Narrow>,
-    turns: u64,
-) -> Result<(), ServeFault>
-    requires reader_works { reader.old.failed ≡ false }
-    requires writer_works { writer.old.failed ≡ false }
-{
-    let buffer = Buffer::new(alloc)?;
-    let mut lines = Lines::new(alloc, buffer, reader, turns);
-    let setup = read_setup(alloc, &mut lines)?;
-    let mut table = Table::new(alloc, setup.catalogue(), 1)?;
-    run(alloc, &setup, &mut lines, writer, &mut table)?;
-    Ok(())
-}
+/// How a session of two lines ends in so many turns, and what it has answered then. The section line takes 9 turns and each
+/// further line 8. The end of the input takes one.
+static TWO_LINES: [(u64, Result<(), RunFault>, &[u8]); 3] = [
+    (24, Err(RunFault::Turns), b"error ENOENT a\n"),
+    (
+        25,
+        Err(RunFault::Turns),
+        b"error ENOENT a\nerror ENOENT b\n",
+    ),
+    (26, Ok(()), b"error ENOENT a\nerror ENOENT b\n"),
+];
 
-/// How a session of two lines ends in so many turns, over a reader that gives a byte a read, and whether it wrote this and
-/// spent all of them.
-fn two_lines_end(alloc: Global, turns: u64, wanted: &[u8]) -> (Result<(), ServeFault>, bool) {
+/// Whether a session of two lines, over a reader that gives a byte a read, ends like this, spends all its turns and answers
+/// this.
+fn two_lines_end(alloc: Global, turns: u64, wanted: Result<(), RunFault>, answer: &[u8]) -> bool {
     let mut reader = FromRead::new(Trickling::new(b"%session\nquery a\nquery b\n"));
     let mut output = FromWrite::new(Narrow::new(256, false));
-    let result = run_in_turns(alloc, &mut reader, &mut output, turns);
-    (
-        result,
-        output.writer.text() == wanted && reader.answered == turns,
-    )
-}
-
-// The section line takes 9 turns and each further line 8. The end of the input takes one.
-#[test]
-fn turns_end_in_the_second_line(rt: HostRuntime) {
-    let (result, holds) = two_lines_end(rt.alloc(), 24, b"error ENOENT a\n");
-    assert!(rt; holds && matches!(result, Err(ServeFault::Run(RunFault::Turns))));
+    let ended = run_in_turns(alloc, &mut reader, &mut output, turns);
+    ended == Ok((wanted, false)) && reader.answered == turns && output.writer.text() == answer
 }
 
 #[test]
-fn turns_end_behind_the_second_line(rt: HostRuntime) {
-    let (result, holds) = two_lines_end(rt.alloc(), 25, b"error ENOENT a\nerror ENOENT b\n");
-    assert!(rt; holds && matches!(result, Err(ServeFault::Run(RunFault::Turns))));
-}
-
-#[test]
-fn turns_suffice_for_two_lines(rt: HostRuntime) {
-    let (result, holds) = two_lines_end(rt.alloc(), 26, b"error ENOENT a\nerror ENOENT b\n");
-    assert!(rt; holds && result.is_ok());
+fn turns_end_or_suffice(rt: HostRuntime) {
+    for (turns, wanted, answer) in &TWO_LINES {
+        assert!(rt;
+            two_lines_end(rt.alloc(), *turns, *wanted, answer),
+            "in {turns} turns"
+        );
+    }
 }
 
 /// A session with a short line, and a line with a name of so many letters.
 fn long_session(alloc: Global, letters: usize) -> Result<Vec<u8>, AllocError> {
-    let mut input = Vec::new(alloc);
-    input.extend_from_slice(b"%session\nquery a\ninsmod ")?;
+    let mut input = Vec::from_slice(alloc, b"%session\nquery a\ninsmod ")?;
     input.resize(input.len().saturating_add(letters), b'a')?;
     input.push(b'\n')?;
     Ok(input)
 }
 
+/// Whether that session ends like this, behind so many letters of its answer.
+fn long_session_ends(
+    alloc: Global,
+    letters: usize,
+    wanted: Result<(), ServeFault>,
+    answered: usize,
+) -> Result<bool, AllocError> {
+    let input = long_session(alloc, letters)?;
+    let mut taken = Vec::new(alloc);
+    let mut reader = FromRead::new(input.as_slice());
+    let ended = serve(alloc, 1, &mut reader, &mut FromWrite::new(&mut taken));
+    Ok(ended == wanted && taken.len() == answered)
+}
+
+const SHORT_ANSWER: usize = b"error ENOENT a\n".len();
+
+const LONG_ANSWER: usize = b"error ENOENT \n".len();
+
 #[test]
 fn the_longest_line(rt: HostRuntime) -> Result<(), Fail> {
-    let input = long_session(rt.alloc(), 65_528)?;
-    let mut reader = FromRead::new(input.as_slice());
-    let mut taken = Vec::new(rt.alloc());
-    let result = serve(rt.alloc(), 1, &mut reader, &mut FromWrite::new(&mut taken));
-    let wanted = b"error ENOENT a\n".len() + b"error ENOENT \n".len() + 65_528;
-    assert!(rt; result.is_ok() && taken.len() == wanted);
+    let answered = SHORT_ANSWER + LONG_ANSWER + 65_528;
+    assert!(rt; long_session_ends(rt.alloc(), 65_528, Ok(()), answered)?);
     Ok(())
 }
 
 #[test]
 fn a_line_with_a_byte_more(rt: HostRuntime) -> Result<(), Fail> {
-    let input = long_session(rt.alloc(), 65_529)?;
-    let mut reader = FromRead::new(input.as_slice());
-    let mut taken = Vec::new(rt.alloc());
-    let result = serve(rt.alloc(), 1, &mut reader, &mut FromWrite::new(&mut taken));
-    let is_long = matches!(result, Err(ServeFault::Run(RunFault::LongLine)));
-    assert!(rt; is_long && taken.len() == b"error ENOENT a\n".len());
+    let fault = ServeFault::Run(RunFault::LongLine);
+    assert!(rt; long_session_ends(rt.alloc(), 65_529, Err(fault), SHORT_ANSWER)?);
     Ok(())
 }
 
@@ -214,8 +185,11 @@ fn the_text_of_a_turn_limit(rt: HostRuntime) -> Result<(), Fail> {
         code: SetupCode::Turns,
         line: None,
     };
-    let in_setup = format!(in rt.alloc(); "{}", ServeFault::Setup(setup))?;
-    let in_session = format!(in rt.alloc(); "{}", ServeFault::Run(RunFault::Turns))?;
-    assert!(rt; in_setup.as_str() == "turn limit" && in_session.as_str() == "turn limit");
+    let said = format!(in rt.alloc();
+        "{}, {}",
+        ServeFault::Setup(setup),
+        ServeFault::Run(RunFault::Turns)
+    )?;
+    assert!(rt; said.as_str() == "turn limit, turn limit");
     Ok(())
 }

@@ -1,18 +1,21 @@
 //! Leaves, readers and the book at one row.
-ghost use Rattle.std.specs.Prelude.{◌≡◌, true, length, All, IfOk};
-ghost use Rattle.dep_index.specs.Catalogue.{modules_of};
+ghost use Rattle.std.specs.Prelude.{◌≡◌, ◌<◌, true, length, All, IfOk};
 ghost use Rattle.dep_index.specs.Table.{module_at, no_module};
 ghost use Rattle.root_row.specs.World.{slots};
-ghost use Rattle.root_row.specs.Views.{worker_of, reader_of};
+ghost use Rattle.root_row.specs.Views.{worker_of, reader_of, book_of};
 ghost use Rattle.root_row.specs.Made.{new_leaf, new_reader, new_book};
 ghost use Rattle.root_row.specs.Seats.{IsOf};
+ghost use Rattle.root_row.specs.BookSteps.{MayLeave};
 
 use crate::sound::sound;
-use dep_index::Catalogue;
+use dep_index::Slots;
+use one_thread::{is_held_and_drained, is_held_and_removed};
 use root_row::{BookSeat, LeafSeat, ReadSeat, Row};
 use std::alloc::Global;
+use std::sync::Wait;
 use std::test::Fail;
-use steps::{one_reader, two_leaves};
+use steps::{load, one_reader, two_leaves};
+use unused::are_guesses_right;
 use use_indicator::{Leaf, Reader};
 
 mod one_thread;
@@ -23,16 +26,13 @@ mod unused;
 mod words;
 
 /// Whether the first of two modules needs nothing and may be removed.
-fn first_is_free(alloc: Global, catalogue: &Catalogue) -> Result<bool, Fail>
-    ensures { IfOk result (λ free. free ≡ true → (length (modules_of catalogue.now) ≡ 2) × (module_at (modules_of catalogue.now) 0 ≡ no_module)) }
+fn first_is_free(modules: &Slots) -> bool
+    ensures { result ≡ true → (length modules.now ≡ 2) × (module_at modules.now 0 ≡ no_module) }
 {
-    let modules = catalogue.slots(alloc)?;
-    Ok(
-        modules.len() == 2
-            && modules.needs(0).is_empty()
-            && !modules.unknown_symbol(0)
-            && !modules.permanent(0),
-    )
+    modules.len() == 2
+        && modules.needs(0).is_empty()
+        && !modules.unknown_symbol(0)
+        && !modules.permanent(0)
 }
 
 /// A row over snd and snd_pcm for two workers and a reader.
@@ -43,23 +43,70 @@ fn new_row(alloc: Global) -> Result<(Row, Vec<LeafSeat>, BookSeat, Vec<ReadSeat>
     ensures book { IfOk result (λ r. r.2 ≡ new_book r.0.id r.0.world) }
     ensures readers { IfOk result (λ r. All (λ s. s ≡ new_reader r.0.id r.0.world (reader_of s.view)) r.3.items) }
 {
-    let catalogue = sound(alloc)?;
-    if !first_is_free(alloc, &catalogue)? {
+    let modules = sound(alloc)?.slots(alloc)?;
+    if !first_is_free(&modules) {
         return Err("the first module is not free".into());
     }
-    Ok(Row::new(alloc, &catalogue, 2, 1)?)
+    Ok(Row::over(alloc, &modules, 2, 1)?)
 }
 
-/// A new row, its book, two leaves and a reader.
-fn new_seats(alloc: Global) -> Result<(Row, BookSeat, Leaf, Leaf, Reader), Fail>
-    ensures wide { IfOk result (λ s. slots s.0.world ≡ 2) }
-    ensures free { IfOk result (λ s. module_at s.0.world.catalogue 0 ≡ no_module) }
-    ensures book { IfOk result (λ s. s.1 ≡ new_book s.0.id s.0.world) }
-    ensures leaves { IfOk result (λ s. IsOf s.0 s.2 × IsOf s.0 s.3) }
-    ensures reader { IfOk result (λ s. IsOf s.0 s.4) }
+/// Whoever uses the modules of a row.
+#[derive(Drop)]
+struct Users {
+    leaf: Leaf,
+    other: Leaf,
+    reader: Reader,
+}
+
+/// The users of these seats.
+fn users_of(
+    alloc: Global,
+    row: &Row,
+    leaves: Vec<LeafSeat>,
+    readers: Vec<ReadSeat>,
+) -> Result<Users, Fail>
+    requires leaves { All (λ s. s ≡ new_leaf row.now.id row.now.world (worker_of s.view)) leaves.items }
+    requires readers { All (λ s. s ≡ new_reader row.now.id row.now.world (reader_of s.view)) readers.items }
+    ensures leaves { IfOk result (λ u. IsOf row.now u.leaf × IsOf row.now u.other) }
+    ensures reader { IfOk result (λ u. IsOf row.now u.reader) }
 {
-    let (row, leaves, book, readers) = new_row(alloc)?;
-    let (leaf, other) = two_leaves(alloc, &row, leaves)?;
-    let reader = one_reader(&row, readers)?;
-    Ok((row, book, leaf, other, reader))
+    let reader = one_reader(row, readers)?;
+    let (leaf, other) = two_leaves(alloc, row, leaves)?;
+    Ok(Users {
+        leaf,
+        other,
+        reader,
+    })
+}
+
+/// A new row whose first module is live, its book and its users.
+fn live_row(alloc: Global) -> Result<(Row, BookSeat, Users), Fail>
+    ensures wide { IfOk result (λ s. slots s.0.world ≡ 2) }
+    ensures book { IfOk result (λ s. IsOf s.0 s.1) }
+    ensures may { IfOk result (λ s. MayLeave s.1.view 0) }
+    ensures states { IfOk result (λ s. 0 < length (book_of s.1.view).states) }
+    ensures leaves { IfOk result (λ s. IsOf s.0 s.2.leaf × IsOf s.0 s.2.other) }
+    ensures reader { IfOk result (λ s. IsOf s.0 s.2.reader) }
+{
+    let (row, leaves, mut book, readers) = new_row(alloc)?;
+    let users = users_of(alloc, &row, leaves, readers)?;
+    load(&row, &mut book);
+    Ok((row, book, users))
+}
+
+/// What is done on a live row.
+enum Course {
+    Removal,
+    Drain,
+    Guesses,
+}
+
+/// Whether it goes as it ought to, on a row of its own.
+fn goes_well<R: AllocGlobal + Wait>(rt: &R, course: &Course) -> Result<bool, Fail> {
+    let (row, mut book, mut users) = live_row(rt.alloc())?;
+    Ok(match course {
+        Course::Removal => is_held_and_removed(rt, &row, &mut book, &mut users),
+        Course::Drain => is_held_and_drained(rt, &row, &mut book, &mut users),
+        Course::Guesses => are_guesses_right(&row, &mut users),
+    })
 }

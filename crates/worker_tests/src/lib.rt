@@ -12,6 +12,8 @@ mod plays;
 #[cfg(test)]
 mod points;
 #[cfg(test)]
+mod rows;
+#[cfg(test)]
 mod schedule;
 #[cfg(test)]
 mod sound;

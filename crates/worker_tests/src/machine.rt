@@ -1,6 +1,7 @@
 //! Each step of a schedule at which a call begins, takes effect or returns, and steps that are refused.
 
-use crate::plays::SCHEDULES;
+use crate::plays::schedules;
+use crate::rows::none_is_wrong;
 use crate::schedule::{Schedule, steps_of};
 use crate::sound::sound;
 use std::alloc::Global;
@@ -12,29 +13,31 @@ fn machine(alloc: Global, threads: usize, calls: usize) -> Result<Machine, Fail>
     Ok(Machine::new(alloc, &sound(alloc)?, 2, threads, calls)?)
 }
 
-/// What a step comes to at which a call begins, takes effect or returns.
-fn mark(event: Event) -> Option<Event> {
-    match event {
-        Event::Nothing | Event::Moved => None,
-        _ => Some(event),
+/// Whether the calls of a schedule begin, take effect and return at these steps of it.
+fn makes(machine: &mut Machine, steps: &[Step], schedule: &Schedule) -> bool {
+    for (index, step) in steps.iter().enumerate() {
+        let event = match machine.step(*step) {
+            Ok(Event::Nothing | Event::Moved) => None,
+            Ok(event) => Some(event),
+            Err(_) => return false,
+        };
+        if event != schedule.event(index) {
+            return false;
+        }
     }
+    true
 }
 
 /// Whether the calls of a schedule begin, take effect and return at their steps.
 fn has_calls(alloc: Global, schedule: &Schedule) -> Result<bool, Fail> {
     let steps = steps_of(alloc, schedule.plays)?;
     let mut machine = machine(alloc, schedule.threads, steps.len())?;
-    for (index, step) in steps.iter().enumerate() {
-        if mark(machine.step(*step)?) != schedule.event(index) {
-            return Ok(false);
-        }
-    }
-    Ok(true)
+    Ok(makes(&mut machine, &steps, schedule))
 }
 
 /// The first schedule with other calls.
 fn wrong_schedule(alloc: Global) -> Result<Option<&'static str>, Fail> {
-    for schedule in &SCHEDULES {
+    for schedule in &schedules() {
         if !has_calls(alloc, schedule)? {
             return Ok(Some(schedule.name));
         }
@@ -44,7 +47,7 @@ fn wrong_schedule(alloc: Global) -> Result<Option<&'static str>, Fail> {
 
 #[test]
 fn schedules_have_their_calls(rt: HostRuntime) -> Result<(), Fail> {
-    assert_eq!(rt; wrong_schedule(rt.alloc())?, None);
+    none_is_wrong(&rt, wrong_schedule(rt.alloc())?);
     Ok(())
 }
 
@@ -76,6 +79,6 @@ fn wrong_step(machine: &mut Machine) -> Option<usize> {
 #[test]
 fn refuses_what_is_out_of_range(rt: HostRuntime) -> Result<(), Fail> {
     let mut machine = machine(rt.alloc(), 1, 1)?;
-    assert_eq!(rt; wrong_step(&mut machine), None);
+    none_is_wrong(&rt, wrong_step(&mut machine));
     Ok(())
 }

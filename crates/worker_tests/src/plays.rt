@@ -10,7 +10,7 @@ use dep_index::{Call, Reply};
 use loads::{FAILED, NEED_LEAVES};
 
 /// A removal is refused while a reference is held. The query goes from step 16 to step 18.
-pub(crate) const SERVED: Schedule = Schedule {
+pub(crate) static SERVED: Schedule = Schedule {
     name: "gets_queries_puts_removes",
     threads: 2,
     plays: &[
@@ -35,7 +35,7 @@ pub(crate) const SERVED: Schedule = Schedule {
 };
 
 /// A removal is tried while a get has exchanged the word and not written its count.
-pub(crate) const NOT_WRITTEN: Schedule = Schedule {
+pub(crate) static NOT_WRITTEN: Schedule = Schedule {
     name: "counts_a_get_that_is_not_written",
     threads: 2,
     plays: &[
@@ -52,7 +52,7 @@ pub(crate) const NOT_WRITTEN: Schedule = Schedule {
 };
 
 /// A removal comes between a get's load and its exchange, at step 18.
-pub(crate) const MISSED: Schedule = Schedule {
+pub(crate) static MISSED: Schedule = Schedule {
     name: "misses_the_exchange",
     threads: 2,
     plays: &[
@@ -69,7 +69,7 @@ pub(crate) const MISSED: Schedule = Schedule {
 };
 
 /// The module is removed and loaded again between a get's load and its exchange.
-pub(crate) const ANOTHER_LIFE: Schedule = Schedule {
+pub(crate) static ANOTHER_LIFE: Schedule = Schedule {
     name: "finds_the_same_word_in_another_life",
     threads: 2,
     plays: &[
@@ -95,7 +95,7 @@ pub(crate) const ANOTHER_LIFE: Schedule = Schedule {
 };
 
 /// Thread 0 stops with the lock of leaf 0: thread 1 waits for it, and no other thread does.
-pub(crate) const STOPPED: Schedule = Schedule {
+pub(crate) static STOPPED: Schedule = Schedule {
     name: "stops_with_a_lock_held",
     threads: 4,
     plays: &[
@@ -117,7 +117,7 @@ pub(crate) const STOPPED: Schedule = Schedule {
 };
 
 /// The second reference of a leaf is taken, and one of two is put back, with no change of the word.
-pub(crate) const TWICE_AND_BACK: Schedule = Schedule {
+pub(crate) static TWICE_AND_BACK: Schedule = Schedule {
     name: "takes_two_references",
     threads: 1,
     plays: &[
@@ -145,7 +145,7 @@ pub(crate) const TWICE_AND_BACK: Schedule = Schedule {
 };
 
 /// A removal has its point and stops: a get is refused, and the end of the removal waits for its lock.
-pub(crate) const LEAVING: Schedule = Schedule {
+pub(crate) static LEAVING: Schedule = Schedule {
     name: "removes_in_two_threads",
     threads: 2,
     plays: &[
@@ -164,7 +164,7 @@ pub(crate) const LEAVING: Schedule = Schedule {
 };
 
 /// A get whose load came before the drain is refused, and the removal waits for the reference from before.
-pub(crate) const DRAINED: Schedule = Schedule {
+pub(crate) static DRAINED: Schedule = Schedule {
     name: "drains",
     threads: 2,
     plays: &[
@@ -193,7 +193,7 @@ pub(crate) const DRAINED: Schedule = Schedule {
 };
 
 /// A leaf that holds the module gets no further reference while it drains; a query still says yes.
-pub(crate) const DRAINING: Schedule = Schedule {
+pub(crate) static DRAINING: Schedule = Schedule {
     name: "refuses_a_get_while_its_leaf_drains",
     threads: 2,
     plays: &[
@@ -214,16 +214,19 @@ pub(crate) const DRAINING: Schedule = Schedule {
     ],
 };
 
-pub(crate) static SCHEDULES: [Schedule; 11] = [
-    SERVED,
-    NOT_WRITTEN,
-    MISSED,
-    ANOTHER_LIFE,
-    STOPPED,
-    TWICE_AND_BACK,
-    LEAVING,
-    DRAINED,
-    DRAINING,
-    FAILED,
-    NEED_LEAVES,
-];
+/// All schedules.
+pub(crate) fn schedules() -> [&'static Schedule; 11] {
+    [
+        &SERVED,
+        &NOT_WRITTEN,
+        &MISSED,
+        &ANOTHER_LIFE,
+        &STOPPED,
+        &TWICE_AND_BACK,
+        &LEAVING,
+        &DRAINED,
+        &DRAINING,
+        &FAILED,
+        &NEED_LEAVES,
+    ]
+}

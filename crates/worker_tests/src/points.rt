@@ -3,7 +3,8 @@ ghost use Rattle.std.specs.Prelude.{◌≤◌};
 
 mod judged;
 
-use crate::plays::{ANOTHER_LIFE, SCHEDULES, SERVED, STOPPED};
+use crate::plays::{ANOTHER_LIFE, SERVED, STOPPED, schedules};
+use crate::rows::none_is_wrong;
 use crate::schedule::{Schedule, steps_of};
 use crate::sound::{SND, sound};
 use Reply::No;
@@ -24,7 +25,25 @@ fn points_of(alloc: Global, schedule: &Schedule, steps: usize) -> Result<Vec<Poi
     Ok(found)
 }
 
-/// The schedule has its points among so many workers, and the checker says yes to them.
+/// Whether these are the points of the steps, and the checker says yes to them.
+fn are_points(
+    alloc: Global,
+    catalogue: &Catalogue,
+    workers: usize,
+    threads: usize,
+    steps: &[Step],
+    wanted: &[Point],
+) -> Result<bool, PointsError>
+    requires { workers ≤ 64 }
+{
+    let found = points(alloc, catalogue, workers, threads, steps)?;
+    Ok(
+        found.as_slice() == wanted
+            && check_points(alloc, catalogue, workers, threads, steps, wanted)?,
+    )
+}
+
+/// Whether the schedule has its points among so many workers.
 fn has_points(
     alloc: Global,
     catalogue: &Catalogue,
@@ -35,15 +54,20 @@ fn has_points(
 {
     let steps = steps_of(alloc, schedule.plays)?;
     let wanted = points_of(alloc, schedule, steps.len())?;
-    let found = points(alloc, catalogue, workers, schedule.threads, &steps)?;
-    let said = check_points(alloc, catalogue, workers, schedule.threads, &steps, &wanted)?;
-    Ok(said && found.as_slice() == wanted.as_slice())
+    Ok(are_points(alloc, catalogue, workers, schedule.threads, &steps, &wanted)?)
 }
 
-/// The first schedule with other points.
-fn wrong_schedule(alloc: Global, catalogue: &Catalogue) -> Result<Option<&'static str>, Fail> {
-    for schedule in &SCHEDULES {
-        if !has_points(alloc, catalogue, 2, schedule)? {
+/// The first of the schedules that has other points among so many workers.
+fn wrong_schedule(
+    alloc: Global,
+    workers: usize,
+    schedules: &[&'static Schedule],
+) -> Result<Option<&'static str>, Fail>
+    requires { workers ≤ 64 }
+{
+    let catalogue = sound(alloc)?;
+    for schedule in schedules {
+        if !has_points(alloc, &catalogue, workers, schedule)? {
             return Ok(Some(schedule.name));
         }
     }
@@ -52,22 +76,14 @@ fn wrong_schedule(alloc: Global, catalogue: &Catalogue) -> Result<Option<&'stati
 
 #[test]
 fn schedules_have_their_points(rt: HostRuntime) -> Result<(), Fail> {
-    let catalogue = sound(rt.alloc())?;
-    assert_eq!(rt; wrong_schedule(rt.alloc(), &catalogue)?, None);
+    none_is_wrong(&rt, wrong_schedule(rt.alloc(), 2, &schedules())?);
     Ok(())
 }
 
 #[test]
 fn a_schedule_has_its_points_among_64_workers(rt: HostRuntime) -> Result<(), Fail> {
-    let catalogue = sound(rt.alloc())?;
-    assert!(rt; has_points(rt.alloc(), &catalogue, 64, &SERVED)?);
+    none_is_wrong(&rt, wrong_schedule(rt.alloc(), 64, &[&SERVED])?);
     Ok(())
-}
-
-/// The checker says yes to the points of these steps.
-fn is_told_yes(alloc: Global, catalogue: &Catalogue, steps: &[Step]) -> Result<bool, PointsError> {
-    let found = points(alloc, catalogue, 2, 2, steps)?;
-    Ok(check_points(alloc, catalogue, 2, 2, steps, &found)?)
 }
 
 /// The first beginning of the steps to whose points the checker says no.
@@ -77,7 +93,9 @@ fn wrong_beginning(
     steps: &[Step],
 ) -> Result<Option<usize>, PointsError> {
     for end in 0..=steps.len() {
-        if !is_told_yes(alloc, catalogue, &steps[..end])? {
+        let beginning = &steps[..end];
+        let found = points(alloc, catalogue, 2, 2, beginning)?;
+        if !check_points(alloc, catalogue, 2, 2, beginning, &found)? {
             return Ok(Some(end));
         }
     }
@@ -110,23 +128,14 @@ const ASKED: Interval = Interval {
     }),
 };
 
-/// The intervals of the schedule in which thread 0 stops.
-fn stopped_intervals(alloc: Global) -> Result<Vec<Interval>, Fail> {
-    let catalogue = sound(alloc)?;
-    let steps = steps_of(alloc, STOPPED.plays)?;
-    Ok(call_intervals(alloc, &catalogue, 2, 4, &steps)?)
-}
-
-/// Six intervals, of which the get is open and the query is not.
-fn is_left_open(found: &[Interval]) -> bool {
-    found.len() == 6 && found[3] == LEFT_OPEN && found[4] == ASKED
-}
-
 /// Thread 0 stops with the lock of leaf 0: thread 1 waits for it, and no other thread does.
 #[test]
 fn intervals_are_left_open(rt: HostRuntime) -> Result<(), Fail> {
-    let found = stopped_intervals(rt.alloc())?;
-    assert!(rt; is_left_open(&found));
+    let steps = steps_of(rt.alloc(), STOPPED.plays)?;
+    let found = call_intervals(rt.alloc(), &sound(rt.alloc())?, 2, 4, &steps)?;
+    assert!(rt;
+        matches!(found.as_slice(), [_, _, _, get, query, _] if *get == LEFT_OPEN && *query == ASKED)
+    );
     Ok(())
 }
 
@@ -137,27 +146,18 @@ static REFUSED: [(Step, StepError); 3] = [
     (Step::Go(1), StepError::Thread),
 ];
 
-/// Each of the three calls tells this step and why it is refused.
-fn is_refused(alloc: Global, catalogue: &Catalogue, steps: &[Step], refused: PointsError) -> bool {
-    let found = points(alloc, catalogue, 2, 1, steps).err();
-    let checked = check_points(alloc, catalogue, 2, 1, steps, &[]).err();
-    let intervals = call_intervals(alloc, catalogue, 2, 1, steps).err();
-    found == Some(refused) && checked == Some(refused) && intervals == Some(refused)
-}
-
-/// The first row of refused steps that is told otherwise.
+/// The first row of refused steps of which one of the three calls tells otherwise.
 fn wrong_refusal(alloc: Global, catalogue: &Catalogue) -> Option<usize> {
     for (row, (step, cause)) in REFUSED.iter().enumerate() {
-        let refused = PointsError::Step {
+        let steps = [Step::Go(0), *step, Step::Go(7)];
+        let refused = Some(PointsError::Step {
             index: 1,
             cause: *cause,
-        };
-        if !is_refused(
-            alloc,
-            catalogue,
-            &[Step::Go(0), *step, Step::Go(7)],
-            refused,
-        ) {
+        });
+        let found = points(alloc, catalogue, 2, 1, &steps).err();
+        let checked = check_points(alloc, catalogue, 2, 1, &steps, &[]).err();
+        let intervals = call_intervals(alloc, catalogue, 2, 1, &steps).err();
+        if found != refused || checked != refused || intervals != refused {
             return Some(row);
         }
     }
@@ -167,7 +167,7 @@ fn wrong_refusal(alloc: Global, catalogue: &Catalogue) -> Option<usize> {
 #[test]
 fn names_the_step_that_is_refused(rt: HostRuntime) -> Result<(), Fail> {
     let catalogue = sound(rt.alloc())?;
-    assert_eq!(rt; wrong_refusal(rt.alloc(), &catalogue), None);
+    none_is_wrong(&rt, wrong_refusal(rt.alloc(), &catalogue));
     Ok(())
 }
 
@@ -178,6 +178,6 @@ fn tells_the_step_that_is_refused(rt: HostRuntime) -> Result<(), Fail> {
         cause: StepError::Slot,
     };
     let told = format!(in rt.alloc(); "{refused}")?;
-    assert_eq!(rt; told.as_str(), "step 4 is refused: Slot");
+    assert!(rt; told.as_str() == "step 4 is refused: Slot");
     Ok(())
 }

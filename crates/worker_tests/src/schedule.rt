@@ -7,7 +7,6 @@ use std::alloc::{AllocError, Global};
 use step_core::{Event, Step};
 
 /// What a thread is told: to begin a call, or to make so many lines of it.
-#[derive(Clone, Copy)]
 pub(crate) enum Play {
     Invoke(usize, Call),
     Go(usize, usize),
@@ -17,7 +16,6 @@ pub(crate) enum Play {
 type Course = (usize, Option<(usize, Reply)>, Option<usize>);
 
 /// What the threads are told behind the load of snd, and the calls from number 2 on.
-#[derive(Clone, Copy)]
 pub(crate) struct Schedule {
     pub(crate) name: &'static str,
     pub(crate) threads: usize,
@@ -48,16 +46,27 @@ fn event_of(call: usize, course: Course, index: usize) -> Option<Event> {
     }
 }
 
+/// What the step of this index is to these calls, the first of which has this number.
+fn event_in(first: usize, courses: &[Course], index: usize) -> Option<Event> {
+    let mut call = first;
+    for course in courses {
+        let event = event_of(call, *course, index);
+        if event.is_some() {
+            return event;
+        }
+        call = call.saturating_add(1);
+    }
+    None
+}
+
 impl Schedule {
     /// What a step comes to, where a call begins, takes effect or returns there.
     pub(crate) fn event(&self, index: usize) -> Option<Event> {
-        for (call, course) in LOADED_CALLS.iter().chain(self.calls).enumerate() {
-            let event = event_of(call, *course, index);
-            if event.is_some() {
-                return event;
-            }
+        let event = event_in(0, &LOADED_CALLS, index);
+        if event.is_some() {
+            return event;
         }
-        None
+        event_in(LOADED_CALLS.len(), self.calls, index)
     }
 }
 

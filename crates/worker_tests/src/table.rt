@@ -1,24 +1,17 @@
-//! A table over four modules: snd, snd_pcm that needs it, fixed that is permanent, and lost, which needs a symbol
-//! that no module exports.
+//! A table over the four modules.
 
 ghost use Rattle.std.specs.Prelude.{◌≤◌};
 
-use dep_index::{Call, ModuleState, Reply, Slots};
+use crate::rows::none_is_wrong;
+use crate::sound::{FIXED, FOUR, LOST, SND, SND_PCM};
+use dep_index::{Call, ModuleState, Reply, read_catalogue};
 use seq_table::{Modules, Table, perform};
-use std::alloc::{AllocError, Global};
+use std::alloc::Global;
 use std::test::Fail;
-
-const SND: usize = 0;
-
-const PCM: usize = 1;
-
-const FIXED: usize = 2;
-
-const LOST: usize = 3;
 
 /// Loads and removals, with what each answers.
 static LOADS: [(Call, Reply); 30] = [
-    (Call::BeginLoad(PCM), Reply::NeedNotLive(0)),
+    (Call::BeginLoad(SND_PCM), Reply::NeedNotLive(0)),
     (Call::BeginLoad(LOST), Reply::UnknownSymbol),
     (Call::Get(0, SND), Reply::NotLive),
     (Call::Put(0, SND), Reply::NotHeld),
@@ -28,16 +21,16 @@ static LOADS: [(Call, Reply); 30] = [
     (Call::EndRemove(SND), Reply::NotUnloading),
     (Call::BeginLoad(SND), Reply::Done),
     (Call::BeginLoad(SND), Reply::Exists),
-    (Call::BeginLoad(PCM), Reply::NeedNotLive(0)),
+    (Call::BeginLoad(SND_PCM), Reply::NeedNotLive(0)),
     (Call::Get(0, SND), Reply::NotLive),
     (Call::BeginRemove(SND), Reply::NotLive),
     (Call::EndLoad(SND, false), Reply::Done),
     (Call::BeginLoad(SND), Reply::Done),
     (Call::EndLoad(SND, true), Reply::Done),
-    (Call::BeginLoad(PCM), Reply::Done),
+    (Call::BeginLoad(SND_PCM), Reply::Done),
     (Call::BeginRemove(SND), Reply::NeededBy),
     (Call::BeginDrain(SND), Reply::NeededBy),
-    (Call::EndLoad(PCM, false), Reply::Done),
+    (Call::EndLoad(SND_PCM, false), Reply::Done),
     (Call::InUse(SND), Reply::No),
     (Call::Get(1, SND), Reply::Done),
     (Call::InUse(SND), Reply::Yes),
@@ -45,7 +38,7 @@ static LOADS: [(Call, Reply); 30] = [
     (Call::Put(1, SND), Reply::Done),
     (Call::BeginRemove(SND), Reply::Done),
     (Call::BeginRemove(SND), Reply::NotLive),
-    (Call::BeginLoad(PCM), Reply::NeedNotLive(0)),
+    (Call::BeginLoad(SND_PCM), Reply::NeedNotLive(0)),
     (Call::EndRemove(SND), Reply::Done),
     (Call::Get(1, SND), Reply::NotLive),
 ];
@@ -63,7 +56,7 @@ static DRAINS: [(Call, Reply); 16] = [
     (Call::BeginDrain(SND), Reply::NotLive),
     (Call::Get(0, SND), Reply::NotLive),
     (Call::Get(1, SND), Reply::NotLive),
-    (Call::BeginLoad(PCM), Reply::NeedNotLive(0)),
+    (Call::BeginLoad(SND_PCM), Reply::NeedNotLive(0)),
     (Call::EndRemove(SND), Reply::InUse),
     (Call::Put(0, SND), Reply::Done),
     (Call::EndRemove(SND), Reply::Done),
@@ -74,7 +67,7 @@ static DRAINS: [(Call, Reply); 16] = [
 static USERS: [(Call, Reply); 6] = [
     (Call::BeginLoad(SND), Reply::Done),
     (Call::EndLoad(SND, true), Reply::Done),
-    (Call::BeginLoad(PCM), Reply::Done),
+    (Call::BeginLoad(SND_PCM), Reply::Done),
     (Call::Get(0, SND), Reply::Done),
     (Call::Get(1, SND), Reply::Done),
     (Call::Get(1, SND), Reply::Done),
@@ -94,20 +87,11 @@ static FULL: [(Call, Reply); 3] = [
     (Call::Get(0, SND), Reply::Done),
 ];
 
-fn slots(alloc: Global) -> Result<Slots, AllocError> {
-    let mut slots = Slots::new(alloc);
-    slots.push(Vec::new(alloc), false, false)?;
-    slots.push(vec![in alloc; 0u16]?, false, false)?;
-    slots.push(Vec::new(alloc), false, true)?;
-    slots.push(Vec::new(alloc), true, false)?;
-    Ok(slots)
-}
-
 /// The table for so many workers.
-fn table(alloc: Global, workers: usize) -> Result<Table, AllocError>
+fn table(alloc: Global, workers: usize) -> Result<Table, Fail>
     requires { workers ≤ 64 }
 {
-    Table::over(alloc, slots(alloc)?, workers)
+    Ok(Table::new(alloc, &read_catalogue(alloc, FOUR)?, workers)?)
 }
 
 /// What a call answers, where its module and its worker are in range.
@@ -134,14 +118,14 @@ fn wrong_row(table: &mut Table, rows: &[(Call, Reply)]) -> Option<usize> {
 #[test]
 fn loads_and_removes(rt: HostRuntime) -> Result<(), Fail> {
     let mut table = table(rt.alloc(), 2)?;
-    assert_eq!(rt; wrong_row(&mut table, &LOADS), None);
+    none_is_wrong(&rt, wrong_row(&mut table, &LOADS));
     Ok(())
 }
 
 #[test]
 fn drains_and_keeps_what_is_permanent(rt: HostRuntime) -> Result<(), Fail> {
     let mut table = table(rt.alloc(), 2)?;
-    assert_eq!(rt; wrong_row(&mut table, &DRAINS), None);
+    none_is_wrong(&rt, wrong_row(&mut table, &DRAINS));
     Ok(())
 }
 
@@ -150,12 +134,12 @@ fn counts_are_right(table: &Table) -> bool {
     table.workers() == 2
         && table.slots() == 4
         && table.state(SND) == ModuleState::Live
-        && table.state(PCM) == ModuleState::Loading
+        && table.state(SND_PCM) == ModuleState::Loading
         && table.held(0, SND) == 1
         && table.held(1, SND) == 2
-        && table.held(1, PCM) == 0
+        && table.held(1, SND_PCM) == 0
         && table.references(SND) == 4
-        && table.references(PCM) == 0
+        && table.references(SND_PCM) == 0
 }
 
 /// The modules of the table, and who needs whom.
@@ -163,16 +147,16 @@ fn users_are_right(table: &Table) -> bool {
     table.slots() == 4
         && table.loaded() == 2
         && table.loaded_at(0) == SND
-        && table.loaded_at(1) == PCM
-        && table.is_user(PCM, SND)
-        && !table.is_user(SND, PCM)
+        && table.loaded_at(1) == SND_PCM
+        && table.is_user(SND_PCM, SND)
+        && !table.is_user(SND, SND_PCM)
         && !table.is_user(LOST, SND)
 }
 
 #[test]
 fn counts_users_and_references(rt: HostRuntime) -> Result<(), Fail> {
     let mut table = table(rt.alloc(), 2)?;
-    assert_eq!(rt; wrong_row(&mut table, &USERS), None);
+    none_is_wrong(&rt, wrong_row(&mut table, &USERS));
     assert!(rt; counts_are_right(&table) && users_are_right(&table));
     table.laws();
     Ok(())

@@ -1,84 +1,66 @@
 //! A leaf and a reader with their row: gets of so many tries, and slots out of range.
+ghost use Rattle.std.specs.Prelude.{◌≡◌, IfOk};
 ghost use Rattle.std.specs.Arc.{arc_value};
-ghost use Rattle.root_row.specs.Seats.{IsOf};
 
-use super::new_seats;
-use super::steps::load;
+use super::{Users, live_row};
 use dep_index::GetError;
 use module_table::{OwnLeaf, OwnReader};
 use root_row::Row;
 use std::alloc::{AllocError, Global};
 use std::sync::Arc;
 use std::test::Fail;
-use use_indicator::{Leaf, Reader};
 
-/// The leaf with its row.
-fn own(leaf: Leaf, row: &Arc<Row, Global>) -> Result<OwnLeaf, AllocError>
-    requires { IsOf (arc_value row.now) leaf }
+/// The row, for two owners.
+fn shared(alloc: Global, row: Row) -> Result<(Arc<Row, Global>, Arc<Row, Global>), AllocError>
+    ensures { IfOk result (λ r. (arc_value r.0 ≡ row) × (arc_value r.1 ≡ row)) }
 {
-    let row = Arc::try_clone(row)?;
-    Ok(OwnLeaf::new(leaf, row))
+    let one = Arc::new(alloc, row)?;
+    let other = Arc::try_clone(&one)?;
+    Ok((one, other))
 }
 
-/// The leaves and the reader with their row.
-fn own_all(
-    row: Arc<Row, Global>,
-    leaf: Leaf,
-    other: Leaf,
-    reader: Reader,
-) -> Result<(OwnLeaf, OwnLeaf, OwnReader), AllocError>
-    requires leaf { IsOf (arc_value row) leaf }
-    requires other { IsOf (arc_value row) other }
-    requires reader { IsOf (arc_value row) reader }
-{
-    let leaf = own(leaf, &row)?;
-    let other = own(other, &row)?;
-    Ok((leaf, other, OwnReader::new(reader, row)))
-}
-
-/// A row whose first module is live, with a leaf, another and a reader.
-fn new_owned(alloc: Global) -> Result<(OwnLeaf, OwnLeaf, OwnReader), Fail> {
-    let (row, mut book, leaf, other, reader) = new_seats(alloc)?;
-    load(&row, &mut book);
-    let row = Arc::new(alloc, row)?;
-    Ok(own_all(row, leaf, other, reader)?)
-}
-
-/// What a get of so many tries answers: whether it took, None where it gave up or the slot is out of range.
-fn took(leaf: &mut OwnLeaf, slot: usize, tries: u32) -> Option<bool> {
-    leaf.try_get(slot, tries)?.map(|answer| answer.is_ok())
+/// A leaf and a reader of a row whose first module is live, with the row.
+fn new_owned(alloc: Global) -> Result<(OwnLeaf, OwnReader), Fail> {
+    let (row, _, users) = live_row(alloc)?;
+    let (one, other) = shared(alloc, row)?;
+    let Users {
+        leaf,
+        other: _,
+        reader,
+    } = users;
+    Ok((OwnLeaf::new(leaf, one), OwnReader::new(reader, other)))
 }
 
 /// A first get needs a try, and a further one none.
 fn takes_by_tries(leaf: &mut OwnLeaf) -> bool {
-    took(leaf, 0, 0) == None
-        && took(leaf, 0, 1) == Some(true)
-        && took(leaf, 0, 0) == Some(true)
+    matches!(leaf.try_get(0, 0), Some(None))
+        && matches!(leaf.try_get(0, 1), Some(Some(Ok(()))))
+        && matches!(leaf.try_get(0, 0), Some(Some(Ok(()))))
         && leaf.held(0) == Some(2)
 }
 
 /// A module that was never loaded, and a slot that the row does not have.
 fn refuses(leaf: &mut OwnLeaf) -> bool {
-    let absent = leaf.try_get(1, 1);
-    let outside = leaf.try_get(2, 1);
-    matches!(absent, Some(Some(Err(GetError::NotLive)))) && matches!(outside, None)
+    matches!(leaf.try_get(1, 1), Some(Some(Err(GetError::NotLive))))
+        && matches!(leaf.try_get(2, 1), None)
 }
 
 /// The reader sees the module in use until the leaf gives its references back.
 fn is_seen(leaf: &mut OwnLeaf, reader: &mut OwnReader) -> bool {
-    let held = reader.in_use(0);
-    let first = leaf.put(0);
-    let second = leaf.put(0);
-    matches!(first, Some(Ok(())))
-        && matches!(second, Some(Ok(())))
-        && held == Some(true)
+    reader.in_use(0) == Some(true)
+        && matches!(leaf.put(0), Some(Ok(())))
+        && matches!(leaf.put(0), Some(Ok(())))
         && reader.in_use(0) == Some(false)
+        && reader.in_use(2) == None
+}
+
+fn is_right(leaf: &mut OwnLeaf, reader: &mut OwnReader) -> bool {
+    takes_by_tries(leaf) && refuses(leaf) && is_seen(leaf, reader)
 }
 
 #[test]
 fn takes_by_tries_and_is_seen(rt: HostRuntime) -> Result<(), Fail> {
-    let (mut leaf, mut other, mut reader) = new_owned(rt.alloc())?;
-    assert!(rt; takes_by_tries(&mut leaf) && refuses(&mut other));
-    assert!(rt; is_seen(&mut leaf, &mut reader) && reader.in_use(2) == None);
+    let (mut leaf, mut reader) = new_owned(rt.alloc())?;
+    assert!(rt; is_right(&mut leaf, &mut reader));
     Ok(())
 }

@@ -20,7 +20,7 @@ use std::test::Fail;
 use use_indicator::{Leaf, Reader};
 
 /// A leaf's seat of a new row.
-pub(super) fn take_leaf(row: &Row, leaves: &mut Vec<LeafSeat>) -> Option<LeafSeat>
+fn take_leaf(row: &Row, leaves: &mut Vec<LeafSeat>) -> Option<LeafSeat>
     requires { All (λ s. s ≡ new_leaf row.now.id row.now.world (worker_of s.view)) leaves.old.items }
     ensures others { All (λ s. s ≡ new_leaf row.now.id row.now.world (worker_of s.view)) leaves.new.items }
     ensures leaf { IfSome result (λ s. s ≡ new_leaf row.now.id row.now.world (worker_of s.view)) }
@@ -28,28 +28,30 @@ pub(super) fn take_leaf(row: &Row, leaves: &mut Vec<LeafSeat>) -> Option<LeafSea
     leaves.pop()
 }
 
-/// The leaf of the last seat that is left.
-fn leaf_from(alloc: Global, row: &Row, seats: &mut Vec<LeafSeat>) -> Result<Leaf, Fail>
-    requires { All (λ s. s ≡ new_leaf row.now.id row.now.world (worker_of s.view)) seats.old.items }
-    ensures others { All (λ s. s ≡ new_leaf row.now.id row.now.world (worker_of s.view)) seats.new.items }
-    ensures leaf { IfOk result (IsOf row.now) }
+/// The two last seats.
+pub(super) fn two_seats(row: &Row, mut leaves: Vec<LeafSeat>) -> Option<(LeafSeat, LeafSeat)>
+    requires { All (λ s. s ≡ new_leaf row.now.id row.now.world (worker_of s.view)) leaves.items }
+    ensures first { IfSome result (λ s. s.0 ≡ new_leaf row.now.id row.now.world (worker_of s.0.view)) }
+    ensures second { IfSome result (λ s. s.1 ≡ new_leaf row.now.id row.now.world (worker_of s.1.view)) }
 {
-    let seat = take_leaf(row, seats).ok_or("no leaf")?;
-    Ok(Leaf::new(alloc, seat, row.slots())?)
+    let second = take_leaf(row, &mut leaves)?;
+    let first = take_leaf(row, &mut leaves)?;
+    Some((first, second))
 }
 
 /// The leaves of the two last seats.
 pub(crate) fn two_leaves(
     alloc: Global,
     row: &Row,
-    mut seats: Vec<LeafSeat>,
+    seats: Vec<LeafSeat>,
 ) -> Result<(Leaf, Leaf), Fail>
     requires { All (λ s. s ≡ new_leaf row.now.id row.now.world (worker_of s.view)) seats.items }
     ensures { IfOk result (λ leaves. IsOf row.now leaves.0 × IsOf row.now leaves.1) }
 {
-    let other = leaf_from(alloc, row, &mut seats)?;
-    let one = leaf_from(alloc, row, &mut seats)?;
-    Ok((one, other))
+    let (first, second) = two_seats(row, seats).ok_or("no leaf")?;
+    let first = Leaf::new(alloc, first, row.slots())?;
+    let second = Leaf::new(alloc, second, row.slots())?;
+    Ok((first, second))
 }
 
 /// The reader of the last seat.
@@ -97,8 +99,8 @@ pub(super) fn load(row: &Row, book: &mut BookSeat) -> (u64, u64)
     requires free { module_at row.now.world.catalogue 0 ≡ no_module }
     requires new { book.old ≡ new_book row.now.id row.now.world }
     ensures own { IsOf row.now book.new }
-    ensures live { state_in book.new.view 0 ≡ ModuleState.Live }
-    ensures alone { (book_of book.new.view).order ≡ 0 ∷ [] }
+    ensures may { MayLeave book.new.view 0 }
+    ensures wide { 0 < length (book_of book.new.view).states }
 {
     let begun = begin_load(row, book);
     let ended = end_load(row, book);

@@ -3,16 +3,18 @@ ghost use Rattle.std.specs.Prelude.{◌≡◌, ◌<◌};
 ghost use Rattle.root_row.specs.World.{slots};
 ghost use Rattle.root_row.specs.Seats.{IsOf};
 
-use super::new_seats;
-use super::steps::load;
+use super::{Users, live_row};
 use root_row::Row;
 use std::sync::Wait;
 use std::test::Fail;
 use std::thread::{Threads, join_mut};
 use use_indicator::{Leaf, meet};
 
-/// So many gets, each with a put behind it: how many gets and how many puts were Ok.
-pub(crate) fn take_and_give<R: Wait>(rt: &R, row: &Row, leaf: &mut Leaf, rounds: u32) -> (u32, u32)
+/// How many gets and how many puts were Ok.
+pub(crate) type Counts = (u32, u32);
+
+/// So many gets, each with a put behind it.
+fn take_and_give<R: Wait>(rt: &R, row: &Row, rounds: u32, leaf: &mut Leaf) -> Counts
     requires inside { 0 < slots row.now.world }
     requires leaf { IsOf row.now leaf.old }
     ensures leaf { IsOf row.now leaf.new }
@@ -30,35 +32,55 @@ pub(crate) fn take_and_give<R: Wait>(rt: &R, row: &Row, leaf: &mut Leaf, rounds:
     (taken, given)
 }
 
-/// Whether each get and each put was Ok.
-fn are_all(counts: (u32, u32)) -> bool {
-    counts.0 == 1000 && counts.1 == 1000
-}
-
-/// Each leaf takes and gives on a thread of its own, and neither holds anything when they meet.
-fn take_and_give_at_once<R: Threads + Wait + Sync>(
+/// Each leaf takes and gives so often on a thread of its own.
+pub(crate) fn take_and_give_at_once<R: Threads + Wait + Sync>(
     rt: &R,
     row: &Row,
-    mut one: Leaf,
-    mut other: Leaf,
-) -> bool
+    rounds: u32,
+    one: &mut Leaf,
+    other: &mut Leaf,
+) -> (Counts, Counts)
+    requires inside { 0 < slots row.now.world }
+    requires one { IsOf row.now one.old }
+    requires other { IsOf row.now other.old }
+    ensures one { IsOf row.now one.new }
+    ensures other { IsOf row.now other.new }
+{
+    join_mut(
+        rt,
+        &mut || take_and_give(rt, row, rounds, one),
+        &mut || take_and_give(rt, row, rounds, other),
+    )
+}
+
+/// Two leaves meet, and neither holds the first module.
+pub(crate) fn meet_with_none(row: &Row, one: Leaf, other: Leaf) -> bool
     requires inside { 0 < slots row.now.world }
     requires one { IsOf row.now one }
     requires other { IsOf row.now other }
 {
-    let (mine, theirs) = join_mut(
-        rt,
-        &mut || take_and_give(rt, row, &mut one, 1000),
-        &mut || take_and_give(rt, row, &mut other, 1000),
-    );
     let (one, other) = meet(one, other, row);
-    are_all(mine) && are_all(theirs) && one.held(0) == 0 && other.held(0) == 0
+    (one.held(0), other.held(0)) == (0, 0)
+}
+
+/// Each get and each put is Ok, and neither leaf holds anything when they meet.
+fn each_is_ok<R: Threads + Wait + Sync>(rt: &R, row: &Row, users: Users) -> bool
+    requires inside { 0 < slots row.now.world }
+    requires leaf { IsOf row.now users.leaf }
+    requires other { IsOf row.now users.other }
+{
+    let Users {
+        leaf: mut one,
+        mut other,
+        reader: _,
+    } = users;
+    let counts = take_and_give_at_once(rt, row, 1000, &mut one, &mut other);
+    meet_with_none(row, one, other) && counts == ((1000, 1000), (1000, 1000))
 }
 
 #[test]
 fn two_threads_meet(rt: HostRuntime) -> Result<(), Fail> {
-    let (row, mut book, one, other, _) = new_seats(rt.alloc())?;
-    load(&row, &mut book);
-    assert!(rt; take_and_give_at_once(&rt, &row, one, other) && row.try_close(&mut book, 0));
+    let (row, mut book, users) = live_row(rt.alloc())?;
+    assert!(rt; each_is_ok(&rt, &row, users) && row.try_close(&mut book, 0));
     Ok(())
 }

@@ -1,14 +1,15 @@
 //! The words that looks find where they are no points, and the exchange of a leaf.
 ghost use Rattle.std.specs.Prelude.{◌≡◌, ◌<◌, length, All};
 ghost use Rattle.std.specs.Bool.{OnTrue};
+ghost use Rattle.dep_index.specs.Table.{module_at, no_module};
 ghost use Rattle.root_row.specs.World.{slots};
 ghost use Rattle.root_row.specs.Seats.{IsOf};
-ghost use Rattle.root_row.specs.Made.{new_leaf};
+ghost use Rattle.root_row.specs.Made.{new_leaf, new_book};
 ghost use Rattle.root_row.specs.Views.{book_of, counts_of, count_of, worker_of};
 ghost use Rattle.root_row.specs.BookSteps.{MayLeave};
 
 use super::new_row;
-use super::steps::{arrive, drain, finish, load, look_get, put_last, remove, take_leaf};
+use super::steps::{arrive, drain, finish, load, look_get, put_last, remove, two_seats};
 use dep_index::words::{CLOSED, DRAINED};
 use root_row::{BookSeat, LeafSeat, Row};
 use std::test::Fail;
@@ -26,19 +27,7 @@ fn enters(row: &Row, leaf: &mut LeafSeat, word: u64) -> bool
     look_get(row, leaf) == word && !arrive(row, leaf, word + 1) && arrive(row, leaf, word)
 }
 
-/// Both leaves hold the module, and it is not removed.
-fn both_hold(row: &Row, book: &mut BookSeat) -> bool
-    requires inside { 0 < slots row.now.world }
-    requires book { IsOf row.now book.old }
-    requires may { MayLeave book.old.view 0 }
-    ensures book { IsOf row.now book.new }
-    ensures may { OnTrue result (MayLeave book.new.view 0) }
-{
-    let (word, closed) = remove(row, book);
-    word == 2 && !closed
-}
-
-/// The first leaf puts before a drain and the second in it; then the module leaves.
+/// Both leaves put, the first before a drain and the second in it. Then the module leaves.
 fn both_put(row: &Row, book: &mut BookSeat, first: &mut LeafSeat, second: &mut LeafSeat) -> bool
     requires inside { 0 < slots row.now.world }
     requires book { IsOf row.now book.old }
@@ -48,51 +37,47 @@ fn both_put(row: &Row, book: &mut BookSeat, first: &mut LeafSeat, second: &mut L
     requires second { IsOf row.now second.old × (count_of second.old.view 0 ≡ 1) }
 {
     let last = put_last(row, first);
-    let draining = drain(row, book);
+    let found = drain(row, book);
     let (refused, closed) = finish(row, book);
-    if last != 2 || draining != 1 || refused != DRAINED + 1 || closed {
+    if closed {
         return false;
     }
-    let last = put_last(row, second);
-    let (left, closed) = finish(row, book);
-    last == DRAINED + 1 && left == DRAINED && closed
+    let late = put_last(row, second);
+    let end = finish(row, book);
+    [last, found, refused, late] == [2, 1, DRAINED + 1, DRAINED + 1] && end == (DRAINED, true)
 }
 
-/// Both leaves enter, hold the module, and put it.
-fn both_enter(row: &Row, book: &mut BookSeat, first: &mut LeafSeat, second: &mut LeafSeat) -> bool
+/// Both leaves enter, so the module is not removed.
+fn both_enter(row: &Row, book: &mut BookSeat, seats: &mut (LeafSeat, LeafSeat)) -> bool
     requires inside { 0 < slots row.now.world }
     requires book { IsOf row.now book.old }
     requires may { MayLeave book.old.view 0 }
     requires wide { 0 < length (book_of book.old.view).states }
-    requires first { IsOf row.now first.old × (count_of first.old.view 0 ≡ 0) }
-    requires second { IsOf row.now second.old × (count_of second.old.view 0 ≡ 0) }
-    requires counts { 0 < length (counts_of first.old.view) }
-    requires others { 0 < length (counts_of second.old.view) }
+    requires first { seats.old.0 ≡ new_leaf row.now.id row.now.world (worker_of seats.old.0.view) }
+    requires second { seats.old.1 ≡ new_leaf row.now.id row.now.world (worker_of seats.old.1.view) }
 {
-    enters(row, first, 0)
-        && enters(row, second, 1)
-        && both_hold(row, book)
-        && both_put(row, book, first, second)
+    let (first, second) = seats;
+    if !enters(row, first, 0) || !enters(row, second, 1) {
+        return false;
+    }
+    let (word, closed) = remove(row, book);
+    word == 2 && !closed && both_put(row, book, first, second)
 }
 
-/// What comes of it with the last two seats; None where there are fewer.
-fn last_enter(row: &Row, book: &mut BookSeat, mut leaves: Vec<LeafSeat>) -> Option<bool>
+/// The load of the first module and what comes of it with the last two seats; None where there are fewer.
+fn are_right(row: &Row, book: &mut BookSeat, leaves: Vec<LeafSeat>) -> Option<bool>
     requires inside { 0 < slots row.now.world }
-    requires book { IsOf row.now book.old }
-    requires may { MayLeave book.old.view 0 }
-    requires wide { 0 < length (book_of book.old.view).states }
+    requires free { module_at row.now.world.catalogue 0 ≡ no_module }
+    requires new { book.old ≡ new_book row.now.id row.now.world }
     requires leaves { All (λ s. s ≡ new_leaf row.now.id row.now.world (worker_of s.view)) leaves.items }
 {
-    let mut second = take_leaf(row, &mut leaves)?;
-    let mut first = take_leaf(row, &mut leaves)?;
-    Some(both_enter(row, book, &mut first, &mut second))
+    let mut seats = two_seats(row, leaves)?;
+    Some(load(row, book) == (CLOSED, CLOSED) && both_enter(row, book, &mut seats))
 }
 
 #[test]
 fn looks_answer_the_word(rt: HostRuntime) -> Result<(), Fail> {
     let (row, leaves, mut book, _) = new_row(rt.alloc())?;
-    let (begun, ended) = load(&row, &mut book);
-    assert!(rt; begun == CLOSED && ended == CLOSED);
-    assert!(rt; last_enter(&row, &mut book, leaves) == Some(true));
+    assert!(rt; are_right(&row, &mut book, leaves) == Some(true));
     Ok(())
 }

@@ -1,7 +1,8 @@
 //! Two threads make one call at once on one manager. A call of which the answer is lost, or that is made twice, shows.
 
 use super::{new_manager, reply_to};
-use crate::sound::SND;
+use crate::sound::{SND, SOUND};
+use Reply::{Done, Exists, NotHeld, NotLive, NotLoading, NotUnloading};
 use dep_index::{Call, Reply};
 use module_table::Manager;
 use std::sync::Wait;
@@ -11,14 +12,32 @@ use std::thread::Threads;
 
 const ROUNDS: usize = 100;
 
-/// Calls of which one thread's is done, and the other's is refused like this.
-static ONCE: [(Call, Reply); 6] = [
-    (Call::BeginLoad(SND), Reply::Exists),
-    (Call::EndLoad(SND, false), Reply::NotLoading),
-    (Call::BeginLoad(SND), Reply::Exists),
-    (Call::EndLoad(SND, true), Reply::NotLoading),
-    (Call::BeginRemove(SND), Reply::NotLive),
-    (Call::EndRemove(SND), Reply::NotUnloading),
+/// A call that two threads make at once, and what the one and the other are answered.
+type Pair = (Call, Reply, Reply);
+
+/// Each of the calls is done once.
+static ONCE: [Pair; 6] = [
+    (Call::BeginLoad(SND), Done, Exists),
+    (Call::EndLoad(SND, false), Done, NotLoading),
+    (Call::BeginLoad(SND), Done, Exists),
+    (Call::EndLoad(SND, true), Done, NotLoading),
+    (Call::BeginRemove(SND), Done, NotLive),
+    (Call::EndRemove(SND), Done, NotUnloading),
+];
+
+/// A module is loaded, and two threads share the leaf of one worker: both take a reference.
+static TAKEN: [Pair; 3] = [
+    (Call::BeginLoad(SND), Done, Exists),
+    (Call::EndLoad(SND, true), Done, NotLoading),
+    (Call::Get(1, SND), Done, Done),
+];
+
+/// Both give it back, and have no further one. Then the module drains.
+static GIVEN: [Pair; 4] = [
+    (Call::Put(1, SND), Done, Done),
+    (Call::Put(1, SND), NotHeld, NotHeld),
+    (Call::BeginDrain(SND), Done, NotLive),
+    (Call::EndRemove(SND), Done, NotUnloading),
 ];
 
 /// What two threads are answered that make this call at once.
@@ -34,50 +53,29 @@ fn both<R: Threads + Wait + Sync>(
     )
 }
 
-/// One thread's call is done, and the other's refused like this.
-fn one_is_done(answers: (Option<Reply>, Option<Reply>), refusal: Reply) -> bool {
-    answers == (Some(Reply::Done), Some(refusal)) || answers == (Some(refusal), Some(Reply::Done))
-}
-
-/// Each of the calls is done once.
-fn each_once<R: Threads + Wait + Sync>(rt: &R, manager: &Manager) -> bool {
-    for (call, refusal) in ONCE {
-        if !one_is_done(both(rt, manager, call), refusal) {
+/// Each of the calls has these answers, in whichever order.
+fn are_answered<R: Threads + Wait + Sync>(rt: &R, manager: &Manager, pairs: &[Pair]) -> bool {
+    for (call, one, other) in pairs {
+        let answers = both(rt, manager, *call);
+        if answers != (Some(*one), Some(*other)) && answers != (Some(*other), Some(*one)) {
             return false;
         }
     }
-    manager.loaded(rt) == 0
+    true
 }
 
-fn both_are_done<R: Threads + Wait + Sync>(rt: &R, manager: &Manager, call: Call) -> bool {
-    both(rt, manager, call) == (Some(Reply::Done), Some(Reply::Done))
-}
-
-fn is_done<R: Wait>(rt: &R, manager: &Manager, call: Call) -> bool {
-    reply_to(rt, manager, call) == Some(Reply::Done)
-}
-
-/// Two threads share the leaf of one worker: both take a reference, and both give it back.
-fn two_on_one_leaf<R: Threads + Wait + Sync>(rt: &R, manager: &Manager) -> bool {
-    both_are_done(rt, manager, Call::Get(1, SND))
+fn is_right<R: Threads + Wait + Sync>(rt: &R, manager: &Manager) -> bool {
+    are_answered(rt, manager, &ONCE)
+        && manager.loaded(rt) == 0
+        && are_answered(rt, manager, &TAKEN)
         && manager.held(rt, 1, SND) == Some(2)
         && manager.held(rt, 0, SND) == Some(0)
-        && both_are_done(rt, manager, Call::Put(1, SND))
-        && reply_to(rt, manager, Call::Put(1, SND)) == Some(Reply::NotHeld)
-}
-
-/// A module is loaded, two threads share a leaf, and it drains.
-fn shared<R: Threads + Wait + Sync>(rt: &R, manager: &Manager) -> bool {
-    is_done(rt, manager, Call::BeginLoad(SND))
-        && is_done(rt, manager, Call::EndLoad(SND, true))
-        && two_on_one_leaf(rt, manager)
-        && one_is_done(both(rt, manager, Call::BeginDrain(SND)), Reply::NotLive)
-        && one_is_done(both(rt, manager, Call::EndRemove(SND)), Reply::NotUnloading)
+        && are_answered(rt, manager, &GIVEN)
 }
 
 fn no_answer_is_lost<R: Threads + Wait + Sync>(rt: &R, manager: &Manager) -> bool {
     for _ in 0..ROUNDS {
-        if !each_once(rt, manager) || !shared(rt, manager) {
+        if !is_right(rt, manager) {
             return false;
         }
     }
@@ -86,7 +84,7 @@ fn no_answer_is_lost<R: Threads + Wait + Sync>(rt: &R, manager: &Manager) -> boo
 
 #[test]
 fn two_threads_make_one_call(rt: HostRuntime) -> Result<(), Fail> {
-    let (manager, _reader) = new_manager(rt.alloc())?;
+    let (manager, _reader) = new_manager(rt.alloc(), SOUND)?;
     assert!(rt; no_answer_is_lost(&rt, &manager));
     Ok(())
 }

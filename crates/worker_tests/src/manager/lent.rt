@@ -7,7 +7,7 @@ ghost use Rattle.root_row.specs.World.{slots};
 ghost use Rattle.root_row.specs.Seats.{IsOf};
 
 use crate::leaves::steps::two_leaves;
-use crate::leaves::threads::take_and_give;
+use crate::leaves::threads::{meet_with_none, take_and_give_at_once};
 use crate::sound::sound;
 use dep_index::{Catalogue, ModuleState};
 use module_table::Book;
@@ -15,20 +15,11 @@ use root_row::{BookSeat, LeafSeat, Row};
 use std::sync::Wait;
 use std::test::Fail;
 use std::thread::{Threads, join_mut};
-use use_indicator::{Leaf, meet};
+use use_indicator::Leaf;
 
 const TURNS: u32 = 10_000;
 
-/// Whether all that was taken was given back.
-fn gives_back<R: Wait>(rt: &R, row: &Row, leaf: &mut Leaf) -> bool
-    requires inside { 0 < slots row.now.world }
-    requires own { IsOf row.now leaf.old }
-    ensures { IsOf row.now leaf.new }
-{
-    let (taken, given) = take_and_give(rt, row, leaf, TURNS);
-    taken == given
-}
-
+/// Loads the first module and drains it over and over; whether there is at most that one at the end.
 fn load_and_drain(row: &Row, book: &mut Book) -> bool
     requires inside { 0 < slots row.now.world }
     requires own { IsOf row.now book.old }
@@ -41,26 +32,6 @@ fn load_and_drain(row: &Row, book: &mut Book) -> bool
         let _ = book.end_remove(row, 0);
     }
     book.loaded() <= 1
-}
-
-fn leaves_at_once<R: Threads + Wait + Sync>(
-    rt: &R,
-    row: &Row,
-    one: &mut Leaf,
-    other: &mut Leaf,
-) -> bool
-    requires inside { 0 < slots row.now.world }
-    requires one { IsOf row.now one.old }
-    requires other { IsOf row.now other.old }
-    ensures one { IsOf row.now one.new }
-    ensures other { IsOf row.now other.new }
-{
-    let (mine, theirs) = join_mut(
-        rt,
-        &mut || gives_back(rt, row, one),
-        &mut || gives_back(rt, row, other),
-    );
-    mine && theirs
 }
 
 /// Both leaves and the book at once; whether each was left as it ought to be.
@@ -79,44 +50,33 @@ fn all_at_once<R: Threads + Wait + Sync>(
     ensures one { IsOf row.now one.new }
     ensures other { IsOf row.now other.new }
 {
-    let (given, drained) = join_mut(
+    let ((mine, theirs), drained) = join_mut(
         rt,
         &mut ||
             requires inside { 0 < slots row.now.world }
             requires one { IsOf row.now one.now }
             requires other { IsOf row.now other.now }
-        { leaves_at_once(rt, row, one, other) },
+        { take_and_give_at_once(rt, row, TURNS, one, other) },
         &mut || load_and_drain(row, book),
     );
-    given && drained
-}
-
-/// Ends the drain that is left, where there is one.
-fn end(row: &Row, book: &mut Book) -> ModuleState
-    requires inside { 0 < slots row.now.world }
-    requires own { IsOf row.now book.old }
-    ensures { IsOf row.now book.new }
-{
-    let _ = book.end_remove(row, 0);
-    book.state(0)
+    mine.0 == mine.1 && theirs.0 == theirs.1 && drained
 }
 
 /// All work at once, and leave nothing behind.
 fn all_end_well<R: Threads + Wait + Sync>(
     rt: &R,
     row: &Row,
-    mut book: Book,
-    mut one: Leaf,
-    mut other: Leaf,
+    book: &mut Book,
+    leaves: (Leaf, Leaf),
 ) -> bool
     requires inside { 0 < slots row.now.world }
-    requires book { IsOf row.now book }
-    requires one { IsOf row.now one }
-    requires other { IsOf row.now other }
+    requires book { IsOf row.now book.old }
+    requires leaves { IsOf row.now leaves.0 × IsOf row.now leaves.1 }
 {
-    let done = all_at_once(rt, row, &mut book, &mut one, &mut other);
-    let (one, other) = meet(one, other, row);
-    done && one.held(0) == 0 && other.held(0) == 0 && end(row, &mut book) == ModuleState::Absent
+    let (mut one, mut other) = leaves;
+    let done = all_at_once(rt, row, book, &mut one, &mut other);
+    let _ = book.end_remove(row, 0);
+    meet_with_none(row, one, other) && done && book.state(0) == ModuleState::Absent
 }
 
 /// What the book and the leaves of these seats do at once.
@@ -132,9 +92,9 @@ fn on_seats<R: AllocGlobal + Threads + Wait + Sync>(
     requires new { seat ≡ new_book row.now.id row.now.world }
     requires leaves { All (λ s. s ≡ new_leaf row.now.id row.now.world (worker_of s.view)) seats.items }
 {
-    let book = Book::new(rt.alloc(), seat, catalogue)?;
-    let (one, other) = two_leaves(rt.alloc(), row, seats)?;
-    Ok(all_end_well(rt, row, book, one, other))
+    let leaves = two_leaves(rt.alloc(), row, seats)?;
+    let mut book = Book::new(rt.alloc(), seat, catalogue)?;
+    Ok(all_end_well(rt, row, &mut book, leaves))
 }
 
 #[test]

@@ -3,7 +3,8 @@ ghost use Rattle.std.specs.Prelude.{◌<◌};
 ghost use Rattle.root_row.specs.World.{slots};
 ghost use Rattle.root_row.specs.Seats.{IsOf};
 
-use super::{On, loads, new_manager, reply_to};
+use super::{LOADED, On, are_right, new_manager, reply_to};
+use crate::sound::SOUND;
 use dep_index::{Call, Reply};
 use module_table::Manager;
 use std::sync::Wait;
@@ -35,32 +36,41 @@ fn ask(manager: &Manager, reader: &mut Reader) -> bool
     true
 }
 
-/// What the loader does: it loads both modules, and removes or drains where nothing refuses.
+fn load<R: Wait>(rt: &R, manager: &Manager, slot: usize) {
+    let _ = manager.begin_load(rt, slot);
+    let _ = manager.end_load(rt, slot, true);
+}
+
+/// Removes or drains a module where nothing refuses.
+fn remove<R: Wait>(rt: &R, manager: &Manager, slot: usize, drains: bool) {
+    let _ = if drains {
+        manager.begin_drain(rt, slot).is_some()
+    } else {
+        manager.begin_remove(rt, slot).is_some()
+    };
+    let _ = manager.end_remove(rt, slot);
+}
+
+/// What the loader does: it loads both modules, and removes or drains them.
 fn load_and_remove<R: Wait>(rt: &R, manager: &Manager) -> bool {
     for turn in 0..TURNS {
-        for slot in 0..2 {
-            let _ = manager.begin_load(rt, slot);
-            let _ = manager.end_load(rt, slot, true);
-        }
-        for slot in [1, 0] {
-            let _ = if turn % 2 == 0 {
-                manager.begin_drain(rt, slot).is_some()
-            } else {
-                manager.begin_remove(rt, slot).is_some()
-            };
-            let _ = manager.end_remove(rt, slot);
-        }
+        load(rt, manager, 0);
+        load(rt, manager, 1);
+        remove(rt, manager, 1, turn % 2 == 0);
+        remove(rt, manager, 0, turn % 2 == 0);
     }
     manager.loaded(rt) <= 2
 }
 
-/// Whatever is left of the loads when all workers have ended.
-fn remove_all<R: Wait>(rt: &R, manager: &Manager) {
-    for slot in [1, 0] {
-        let _ = manager.end_remove(rt, slot);
-        let _ = manager.begin_remove(rt, slot);
-        let _ = manager.end_remove(rt, slot);
-    }
+/// Two workers on threads of a scope, as the README shows them.
+fn on_scoped_threads<R: Threads + Wait + Sync>(rt: &R, manager: &Manager) {
+    thread::scope(thread::scope_env(), rt, |scope| {
+        for worker in 0..manager.workers() {
+            if scope.spawn(move || work(rt, manager, worker)).is_err() {
+                work(rt, manager, worker);
+            }
+        }
+    });
 }
 
 fn change<R: Threads + Wait + Sync>(rt: &R, manager: &Manager) {
@@ -83,16 +93,23 @@ fn change_and_ask<R: Threads + Wait + Sync>(rt: &R, manager: &Manager, reader: &
     );
 }
 
+/// Ends a removal or a drain that is left, or else removes the module.
+fn end<R: Wait>(rt: &R, manager: &Manager, slot: usize) {
+    let _ = manager.end_remove(rt, slot);
+    remove(rt, manager, slot, false);
+}
+
 /// When all have ended nothing is held, and what is left is removed.
 fn leave_nothing<R: Wait>(rt: &R, manager: &Manager) -> bool {
     let first = manager.held(rt, 0, 0);
     let last = manager.held(rt, 1, 1);
-    remove_all(rt, manager);
+    end(rt, manager, 1);
+    end(rt, manager, 0);
     first == Some(0) && last == Some(0) && manager.loaded(rt) == 0
 }
 
 /// All at once, over two modules; and nothing is left.
-fn use_it_at_once<R: Threads + Wait + Sync>(rt: &R, manager: &Manager, reader: &mut Reader) -> bool
+fn is_used_at_once<R: Threads + Wait + Sync>(rt: &R, manager: &Manager, reader: &mut Reader) -> bool
     requires { IsOf manager.now reader.old }
 {
     if manager.slots() != 2 {
@@ -104,27 +121,23 @@ fn use_it_at_once<R: Threads + Wait + Sync>(rt: &R, manager: &Manager, reader: &
 
 #[test]
 fn threads_use_one_manager(rt: HostRuntime) -> Result<(), Fail> {
-    let (manager, mut reader) = new_manager(rt.alloc())?;
-    assert!(rt; use_it_at_once(&rt, &manager, &mut reader));
+    let (manager, mut reader) = new_manager(rt.alloc(), SOUND)?;
+    assert!(rt; is_used_at_once(&rt, &manager, &mut reader));
     Ok(())
 }
 
-/// Two workers on threads of a scope, as the README shows them.
-fn on_scoped_threads<R: Threads + Wait + Sync>(rt: &R, manager: &Manager) {
-    thread::scope(thread::scope_env(), rt, |scope| {
-        for worker in 0..manager.workers() {
-            if scope.spawn(move || work(rt, manager, worker)).is_err() {
-                work(rt, manager, worker);
-            }
-        }
-    });
+/// A module is used by workers, and nobody holds it when they have ended.
+fn is_used_by_workers<R: Threads + Wait + Sync>(rt: &R, manager: &Manager) -> bool {
+    if !are_right(rt, manager, &On::Manager, &LOADED) {
+        return false;
+    }
+    on_scoped_threads(rt, manager);
+    reply_to(rt, manager, Call::BeginRemove(0)) == Some(Reply::Done)
 }
 
 #[test]
 fn workers_on_scoped_threads(rt: HostRuntime) -> Result<(), Fail> {
-    let (manager, _reader) = new_manager(rt.alloc())?;
-    assert!(rt; loads(&rt, &manager, On::Manager));
-    on_scoped_threads(&rt, &manager);
-    assert!(rt; reply_to(&rt, &manager, Call::BeginRemove(0)) == Some(Reply::Done));
+    let (manager, _reader) = new_manager(rt.alloc(), SOUND)?;
+    assert!(rt; is_used_by_workers(&rt, &manager));
     Ok(())
 }

@@ -7,7 +7,7 @@ use Reply::{Done, NeedNotLive, NotLive};
 use dep_index::{Call, Reply};
 
 /// A load that fails leaves the module absent and its word closed.
-pub(super) const FAILED: Schedule = Schedule {
+pub(super) static FAILED: Schedule = Schedule {
     name: "stays_closed_after_a_failed_load",
     threads: 1,
     plays: &[
@@ -29,7 +29,7 @@ pub(super) const FAILED: Schedule = Schedule {
 };
 
 /// The load waits, at step 14, until the removal of its need is written.
-pub(super) const NEED_LEAVES: Schedule = Schedule {
+pub(super) static NEED_LEAVES: Schedule = Schedule {
     name: "refuses_a_load_whose_need_is_leaving",
     threads: 2,
     plays: &[

@@ -1,6 +1,7 @@
 //! What the checker says of points that others hand in.
 
 use crate::plays::{LEAVING, SERVED};
+use crate::rows::none_is_wrong;
 use crate::schedule::{Schedule, steps_of};
 use crate::sound::sound;
 use Reply::{Done, InUse, No, NotLive, NotUnloading, Yes};
@@ -16,41 +17,107 @@ type Mark = (usize, usize, Reply);
 static LOADED: [Mark; 2] = [(0, 2, Done), (1, 7, Done)];
 
 /// The query's point may be anywhere in its interval, with the reply of the replay there.
-static QUERIES: [(usize, Reply, bool); 6] = [
-    (17, Yes, true),
-    (16, Yes, true),
-    (18, Yes, true),
-    (15, Yes, false),
-    (19, Yes, false),
-    (17, No, false),
+static QUERIES: [(&[Mark], bool); 6] = [
+    (
+        &[
+            (2, 13, Done),
+            (3, 17, Yes),
+            (4, 21, InUse),
+            (5, 25, Done),
+            (6, 30, Done),
+        ],
+        true,
+    ),
+    (
+        &[
+            (2, 13, Done),
+            (3, 16, Yes),
+            (4, 21, InUse),
+            (5, 25, Done),
+            (6, 30, Done),
+        ],
+        true,
+    ),
+    (
+        &[
+            (2, 13, Done),
+            (3, 18, Yes),
+            (4, 21, InUse),
+            (5, 25, Done),
+            (6, 30, Done),
+        ],
+        true,
+    ),
+    (
+        &[
+            (2, 13, Done),
+            (3, 15, Yes),
+            (4, 21, InUse),
+            (5, 25, Done),
+            (6, 30, Done),
+        ],
+        false,
+    ),
+    (
+        &[
+            (2, 13, Done),
+            (3, 19, Yes),
+            (4, 21, InUse),
+            (5, 25, Done),
+            (6, 30, Done),
+        ],
+        false,
+    ),
+    (
+        &[
+            (2, 13, Done),
+            (3, 17, No),
+            (4, 21, InUse),
+            (5, 25, Done),
+            (6, 30, Done),
+        ],
+        false,
+    ),
 ];
 
 /// A list without a point, one with two exchanged, one with two of a call, and one with a point of no call.
-static LISTS: [&[Mark]; 4] = [
-    &[(2, 13, Done), (3, 17, Yes), (4, 21, InUse), (6, 30, Done)],
-    &[
-        (2, 13, Done),
-        (3, 17, Yes),
-        (5, 25, Done),
-        (4, 21, InUse),
-        (6, 30, Done),
-    ],
-    &[
-        (2, 13, Done),
-        (3, 16, Yes),
-        (3, 17, Yes),
-        (4, 21, InUse),
-        (5, 25, Done),
-        (6, 30, Done),
-    ],
-    &[
-        (2, 13, Done),
-        (3, 17, Yes),
-        (4, 21, InUse),
-        (5, 25, Done),
-        (6, 30, Done),
-        (7, 31, Yes),
-    ],
+static LISTS: [(&[Mark], bool); 4] = [
+    (
+        &[(2, 13, Done), (3, 17, Yes), (4, 21, InUse), (6, 30, Done)],
+        false,
+    ),
+    (
+        &[
+            (2, 13, Done),
+            (3, 17, Yes),
+            (5, 25, Done),
+            (4, 21, InUse),
+            (6, 30, Done),
+        ],
+        false,
+    ),
+    (
+        &[
+            (2, 13, Done),
+            (3, 16, Yes),
+            (3, 17, Yes),
+            (4, 21, InUse),
+            (5, 25, Done),
+            (6, 30, Done),
+        ],
+        false,
+    ),
+    (
+        &[
+            (2, 13, Done),
+            (3, 17, Yes),
+            (4, 21, InUse),
+            (5, 25, Done),
+            (6, 30, Done),
+            (7, 31, Yes),
+        ],
+        false,
+    ),
 ];
 
 /// The point of an open call is judged by the replay alone. Calls 2 and 4 are open; the steps are 0 to 22.
@@ -91,36 +158,35 @@ fn said(
     Ok(check_points(alloc, catalogue, 2, 2, &steps, &points)?)
 }
 
+/// The first row of which the checker says otherwise.
+fn wrong_row(
+    alloc: Global,
+    schedule: &Schedule,
+    rows: &[(&[Mark], bool)],
+) -> Result<Option<usize>, Fail> {
+    let catalogue = sound(alloc)?;
+    for (row, (marks, wanted)) in rows.iter().enumerate() {
+        if said(alloc, &catalogue, schedule, marks)? != *wanted {
+            return Ok(Some(row));
+        }
+    }
+    Ok(None)
+}
+
 #[test]
 fn judges_each_point_by_its_interval(rt: HostRuntime) -> Result<(), Fail> {
-    let catalogue = sound(rt.alloc())?;
-    for (index, reply, wanted) in &QUERIES {
-        let marks = [
-            (2, 13, Done),
-            (3, *index, *reply),
-            (4, 21, InUse),
-            (5, 25, Done),
-            (6, 30, Done),
-        ];
-        assert_eq!(rt; said(rt.alloc(), &catalogue, &SERVED, &marks)?, *wanted);
-    }
+    none_is_wrong(&rt, wrong_row(rt.alloc(), &SERVED, &QUERIES)?);
     Ok(())
 }
 
 #[test]
 fn judges_the_list_as_a_whole(rt: HostRuntime) -> Result<(), Fail> {
-    let catalogue = sound(rt.alloc())?;
-    for marks in &LISTS {
-        assert!(rt; !said(rt.alloc(), &catalogue, &SERVED, marks)?);
-    }
+    none_is_wrong(&rt, wrong_row(rt.alloc(), &SERVED, &LISTS)?);
     Ok(())
 }
 
 #[test]
 fn judges_open_calls_by_the_replay(rt: HostRuntime) -> Result<(), Fail> {
-    let catalogue = sound(rt.alloc())?;
-    for (marks, wanted) in &OPEN {
-        assert_eq!(rt; said(rt.alloc(), &catalogue, &LEAVING, marks)?, *wanted);
-    }
+    none_is_wrong(&rt, wrong_row(rt.alloc(), &LEAVING, &OPEN)?);
     Ok(())
 }
