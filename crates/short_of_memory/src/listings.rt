@@ -2,21 +2,15 @@
 ghost use Rattle.std.specs.Prelude.{◌≡◌, IfOk};
 ghost use Rattle.dep_index.specs.Catalogue.{modules_of};
 
-use crate::outcome::{Stop, needed, stop_at, tell, tell_text};
+use crate::outcome::{Stop, needed, stop_at};
 use crate::sound::sound;
 use dep_index::Catalogue;
 use proc_modules::{
     Line, LineError, LineState, Names, lsmod_text, modinfo_text, proc_text, read_line, write_line,
 };
 use seq_table::{Modules, Table};
-use std::alloc::Global;
+use std::alloc::{AllocError, Global};
 use text_parts::Name;
-
-impl From<LineError> for Stop {
-    fn from(fault: LineError) -> Stop {
-        stop_at(fault == LineError::Memory)
-    }
-}
 
 const LINE: &[u8] = b"snd 114688 1 snd_pcm, Live 0x0000000000000000\n";
 
@@ -35,25 +29,35 @@ depends:        snd
 parm:           debug:bool
 ";
 
-fn is_sound((line, used): &(Line, usize)) -> bool {
-    *used == 46
-        && line.name.as_bytes() == b"snd".as_slice()
+fn is_sound(line: &Line) -> bool {
+    line.name.as_bytes() == b"snd".as_slice()
         && line.size == 114_688
         && line.count == 1
         && line.users.as_slice().len() == 1
         && line.state == LineState::Live
 }
 
-fn write_sound(alloc: Global) -> Result<Vec<u8>, Stop> {
-    let (line, _) = needed(read_line(alloc, LINE))?;
-    Ok(write_line(alloc, &line)?)
+fn is_line(made: Result<(Line, usize), LineError>) -> Result<bool, Stop> {
+    match made {
+        Ok((line, used)) => Ok(used == 46 && is_sound(&line)),
+        Err(fault) => Err(stop_at(fault == LineError::Memory)),
+    }
 }
 
-fn push_name(alloc: Global) -> Result<Names, Stop> {
+fn is_text(made: Result<Vec<u8>, AllocError>, wanted: &[u8]) -> Result<bool, Stop> {
+    Ok(made?.as_slice() == wanted)
+}
+
+fn writes_line(alloc: Global) -> Result<bool, Stop> {
+    let (line, _) = needed(read_line(alloc, LINE))?;
+    is_text(write_line(alloc, &line), LINE)
+}
+
+fn pushes_name(alloc: Global) -> Result<bool, Stop> {
     let name = needed(Name::new(alloc, b"snd"))?;
     let mut names = Names::new(alloc);
     names.push(name)?;
-    Ok(names)
+    Ok(names.as_slice().len() == 1)
 }
 
 /// A table in which every module is live.
@@ -70,36 +74,50 @@ fn loaded(alloc: Global, catalogue: &Catalogue) -> Result<Table, Stop>
     Ok(table)
 }
 
-fn listing_of(alloc: Global, in_columns: bool) -> Result<Vec<u8>, Stop> {
-    let catalogue = sound(alloc)?;
-    let table = loaded(alloc, &catalogue)?;
-    let text = if in_columns {
-        lsmod_text(alloc, &catalogue, &table)
-    } else {
-        proc_text(alloc, &catalogue, &table)
-    };
-    Ok(text?)
+/// A call on an example.
+pub(crate) enum Example {
+    ReadLine,
+    WriteLine,
+    PushName,
+    ProcText,
+    LsmodText,
+    ModinfoText,
 }
 
-fn details_of(alloc: Global) -> Result<Vec<u8>, Stop> {
-    let catalogue = sound(alloc)?;
+/// Whether the call's answer is the example's.
+pub(crate) fn is_right(alloc: Global, example: &Example) -> Result<bool, Stop> {
+    match example {
+        Example::ReadLine => is_line(read_line(alloc, LINE)),
+        Example::WriteLine => writes_line(alloc),
+        Example::PushName => pushes_name(alloc),
+        _ => is_right_over(alloc, example, &sound(alloc)?),
+    }
+}
+
+fn is_right_over(alloc: Global, example: &Example, catalogue: &Catalogue) -> Result<bool, Stop> {
+    match example {
+        Example::ModinfoText => tells_details(alloc, catalogue),
+        _ => lists(alloc, catalogue, &loaded(alloc, catalogue)?, example),
+    }
+}
+
+fn tells_details(alloc: Global, catalogue: &Catalogue) -> Result<bool, Stop> {
     if catalogue.len() != 2 {
         return Err(Stop::Wrong);
     }
-    Ok(modinfo_text(alloc, &catalogue, 1)?)
+    is_text(modinfo_text(alloc, catalogue, 1), DETAILS)
 }
 
-pub(crate) fn try_calls<R: Print + AllocGlobal>(rt: &R) -> anyhow::Result<()> {
-    let alloc = rt.alloc();
-    tell(rt, "read_line", read_line(alloc, LINE), is_sound)?;
-    tell_text(rt, "write_line", write_sound(alloc), LINE)?;
-    tell(
-        rt,
-        "Names::push",
-        push_name(alloc),
-        |it| it.as_slice().len() == 1,
-    )?;
-    tell_text(rt, "proc_text", listing_of(alloc, false), LISTING)?;
-    tell_text(rt, "lsmod_text", listing_of(alloc, true), COLUMNS)?;
-    tell_text(rt, "modinfo_text", details_of(alloc), DETAILS)
+fn lists(
+    alloc: Global,
+    catalogue: &Catalogue,
+    table: &Table,
+    example: &Example,
+) -> Result<bool, Stop>
+    requires { table.now.catalogue ≡ modules_of catalogue.now }
+{
+    match example {
+        Example::LsmodText => is_text(lsmod_text(alloc, catalogue, table), COLUMNS),
+        _ => is_text(proc_text(alloc, catalogue, table), LISTING),
+    }
 }

@@ -6,7 +6,7 @@ use std::alloc::AllocError;
 use text_parts::Name;
 
 /// Why a call did not answer what its example says.
-#[derive(Clone, Copy, Debug, PartialEq, Eq, Drop)]
+#[derive(Drop)]
 pub(crate) enum Stop {
     /// There was no memory for what the call needs, so it was not made.
     NotMade,
@@ -41,59 +41,30 @@ pub(crate) fn needed<T, E: Drop>(made: Result<T, E>) -> Result<T, Stop>
     }
 }
 
-/// The answer of a call over what it needs.
-pub(crate) fn over<N: Drop, T, E: Into<Stop>, F: FnOnce(&N) -> Result<T, E>>(
-    needed: Result<N, Stop>,
-    call: F,
-) -> Result<T, Stop>
-    requires { F.IsAlwaysCallable call }
-{
-    call(&needed?).map_err(|error| error.into())
-}
-
 /// Whether these are the names, in order.
 pub(crate) fn are_names(names: &[Name], wanted: &[&[u8]]) -> bool {
-    names.len() == wanted.len()
-        && names
-            .iter()
-            .zip(wanted)
-            .all(|(name, own)| name.as_bytes() == *own)
+    let mut wanted = wanted.iter();
+    for name in names {
+        match wanted.next() {
+            Some(own) if name.as_bytes() == *own => {}
+            _ => return false,
+        }
+    }
+    wanted.next().is_none()
 }
 
-/// Prints what came of the call, and judges its answer.
-pub(crate) fn tell<R: Print, T: Drop, E: Into<Stop>, F: Fn(&T) -> bool>(
+/// Prints what came of the call, of which it is told whether its answer is right.
+pub(crate) fn tell<R: Print>(
     rt: &R,
     call: &str,
-    answer: Result<T, E>,
-    is_right: F,
-) -> anyhow::Result<()>
-    requires { F.IsAlwaysCallable is_right }
-{
-    let outcome = match answer.map_err(|error| error.into()) {
-        Ok(answer) if is_right(&answer) => "ok",
+    is_right: Result<bool, Stop>,
+) -> anyhow::Result<()> {
+    let outcome = match is_right {
+        Ok(true) => "ok",
         Err(Stop::NoMemory) => "no memory",
         Err(Stop::NotMade) => "not made",
         _ => bail!("{call}: another answer"),
     };
     println!(rt; "{call}: {outcome}")?;
     Ok(())
-}
-
-/// The same of a call whose answer is already judged.
-pub(crate) fn tell_judged<R: Print>(
-    rt: &R,
-    call: &str,
-    is_right: Result<bool, Stop>,
-) -> anyhow::Result<()> {
-    tell(rt, call, is_right, |it| *it)
-}
-
-/// The same of a call that writes this text.
-pub(crate) fn tell_text<R: Print>(
-    rt: &R,
-    call: &str,
-    text: Result<Vec<u8>, Stop>,
-    wanted: &[u8],
-) -> anyhow::Result<()> {
-    tell(rt, call, text, |it| it.as_slice() == wanted)
 }

@@ -1,25 +1,14 @@
 //! Look-ups of names, plans and removal plans, and their refusals.
 
-use crate::outcome::{Stop, are_names, needed, stop_at, tell_judged};
+use crate::outcome::{Stop, are_names, needed, stop_at};
 use crate::settings::CONFIGURATION;
 use crate::sound::SOUND;
 use alias_match::read_aliases;
-use dep_index::{read_catalogue, read_dep};
+use dep_index::{Catalogue, DepIndex, read_catalogue, read_dep};
 use load_plan::{FindError, Item, PlanError, Sources, find, plan, removal_plan};
 use modprobe_conf::read_conf;
 use std::alloc::Global;
-
-impl From<FindError> for Stop {
-    fn from(fault: FindError) -> Stop {
-        stop_at(fault == FindError::Memory)
-    }
-}
-
-impl From<PlanError> for Stop {
-    fn from(fault: PlanError) -> Stop {
-        stop_at(matches!(&fault, PlanError::Memory))
-    }
-}
+use text_parts::Name;
 
 /// The texts that a plan is made from, here as below: a catalogue, modules.dep and a configuration.
 const ALIASED: [&[u8]; 3] = [b"module usbx\n", b"", b""];
@@ -74,113 +63,149 @@ enum Asked {
     Plan(&'static [PlanItem]),
     /// The removal plan.
     Order(&'static [usize]),
-    /// The plan. It is refused for what the call's name ends in, at the module of this name.
-    NoPlan(&'static [u8]),
+    /// The plan. It is refused for this cause, at the module of this name.
+    NoPlan(&'static str, &'static [u8]),
     /// The removal plan. It is refused likewise.
-    NoOrder(&'static [u8]),
+    NoOrder(&'static str, &'static [u8]),
 }
 
-/// The calls, each with its texts, its module and what is asked of that.
-const CALLS: [(&str, [&[u8]; 3], &[u8], Asked); 9] = [
-    ("find", ALIASED, b"usb:v0pp12", Asked::Found(&[b"usbx"])),
-    ("plan", SOFT, b"c", Asked::Plan(&SOFT_ITEMS)),
-    ("plan of a cycle", CIRCLE, b"a", Asked::NoPlan(b"a")),
-    (
-        "plan at an install line",
-        INSTALLED,
-        b"x",
-        Asked::NoPlan(b"x"),
-    ),
-    (
-        "plan without a module",
-        UNKNOWN,
-        b"a",
-        Asked::NoPlan(b"no_such"),
-    ),
-    ("removal_plan", PAIR, b"snd-pcm", Asked::Order(&[1, 0])),
-    (
-        "removal_plan at a remove line",
-        PAIR,
-        b"snd",
-        Asked::NoOrder(b"snd"),
-    ),
-    ("plan of a user", USER, b"b", Asked::Plan(&USER_ITEMS)),
-    ("removal_plan of a user", USER, b"b", Asked::Order(&[1, 0])),
-];
+/// A call on an example: its texts, its module, and what is asked of that.
+pub(crate) struct Example(&'static [&'static [u8]; 3], &'static [u8], Asked);
+
+pub(crate) const FIND: Example = Example(&ALIASED, b"usb:v0pp12", Asked::Found(&[b"usbx"]));
+
+pub(crate) const PLAN: Example = Example(&SOFT, b"c", Asked::Plan(&SOFT_ITEMS));
+
+pub(crate) const PLAN_OF_A_CYCLE: Example = Example(&CIRCLE, b"a", Asked::NoPlan("cycle", b"a"));
+
+pub(crate) const PLAN_AT_AN_INSTALL_LINE: Example = Example(
+    &INSTALLED,
+    b"x",
+    Asked::NoPlan("install", b"x"),
+);
+
+pub(crate) const PLAN_WITHOUT_A_MODULE: Example = Example(
+    &UNKNOWN,
+    b"a",
+    Asked::NoPlan("unknown", b"no_such"),
+);
+
+pub(crate) const REMOVAL_PLAN: Example = Example(&PAIR, b"snd-pcm", Asked::Order(&[1, 0]));
+
+pub(crate) const REMOVAL_PLAN_AT_A_REMOVE_LINE: Example = Example(
+    &PAIR,
+    b"snd",
+    Asked::NoOrder("remove", b"snd"),
+);
+
+pub(crate) const PLAN_OF_A_USER: Example = Example(&USER, b"b", Asked::Plan(&USER_ITEMS));
+
+pub(crate) const REMOVAL_PLAN_OF_A_USER: Example = Example(&USER, b"b", Asked::Order(&[1, 0]));
+
+fn are_found(made: Result<Vec<Name>, FindError>, wanted: &[&[u8]]) -> Result<bool, Stop> {
+    match made {
+        Ok(names) => Ok(are_names(&names, wanted)),
+        Err(fault) => Err(stop_at(fault == FindError::Memory)),
+    }
+}
 
 /// Whether these are the modules of the name.
-fn try_find(alloc: Global, name: &[u8], sources: &Sources, wanted: &[&[u8]]) -> Result<bool, Stop> {
+fn is_found(alloc: Global, name: &[u8], sources: &Sources, wanted: &[&[u8]]) -> Result<bool, Stop> {
     let aliases = needed(read_aliases(alloc, b"alias usb:v[0-9A-F]*p?? usbx\n"))?;
-    let found = find(
-        alloc,
-        name,
-        sources.catalogue,
-        sources.configuration,
-        &aliases,
-    )?;
-    Ok(are_names(&found, wanted))
+    let (catalogue, configuration) = (sources.catalogue, sources.configuration);
+    are_found(
+        find(alloc, name, catalogue, configuration, &aliases),
+        wanted,
+    )
 }
 
 fn are_items(items: &[Item<'_>], wanted: &[PlanItem]) -> bool {
-    items.len() == wanted.len()
-        && items.iter().zip(wanted).all(|(item, (slot, soft, words))| {
-            item.slot == *slot && item.soft == *soft && item.options.words() == *words
-        })
-}
-
-/// Whether there is no plan for what the call's name ends in, at the module of this name.
-fn is_refused(error: Option<PlanError>, call: &str, name: &[u8]) -> Result<bool, Stop> {
-    let Some(error) = error else {
-        return Ok(false);
-    };
-    let (cause, own_name) = match &error {
-        PlanError::Memory => return Err(Stop::NoMemory),
-        PlanError::Cycle(name) => ("of a cycle", name),
-        PlanError::Install(name) => ("at an install line", name),
-        PlanError::Unknown(name) => ("without a module", name),
-        PlanError::Remove(name) => ("at a remove line", name),
-    };
-    Ok(call.ends_with(cause) && own_name.as_bytes() == name)
-}
-
-/// Whether the call answers what it is to.
-fn try_call(
-    alloc: Global,
-    call: &str,
-    module: &[u8],
-    asked: &Asked,
-    sources: &Sources,
-) -> Result<bool, Stop> {
-    Ok(match asked {
-        Asked::Found(names) => try_find(alloc, module, sources, names)?,
-        Asked::Plan(items) => are_items(&plan(alloc, module, &WORDS, sources)?, items),
-        Asked::Order(order) => removal_plan(alloc, module, sources)?.as_slice() == *order,
-        Asked::NoPlan(name) => is_refused(plan(alloc, module, &[], sources).err(), call, name)?,
-        Asked::NoOrder(name) => is_refused(removal_plan(alloc, module, sources).err(), call, name)?,
-    })
-}
-
-/// Makes what the call needs, and then the call.
-fn over_texts<F: FnOnce(&Sources<'_>) -> Result<bool, Stop>>(
-    alloc: Global,
-    texts: &[&[u8]; 3],
-    call: F,
-) -> Result<bool, Stop>
-    requires { F.IsAlwaysCallable call }
-{
-    let [catalogue, dependencies, configuration] = texts;
-    call(&Sources {
-        catalogue: &needed(read_catalogue(alloc, catalogue))?,
-        dependencies: &needed(read_dep(alloc, dependencies))?,
-        configuration: &needed(read_conf(alloc, configuration))?,
-    })
-}
-
-pub(crate) fn try_calls<R: Print + AllocGlobal>(rt: &R) -> anyhow::Result<()> {
-    let alloc = rt.alloc();
-    for (call, texts, module, asked) in &CALLS {
-        let answer = over_texts(alloc, texts, |it| try_call(alloc, call, module, asked, it));
-        tell_judged(rt, call, answer)?;
+    let mut wanted = wanted.iter();
+    for item in items {
+        let Some((slot, soft, words)) = wanted.next() else {
+            return false;
+        };
+        if item.slot != *slot || item.soft != *soft || item.options.words() != *words {
+            return false;
+        }
     }
-    Ok(())
+    wanted.next().is_none()
+}
+
+fn is_plan(made: Result<Vec<Item>, PlanError>, wanted: &[PlanItem]) -> Result<bool, Stop> {
+    match made {
+        Ok(items) => Ok(are_items(&items, wanted)),
+        Err(error) => Err(stop_at(matches!(&error, PlanError::Memory))),
+    }
+}
+
+fn is_order(made: Result<Vec<usize>, PlanError>, wanted: &[usize]) -> Result<bool, Stop> {
+    match made {
+        Ok(order) => Ok(order.as_slice() == wanted),
+        Err(error) => Err(stop_at(matches!(&error, PlanError::Memory))),
+    }
+}
+
+/// Whether the cause is this, at the module of this name.
+fn is_cause(error: &PlanError, cause: &str, name: &[u8]) -> Result<bool, Stop> {
+    let (own_cause, own_name) = match error {
+        PlanError::Memory => return Err(Stop::NoMemory),
+        PlanError::Cycle(name) => ("cycle", name),
+        PlanError::Install(name) => ("install", name),
+        PlanError::Unknown(name) => ("unknown", name),
+        PlanError::Remove(name) => ("remove", name),
+    };
+    Ok(own_cause == cause && own_name.as_bytes() == name)
+}
+
+/// Whether there is no plan for this cause, at the module of this name.
+fn is_refused(error: Option<PlanError>, cause: &str, name: &[u8]) -> Result<bool, Stop> {
+    match error {
+        Some(error) => is_cause(&error, cause, name),
+        None => Ok(false),
+    }
+}
+
+/// Whether the call's answer is the example's. Each text that the call needs is lent onwards.
+pub(crate) fn is_right(alloc: Global, example: &Example) -> Result<bool, Stop> {
+    is_right_over(
+        alloc,
+        example,
+        &needed(read_catalogue(alloc, example.0[0]))?,
+    )
+}
+
+fn is_right_over(alloc: Global, example: &Example, catalogue: &Catalogue) -> Result<bool, Stop> {
+    let dependencies = needed(read_dep(alloc, example.0[1]))?;
+    is_right_over_both(alloc, example, catalogue, &dependencies)
+}
+
+fn is_right_over_both(
+    alloc: Global,
+    example: &Example,
+    catalogue: &Catalogue,
+    dependencies: &DepIndex,
+) -> Result<bool, Stop> {
+    let configuration = needed(read_conf(alloc, example.0[2]))?;
+    let sources = Sources {
+        catalogue,
+        dependencies,
+        configuration: &configuration,
+    };
+    is_answered(alloc, example, &sources)
+}
+
+fn is_answered(alloc: Global, example: &Example, sources: &Sources) -> Result<bool, Stop> {
+    let Example(_, module, asked) = example;
+    match asked {
+        Asked::Found(names) => is_found(alloc, module, sources, names),
+        Asked::Plan(items) => is_plan(plan(alloc, module, &WORDS, sources), items),
+        Asked::Order(order) => is_order(removal_plan(alloc, module, sources), order),
+        Asked::NoPlan(cause, name) => {
+            is_refused(plan(alloc, module, &[], sources).err(), cause, name)
+        }
+        Asked::NoOrder(cause, name) => {
+            is_refused(removal_plan(alloc, module, sources).err(), cause, name)
+        }
+    }
 }

@@ -1,43 +1,65 @@
 //! The points of a schedule, their checker, and the intervals of its calls.
 
-use crate::outcome::{Stop, over, stop_at, tell, tell_judged};
+use crate::outcome::{Stop, stop_at};
 use crate::sound::sound;
-use dep_index::{Call, Reply};
+use dep_index::{Call, Catalogue, Reply};
 use linear_points::{End, Interval, Point, PointsError, call_intervals, check_points, points};
 use std::alloc::Global;
 use step_core::Step;
 
-impl From<PointsError> for Stop {
-    fn from(fault: PointsError) -> Stop {
-        stop_at(fault == PointsError::Memory)
-    }
-}
-
 const SND: usize = 0;
 
+const GO: Step = Step::Go(0);
+
+const REMOVAL: Step = Step::Go(1);
+
 /// The get has exchanged the word and not written its count: the removal is refused.
-fn steps() -> [Step; 20] {
-    let mut steps = [Step::Go(0); 20];
-    steps[0] = Step::Invoke(0, Call::BeginLoad(SND));
-    steps[5] = Step::Invoke(0, Call::EndLoad(SND, true));
-    steps[10] = Step::Invoke(0, Call::Get(0, SND));
-    steps[14] = Step::Invoke(1, Call::BeginRemove(SND));
-    for removal in &mut steps[15..18] {
-        *removal = Step::Go(1);
-    }
-    steps
-}
+const STEPS: [Step; 20] = [
+    Step::Invoke(0, Call::BeginLoad(SND)),
+    GO,
+    GO,
+    GO,
+    GO,
+    Step::Invoke(0, Call::EndLoad(SND, true)),
+    GO,
+    GO,
+    GO,
+    GO,
+    Step::Invoke(0, Call::Get(0, SND)),
+    GO,
+    GO,
+    GO,
+    Step::Invoke(1, Call::BeginRemove(SND)),
+    REMOVAL,
+    REMOVAL,
+    REMOVAL,
+    GO,
+    GO,
+];
 
 /// The point of each call.
-fn wanted() -> [Point; 4] {
-    let point = |call, index, reply| Point { call, index, reply };
-    [
-        point(0, 2, Reply::Done),
-        point(1, 7, Reply::Done),
-        point(2, 13, Reply::Done),
-        point(3, 16, Reply::InUse),
-    ]
-}
+const POINTS: [Point; 4] = [
+    Point {
+        call: 0,
+        index: 2,
+        reply: Reply::Done,
+    },
+    Point {
+        call: 1,
+        index: 7,
+        reply: Reply::Done,
+    },
+    Point {
+        call: 2,
+        index: 13,
+        reply: Reply::Done,
+    },
+    Point {
+        call: 3,
+        index: 16,
+        reply: Reply::InUse,
+    },
+];
 
 const GET: Interval = Interval {
     call: Call::Get(0, SND),
@@ -48,24 +70,41 @@ const GET: Interval = Interval {
     }),
 };
 
-/// Whether these are points of the schedule.
-fn try_check(alloc: Global, found: &[Point]) -> Result<bool, Stop> {
-    Ok(check_points(alloc, &sound(alloc)?, 2, 2, &steps(), found)?)
+/// A call on an example.
+pub(crate) enum Example {
+    FindPoints,
+    CheckPoints,
+    CheckTooFew,
+    FindIntervals,
 }
 
-pub(crate) fn try_calls<R: Print + AllocGlobal>(rt: &R) -> anyhow::Result<()> {
-    let alloc = rt.alloc();
-    let (steps, wanted) = (steps(), wanted());
-    let found = over(sound(alloc), |it| points(alloc, it, 2, 2, &steps));
-    tell(rt, "points", found, |it| it.as_slice() == wanted.as_slice())?;
-    tell_judged(rt, "check_points", try_check(alloc, &wanted))?;
-    let is_linear = try_check(alloc, &wanted[..3]);
-    tell(rt, "check_points of too few", is_linear, |it| !it)?;
-    let calls = over(sound(alloc), |it| call_intervals(alloc, it, 2, 2, &steps));
-    tell(
-        rt,
-        "call_intervals",
-        calls,
-        |it| it.len() == 4 && it.get(2) == Some(&GET),
-    )
+/// Whether the call's answer is the example's.
+pub(crate) fn is_right(alloc: Global, example: &Example) -> Result<bool, Stop> {
+    is_right_over(alloc, example, &sound(alloc)?)
+}
+
+fn is_right_over(alloc: Global, example: &Example, catalogue: &Catalogue) -> Result<bool, Stop> {
+    let found = match example {
+        Example::FindPoints => are_points(points(alloc, catalogue, 2, 2, &STEPS)),
+        Example::CheckPoints => check_points(alloc, catalogue, 2, 2, &STEPS, &POINTS),
+        Example::CheckTooFew => refuses(check_points(alloc, catalogue, 2, 2, &STEPS, &POINTS[..3])),
+        Example::FindIntervals => have_get(call_intervals(alloc, catalogue, 2, 2, &STEPS)),
+    };
+    match found {
+        Ok(is_right) => Ok(is_right),
+        Err(fault) => Err(stop_at(fault == PointsError::Memory)),
+    }
+}
+
+fn are_points(found: Result<Vec<Point>, PointsError>) -> Result<bool, PointsError> {
+    Ok(found?.as_slice() == POINTS.as_slice())
+}
+
+fn refuses(is_linear: Result<bool, PointsError>) -> Result<bool, PointsError> {
+    Ok(!is_linear?)
+}
+
+fn have_get(found: Result<Vec<Interval>, PointsError>) -> Result<bool, PointsError> {
+    let calls = found?;
+    Ok(calls.len() == 4 && calls.get(2) == Some(&GET))
 }

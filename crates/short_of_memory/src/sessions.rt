@@ -1,7 +1,7 @@
 //! Lines, sections and sessions: where memory is wanting, what was written is the beginning of the answer.
 ghost use Rattle.std.specs.Prelude.{◌≡◌, false, None};
 
-use crate::outcome::{Stop, needed, stop_at, tell, tell_judged};
+use crate::outcome::{Stop, needed, stop_at};
 use modprobe::{
     Buffer, Failed, FromRead, LineFault, Lines, RunFault, ServeFault, Setup, SetupCode, SetupFault,
     Sink, Source, read_setup, run, serve,
@@ -140,22 +140,37 @@ parm:           debug:bool
 ok
 ";
 
-/// What is done with the lines of an input.
-#[derive(Clone, Copy)]
-enum Done {
-    Read,
-    SetUp,
+/// A call on an example.
+pub(crate) enum Example {
+    NewBuffer,
+    NextLine,
+    ReadSetup,
     Run,
+    Serve,
 }
 
-fn try_lines(alloc: Global, input: &[u8], done: Done) -> Result<bool, Stop> {
+/// Whether the call's answer is the example's.
+pub(crate) fn is_right(alloc: Global, example: &Example) -> Result<bool, Stop> {
+    match example {
+        Example::NewBuffer => {
+            let _ = Buffer::new(alloc)?;
+            Ok(true)
+        }
+        Example::NextLine => try_lines(alloc, b"insmod snd\nquery", example),
+        Example::Serve => try_serve(alloc),
+        _ => try_lines(alloc, INPUT, example),
+    }
+}
+
+/// Makes the call on the lines of an input.
+fn try_lines(alloc: Global, input: &[u8], example: &Example) -> Result<bool, Stop> {
     let mut reader = FromRead::new(input);
     let buffer = needed(Buffer::new(alloc))?;
     let mut lines = Lines::new(alloc, buffer, &mut reader, 9);
-    match done {
-        Done::Read => are_both(&mut lines),
-        Done::SetUp => Ok(read_setup(alloc, &mut lines)?.catalogue().len() == 2),
-        Done::Run => try_run(alloc, &mut lines),
+    match example {
+        Example::NextLine => are_both(&mut lines),
+        Example::ReadSetup => has_two_modules(read_setup(alloc, &mut lines)),
+        _ => try_run(alloc, &mut lines),
     }
 }
 
@@ -166,6 +181,10 @@ fn are_both<R: Source>(lines: &mut Lines<'_, R>) -> Result<bool, Stop>
     let is_first = lines.next_line()? && lines.line() == b"insmod snd".as_slice();
     let is_last = lines.next_line()? && lines.line() == b"query".as_slice();
     Ok(is_first && is_last && !lines.next_line()?)
+}
+
+fn has_two_modules(made: Result<Setup, SetupFault>) -> Result<bool, Stop> {
+    Ok(made?.catalogue().len() == 2)
 }
 
 fn try_run<R: Source>(alloc: Global, lines: &mut Lines<'_, R>) -> Result<bool, Stop>
@@ -192,15 +211,4 @@ fn try_serve(alloc: Global) -> Result<bool, Stop> {
     let mut writer = Paper::new();
     serve(alloc, 1, &mut FromRead::new(INPUT), &mut writer)?;
     Ok(writer.rest.is_empty())
-}
-
-pub fn try_calls<R: Print + AllocGlobal>(rt: &R) -> anyhow::Result<()> {
-    let alloc = rt.alloc();
-    tell(rt, "Buffer::new", Buffer::new(alloc), |_| true)?;
-    let read = try_lines(alloc, b"insmod snd\nquery", Done::Read);
-    tell_judged(rt, "Lines", read)?;
-    let set_up = try_lines(alloc, INPUT, Done::SetUp);
-    tell_judged(rt, "read_setup", set_up)?;
-    tell_judged(rt, "run", try_lines(alloc, INPUT, Done::Run))?;
-    tell_judged(rt, "serve", try_serve(alloc))
 }

@@ -1,8 +1,9 @@
 //! Names, words, patterns, aliases and configurations.
 
-use crate::outcome::{Stop, are_names, stop_at, tell};
+use crate::outcome::{Stop, are_names, stop_at};
 use alias_match::{Alias, Aliases, Pattern, PatternError, read_aliases};
 use modprobe_conf::{Conf, Softdep, Word, read_conf};
+use std::alloc::{AllocError, Global};
 use text_parts::{Name, words};
 
 const WORDS: [&[u8]; 2] = [b"a", b"bc"];
@@ -22,24 +23,44 @@ install z /bin/true
 alias a-* snd-pcm
 blacklist w \\";
 
-impl From<PatternError> for Stop {
-    fn from(fault: PatternError) -> Stop {
-        stop_at(fault == PatternError::Memory)
+fn is_name(made: Result<Name, AllocError>) -> Result<bool, Stop> {
+    Ok(made?.as_bytes() == b"snd_pcm".as_slice())
+}
+
+fn are_words(made: Result<Vec<&[u8]>, AllocError>) -> Result<bool, Stop> {
+    Ok(made?.as_slice() == WORDS.as_slice())
+}
+
+fn is_pattern(made: Result<Pattern, PatternError>) -> Result<bool, Stop> {
+    match made {
+        Ok(pattern) => Ok(pattern.matches(b"usb:v0Ap12") && !pattern.matches(b"usb:vGp12")),
+        Err(fault) => Err(stop_at(fault == PatternError::Memory)),
     }
 }
 
-fn is_alias(alias: &Option<Alias>) -> bool {
-    alias.as_ref().is_some_and(|alias| {
-        alias.pattern.matches(b"usb:v0") && alias.target.as_bytes() == b"snd_pcm".as_slice()
-    })
+fn is_alias(made: Result<Option<Alias>, AllocError>) -> Result<bool, Stop> {
+    match made? {
+        Some(alias) => {
+            Ok(alias.pattern.matches(b"usb:v0") && alias.target.as_bytes() == b"snd_pcm".as_slice())
+        }
+        None => Ok(false),
+    }
 }
 
-fn are_aliases(aliases: &Aliases) -> bool {
+fn is_word(made: Result<Word, AllocError>) -> Result<bool, Stop> {
+    Ok(made?.as_bytes() == b"debug=1".as_slice())
+}
+
+fn are_both(aliases: &Aliases) -> bool {
     aliases.len() == 2
         && aliases.pattern(0).matches(b"usb:v0pp12")
         && aliases.target(0).as_bytes() == b"usbx".as_slice()
         && aliases.target(1).as_bytes() == b"snd_pcm".as_slice()
         && aliases.skipped() == [2].as_slice()
+}
+
+fn are_aliases(made: Result<Aliases, AllocError>) -> Result<bool, Stop> {
+    Ok(are_both(&made?))
 }
 
 /// Whether these are the two words that the configuration has for the module.
@@ -52,13 +73,16 @@ fn are_options(words: &[Word]) -> bool {
     }
 }
 
-fn is_softdep(softdep: &Softdep) -> bool {
-    are_names(softdep.pre(), &[b"y"]) && softdep.post().is_empty()
+fn is_softdep(softdep: Option<&Softdep>) -> bool {
+    match softdep {
+        Some(softdep) => are_names(softdep.pre(), &[b"y"]) && softdep.post().is_empty(),
+        None => false,
+    }
 }
 
-fn is_conf(conf: &Conf) -> bool {
+fn is_whole(conf: &Conf) -> bool {
     are_options(conf.options(b"y"))
-        && conf.softdep(b"z").is_some_and(is_softdep)
+        && is_softdep(conf.softdep(b"z"))
         && conf.install_line(b"x")
         && conf.blacklisted(b"w")
         && conf.alias_len() == 1
@@ -66,19 +90,30 @@ fn is_conf(conf: &Conf) -> bool {
         && conf.skipped().is_empty()
 }
 
-pub(crate) fn try_calls<R: Print + AllocGlobal>(rt: &R) -> anyhow::Result<()> {
-    let alloc = rt.alloc();
-    let is_right = |it: &Name| it.as_bytes() == b"snd_pcm".as_slice();
-    tell(rt, "Name::new", Name::new(alloc, b"snd-pcm"), is_right)?;
-    let words = words(alloc, b" a\tbc ");
-    tell(rt, "words", words, |it| it.as_slice() == WORDS.as_slice())?;
-    let pattern = Pattern::read(alloc, b"usb:v[0-9A-F]*p??");
-    let is_right = |it: &Pattern| it.matches(b"usb:v0Ap12") && !it.matches(b"usb:vGp12");
-    tell(rt, "Pattern::read", pattern, is_right)?;
-    tell(rt, "Alias::read", Alias::read(alloc, &ALIAS), is_alias)?;
-    let aliases = read_aliases(alloc, ALIASES);
-    tell(rt, "read_aliases", aliases, are_aliases)?;
-    let is_right = |it: &Word| it.as_bytes() == b"debug=1".as_slice();
-    tell(rt, "Word::new", Word::new(alloc, b"debug=1"), is_right)?;
-    tell(rt, "read_conf", read_conf(alloc, CONFIGURATION), is_conf)
+fn is_conf(made: Result<Conf, AllocError>) -> Result<bool, Stop> {
+    Ok(is_whole(&made?))
+}
+
+/// A call on an example.
+pub(crate) enum Example {
+    NewName,
+    FindWords,
+    ReadPattern,
+    ReadAlias,
+    ReadAliases,
+    NewWord,
+    ReadConf,
+}
+
+/// Whether the call's answer is the example's.
+pub(crate) fn is_right(alloc: Global, example: &Example) -> Result<bool, Stop> {
+    match example {
+        Example::NewName => is_name(Name::new(alloc, b"snd-pcm")),
+        Example::FindWords => are_words(words(alloc, b" a\tbc ")),
+        Example::ReadPattern => is_pattern(Pattern::read(alloc, b"usb:v[0-9A-F]*p??")),
+        Example::ReadAlias => is_alias(Alias::read(alloc, &ALIAS)),
+        Example::ReadAliases => are_aliases(read_aliases(alloc, ALIASES)),
+        Example::NewWord => is_word(Word::new(alloc, b"debug=1")),
+        Example::ReadConf => is_conf(read_conf(alloc, CONFIGURATION)),
+    }
 }

@@ -1,9 +1,9 @@
 //! Catalogues and modules.dep.
 
-use crate::outcome::{Stop, are_names, needed, over, stop_at, tell};
+use crate::outcome::{Stop, are_names, needed, stop_at};
 use crate::sound::{SOUND, sound, sound_slots};
 use dep_index::{CatError, Catalogue, DepError, DepIndex, Slots, read_catalogue, read_dep};
-use std::alloc::Global;
+use std::alloc::{AllocError, Global};
 
 const SOFT: &[u8] = b"version 2
 module a
@@ -17,18 +17,6 @@ module d
 const DEPENDENCIES: &[u8] = b"kernel/a.ko: kernel/b.ko
 kernel/b.ko.xz: kernel/a.ko
 ";
-
-impl From<CatError> for Stop {
-    fn from(fault: CatError) -> Stop {
-        stop_at(fault == CatError::Memory)
-    }
-}
-
-impl From<DepError> for Stop {
-    fn from(fault: DepError) -> Stop {
-        stop_at(fault == DepError::Memory)
-    }
-}
 
 fn is_of_sound(catalogue: &Catalogue) -> bool {
     catalogue.len() == 2
@@ -46,12 +34,22 @@ fn is_of_soft(catalogue: &Catalogue) -> bool {
         && are_names(catalogue.softneeds(1), &[b"a"])
 }
 
-fn is_sound(slots: &Slots) -> bool {
-    slots.len() == 2 && slots.needs(0).is_empty() && slots.needs(1) == [0u16].as_slice()
+/// Whether it is the catalogue of soft needs, or else that of the sound card.
+fn is_catalogue(made: Result<Catalogue, CatError>, is_soft: bool) -> Result<bool, Stop> {
+    match made {
+        Ok(catalogue) if is_soft => Ok(is_of_soft(&catalogue)),
+        Ok(catalogue) => Ok(is_of_sound(&catalogue)),
+        Err(fault) => Err(stop_at(fault == CatError::Memory)),
+    }
 }
 
-fn push_slots(alloc: Global) -> Result<Slots, Stop> {
-    let needs = needed(vec![in alloc; 0u16])?;
+fn is_sound(made: Result<Slots, AllocError>) -> Result<bool, Stop> {
+    let slots = made?;
+    Ok(slots.len() == 2 && slots.needs(0).is_empty() && slots.needs(1) == [0u16].as_slice())
+}
+
+/// A module that needs nothing, and one with these needs.
+fn both_slots(alloc: Global, needs: Vec<u16>) -> Result<Slots, AllocError> {
     let mut slots = Slots::new(alloc);
     slots.push(Vec::new(alloc), false, true)?;
     slots.push(needs, false, false)?;
@@ -60,32 +58,37 @@ fn push_slots(alloc: Global) -> Result<Slots, Stop> {
 
 /// Whether each of the two modules has the other for its only dependency.
 fn is_circle(index: &DepIndex) -> bool {
-    index
-        .deps(b"a")
-        .is_some_and(|names| are_names(names, &[b"b"]))
-        && index
-            .deps(b"b")
-            .is_some_and(|names| are_names(names, &[b"a"]))
+    match (index.deps(b"a"), index.deps(b"b")) {
+        (Some(of_a), Some(of_b)) => are_names(of_a, &[b"b"]) && are_names(of_b, &[b"a"]),
+        _ => false,
+    }
 }
 
-pub(crate) fn try_calls<R: Print + AllocGlobal>(rt: &R) -> anyhow::Result<()> {
-    let alloc = rt.alloc();
-    tell(
-        rt,
-        "read_catalogue",
-        read_catalogue(alloc, SOUND),
-        is_of_sound,
-    )?;
-    tell(
-        rt,
-        "read_catalogue of soft needs",
-        read_catalogue(alloc, SOFT),
-        is_of_soft,
-    )?;
-    let slots = over(sound(alloc), |catalogue| catalogue.slots(alloc));
-    tell(rt, "Catalogue::slots", slots, is_sound)?;
-    let copy = over(sound_slots(alloc), |slots| slots.copy(alloc));
-    tell(rt, "Slots::copy", copy, is_sound)?;
-    tell(rt, "Slots::push", push_slots(alloc), is_sound)?;
-    tell(rt, "read_dep", read_dep(alloc, DEPENDENCIES), is_circle)
+fn is_index(made: Result<DepIndex, DepError>) -> Result<bool, Stop> {
+    match made {
+        Ok(index) => Ok(is_circle(&index)),
+        Err(fault) => Err(stop_at(fault == DepError::Memory)),
+    }
+}
+
+/// A call on an example.
+pub(crate) enum Example {
+    ReadCatalogue,
+    ReadSoftCatalogue,
+    MakeSlots,
+    CopySlots,
+    PushSlots,
+    ReadDep,
+}
+
+/// Whether the call's answer is the example's.
+pub(crate) fn is_right(alloc: Global, example: &Example) -> Result<bool, Stop> {
+    match example {
+        Example::ReadCatalogue => is_catalogue(read_catalogue(alloc, SOUND), false),
+        Example::ReadSoftCatalogue => is_catalogue(read_catalogue(alloc, SOFT), true),
+        Example::MakeSlots => is_sound(sound(alloc)?.slots(alloc)),
+        Example::CopySlots => is_sound(sound_slots(alloc)?.copy(alloc)),
+        Example::PushSlots => is_sound(both_slots(alloc, needed(vec![in alloc; 0u16])?)),
+        Example::ReadDep => is_index(read_dep(alloc, DEPENDENCIES)),
+    }
 }

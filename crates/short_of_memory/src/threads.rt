@@ -2,20 +2,25 @@
 ghost use Rattle.std.specs.Prelude.{◌≡◌};
 ghost use Rattle.root_row.specs.World.{slots};
 
-use crate::outcome::{Stop, needed, over, tell, tell_judged};
+use crate::outcome::{Stop, needed};
 use crate::sound::{sound, sound_slots};
 use dep_index::{Catalogue, ModuleState};
 use module_table::{Book, Manager};
 use root_row::{BookSeat, LeafSeat, ReadSeat, Row};
-use std::alloc::Global;
+use std::alloc::{AllocError, Global};
 use use_indicator::{Leaf, Reader};
 
-fn is_row((row, leaves, _, readers): &(Row, Vec<LeafSeat>, BookSeat, Vec<ReadSeat>)) -> bool {
-    row.slots() == 2 && leaves.len() == 2 && readers.len() == 1
+/// A row, and the seats of its leaves, its book and its readers.
+type Seated = (Row, Vec<LeafSeat>, BookSeat, Vec<ReadSeat>);
+
+fn is_row(made: Result<Seated, AllocError>) -> Result<bool, Stop> {
+    let (row, leaves, _, readers) = made?;
+    Ok(row.slots() == 2 && leaves.len() == 2 && readers.len() == 1)
 }
 
-fn is_manager((manager, readers): &(Manager, Vec<Reader>)) -> bool {
-    manager.workers() == 2 && manager.slots() == 2 && readers.len() == 2
+fn is_manager(made: Result<(Manager, Vec<Reader>), AllocError>) -> Result<bool, Stop> {
+    let (manager, readers) = made?;
+    Ok(manager.workers() == 2 && manager.slots() == 2 && readers.len() == 2)
 }
 
 /// Whether a leaf of two slots holds nothing.
@@ -26,8 +31,8 @@ fn holds_nothing(leaf: &Leaf) -> bool
 }
 
 /// Whether the leaf of the last seat holds nothing.
-fn try_leaf(alloc: Global) -> Result<bool, Stop> {
-    let (row, mut seats, _, _) = needed(Row::new(alloc, &sound(alloc)?, 2, 0))?;
+fn try_leaf(alloc: Global, catalogue: &Catalogue) -> Result<bool, Stop> {
+    let (row, mut seats, _, _) = needed(Row::new(alloc, catalogue, 2, 0))?;
     let Some(seat) = seats.pop() else {
         return Ok(false);
     };
@@ -42,15 +47,28 @@ fn try_book(alloc: Global, catalogue: &Catalogue) -> Result<bool, Stop> {
     Ok(row.slots() == 2 && book.loaded() == 0 && book.state(1) == ModuleState::Absent)
 }
 
-pub(crate) fn try_calls<R: Print + AllocGlobal>(rt: &R) -> anyhow::Result<()> {
-    let alloc = rt.alloc();
-    let row = over(sound(alloc), |it| Row::new(alloc, it, 2, 1));
-    tell(rt, "Row::new", row, is_row)?;
-    let row = over(sound_slots(alloc), |it| Row::over(alloc, it, 2, 1));
-    tell(rt, "Row::over", row, is_row)?;
-    tell_judged(rt, "Leaf::new", try_leaf(alloc))?;
-    let book = over(sound(alloc), |it| try_book(alloc, it));
-    tell_judged(rt, "Book::new", book)?;
-    let manager = over(sound(alloc), |it| Manager::new(alloc, it, 2));
-    tell(rt, "Manager::new", manager, is_manager)
+/// A call on an example.
+pub(crate) enum Example {
+    NewRow,
+    RowOver,
+    NewLeaf,
+    NewBook,
+    NewManager,
+}
+
+/// Whether the call's answer is the example's.
+pub(crate) fn is_right(alloc: Global, example: &Example) -> Result<bool, Stop> {
+    match example {
+        Example::RowOver => is_row(Row::over(alloc, &sound_slots(alloc)?, 2, 1)),
+        _ => is_right_over(alloc, example, &sound(alloc)?),
+    }
+}
+
+fn is_right_over(alloc: Global, example: &Example, catalogue: &Catalogue) -> Result<bool, Stop> {
+    match example {
+        Example::NewRow | Example::RowOver => is_row(Row::new(alloc, catalogue, 2, 1)),
+        Example::NewLeaf => try_leaf(alloc, catalogue),
+        Example::NewBook => try_book(alloc, catalogue),
+        Example::NewManager => is_manager(Manager::new(alloc, catalogue, 2)),
+    }
 }

@@ -1,12 +1,11 @@
 //! Catalogues and modules.dep texts: what is read of them, their first faults, their limits.
 
-use crate::texts::{CIRCLE, holds, holds_at, is_answer, push_line, push_name_lines, push_names};
+use crate::texts::{CIRCLE, Rest, behind, behind_name_lines, behind_names, holds, holds_at};
 use dep_index::{
     CatError, Catalogue, DepError, DepIndex, Param, ParamKind, Scalar, Slots, read_catalogue,
     read_dep,
 };
 use std::alloc::{AllocError, Global};
-use std::test::Fail;
 
 fn scalar_text(scalar: Scalar) -> &'static [u8] {
     match scalar {
@@ -34,53 +33,56 @@ fn kind_texts(kind: ParamKind) -> (&'static [u8], &'static [u8]) {
     }
 }
 
-fn push_params(text: &mut Vec<u8>, params: &[Param]) -> Result<(), AllocError> {
+fn behind_params<'a>(rest: Rest<'a>, params: &[Param]) -> Rest<'a> {
+    let mut rest = rest;
     for param in params {
-        text.extend_from_slice(b", param ")?;
-        text.extend_from_slice(param.name.as_bytes())?;
-        let (kind, behind) = kind_texts(param.kind);
-        text.extend_from_slice(kind)?;
-        text.extend_from_slice(behind)?;
+        let (kind, ending) = kind_texts(param.kind);
+        rest = behind(rest, &[b", param ", param.name.as_bytes()]);
+        rest = behind(rest, &[kind, ending]);
     }
-    text.extend_from_slice(b"\n")
+    behind(rest, &[b"\n"])
 }
 
-fn push_marks(text: &mut Vec<u8>, catalogue: &Catalogue, slot: usize) -> Result<(), AllocError> {
-    if slot < catalogue.len() && catalogue.unknown_symbol(slot) {
-        text.extend_from_slice(b", unknown symbol")?;
-    }
-    if slot < catalogue.len() && catalogue.permanent(slot) {
-        text.extend_from_slice(b", permanent")?;
-    }
-    Ok(())
-}
-
-/// What is said of the module in a slot: its size, the slots of its needs, its softneeds, its parameters.
-fn push_module(
+/// What is left behind what is said of the module in a slot: its size, the slots of its needs, its softneeds, its
+/// parameters.
+fn behind_module<'a>(
     alloc: Global,
-    text: &mut Vec<u8>,
+    rest: Rest<'a>,
     catalogue: &Catalogue,
     slot: usize,
-) -> Result<(), AllocError> {
+) -> Rest<'a> {
     if slot >= catalogue.len() {
-        return Ok(());
+        return None;
     }
     let (size, needs) = (catalogue.size(slot), catalogue.needs(slot));
-    let numbers = format!(in alloc; ": size {size}, needs {needs:?}")?;
-    text.extend_from_slice(catalogue.name(slot))?;
-    text.extend_from_slice(numbers.as_bytes())?;
-    push_names(text, b", softneeds", catalogue.softneeds(slot))?;
-    push_marks(text, catalogue, slot)?;
-    push_params(text, catalogue.params(slot))
+    let Ok(numbers) = format!(in alloc; ": size {size}, needs {needs:?}, softneeds") else {
+        return None;
+    };
+    let rest = behind(rest, &[catalogue.name(slot), numbers.as_bytes()]);
+    let rest = behind_names(rest, catalogue.softneeds(slot));
+    let unknown = if catalogue.unknown_symbol(slot) {
+        b", unknown symbol".as_slice()
+    } else {
+        b""
+    };
+    let permanent = if catalogue.permanent(slot) {
+        b", permanent".as_slice()
+    } else {
+        b""
+    };
+    behind_params(behind(rest, &[unknown, permanent]), catalogue.params(slot))
 }
 
-/// All modules of a catalogue, one a line.
-fn modules_text(alloc: Global, catalogue: &Catalogue) -> Result<Vec<u8>, AllocError> {
-    let mut text = Vec::new(alloc);
+/// Whether these are all modules of the catalogue, one a line.
+fn are_modules(alloc: Global, read: Result<Catalogue, CatError>, wanted: &[u8]) -> bool {
+    let Ok(catalogue) = read else {
+        return false;
+    };
+    let mut rest = Some(wanted);
     for slot in 0..catalogue.len() {
-        push_module(alloc, &mut text, catalogue, slot)?;
+        rest = behind_module(alloc, rest, &catalogue, slot);
     }
-    Ok(text)
+    matches!(rest, Some([]))
 }
 
 const SOUND: &[u8] =
@@ -126,13 +128,11 @@ static MODULES: [(&str, &[u8], &[u8]); 7] = [
 ];
 
 #[test]
-fn modules(rt: HostRuntime) -> Result<(), Fail> {
+fn modules(rt: HostRuntime) {
     for (shows, text, wanted) in &MODULES {
-        let catalogue = read_catalogue(rt.alloc(), text)?;
-        let answer = modules_text(rt.alloc(), &catalogue)?;
-        is_answer(&rt, shows, &answer, wanted);
+        let read = read_catalogue(rt.alloc(), text);
+        holds(&rt, shows, are_modules(rt.alloc(), read, wanted));
     }
-    Ok(())
 }
 
 /// A name, and the slot of the module that has it in normal form.
@@ -142,28 +142,32 @@ static SLOTS: [(&str, Option<usize>); 3] = [
     ("snd-pcm", None),
 ];
 
-/// The slot of the name in the catalogue of a text.
-fn slot_in(alloc: Global, text: &[u8], name: &str) -> Result<Option<usize>, CatError> {
-    Ok(read_catalogue(alloc, text)?.slot(name.as_bytes()))
+fn has_slot(read: Result<Catalogue, CatError>, name: &[u8], slot: Option<usize>) -> bool {
+    match read {
+        Ok(catalogue) => catalogue.slot(name) == slot,
+        Err(_) => false,
+    }
 }
 
 #[test]
 fn slots_of_names(rt: HostRuntime) {
     for (name, slot) in &SLOTS {
-        let found = slot_in(rt.alloc(), SOUND, name);
-        holds(&rt, name, found == Ok(*slot));
+        let read = read_catalogue(rt.alloc(), SOUND);
+        holds(&rt, name, has_slot(read, name.as_bytes(), *slot));
     }
 }
 
-fn is_second_over_first(slots: &Slots) -> bool {
-    slots.len() == 2 && slots.needs(1) == [0u16].as_slice()
+fn is_second_over_first(made: Result<Slots, AllocError>) -> bool {
+    match made {
+        Ok(slots) => slots.len() == 2 && slots.needs(1) == [0u16].as_slice(),
+        Err(_) => false,
+    }
 }
 
 #[test]
-fn slots_of_a_catalogue(rt: HostRuntime) -> Result<(), Fail> {
+fn slots_of_a_catalogue(rt: HostRuntime) -> Result<(), CatError> {
     let catalogue = read_catalogue(rt.alloc(), SOUND)?;
-    let slots = catalogue.slots(rt.alloc())?;
-    assert!(rt; is_second_over_first(&slots));
+    assert!(rt; is_second_over_first(catalogue.slots(rt.alloc())));
     Ok(())
 }
 
@@ -315,20 +319,20 @@ fn first_faults(rt: HostRuntime) {
 }
 
 /// Behind this head, so many modules, each on a line of its own.
-fn modules_behind(alloc: Global, head: &[u8], count: usize) -> Result<Vec<u8>, AllocError> {
-    let mut text = Vec::from_slice(alloc, head)?;
+fn modules_behind(alloc: Global, head: &str, count: usize) -> Result<String, AllocError> {
+    let mut text = String::from_str(alloc, head)?;
     for m in 0..count {
-        push_line(alloc, &mut text, b"module m", m)?;
+        writeln!(text, "module m{m}")?;
     }
     Ok(text)
 }
 
-/// How many modules are read behind a head, of so many.
-fn count_behind(alloc: Global, head: &[u8], count: usize) -> Result<usize, CatError> {
-    let Ok(text) = modules_behind(alloc, head, count) else {
-        return Err(CatError::Memory);
-    };
-    Ok(read_catalogue(alloc, &text)?.len())
+/// How many modules are read.
+fn count_in(alloc: Global, text: &str) -> Result<usize, CatError> {
+    match read_catalogue(alloc, text.as_bytes()) {
+        Ok(catalogue) => Ok(catalogue.len()),
+        Err(error) => Err(error),
+    }
 }
 
 /// The head of a text, how many modules stand behind it, and how many are read, or the line of the one too many.
@@ -342,11 +346,12 @@ static LIMITS: [(&str, usize, Result<usize, CatError>); 6] = [
 ];
 
 #[test]
-fn limits(rt: HostRuntime) {
+fn limits(rt: HostRuntime) -> Result<(), AllocError> {
     for (head, count, wanted) in &LIMITS {
-        let read = count_behind(rt.alloc(), head.as_bytes(), *count);
-        holds_at(&rt, *count, read == *wanted);
+        let text = modules_behind(rt.alloc(), head, *count)?;
+        holds_at(&rt, *count, count_in(rt.alloc(), &text) == *wanted);
     }
+    Ok(())
 }
 
 const DEPENDENCIES: &[u8] =
@@ -360,23 +365,22 @@ static DEPS: [(&str, &[u8]); 4] = [
     ("x-1", b"no line\n"),
 ];
 
-fn deps_text(alloc: Global, index: &DepIndex, name: &[u8]) -> Result<Vec<u8>, AllocError> {
-    let mut text = Vec::new(alloc);
+fn has_deps(read: Result<DepIndex, DepError>, name: &[u8], wanted: &[u8]) -> bool {
+    let Ok(index) = read else {
+        return false;
+    };
     match index.deps(name) {
-        Some(names) => push_name_lines(&mut text, names)?,
-        None => text.extend_from_slice(b"no line\n")?,
+        Some(names) => matches!(behind_name_lines(Some(wanted), names), Some([])),
+        None => wanted == b"no line\n".as_slice(),
     }
-    Ok(text)
 }
 
 #[test]
-fn dependencies(rt: HostRuntime) -> Result<(), Fail> {
-    let index = read_dep(rt.alloc(), DEPENDENCIES)?;
+fn dependencies(rt: HostRuntime) {
     for (name, wanted) in &DEPS {
-        let answer = deps_text(rt.alloc(), &index, name.as_bytes())?;
-        is_answer(&rt, name, &answer, wanted);
+        let read = read_dep(rt.alloc(), DEPENDENCIES);
+        holds(&rt, name, has_deps(read, name.as_bytes(), wanted));
     }
-    Ok(())
 }
 
 /// What a row shows, a modules.dep text that is refused, and its first fault.

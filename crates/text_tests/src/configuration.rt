@@ -1,49 +1,46 @@
 //! Configurations: what their lines say of a name, lines that are joined, lines without effect.
 
-use crate::texts::{holds, holds_at, is_answer, push_names, push_word};
+use crate::texts::{Rest, behind, behind_names, holds, holds_at};
 use modprobe_conf::{Conf, Softdep, Word, read_conf};
 use std::alloc::{AllocError, Global};
-use std::test::Fail;
 
-fn push_options(text: &mut Vec<u8>, options: &[Word]) -> Result<(), AllocError> {
+/// What is left behind the options, which are told if there are any.
+fn behind_options<'a>(rest: Rest<'a>, options: &[Word]) -> Rest<'a> {
     if options.is_empty() {
-        return Ok(());
+        return rest;
     }
-    text.extend_from_slice(b"options")?;
+    let mut rest = behind(rest, &[b"options"]);
     for word in options {
-        push_word(text, word.as_bytes())?;
+        rest = behind(rest, &[b" ", word.as_bytes()]);
     }
-    text.extend_from_slice(b"\n")
+    behind(rest, &[b"\n"])
 }
 
-fn push_softdep(text: &mut Vec<u8>, softdep: &Softdep) -> Result<(), AllocError> {
-    push_names(text, b"softdep pre:", softdep.pre())?;
-    push_names(text, b" post:", softdep.post())?;
-    text.extend_from_slice(b"\n")
+fn behind_softdep<'a>(rest: Rest<'a>, softdep: Option<&Softdep>) -> Rest<'a> {
+    let Some(softdep) = softdep else {
+        return rest;
+    };
+    let rest = behind_names(behind(rest, &[b"softdep pre:"]), softdep.pre());
+    let rest = behind_names(behind(rest, &[b" post:"]), softdep.post());
+    behind(rest, &[b"\n"])
 }
 
-fn push_marks(text: &mut Vec<u8>, conf: &Conf, name: &[u8]) -> Result<(), AllocError> {
-    if conf.install_line(name) {
-        text.extend_from_slice(b"install\n")?;
-    }
-    if conf.remove_line(name) {
-        text.extend_from_slice(b"remove\n")?;
-    }
-    if conf.blacklisted(name) {
-        text.extend_from_slice(b"blacklist\n")?;
-    }
-    Ok(())
+/// A line of this word, if it is said.
+fn line_if(is_said: bool, line: &'static [u8]) -> &'static [u8] {
+    if is_said { line } else { b"" }
 }
 
-/// All that the configuration says of a name, as its lines would say it without the name.
-fn said_of(alloc: Global, conf: &Conf, name: &[u8]) -> Result<Vec<u8>, AllocError> {
-    let mut text = Vec::new(alloc);
-    push_options(&mut text, conf.options(name))?;
-    if let Some(softdep) = conf.softdep(name) {
-        push_softdep(&mut text, softdep)?;
-    }
-    push_marks(&mut text, conf, name)?;
-    Ok(text)
+/// Whether this is all that the configuration says of a name, as its lines would say it without the name.
+fn says(read: Result<Conf, AllocError>, name: &[u8], wanted: &[u8]) -> bool {
+    let Ok(conf) = read else {
+        return false;
+    };
+    let rest = behind_options(Some(wanted), conf.options(name));
+    let rest = behind_softdep(rest, conf.softdep(name));
+    let install = line_if(conf.install_line(name), b"install\n");
+    let remove = line_if(conf.remove_line(name), b"remove\n");
+    let blacklist = line_if(conf.blacklisted(name), b"blacklist\n");
+    matches!(behind(rest, &[install, remove, blacklist]), Some([]))
 }
 
 const ITEMS: &[u8] = b"softdep c pre: a b post: d e\noptions c debug=1\n";
@@ -193,18 +190,12 @@ static SAID: [(&str, &[u8], &[u8], &[u8]); 24] = [
     ),
 ];
 
-fn said(alloc: Global, text: &[u8], name: &[u8]) -> Result<Vec<u8>, AllocError> {
-    let conf = read_conf(alloc, text)?;
-    said_of(alloc, &conf, name)
-}
-
 #[test]
-fn says_of_names(rt: HostRuntime) -> Result<(), Fail> {
+fn says_of_names(rt: HostRuntime) {
     for (shows, text, name, wanted) in &SAID {
-        let answer = said(rt.alloc(), text, name)?;
-        is_answer(&rt, shows, &answer, wanted);
+        let fact = says(read_conf(rt.alloc(), text), name, wanted);
+        holds(&rt, shows, fact);
     }
-    Ok(())
 }
 
 /// What a row shows, a text, and the numbers of its lines without effect.
@@ -230,43 +221,51 @@ static SKIPPED: [(&str, &[u8], &[usize]); 7] = [
     ("carriage returns", CARRIAGE_RETURNS, &[]),
 ];
 
-#[test]
-fn lines_without_effect(rt: HostRuntime) -> Result<(), Fail> {
-    for (shows, text, wanted) in &SKIPPED {
-        let conf = read_conf(rt.alloc(), text)?;
-        holds(&rt, shows, conf.skipped() == *wanted);
+fn skips(read: Result<Conf, AllocError>, lines: &[usize]) -> bool {
+    match read {
+        Ok(conf) => conf.skipped() == lines,
+        Err(_) => false,
     }
-    Ok(())
+}
+
+#[test]
+fn lines_without_effect(rt: HostRuntime) {
+    for (shows, text, wanted) in &SKIPPED {
+        holds(&rt, shows, skips(read_conf(rt.alloc(), text), wanted));
+    }
 }
 
 /// There is one alias, and it leads from `a_b` to `snd_pcm`.
-fn has_one_alias(conf: &Conf) -> bool {
+fn has_one_alias(read: Result<Conf, AllocError>) -> bool {
+    let Ok(conf) = read else {
+        return false;
+    };
     conf.alias_len() == 1
         && conf.alias_pattern(0).matches(b"a_b")
         && conf.alias_target(0).as_bytes() == b"snd_pcm".as_slice()
 }
 
 #[test]
-fn aliases(rt: HostRuntime) -> Result<(), Fail> {
-    let conf = read_conf(rt.alloc(), WITHOUT_EFFECT)?;
-    assert!(rt; has_one_alias(&conf));
-    Ok(())
+fn aliases(rt: HostRuntime) {
+    assert!(rt; has_one_alias(read_conf(rt.alloc(), WITHOUT_EFFECT)));
 }
 
 /// `x` has its install line, and `w` is blacklisted, from the length on that they stand at; at most one line has no effect.
-fn is_of_prefix(conf: &Conf, length: usize) -> bool {
+fn is_of_prefix(read: Result<Conf, AllocError>, length: usize) -> bool {
+    let Ok(conf) = read else {
+        return false;
+    };
     conf.install_line(b"x") == (39 < length)
         && conf.blacklisted(b"w") == (96 < length)
         && conf.skipped().len() < 2
 }
 
 #[test]
-fn each_prefix(rt: HostRuntime) -> Result<(), Fail> {
+fn each_prefix(rt: HostRuntime) {
     for end in 0..=JOINED.len() {
-        let conf = read_conf(rt.alloc(), &JOINED[..end])?;
-        holds_at(&rt, end, is_of_prefix(&conf, end));
+        let read = read_conf(rt.alloc(), &JOINED[..end]);
+        holds_at(&rt, end, is_of_prefix(read, end));
     }
-    Ok(())
 }
 
 /// How many lines are joined into one.
@@ -291,7 +290,10 @@ fn are_all(words: &[Word], wanted: &[u8]) -> bool {
 }
 
 /// All pieces are words of one options line, and the lines behind it keep their numbers.
-fn has_all_pieces(conf: &Conf) -> bool {
+fn has_all_pieces(read: Result<Conf, AllocError>) -> bool {
+    let Ok(conf) = read else {
+        return false;
+    };
     let options = conf.options(b"a");
     options.len() == PIECES
         && are_all(options, b"level=12345")
@@ -300,9 +302,8 @@ fn has_all_pieces(conf: &Conf) -> bool {
 }
 
 #[test]
-fn a_line_of_many_pieces(rt: HostRuntime) -> Result<(), Fail> {
+fn a_line_of_many_pieces(rt: HostRuntime) -> Result<(), AllocError> {
     let text = many_pieces(rt.alloc())?;
-    let conf = read_conf(rt.alloc(), &text)?;
-    assert!(rt; has_all_pieces(&conf));
+    assert!(rt; has_all_pieces(read_conf(rt.alloc(), &text)));
     Ok(())
 }

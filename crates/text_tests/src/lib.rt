@@ -6,8 +6,6 @@ mod catalogue;
 #[cfg(test)]
 mod configuration;
 #[cfg(test)]
-mod limits;
-#[cfg(test)]
 mod listings;
 #[cfg(test)]
 mod load_plans;

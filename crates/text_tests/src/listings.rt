@@ -2,19 +2,27 @@
 ghost use Rattle.std.specs.Prelude.{◌≡◌, ◌<◌, length, IfOk};
 ghost use Rattle.dep_index.specs.Catalogue.{modules_of};
 
-use crate::texts::{holds, is_answer};
-use dep_index::{Call, Catalogue, read_catalogue};
+use crate::texts::holds;
+use dep_index::{Call, CatError, Catalogue, read_catalogue};
 use proc_modules::{
     Line, LineError, LineState, lsmod_text, modinfo_text, proc_text, read_line, write_line,
 };
 use seq_table::{Modules, Table};
 use std::alloc::{AllocError, Global};
-use std::test::Fail;
 
-/// What is written of the line that a text begins with, and how many bytes the line took.
-fn written_again(alloc: Global, text: &[u8]) -> Result<(Vec<u8>, usize), Fail> {
-    let (line, used) = read_line(alloc, text)?;
-    Ok((write_line(alloc, &line)?, used))
+fn is_text(made: Result<Vec<u8>, AllocError>, wanted: &[u8]) -> bool {
+    match made {
+        Ok(text) => text.as_slice() == wanted,
+        Err(_) => false,
+    }
+}
+
+/// Whether the line that a text begins with took so many bytes, and what is written of it is this.
+fn is_written(alloc: Global, text: &[u8], length: usize, wanted: &[u8]) -> bool {
+    match read_line(alloc, text) {
+        Ok((line, used)) => used == length && is_text(write_line(alloc, &line), wanted),
+        Err(_) => false,
+    }
 }
 
 /// Texts, how many bytes the line took, and what is written of it.
@@ -83,13 +91,11 @@ static NO_LINES: [(&str, LineError); 21] = [
 ];
 
 #[test]
-fn reads_lines(rt: HostRuntime) -> Result<(), Fail> {
+fn reads_lines(rt: HostRuntime) {
     for (text, length, wanted) in &LINES {
-        let (found, used) = written_again(rt.alloc(), text.as_bytes())?;
-        holds(&rt, text, used == *length);
-        is_answer(&rt, text, &found, wanted.as_bytes());
+        let fact = is_written(rt.alloc(), text.as_bytes(), *length, wanted.as_bytes());
+        holds(&rt, text, fact);
     }
-    Ok(())
 }
 
 #[test]
@@ -109,12 +115,17 @@ fn is_of_snd(line: &Line) -> bool {
         && line.state == LineState::Loading
 }
 
+fn tells_snd(read: Result<(Line, usize), LineError>) -> bool {
+    match read {
+        Ok((line, used)) => used == 41 && is_of_snd(&line),
+        Err(_) => false,
+    }
+}
+
 #[test]
-fn tells_the_parts_of_a_line(rt: HostRuntime) -> Result<(), Fail> {
+fn tells_the_parts_of_a_line(rt: HostRuntime) {
     let text = b"snd 7 2 a,b,[permanent], Loading 0x0 (E)\n";
-    let (line, used) = read_line(rt.alloc(), text)?;
-    assert!(rt; used == 41 && is_of_snd(&line));
-    Ok(())
+    assert!(rt; tells_snd(read_line(rt.alloc(), text)));
 }
 
 /// Makes a call that changes states, where it is one.
@@ -265,49 +276,43 @@ base                       0  3 second,first
     },
 ];
 
-/// Both listings of a table, the one of /proc/modules first.
-fn both_texts(
-    alloc: Global,
-    catalogue: &Catalogue,
-    table: &Table,
-) -> Result<(Vec<u8>, Vec<u8>), AllocError>
+/// Whether these are both listings of a table.
+fn are_listings(alloc: Global, catalogue: &Catalogue, table: &Table, row: &Row) -> bool
     requires { table.now.catalogue ≡ modules_of catalogue.now }
 {
-    let proc_modules = proc_text(alloc, catalogue, table)?;
-    let lsmod = lsmod_text(alloc, catalogue, table)?;
-    Ok((proc_modules, lsmod))
+    is_text(proc_text(alloc, catalogue, table), row.proc_modules)
+        && is_text(lsmod_text(alloc, catalogue, table), row.lsmod)
 }
 
-/// Both listings of the catalogue's table after calls.
-fn listed_after(
-    alloc: Global,
-    catalogue: &Catalogue,
-    calls: &[Call],
-) -> Result<(Vec<u8>, Vec<u8>), AllocError> {
-    let table = table_after(alloc, catalogue, calls)?;
-    both_texts(alloc, catalogue, &table)
-}
-
-fn listed(alloc: Global, row: &Row) -> Result<(Vec<u8>, Vec<u8>), Fail> {
-    let catalogue = read_catalogue(alloc, row.catalogue)?;
-    Ok(listed_after(alloc, &catalogue, row.calls)?)
+/// Whether these are both listings of the catalogue's table after the calls.
+fn lists_after_calls(alloc: Global, read: Result<Catalogue, CatError>, row: &Row) -> bool {
+    let Ok(catalogue) = read else {
+        return false;
+    };
+    match table_after(alloc, &catalogue, row.calls) {
+        Ok(table) => are_listings(alloc, &catalogue, &table, row),
+        Err(_) => false,
+    }
 }
 
 #[test]
-fn lists_tables(rt: HostRuntime) -> Result<(), Fail> {
+fn lists_tables(rt: HostRuntime) {
     for row in &LISTINGS {
-        let (proc_modules, lsmod) = listed(rt.alloc(), row)?;
-        is_answer(&rt, row.shows, &proc_modules, row.proc_modules);
-        is_answer(&rt, row.shows, &lsmod, row.lsmod);
+        let read = read_catalogue(rt.alloc(), row.catalogue);
+        holds(&rt, row.shows, lists_after_calls(rt.alloc(), read, row));
     }
-    Ok(())
 }
 
-/// What is told of the module of the name.
-fn told_of(alloc: Global, catalogue: &Catalogue, name: &[u8]) -> Result<Vec<u8>, AllocError> {
+/// Whether this is told of the module of the name.
+fn tells(alloc: Global, read: Result<Catalogue, CatError>, name: &[u8], wanted: &[u8]) -> bool {
+    let Ok(catalogue) = read else {
+        return false;
+    };
     match catalogue.slot(name) {
-        Some(slot) if slot < catalogue.len() => modinfo_text(alloc, catalogue, slot),
-        _ => Ok(Vec::new(alloc)),
+        Some(slot) if slot < catalogue.len() => {
+            is_text(modinfo_text(alloc, &catalogue, slot), wanted)
+        }
+        _ => false,
     }
 }
 
@@ -332,16 +337,10 @@ depends:
     ),
 ];
 
-fn told(alloc: Global, catalogue: &[u8], name: &[u8]) -> Result<Vec<u8>, Fail> {
-    let catalogue = read_catalogue(alloc, catalogue)?;
-    Ok(told_of(alloc, &catalogue, name)?)
-}
-
 #[test]
-fn tells_of_modules(rt: HostRuntime) -> Result<(), Fail> {
+fn tells_of_modules(rt: HostRuntime) {
     for (catalogue, name, wanted) in &MODULES {
-        let text = told(rt.alloc(), catalogue, name.as_bytes())?;
-        is_answer(&rt, name, &text, wanted);
+        let read = read_catalogue(rt.alloc(), catalogue);
+        holds(&rt, name, tells(rt.alloc(), read, name.as_bytes(), wanted));
     }
-    Ok(())
 }

@@ -1,6 +1,6 @@
 //! Patterns, and modules.alias texts.
 
-use crate::texts::{holds_at, is_answer};
+use crate::texts::{behind, holds, holds_at};
 use alias_match::{Aliases, Pattern, PatternError, read_aliases};
 use std::alloc::{AllocError, Global};
 use std::process::Abort;
@@ -96,37 +96,27 @@ const ALIASES: &[u8] =
 /// A text, and the targets of the aliases that match it, one a line.
 static TARGETS: [(&str, &[u8]); 2] = [("usb:v0Ap12", b"usbx\n"), ("snd_hda", b"snd_pcm\n")];
 
-fn targets_text(alloc: Global, aliases: &Aliases, name: &[u8]) -> Result<Vec<u8>, AllocError> {
-    let mut text = Vec::new(alloc);
+/// Whether there are two aliases, the lines 4, 5 and 7 are none, and these are the targets of those that match the name,
+/// one a line.
+fn are_targets(read: Result<Aliases, AllocError>, name: &[u8], wanted: &[u8]) -> bool {
+    let Ok(aliases) = read else {
+        return false;
+    };
+    let mut rest = Some(wanted);
     for i in 0..aliases.len() {
         if aliases.pattern(i).matches(name) {
-            text.extend_from_slice(aliases.target(i).as_bytes())?;
-            text.extend_from_slice(b"\n")?;
+            rest = behind(rest, &[aliases.target(i).as_bytes(), b"\n"]);
         }
     }
-    Ok(text)
+    matches!(rest, Some([])) && aliases.len() == 2 && aliases.skipped() == [4, 5, 7].as_slice()
 }
 
 #[test]
-fn targets_of_aliases(rt: HostRuntime) -> Result<(), Fail> {
-    let aliases = read_aliases(rt.alloc(), ALIASES)?;
+fn targets_of_aliases(rt: HostRuntime) {
     for (name, wanted) in &TARGETS {
-        let answer = targets_text(rt.alloc(), &aliases, name.as_bytes())?;
-        is_answer(&rt, name, &answer, wanted);
+        let read = read_aliases(rt.alloc(), ALIASES);
+        holds(&rt, name, are_targets(read, name.as_bytes(), wanted));
     }
-    Ok(())
-}
-
-/// There are two aliases, and the lines 4, 5 and 7 are none.
-fn has_two_aliases(aliases: &Aliases) -> bool {
-    aliases.len() == 2 && aliases.skipped() == [4, 5, 7].as_slice()
-}
-
-#[test]
-fn lines_of_aliases(rt: HostRuntime) -> Result<(), Fail> {
-    let aliases = read_aliases(rt.alloc(), ALIASES)?;
-    assert!(rt; has_two_aliases(&aliases));
-    Ok(())
 }
 
 /// How many aliases a text has, and how many lines that are none.
@@ -136,7 +126,7 @@ fn counts(alloc: Global, text: &[u8]) -> Result<(usize, usize), AllocError> {
 }
 
 #[test]
-fn each_prefix_of_an_alias(rt: HostRuntime) -> Result<(), Fail> {
+fn each_prefix_of_an_alias(rt: HostRuntime) {
     let text = b"alias usb:v[0-9A-F]*p?? usbx".as_slice();
     for end in 0..=text.len() {
         let wanted = match end {
@@ -144,10 +134,9 @@ fn each_prefix_of_an_alias(rt: HostRuntime) -> Result<(), Fail> {
             1..=24 => (0, 1),
             _ => (1, 0),
         };
-        let found = counts(rt.alloc(), &text[..end])?;
-        holds_at(&rt, end, found == wanted);
+        let found = counts(rt.alloc(), &text[..end]);
+        holds_at(&rt, end, found == Ok(wanted));
     }
-    Ok(())
 }
 
 #[test]

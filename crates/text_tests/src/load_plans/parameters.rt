@@ -15,27 +15,9 @@ const DASHES: &[u8] = b"module q\nparam card-id charp\nparam fast_io bool\n";
 
 /// Whether the module in the slot takes the words. There is none where the catalogue is refused or has no such slot.
 fn takes(alloc: Global, catalogue: &[u8], slot: usize, words: &[&[u8]]) -> Option<bool> {
-    let catalogue = read_catalogue(alloc, catalogue).ok()?;
-    if slot < catalogue.len() {
-        Some(params_valid(&catalogue, slot, words))
-    } else {
-        None
-    }
-}
-
-/// The module in the slot takes each of the words, alone and behind another one, or takes none of them.
-fn are_taken(
-    rt: &impl Abort,
-    alloc: Global,
-    catalogue: &[u8],
-    slot: usize,
-    words: &str,
-    valid: bool,
-) {
-    for word in words.lines() {
-        let alone = takes(alloc, catalogue, slot, &[word.as_bytes()]);
-        let behind = takes(alloc, catalogue, slot, &[b"first", word.as_bytes()]);
-        holds(rt, word, alone == Some(valid) && behind == Some(valid));
+    match read_catalogue(alloc, catalogue) {
+        Ok(catalogue) if slot < catalogue.len() => Some(params_valid(&catalogue, slot, words)),
+        _ => None,
     }
 }
 
@@ -73,12 +55,6 @@ level="3"
 debug="y"
 "#;
 
-#[test]
-fn values(rt: HostRuntime) {
-    are_taken(&rt, rt.alloc(), LEVELS, 1, LEVEL_WORDS, true);
-    are_taken(&rt, rt.alloc(), LEVELS, 1, NO_LEVEL_WORDS, false);
-}
-
 /// Words that a module takes whose parameters have `_` for `-`.
 const DASH_WORDS: &str = "card_id=
 card-id=a=b
@@ -92,12 +68,6 @@ card_id
 fast_io=on
 fast-io=on
 ";
-
-#[test]
-fn texts_and_names_with_a_dash(rt: HostRuntime) {
-    are_taken(&rt, rt.alloc(), DASHES, 0, DASH_WORDS, true);
-    are_taken(&rt, rt.alloc(), DASHES, 0, NO_DASH_WORDS, false);
-}
 
 /// Two modules: one has a parameter of each kind of version 3, by the kind's name, and the other has their arrays.
 const KINDS: &[u8] =
@@ -174,12 +144,6 @@ int="1 2"
 bool=""
 "#;
 
-#[test]
-fn kinds_of_version_3(rt: HostRuntime) {
-    are_taken(&rt, rt.alloc(), KINDS, 0, KIND_WORDS, true);
-    are_taken(&rt, rt.alloc(), KINDS, 0, NO_KIND_WORDS, false);
-}
-
 /// Words that the module of the arrays takes.
 const ARRAY_WORDS: &str = r#"byte=7
 byte=0,255,0x10
@@ -204,46 +168,65 @@ bool
 bool=y,
 "#;
 
-#[test]
-fn arrays_of_version_3(rt: HostRuntime) {
-    are_taken(&rt, rt.alloc(), KINDS, 1, ARRAY_WORDS, true);
-    are_taken(&rt, rt.alloc(), KINDS, 1, NO_ARRAY_WORDS, false);
+/// A catalogue, a slot, words, and whether the module in the slot takes each of them or none.
+static WORDS: [(&[u8], usize, &str, bool); 8] = [
+    (LEVELS, 1, LEVEL_WORDS, true),
+    (LEVELS, 1, NO_LEVEL_WORDS, false),
+    (DASHES, 0, DASH_WORDS, true),
+    (DASHES, 0, NO_DASH_WORDS, false),
+    (KINDS, 0, KIND_WORDS, true),
+    (KINDS, 0, NO_KIND_WORDS, false),
+    (KINDS, 1, ARRAY_WORDS, true),
+    (KINDS, 1, NO_ARRAY_WORDS, false),
+];
+
+/// The module in the slot takes each of the words, alone and behind another one, or takes none of them.
+fn are_taken(
+    rt: &impl Abort,
+    alloc: Global,
+    catalogue: &[u8],
+    slot: usize,
+    words: &str,
+    valid: bool,
+) {
+    for word in words.lines() {
+        let alone = takes(alloc, catalogue, slot, &[word.as_bytes()]);
+        let behind = takes(alloc, catalogue, slot, &[b"first", word.as_bytes()]);
+        holds(rt, word, alone == Some(valid) && behind == Some(valid));
+    }
 }
 
-/// What a row shows, a slot, words, and whether the module in the slot takes them.
-static LISTS: [(&str, usize, &[&[u8]], bool); 4] = [
-    ("no words", 1, &[], true),
-    ("two good words", 1, &[b"debug", b"other=9"], true),
+#[test]
+fn words_of_modules(rt: HostRuntime) {
+    for (catalogue, slot, words, valid) in &WORDS {
+        are_taken(&rt, rt.alloc(), catalogue, *slot, words, *valid);
+    }
+}
+
+/// What a row shows, a slot, words, and whether the module in the slot takes them, if there is one.
+static LISTS: [(&str, usize, &[&[u8]], Option<bool>); 6] = [
+    ("no words", 1, &[], Some(true)),
+    ("two good words", 1, &[b"debug", b"other=9"], Some(true)),
     (
         "a bad word before a good one",
         1,
         &[b"debug=maybe", b"other=9"],
-        false,
+        Some(false),
     ),
     (
         "another module has no such parameter",
         0,
         &[b"debug=maybe"],
-        true,
+        Some(true),
     ),
+    ("there is a fourth module", 3, &[], Some(true)),
+    ("there is no fifth", 4, &[], None),
 ];
 
 #[test]
 fn every_word_is_checked(rt: HostRuntime) {
     for (shows, slot, words, valid) in &LISTS {
         let found = takes(rt.alloc(), LEVELS, *slot, words);
-        holds(&rt, shows, found == Some(*valid));
+        holds(&rt, shows, found == *valid);
     }
-}
-
-fn has_four_modules(alloc: Global, catalogue: &[u8]) -> bool {
-    match read_catalogue(alloc, catalogue) {
-        Ok(catalogue) => catalogue.len() == 4,
-        Err(_) => false,
-    }
-}
-
-#[test]
-fn modules_of_the_catalogue(rt: HostRuntime) {
-    assert!(rt; has_four_modules(rt.alloc(), LEVELS));
 }

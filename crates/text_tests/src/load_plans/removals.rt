@@ -1,84 +1,73 @@
 //! Removal plans.
 
-pub(super) static ROWS: [&str; 6] = [
-    "C module snd
-C exports snd_card_new
-C module snd-pcm
-C needs snd_card_new
-C param debug bool
-# a user comes before its dependencies
-? removal snd-pcm
-> snd_pcm
-> snd
-# a removal takes no users
-? removal snd
-> snd
-",
-    "C module snd
-C exports snd_card_new
-C module snd-pcm
-C needs snd_card_new
-C param debug bool
-M remove snd /bin/true
-M remove gone x
-# a remove line refuses
-? removal snd
-> remove snd
-# a remove line of a dependency has no part
-? removal snd-pcm
-> snd_pcm
-> snd
-# a remove line of a missing module refuses
-? removal gone
-> remove gone
-# a name that no module has is told in normal form
-? removal no-such
-> unknown no_such
-",
-    "# a softdep line lifts a remove line
-C module snd
-C exports snd_card_new
-C module snd-pcm
-C needs snd_card_new
-C param debug bool
-M remove snd /bin/true
-M softdep snd x
-? removal snd
-> snd
-",
-    "# install lines have no part
-C module snd
-C exports snd_card_new
-C module snd-pcm
-C needs snd_card_new
-C param debug bool
-M install snd /bin/true
-M install snd-pcm /bin/true
-? removal snd-pcm
-> snd_pcm
-> snd
-",
-    "# soft items have no part
-C module snd
-C exports snd_card_new
-C module snd-pcm
-C needs snd_card_new
-C param debug bool
-M softdep snd-pcm pre: x post: snd y
-? removal snd-pcm
-> snd_pcm
-> snd
-",
-    "# a circle has no removal plan
-C module a
-C exports fa
-C needs fb
-C module b
-C exports fb
-C needs fa
-D kernel/a.ko: kernel/b.ko
-D kernel/b.ko.xz: kernel/a.ko
-? removal b
-> cycle b
-",
+use super::texts::{BOTH_WAYS, REMOVES, SND};
+use super::{Asked, Row};
+use crate::texts::CIRCLE;
+
+pub(super) static ROWS: [Row; 10] = [
+    (
+        "a user comes before its dependencies",
+        [SND, b"", b"", b""],
+        Asked::Removal(b"snd-pcm"),
+        b"snd_pcm\nsnd\n",
+    ),
+    (
+        "a removal takes no users",
+        [SND, b"", b"", b""],
+        Asked::Removal(b"snd"),
+        b"snd\n",
+    ),
+    (
+        "a remove line refuses",
+        [SND, b"", REMOVES, b""],
+        Asked::Removal(b"snd"),
+        b"remove snd\n",
+    ),
+    (
+        "a remove line of a dependency has no part",
+        [SND, b"", REMOVES, b""],
+        Asked::Removal(b"snd-pcm"),
+        b"snd_pcm\nsnd\n",
+    ),
+    (
+        "a remove line of a missing module refuses",
+        [SND, b"", REMOVES, b""],
+        Asked::Removal(b"gone"),
+        b"remove gone\n",
+    ),
+    (
+        "a name that no module has is told in normal form",
+        [SND, b"", REMOVES, b""],
+        Asked::Removal(b"no-such"),
+        b"unknown no_such\n",
+    ),
+    (
+        "a softdep line lifts a remove line",
+        [SND, b"", b"remove snd /bin/true\nsoftdep snd x\n", b""],
+        Asked::Removal(b"snd"),
+        b"snd\n",
+    ),
+    (
+        "install lines have no part",
+        [
+            SND,
+            b"",
+            b"install snd /bin/true\ninstall snd-pcm /bin/true\n",
+            b"",
+        ],
+        Asked::Removal(b"snd-pcm"),
+        b"snd_pcm\nsnd\n",
+    ),
+    (
+        "soft items have no part",
+        [SND, b"", b"softdep snd-pcm pre: x post: snd y\n", b""],
+        Asked::Removal(b"snd-pcm"),
+        b"snd_pcm\nsnd\n",
+    ),
+    (
+        "a circle has no removal plan",
+        [CIRCLE, BOTH_WAYS, b"", b""],
+        Asked::Removal(b"b"),
+        b"cycle b\n",
+    ),
 ];
