@@ -1,11 +1,12 @@
 //! Reading a catalogue of 1,024 modules with 10 exports and 10 needs each.
 
-use crate::figure::{measure_rate, print_figure};
+use crate::figure::{print_figure, print_rate_since};
 use crate::texts::text_of;
 use anyhow::Result;
-use dep_index::{Catalogue, read_catalogue};
+use dep_index::{CatError, Catalogue, read_catalogue};
 use std::alloc::{AllocError, Global};
 use std::rt::Clock;
+use std::time::Instant;
 
 const MODULES: usize = 1024;
 
@@ -16,13 +17,14 @@ const READS: usize = 150;
 pub fn measure<R: Print + Clock + AllocGlobal>(rt: &R) -> Result<()> {
     let text = text_of(rt.alloc(), "version 2\n", MODULES, push_module)?;
     let megabytes = text.len().wrapping_mul(READS) / 1_000_000;
-    let read = || read_often(rt.alloc(), text.as_bytes());
-    let needs = measure_rate(rt, "read_catalogue", megabytes, "MB/s", read)?;
+    let start = Instant::now(rt)?;
+    let needs = read_often(rt.alloc(), text.as_bytes())?;
+    print_rate_since(rt, "read_catalogue", megabytes, "MB/s", start)?;
     print_figure(rt, "catalogue_needs", needs as u128, "needs")
 }
 
 /// Reads the text again and again. How many needs there were in all.
-fn read_often(alloc: Global, text: &[u8]) -> Result<usize> {
+fn read_often(alloc: Global, text: &[u8]) -> Result<usize, CatError> {
     let mut needs: usize = 0;
     for _ in 0..READS {
         needs = needs.wrapping_add(needs_of(&read_catalogue(alloc, text)?));

@@ -1,36 +1,54 @@
 //! A configuration text, read whole, and looked up by name.
 
-use crate::figure::{measure_rate, measure_time};
-use crate::texts::text_of;
+use crate::figure::{print_rate_since, print_turns_since};
+use crate::texts::{push_numbered, text_of};
 use anyhow::{Result, ensure};
-use modprobe_conf::read_conf;
+use modprobe_conf::{Conf, read_conf};
 use std::alloc::AllocError;
 use std::rt::Clock;
+use std::time::Instant;
 
 const MODULES: usize = 20_000;
 
 const LOOKUPS: usize = 1_000_000;
 
 /// The names that are looked up in turn, each with three words of options.
-const NAMES: [&[u8]; 4] = [b"driver_7", b"driver_777", b"driver_7777", b"driver_17777"];
+static NAMES: [&[u8]; 4] = [b"driver_7", b"driver_777", b"driver_7777", b"driver_17777"];
 
-/// Adds a module's alias, its options, which go over two lines, its softdep line, and a blacklist line of another.
+/// The lines of a module behind the hardware in its alias: its options, which go over two lines, its softdep line, and a
+/// blacklist line of another.
+const LINES: &str = "d*sv*sd*bc*sc*i* driver-@
+options driver-@ debug=1 \\\n level=3 name=card@
+softdep driver-@ pre: first-@ post: last-@
+blacklist other-@
+";
+
 fn push_module(text: &mut String, module: usize) -> Result<(), AllocError> {
-    writeln!(
-        text,
-        "alias pci:v0000{module:04X}d*sv*sd*bc*sc*i* driver-{module}
-options driver-{module} debug=1 \\\n level=3 name=card{module}
-softdep driver-{module} pre: first-{module} post: last-{module}
-blacklist other-{module}"
-    )
+    write!(text, "alias pci:v0000{module:04X}")?;
+    push_numbered(text, LINES, module)
 }
 
 pub fn measure<R: Print + Clock + AllocGlobal>(rt: &R) -> Result<()> {
     let text = text_of(rt.alloc(), "", MODULES, push_module)?;
-    let read = || Ok(read_conf(rt.alloc(), text.as_bytes())?);
-    let conf = measure_rate(rt, "read_conf", text.len(), "bytes/s", read)?;
-    let look_up = |turn: usize| Ok(conf.options(NAMES[turn % NAMES.len()]).len());
-    let words = measure_time(rt, "options_of_a_name", LOOKUPS, look_up)?;
-    ensure!(words == 3 * LOOKUPS as u128, "an option is missing");
+    let start = Instant::now(rt)?;
+    let conf = read_conf(rt.alloc(), text.as_bytes())?;
+    print_rate_since(rt, "read_conf", text.len(), "bytes/s", start)?;
+    measure_look_ups(rt, &conf)
+}
+
+fn measure_look_ups<R: Print + Clock>(rt: &R, conf: &Conf) -> Result<()> {
+    let start = Instant::now(rt)?;
+    let words = words_found(conf);
+    print_turns_since(rt, "options_of_a_name", LOOKUPS, start)?;
+    ensure!(words == 3 * LOOKUPS, "an option is missing");
     Ok(())
+}
+
+/// Looks the names up in turn. How many words they have in all.
+fn words_found(conf: &Conf) -> usize {
+    let mut words: usize = 0;
+    for turn in 0..LOOKUPS {
+        words = words.wrapping_add(conf.options(NAMES[turn % NAMES.len()]).len());
+    }
+    words
 }

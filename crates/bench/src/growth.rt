@@ -30,13 +30,10 @@ pub fn measure<R: Print + Files + AllocGlobal>(rt: &R) -> Result<()> {
 fn measure_session<R: Print + Files + AllocGlobal>(rt: &R, session: &Session) -> Result<()> {
     let (name, whole, others, texts) = *session;
     let mut before = None;
-    for size in [whole / 4, whole / 2, whole] {
+    for turn in 0..3_u32 {
+        let size = whole >> (2 - turn);
         let time = time_of(rt, texts, Sizes { size, others })?;
-        let microseconds = u128::from(time / MICROSECOND);
-        print_figure(rt, format_args!("{name}_{size}"), microseconds, "us")?;
-        if let Some(half) = before {
-            print_growth(rt, name, size, time, half)?;
-        }
+        print_growth(rt, name, size, time, before)?;
         before = Some(time);
     }
     Ok(())
@@ -53,8 +50,19 @@ fn time_of<R: Files + AllocGlobal>(rt: &R, texts: &[&str], sizes: Sizes) -> Resu
     Ok(least)
 }
 
-/// Prints how much of the time at half the size the time at this size is.
-fn print_growth<R: Print>(rt: &R, name: &str, size: usize, time: u64, half: u64) -> Result<()> {
+/// Prints how long a session of this size takes, and how much that is of the time at half the size, if that is known.
+fn print_growth<R: Print>(
+    rt: &R,
+    name: &str,
+    size: usize,
+    time: u64,
+    half: Option<u64>,
+) -> Result<()> {
+    let microseconds = u128::from(time / MICROSECOND);
+    print_figure(rt, format_args!("{name}_{size}"), microseconds, "us")?;
+    let Some(half) = half else {
+        return Ok(());
+    };
     let percent = u128::from(time).saturating_mul(100) / u128::from(half).max(1);
     let name = format_args!("{name}_{size}_to_half");
     print_figure(rt, name, percent, "percent")

@@ -7,13 +7,14 @@ ghost use Rattle.root_row.specs.Made.{new_book, new_leaf};
 ghost use Rattle.dep_index.specs.Catalogue.{modules_of};
 
 use crate::texts::plain_catalogue;
-use crate::workers::{COUNT, Host, SlotRange, Worker, measure_workers, worker_counts};
+use crate::workers::{COUNT, Holder, Host, Worker, measure_workers, worker_counts};
 use anyhow::{Result, ensure};
 use crossbeam_utils::CachePadded;
 use dep_index::Catalogue;
 use module_table::Book;
 use root_row::{BookSeat, LeafSeat, Row};
 use std::alloc::{AllocError, Global};
+use std::ops::Range;
 use std::sync::Wait;
 use use_indicator::Leaf;
 
@@ -26,7 +27,7 @@ struct RowLeaf<'a> {
     ghost own: { IsOf row.now leaf },
 }
 
-impl Worker for CachePadded<RowLeaf<'_>> {
+impl Holder for CachePadded<RowLeaf<'_>> {
     fn get<R: Wait>(&mut self, rt: &R, slot: usize) {
         let own: &mut RowLeaf<'_> = self;
         let _ = own.leaf.get(rt, own.row, slot);
@@ -36,32 +37,36 @@ impl Worker for CachePadded<RowLeaf<'_>> {
         let own: &mut RowLeaf<'_> = self;
         let _ = own.leaf.put(own.row, slot);
     }
+}
 
-    fn make_pairs<R: Wait>(&mut self, rt: &R, range: SlotRange, rounds: u64) {
+impl Worker for CachePadded<RowLeaf<'_>> {
+    fn make_pairs<R: Wait>(&mut self, rt: &R, range: Range<usize>, rounds: u64) {
         let own: &mut RowLeaf<'_> = self;
         make_pairs(rt, own.row, &mut own.leaf, range, rounds);
     }
 }
 
-// In a function of its own the loop keeps its registers.
+// In a function of its own, with the row apart from the leaf, the loop keeps its registers.
 #[inline(never)]
-fn make_pairs<R: Wait>(rt: &R, row: &Row, leaf: &mut Leaf, range: SlotRange, rounds: u64)
+fn make_pairs<R: Wait>(rt: &R, row: &Row, leaf: &mut Leaf, range: Range<usize>, rounds: u64)
+    requires inside { range.end ≤ 8 }
     requires wide { 8 ≤ slots row.now.world }
     requires own { IsOf row.now leaf.old }
     ensures own { IsOf row.now leaf.new }
 {
     for _ in 0..rounds {
-        make_round(rt, row, leaf, range);
+        make_round(rt, row, leaf, range.start, range.end);
     }
 }
 
 /// A reference to each is taken and given back.
-fn make_round<R: Wait>(rt: &R, row: &Row, leaf: &mut Leaf, range: SlotRange)
+fn make_round<R: Wait>(rt: &R, row: &Row, leaf: &mut Leaf, from: usize, to: usize)
+    requires inside { to ≤ 8 }
     requires wide { 8 ≤ slots row.now.world }
     requires own { IsOf row.now leaf.old }
     ensures own { IsOf row.now leaf.new }
 {
-    for slot in range.from..range.to {
+    for slot in from..to {
         let _ = leaf.get(rt, row, slot);
         let _ = leaf.put(row, slot);
     }
@@ -69,7 +74,7 @@ fn make_round<R: Wait>(rt: &R, row: &Row, leaf: &mut Leaf, range: SlotRange)
 
 pub fn measure<R: Host>(rt: &R) -> Result<()> {
     let catalogue = plain_catalogue(rt.alloc(), COUNT)?;
-    for workers in &worker_counts(rt)? {
+    for workers in worker_counts(rt)? {
         measure_count(rt, &catalogue, *workers)?;
     }
     Ok(())
@@ -119,18 +124,23 @@ fn leaves_of<'a>(
     requires eight { 8 ≤ slots row.now.world }
     requires new { All (λ s. s ≡ new_leaf row.now.id row.now.world (worker_of s.view)) seats.items }
 {
-    let mut leaves = Vec::with_capacity(alloc, seats.len())?;
+    let mut leaves = Vec::new(alloc);
     for seat in seats {
-        let leaf = leaf_of(alloc, row, seat)?;
-        leaves.push(CachePadded::new(leaf))?;
+        push_leaf(alloc, &mut leaves, row, seat)?;
     }
     Ok(leaves)
 }
 
-fn leaf_of<'a>(alloc: Global, row: &'a Row, seat: LeafSeat) -> Result<RowLeaf<'a>, AllocError>
+fn push_leaf<'a>(
+    alloc: Global,
+    leaves: &mut Vec<CachePadded<RowLeaf<'a>>>,
+    row: &'a Row,
+    seat: LeafSeat,
+) -> Result<(), AllocError>
     requires wide { 8 ≤ slots row.now.world }
     requires new { seat ≡ new_leaf row.now.id row.now.world (worker_of seat.view) }
 {
     let leaf = Leaf::new(alloc, seat, row.slots())?;
-    Ok(RowLeaf { row, leaf })
+    leaves.push(CachePadded::new(RowLeaf { row, leaf }))?;
+    Ok(())
 }

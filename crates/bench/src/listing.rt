@@ -2,21 +2,22 @@
 ghost use Rattle.std.specs.Prelude.{◌≡◌, IfOk};
 ghost use Rattle.dep_index.specs.Catalogue.{modules_of};
 
-use crate::figure::{measure_time, print_figure};
-use crate::texts::numbered_catalogue;
+use crate::figure::{print_figure, print_turns_since};
+use crate::texts::{numbered_catalogue, push_numbered};
 use anyhow::Result;
 use dep_index::Catalogue;
 use proc_modules::{lsmod_text, proc_text};
 use seq_table::{Modules, Table};
 use std::alloc::{AllocError, Global};
 use std::rt::Clock;
+use std::time::Instant;
 
 const WORKERS: usize = 64;
 
 const LISTINGS: usize = 200;
 
 /// How many modules are listed.
-const SIZES: [usize; 3] = [256, 512, 1024];
+static SIZES: [usize; 3] = [256, 512, 1024];
 
 pub fn measure<R: Print + Clock + AllocGlobal>(rt: &R) -> Result<()> {
     for modules in &SIZES {
@@ -39,21 +40,44 @@ fn measure_table<R: Print + Clock + AllocGlobal>(
 ) -> Result<()>
     requires { table.now.catalogue ≡ modules_of catalogue.now }
 {
-    let alloc = rt.alloc();
     let modules = catalogue.len();
-    let lines = |_| Ok(proc_text(alloc, catalogue, table)?.len());
-    let columns = |_| Ok(lsmod_text(alloc, catalogue, table)?.len());
-    let in_lines = measure_time(rt, format_args!("proc_text_{modules}"), LISTINGS, lines)?;
-    let in_columns = measure_time(rt, format_args!("lsmod_text_{modules}"), LISTINGS, columns)?;
+    let start = Instant::now(rt)?;
+    let in_lines = bytes_of(rt.alloc(), catalogue, table, false)?;
+    print_turns_since(rt, format_args!("proc_text_{modules}"), LISTINGS, start)?;
+    let start = Instant::now(rt)?;
+    let in_columns = bytes_of(rt.alloc(), catalogue, table, true)?;
+    print_turns_since(rt, format_args!("lsmod_text_{modules}"), LISTINGS, start)?;
     let name = format_args!("proc_text_{modules}_and_columns");
-    print_figure(rt, name, in_lines.wrapping_add(in_columns), "bytes")
+    print_figure(rt, name, in_lines.wrapping_add(in_columns) as u128, "bytes")
+}
+
+/// Lists again and again, in lines or in columns. How many bytes there were in all.
+fn bytes_of(
+    alloc: Global,
+    catalogue: &Catalogue,
+    table: &Table,
+    in_columns: bool,
+) -> Result<usize, AllocError>
+    requires { table.now.catalogue ≡ modules_of catalogue.now }
+{
+    let mut bytes: usize = 0;
+    for _ in 0..LISTINGS {
+        let text = if in_columns {
+            lsmod_text(alloc, catalogue, table)?
+        } else {
+            proc_text(alloc, catalogue, table)?
+        };
+        bytes = bytes.wrapping_add(text.len());
+    }
+    Ok(bytes)
 }
 
 /// Adds the lines of a module, which needs the four before it.
 fn push_module(text: &mut String, slot: usize) -> Result<(), AllocError> {
-    writeln!(
+    push_numbered(
         text,
-        "module driver-{slot}\nsize {slot}8192\nexports symbol_{slot}"
+        "module driver-@\nsize @8192\nexports symbol_@\n",
+        slot,
     )?;
     for need in slot.saturating_sub(4)..slot {
         writeln!(text, "needs symbol_{need}")?;

@@ -1,10 +1,11 @@
 //! Steps of the machine: 8 threads that get, put, query, remove and load over 64 modules.
 
-use crate::figure::{measure_rate, print_figure};
+use crate::figure::{print_figure, print_rate_since};
 use crate::points::{MODULES, THREADS, loads};
 use crate::texts::plain_catalogue;
 use anyhow::Result;
 use std::rt::Clock;
+use std::time::Instant;
 use step_core::{Call, Event, Machine, Step};
 
 const STEPS: usize = 10_000_000;
@@ -12,10 +13,17 @@ const STEPS: usize = 10_000_000;
 pub fn measure<R: Print + Clock + AllocGlobal>(rt: &R) -> Result<()> {
     let catalogue = plain_catalogue(rt.alloc(), MODULES)?;
     let mut machine = Machine::new(rt.alloc(), &catalogue, THREADS, THREADS, STEPS)?;
+    measure_steps(rt, &mut machine)
+}
+
+/// Loads all modules, and measures the steps behind that.
+fn measure_steps<R: Print + Clock + AllocGlobal>(rt: &R, machine: &mut Machine) -> Result<()> {
     for loading in &loads(rt.alloc(), 0)? {
         machine.step(*loading)?;
     }
-    let points = measure_rate(rt, "machine_steps", STEPS, "steps/s", || run(&mut machine))?;
+    let start = Instant::now(rt)?;
+    let points = run(machine)?;
+    print_rate_since(rt, "machine_steps", STEPS, "steps/s", start)?;
     print_figure(rt, "machine_points", points as u128, "points")
 }
 

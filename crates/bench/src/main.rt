@@ -19,38 +19,55 @@ mod shapes;
 mod texts;
 mod workers;
 
-use anyhow::Result;
+use crate::workers::Host;
+use anyhow::{Result, bail};
 use std::env;
 use std::process::ExitCode;
+use std::rt::Files;
 
-/// A benchmark: its name, and what measures it.
-type Benchmark = (&'static str, fn(&HostRuntime) -> Result<()>);
+static NAMES: [&str; 11] = [
+    "catalogue",
+    "configuration",
+    "growth",
+    "leaves",
+    "listing",
+    "machine",
+    "managed",
+    "manager",
+    "patterns",
+    "plans",
+    "points",
+];
 
 fn main(rt: HostRuntime) -> Result<ExitCode> {
-    let all: [Benchmark; 11] = [
-        ("catalogue", |rt| catalogue::measure(rt)),
-        ("configuration", |rt| configuration::measure(rt)),
-        ("growth", |rt| growth::measure(rt)),
-        ("leaves", |rt| leaves::measure(rt)),
-        ("listing", |rt| listing::measure(rt)),
-        ("machine", |rt| machine::measure(rt)),
-        ("managed", |rt| managed::measure(rt)),
-        ("manager", |rt| manager::measure(rt)),
-        ("patterns", |rt| patterns::measure(rt)),
-        ("plans", |rt| plans::measure(rt)),
-        ("points", |rt| points::measure(rt)),
-    ];
     let Some(name) = env::args(&rt)?.nth(1) else {
-        for (name, _) in &all {
+        for name in &NAMES {
             println!(rt; "{name}")?;
         }
         return Ok(ExitCode::SUCCESS);
     };
-    let Some((_, measure)) = all.iter().find(|(own, _)| *own == name.as_str()) else {
+    if !NAMES.contains(&name.as_str()) {
         eprintln!(rt; "bench: no benchmark {name}")?;
         return Ok(ExitCode::from(2));
-    };
+    }
     load::print_load(&rt)?;
-    measure(&rt)?;
+    measure(&rt, name.as_str())?;
     Ok(ExitCode::SUCCESS)
+}
+
+fn measure<R: Host + Files>(rt: &R, name: &str) -> Result<()> {
+    match name {
+        "catalogue" => catalogue::measure(rt),
+        "configuration" => configuration::measure(rt),
+        "growth" => growth::measure(rt),
+        "leaves" => leaves::measure(rt),
+        "listing" => listing::measure(rt),
+        "machine" => machine::measure(rt),
+        "managed" => managed::measure(rt),
+        "manager" => manager::measure(rt),
+        "patterns" => patterns::measure(rt),
+        "plans" => plans::measure(rt),
+        "points" => points::measure(rt),
+        _ => bail!("{name} is listed and not measured"),
+    }
 }

@@ -2,16 +2,16 @@
 //! manager. At last a crowd: sixteen threads that call for four workers.
 ghost use Rattle.managed_table.specs.Callers.{IsCallerOf};
 
-use crate::manager;
+use crate::manager::workers_of;
 use crate::texts::plain_catalogue;
 use crate::workers::{
-    COUNT, CROWD, CROWDED, Host, SlotRange, Worker, measure_beside, worker_counts,
+    COUNT, CROWD, CROWDED, Holder, Host, Worker, make_pairs, measure_beside, worker_counts,
 };
 use anyhow::{Result, ensure};
 use dep_index::Catalogue;
 use managed_table::{Caller, ManagedTable};
 use module_table::Manager;
-use std::alloc::Global;
+use std::ops::Range;
 use std::sync::Wait;
 
 /// A thread that calls a managed table for a worker.
@@ -23,7 +23,7 @@ struct ManagedWorker<'a> {
     ghost own: { IsCallerOf table.now caller },
 }
 
-impl Worker for ManagedWorker<'_> {
+impl Holder for ManagedWorker<'_> {
     fn get<R: Wait>(&mut self, rt: &R, slot: usize) {
         let _ = self.table.get(rt, &mut self.caller, self.number, slot);
     }
@@ -31,72 +31,17 @@ impl Worker for ManagedWorker<'_> {
     fn put<R: Wait>(&mut self, rt: &R, slot: usize) {
         let _ = self.table.put(rt, &mut self.caller, self.number, slot);
     }
-
-    fn make_pairs<R: Wait>(&mut self, rt: &R, range: SlotRange, rounds: u64) {
-        make_pairs(rt, self.table, &mut self.caller, self.number, range, rounds);
-    }
 }
 
-// In a function of its own the loop keeps its registers.
-#[inline(never)]
-fn make_pairs<R: Wait>(
-    rt: &R,
-    table: &ManagedTable,
-    caller: &mut Caller,
-    worker: usize,
-    range: SlotRange,
-    rounds: u64,
-)
-    requires own { IsCallerOf table.now caller.old }
-    ensures own { IsCallerOf table.now caller.new }
-{
-    for _ in 0..rounds {
-        make_round(rt, table, caller, worker, range);
-    }
-}
-
-/// A reference to each is taken and given back.
-fn make_round<R: Wait>(
-    rt: &R,
-    table: &ManagedTable,
-    caller: &mut Caller,
-    worker: usize,
-    range: SlotRange,
-)
-    requires own { IsCallerOf table.now caller.old }
-    ensures own { IsCallerOf table.now caller.new }
-{
-    for slot in range.from..range.to {
-        let _ = table.get(rt, caller, worker, slot);
-        let _ = table.put(rt, caller, worker, slot);
-    }
-}
-
-impl<'a> ManagedWorker<'a> {
-    fn of(table: &'a ManagedTable, number: usize) -> ManagedWorker<'a> {
-        let caller = table.caller();
-        ManagedWorker {
-            table,
-            caller,
-            number,
-        }
-    }
-
-    /// Loads a module.
-    fn load<R: Wait>(&mut self, rt: &R, slot: usize) -> Result<()> {
-        let begun = self.table.begin_load(rt, &mut self.caller, slot);
-        let ended = self.table.end_load(rt, &mut self.caller, slot, true);
-        ensure!(
-            begun == Some(Ok(())) && ended == Some(Ok(())),
-            "a module is not loaded"
-        );
-        Ok(())
+impl Worker for ManagedWorker<'_> {
+    fn make_pairs<R: Wait>(&mut self, rt: &R, range: Range<usize>, rounds: u64) {
+        make_pairs(rt, self, range, rounds);
     }
 }
 
 pub fn measure<R: Host>(rt: &R) -> Result<()> {
     let catalogue = plain_catalogue(rt.alloc(), COUNT)?;
-    for workers in &worker_counts(rt)? {
+    for workers in worker_counts(rt)? {
         measure_both(rt, &catalogue, *workers, *workers)?;
     }
     measure_both(rt, &catalogue, CROWDED, CROWD)
@@ -127,28 +72,41 @@ fn measure_loaded<R: Host>(
     manager: &Manager,
     threads: u8,
 ) -> Result<()> {
-    load_all(rt, table)?;
-    manager::load_all(rt, manager)?;
-    let mut ours = callers_of(rt.alloc(), table, threads)?;
-    let mut others = manager::workers_of(rt.alloc(), manager, threads)?;
+    let mut ours = callers_of(rt, table, threads)?;
+    let mut others = workers_of(rt, manager, threads)?;
     measure_beside(rt, "managed_pairs", "@manager", &mut ours, &mut others)
 }
 
-/// So many threads' callers, who call for the workers in turn.
-fn callers_of(alloc: Global, table: &ManagedTable, threads: u8) -> Result<Vec<ManagedWorker<'_>>> {
-    let mut all = Vec::new(alloc);
+/// So many threads' callers, who call for the workers in turn. All modules are loaded.
+fn callers_of<'a, R: AllocGlobal + Wait>(
+    rt: &R,
+    table: &'a ManagedTable,
+    threads: u8,
+) -> Result<Vec<ManagedWorker<'a>>> {
+    load_all(rt, table)?;
+    let mut all = Vec::new(rt.alloc());
     for thread in 0..threads {
         let number = usize::from(thread) % table.workers().max(1);
-        all.push(ManagedWorker::of(table, number))?;
+        let caller = table.caller();
+        all.push(ManagedWorker {
+            table,
+            caller,
+            number,
+        })?;
     }
     Ok(all)
 }
 
 /// Loads all modules.
 fn load_all<R: Wait>(rt: &R, table: &ManagedTable) -> Result<()> {
-    let mut worker = ManagedWorker::of(table, 0);
+    let mut caller = table.caller();
     for slot in 0..COUNT {
-        worker.load(rt, slot)?;
+        let begun = table.begin_load(rt, &mut caller, slot);
+        let ended = table.end_load(rt, &mut caller, slot, true);
+        ensure!(
+            matches!((begun, ended), (Some(Ok(())), Some(Ok(())))),
+            "a module is not loaded"
+        );
     }
     Ok(())
 }

@@ -1,11 +1,12 @@
 //! Shell patterns of hardware aliases: one pair at a time, and a look-up over the 26,000 of a modules.alias text.
 
-use crate::figure::{measure_rate, measure_time};
+use crate::figure::{print_rate_since, print_turns_since};
 use crate::texts::text_of;
 use alias_match::{Aliases, Pattern, read_aliases};
 use anyhow::{Result, ensure};
 use std::alloc::{AllocError, Global};
 use std::rt::Clock;
+use std::time::Instant;
 
 const USB: &[u8] = b"usb:v0A12p0001d*dc*dsc*dp*ic*isc*ip*in*";
 
@@ -35,12 +36,12 @@ const PCI_MISSES: Texts = [
     b"pci:v00008086d00009D2Fsv00001028sd000006DEbc0Csc03i31",
 ];
 
-/// The names of figures, each with a pattern, two texts and whether they match.
-const PAIRS: [(&str, &[u8], Texts, bool); 4] = [
-    ("match_usb_hit", USB, USB_HITS, true),
-    ("match_pci_hit", PCI, PCI_HITS, true),
-    ("match_usb_miss", USB, USB_MISSES, false),
-    ("match_pci_miss", PCI, PCI_MISSES, false),
+/// The names of figures, each with a pattern, two texts and how often they match.
+static PAIRS: [(&str, &[u8], Texts, usize); 4] = [
+    ("match_usb_hit", USB, USB_HITS, ROUNDS),
+    ("match_pci_hit", PCI, PCI_HITS, ROUNDS),
+    ("match_usb_miss", USB, USB_MISSES, 0),
+    ("match_pci_miss", PCI, PCI_MISSES, 0),
 ];
 
 const ROUNDS: usize = 300_000;
@@ -68,25 +69,72 @@ fn push_alias(text: &mut String, device: usize) -> Result<(), AllocError> {
     }
 }
 
+fn alias_text(alloc: Global) -> Result<String, AllocError> {
+    text_of(alloc, "", DEVICES, push_alias)
+}
+
 /// The aliases of this text.
 pub fn aliases(alloc: Global) -> Result<Aliases> {
-    let text = text_of(alloc, "", DEVICES, push_alias)?;
-    Ok(read_aliases(alloc, text.as_bytes())?)
+    Ok(read_aliases(alloc, alias_text(alloc)?.as_bytes())?)
 }
 
 pub fn measure<R: Print + Clock + AllocGlobal>(rt: &R) -> Result<()> {
-    for (name, pattern, texts, is_hit) in &PAIRS {
-        let pattern = Pattern::read(rt.alloc(), pattern)?;
-        let matches = |turn: usize| Ok(usize::from(pattern.matches(texts[turn % 2])));
-        let hits = measure_time(rt, *name, ROUNDS, matches)?;
-        let wanted = if *is_hit { ROUNDS } else { 0 };
-        ensure!(hits == wanted as u128, "another answer");
+    for (name, pattern, texts, hits) in &PAIRS {
+        measure_pair(rt, name, pattern, texts, *hits)?;
     }
-    let text = text_of(rt.alloc(), "", DEVICES, push_alias)?;
-    let read = || Ok(read_aliases(rt.alloc(), text.as_bytes())?);
-    let aliases = measure_rate(rt, "read_aliases", text.len(), "bytes/s", read)?;
-    let found = measure_time(rt, "lookup_26000_patterns", LOOKUPS, |_| Ok(hits(&aliases)))?;
-    ensure!(found == LOOKUPS as u128, "another number of patterns");
+    measure_aliases(rt)
+}
+
+fn measure_pair<R: Print + Clock + AllocGlobal>(
+    rt: &R,
+    name: &str,
+    pattern: &[u8],
+    texts: &Texts,
+    hits: usize,
+) -> Result<()> {
+    let pattern = Pattern::read(rt.alloc(), pattern)?;
+    measure_pattern(rt, name, &pattern, texts, hits)
+}
+
+fn measure_aliases<R: Print + Clock + AllocGlobal>(rt: &R) -> Result<()> {
+    let text = alias_text(rt.alloc())?;
+    let start = Instant::now(rt)?;
+    let aliases = read_aliases(rt.alloc(), text.as_bytes())?;
+    print_rate_since(rt, "read_aliases", text.len(), "bytes/s", start)?;
+    measure_look_ups(rt, &aliases)
+}
+
+fn measure_pattern<R: Print + Clock>(
+    rt: &R,
+    name: &str,
+    pattern: &Pattern,
+    texts: &Texts,
+    hits: usize,
+) -> Result<()> {
+    let start = Instant::now(rt)?;
+    let found = matches(pattern, texts);
+    print_turns_since(rt, name, ROUNDS, start)?;
+    ensure!(found == hits, "another answer");
+    Ok(())
+}
+
+/// How often the pattern matches one of the texts, which are taken in turn.
+fn matches(pattern: &Pattern, texts: &Texts) -> usize {
+    let mut hits: usize = 0;
+    for turn in 0..ROUNDS {
+        hits = hits.wrapping_add(usize::from(pattern.matches(texts[turn % 2])));
+    }
+    hits
+}
+
+fn measure_look_ups<R: Print + Clock>(rt: &R, aliases: &Aliases) -> Result<()> {
+    let start = Instant::now(rt)?;
+    let mut found: usize = 0;
+    for _ in 0..LOOKUPS {
+        found = found.wrapping_add(hits(aliases));
+    }
+    print_turns_since(rt, "lookup_26000_patterns", LOOKUPS, start)?;
+    ensure!(found == LOOKUPS, "another number of patterns");
     Ok(())
 }
 

@@ -1,19 +1,20 @@
 //! Plans in a catalogue of 1,024 modules with three hard dependencies each, and a look-up over 26,000 aliases.
 
-use crate::figure::{measure_time, print_figure};
+use crate::figure::{print_figure, print_turns_since};
 use crate::patterns::{DEVICE, aliases};
-use crate::texts::{numbered_catalogue, text_of};
-use anyhow::{Result, ensure};
+use crate::texts::{numbered_catalogue, plain_catalogue, push_numbered, text_of};
+use anyhow::Result;
 use dep_index::read_dep;
-use load_plan::{Sources, find, plan, removal_plan};
+use load_plan::{PlanError, Sources, find, plan, removal_plan};
 use modprobe_conf::{Conf, read_conf};
 use std::alloc::{AllocError, Global};
 use std::rt::Clock;
+use std::time::Instant;
 
 const MODULES: usize = 1024;
 
 /// How far behind a module its dependencies stand; those behind the last module are left out.
-const STEPS: [usize; 3] = [1, 7, 40];
+static STEPS: [usize; 3] = [1, 7, 40];
 
 const PLANS: usize = 500;
 
@@ -24,19 +25,18 @@ const LOOKUPS: usize = 50;
 const TEXT_BYTES: usize = 1 << 20;
 
 /// What is asked of a module.
-#[derive(Clone, Copy)]
 enum Asked {
     Load(&'static [u8]),
     Removal(&'static [u8]),
 }
 
 /// The plans that are measured, with the names of their figures: by symbols, and by modules.dep.
-const BY_SYMBOLS: [(&str, Asked); 2] = [
+static BY_SYMBOLS: [(&str, Asked); 2] = [
     ("plan_by_symbols", Asked::Load(b"module_0")),
     ("short_plan_by_symbols", Asked::Load(b"module_1000")),
 ];
 
-const BY_PATHS: [(&str, Asked); 3] = [
+static BY_PATHS: [(&str, Asked); 3] = [
     ("plan_by_modules_dep", Asked::Load(b"module_0")),
     ("short_plan_by_modules_dep", Asked::Load(b"module_1000")),
     ("removal_plan_by_modules_dep", Asked::Removal(b"module_0")),
@@ -44,36 +44,40 @@ const BY_PATHS: [(&str, Asked); 3] = [
 
 pub fn measure<R: Print + Clock + AllocGlobal>(rt: &R) -> Result<()> {
     drop(Vec::<u8>::with_capacity(rt.alloc(), TEXT_BYTES)?);
-    over_sources(rt.alloc(), true, |sources| {
-        measure_plans(rt, sources, &BY_SYMBOLS)?;
-        over_sources(rt.alloc(), false, |own| measure_plans(rt, own, &BY_PATHS))?;
-        measure_find(rt, sources)
-    })
-}
-
-/// Measures over the hard dependencies in the catalogue, as symbols, or else in modules.dep.
-fn over_sources<F: FnOnce(&Sources<'_>) -> Result<()>>(
-    alloc: Global,
-    has_symbols: bool,
-    measure: F,
-) -> Result<()>
-    requires { F.IsAlwaysCallable measure }
-{
-    let push = |text: &mut String, slot| push_module(text, slot, has_symbols);
-    let paths = text_of(alloc, "", if has_symbols { 0 } else { MODULES }, push_paths)?;
-    let catalogue = numbered_catalogue(alloc, MODULES, push)?;
-    let dependencies = read_dep(alloc, paths.as_bytes())?;
-    let configuration = configuration(alloc)?;
-    measure(&Sources {
-        catalogue: &catalogue,
-        dependencies: &dependencies,
-        configuration: &configuration,
-    })
+    let configuration = configuration(rt.alloc())?;
+    measure_symbols(rt, &configuration)?;
+    measure_paths(rt, &configuration)
 }
 
 fn configuration(alloc: Global) -> Result<Conf, AllocError> {
     let settings = text_of(alloc, "", MODULES, push_settings)?;
     read_conf(alloc, settings.as_bytes())
+}
+
+/// Measures over hard dependencies in the catalogue, as symbols.
+fn measure_symbols<R: Print + Clock + AllocGlobal>(rt: &R, configuration: &Conf) -> Result<()> {
+    let catalogue = numbered_catalogue(rt.alloc(), MODULES, push_module)?;
+    let dependencies = read_dep(rt.alloc(), b"")?;
+    let sources = Sources {
+        catalogue: &catalogue,
+        dependencies: &dependencies,
+        configuration,
+    };
+    measure_plans(rt, &sources, &BY_SYMBOLS)
+}
+
+/// Measures over hard dependencies in modules.dep.
+fn measure_paths<R: Print + Clock + AllocGlobal>(rt: &R, configuration: &Conf) -> Result<()> {
+    let catalogue = plain_catalogue(rt.alloc(), MODULES)?;
+    let paths = text_of(rt.alloc(), "", MODULES, push_paths)?;
+    let dependencies = read_dep(rt.alloc(), paths.as_bytes())?;
+    let sources = Sources {
+        catalogue: &catalogue,
+        dependencies: &dependencies,
+        configuration,
+    };
+    measure_plans(rt, &sources, &BY_PATHS)?;
+    measure_find(rt, &sources)
 }
 
 fn measure_plans<R: Print + Clock + AllocGlobal>(
@@ -82,41 +86,47 @@ fn measure_plans<R: Print + Clock + AllocGlobal>(
     plans: &[(&str, Asked)],
 ) -> Result<()> {
     for (name, asked) in plans {
-        let items = measure_time(rt, *name, PLANS, |_| len_of(rt.alloc(), sources, *asked))?;
-        let name = format_args!("{name}_items");
-        print_figure(rt, name, items / PLANS as u128, "items")?;
+        let start = Instant::now(rt)?;
+        let items = items_of(rt.alloc(), sources, asked)?;
+        print_turns_since(rt, *name, PLANS, start)?;
+        let each = items / PLANS;
+        print_figure(rt, format_args!("{name}_items"), each as u128, "items")?;
     }
     Ok(())
 }
 
-/// How many modules the plan that is asked for has.
-fn len_of(alloc: Global, sources: &Sources, asked: Asked) -> Result<usize> {
-    match asked {
-        Asked::Load(module) => Ok(plan(alloc, module, &[], sources)?.len()),
-        Asked::Removal(module) => Ok(removal_plan(alloc, module, sources)?.len()),
+/// Plans again and again. How many modules there were in all.
+fn items_of(alloc: Global, sources: &Sources, asked: &Asked) -> Result<usize, PlanError> {
+    let mut items: usize = 0;
+    for _ in 0..PLANS {
+        let each = match asked {
+            Asked::Load(module) => plan(alloc, module, &[], sources)?.len(),
+            Asked::Removal(module) => removal_plan(alloc, module, sources)?.len(),
+        };
+        items = items.wrapping_add(each);
     }
+    Ok(items)
 }
 
 fn measure_find<R: Print + Clock + AllocGlobal>(rt: &R, sources: &Sources) -> Result<()> {
     let aliases = aliases(rt.alloc())?;
-    let (catalogue, configuration) = (sources.catalogue, sources.configuration);
-    let look_up = |_| {
-        let found = find(rt.alloc(), DEVICE, catalogue, configuration, &aliases);
-        Ok(usize::from(found.is_ok()))
-    };
-    let found = measure_time(rt, "find_in_26000_aliases", LOOKUPS, look_up)?;
-    ensure!(found == LOOKUPS as u128, "no module was found");
-    Ok(())
+    let start = Instant::now(rt)?;
+    for _ in 0..LOOKUPS {
+        find(
+            rt.alloc(),
+            DEVICE,
+            sources.catalogue,
+            sources.configuration,
+            &aliases,
+        )?;
+    }
+    print_turns_since(rt, "find_in_26000_aliases", LOOKUPS, start)
 }
 
-/// Adds the lines of a module, with its dependencies by symbols or without them.
-fn push_module(text: &mut String, slot: usize, has_symbols: bool) -> Result<(), AllocError> {
-    writeln!(text, "module module_{slot}")?;
-    if has_symbols {
-        writeln!(text, "exports symbol_{slot}")?;
-        push_dependencies(text, slot, "needs symbol_", "\n")?;
-    }
-    Ok(())
+/// Adds the lines of a module, with its dependencies.
+fn push_module(text: &mut String, slot: usize) -> Result<(), AllocError> {
+    writeln!(text, "module module_{slot}\nexports symbol_{slot}")?;
+    push_dependencies(text, slot, "needs symbol_", "\n")
 }
 
 /// Adds a module's line of modules.dep.
@@ -144,11 +154,10 @@ fn push_dependencies(
 
 /// Adds an options line for every eighth module, and a softdep line for every sixteenth.
 fn push_settings(text: &mut String, slot: usize) -> Result<(), AllocError> {
-    if slot % 8 == 0 {
-        writeln!(text, "options module_{slot} debug=1 level=3")?;
-    }
-    if slot % 16 == 0 {
-        writeln!(text, "softdep module_{slot} pre: other_{slot}")?;
-    }
-    Ok(())
+    let lines = match slot % 16 {
+        0 => "options module_@ debug=1 level=3\nsoftdep module_@ pre: other_@\n",
+        8 => "options module_@ debug=1 level=3\n",
+        _ => "",
+    };
+    push_numbered(text, lines, slot)
 }

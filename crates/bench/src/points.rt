@@ -1,12 +1,13 @@
 //! Schedules of 8 threads that get, query and put over 64 modules: their points, and the judging of these.
 
-use crate::figure::measure_rate;
+use crate::figure::print_rate_since;
 use crate::texts::plain_catalogue;
 use anyhow::{Result, ensure};
 use dep_index::Catalogue;
 use linear_points::{check_points, points};
 use std::alloc::{AllocError, Global};
 use std::rt::Clock;
+use std::time::Instant;
 use step_core::{Call, Step};
 
 pub const THREADS: usize = 8;
@@ -17,7 +18,7 @@ pub const MODULES: usize = 64;
 const LINES: usize = 14;
 
 /// How many steps the schedules have.
-const SIZES: [usize; 2] = [250_000, 1_000_000];
+static SIZES: [usize; 2] = [250_000, 1_000_000];
 
 pub fn measure<R: Print + Clock + AllocGlobal>(rt: &R) -> Result<()> {
     let catalogue = plain_catalogue(rt.alloc(), MODULES)?;
@@ -35,11 +36,18 @@ fn measure_points<R: Print + Clock + AllocGlobal>(
     steps: &[Step],
 ) -> Result<()> {
     let len = steps.len();
-    let find = || Ok(points(rt.alloc(), catalogue, THREADS, THREADS, steps)?);
-    let found = measure_rate(rt, format_args!("points_of_{len}"), len, "steps/s", find)?;
-    let judge = || Ok(check_points(rt.alloc(), catalogue, THREADS, THREADS, steps, &found)?);
-    let name = format_args!("check_points_of_{len}");
-    let is_linear = measure_rate(rt, name, len, "steps/s", judge)?;
+    let start = Instant::now(rt)?;
+    let found = points(rt.alloc(), catalogue, THREADS, THREADS, steps)?;
+    print_rate_since(rt, format_args!("points_of_{len}"), len, "steps/s", start)?;
+    let start = Instant::now(rt)?;
+    let is_linear = check_points(rt.alloc(), catalogue, THREADS, THREADS, steps, &found)?;
+    print_rate_since(
+        rt,
+        format_args!("check_points_of_{len}"),
+        len,
+        "steps/s",
+        start,
+    )?;
     ensure!(is_linear, "the points are no linearization");
     Ok(())
 }

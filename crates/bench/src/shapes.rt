@@ -2,6 +2,7 @@
 //! before the `|` of a line tell from which number up to which other it stands; with none it stands once. `@` in it is
 //! its number. `[..]` is a part that stands for numbers likewise.
 
+use crate::texts::push_numbered;
 use std::alloc::AllocError;
 use std::ops::Range;
 
@@ -136,7 +137,7 @@ const ALIASES: &str = "|module m0
 /// A session: its name, its whole size, how many others it has, and its lines.
 pub type Session = (&'static str, usize, usize, &'static [&'static str]);
 
-pub const SESSIONS: [Session; 13] = [
+pub static SESSIONS: [Session; 13] = [
     ("long_plan", 2000, 300, &[OVER_A_CHAIN, LOAD_AN_ITEM]),
     ("longer_plan", 32_000, 12, &[OVER_A_CHAIN, LOAD_AN_ITEM]),
     ("dense_plan", 1_000_000, 0, &[PAIRS, DENSE, LOAD_THE_FIRST]),
@@ -213,24 +214,17 @@ fn push_lines(text: &mut String, line: &str, sizes: Sizes) -> Written {
 
 fn push_line(text: &mut String, line: &str, sizes: Sizes, number: usize) -> Written {
     for part in line.split('[') {
-        let (further, behind) = part.split_once(']').unwrap_or(("", part));
-        let (numbers, further) = sizes.spread(further, number);
-        for other in numbers {
-            push_numbered(text, further, other)?;
-        }
-        push_numbered(text, behind, number)?;
+        push_part(text, part, sizes, number)?;
     }
     text.push('\n')
 }
 
-/// Adds a text, with a number for each `@`.
-fn push_numbered(text: &mut String, part: &str, number: usize) -> Written {
-    for byte in part.bytes() {
-        if byte == b'@' {
-            write!(text, "{number}")?;
-        } else {
-            text.push(byte as char)?;
-        }
+/// Adds what stands in a part up to its `]` for each of its numbers, and then what stands behind it.
+fn push_part(text: &mut String, part: &str, sizes: Sizes, number: usize) -> Written {
+    let (further, behind) = part.split_once(']').unwrap_or(("", part));
+    let (numbers, further) = sizes.spread(further, number);
+    for other in numbers {
+        push_numbered(text, further, other)?;
     }
-    Ok(())
+    push_numbered(text, behind, number)
 }
