@@ -7,8 +7,8 @@ use crate::reasons::known::Known;
 use crate::reasons::named_lines::NamedLines;
 use crate::reasons::sources::Sources;
 use crate::reasons::tasks::{Part, Task, Tasks};
-use crate::reasons::told::{Saying, Spot, Told};
-use kmod_query::{Ask, Object, Query, World, is_barred, is_fatal, is_passed};
+use crate::reasons::told::{Spot, Told};
+use kmod_query::{Ask, Asked, Object, Query, World, is_barred, is_fatal, is_passed};
 use std::alloc::{AllocError, Global};
 
 /// How many words of a query are names.
@@ -25,7 +25,7 @@ fn name_count(query: &Query<'_>) -> usize {
 impl Told<'_> {
     /// Begins with a module that is to be loaded.
     fn begin_load(&mut self, tasks: &mut Tasks, object: &Object) -> Result<(), AllocError> {
-        let Known { world, query, .. } = self.known;
+        let (world, query) = (&self.known.asked.world, &self.known.asked.query);
         if is_passed(world, query, object) {
             self.tell_in_kernel(&object.name, b", so nothing is loaded");
             return Ok(());
@@ -46,7 +46,7 @@ impl Told<'_> {
 
     /// Begins with a module that a name stands for. Whether it is refused is answered.
     fn begin(&mut self, tasks: &mut Tasks, object: &Object) -> Result<bool, AllocError> {
-        match self.known.query.ask {
+        match self.known.asked.query.ask {
             Ask::ShowDepends | Ask::DryRun => {
                 self.begin_load(tasks, object)?;
                 Ok(false)
@@ -59,9 +59,8 @@ impl Told<'_> {
     /// Tells the modules of a name that are left out, since an earlier one is refused.
     fn tell_left_out(&mut self, refused: &Object, objects: &[Object]) {
         for object in objects {
-            let what = Saying::with_name(b"not asked for, since ", &refused.name);
-            let what = what.and(b" is not removed", b"");
-            self.say(&object.name, what, Spot::Nowhere);
+            let what: [&[u8]; 3] = [b"not asked for, since ", &refused.name, b" is not removed"];
+            self.say(&object.name, &what, Spot::Nowhere);
         }
     }
 
@@ -93,7 +92,7 @@ impl Told<'_> {
         let refused = self.begin_word(tasks, word)?;
         if self.known.is_removal() {
             self.tell_tasks(tasks)?;
-            if refused && is_fatal(self.known.query) {
+            if refused && is_fatal(&self.known.asked.query) {
                 tasks.end();
             }
         }
@@ -102,7 +101,7 @@ impl Told<'_> {
 
     /// Tells the names, as far as they are asked for, and what they lead to.
     fn tell_names(&mut self, tasks: &mut Tasks) -> Result<(), AllocError> {
-        let query = self.known.query;
+        let query = &self.known.asked.query;
         for word in query.words.iter().take(name_count(query)) {
             if tasks.has_ended() {
                 return Ok(());
@@ -133,13 +132,13 @@ impl Told<'_> {
 
     /// Tells why the words of the query are answered as they are.
     fn tell_words(&mut self) -> Result<(), AllocError> {
-        let mut tasks = Tasks::new(self.alloc, !self.known.query.all);
+        let mut tasks = Tasks::new(self.alloc, !self.known.asked.query.all);
         self.tell_names(&mut tasks)
     }
 
     fn tell_all(&mut self) -> Result<(), AllocError> {
         self.tell_words()?;
-        if matches!(self.known.query.ask, Ask::ShowConfig) {
+        if matches!(self.known.asked.query.ask, Ask::ShowConfig) {
             self.tell_idle()?;
         }
         self.say_hidden();
@@ -152,19 +151,18 @@ impl Told<'_> {
 fn explained<'a>(
     alloc: Global,
     sources: &Sources<'a>,
-    world: &World<'a>,
-    query: &Query<'a>,
+    asked: &Asked<'a>,
     named: &mut NamedLines<'a>,
 ) -> Result<Vec<u8>, AllocError>
     ensures { IfOk result (λ lines. list_all is_shown lines.items ≡ true) }
 {
-    named.add(alloc, world.conf, sources.builtin)?;
+    named.add(alloc, asked.world.conf, sources.builtin)?;
     let known = Known {
-        world,
-        query,
+        asked,
         named,
+        sources,
     };
-    let mut told = Told::new(alloc, known, *sources);
+    let mut told = Told::new(alloc, &known);
     told.tell_all()?;
     told.into_lines()
 }
@@ -180,5 +178,10 @@ pub fn explanation(
     ensures { IfOk result (λ lines. list_all is_shown lines.items ≡ true) }
 {
     let mut named = NamedLines::new(alloc);
-    explained(alloc, sources, world, query, &mut named)
+    let asked = Asked {
+        alloc,
+        world: *world,
+        query: *query,
+    };
+    explained(alloc, sources, &asked, &mut named)
 }

@@ -1,7 +1,7 @@
 //! Lines of the configuration that have no effect.
 
 use crate::reasons::heads::{Head, Heads};
-use crate::reasons::told::{Saying, Told};
+use crate::reasons::told::Told;
 use crate::reasons::told_modules::LATER;
 use kmod_conf::TextLine;
 use kmod_names::AliasEntry;
@@ -19,7 +19,7 @@ impl Told<'_> {
         if !self.known.named.aliases.numbers(name).is_empty() {
             return Ok(true);
         }
-        let finding = find_name(self.alloc, self.known.world, name)?;
+        let finding = find_name(self.alloc, &self.known.asked.world, name)?;
         if !matches!(finding, Finding::Nothing) {
             return Ok(true);
         }
@@ -30,9 +30,8 @@ impl Told<'_> {
         for line in lines {
             let target = line.target.as_bytes();
             if !self.known.is_module(self.alloc, target)? {
-                let what = Saying::with_name(b"alias of ", target);
-                let what = what.and(b", but no module has that name", b"");
-                self.say_of(line.pattern.as_bytes(), what, line.place);
+                let what: [&[u8]; 3] = [b"alias of ", target, b", but no module has that name"];
+                self.say_of(line.pattern.as_bytes(), &what, line.place);
             }
         }
         Ok(())
@@ -43,12 +42,12 @@ impl Told<'_> {
         &mut self,
         lines: &[Head<'_>],
         has_patterns: bool,
-        what: Saying<'_>,
+        what: &[u8],
     ) -> Result<(), AllocError> {
         for line in lines {
             let passes = has_patterns && is_pattern(line.name);
             if !passes && !self.known.is_module(self.alloc, line.name)? {
-                self.say_of(line.name, what, line.place);
+                self.say_of(line.name, &[what], line.place);
             }
         }
         Ok(())
@@ -58,8 +57,8 @@ impl Told<'_> {
         for line in lines {
             let name = line.name.as_bytes();
             if !self.is_known(name)? {
-                let what = Saying::of(b"options, but no module or alias has this name");
-                self.say_of(name, what, line.place);
+                let what = b"options, but no module or alias has this name";
+                self.say_of(name, &[what], line.place);
             }
         }
         Ok(())
@@ -69,20 +68,21 @@ impl Told<'_> {
     fn tell_later_lines(&mut self, kind: &[u8], lines: &Heads<'_>) {
         for (number, line) in lines.all().iter().enumerate() {
             if lines.numbers(line.name).first() != Some(&number) {
-                self.say_of(line.name, Saying::with_name(kind, LATER), line.place);
+                self.say_of(line.name, &[kind, LATER], line.place);
             }
         }
     }
 
     /// Tells the lines of the configuration that have no effect.
     pub(crate) fn tell_idle(&mut self) -> Result<(), AllocError> {
-        let conf = self.known.world.conf;
+        let asked = self.known.asked;
+        let conf = asked.world.conf;
         let named = self.known.named;
-        let what = Saying::of(b"blacklisted, but no module has this name");
+        let what = b"blacklisted, but no module has this name";
         self.tell_idle_names(named.blacklist.all(), false, what)?;
         self.tell_idle_aliases(conf.aliases())?;
         self.tell_idle_options(conf.options())?;
-        let what = Saying::of(b"softdep, but no module has this name");
+        let what = b"softdep, but no module has this name";
         self.tell_idle_names(named.softdeps.all(), true, what)?;
         self.tell_later_lines(b"install", &named.installs);
         self.tell_later_lines(b"remove", &named.removes);

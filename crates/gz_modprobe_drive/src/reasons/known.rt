@@ -1,21 +1,23 @@
 //! What an explanation is of.
 
 use crate::reasons::named_lines::NamedLines;
-use kmod_query::{Ask, ModuleState, ModuleStatus, Query, World};
+use crate::reasons::sources::Sources;
+use kmod_query::{Ask, Asked, ModuleState, ModuleStatus};
 use std::alloc::{AllocError, Global};
 
-/// A world, a query of it, and the lines of the world's texts by their names.
+/// A query, the world that it asks of, the lines of that world's texts by their names, and the files that these stand in.
 #[derive(Clone, Copy)]
 pub(crate) struct Known<'a> {
-    pub(crate) world: &'a World<'a>,
-    pub(crate) query: &'a Query<'a>,
+    pub(crate) asked: &'a Asked<'a>,
     pub(crate) named: &'a NamedLines<'a>,
+    pub(crate) sources: &'a Sources<'a>,
 }
 
 impl Known<'_> {
     pub(crate) fn is_live(&self, name: &[u8]) -> bool {
+        let asked = self.asked;
         matches!(
-            self.world.states.of(name),
+            asked.world.states.of(name),
             Some(ModuleStatus {
                 state: ModuleState::Live,
                 ..
@@ -25,22 +27,25 @@ impl Known<'_> {
 
     /// Whether modules are to be removed.
     pub(crate) fn is_removal(&self) -> bool {
-        matches!(self.query.ask, Ask::Remove | Ask::ShowRemoval)
+        matches!(self.asked.query.ask, Ask::Remove | Ask::ShowRemoval)
     }
 
     /// Whether modules.dep has a module.
     pub(crate) fn has_file(&self, name: &[u8]) -> bool {
-        self.world.index.dependencies().find(name).is_some()
+        let asked = self.asked;
+        asked.world.index.dependencies().find(name).is_some()
     }
 
     /// Whether an object is built in.
     pub(crate) fn is_built_in(&self, name: &[u8], is_alias: bool) -> bool {
-        is_alias || self.world.index.is_builtin(name)
+        let asked = self.asked;
+        is_alias || asked.world.index.is_builtin(name)
     }
 
     /// Whether a line or a text has a module of this name, or a pattern of commands matches it.
     pub(crate) fn is_module(&self, alloc: Global, name: &[u8]) -> Result<bool, AllocError> {
-        let (conf, index) = (self.world.conf, self.world.index);
+        let asked = self.asked;
+        let (conf, index) = (asked.world.conf, asked.world.index);
         Ok(
             self.has_file(name)
                 || index.is_builtin(name)

@@ -6,7 +6,6 @@ ghost use Rattle.gz_modprobe_drive.specs.Told.{is_shown};
 use crate::reasons::heads::Heads;
 use crate::reasons::known::Known;
 use crate::reasons::shown::Shown;
-use crate::reasons::sources::Sources;
 use kmod_names::Place;
 use std::alloc::{AllocError, Global};
 
@@ -26,55 +25,22 @@ pub(crate) enum Spot<'a> {
     Nowhere,
 }
 
-/// What is said: words, a name, more words, a text.
-#[derive(Clone, Copy)]
-pub(crate) struct Saying<'a> {
-    words: &'a [u8],
-    name: &'a [u8],
-    more: &'a [u8],
-    text: &'a [u8],
-}
-
-impl<'a> Saying<'a> {
-    /// Words alone.
-    pub(crate) fn of(words: &'a [u8]) -> Saying<'a> {
-        Saying::with_name(words, b"")
-    }
-
-    /// Words, and a name after them.
-    pub(crate) fn with_name(words: &'a [u8], name: &'a [u8]) -> Saying<'a> {
-        Saying {
-            words,
-            name,
-            more: b"",
-            text: b"",
-        }
-    }
-
-    /// These words, and then more, with a text after them.
-    pub(crate) fn and(self, more: &'a [u8], text: &'a [u8]) -> Saying<'a> {
-        Saying { more, text, ..self }
-    }
-}
-
 /// Lines about what is known, one after another.
 #[derive(Drop)]
 pub(crate) struct Told<'a> {
     pub(crate) alloc: Global,
-    pub(crate) known: Known<'a>,
-    sources: Sources<'a>,
+    pub(crate) known: &'a Known<'a>,
     lines: Shown,
     /// For how many words near names may still be looked for.
     pub(crate) searches: usize,
 }
 
 impl<'a> Told<'a> {
-    /// No lines yet. `sources` says in which files lines stand.
-    pub(crate) fn new(alloc: Global, known: Known<'a>, sources: Sources<'a>) -> Told<'a> {
+    /// No lines yet.
+    pub(crate) fn new(alloc: Global, known: &'a Known<'a>) -> Told<'a> {
         Told {
             alloc,
             known,
-            sources,
             lines: Shown::new(alloc),
             searches: SEARCHES,
         }
@@ -104,16 +70,17 @@ impl<'a> Told<'a> {
         }
     }
 
-    /// Adds a line: of whom, what is said, and where that stands.
-    pub(crate) fn say(&mut self, whom: &[u8], what: Saying<'_>, spot: Spot<'_>) {
-        self.lines.push(&[whom, b": ", what.words, what.name, what.more, what.text]);
+    /// Adds a line: of whom, the parts of what is said, and where that stands.
+    pub(crate) fn say(&mut self, whom: &[u8], what: &[&[u8]], spot: Spot<'_>) {
+        self.lines.push(&[whom, b": "]);
+        self.lines.push(what);
         self.push_spot(spot);
         self.lines.end_line();
     }
 
     /// Adds a line of what stands in the configuration.
-    pub(crate) fn say_of(&mut self, whom: &[u8], what: Saying<'_>, place: Place) {
-        let path = self.sources.path(place.source);
+    pub(crate) fn say_of(&mut self, whom: &[u8], what: &[&[u8]], place: Place) {
+        let path = self.known.sources.path(place.source);
         self.say(whom, what, Spot::Line(path, place.line));
     }
 
@@ -121,7 +88,7 @@ impl<'a> Told<'a> {
     pub(crate) fn say_of_each(
         &mut self,
         whom: &[u8],
-        what: Saying<'_>,
+        what: &[&[u8]],
         lines: &Heads<'_>,
         name: &[u8],
         counting: Option<Place>,
@@ -136,9 +103,9 @@ impl<'a> Told<'a> {
 
     /// Tells the files of the configuration that are hidden by others of their names.
     pub(crate) fn say_hidden(&mut self) {
-        for file in self.sources.hidden {
-            let what = Saying::of(b"not read, since a file of its name comes first");
-            self.say(&file.path, what, Spot::Whole(&file.by));
+        for file in self.known.sources.hidden {
+            let what = b"not read, since a file of its name comes first";
+            self.say(&file.path, &[what], Spot::Whole(&file.by));
         }
     }
 }

@@ -2,7 +2,7 @@
 
 use crate::reasons::heads::Heads;
 use crate::reasons::tasks::{Part, Task, Tasks};
-use crate::reasons::told::{Saying, Spot, Told};
+use crate::reasons::told::{Spot, Told};
 use crate::reasons::told_words::DEPENDENCIES;
 use kmod_conf::TextLine;
 use kmod_names::{Place, Text};
@@ -18,8 +18,7 @@ pub(crate) const LATER: &[u8] = b" line does not count, since another comes firs
 impl Told<'_> {
     /// Tells what /sys/module says of a module, and what follows.
     pub(crate) fn tell_state(&mut self, name: &[u8], state: &[u8], why: &[u8]) {
-        let what = Saying::with_name(state, why);
-        self.say(name, what, Spot::Whole(MODULES));
+        self.say(name, &[state, why], Spot::Whole(MODULES));
     }
 
     /// Tells that the kernel has a module, and what follows.
@@ -34,24 +33,20 @@ impl Told<'_> {
     /// Tells the blacklist lines of a module.
     pub(crate) fn tell_blacklist(&mut self, name: &[u8], why: &[u8]) {
         let named = self.known.named;
-        let what = Saying::with_name(b"blacklisted", why);
-        self.say_of_each(name, what, &named.blacklist, name, None);
+        self.say_of_each(name, &[b"blacklisted", why], &named.blacklist, name, None);
     }
 
     /// Tells what a module needs, and answers it.
     fn tell_needed(&mut self, name: &[u8]) -> Result<Vec<Text>, AllocError> {
-        let index = self.known.world.index;
+        let asked = self.known.asked;
+        let index = asked.world.index;
         let Some(line) = index.dependencies().find(name) else {
             return Ok(Vec::new(self.alloc));
         };
         let needs = line.needed_names(self.alloc)?;
         for need in needs.iter() {
-            let what = Saying::with_name(b"needed by ", name);
-            self.say(
-                need.as_bytes(),
-                what,
-                Spot::Line(DEPENDENCIES, line.number()),
-            );
+            let spot = Spot::Line(DEPENDENCIES, line.number());
+            self.say(need.as_bytes(), &[b"needed by ", name], spot);
         }
         Ok(needs)
     }
@@ -70,16 +65,17 @@ impl Told<'_> {
 
     /// Tells the options of a module, and of the alias by which it came.
     fn tell_options(&mut self, name: &[u8], alias: Option<&[u8]>) -> Result<(), AllocError> {
-        let conf = self.known.world.conf;
+        let asked = self.known.asked;
+        let conf = asked.world.conf;
         for line in conf.options_of(self.alloc, name, alias)?.iter() {
             let own = line.name.as_bytes();
-            let what = Saying::with_name(b"options ", line.text.as_bytes());
-            let what = if is_same(own, name) {
-                what
+            let (of, alias): (&[u8], &[u8]) = if is_same(own, name) {
+                (b"", b"")
             } else {
-                what.and(b", of the alias ", own)
+                (b", of the alias ", own)
             };
-            self.say_of(name, what, line.place);
+            let what = [b"options ", line.text.as_bytes(), of, alias];
+            self.say_of(name, &what, line.place);
         }
         Ok(())
     }
@@ -96,11 +92,11 @@ impl Told<'_> {
     ) {
         let mut counting = None;
         if let Some(line) = line {
-            let what = Saying::with_name(kind, b" ").and(line.text.as_bytes(), why);
-            self.say_of(name, what, line.place);
+            let what = [kind, b" ", line.text.as_bytes(), why];
+            self.say_of(name, &what, line.place);
             counting = Some(line.place);
         }
-        self.say_of_each(name, Saying::with_name(kind, LATER), lines, name, counting);
+        self.say_of_each(name, &[kind, LATER], lines, name, counting);
     }
 
     /// Goes on with the modules for which a word of a softdep line stands.
@@ -138,8 +134,7 @@ impl Told<'_> {
     ) -> Result<bool, AllocError> {
         let mut found = false;
         for word in words {
-            let what = Saying::with_name(when, name);
-            self.say_of(word.as_bytes(), what, place);
+            self.say_of(word.as_bytes(), &[when, name], place);
             found = self.tell_soft(tasks, word.as_bytes())? || found;
         }
         Ok(found)
@@ -153,27 +148,28 @@ impl Told<'_> {
         name: &[u8],
         is_bare: bool,
     ) -> Result<bool, AllocError> {
-        let conf = self.known.world.conf;
+        let asked = self.known.asked;
+        let conf = asked.world.conf;
         let Some(line) = conf.softdep_of(self.alloc, name)? else {
             return Ok(false);
         };
         if is_bare {
-            self.say_of(name, Saying::of(b"softdep, passed over by -i"), line.place);
+            self.say_of(name, &[b"softdep, passed over by -i"], line.place);
             return Ok(false);
         }
         let (items, place) = (&line.items, line.place);
         let before = self.tell_items(tasks, name, b"softdep before ", items.pre(), place)?;
         let after = self.tell_items(tasks, name, b"softdep after ", items.post(), place)?;
         let named = self.known.named;
-        let what = Saying::with_name(b"softdep", LATER);
-        self.say_of_each(name, what, &named.softdeps, name, Some(place));
+        let what = [b"softdep", LATER];
+        self.say_of_each(name, &what, &named.softdeps, name, Some(place));
         Ok(before || after)
     }
 
     /// Tells what counts for a load of a module that the kernel does not have.
     fn tell_line(&mut self, task: &Task, is_bare: bool, has_items: bool) -> Result<(), AllocError> {
         let (name, alias) = (task.name.as_slice(), task.alias.as_deref());
-        let line = install_line(self.alloc, self.known.world, name, alias)?;
+        let line = install_line(self.alloc, &self.known.asked.world, name, alias)?;
         let why: &[u8] = match (is_bare, has_items) {
             (true, _) => b", passed over by -i",
             (false, true) => b", passed over since it has soft items",
@@ -186,7 +182,7 @@ impl Told<'_> {
         let named = self.known.named;
         self.tell_commands(name, b"install", line, &named.installs, why);
         if !is_loaded && !self.known.is_built_in(name, task.builtin) {
-            self.say(name, Saying::of(b"no module has this name"), Spot::Nowhere);
+            self.say(name, &[b"no module has this name"], Spot::Nowhere);
         }
         Ok(())
     }
@@ -194,9 +190,9 @@ impl Told<'_> {
     /// Tells what counts for a load of a module.
     fn tell_loaded(&mut self, tasks: &mut Tasks, task: &Task) -> Result<(), AllocError> {
         let name = task.name.as_slice();
-        let is_bare = self.known.query.ignore_commands && matches!(task.part, Part::Named);
+        let is_bare = self.known.asked.query.ignore_commands && matches!(task.part, Part::Named);
         let has_items = self.tell_softdep(tasks, name, is_bare)?;
-        let is_dry = matches!(self.known.query.ask, Ask::DryRun);
+        let is_dry = matches!(self.known.asked.query.ask, Ask::DryRun);
         if is_dry && (self.known.is_built_in(name, task.builtin) || self.known.is_live(name)) {
             self.tell_in_kernel(name, b"");
             return Ok(());

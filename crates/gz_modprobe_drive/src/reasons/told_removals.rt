@@ -1,8 +1,8 @@
 //! What is told of a module that is to be removed.
 
 use crate::reasons::tasks::{Part, Tasks};
-use crate::reasons::told::{Saying, Spot, Told};
-use kmod_query::{Asked, ModuleStatus, Object, Verdict, is_fatal, is_in_use, judge, remove_line};
+use crate::reasons::told::{Spot, Told};
+use kmod_query::{ModuleStatus, Object, Verdict, is_fatal, is_in_use, judge, remove_line};
 use std::alloc::AllocError;
 
 impl Told<'_> {
@@ -25,7 +25,8 @@ impl Told<'_> {
             self.tell_built_in(name, name, b", so it is not removed");
             return Ok(());
         }
-        match self.known.world.states.of(name) {
+        let asked = self.known.asked;
+        match asked.world.states.of(name) {
             Some(status) => self.tell_users(name, status),
             None => {
                 self.tell_state(name, b"not loaded", b"");
@@ -41,9 +42,9 @@ impl Told<'_> {
         object: &Object,
     ) -> Result<(), AllocError> {
         let refused = self.begin_removal(tasks, object, true)?;
-        if refused && is_fatal(self.known.query) {
-            let what = Saying::of(b"stays, so the removal ends");
-            self.say(&object.name, what, Spot::Nowhere);
+        if refused && is_fatal(&self.known.asked.query) {
+            let what = b"stays, so the removal ends";
+            self.say(&object.name, &[what], Spot::Nowhere);
             tasks.end();
         }
         Ok(())
@@ -72,14 +73,10 @@ impl Told<'_> {
         object: &Object,
         is_soft: bool,
     ) -> Result<bool, AllocError> {
-        let asked = Asked {
-            alloc: self.alloc,
-            world: *self.known.world,
-            query: *self.known.query,
-        };
-        match judge(&asked, is_soft, object)? {
+        let asked = self.known.asked;
+        match judge(asked, is_soft, object)? {
             Verdict::Remove => {
-                if is_in_use(&asked, object)? {
+                if is_in_use(asked, object)? {
                     self.begin_held(tasks, object)?;
                     return Ok(true);
                 }
@@ -99,11 +96,12 @@ impl Told<'_> {
 
     /// Tells the soft items that are removed before a module that is in use.
     pub(crate) fn tell_held(&mut self, tasks: &mut Tasks, name: &[u8]) -> Result<(), AllocError> {
-        if self.known.query.ignore_commands {
+        if self.known.asked.query.ignore_commands {
             let _ = self.tell_softdep(tasks, name, true)?;
             return Ok(());
         }
-        let conf = self.known.world.conf;
+        let asked = self.known.asked;
+        let conf = asked.world.conf;
         if let Some(line) = conf.softdep_of(self.alloc, name)? {
             let (items, place) = (line.items.post(), line.place);
             let _ = self.tell_items(tasks, name, b"softdep after ", items, place)?;
@@ -118,14 +116,14 @@ impl Told<'_> {
         name: &[u8],
         alias: Option<&[u8]>,
     ) -> Result<(), AllocError> {
-        let is_bare = self.known.query.ignore_commands;
+        let is_bare = self.known.asked.query.ignore_commands;
         let _ = self.tell_softdep(tasks, name, is_bare)?;
         if tasks.has_ended() {
             return Ok(());
         }
         let why: &[u8] = if is_bare { b", passed over by -i" } else { b"" };
         let named = self.known.named;
-        let line = remove_line(self.alloc, self.known.world, name, alias)?;
+        let line = remove_line(self.alloc, &self.known.asked.world, name, alias)?;
         self.tell_commands(name, b"remove", line, &named.removes, why);
         if is_bare || line.is_none() {
             tasks.add_name(self.alloc, name, Part::Needs)?;

@@ -1,7 +1,7 @@
 //! What is told of a word of a command line or of a softdep line.
 
 use crate::reasons::near_names::is_near;
-use crate::reasons::told::{Saying, Spot, Told};
+use crate::reasons::told::{Spot, Told};
 use kmod_index::IndexLine;
 use kmod_names::{AliasEntry, name_of_path, normal_alias};
 use kmod_query::{Finding, Object, find_name};
@@ -22,50 +22,49 @@ const BUILTIN_MODINFO: &[u8] = b"modules.builtin.modinfo";
 const NEAR_NAMES: usize = 3;
 
 /// What is said of an alias of a module, or of one that is built in, and where it stands.
-fn alias_of<'a>(is_built_in: bool, line: &'a IndexLine) -> (Saying<'a>, Spot<'static>) {
-    let (name, number) = (line.name(), line.number());
+fn alias_of<'a>(is_built_in: bool, number: usize) -> (&'a [u8], Spot<'a>) {
     if is_built_in {
-        let what = Saying::with_name(b"alias of the built-in ", name);
-        (what, Spot::Entry(BUILTIN_MODINFO, number))
+        let spot = Spot::Entry(BUILTIN_MODINFO, number);
+        (b"alias of the built-in ", spot)
     } else {
-        (
-            Saying::with_name(b"alias of ", name),
-            Spot::Line(ALIASES, number),
-        )
+        (b"alias of ", Spot::Line(ALIASES, number))
     }
 }
 
 impl Told<'_> {
     fn tell_configured(&mut self, word: &[u8], entries: &[&AliasEntry]) {
         for entry in entries {
-            let pattern = entry.pattern.as_bytes();
-            let what = Saying::with_name(b"alias of ", entry.target.as_bytes());
-            self.say_of(word, what.and(b", as ", pattern), entry.place);
+            let (pattern, target) = (entry.pattern.as_bytes(), entry.target.as_bytes());
+            self.say_of(
+                word,
+                &[b"alias of ", target, b", as ", pattern],
+                entry.place,
+            );
         }
     }
 
     fn tell_exported(&mut self, word: &[u8], lines: &[&IndexLine]) {
         for line in lines {
-            let what = Saying::with_name(b"exported by ", line.name());
-            self.say(word, what, Spot::Line(SYMBOLS, line.number()));
+            let spot = Spot::Line(SYMBOLS, line.number());
+            self.say(word, &[b"exported by ", line.name()], spot);
         }
     }
 
     /// Tells the aliases of modules, or those of modules that are built in.
     fn tell_aliased(&mut self, word: &[u8], is_built_in: bool, lines: &[&IndexLine]) {
         for line in lines {
-            let (what, spot) = alias_of(is_built_in, line);
-            self.say(word, what.and(b", as ", line.key()), spot);
+            let (what, spot) = alias_of(is_built_in, line.number());
+            self.say(word, &[what, line.name(), b", as ", line.key()], spot);
         }
     }
 
     /// Tells the lines of commands of this very name.
     fn tell_commanded(&mut self, word: &[u8], name: &[u8]) {
         let named = self.known.named;
-        let what = Saying::of(b"name of an install line");
-        self.say_of_each(word, what, &named.installs, name, None);
-        let what = Saying::of(b"name of a remove line");
-        self.say_of_each(word, what, &named.removes, name, None);
+        let what = b"name of an install line";
+        self.say_of_each(word, &[what], &named.installs, name, None);
+        let what = b"name of a remove line";
+        self.say_of_each(word, &[what], &named.removes, name, None);
     }
 
     /// Tells the line of a module that is built in.
@@ -74,7 +73,7 @@ impl Told<'_> {
             Some(number) => Spot::Line(BUILTIN, *number),
             None => Spot::Nowhere,
         };
-        self.say(word, Saying::with_name(b"built in", why), spot);
+        self.say(word, &[b"built in", why], spot);
     }
 
     /// Tells why a word, whose normal form is a name, stands for modules, or that it stands for none.
@@ -83,7 +82,7 @@ impl Told<'_> {
             Finding::Configured(entries) => self.tell_configured(word, entries),
             Finding::Module(line) => {
                 let spot = Spot::Line(DEPENDENCIES, line.number());
-                self.say(word, Saying::with_name(b"module ", line.path()), spot)
+                self.say(word, &[b"module ", line.path()], spot)
             }
             Finding::Exported(lines) => self.tell_exported(word, lines),
             Finding::Commanded => self.tell_commanded(word, name),
@@ -91,8 +90,8 @@ impl Told<'_> {
             Finding::BuiltIn => self.tell_built_in(word, name, b""),
             Finding::AliasedBuiltIn(lines) => self.tell_aliased(word, true, lines),
             Finding::Nothing => {
-                let what = Saying::of(b"no module, alias or built-in has this name");
-                self.say(word, what, Spot::Nowhere)
+                let what = b"no module, alias or built-in has this name";
+                self.say(word, &[what], Spot::Nowhere)
             }
         }
     }
@@ -100,25 +99,25 @@ impl Told<'_> {
     /// Tells why a word stands for modules, which are answered. None where it is no name.
     pub(crate) fn tell_word(&mut self, word: &[u8]) -> Result<Option<Vec<Object>>, AllocError> {
         let Some(name) = normal_alias(self.alloc, word)? else {
-            let what = Saying::of(b"no name, since a bracket stands alone");
-            self.say(word, what, Spot::Nowhere);
+            let what = b"no name, since a bracket stands alone";
+            self.say(word, &[what], Spot::Nowhere);
             return Ok(None);
         };
-        let finding = find_name(self.alloc, self.known.world, name.as_bytes())?;
+        let finding = find_name(self.alloc, &self.known.asked.world, name.as_bytes())?;
         self.tell_finding(word, name.as_bytes(), &finding);
         Ok(Some(finding.objects(self.alloc, name.as_bytes())?))
     }
 
     /// Tells at most `NEAR_NAMES` modules whose names are `name` or near it.
     fn tell_near_names(&mut self, word: &[u8], name: &[u8]) -> Result<(), AllocError> {
-        let index = self.known.world.index;
+        let asked = self.known.asked;
         let mut left = NEAR_NAMES;
-        for line in index.dependencies().lines() {
+        for line in asked.world.index.dependencies().lines() {
             let own = line.name(self.alloc)?;
             let own = own.as_bytes();
             if left > 0 && (is_same(own, name) || is_near(own, name)) {
                 let spot = Spot::Line(DEPENDENCIES, line.number());
-                self.say(word, Saying::with_name(b"there is ", own), spot);
+                self.say(word, &[b"there is ", own], spot);
                 left -= 1;
             }
         }
