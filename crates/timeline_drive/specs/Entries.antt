@@ -11,6 +11,7 @@ use Rattle.call_words.specs.Calls.{Said}
 use Rattle.timeline_drive.specs.declared.entries.Effect.{Effect}
 use Rattle.timeline_drive.specs.declared.entries.Entry as entry_type
 use Rattle.timeline_drive.specs.declared.entries.Found as found_type
+use Rattle.timeline_drive.specs.declared.entries.Marked as marked_type
 use Rattle.timeline_drive.specs.declared.entries.Times as times_type
 use Rattle.timeline_drive.specs.Numbers.{decimal_within, thread_of}
 
@@ -32,6 +33,13 @@ pub record Entry : Type 0 where
 pub record Found : Type 0 where
   pub value : List ℕ
   pub later : List (List ℕ)
+
+-- the words that say when a call was made
+pub record Marked : Type 0 where
+  pub first : List ℕ
+  pub last : List ℕ
+  pub point : List ℕ
+  pub reply : List ℕ
 
 -- a module's name in normal form
 abbrev pub is_shown_name : List ℕ → Bool
@@ -83,13 +91,19 @@ after mark [] = None
 after mark (word ∷ []) = None
 after mark (word ∷ value ∷ later) = if bytes_eq word mark then Some (record { value = value; later = later }) else None
 
--- the times in the words after a call: `first I last J point K reply R`, and nothing after
-abbrev pub times_of : List (List ℕ) → Option Times
-times_of words =
+-- the words after a call, each behind its mark: `first I last J point K reply R`, and nothing after
+abbrev pub marked_of : List (List ℕ) → Option Marked
+marked_of words =
     option_and_then (λ first. option_and_then (λ last. option_and_then (λ point. option_and_then (λ reply.
     if length reply.later == 0
-    then times_with (decimal_within 999999 first.value) (last_of last.value) (effect_of point.value reply.value) else None)
+    then Some (record { first = first.value; last = last.value; point = point.value; reply = reply.value }) else None)
     (after (codes "reply") point.later)) (after (codes "point") last.later)) (after (codes "last") first.later)) (after (codes "first") words)
+
+-- the times in the words after a call
+abbrev pub times_of : List (List ℕ) → Option Times
+times_of words =
+    option_and_then (λ marked. times_with (decimal_within 999999 marked.first) (last_of marked.last) (effect_of marked.point marked.reply))
+    (marked_of words)
 
 -- the entry of a number and the words after it
 abbrev pub entry_behind : List ℕ → List (List ℕ) → Option Entry
@@ -109,6 +123,9 @@ times_in t = record { first = t.first; last = t.last; effect = t.effect }
 
 abbrev pub found_in : found_type.Found → Found
 found_in f = record { value = f.value.now; later = texts_of f.later.now }
+
+abbrev pub marked_in : marked_type.Marked → Marked
+marked_in m = record { first = m.first.now; last = m.last.now; point = m.point.now; reply = m.reply.now }
 
 abbrev pub entry_in : entry_type.Entry → Entry
 entry_in e = record {

@@ -38,13 +38,16 @@ fn file<'a>(alloc: Global) -> Arg<'a> {
 /// What the program takes.
 fn command<'a>(alloc: Global) -> Result<Command<'a>, AllocError> {
     let explain = "Explains a refused report on standard error";
+    let args = vec![in alloc;
+        flag(alloc, "text", "Draws in columns of a terminal"),
+        flag(alloc, "explain", explain),
+        file(alloc),
+    ]?;
     Command::new(alloc, "timeline")
         .version("0.1.0")
         .about("Draws a report of workload as an SVG")
         .after_help(EXAMPLE)
-        .arg(flag(alloc, "text", "Draws in columns of a terminal"))?
-        .arg(flag(alloc, "explain", explain))?
-        .arg(file(alloc))
+        .args(args)
 }
 
 /// What the words ask for.

@@ -36,6 +36,8 @@ pub(crate) enum Label {
 #[derive(Clone, Copy, Drop)]
 pub(crate) struct Bar<'e> {
     pub(crate) entry: &'e Entry<'e>,
+    /// The words of the call.
+    pub(crate) words: &'e [u8],
     pub(crate) lane: usize,
     pub(crate) from: u32,
     pub(crate) to: u32,
@@ -48,7 +50,7 @@ pub(crate) struct Bar<'e> {
     pub(crate) label: Label,
 }
 
-/// A step that a report names, in a band.
+/// A step that a report names, in the whole picture or in a band.
 #[derive(Clone, Copy, Drop)]
 pub(crate) struct Tick {
     pub(crate) step: u32,
@@ -57,13 +59,27 @@ pub(crate) struct Tick {
     pub(crate) is_cut: bool,
 }
 
+/// A lane has at most so many rows of labels in a band.
+pub(crate) const ROWS: usize = 6;
+
+/// The rows of labels of a lane, which are filled from the right.
+#[derive(Clone, Copy, Drop)]
+pub(crate) struct Rows {
+    /// Where the room for labels ends.
+    pub(crate) limit: u32,
+    /// Where what stands in each row begins.
+    pub(crate) begins: [u32; ROWS],
+    /// How many rows have labels.
+    pub(crate) used: u32,
+}
+
 /// A band: some columns of all lanes.
 #[derive(Drop)]
 pub(crate) struct Band<'e> {
     pub(crate) ticks: Vec<Tick>,
     pub(crate) bars: Vec<Bar<'e>>,
-    /// How many rows of labels each lane has.
-    pub(crate) rows: Vec<u32>,
+    /// The rows of labels of each lane.
+    pub(crate) rows: Vec<Rows>,
 }
 
 impl Scale {

@@ -3,11 +3,33 @@
 use crate::entries::{Effect, Entry};
 use std::alloc::{AllocError, Global};
 
-/// The words of a call, as a report has them.
-pub(crate) fn caption(alloc: Global, entry: &Entry<'_>) -> Result<Vec<u8>, AllocError> {
-    let mut text = Vec::new(alloc);
-    entry.verb.push(&mut text, entry.name)?;
-    Ok(text)
+/// A call, and its words as a report has them.
+#[derive(Drop)]
+pub(crate) struct Call<'e> {
+    pub(crate) entry: Entry<'e>,
+    pub(crate) words: Vec<u8>,
+}
+
+fn words_of(alloc: Global, entry: &Entry<'_>) -> Result<Vec<u8>, AllocError> {
+    let mut words = Vec::new(alloc);
+    entry.verb.push(&mut words, entry.name)?;
+    Ok(words)
+}
+
+/// The calls of these entries.
+pub(crate) fn calls_of<'e>(
+    alloc: Global,
+    entries: &[Entry<'e>],
+) -> Result<Vec<Call<'e>>, AllocError> {
+    let mut calls = Vec::new(alloc);
+    for entry in entries {
+        let words = words_of(alloc, entry)?;
+        calls.push(Call {
+            entry: *entry,
+            words,
+        })?;
+    }
+    Ok(calls)
 }
 
 /// What a call answers, or that it has not yet.
@@ -33,4 +55,9 @@ pub(crate) fn is_refused(entry: &Entry<'_>) -> bool {
 /// How many letters a text has.
 pub(crate) fn letters(text: &[u8]) -> u32 {
     u32::try_from(text.len()).unwrap_or(u32::MAX)
+}
+
+/// How many digits a number has.
+pub(crate) fn digits(number: u32) -> u32 {
+    number.checked_ilog10().unwrap_or(0).saturating_add(1)
 }

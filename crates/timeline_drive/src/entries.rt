@@ -4,7 +4,7 @@ ghost use Rattle.std.specs.List.{list_all};
 ghost use Rattle.std.specs.Option.{option_map};
 ghost use Rattle.text_parts.specs.Text.{texts_of};
 ghost use Rattle.call_words.specs.Calls.{said_in};
-ghost use Rattle.timeline_drive.specs.Entries.{entry_in, found_in, times_in, is_shown_name, call_of, last_of, effect_of, is_ordered, after, times_of, entry_of};
+ghost use Rattle.timeline_drive.specs.Entries.{entry_in, found_in, marked_in, times_in, is_shown_name, call_of, last_of, effect_of, is_ordered, after, marked_of, times_of, entry_of};
 
 use crate::numbers::{LAST_THREAD, decimal_within, index_of, thread_of};
 use call_words::{ReplyWord, Said, Verb};
@@ -40,6 +40,15 @@ pub struct Entry<'a> {
 pub(crate) struct Found<'w, 'a> {
     pub(crate) value: &'a [u8],
     pub(crate) later: &'w [&'a [u8]],
+}
+
+/// The words that say when a call was made.
+#[derive(Clone, Copy, Drop)]
+pub(crate) struct Marked<'a> {
+    pub(crate) first: &'a [u8],
+    pub(crate) last: &'a [u8],
+    pub(crate) point: &'a [u8],
+    pub(crate) reply: &'a [u8],
 }
 
 /// When a call was made.
@@ -115,9 +124,9 @@ pub(crate) fn after<'w, 'a>(mark: &[u8], words: &'w [&'a [u8]]) -> Option<Found<
     }
 }
 
-/// The times in the words after a call.
-fn times_of(words: &[&[u8]]) -> Option<Times>
-    ensures { option_map times_in result ≡ times_of (texts_of words.now) }
+/// The words after a call, each behind its mark.
+pub(crate) fn marked_of<'a>(words: &[&'a [u8]]) -> Option<Marked<'a>>
+    ensures { option_map marked_in result ≡ marked_of (texts_of words.now) }
 {
     let first = after(b"first", words)?;
     let last = after(b"last", first.later)?;
@@ -126,10 +135,23 @@ fn times_of(words: &[&[u8]]) -> Option<Times>
     if !reply.later.is_empty() {
         return None;
     }
+    Some(Marked {
+        first: first.value,
+        last: last.value,
+        point: point.value,
+        reply: reply.value,
+    })
+}
+
+/// The times in the words after a call.
+fn times_of(words: &[&[u8]]) -> Option<Times>
+    ensures { option_map times_in result ≡ times_of (texts_of words.now) }
+{
+    let marked = marked_of(words)?;
     let times = Times {
-        first: index_of(first.value)?,
-        last: last_of(last.value)?,
-        effect: effect_of(point.value, reply.value)?,
+        first: index_of(marked.first)?,
+        last: last_of(marked.last)?,
+        effect: effect_of(marked.point, marked.reply)?,
     };
     if is_ordered(times) { Some(times) } else { None }
 }

@@ -1,6 +1,6 @@
 //! What is wrong with a line of a report.
 
-use crate::entries::{after, call_of, effect_of, last_of};
+use crate::entries::{after, call_of, effect_of, last_of, marked_of};
 use crate::numbers::{index_of, thread_of};
 use text_parts::is_same;
 
@@ -15,24 +15,16 @@ fn is_of_script(word: &[u8]) -> bool {
     is_worker || is_same(word, b"calls") || is_same(word, b"opening")
 }
 
-/// The word of a step, or `-` where that may stand.
-fn is_step(word: &[u8]) -> bool {
-    is_same(word, b"-") || index_of(word).is_some()
-}
-
 /// What is wrong with the words after a call.
 fn flaw_of_times(words: &[&[u8]]) -> &'static str {
-    let [head, first, to, last, at, point, with, reply] = words else {
+    let Some(marked) = marked_of(words) else {
         return MARKS;
     };
-    let is_marked = is_same(*head, b"first") && is_same(*to, b"last");
-    if !is_marked || !is_same(*at, b"point") || !is_same(*with, b"reply") {
-        return MARKS;
-    }
-    if index_of(*first).is_none() || last_of(*last).is_none() || !is_step(*point) {
+    let has_steps = index_of(marked.first).is_some() && last_of(marked.last).is_some();
+    if !has_steps || last_of(marked.point).is_none() {
         return "A, B and P are 0 to 999999 without leading zeros; - stands for a B or a P that the call has not";
     }
-    if effect_of(*point, *reply).is_none() {
+    if effect_of(marked.point, marked.reply).is_none() {
         return "R is ok, yes, no or the name of a refusal; P and R are both -, or neither is";
     }
     "the point lies from the first step to the last, and a call with a last step has a point"

@@ -1,8 +1,8 @@
 //! Where everything stands in a picture.
 
-use crate::bars::{Band, Bar, Label, Scale, push_parts};
+use crate::bars::{Band, Bar, Label, ROWS, Rows, Scale, push_parts};
+use crate::captions::Call;
 use crate::columns::Columns;
-use crate::entries::Entry;
 use crate::labels::place_labels;
 use std::alloc::{AllocError, Global};
 
@@ -11,34 +11,43 @@ use std::alloc::{AllocError, Global};
 pub(crate) struct Layout<'e> {
     /// The threads that make calls, in rising order: a lane each.
     pub(crate) threads: Vec<u8>,
-    pub(crate) columns: Columns,
+    /// The last column; 0 where no step is named.
+    pub(crate) last: u32,
     pub(crate) bands: Vec<Band<'e>>,
 }
 
-fn threads_of(alloc: Global, entries: &[Entry<'_>]) -> Result<Vec<u8>, AllocError> {
+fn threads_of(alloc: Global, calls: &[Call<'_>]) -> Result<Vec<u8>, AllocError> {
     let mut threads = Vec::new(alloc);
-    for entry in entries {
-        threads.push(entry.thread)?;
+    for call in calls {
+        threads.push(call.entry.thread)?;
     }
-    threads.sort()?;
+    threads.sort_unstable();
     threads.dedup();
     Ok(threads)
 }
 
-fn empty_bands<'e>(alloc: Global, count: u32, lanes: usize) -> Result<Vec<Band<'e>>, AllocError> {
+/// Bands with so many lanes, in which nothing stands yet.
+fn empty_bands<'e>(
+    alloc: Global,
+    count: u32,
+    lanes: usize,
+    free: Rows,
+) -> Result<Vec<Band<'e>>, AllocError> {
     let mut bands = Vec::new(alloc);
     for _ in 0..count {
+        let rows = vec![in alloc; free; lanes]?;
         bands.push(Band {
             ticks: Vec::new(alloc),
             bars: Vec::new(alloc),
-            rows: vec![in alloc; 0; lanes]?,
+            rows,
         })?;
     }
     Ok(bands)
 }
 
 /// The bar of a call in the whole picture. One that has not returned goes on to the last column.
-fn whole_bar<'e>(columns: &Columns, lane: usize, entry: &'e Entry<'e>) -> Bar<'e> {
+fn whole_bar<'e>(columns: &Columns, lane: usize, call: &'e Call<'_>) -> Bar<'e> {
+    let entry = &call.entry;
     let from = columns.of(entry.first);
     let to = match entry.last {
         Some(last) => columns.of(last),
@@ -46,6 +55,7 @@ fn whole_bar<'e>(columns: &Columns, lane: usize, entry: &'e Entry<'e>) -> Bar<'e
     };
     Bar {
         entry,
+        words: call.words.as_slice(),
         lane,
         from,
         to: to.max(from),
@@ -56,29 +66,44 @@ fn whole_bar<'e>(columns: &Columns, lane: usize, entry: &'e Entry<'e>) -> Bar<'e
     }
 }
 
+/// The bands of calls that these threads make.
+fn bands_of<'e>(
+    alloc: Global,
+    scale: &Scale,
+    threads: &[u8],
+    columns: &Columns,
+    calls: &'e [Call<'_>],
+) -> Result<Vec<Band<'e>>, AllocError> {
+    let count = (columns.last() / scale.columns.max(1)).saturating_add(1);
+    let limit = scale.limit(columns.last().saturating_add(1));
+    let free = Rows {
+        limit,
+        begins: [limit; ROWS],
+        used: 0,
+    };
+    let mut bands = empty_bands(alloc, count, threads.len(), free)?;
+    columns.push_ticks(&mut bands, scale.columns)?;
+    for call in calls {
+        let lane = threads.binary_search(&call.entry.thread).unwrap_or(0);
+        push_parts(&mut bands, scale.columns, &whole_bar(columns, lane, call))?;
+    }
+    Ok(bands)
+}
+
 impl<'e> Layout<'e> {
-    /// Where everything stands. The time is linear in the entries and the bars, but for sorting.
+    /// Where everything stands. The time is linear in the calls and the bars, but for sorting.
     pub(crate) fn new(
         alloc: Global,
         scale: &Scale,
-        entries: &'e [Entry<'e>],
+        calls: &'e [Call<'_>],
     ) -> Result<Layout<'e>, AllocError> {
-        let threads = threads_of(alloc, entries)?;
-        let columns = Columns::new(alloc, entries)?;
-        let count = (columns.last() / scale.columns.max(1)).saturating_add(1);
-        let mut bands = empty_bands(alloc, count, threads.len())?;
-        columns.push_ticks(&mut bands, scale.columns)?;
-        for entry in entries {
-            let lane = threads.binary_search(&entry.thread).unwrap_or(0);
-            push_parts(&mut bands, scale.columns, &whole_bar(&columns, lane, entry))?;
-        }
-        let limit = scale.limit(columns.last().saturating_add(1));
-        for band in &mut bands {
-            place_labels(alloc, scale, limit, band)?;
-        }
+        let threads = threads_of(alloc, calls)?;
+        let columns = Columns::new(alloc, calls)?;
+        let mut bands = bands_of(alloc, scale, &threads, &columns, calls)?;
+        place_labels(scale, &mut bands);
         Ok(Layout {
             threads,
-            columns,
+            last: columns.last(),
             bands,
         })
     }

@@ -14,6 +14,7 @@ pub mod laws;
 mod layout;
 mod numbers;
 mod other_input;
+mod page;
 mod program;
 mod reports;
 mod svg;

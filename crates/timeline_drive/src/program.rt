@@ -2,74 +2,66 @@
 ghost use Rattle.std.specs.Prelude.{◌≤◌};
 
 use crate::asked::{Asked, asked_by};
+use crate::captions::calls_of;
 use crate::explain::{explain, tell_other_input};
 use crate::reports::{ReportFault, read_report};
 use crate::svg::svg_text;
 use crate::terminal::terminal_text;
-use program_frame::{InputFault, Status, StreamFault, end_by, tell_no_input, write_text};
+use program_frame::{Status, end_by, tell_no_input, write_text};
 use std::alloc::Global;
 use std::io::{Read, Write};
 use std::rt::Files;
-use thiserror::Error;
-
-/// Why the program wrote nothing, or not all.
-#[derive(Clone, Copy, Debug, Drop, Error)]
-enum Fault {
-    #[error("{0}")]
-    Read(#[from] InputFault),
-    #[error("{0}")]
-    Write(#[from] StreamFault),
-    #[error("{0}")]
-    Input(#[from] ReportFault),
-}
-
-fn status_of(fault: Fault) -> Status {
-    match fault {
-        Fault::Read(fault) => fault.status(),
-        Fault::Input(ReportFault::Line(_)) => Status::Refused,
-        _ => Status::Fault,
-    }
-}
 
 /// The picture of the report that an input is.
 fn picture(alloc: Global, in_letters: bool, input: &[u8]) -> Result<String, ReportFault> {
-    let entries = read_report(alloc, input)?;
-    if in_letters {
-        Ok(terminal_text(alloc, &entries)?)
+    let calls = calls_of(alloc, &read_report(alloc, input)?)?;
+    let text = if in_letters {
+        terminal_text(alloc, &calls)
     } else {
-        Ok(svg_text(alloc, &entries)?)
-    }
+        svg_text(alloc, &calls)
+    };
+    Ok(text?)
 }
 
-/// Reads a report and writes its picture.
-fn write_picture<R: AllocGlobal + Files, I: Read, O: Write>(
-    rt: &R,
-    asked: Asked<'_>,
-    reader: &mut I,
-    input: &mut Vec<u8>,
-    writer: &mut O,
-) -> Result<(), Fault> {
-    *input = asked.source.read(rt, reader)?;
-    let picture = picture(rt.alloc(), asked.in_letters, input)?;
-    write_text(picture.as_bytes(), writer)?;
-    Ok(())
-}
-
-/// Tells a fault in one line, and then for people.
-fn tell<E: Write>(alloc: Global, asked: Asked<'_>, fault: Fault, input: &[u8], errors: &mut E) {
-    if let Fault::Read(fault) = fault {
-        return tell_no_input("timeline", asked.source, fault, errors);
-    }
+/// Tells why an input has no picture in one line, and then for people. Answers how the program ends.
+fn tell<E: Write>(
+    alloc: Global,
+    explains: bool,
+    fault: ReportFault,
+    input: &[u8],
+    errors: &mut E,
+) -> Status {
     let _ = writeln!(errors, "timeline: {fault}");
-    if let Fault::Input(ReportFault::Line(number)) = fault {
-        tell_other_input(input, errors);
-        if asked.explain {
-            let _ = explain(alloc, number, input, errors);
-        }
+    let ReportFault::Line(number) = fault else {
+        return Status::Fault;
+    };
+    tell_other_input(input, errors);
+    if explains {
+        explain(alloc, number, input, errors);
     }
+    Status::Refused
 }
 
-/// Draws the report that is read. A fault is told.
+/// Draws the report that an input is. A fault is told.
+fn draw<O: Write, E: Write>(
+    alloc: Global,
+    asked: Asked<'_>,
+    input: &[u8],
+    writer: &mut O,
+    errors: &mut E,
+) -> Status {
+    let text = match picture(alloc, asked.in_letters, input) {
+        Ok(text) => text,
+        Err(fault) => return tell(alloc, asked.explain, fault, input, errors),
+    };
+    let Err(fault) = write_text(text.as_bytes(), writer) else {
+        return Status::Done;
+    };
+    let _ = writeln!(errors, "timeline: {fault}");
+    Status::Fault
+}
+
+/// Reads a report and draws it. A fault is told.
 fn answer<R: AllocGlobal + Files, I: Read, O: Write, E: Write>(
     rt: &R,
     asked: Asked<'_>,
@@ -77,12 +69,11 @@ fn answer<R: AllocGlobal + Files, I: Read, O: Write, E: Write>(
     writer: &mut O,
     errors: &mut E,
 ) -> Status {
-    let mut input = Vec::new(rt.alloc());
-    match write_picture(rt, asked, reader, &mut input, writer) {
-        Ok(()) => Status::Done,
+    match asked.source.read(rt, reader) {
+        Ok(input) => draw(rt.alloc(), asked, &input, writer, errors),
         Err(fault) => {
-            tell(rt.alloc(), asked, fault, &input, errors);
-            status_of(fault)
+            tell_no_input("timeline", asked.source, fault, errors);
+            fault.status()
         }
     }
 }

@@ -5,8 +5,9 @@ mod marks;
 mod style;
 
 use crate::bars::Scale;
-use crate::entries::Entry;
+use crate::captions::Call;
 use crate::layout::Layout;
+use crate::page::Page;
 use bands::{band_height, push_band};
 use std::alloc::{AllocError, Global};
 use style::push_head;
@@ -35,7 +36,7 @@ const NARROWEST: u32 = 700;
 
 /// Where the columns end.
 pub(crate) fn right(layout: &Layout<'_>) -> u32 {
-    let columns = layout.columns.last().saturating_add(1).min(SCALE.columns);
+    let columns = layout.last.saturating_add(1).min(SCALE.columns);
     SCALE.width(columns).saturating_add(LEFT)
 }
 
@@ -49,19 +50,18 @@ fn height(layout: &Layout<'_>) -> u32 {
 
 /// The picture of a report's calls as an SVG: a lane for each thread, a bar for each call, a mark at its point. Where
 /// the columns do not fit side by side, they go on in further bands below.
-pub(crate) fn svg_text(alloc: Global, entries: &[Entry<'_>]) -> Result<String, AllocError> {
-    let layout = Layout::new(alloc, &SCALE, entries)?;
+pub(crate) fn svg_text(alloc: Global, calls: &[Call<'_>]) -> Result<String, AllocError> {
+    let layout = Layout::new(alloc, &SCALE, calls)?;
     let width = right(&layout)
         .saturating_add(SCALE.overhang + INSET)
         .max(NARROWEST);
-    let height = height(&layout);
-    let mut page = String::new(alloc);
-    push_head(&mut page, width, height)?;
+    let mut page = Page::new(alloc);
+    push_head(&mut page, width, height(&layout));
     let mut top = HEAD;
     for band in &layout.bands {
-        push_band(alloc, &mut page, &layout, band, top)?;
+        push_band(&mut page, &layout, band, top);
         top = top.saturating_add(band_height(band));
     }
-    page.push_str("</svg>\n")?;
-    Ok(page)
+    page.add("</svg>\n");
+    page.finish()
 }

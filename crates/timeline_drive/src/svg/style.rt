@@ -1,6 +1,6 @@
 //! The style of an SVG, and its legend.
 
-use std::alloc::AllocError;
+use crate::page::Page;
 
 /// The title, the colours in light and dark, and the fading of open calls.
 const STYLE: &str = "<title>Calls of a schedule</title>
@@ -76,14 +76,19 @@ const LEGEND: &str = "<g class=\"legend\" transform=\"translate(52 12)\">
 </g>
 ";
 
+/// Makes the letters and the points of a picture larger that is shown less than 500 pixels wide.
+const NARROW: &str =
+    "<style>@media(max-width:500px){text,.legend{display:none}.lane{display:inline;font-size:$px;dominant-baseline:central}.mark{stroke-width:8px}.done .mark{stroke:#2563ab}.refused .mark{stroke:#b1430a}}</style>
+";
+
 /// Adds the beginning of a picture of this size: its style and its legend. Where it is shown less than 500 pixels wide, it has no
 /// texts but the names of the lanes, and these and the points are larger.
-pub(crate) fn push_head(page: &mut String, width: u32, height: u32) -> Result<(), AllocError> {
-    let letter = width / 40;
-    write!(
-        page,
-        "<svg xmlns=\"http://www.w3.org/2000/svg\" width=\"{width}\" height=\"{height}\" viewBox=\"0 0 {width} {height}\">
-{STYLE}<style>@media(max-width:500px){{text,.legend{{display:none}}.lane{{display:inline;font-size:{letter}px;dominant-baseline:central}}.mark{{stroke-width:8px}}.done .mark{{stroke:#2563ab}}.refused .mark{{stroke:#b1430a}}}}</style>
-{LEGEND}"
-    )
+pub(crate) fn push_head(page: &mut Page, width: u32, height: u32) {
+    page.fill(
+        "<svg xmlns=\"http://www.w3.org/2000/svg\" width=\"$\" height=\"$\" viewBox=\"0 0 $ $\">\n",
+        &[width, height, width, height],
+    );
+    page.add(STYLE);
+    page.fill(NARROW, &[width / 40]);
+    page.add(LEGEND);
 }
