@@ -43,9 +43,9 @@ build_program_unproved() {
     "$folder/module.o" "$kit/c/libos_c.a" "$kit/c/liblibc_c.a" >>"$file.said" 2>&1
 }
 
-# Builds programs side by side, each into a file of its name in a folder.
+# Builds programs side by side, each into a file of its name in a folder. It ends with the first that does not build.
 build_unproved() {
-  local folder=$1 program
+  local folder=$1 program failed=
   shift
   local -A running
   mkdir -p "$folder"
@@ -54,6 +54,7 @@ build_unproved() {
     running[$program]=$!
   done
   for program; do
-    wait "${running[$program]}" || { cat "$folder/$program.said" >&2; refuse "$program does not build: nothing was installed"; }
+    wait "${running[$program]}" || failed=${failed:-$program}
   done
+  [ -z "$failed" ] || { cat "$folder/$failed.said" >&2; refuse "$failed does not build: nothing was installed"; }
 }
