@@ -7,6 +7,7 @@ pub mod RunLemmas
 pub mod ServeLemmas
 pub mod TurnLemmas
 pub mod PlanLemmas
+pub mod OutcomeLemmas
 pub mod ChangeLemmas
 pub mod LoadLemmas
 pub mod SettlingLemmas

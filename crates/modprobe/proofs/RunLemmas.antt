@@ -13,7 +13,8 @@ use Rattle.modprobe.specs.Lines.{AtHand, IfTold, GivesCut, GivesCuts, AllEnded, 
 use Rattle.modprobe.proofs.CutLemmas.{is_long_line, cuts_none, cuts_more, cuts_in_hand, cuts_all}
 use Rattle.dep_index.specs.Table.{Table}
 use Rattle.modprobe.specs.Setup.{Setup}
-use Rattle.modprobe.specs.Session.{line_reply, answer, errors_of, error_count}
+use Rattle.modprobe.specs.Outcomes.{Outcome, errors_of}
+use Rattle.modprobe.specs.Session.{line_outcome, line_reply, answer, error_count}
 use Rattle.modprobe.specs.Run.{Answered, AllShort, StandsAfter, run_fault_of}
 use Rattle.std.proofs.Common.{All, false, Ok, inl, subst}
 use Rattle.std.specs.Prelude.{◌&&◌, ◌≢◌, nat_lt, min}
@@ -40,20 +41,20 @@ pub table-more : (s : Setup) (t : Table) (done : List Line) (line : Line) → (a
 table-more s t [] line = refl
 table-more s t (first ∷ done) line = table-more s (line_reply s t first.text).1 done line
 
--- One more line: its reply is one more error, or none.
-pub error_count-more : (s : Setup) (t : Table) (done : List Line) (line : Line) → error_count s t (texts (done ++ line ∷ [])) ≡ error_count s t (texts done) + errors_of (line_reply s (answer s t (texts done)).1 line.text).0
+-- One more line: it is one more error, or none.
+pub error_count-more : (s : Setup) (t : Table) (done : List Line) (line : Line) → error_count s t (texts (done ++ line ∷ [])) ≡ error_count s t (texts done) + errors_of (line_outcome s (answer s t (texts done)).1 line.text).0
 error_count-more s t [] line = omega arith
 error_count-more s t (first ∷ done) line =
     let next = (line_reply s t first.text).1 in
     let later = error_count-more s next done line in
     omega (arith, later)
 
-pub counted_more : (s : Setup) (start table : Table) (done : List Line) (line : Line) (reply : List ℕ) (errors errors' : ℕ)
-    → errors ≡ min (error_count s start (texts done)) (2 ^ 64 - 1) → table ≡ (answer s start (texts done)).1 → reply ≡ (line_reply s table line.text).0
+pub counted_more : (s : Setup) (start table : Table) (done : List Line) (line : Line) (reply : Outcome) (errors errors' : ℕ)
+    → errors ≡ min (error_count s start (texts done)) (2 ^ 64 - 1) → table ≡ (answer s start (texts done)).1 → reply ≡ (line_outcome s table line.text).0
     → errors' ≡ min (errors + errors_of reply) (2 ^ 64 - 1) → errors' ≡ min (error_count s start (texts (done ++ line ∷ []))) (2 ^ 64 - 1)
 counted_more s start table done line reply errors errors' before after is next =
     let more = error_count-more s start done line in
-    let same : errors_of reply ≡ errors_of (line_reply s (answer s start (texts done)).1 line.text).0 = ap errors_of is ∙ ap (λ t. errors_of (line_reply s t line.text).0) after in
+    let same : errors_of reply ≡ errors_of (line_outcome s (answer s start (texts done)).1 line.text).0 = ap errors_of is ∙ ap (λ t. errors_of (line_outcome s t line.text).0) after in
     omega (arith, before, next, more, same)
 
 -- No line was counted.

@@ -10,6 +10,8 @@ use Rattle.dep_index.specs.declared.table.calls.Reply.TheVariants as reply_is
 use Rattle.load_plan.specs.Parameters.{are_valid}
 use Rattle.modprobe.specs.declared.refusal.Code.{Code}
 use Rattle.modprobe.specs.declared.refusal.Code.TheVariants.{Einval}
+use Rattle.modprobe.specs.declared.half.Half.{Half}
+use Rattle.modprobe.specs.declared.half.Half.TheVariants as half_is
 use Rattle.modprobe.specs.Setup.{Setup, name_at}
 use Rattle.modprobe.specs.Refusals.{Refusal, refuse, code_of, unload_code}
 
@@ -49,3 +51,10 @@ abbrev pub one_removal : Setup → ℕ → Table → Change
 one_removal s slot t =
     if is_draining (state_of t.book slot) then call_change s unload_code slot (call.EndRemove slot) t
     else (call_change s unload_code slot (call.BeginRemove slot) t then (λ u. call_change s unload_code slot (call.EndRemove slot) u))
+
+-- one of the two calls of a load or of a removal
+abbrev pub half_change : Setup → ℕ → Half → Table → Change
+half_change s slot half_is.BeginLoad t = call_change s code_of slot (call.BeginLoad slot) t
+half_change s slot (half_is.EndLoad ok) t = call_change s code_of slot (call.EndLoad slot ok) t
+half_change s slot half_is.BeginRemove t = call_change s unload_code slot (call.BeginRemove slot) t
+half_change s slot half_is.EndRemove t = call_change s unload_code slot (call.EndRemove slot) t

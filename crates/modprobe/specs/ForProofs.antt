@@ -29,9 +29,10 @@ use Rattle.modprobe.specs.declared.section.Texts.{Texts}
 use Rattle.modprobe.specs.Commands as meaning
 use Rattle.load_plan.specs.declared.items.PlanError.{PlanError}
 use Rattle.load_plan.specs.declared.items.PlanError.TheVariants as plan_error
-use Rattle.modprobe.specs.declared.refusal.Refusal.{Refusal}
+use Rattle.modprobe.specs.declared.refusal.SlotRefusal.{SlotRefusal}
 use Rattle.modprobe.specs.Setup.{Setup, name_at}
-use Rattle.modprobe.specs.Refusals.{error_line, refuse}
+use Rattle.modprobe.specs.Refusals.{refuse}
+use Rattle.modprobe.specs.Outcomes.{Outcome, says, refuses, refused}
 use Rattle.modprobe.specs.Refusals as told
 use Rattle.modprobe.specs.Sections.{Parts, no_parts, early, too_long, sections}
 use Rattle.modprobe.specs.SetupInput.{with_session, setup_for, Refuses, SetupStops}
@@ -80,22 +81,22 @@ BoundsNames longest modules =
 abbrev pub FitsNames : Setup → ℕ → Type 0
 FitsNames s room = (slot : ℕ) → length (name_at s slot) + 32 ≤ room
 
--- the text is the line of a refused plan
-abbrev pub TellsRefusal : PlanError → List ℕ → Type 0
-TellsRefusal plan_error.Memory text = ⊥
-TellsRefusal e text = text ≡ told.refusal_line (told.plan_refusal e)
+-- the outcome is that of a refused plan
+abbrev pub TellsRefusal : PlanError → Outcome → Type 0
+TellsRefusal plan_error.Memory outcome = ⊥
+TellsRefusal e outcome = outcome ≡ refuses (told.plan_refusal e)
 
 -- the refusal that a result is
-abbrev pub refusal_in : {X : Type 0} → Setup → Result X Refusal → Option told.Refusal
+abbrev pub refusal_in : {X : Type 0} → Setup → Result X SlotRefusal → Option told.Refusal
 refusal_in s (Ok x) = None
 refusal_in s (Err r) = refuse r.code (name_at s r.slot)
 
--- what an answer writes
-abbrev pub answer_text : Setup → Answer → List ℕ
-answer_text s answer_is.Done = codes "ok" ++ 10 ∷ []
-answer_text s answer_is.Yes = codes "yes" ++ 10 ∷ []
-answer_text s answer_is.No = codes "no" ++ 10 ∷ []
-answer_text s (answer_is.Refused r) = error_line r.code (name_at s r.slot)
+-- the outcome that an answer is
+abbrev pub answer_outcome : Setup → Answer → Outcome
+answer_outcome s answer_is.Done = says (codes "ok" ++ 10 ∷ [])
+answer_outcome s answer_is.Yes = says (codes "yes" ++ 10 ∷ [])
+answer_outcome s answer_is.No = says (codes "no" ++ 10 ∷ [])
+answer_outcome s (answer_is.Refused r) = refused r.code (name_at s r.slot)
 
 abbrev pub is_session : Section → Bool
 is_session Session = true

@@ -3,6 +3,7 @@ pub mod Lines
 pub mod Commands
 pub mod Setup
 pub mod Refusals
+pub mod Outcomes
 pub mod Changes
 pub mod Plans
 pub mod Loads

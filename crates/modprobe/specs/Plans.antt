@@ -6,7 +6,8 @@ use Rattle.load_plan.specs.declared.items.PlanError.TheVariants.{Unknown}
 use Rattle.load_plan.specs.LookUp.{found}
 use Rattle.load_plan.specs.Items.{plan_of}
 use Rattle.modprobe.specs.Setup.{Setup, name_at}
-use Rattle.modprobe.specs.Refusals.{refusal_line, plan_refusal}
+use Rattle.modprobe.specs.Refusals.{plan_refusal}
+use Rattle.modprobe.specs.Outcomes.{Outcome, says, refuses}
 
 -- what comes next of a plan, unless it is refused
 infixl 10 ◌>>=◌
@@ -45,7 +46,7 @@ abbrev pub item_text : Setup → Item → List ℕ
 item_text s item =
     codes "load " ++ name_at s item.slot ++ codes " " ++ mark_text item.soft ++ words_text item.options ++ codes "\n"
 
--- what is written of a plan: a line for each item, or why there is none
-abbrev pub plan_text : Setup → Result (List Item) PlanError → List ℕ
-plan_text s (Ok items) = flat_map (item_text s) items
-plan_text s (Err e) = refusal_line (plan_refusal e)
+-- what is answered of a plan: a line for each item, or why there is none
+abbrev pub plan_outcome : Setup → Result (List Item) PlanError → Outcome
+plan_outcome s (Ok items) = says (flat_map (item_text s) items)
+plan_outcome s (Err e) = refuses (plan_refusal e)

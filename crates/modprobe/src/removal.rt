@@ -4,7 +4,7 @@ ghost use Rattle.modprobe.specs.Loads.{rest_removal, rest_removals, plan_removal
 ghost use Rattle.modprobe.specs.ForProofs.{refusal_in};
 ghost use Rattle.modprobe.specs.Sessions.{Makes, Becomes};
 
-use crate::refusal::Refusal;
+use crate::refusal::SlotRefusal;
 use crate::session::Session;
 use dep_index::reads::is_absent;
 use load_plan::is_kept;
@@ -48,7 +48,7 @@ impl<'s, 't, M: Modules> Session<'s, 't, M> {
     }
 
     /// Removes a target, and then the rest of its plan. A target that is absent is skipped with its plan.
-    fn remove_plan(&mut self, order: &[usize]) -> Result<(), Refusal>
+    fn remove_plan(&mut self, order: &[usize]) -> Result<(), SlotRefusal>
         requires { All (λ slot. slot < length self.old.setup.now.catalogue) order.now }
         ensures { Makes self.old self.new (refusal_in self.old.setup.now result) (λ s t. plan_removal s order.now t) }
     {
@@ -64,7 +64,7 @@ impl<'s, 't, M: Modules> Session<'s, 't, M> {
     }
 
     /// Removes the targets of the plans in order, each with the rest of its plan, up to the first target that is refused.
-    pub(crate) fn remove_plans(&mut self, plans: &[RemovalPlan]) -> Result<(), Refusal>
+    pub(crate) fn remove_plans(&mut self, plans: &[RemovalPlan]) -> Result<(), SlotRefusal>
         requires { All (λ plan. All (λ slot. slot < length self.old.setup.now.catalogue) plan) plans.now }
         ensures { Makes self.old self.new (refusal_in self.old.setup.now result) (λ s t. removals s plans.now t) }
     {

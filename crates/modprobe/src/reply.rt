@@ -1,22 +1,78 @@
-//! The text of replies, and the room for it.
-ghost use Rattle.std.specs.Prelude.{◌≡◌, ◌≤◌, ◌+◌, ◌++◌, [], length, flat_map, vec_len, vec_capacity, IfOk, OnOk};
-ghost use Rattle.text_parts.specs.Text.{texts_of};
+//! The reply to a line, and the room for it.
+ghost use Rattle.std.specs.Prelude.{◌≡◌, ◌≤◌, ◌+◌, ◌++◌, [], length, option_map, vec_len, vec_capacity, IfOk};
 ghost use Rattle.dep_index.specs.Catalogue.{slot_named};
 ghost use Rattle.modprobe.specs.Session.{details};
 ghost use Rattle.modprobe.specs.Refusals.{error_line};
-ghost use Rattle.modprobe.specs.Plans.{mark_text, words_text, item_text};
-ghost use Rattle.modprobe.specs.ForProofs.{answer_text, FitsNames, TellsRefusal};
+ghost use Rattle.modprobe.specs.Outcomes.{says, refused, text_of, why_refused, refusal_from};
+ghost use Rattle.modprobe.specs.ForProofs.{answer_outcome, FitsNames, TellsRefusal};
 
 use crate::action::Answer;
-use crate::refusal::Code;
+use crate::refusal::{Code, Refusal};
 use crate::setup::Setup;
-use load_plan::{Item, PlanError};
+use load_plan::PlanError;
 use proc_modules::modinfo_text;
 use std::alloc::{AllocError, Global};
+use std::marker::Model;
 use text_parts::Name;
 
 /// Room for what an error line has besides a name.
 pub(crate) const ERROR_ROOM: usize = 32;
+
+/// How many bytes of an error line stand before its code.
+const BEFORE_CODE: usize = 6;
+
+/// The reply to a line: what is written, and why the line is refused, if it is. Contracts see it as its outcome.
+#[derive(Drop)]
+pub struct Reply {
+    text: Vec<u8>,
+    // the code if the text is an error line
+    code: Option<Code>,
+}
+
+impl Model for Reply {
+    ghost use Rattle.modprobe.specs.Outcomes.{Outcome, outcome_from, IsLineOf};
+
+    ghost Value = { Outcome };
+
+    ghost view = { λ r. outcome_from r.code r.text.items };
+
+    ghost invariant = { λ r. IsLineOf r.code r.text.items };
+}
+
+impl Reply {
+    /// The reply of a line that is not refused: this text, as it is.
+    pub fn says(text: Vec<u8>) -> Reply
+        ensures { result ≡ says text.items }
+    {
+        Reply { text, code: None }
+    }
+
+    /// The reply of a line that is refused: `error`, the code and the name.
+    pub fn refused(alloc: Global, code: Code, name: &[u8]) -> Result<Reply, AllocError>
+        ensures { IfOk result (λ reply. reply ≡ refused code name.now) }
+    {
+        let room = Vec::with_capacity(alloc, name.len() + ERROR_ROOM)?;
+        Ok(refuse(room, code, name))
+    }
+
+    /// What is written: lines with their ends, or nothing.
+    pub fn text(&self) -> &[u8]
+        ensures { result.now ≡ text_of self.now }
+    {
+        self.text.as_slice()
+    }
+
+    /// Why the line is refused, or `None` if it is not.
+    #[tactic(auto, using(crate::proofs::OutcomeLemmas::line_fits))]
+    pub fn refusal(&self) -> Option<Refusal<'_>>
+        ensures { option_map refusal_from result ≡ why_refused self.now }
+    {
+        let code = self.code?;
+        let start = BEFORE_CODE + code.text().len() + 1;
+        let name = &self.text[start..self.text.len() - 1];
+        Some(Refusal { code, name })
+    }
+}
 
 /// Room for a reply that names no module, or any.
 pub(crate) fn room(alloc: Global, setup: &Setup) -> Result<Vec<u8>, AllocError>
@@ -40,6 +96,16 @@ fn put_bytes(text: &mut Vec<u8>, bytes: &[u8])
     }
 }
 
+/// Writes a text to the room that was made for it.
+fn say(mut room: Vec<u8>, text: &[u8]) -> Reply
+    requires empty { room.items ≡ [] }
+    requires room { length text.now ≤ vec_capacity room }
+    ensures { result ≡ says text.now }
+{
+    put_bytes(&mut room, text);
+    Reply::says(room)
+}
+
 /// Writes the line of a refusal to the room that was made for it.
 #[tactic(auto, unfolding(crate::specs::Refusals::error_line), using(std::proofs::lemmas::List::append_assoc))]
 fn put_error(text: &mut Vec<u8>, code: Code, name: &[u8])
@@ -54,93 +120,54 @@ fn put_error(text: &mut Vec<u8>, code: Code, name: &[u8])
     put_bytes(text, b"\n");
 }
 
-/// Writes an answer to the room that was made for it.
-pub(crate) fn render(text: &mut Vec<u8>, setup: &Setup, answer: Answer)
-    requires empty { text.old.items ≡ [] }
-    requires least { 32 ≤ vec_capacity text.old }
-    requires names { FitsNames setup.now (vec_capacity text.old) }
-    ensures { text.new.items ≡ answer_text setup.now answer }
+/// Refuses a line, in the room that was made for its reply.
+#[tactic(auto, using(crate::proofs::OutcomeLemmas::name_in_line))]
+fn refuse(mut room: Vec<u8>, code: Code, name: &[u8]) -> Reply
+    requires empty { room.items ≡ [] }
+    requires room { length name.now + 32 ≤ vec_capacity room }
+    ensures { result ≡ refused code name.now }
 {
-    match answer {
-        Answer::Done => put_bytes(text, b"ok\n"),
-        Answer::Yes => put_bytes(text, b"yes\n"),
-        Answer::No => put_bytes(text, b"no\n"),
-        Answer::Refused(refusal) => put_error(text, refusal.code, setup.name(refusal.slot)),
+    put_error(&mut room, code, name);
+    Reply {
+        text: room,
+        code: Some(code),
     }
 }
 
-/// The line of a refusal.
-pub(crate) fn error_line(alloc: Global, code: Code, name: &[u8]) -> Result<Vec<u8>, AllocError>
-    ensures { IfOk result (λ text. text.items ≡ error_line code name.now) }
+/// The reply that an answer is, in the room that was made for it.
+pub(crate) fn render(room: Vec<u8>, setup: &Setup, answer: Answer) -> Reply
+    requires empty { room.items ≡ [] }
+    requires least { 32 ≤ vec_capacity room }
+    requires names { FitsNames setup.now (vec_capacity room) }
+    ensures { result ≡ answer_outcome setup.now answer }
 {
-    let mut text = Vec::with_capacity(alloc, name.len() + ERROR_ROOM)?;
-    put_error(&mut text, code, name);
-    Ok(text)
+    match answer {
+        Answer::Done => say(room, b"ok\n"),
+        Answer::Yes => say(room, b"yes\n"),
+        Answer::No => say(room, b"no\n"),
+        Answer::Refused(refusal) => refuse(room, refusal.code, setup.name(refusal.slot)),
+    }
 }
 
-/// The line that says why there is no plan.
-pub(crate) fn plan_refusal(alloc: Global, error: PlanError) -> Result<Vec<u8>, AllocError>
-    ensures { IfOk result (λ text. TellsRefusal error text.items) }
+/// The reply that says why there is no plan.
+pub(crate) fn plan_refusal(alloc: Global, error: PlanError) -> Result<Reply, AllocError>
+    ensures { IfOk result (λ reply. TellsRefusal error reply) }
 {
     match error {
-        PlanError::Cycle(name) => error_line(alloc, Code::Cycle, name.as_bytes()),
-        PlanError::Install(name) => error_line(alloc, Code::Install, name.as_bytes()),
-        PlanError::Unknown(name) => error_line(alloc, Code::Enoent, name.as_bytes()),
-        PlanError::Remove(name) => error_line(alloc, Code::Remove, name.as_bytes()),
+        PlanError::Cycle(name) => Reply::refused(alloc, Code::Cycle, name.as_bytes()),
+        PlanError::Install(name) => Reply::refused(alloc, Code::Install, name.as_bytes()),
+        PlanError::Unknown(name) => Reply::refused(alloc, Code::Enoent, name.as_bytes()),
+        PlanError::Remove(name) => Reply::refused(alloc, Code::Remove, name.as_bytes()),
         PlanError::Memory => Err(AllocError),
     }
 }
 
-fn mark_text(soft: bool) -> &'static [u8]
-    ensures { result.now ≡ mark_text soft }
-{
-    if soft { b"soft" } else { b"hard" }
-}
-
-/// Adds a space and the word, for each word.
-fn push_words(text: &mut Vec<u8>, words: &[&[u8]]) -> Result<(), AllocError>
-    ensures { OnOk result (text.new.items ≡ text.old.items ++ words_text (texts_of words.now)) }
-{
-    for word in words {
-        text.extend_from_slice(b" ")?;
-        text.extend_from_slice(word)?;
-    }
-    Ok(())
-}
-
-/// Adds the line of an item of a plan.
-fn push_item(text: &mut Vec<u8>, setup: &Setup, item: &Item<'_>) -> Result<(), AllocError>
-    ensures { OnOk result (text.new.items ≡ text.old.items ++ item_text setup.now item.now) }
-{
-    text.extend_from_slice(b"load ")?;
-    text.extend_from_slice(setup.name(item.slot))?;
-    text.extend_from_slice(b" ")?;
-    text.extend_from_slice(mark_text(item.soft))?;
-    push_words(text, item.options.words())?;
-    text.extend_from_slice(b"\n")
-}
-
-/// The lines of the items of a plan.
-pub(crate) fn items_text(
-    alloc: Global,
-    setup: &Setup,
-    items: &[Item<'_>],
-) -> Result<Vec<u8>, AllocError>
-    ensures { IfOk result (λ text. text.items ≡ flat_map (item_text setup.now) items.now) }
-{
-    let mut text = Vec::new(alloc);
-    for item in items {
-        push_item(&mut text, setup, item)?;
-    }
-    Ok(text)
-}
-
 /// What modinfo(8) tells of a module.
-pub(crate) fn details(alloc: Global, setup: &Setup, name: &Name) -> Result<Vec<u8>, AllocError>
-    ensures { IfOk result (λ text. text.items ≡ details setup.now name.now (slot_named setup.now.catalogue name.now)) }
+pub(crate) fn details(alloc: Global, setup: &Setup, name: &Name) -> Result<Reply, AllocError>
+    ensures { IfOk result (λ reply. reply ≡ details setup.now name.now (slot_named setup.now.catalogue name.now)) }
 {
     match setup.catalogue().slot(name.as_bytes()) {
-        Some(slot) => modinfo_text(alloc, setup.catalogue(), slot),
-        None => error_line(alloc, Code::Enoent, name.as_bytes()),
+        Some(slot) => Ok(Reply::says(modinfo_text(alloc, setup.catalogue(), slot)?)),
+        None => Reply::refused(alloc, Code::Enoent, name.as_bytes()),
     }
 }

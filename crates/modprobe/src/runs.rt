@@ -4,12 +4,14 @@ ghost use Rattle.std.specs.Io.KnownBytes.{Appends, IsAtEnd};
 ghost use Rattle.std.specs.Str.Lines.{lines as lines_of};
 ghost use Rattle.dep_index.specs.Catalogue.{modules_of};
 ghost use Rattle.modprobe.specs.Lines.{bytes_left, hand_of, IfTold, StopsForTurns, SpendsTurns, HasTrueEnd, source_of, SameReader};
-ghost use Rattle.modprobe.specs.Session.{answer, is_error, errors_of, error_count};
+ghost use Rattle.modprobe.specs.Session.{answer, error_count};
+ghost use Rattle.modprobe.specs.Outcomes.{errors_of};
 ghost use Rattle.modprobe.specs.Run.{AllShort, WritesPart, StandsAfter, is_read, is_write};
 
 use crate::device::{Failed, Sink, Source};
 use crate::fault::RunFault;
 use crate::lines::Lines;
+use crate::reply::Reply;
 use crate::session::Session;
 use crate::setup::Setup;
 use crate::watch::{Refused, Watch};
@@ -34,31 +36,24 @@ fn write_all<W: Sink>(writer: &mut W, bytes: &[u8]) -> Result<(), Failed>
     Ok(())
 }
 
-/// Whether a reply is an error.
-fn is_error(reply: &[u8]) -> bool
-    ensures { result ≡ is_error reply.now }
-{
-    reply.starts_with(b"error ") && reply.len() > 6 && reply[6].is_ascii_uppercase()
-}
-
-/// How many errors there are with this reply to a line, which the watch is told of if it is one.
-fn count_reply<M: Modules, T: Watch>(
+/// How many errors there are with this reply to a line. The watch is told of the line if it is refused.
+fn count_reply<'a, M: Modules, T: Watch>(
     errors: u64,
-    session: &Session<'_, '_, M>,
-    line: &[u8],
-    reply: &[u8],
+    session: &'a Session<'_, '_, M>,
+    line: &'a [u8],
+    reply: &'a Reply,
     watch: &mut T,
 ) -> u64
     ensures { result ≡ min (errors + errors_of reply.now) (2 ^ 64 - 1) }
 {
-    if !is_error(reply) {
+    let Some(refusal) = reply.refusal() else {
         return errors;
-    }
+    };
     watch.refusal(&Refused {
         setup: session.setup,
         table: session.table,
         line,
-        reply,
+        refusal,
     });
     errors.saturating_add(1)
 }
@@ -71,7 +66,7 @@ fn count_reply<M: Modules, T: Watch>(
 /// After a fault all lines before the one in hand are answered. `Write` comes after the line in hand has had its effect on
 /// the table, and a front part of its reply is written. After any other fault it has no effect and no reply.
 ///
-/// It answers how many replies were errors, 2^64 - 1 at most, and tells the watch of each line and of each error.
+/// It answers how many lines were refused, 2^64 - 1 at most, and tells the watch of each line and of each refusal.
 pub fn run_watched<R: Source, W: Sink, M: Modules, T: Watch>(
     alloc: Global,
     setup: &Setup,
@@ -115,8 +110,8 @@ pub fn run_watched<R: Source, W: Sink, M: Modules, T: Watch>(
     while lines.next_line()? {
         watch.line();
         let reply = session.reply(alloc, lines.line())?;
-        write_all(writer, reply.as_slice())?;
-        errors = count_reply(errors, &session, lines.line(), reply.as_slice(), watch);
+        write_all(writer, reply.text())?;
+        errors = count_reply(errors, &session, lines.line(), &reply, watch);
     }
     Ok(errors)
 }

@@ -1,5 +1,6 @@
 //! Who is told what happens while an input is read and answered.
 
+use crate::refusal::Refusal;
 use crate::section::{Section, Texts};
 use crate::setup::Setup;
 use seq_table::Modules;
@@ -22,16 +23,16 @@ pub trait Watch {
     /// This is the setup that the texts make.
     fn setup(&mut self, _setup: &Setup) {}
 
-    /// The line that was read last has this reply, which is an error and was written. The table is the one after it.
+    /// The line that was read last is refused, and its reply was written.
     fn refusal<M: Modules>(&mut self, _refused: &Refused<'_, M>) {}
 }
 
-/// A line of a session whose reply is an error.
+/// A line of a session that is refused.
 #[derive(Clone, Copy, Drop)]
 pub struct Refused<'a, M> {
     pub setup: &'a Setup,
     /// The table after it.
     pub table: &'a M,
     pub line: &'a [u8],
-    pub reply: &'a [u8],
+    pub refusal: Refusal<'a>,
 }

@@ -8,21 +8,20 @@ use crate::lists::Row;
 use crate::near::is_near;
 use crate::witness::Kept;
 use dep_index::ModuleState;
-use modprobe::Setup;
+use modprobe::{Code, Refusal, Setup};
 use program_frame::Shown;
 use seq_table::Modules;
 use std::alloc::{AllocError, Global};
 use std::io::Write;
 
-/// A refused command: its words, and the code and the name that its reply has, over the table after it.
+/// A refused command: its words, and why it is refused, over the table after it.
 #[derive(Drop)]
 pub(crate) struct Cause<'a, M> {
     pub(crate) alloc: Global,
     pub(crate) setup: &'a Setup,
     pub(crate) table: &'a M,
     pub(crate) words: &'a [&'a [u8]],
-    pub(crate) code: &'a [u8],
-    pub(crate) name: &'a [u8],
+    pub(crate) refusal: Refusal<'a>,
 }
 
 fn state_word(state: ModuleState) -> &'static str {
@@ -38,11 +37,11 @@ fn state_word(state: ModuleState) -> &'static str {
 impl<'a, M: Modules> Cause<'a, M> {
     /// The slot of the module of the name.
     pub(crate) fn slot(&self) -> Option<usize>
-        ensures named { IfSome result (λ slot. slot_named self.now.setup.now.catalogue self.now.name.now ≡ Some slot) }
+        ensures named { IfSome result (λ slot. slot_named self.now.setup.now.catalogue self.now.refusal.name.now ≡ Some slot) }
         ensures catalogue { IfSome result (λ slot. slot < length self.now.setup.now.catalogue) }
         ensures table { IfSome result (λ slot. slot < length (M.catalogue self.now.table.now)) }
     {
-        let slot = self.setup.catalogue().slot(self.name)?;
+        let slot = self.setup.catalogue().slot(self.refusal.name)?;
         if slot < self.table.slots() && slot < self.setup.catalogue().len() {
             Some(slot)
         } else {
@@ -71,7 +70,7 @@ impl<'a, M: Modules> Cause<'a, M> {
     /// Tells the state of a module that is needed.
     fn tell_need<E: Write>(&self, errors: &mut E) {
         if let Some(slot) = self.slot() {
-            let (name, state) = (Shown(self.name), state_word(self.table.state(slot)));
+            let (name, state) = (Shown(self.refusal.name), state_word(self.table.state(slot)));
             let _ = write!(errors, ": it needs {name}, which is {state}");
         }
     }
@@ -131,7 +130,7 @@ impl<'a, M: Modules> Cause<'a, M> {
         let mut near = Vec::new(self.alloc);
         for slot in 0..catalogue.len() {
             let own = catalogue.name(slot);
-            if is_near(own, self.name) {
+            if is_near(own, self.refusal.name) {
                 near.push(Shown(own))?;
             }
         }
@@ -160,12 +159,12 @@ impl<'a, M: Modules> Cause<'a, M> {
 
     /// Tells the form of a command that begins with the name, or that there is none.
     fn tell_form<E: Write>(&self, errors: &mut E) -> Result<(), AllocError> {
-        if let Some(form) = form_of(self.name) {
+        if let Some(form) = form_of(self.refusal.name) {
             let _ = write!(errors, ": the form is {form}");
             return Ok(());
         }
         self.tell_why("no command has this name", errors);
-        let near = near_commands(self.alloc, self.name)?;
+        let near = near_commands(self.alloc, self.refusal.name)?;
         self.tell_near(&near, errors);
         Ok(())
     }
@@ -182,22 +181,21 @@ impl<'a, M: Modules> Cause<'a, M> {
 
     /// Tells why a command was refused, after its code.
     pub(crate) fn tell<E: Write>(&self, kept: &Kept<'_>, errors: &mut E) -> Result<(), AllocError> {
-        match self.code {
-            b"SYNTAX" => return self.tell_form(errors),
-            b"ENOENT" => return self.tell_absent(errors),
-            b"EINVAL" => return self.tell_value(errors),
-            b"EWOULDBLOCK" => return self.tell_use(errors),
-            b"INSTALL" => return self.tell_setting(b"install", kept, errors),
-            b"REMOVE" => return self.tell_setting(b"remove", kept, errors),
-            b"CYCLE" => return self.tell_cycle(kept, errors),
-            b"UNKNOWNSYMBOL" => return self.tell_symbol(kept, errors),
-            b"TOOMANY" => self.tell_why("the worker holds 65,535 references to it", errors),
-            b"NOTHELD" => self.tell_why("the worker holds no reference to it", errors),
-            b"WORKER" => self.tell_workers(errors),
-            b"EEXIST" | b"NOTLIVE" => self.tell_state(errors),
-            b"EBUSY" => self.tell_busy(errors),
-            b"NEEDNOTLIVE" => self.tell_need(errors),
-            _ => {}
+        match self.refusal.code {
+            Code::Syntax => return self.tell_form(errors),
+            Code::Enoent => return self.tell_absent(errors),
+            Code::Einval => return self.tell_value(errors),
+            Code::Ewouldblock => return self.tell_use(errors),
+            Code::Install => return self.tell_setting(b"install", kept, errors),
+            Code::Remove => return self.tell_setting(b"remove", kept, errors),
+            Code::Cycle => return self.tell_cycle(kept, errors),
+            Code::UnknownSymbol => return self.tell_symbol(kept, errors),
+            Code::TooMany => self.tell_why("the worker holds 65,535 references to it", errors),
+            Code::NotHeld => self.tell_why("the worker holds no reference to it", errors),
+            Code::Worker => self.tell_workers(errors),
+            Code::Eexist | Code::NotLive => self.tell_state(errors),
+            Code::Ebusy => self.tell_busy(errors),
+            Code::NeedNotLive => self.tell_need(errors),
         }
         Ok(())
     }

@@ -12,22 +12,12 @@ use std::alloc::AllocError;
 use std::io::Write;
 use text_parts::{Name, is_same, words};
 
-/// The code and the name of a reply that is an error.
-fn code_and_name(reply: &[u8]) -> (&[u8], &[u8]) {
-    let text = reply.strip_prefix(b"error ").unwrap_or(reply);
-    let text = text.strip_suffix(b"\n").unwrap_or(text);
-    let end = text.iter().position(|byte| *byte == b' ');
-    let code = text.get(..end.unwrap_or(text.len())).unwrap_or(text);
-    let rest = text.get(code.len()..).unwrap_or(b"");
-    (code, rest.get(1..).unwrap_or(b""))
-}
-
 impl<M: Modules> Cause<'_, M> {
     /// Whether one of the words of the command is its name, or the normal form is.
     fn has_name(&self) -> Result<bool, AllocError> {
         for word in self.words {
             let name = Name::new(self.alloc, word)?;
-            if is_same(word, self.name) || is_same(name.as_bytes(), self.name) {
+            if is_same(word, self.refusal.name) || is_same(name.as_bytes(), self.refusal.name) {
                 return Ok(true);
             }
         }
@@ -42,7 +32,7 @@ impl<M: Modules> Cause<'_, M> {
         errors: &mut E,
     ) -> Result<(), AllocError> {
         let text = kept.text(Section::Conf);
-        if let Some(number) = setting_line(self.alloc, text, word, self.name)? {
+        if let Some(number) = setting_line(self.alloc, text, word, self.refusal.name)? {
             let place = kept.places.in_section(Section::Conf, number);
             let word = Shown(word);
             let _ = write!(errors, ": its {word} line stands in {place}");
@@ -55,7 +45,7 @@ impl<M: Modules> Cause<'_, M> {
         let Some(rest) = way.get(1..) else {
             return;
         };
-        let (catalogue, name) = (self.setup.catalogue(), Shown(self.name));
+        let (catalogue, name) = (self.setup.catalogue(), Shown(self.refusal.name));
         let _ = write!(errors, ": {name}");
         for slot in rest {
             if *slot < catalogue.len() {
@@ -88,7 +78,7 @@ impl<M: Modules> Cause<'_, M> {
         errors: &mut E,
     ) -> Result<(), AllocError> {
         let text = kept.text(Section::Catalogue);
-        if let Some(symbol) = unknown_symbol(self.alloc, text, self.name)? {
+        if let Some(symbol) = unknown_symbol(self.alloc, text, self.refusal.name)? {
             let symbol = Shown(symbol);
             let _ = write!(errors, ": no module exports {symbol}");
         }
@@ -97,7 +87,7 @@ impl<M: Modules> Cause<'_, M> {
 
     /// Tells the code of the refusal, with its name where the command has not that name, and why.
     fn tell_code<E: Write>(&self, kept: &Kept<'_>, errors: &mut E) -> Result<(), AllocError> {
-        let (code, name) = (Shown(self.code), Shown(self.name));
+        let (code, name) = (Shown(self.refusal.code.text()), Shown(self.refusal.name));
         let _ = write!(errors, ": {code}");
         if !self.has_name()? {
             let _ = write!(errors, " {name}");
@@ -112,15 +102,13 @@ pub(crate) fn tell_refusal<M: Modules, E: Write>(
     kept: &Kept<'_>,
     errors: &mut E,
 ) -> Result<(), AllocError> {
-    let (code, name) = code_and_name(refused.reply);
     let words = words(kept.alloc, refused.line)?;
     let cause = Cause {
         alloc: kept.alloc,
         setup: refused.setup,
         table: refused.table,
         words: &words,
-        code,
-        name,
+        refusal: refused.refusal,
     };
     let (place, line) = (kept.places.of_line(kept.lines), Shown(refused.line));
     // A line of a session mostly stands in standard input.

@@ -33,7 +33,7 @@ impl<M: Modules> Cause<'_, M> {
     /// Tells the first word of the options lines of its name that the module does not take, and whether there is one.
     fn tell_option<E: Write>(&self, errors: &mut E) -> Result<bool, AllocError> {
         let setup = self.setup;
-        for word in setup.configuration().options(self.name) {
+        for word in setup.configuration().options(self.refusal.name) {
             if self.tell_if_refused(word.as_bytes(), errors)? {
                 let _ = write!(errors, ", in an options line");
                 return Ok(true);

@@ -24,7 +24,8 @@ use Rattle.modprobe.specs.Refusals.{code_of, unload_code}
 use Rattle.modprobe.specs.Changes.{Change, ◌then◌, call_change, end_of_load, one_load, one_removal}
 use Rattle.modprobe.specs.Plans.{◌>>=◌, targets_of, items_of_plans}
 use Rattle.modprobe.specs.Loads as loads
-use Rattle.modprobe.specs.Session.{change_reply, by_worker, action_reply, named_reply, request_reply, command_reply, line_reply, answer}
+use Rattle.modprobe.specs.Outcomes.{Outcome}
+use Rattle.modprobe.specs.Session.{change_outcome, by_worker, action_outcome, named_outcome, request_outcome, command_outcome, line_outcome, line_reply, answer}
 use Rattle.modprobe.specs.Serve.{opening_of}
 use Rattle.modprobe.proofs.SlotLemmas.{named_below, known_below}
 use Rattle.theorems.proofs.Bounding.{plan_slots, removal_slots}
@@ -196,16 +197,16 @@ module _ (s : Setup) (workers : ℕ) where
   workers_of : (t : Table) → Good t → length t.rows ≡ workers
   workers_of t g = ap (λ (u : Table). length u.rows) g.reached ∙ rows_after known (opening_of s workers) g.calls ∙ length-replicate workers (replicate (length known) 0)
 
-  choose : (b : Bool) (x y : List ℕ × Table) → (b ≡ true → Good x.1) → Good y.1 → Good (cond b x y).1
+  choose : (b : Bool) (x y : Outcome × Table) → (b ≡ true → Good x.1) → Good y.1 → Good (cond b x y).1
   choose true x y gx gy = gx refl
   choose false x y gx gy = gy
 
   by_worker_reached : (w m : ℕ) (x : Call) (t : Table) → (w < workers → IsInRange (length known) workers x) → Good t → Good (by_worker s w m x t).1
   by_worker_reached w m x t range g =
-      choose (nat_lt w (length t.rows)) (change_reply (call_change s code_of m x t)) _
+      choose (nat_lt w (length t.rows)) (change_outcome (call_change s code_of m x t)) _
       (λ is. reach_call x t (range (subst (λ n. w < n) (workers_of t g) (ltb-true w (length t.rows) is))) g) g
 
-  action_reached : (m : ℕ) → m < length known → (action : Action) (t : Table) → Good t → Good (action_reply s m action t).1
+  action_reached : (m : ℕ) → m < length known → (action : Action) (t : Table) → Good t → Good (action_outcome s m action t).1
   action_reached m below (insmod words) t g = load_reached m below words t g
   action_reached m below rmmod t g = removal_reached m below t g
   action_reached m below drain t g = reach_call (call.BeginDrain m) t (below, tt) g
@@ -213,18 +214,18 @@ module _ (s : Setup) (workers : ℕ) where
   action_reached m below (get w) t g = by_worker_reached w m (call.Get w m) t (λ h. (below, h)) g
   action_reached m below (put w) t g = by_worker_reached w m (call.Put w m) t (λ h. (below, h)) g
 
-  by_name_reached : (name : List ℕ) (o : Option ℕ) → slot_named s.catalogue name ≡ o → (action : Action) (t : Table) → Good t → Good (named_reply s name o action t).1
+  by_name_reached : (name : List ℕ) (o : Option ℕ) → slot_named s.catalogue name ≡ o → (action : Action) (t : Table) → Good t → Good (named_outcome s name o action t).1
   by_name_reached name None is action t g = g
   by_name_reached name (Some m) is action t g = action_reached m (known_below s.catalogue m (named_below s.catalogue name m is)) action t g
 
-  request_reached : (name : List ℕ) (request : Request) (t : Table) → Good t → Good (request_reply s name request t).1
+  request_reached : (name : List ℕ) (request : Request) (t : Table) → Good t → Good (request_outcome s name request t).1
   request_reached name (act action) t g = by_name_reached name (slot_named s.catalogue name) refl action t g
   request_reached name modinfo t g = g
   request_reached name plan t g = g
   request_reached name (modprobe words) t g = modprobe_reached name words t g
   request_reached name modprobe_remove t g = remove_reached name t g
 
-  command_reached : (command : Command) (t : Table) → Good t → Good (command_reply s command t).1
+  command_reached : (command : Command) (t : Table) → Good t → Good (command_outcome s command t).1
   command_reached nothing t g = g
   command_reached (malformed first) t g = g
   command_reached (by_name name request) t g = request_reached name request t g
@@ -232,7 +233,7 @@ module _ (s : Setup) (workers : ℕ) where
   command_reached proc t g = g
 
   line_reached : (line : List ℕ) (t : Table) → Good t → Good (line_reply s t line).1
-  unfolding line_reply
+  unfolding line_outcome
   line_reached line t g = command_reached (command_of line) t g
 
   lines_reached : (lines : List (List ℕ)) (t : Table) → Good t → Good (answer s t lines).1

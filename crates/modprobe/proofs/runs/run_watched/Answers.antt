@@ -5,6 +5,7 @@ use Rattle.std.specs.Io.KnownBytes.{Appends}
 use Rattle.std.proofs.KnownBytes.{Appends-trans}
 use Rattle.std.proofs.lemmas.Result.{err_from_is_err_and}
 use Rattle.modprobe.specs.Lines.{AtHand, IfTold, hand_of, bytes_left, ending_bytes, texts}
+use Rattle.modprobe.specs.Outcomes.{text_of}
 use Rattle.modprobe.specs.Session.{line_reply, answer}
 use Rattle.modprobe.specs.Run.{AllShort, StoppedForMemory, StoppedWriting, StandsAfter, run_fault_of}
 use Rattle.std.specs.Str.Lines.{lines}
@@ -57,12 +58,12 @@ loop-watch-preserved g c =
         before.0 ++ cut ∷ [],
         answered_more s start (left c.args.lines.now) (wrote c.args.writer.now)
             (left c.loop-watch.lines) (left c.next_line.new.self) (wrote c.loop-watch.writer) (wrote c.write_all.new.writer)
-            (g.M.Modules.table c.loop-watch.session.table.now) (g.M.Modules.table c.reply.new.self.table.now) before.0 cut c.in_ok-reply.reply.items
-            before.1 given.cut given.short (rw c.line-in-loop-watch.ensures at c.in_ok-reply.ensures.reply.answers) (rw c.line-in-loop-watch.ensures at c.in_ok-reply.ensures.reply.becomes)
-            (rw c.as_slice.ensures.value at c.in_ok-write_all.ensures.ok),
+            (g.M.Modules.table c.loop-watch.session.table.now) (g.M.Modules.table c.reply.new.self.table.now) before.0 cut (text_of c.in_ok-reply.reply)
+            before.1 given.cut given.short (ap text_of (rw c.line-in-loop-watch.ensures at c.in_ok-reply.ensures.reply.answers)) (rw c.line-in-loop-watch.ensures at c.in_ok-reply.ensures.reply.becomes)
+            (rw c.text.ensures at c.in_ok-write_all.ensures.ok),
         λ still. ended_more before.0 cut (before.2 given.going) (given.ended still),
-        counted_more s start (g.M.Modules.table c.loop-watch.session.table.now) before.0 cut c.in_ok-reply.reply.items c.loop-watch.errors c.count_reply-errors.result
-            before.3 before.1.after (rw c.line-in-loop-watch.ensures at c.in_ok-reply.ensures.reply.answers) (rw c.as_slice-in-loop-watch.ensures.value at c.count_reply-errors.ensures),
+        counted_more s start (g.M.Modules.table c.loop-watch.session.table.now) before.0 cut c.in_ok-reply.reply c.loop-watch.errors c.count_reply-errors.result
+            before.3 before.1.after (rw c.line-in-loop-watch.ensures at c.in_ok-reply.ensures.reply.answers) c.count_reply-errors.ensures,
       );
     }
 
@@ -79,8 +80,8 @@ returns-in_err-write_all-clause-stands g c =
     let left = bytes_left g.R.Source.remaining in
     let wrote = g.W.Sink.contents in
     let part = c.in_err-write_all.ensures.err in
-    let reply : c.as_slice.result.now ≡ (line_reply s (answer s start (texts before.0)).1 line).0 =
-    c.as_slice.ensures.value ∙ (rw (c.line-in-loop-watch.ensures, same) at c.in_ok-reply.ensures.reply.answers) ∙ ap (λ t. (line_reply s t line).0) before.1.after in
+    let reply : c.text.result.now ≡ (line_reply s (answer s start (texts before.0)).1 line).0 =
+    c.text.ensures ∙ ap text_of (rw (c.line-in-loop-watch.ensures, same) at c.in_ok-reply.ensures.reply.answers) ∙ ap (λ t. (line_reply s t line).0) before.1.after in
     let less : part.0 < length (line_reply s (answer s start (texts before.0)).1 line).0 = rw reply at part.1 in
     let appends : Appends (wrote c.loop-watch.writer) (wrote c.write_all.new.writer) (take part.0 (line_reply s (answer s start (texts before.0)).1 line).0) = rw reply at part.2 in
     let after : g.M.Modules.table c.reply.new.self.table.now ≡ (answer s start (texts (before.0 ++ cut ∷ []))).1 =
