@@ -8,7 +8,7 @@ ghost use Rattle.proc_modules.specs.UserRows.{IsListed};
 
 use crate::columns::{push_left, push_names, push_right};
 use crate::entry::{Entry, push_line};
-use crate::users::{listed, pairs, row};
+use crate::users::{listed, row};
 use crate::write::push_number;
 use dep_index::Catalogue;
 use itoa::Buffer;
@@ -21,7 +21,7 @@ fn references<M: Modules>(catalogue: &Catalogue, table: &M, slot: usize, users: 
     requires listed { IsListed catalogue.now (M.table table.now) slot users.now }
     ensures { result ≡ references (modules_of catalogue.now) (M.table table.now) slot }
 {
-    pairs(table, slot) + users.len() as u32
+    table.pairs(slot) + users.len() as u32
 }
 
 /// Adds the line of /proc/modules of a module of these users.

@@ -1,6 +1,6 @@
 //! The modules of a table, the newest first, and who uses them.
 ghost use Rattle.std.specs.Prelude.{◌≡◌, ◌<◌, ◌≤◌, ℕ, [], ◌∷◌, ◌++◌, length, filter, replicate, slice_index_or, slice_set, vec_len, All, IfOk, OnOk};
-ghost use Rattle.dep_index.specs.Table.{needs_slot, pairs};
+ghost use Rattle.dep_index.specs.Table.{needs_slot};
 ghost use Rattle.dep_index.specs.Catalogue.{modules_of};
 ghost use Rattle.seq_table.specs.Rows.{rows_of};
 ghost use Rattle.proc_modules.specs.Listings.{newest_first};
@@ -100,19 +100,4 @@ pub(crate) fn row(rows: &[Vec<u16>], slot: usize) -> &[u16]
     ensures { result.now ≡ slice_index_or (rows_of rows.now) slot [] }
 {
     &rows[slot]
-}
-
-/// How many references all workers hold to a module.
-pub(crate) fn pairs<M: Modules>(table: &M, slot: usize) -> u32
-    requires { slot < length (M.catalogue table.now) }
-    ensures sum { result ≡ pairs (M.table table.now).rows slot }
-    ensures bound { result ≤ 4194240 }
-{
-    let workers = table.workers();
-    let mut total = 0;
-    for worker in 0..workers {
-        prove!(worker < workers);
-        total += table.held(worker, slot);
-    }
-    total
 }

@@ -1,5 +1,5 @@
 -- A table over a catalogue.
-use Rattle.std.specs.Prelude.{ℕ, ◌≤◌, List, length}
+use Rattle.std.specs.Prelude.{◌≤◌, List, length}
 use Rattle.dep_index.specs.Table.{Module, Table as OneThread}
 use Rattle.dep_index.specs.Laws.{IsShaped, IsLawful}
 

@@ -1,6 +1,6 @@
 //! What a table of modules does.
-ghost use Rattle.std.specs.Prelude.{◌≡◌, ◌<◌, ◌≤◌, ◌↔◌, length, slice_index, List, Contains, IsTrue};
-ghost use Rattle.dep_index.specs.Table.{Module, Table as OneThread, state_of, count_of, is_held, needs_slot, users, references};
+ghost use Rattle.std.specs.Prelude.{◌≡◌, ◌<◌, ◌≤◌, ◌↔◌, ℕ, length, slice_index, List, Contains, IsTrue, OnOk};
+ghost use Rattle.dep_index.specs.Table.{Module, Table as OneThread, state_of, count_of, is_held, needs_slot, pairs, users, references};
 ghost use Rattle.dep_index.specs.Calls.{reply, next};
 ghost use Rattle.dep_index.specs.Refusals.{reply_of, get_refusal, put_refusal, begin_load_refusal, end_load_refusal};
 ghost use Rattle.dep_index.specs.Refusals.{begin_drain_refusal, begin_remove_refusal, end_remove_refusal};
@@ -11,6 +11,7 @@ use dep_index::{
     BeginDrainError, BeginLoadError, BeginRemoveError, EndLoadError, EndRemoveError, GetError,
     ModuleState, PutError,
 };
+use std::alloc::AllocError;
 
 /// A table of modules over a catalogue, used by one thread. Modules go by slot and workers by number, both from 0.
 /// A refused call changes nothing; the refusals of a call are tested in the order in which they are listed.
@@ -21,10 +22,12 @@ pub trait Modules {
     /// The table that it is.
     ghost table: { Self → OneThread };
 
-    /// How many workers there are, 64 at most.
+    /// A get by this worker takes no memory.
+    ghost has_room: { Self → ℕ → Type 0 };
+
+    /// How many workers there are.
     fn workers(&self) -> usize
-        ensures all { result ≡ length (table self.now).rows }
-        ensures bound { result ≤ 64 };
+        ensures { result ≡ length (table self.now).rows };
 
     /// How many modules the catalogue has, 65,535 at most.
     fn slots(&self) -> usize
@@ -48,11 +51,16 @@ pub trait Modules {
         requires { slot < length (catalogue self.now) }
         ensures { result ≡ is_held (table self.now) slot };
 
+    /// How many references all workers together hold to a module: those of 65,536 workers at most.
+    fn pairs(&self, slot: usize) -> u32
+        requires { slot < length (catalogue self.now) }
+        ensures sum { result ≡ pairs (table self.now).rows slot }
+        ensures bound { result ≤ 4294901760 };
+
     /// How many references there are to a module, and modules of the table that need it.
     fn references(&self, slot: usize) -> u32
         requires { slot < length (catalogue self.now) }
-        ensures number { result ≡ references (catalogue self.now) (table self.now) slot }
-        ensures bound { result ≤ 4259775 };
+        ensures { result ≡ references (catalogue self.now) (table self.now) slot };
 
     /// How many modules the table has, in any state but Absent; no more than the catalogue.
     fn loaded(&self) -> usize
@@ -79,11 +87,19 @@ pub trait Modules {
         ensures shaped { IsShaped (length (catalogue self.now)) (length (table self.now).rows) (table self.now) }
         ensures lawful { IsLawful (catalogue self.now) (table self.now) };
 
+    /// Makes room for a get by a worker. Out of memory, it may have none; the table stays in either case.
+    fn make_room(&mut self, worker: usize) -> Result<(), AllocError>
+        requires { worker < length (table self.old).rows }
+        ensures room { OnOk result (has_room self.new worker) }
+        ensures stays { table self.new ≡ table self.old }
+        ensures over { catalogue self.new ≡ catalogue self.old };
+
     /// A worker takes a reference to a module. `NotLive`: the module is not live. `TooMany`: the worker holds
     /// 65,535 references to it.
     fn get(&mut self, worker: usize, slot: usize) -> Result<(), GetError>
         requires worker { worker < length (table self.old).rows }
         requires slot { slot < length (catalogue self.old) }
+        requires room { has_room self.old worker }
         ensures answers { reply_of get_refusal result ≡ reply (catalogue self.old) (table self.old) (Get worker slot) }
         ensures becomes { table self.new ≡ next (catalogue self.old) (table self.old) (Get worker slot) }
         ensures over { catalogue self.new ≡ catalogue self.old };

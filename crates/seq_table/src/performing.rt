@@ -1,13 +1,15 @@
 //! One call on a table, whichever table and call it is.
-ghost use Rattle.std.specs.Prelude.{◌≡◌, length};
+ghost use Rattle.std.specs.Prelude.{◌≡◌, ℕ, length};
 ghost use Rattle.dep_index.specs.Calls.{reply, next, IsInRange};
+ghost use Rattle.dep_index.specs.declared.table.calls.Call.TheVariants.{Get};
 
 use crate::modules::Modules;
 use dep_index::{Call, Reply};
 
-/// Makes the call, and says what it answers.
+/// Makes the call, and says what it answers. The worker of a get has room for it (`Modules::make_room`).
 pub fn perform<M: Modules>(table: &mut M, call: Call) -> Reply
-    requires { IsInRange (length (M.catalogue table.old)) (length (M.table table.old).rows) call }
+    requires range { IsInRange (length (M.catalogue table.old)) (length (M.table table.old).rows) call }
+    requires room { (w m : ℕ) → call ≡ Get w m → M.has_room table.old w }
     ensures answers { result ≡ reply (M.catalogue table.old) (M.table table.old) call }
     ensures becomes { M.table table.new ≡ next (M.catalogue table.old) (M.table table.old) call }
     ensures over { M.catalogue table.new ≡ M.catalogue table.old }

@@ -1,5 +1,5 @@
 //! The table.
-ghost use Rattle.std.specs.Prelude.{◌≡◌, ◌≤◌, IfOk};
+ghost use Rattle.std.specs.Prelude.{◌≡◌, ◌≤◌, ⊤, IfOk};
 ghost use Rattle.dep_index.specs.Catalogue.{modules_of};
 ghost use Rattle.dep_index.specs.Calls.{opening};
 
@@ -74,6 +74,8 @@ impl Modules for Table {
 
     ghost table = { λ t. t.table };
 
+    ghost has_room = { λ t w. ⊤ };
+
     fn workers(&self) -> usize {
         self.counts.workers()
     }
@@ -92,6 +94,10 @@ impl Modules for Table {
 
     fn in_use(&self, slot: usize) -> bool {
         self.counts.holders(slot) > 0
+    }
+
+    fn pairs(&self, slot: usize) -> u32 {
+        self.counts.pairs(slot)
     }
 
     fn references(&self, slot: usize) -> u32 {
@@ -113,6 +119,10 @@ impl Modules for Table {
 
     fn laws(&self) {
         let _ = &self.counts;
+    }
+
+    fn make_room(&mut self, _worker: usize) -> Result<(), AllocError> {
+        Ok(())
     }
 
     fn get(&mut self, worker: usize, slot: usize) -> Result<(), GetError> {

@@ -12,6 +12,3 @@ overflow_cast-result c = omega (arith, few_users c)
 
 pub overflow_add-result : goal.overflow_add-result
 overflow_add-result c = omega (arith, few_users c, c.pairs.ensures.bound)
-
-pub returns-clause-bound : goal.returns-clause-bound
-returns-clause-bound c = omega (arith, few_users c, c.pairs.ensures.bound)
