@@ -1,0 +1,4 @@
+pub mod HoldingLemmas
+pub mod KeptLemmas
+pub mod NameLemmas
+pub mod RowLemmas
