@@ -94,6 +94,8 @@ impl Modules for HeldTable {
 
     ghost table = { λ t. t.held.table };
 
+    ghost names = { λ t. t.held.names };
+
     ghost has_room = { λ t w. 0 < slice_index t.spare w };
 
     fn workers(&self) -> usize {

@@ -22,6 +22,9 @@ pub trait Modules {
     /// The table that it is.
     ghost table: { Self → OneThread };
 
+    /// The names of the workers, by number, where they have names. No call changes them.
+    ghost names: { Self → List (List ℕ) };
+
     /// A get by this worker takes no memory.
     ghost has_room: { Self → ℕ → Type 0 };
 
@@ -92,7 +95,8 @@ pub trait Modules {
         requires { worker < length (table self.old).rows }
         ensures room { OnOk result (has_room self.new worker) }
         ensures stays { table self.new ≡ table self.old }
-        ensures over { catalogue self.new ≡ catalogue self.old };
+        ensures over { catalogue self.new ≡ catalogue self.old }
+        ensures named { names self.new ≡ names self.old };
 
     /// A worker takes a reference to a module. `NotLive`: the module is not live. `TooMany`: the worker holds
     /// 65,535 references to it.
@@ -102,7 +106,8 @@ pub trait Modules {
         requires room { has_room self.old worker }
         ensures answers { reply_of get_refusal result ≡ reply (catalogue self.old) (table self.old) (Get worker slot) }
         ensures becomes { table self.new ≡ next (catalogue self.old) (table self.old) (Get worker slot) }
-        ensures over { catalogue self.new ≡ catalogue self.old };
+        ensures over { catalogue self.new ≡ catalogue self.old }
+        ensures named { names self.new ≡ names self.old };
 
     /// A worker puts a reference back. `NotHeld`: it holds none.
     fn put(&mut self, worker: usize, slot: usize) -> Result<(), PutError>
@@ -110,7 +115,8 @@ pub trait Modules {
         requires slot { slot < length (catalogue self.old) }
         ensures answers { reply_of put_refusal result ≡ reply (catalogue self.old) (table self.old) (Put worker slot) }
         ensures becomes { table self.new ≡ next (catalogue self.old) (table self.old) (Put worker slot) }
-        ensures over { catalogue self.new ≡ catalogue self.old };
+        ensures over { catalogue self.new ≡ catalogue self.old }
+        ensures named { names self.new ≡ names self.old };
 
     /// A module enters the table and loads (init_module(2)). `Exists`: it is in the table. `UnknownSymbol`: it needs
     /// a symbol that no module exports. `NeedNotLive`: the first of its needs that is not live.
@@ -118,14 +124,16 @@ pub trait Modules {
         requires { slot < length (catalogue self.old) }
         ensures answers { reply_of begin_load_refusal result ≡ reply (catalogue self.old) (table self.old) (BeginLoad slot) }
         ensures becomes { table self.new ≡ next (catalogue self.old) (table self.old) (BeginLoad slot) }
-        ensures over { catalogue self.new ≡ catalogue self.old };
+        ensures over { catalogue self.new ≡ catalogue self.old }
+        ensures named { names self.new ≡ names self.old };
 
     /// A load ends: the module is live, or where it did not go well it leaves the table. `NotLoading`: it does not load.
     fn end_load(&mut self, slot: usize, ok: bool) -> Result<(), EndLoadError>
         requires { slot < length (catalogue self.old) }
         ensures answers { reply_of end_load_refusal result ≡ reply (catalogue self.old) (table self.old) (EndLoad slot ok) }
         ensures becomes { table self.new ≡ next (catalogue self.old) (table self.old) (EndLoad slot ok) }
-        ensures over { catalogue self.new ≡ catalogue self.old };
+        ensures over { catalogue self.new ≡ catalogue self.old }
+        ensures named { names self.new ≡ names self.old };
 
     /// A live module takes no further reference; those that are held stay. `NoEntry`: it is not in the table.
     /// `NeededBy`: a module of the table needs it. `NotLive`: it loads, drains or unloads. `Permanent`: it stays for good.
@@ -133,7 +141,8 @@ pub trait Modules {
         requires { slot < length (catalogue self.old) }
         ensures answers { reply_of begin_drain_refusal result ≡ reply (catalogue self.old) (table self.old) (BeginDrain slot) }
         ensures becomes { table self.new ≡ next (catalogue self.old) (table self.old) (BeginDrain slot) }
-        ensures over { catalogue self.new ≡ catalogue self.old };
+        ensures over { catalogue self.new ≡ catalogue self.old }
+        ensures named { names self.new ≡ names self.old };
 
     /// A live module begins to unload (delete_module(2)). The refusals of `begin_drain`, then `InUse`: a worker holds
     /// a reference.
@@ -141,7 +150,8 @@ pub trait Modules {
         requires { slot < length (catalogue self.old) }
         ensures answers { reply_of begin_remove_refusal result ≡ reply (catalogue self.old) (table self.old) (BeginRemove slot) }
         ensures becomes { table self.new ≡ next (catalogue self.old) (table self.old) (BeginRemove slot) }
-        ensures over { catalogue self.new ≡ catalogue self.old };
+        ensures over { catalogue self.new ≡ catalogue self.old }
+        ensures named { names self.new ≡ names self.old };
 
     /// An unloading or draining module leaves the table. `NotUnloading`: it is neither. `InUse`: it drains, and a worker
     /// holds a reference.
@@ -149,5 +159,6 @@ pub trait Modules {
         requires { slot < length (catalogue self.old) }
         ensures answers { reply_of end_remove_refusal result ≡ reply (catalogue self.old) (table self.old) (EndRemove slot) }
         ensures becomes { table self.new ≡ next (catalogue self.old) (table self.old) (EndRemove slot) }
-        ensures over { catalogue self.new ≡ catalogue self.old };
+        ensures over { catalogue self.new ≡ catalogue self.old }
+        ensures named { names self.new ≡ names self.old };
 }

@@ -13,6 +13,7 @@ pub fn perform<M: Modules>(table: &mut M, call: Call) -> Reply
     ensures answers { result ≡ reply (M.catalogue table.old) (M.table table.old) call }
     ensures becomes { M.table table.new ≡ next (M.catalogue table.old) (M.table table.old) call }
     ensures over { M.catalogue table.new ≡ M.catalogue table.old }
+    ensures named { M.names table.new ≡ M.names table.old }
 {
     match call {
         Call::Get(worker, slot) => Reply::of(table.get(worker, slot)),

@@ -1,5 +1,5 @@
 //! The table.
-ghost use Rattle.std.specs.Prelude.{◌≡◌, ◌≤◌, ⊤, IfOk};
+ghost use Rattle.std.specs.Prelude.{◌≡◌, ◌≤◌, ⊤, [], IfOk};
 ghost use Rattle.dep_index.specs.Catalogue.{modules_of};
 ghost use Rattle.dep_index.specs.Calls.{opening};
 
@@ -73,6 +73,8 @@ impl Modules for Table {
     ghost catalogue = { λ t. t.catalogue };
 
     ghost table = { λ t. t.table };
+
+    ghost names = { λ t. [] };
 
     ghost has_room = { λ t w. ⊤ };
 
