@@ -1,4 +1,4 @@
-//! What is made of one module of the table: a load, a removal, a drain, a reference. It takes no memory.
+//! What is made of one module of the table: a load, a removal, a drain, a reference. It takes no memory: room for a get is there.
 ghost use Rattle.std.specs.Prelude.{◌≡◌, ◌<◌, length};
 ghost use Rattle.text_parts.specs.Text.{texts_of};
 ghost use Rattle.dep_index.specs.declared.table.calls.Call.TheVariants as calls;
@@ -124,6 +124,7 @@ impl<'s, 't, M: Modules> Session<'s, 't, M> {
     pub(crate) fn get(&mut self, slot: usize, worker: usize) -> Result<(), SlotRefusal>
         requires slot { slot < length self.old.setup.now.catalogue }
         requires worker { worker < length (M.table self.old.table.now).rows }
+        requires room { M.has_room self.old.table.now worker }
         ensures { Makes self.old self.new (refusal_in self.old.setup.now result) (λ s t. call_change s code_of slot (calls.Get worker slot) t) }
     {
         match self.table.get(worker, slot) {

@@ -90,7 +90,7 @@ impl<'s, 't, M: Modules> Session<'s, 't, M> {
                     return Reply::refused(alloc, Code::Enoent, name.as_bytes());
                 };
                 let room = room(alloc, self.setup)?;
-                let answer = self.act_on(slot, action);
+                let answer = self.act_on(slot, action)?;
                 Ok(render(room, self.setup, answer))
             }
             Request::Modinfo => details(alloc, self.setup, &name),

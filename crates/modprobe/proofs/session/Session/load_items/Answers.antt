@@ -26,4 +26,5 @@ returns-in_err-load_item g c =
       becomes = (rw same at c.in_err-load_item.ensures.becomes) ∙ ap (λ (x : Change). x.1) (sym all);
       same_setup = c.in_err-load_item.ensures.same_setup ∙ same;
       same_table = c.in_err-load_item.ensures.same_table ∙ c.loop-item.invariant.same_table;
+      same_names = c.in_err-load_item.ensures.same_names ∙ c.loop-item.invariant.same_names;
     }

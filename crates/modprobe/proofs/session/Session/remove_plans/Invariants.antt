@@ -8,4 +8,5 @@ invariant-loop-plan g l = record {
   left : removals l.fn.self.setup.now (drop l.plan-index l.plans) (g.M.Modules.table l.self.table.now) ≡ removals l.fn.self.setup.now l.plans (g.M.Modules.table l.fn.self.table.now);
   same_setup : l.self.setup ≡ l.fn.self.setup;
   same_table : l.self.table.ghost_name ≡ l.fn.self.table.ghost_name;
+  same_names : g.M.Modules.names l.self.table.now ≡ g.M.Modules.names l.fn.self.table.now;
 }
