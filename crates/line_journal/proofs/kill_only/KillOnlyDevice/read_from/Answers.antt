@@ -1,0 +1,10 @@
+use Rattle.std.proofs.Common.{refl}
+use Rattle.line_journal.specs.Past.{kill_history}
+use Rattle.line_journal.proofs.KillLemmas.{stays}
+use Rattle.line_journal.proofs.kill_only.KillOnlyDevice.read_from.Goals as goal
+
+pub returns-clause-crash : goal.returns-clause-crash
+returns-clause-crash c = stays (kill_history c.args.self.now.past.items c.args.self.now.bytes.items) (λ file is. refl)
+
+pub returns-in_err-to_vec-clause-crash : goal.returns-in_err-to_vec-clause-crash
+returns-in_err-to_vec-clause-crash c = stays (kill_history c.args.self.now.past.items c.args.self.now.bytes.items) (λ file is. refl)

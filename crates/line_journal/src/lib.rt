@@ -1,0 +1,16 @@
+//! A journal of text lines, each on the disk before it is acknowledged.
+#![tactic(auto)]
+
+mod device;
+mod gates;
+mod journal;
+mod kill_only;
+mod reading;
+mod recovery;
+mod text;
+
+pub use device::{Device, DeviceError};
+pub use journal::Journal;
+pub use kill_only::KillOnly;
+pub use reading::{Found, look, look_from};
+pub use recovery::{Opened, Recovered, Repair, open, recover};
