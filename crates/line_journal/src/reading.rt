@@ -119,8 +119,8 @@ fn first_line(bytes: &[u8]) -> Option<usize>
     }
 }
 
-// Where the first newline stands.
-fn line_end(bytes: &[u8]) -> Option<usize>
+/// Where the first newline stands.
+pub(crate) fn line_end(bytes: &[u8]) -> Option<usize>
     ensures line { IfSome result (λ len. IsLine (take len bytes.now)) }
     ensures newline { IfSome result (λ len. bytes.now ≡ take len bytes.now ++ 10 ∷ drop (len + 1) bytes.now) }
     ensures within { IfSome result (λ len. len < length bytes.now) }
