@@ -4,8 +4,10 @@ use Rattle.std.proofs.lemmas.Bool.{cases_eq}
 use Rattle.std.proofs.lemmas.List.{append-nil, take_at}
 use Rattle.std.proofs.lemmas.List.Elements.{All-nil, All-take}
 use Rattle.line_journal.specs.Device.{History, IsOnDisk, overwritten, Torn, Shortened}
-use Rattle.line_journal.specs.Lines.{lines_of, open_text, at_rest, behind, IsLine, StandsFor}
-use Rattle.line_journal.specs.Journal.{IsAtRest, IsFound}
+use Rattle.line_journal.specs.Lines.{lines_of, open_text, at_rest, behind, IsLine, StandsFor, open_gates}
+use Rattle.line_journal.specs.Journal.{IsAtRest, IsFound, MayCut}
+use Rattle.line_journal.specs.declared.recovery.Repair.{Repair}
+use Rattle.line_journal.specs.declared.recovery.Repair.TheVariants.{Cut, CutAtMost}
 use Rattle.line_journal.specs.declared.reading.Found.{Found}
 use Rattle.line_journal.proofs.ByteLemmas.{overwritten_end, torn_end, take_past}
 use Rattle.line_journal.proofs.LineLemmas.{rests, length-at_rest, Ended, ended_or_not, lines_of-line, lines_of_torn, lines_of-open_text, closed, parts, are_lines, behind_is}
@@ -87,3 +89,10 @@ found_at_rest old new history found is shut fits same on_disk =
     is.ends
     (omega (arith, is.ends, fits, ap length whole, length-at_rest (lines_of old)))
     (subst (λ f. IsOnDisk f history) (sym same) on_disk)
+
+-- a closed gate alone may be cut off by any repair
+pub may_cut_gate : (repair : Repair) (bytes : List ℕ) → bytes ≡ 32 ∷ [] → MayCut repair bytes
+may_cut_gate Cut bytes is = tt
+may_cut_gate (CutAtMost most) bytes is =
+    let none : open_gates bytes ≡ 0 = ap open_gates is in
+    omega (arith, none)

@@ -37,5 +37,5 @@ MayCut (CutAtMost lines) bytes = open_gates bytes ≤ lines
 
 -- a file was brought to rest, or refused because more would be cut off than may
 abbrev pub IsRecovered : Repair → List ℕ → List ℕ → History → Recovered → Type 0
-IsRecovered repair old new history (AtRest found) = IsFound old found × IsAtRest new history found.end × StandsFor (lines_of old) new
+IsRecovered repair old new history (AtRest found) = IsFound old found × IsAtRest new history found.end × StandsFor (lines_of old) new × MayCut repair (behind old)
 IsRecovered repair old new history (Damaged found) = IsFound old found × (new ≡ old) × (MayCut repair (behind old) → ⊥)

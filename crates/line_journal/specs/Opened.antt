@@ -11,7 +11,7 @@ use Rattle.line_journal.specs.declared.recovery.Opened.TheVariants.{Ready, Damag
 -- a journal of the same lines that is ready, or the file as it was, because more would be cut off than may
 abbrev pub IsOpened : {D : Type 0} → (D → List ℕ) → (D → History) → Repair → D → Opened D → Type 0
 IsOpened content history repair old (Ready journal found) =
-    IsFound (content old) found × IsReady content history journal × StandsFor (lines_of (content old)) (content journal.device)
+    IsFound (content old) found × IsReady content history journal × StandsFor (lines_of (content old)) (content journal.device) × MayCut repair (behind (content old))
 IsOpened content history repair old (Damaged device found) =
     IsFound (content old) found × (content device ≡ content old) × (MayCut repair (behind (content old)) → ⊥)
 
