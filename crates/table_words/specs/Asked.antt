@@ -1,0 +1,110 @@
+-- What the words of a program ask for: options, the folder of the table, and a command with its words.
+use Rattle.std.specs.Prelude.{ℕ, Bool, true, false, not, ◌||◌, nat_lt, length, if◌then◌else◌, List, [], ◌∷◌, find, codes, Option, Some, None, Result, Ok, Err}
+use Rattle.std.specs.Option.{is_some}
+use Rattle.std.specs.Str.{bytes_eq}
+use Rattle.text_parts.specs.Text.{texts_of}
+use Rattle.table_words.specs.Lines.{is_line_word}
+use Rattle.table_words.specs.Options.{Front, Options, Stop, bad_word, extra_word, front, no_folder, no_options, nothing_to_create, refused, text_of, wants_host}
+use Rattle.table_words.specs.declared.asked.Asked as code_asked
+use Rattle.table_words.specs.declared.asked.Job as code_job
+use Rattle.table_words.specs.declared.asked.Job.TheVariants as code_job_is
+use Rattle.table_words.specs.declared.asked.Origin as code_origin
+use Rattle.table_words.specs.declared.asked.Origin.TheVariants as code_origin_is
+
+-- what a table is made of: a machine's files, by a release and a root that may be named; or words that name sections
+pub data Origin : Type 0 where
+  host : Option (List ℕ) → Option (List ℕ) → Origin
+  sections : List (List ℕ) → Origin
+
+-- a table is made; the words are one command; the lines of standard input are commands; the journal is written anew; it
+-- is said what stands there
+pub data Job : Type 0 where
+  create : Origin → Job
+  command : List (List ℕ) → Job
+  lines : Job
+  compact : Job
+  check : Job
+
+-- a job on the table of a folder, how many seconds another process is waited for, and whether each change is on the disk
+-- before it is answered
+pub record Asked : Type 0 where
+  pub folder : List ℕ
+  pub wait : ℕ
+  pub sync : Bool
+  pub job : Job
+
+-- a job that no word follows
+abbrev pub alone : Job → List (List ℕ) → Result Job Stop
+alone job [] = Ok job
+alone job (word ∷ words) = Err (refused (extra_word word))
+
+-- a release and a root are those of a machine
+abbrev pub asks_machine : Options → Bool
+asks_machine options = is_some options.release || is_some options.root
+
+-- what is made of a machine's files has no sections of its own, and something is to be made
+abbrev pub origin_in : Options → List (List ℕ) → Result Job Stop
+origin_in options words =
+    if options.host then alone (create (host options.release options.root)) words
+    else (if asks_machine options then Err (refused wants_host)
+    else (if nat_lt 0 (length words) then Ok (create (sections words)) else Err (refused nothing_to_create)))
+
+abbrev pub origin_of_front : Result Front Stop → Result Job Stop
+origin_of_front (Ok read) = origin_in read.options read.rest
+origin_of_front (Err stop) = Err stop
+
+-- a word that cannot stand in a line
+abbrev pub is_stray : List ℕ → Bool
+is_stray word = not (is_line_word word)
+
+-- one command, where its words are words of a line
+abbrev pub command_of : List (List ℕ) → Option (List ℕ) → Result Job Stop
+command_of words None = Ok (command words)
+command_of words (Some word) = Err (refused (bad_word word))
+
+-- the job that these words are, behind options
+abbrev pub job_of : Options → List (List ℕ) → Result Job Stop
+job_of options [] = Ok lines
+job_of options (word ∷ words) =
+    if bytes_eq word (codes "create") then origin_of_front (front true options words)
+    else (if bytes_eq word (codes "compact") then alone compact words
+    else (if bytes_eq word (codes "check") then alone check words
+    else command_of (word ∷ words) (find is_stray (word ∷ words))))
+
+abbrev pub ask_job : List ℕ → Options → Result Job Stop → Result Asked Stop
+ask_job folder options (Ok job) = Ok (record { folder = folder; wait = options.wait; sync = options.sync; job = job })
+ask_job folder options (Err stop) = Err stop
+
+-- the job on the table of a folder
+abbrev pub asked_in : List ℕ → Result Front Stop → Result Asked Stop
+asked_in folder (Ok read) = ask_job folder read.options (job_of read.options read.rest)
+asked_in folder (Err stop) = Err stop
+
+-- the first word that is no option is the folder, where the environment names none
+abbrev pub asked_behind : Option (List ℕ) → Options → List (List ℕ) → Result Asked Stop
+asked_behind (Some folder) options words = asked_in folder (Ok (record { options = options; rest = words }))
+asked_behind None options [] = Err (refused no_folder)
+asked_behind None options (folder ∷ words) = asked_in folder (front false options words)
+
+abbrev pub asked_of_front : Option (List ℕ) → Result Front Stop → Result Asked Stop
+asked_of_front table (Ok read) = asked_behind table read.options read.rest
+asked_of_front table (Err stop) = Err stop
+
+-- what words ask for, by the folder that the environment names
+abbrev pub asked : Option (List ℕ) → List (List ℕ) → Result Asked Stop
+asked table words = asked_of_front table (front false no_options words)
+
+-- how contracts see the code's
+abbrev pub origin_of : code_origin.Origin → Origin
+origin_of (code_origin_is.Host release root) = host (text_of release) (text_of root)
+origin_of (code_origin_is.Sections words) = sections (texts_of words.now)
+
+abbrev pub job_view : code_job.Job → Job
+job_view (code_job_is.Create origin) = create (origin_of origin)
+job_view (code_job_is.Command words) = command (texts_of words.now)
+job_view code_job_is.Lines = lines
+job_view code_job_is.Compact = compact
+job_view code_job_is.Check = check
+
+abbrev pub asked_view : code_asked.Asked → Asked
+asked_view a = record { folder = a.folder.now; wait = a.wait; sync = a.sync; job = job_view a.job }

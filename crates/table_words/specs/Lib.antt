@@ -1,0 +1,4 @@
+pub mod Lines
+pub mod Options
+pub mod Asked
+pub mod Endings

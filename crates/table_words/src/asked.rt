@@ -1,0 +1,147 @@
+//! What the words of a program ask for.
+ghost use Rattle.std.specs.Prelude.{◌≡◌, Ok, Err, IfOk, IfErr, find, option_map};
+ghost use Rattle.text_parts.specs.Text.{texts_of};
+ghost use Rattle.table_words.specs.Asked.{alone, asked, asked_in, asked_view, is_stray, job_of, job_view, origin_in};
+ghost use Rattle.table_words.specs.Options.{front_of, options_of, stop_of, text_of};
+
+use crate::fault::{Fault, Stop};
+use crate::line::is_line_word;
+use crate::options::Options;
+use crate::step::{Read, read_front};
+use text_parts::is_same;
+
+/// What a table is made of.
+#[derive(Clone, Copy, Debug)]
+pub enum Origin<'w, 'a> {
+    /// The files of a machine, of the release that is named or of the running kernel, below a root that is named or `/`.
+    Host(Option<&'a [u8]>, Option<&'a [u8]>),
+    /// Words that name sections and their files.
+    Sections(&'w [&'a [u8]]),
+}
+
+/// What is to be done.
+#[derive(Clone, Copy, Debug)]
+pub enum Job<'w, 'a> {
+    /// A table is made.
+    Create(Origin<'w, 'a>),
+    /// The words are one command, each a word of a line.
+    Command(&'w [&'a [u8]]),
+    /// The lines of standard input are commands.
+    Lines,
+    /// The journal is written anew.
+    Compact,
+    /// It is said what stands in the folder.
+    Check,
+}
+
+/// A job on the table of a folder.
+#[derive(Clone, Copy, Debug)]
+pub struct Asked<'w, 'a> {
+    pub folder: &'a [u8],
+    /// How many seconds another process is waited for.
+    pub wait: u64,
+    /// Whether a change is on the disk before it is answered.
+    pub sync: bool,
+    pub job: Job<'w, 'a>,
+}
+
+/// A job that no word may follow.
+fn alone<'w, 'a>(job: Job<'w, 'a>, words: &[&'a [u8]]) -> Result<Job<'w, 'a>, Stop<'a>>
+    ensures ok { IfOk result (λ found. alone (job_view job.entry) (texts_of words.entry.now) ≡ Ok (job_view found)) }
+    ensures err { IfErr result (λ stop. alone (job_view job.entry) (texts_of words.entry.now) ≡ Err (stop_of stop)) }
+{
+    match words.first() {
+        Some(word) => Err(Stop::Refused(Fault::ExtraWord(*word))),
+        None => Ok(job),
+    }
+}
+
+/// What is made, by options and the words behind them.
+fn origin_in<'w, 'a>(options: &Options<'a>, words: &'w [&'a [u8]]) -> Result<Job<'w, 'a>, Stop<'a>>
+    ensures ok { IfOk result (λ job. origin_in (options_of options.entry.now) (texts_of words.entry.now) ≡ Ok (job_view job)) }
+    ensures err { IfErr result (λ stop. origin_in (options_of options.entry.now) (texts_of words.entry.now) ≡ Err (stop_of stop)) }
+{
+    if options.host {
+        return alone(
+            Job::Create(Origin::Host(options.release, options.root)),
+            words,
+        );
+    }
+    if options.release.is_some() || options.root.is_some() {
+        return Err(Stop::Refused(Fault::WantsHost));
+    }
+    if words.is_empty() {
+        return Err(Stop::Refused(Fault::NothingToCreate));
+    }
+    Ok(Job::Create(Origin::Sections(words)))
+}
+
+/// The first word that cannot stand in a line.
+fn stray_word<'a>(words: &[&'a [u8]]) -> Option<&'a [u8]>
+    ensures { text_of result ≡ find is_stray (texts_of words.entry.now) }
+{
+    for word in words {
+        if !is_line_word(*word) {
+            return Some(*word);
+        }
+    }
+    None
+}
+
+/// The job that words are, behind options.
+fn job_of<'w, 'a>(options: Options<'a>, words: &'w [&'a [u8]]) -> Result<Job<'w, 'a>, Stop<'a>>
+    ensures ok { IfOk result (λ found. job_of (options_of options.entry) (texts_of words.entry.now) ≡ Ok (job_view found)) }
+    ensures err { IfErr result (λ stop. job_of (options_of options.entry) (texts_of words.entry.now) ≡ Err (stop_of stop)) }
+{
+    let Some((word, later)) = words.split_first() else {
+        return Ok(Job::Lines);
+    };
+    if is_same(*word, b"create") {
+        let read = read_front(true, options, later)?;
+        return origin_in(&read.options, read.rest);
+    }
+    if is_same(*word, b"compact") {
+        return alone(Job::Compact, later);
+    }
+    if is_same(*word, b"check") {
+        return alone(Job::Check, later);
+    }
+    match stray_word(words) {
+        Some(stray) => Err(Stop::Refused(Fault::BadWord(stray))),
+        None => Ok(Job::Command(words)),
+    }
+}
+
+/// The job on the table of a folder.
+fn asked_in<'w, 'a>(folder: &'a [u8], read: Read<'w, 'a>) -> Result<Asked<'w, 'a>, Stop<'a>>
+    ensures ok { IfOk result (λ found. asked_in folder.entry.now (Ok (front_of read.entry)) ≡ Ok (asked_view found)) }
+    ensures err { IfErr result (λ stop. asked_in folder.entry.now (Ok (front_of read.entry)) ≡ Err (stop_of stop)) }
+{
+    let job = job_of(read.options, read.rest)?;
+    Ok(Asked {
+        folder,
+        wait: read.options.wait,
+        sync: read.options.sync,
+        job,
+    })
+}
+
+/// What the words of a program, without its own name, ask for; or why they ask for no work. `table` is the folder that
+/// the environment names: where it names none the first word that is no option does. Options stand before the command,
+/// those of `create` behind it too. All that follows is the command's.
+pub fn read_words<'w, 'a>(
+    table: Option<&'a [u8]>,
+    words: &'w [&'a [u8]],
+) -> Result<Asked<'w, 'a>, Stop<'a>>
+    ensures ok { IfOk result (λ found. asked (text_of table.entry) (texts_of words.entry.now) ≡ Ok (asked_view found)) }
+    ensures err { IfErr result (λ stop. asked (text_of table.entry) (texts_of words.entry.now) ≡ Err (stop_of stop)) }
+{
+    let read = read_front(false, Options::new(), words)?;
+    if let Some(folder) = table {
+        return asked_in(folder, read);
+    }
+    let Some((folder, later)) = read.rest.split_first() else {
+        return Err(Stop::Refused(Fault::NoFolder));
+    };
+    asked_in(*folder, read_front(false, read.options, later)?)
+}

@@ -1,0 +1,145 @@
+//! The options before a command.
+ghost use Rattle.std.specs.Prelude.{◌≡◌};
+ghost use Rattle.table_words.specs.Options.{any_option, begins, create_option, is_either, is_option, later_option, next_of, no_options, options_of, refused, stopped, unknown_option, with_value};
+
+use crate::fault::{Fault, Stop};
+use crate::step::Step;
+use text_parts::{is_same, number_within};
+
+/// An option that has a value.
+#[derive(Clone, Copy, Debug, PartialEq, Eq)]
+pub enum Valued {
+    /// `--wait SECONDS`
+    Wait,
+    /// `-S VERSION`
+    Release,
+    /// `--root DIR`
+    Root,
+}
+
+/// What options say.
+#[derive(Clone, Copy)]
+pub(crate) struct Options<'a> {
+    /// How many seconds another process is waited for.
+    pub(crate) wait: u64,
+    /// Whether a change is on the disk before it is answered.
+    pub(crate) sync: bool,
+    pub(crate) host: bool,
+    pub(crate) release: Option<&'a [u8]>,
+    pub(crate) root: Option<&'a [u8]>,
+}
+
+fn begins(word: &[u8], front: &[u8]) -> bool
+    ensures { result ≡ begins word.now front.now }
+{
+    word.starts_with(front)
+}
+
+fn is_either(word: &[u8], one: &[u8], other: &[u8]) -> bool
+    ensures { result ≡ is_either word.now one.now other.now }
+{
+    is_same(word, one) || is_same(word, other)
+}
+
+/// Whether the word is an option.
+pub(crate) fn is_option(word: &[u8]) -> bool
+    ensures { result ≡ is_option word.now }
+{
+    begins(word, b"-") && word.len() > 1
+}
+
+/// What comes of a word that is no option, and begins like one.
+fn unknown<'a>(word: &'a [u8]) -> Step<'a>
+    ensures { next_of result ≡ stopped (refused (unknown_option word.entry.now)) }
+{
+    Step::Stopped(Stop::Refused(Fault::UnknownOption(word)))
+}
+
+impl<'a> Options<'a> {
+    /// What no option says.
+    pub(crate) fn new() -> Options<'a>
+        ensures { options_of result ≡ no_options }
+    {
+        Options {
+            wait: 10,
+            sync: true,
+            host: false,
+            release: None,
+            root: None,
+        }
+    }
+
+    /// With the value of an option.
+    pub(crate) fn with(self, valued: Valued, value: &'a [u8]) -> Step<'a>
+        ensures { next_of result ≡ with_value (options_of self.entry) valued value.entry.now }
+    {
+        let options = match valued {
+            Valued::Release => Options {
+                release: Some(value),
+                ..self
+            },
+            Valued::Root => Options {
+                root: Some(value),
+                ..self
+            },
+            Valued::Wait => match number_within(u32::MAX as u64, value) {
+                Some(wait) => Options { wait, ..self },
+                None => return Step::Stopped(Stop::Refused(Fault::BadWait(value))),
+            },
+        };
+        Step::On(options, None)
+    }
+
+    /// With an option that `create` alone has.
+    fn with_create_option(self, word: &'a [u8]) -> Step<'a>
+        ensures { next_of result ≡ create_option (options_of self.entry) word.entry.now }
+    {
+        if is_same(word, b"--host") {
+            Step::On(Options { host: true, ..self }, None)
+        } else if is_either(word, b"-S", b"--set-version") {
+            Step::On(self, Some(Valued::Release))
+        } else if is_same(word, b"--root") {
+            Step::On(self, Some(Valued::Root))
+        } else if begins(word, b"--root=") {
+            self.with(Valued::Root, &word[7..])
+        } else {
+            unknown(word)
+        }
+    }
+
+    /// With an option that has a value, or one that `create` alone has.
+    fn with_later_option(self, creates: bool, word: &'a [u8]) -> Step<'a>
+        ensures { next_of result ≡ later_option creates (options_of self.entry) word.entry.now }
+    {
+        if is_same(word, b"--wait") {
+            Step::On(self, Some(Valued::Wait))
+        } else if begins(word, b"--wait=") {
+            self.with(Valued::Wait, &word[7..])
+        } else if creates {
+            self.with_create_option(word)
+        } else {
+            unknown(word)
+        }
+    }
+
+    /// With an option before any command, or behind `create`.
+    pub(crate) fn with_option(self, creates: bool, word: &'a [u8]) -> Step<'a>
+        ensures { next_of result ≡ any_option creates (options_of self.entry) word.entry.now }
+    {
+        if is_either(word, b"-h", b"--help") {
+            Step::Stopped(Stop::Help)
+        } else if is_either(word, b"-V", b"--version") {
+            Step::Stopped(Stop::Version)
+        } else if is_same(word, b"--no-sync") {
+            Step::On(
+                Options {
+                    sync: false,
+                    ..self
+                },
+                None,
+            )
+        } else {
+            self.with_later_option(creates, word)
+        }
+    }
+}
