@@ -49,8 +49,8 @@ pub fn measure<R: Host>(rt: &R) -> Result<()> {
 
 /// Measures so many threads that call for so many workers.
 fn measure_both<R: Host>(rt: &R, catalogue: &Catalogue, workers: u8, threads: u8) -> Result<()> {
-    let (table, _) = ManagedTable::new(rt.alloc(), catalogue, usize::from(workers))?;
-    measure_table(rt, catalogue, &table, workers, threads)
+    let (table, mut caller, _) = ManagedTable::new(rt.alloc(), catalogue, usize::from(workers))?;
+    measure_table(rt, catalogue, &table, &mut caller, workers, threads)
 }
 
 // The table is lent, and so is the manager: with a large value at hand each `?` is long to prove.
@@ -58,36 +58,45 @@ fn measure_table<R: Host>(
     rt: &R,
     catalogue: &Catalogue,
     table: &ManagedTable,
+    caller: &mut Caller,
     workers: u8,
     threads: u8,
-) -> Result<()> {
+) -> Result<()>
+    requires { IsCallerOf table.now caller.old }
+{
     let (manager, _) = Manager::new(rt.alloc(), catalogue, usize::from(workers))?;
-    measure_loaded(rt, table, &manager, threads)
+    measure_loaded(rt, table, caller, &manager, threads)
 }
 
 /// The same, once all modules are loaded in both.
 fn measure_loaded<R: Host>(
     rt: &R,
     table: &ManagedTable,
+    caller: &mut Caller,
     manager: &Manager,
     threads: u8,
-) -> Result<()> {
-    let mut ours = callers_of(rt, table, threads)?;
+) -> Result<()>
+    requires { IsCallerOf table.now caller.old }
+{
+    let mut ours = callers_of(rt, table, caller, threads)?;
     let mut others = workers_of(rt, manager, threads)?;
     measure_beside(rt, "managed_pairs", "@manager", &mut ours, &mut others)
 }
 
-/// So many threads' callers, who call for the workers in turn. All modules are loaded.
+/// So many threads' callers, who come from this one, and call for the workers in turn. All modules are loaded.
 fn callers_of<'a, R: AllocGlobal + Wait>(
     rt: &R,
     table: &'a ManagedTable,
+    first: &mut Caller,
     threads: u8,
-) -> Result<Vec<ManagedWorker<'a>>> {
-    load_all(rt, table)?;
+) -> Result<Vec<ManagedWorker<'a>>>
+    requires { IsCallerOf table.now first.old }
+{
+    load_all(rt, table, first)?;
     let mut all = Vec::new(rt.alloc());
     for thread in 0..threads {
         let number = usize::from(thread) % table.workers().max(1);
-        let caller = table.caller();
+        let caller = table.further(first);
         all.push(ManagedWorker {
             table,
             caller,
@@ -98,11 +107,13 @@ fn callers_of<'a, R: AllocGlobal + Wait>(
 }
 
 /// Loads all modules.
-fn load_all<R: Wait>(rt: &R, table: &ManagedTable) -> Result<()> {
-    let mut caller = table.caller();
+fn load_all<R: Wait>(rt: &R, table: &ManagedTable, caller: &mut Caller) -> Result<()>
+    requires own { IsCallerOf table.now caller.old }
+    ensures own { IsCallerOf table.now caller.new }
+{
     for slot in 0..COUNT {
-        let begun = table.begin_load(rt, &mut caller, slot);
-        let ended = table.end_load(rt, &mut caller, slot, true);
+        let begun = table.begin_load(rt, caller, slot);
+        let ended = table.end_load(rt, caller, slot, true);
         ensure!(
             matches!((begun, ended), (Some(Ok(())), Some(Ok(())))),
             "a module is not loaded"

@@ -1,16 +1,16 @@
 -- How a managed call on the handle of a caller ended: the caller before, the number that is answered, the caller after.
-use Rattle.std.specs.Prelude.{◌≡◌, ◌⊎◌, ℕ, ◌<◌, ◌≤◌, ◌==◌, true, List, [], MatchOption, MatchBool}
+use Rattle.std.specs.Prelude.{◌≡◌, ◌⊎◌, ℕ, ◌<◌, ◌≤◌, ◌==◌, true, List, MatchOption, MatchBool}
 use Rattle.dep_index.specs.declared.table.calls.Call.{Call}
 use Rattle.dep_index.specs.declared.table.calls.Call.TheVariants.{Get}
 use Rattle.dep_index.specs.declared.table.calls.Reply.{Reply}
 use Rattle.dep_index.specs.Table.{Module, Table}
 use Rattle.root_row.specs.World.{slots}
 use Rattle.root_row.specs.declared.view.SeatName.TheVariants as name_is
-use Rattle.managed_table.specs.Callers.{CallerIs, LeafMissed, BookMissed, LeafTurned}
+use Rattle.managed_table.specs.Callers.{CallerIs, IsFirst, GaveFurther, LeafMissed, BookMissed, LeafTurned}
 use Rattle.managed_table.specs.Tries.{GaveUp}
 use Rattle.managed_table.specs.Turns.{MadeOneCall, MadeNoCall}
 use Rattle.managed_table.specs.Shown.{HoldsSoOften, IsInState, HasLoaded, HasLoadedAt, HasNoneAt}
-use Rattle.managed_table.specs.Owned.{row_of, SameTable, IsBeyond, IsWithin}
+use Rattle.managed_table.specs.Owned.{row_of, IsBeyond, IsWithin}
 use Rattle.gourzhiel.specs.Making.{NoneMade}
 use Rattle.gourzhiel.specs.Numbers.{reply_at, state_at, busy, out_of_range, out_of_memory}
 use Rattle.gourzhiel.specs.declared.handles.GzCaller.{GzCaller}
@@ -85,13 +85,9 @@ PlaceCallTold before place tries was number slot after =
     (MatchBool (number == out_of_range) (BookShown before (HasNoneAt place) after × (slot ≡ was))
     ((number ≡ 0) × BookShown before (HasLoadedAt place slot) after))
 
--- it has done nothing
-abbrev pub HasDoneNothing : CallerIs → Type 0
-HasDoneNothing caller = (caller.leaves.pass.turns ≡ []) × (caller.book.pass.turns ≡ [])
-
--- a caller of a table over these modules, with so many workers, which has done nothing
+-- the first caller of a table over these modules, with so many workers, which has done nothing, and from which none came
 abbrev pub IsNewCaller : List Module → ℕ → CallerIs → Type 0
-IsNewCaller modules workers caller = ((row_of caller).world ≡ record { catalogue = modules; workers = workers }) × HasDoneNothing caller
+IsNewCaller modules workers caller = ((row_of caller).world ≡ record { catalogue = modules; workers = workers }) × IsFirst caller
 
 -- the handle after a table was made: it is full, with the first caller; or it was not touched, and the number says why
 abbrev pub CallerMade : List Module → ℕ → ℕ → GzCaller → GzCaller → Type 0
@@ -99,8 +95,8 @@ CallerMade modules workers number none caller =
     MatchBool (number == 0) ((caller.full ≡ true) × IsNewCaller modules workers caller.held)
     ((caller ≡ none) × NoneMade workers number)
 
--- the same of a further caller
-abbrev pub FurtherMade : CallerIs → ℕ → GzCaller → GzCaller → Type 0
-FurtherMade caller number none further =
-    MatchBool (number == 0) ((further.full ≡ true) × SameTable caller further.held × HasDoneNothing further.held)
-    ((further ≡ none) × (number ≡ out_of_memory))
+-- a further caller came from one, and its handle is full; or nothing was done, and there was no memory
+abbrev pub FurtherMade : CallerIs → CallerIs → ℕ → GzCaller → GzCaller → Type 0
+FurtherMade before after number none further =
+    MatchBool (number == 0) ((further.full ≡ true) × GaveFurther before after further.held)
+    ((after ≡ before) × (further ≡ none) × (number ≡ out_of_memory))

@@ -1,9 +1,9 @@
 //! Makes a managed table, and callers of it in empty handles.
-ghost use Rattle.std.specs.Prelude.{◌≡◌, ◌<◌, true, false, IfOk};
+ghost use Rattle.std.specs.Prelude.{◌≡◌, ◌<◌, true, false, IfOk, IfErr};
 ghost use Rattle.dep_index.specs.Catalogue.{modules_of};
 ghost use Rattle.dep_index.specs.Words.{closed};
-ghost use Rattle.managed_table.specs.Owned.{SameTable};
-ghost use Rattle.gourzhiel.specs.Called.{CallerMade, FurtherMade, IsNewCaller, HasDoneNothing};
+ghost use Rattle.managed_table.specs.Callers.{GaveFurther};
+ghost use Rattle.gourzhiel.specs.Called.{CallerMade, FurtherMade, IsNewCaller};
 
 use crate::handles::{GzCaller, GzCatalogue};
 use crate::numbers::{DONE, OUT_OF_MEMORY, TOO_MANY_LEAVES};
@@ -24,14 +24,23 @@ fn first_box(
     Ok(Box::new(alloc, OwnCaller::new(alloc, catalogue, workers)?)?)
 }
 
-fn further_box(alloc: Global, caller: &OwnCaller) -> Result<Box<OwnCaller>, AllocError>
-    ensures { IfOk result (λ b. SameTable caller.now b.value × HasDoneNothing b.value) }
+// Where there is no room for the further caller it goes back.
+fn further_box(alloc: Global, caller: &mut OwnCaller) -> Result<Box<OwnCaller>, AllocError>
+    ensures further { IfOk result (λ b. GaveFurther caller.old caller.new b.value) }
+    ensures err { IfErr result (λ e. caller.new ≡ caller.old) }
 {
-    Ok(Box::new(alloc, caller.further()?)?)
+    let further = caller.further()?;
+    match Box::new(alloc, further) {
+        Ok(boxed) => Ok(boxed),
+        Err(failed) => {
+            caller.take_back(failed.value);
+            Err(AllocError)
+        }
+    }
 }
 
 /// A new table over a catalogue, with so many workers: the library keeps its book and its leaves, each behind a lock. All
-/// modules are absent. It fills an empty handle with the first caller.
+/// modules are absent. It fills an empty handle with the first caller, and there is no other.
 ///
 /// OUT_OF_MEMORY: nothing is kept. TOO_MANY_LEAVES: 2^32 workers or more. The handle is then not touched.
 #[unsafe(no_mangle)]
@@ -58,15 +67,15 @@ pub extern "C" fn gz_managed_new(
     }
 }
 
-/// A further caller of the same table, in an empty handle.
+/// A further caller of the same table, which comes from this one, in an empty handle.
 ///
-/// OUT_OF_MEMORY: the handle is not touched.
+/// OUT_OF_MEMORY: the handle is not touched, and this caller is as it was.
 #[unsafe(no_mangle)]
 pub extern "C" fn gz_caller_new(alloc: Global, caller: &mut GzCaller, further: &mut GzCaller) -> u32
     requires full { caller.old.full ≡ true }
     requires empty { further.old.full ≡ false }
-    ensures kept { (caller.new.full ≡ true) × (caller.new.held ≡ caller.old.held) }
-    ensures made { FurtherMade caller.old.held result further.old further.new }
+    ensures kept { caller.new.full ≡ true }
+    ensures made { FurtherMade caller.old.held caller.new.held result further.old further.new }
 {
     match further_box(alloc, caller.lend()) {
         Err(_) => OUT_OF_MEMORY,

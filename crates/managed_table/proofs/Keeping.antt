@@ -1,8 +1,8 @@
 -- The rule of the locks, before and after a step of a pass.
-use Rattle.std.proofs.Common.{◌≡◌, ◌≢◌, ◌⊎◌, ℕ, suc, ◌+◌, ◌<◌, ◌≤◌, Bool, true, false, cond, ltb, List, [], ◌∷◌, ◌++◌, length, get_or, set, Option, Some, None, ◌==◌, refl, sym, ap, ◌∙◌, subst, inl, inr, arith, append_assoc, append-nil, length-append, length-set, get_or-set_other, get_or-set_same, eq-eqb, ne_eqb, lt-ltb}
+use Rattle.std.proofs.Common.{◌≡◌, ◌≢◌, ◌⊎◌, ℕ, ◌+◌, ◌<◌, ◌≤◌, Bool, true, false, cond, ltb, List, [], ◌∷◌, ◌++◌, length, get_or, set, Option, Some, None, ◌==◌, refl, sym, ap, ◌∙◌, subst, inl, inr, arith, append_assoc, append-nil, length-append, length-set, get_or-set_other, get_or-set_same, eq-eqb, ne_eqb, lt-ltb}
 use Rattle.std.proofs.lemmas.Bool.{false≢true, cases_eq, cases_lt, le-ltb}
 use Rattle.std.proofs.lemmas.List.Elements.{filter-append}
-use mathlib.Core.Option.{some, none, some-ne-none, some-injective}
+use mathlib.Core.Option.{some, none, some-injective}
 use lib.ListN.{get_elem?}
 use Rattle.atomic_table.specs.Table.{State}
 use Rattle.atomic_table.proofs.Lists.{set_here, set_else, at_longer, at_last}
@@ -16,11 +16,12 @@ use Rattle.managed_table.specs.declared.view.Turn.{Turn}
 use Rattle.managed_table.specs.declared.view.Taken.{Taken}
 use Rattle.managed_table.specs.declared.view.Pass.{Pass}
 use Rattle.managed_table.specs.declared.view.Passes.{Passes}
-use Rattle.managed_table.specs.Locks.{count, Place, pass_in, pass_at, Accounts, FitsTurn, IsHeld, FitsPass, IsMade, IsShut, IsHome, HasTurn, LocksRule}
+use Rattle.managed_table.specs.Locks.{count, Place, pass_in, pass_at, Accounts, FitsTurn, IsHeld, FitsPass, IsMade, IsShut, IsHome, HasTurn, AreOneFamily, LocksRule}
 use Rattle.managed_table.specs.Kept.{seen}
-use Rattle.managed_table.specs.Turns.{turn, taken, since, alone, new_pass, with_taken, with_turns, with_missed, Follows, AreOrdered}
+use Rattle.managed_table.specs.Turns.{PassName, turn, taken, since, alone, with_taken, with_turns, with_missed, Follows, AreOrdered}
 use Rattle.managed_table.proofs.Changed.{put, put_here, put_else}
-use Rattle.managed_table.proofs.Places.{same_place, place_set, place_here, place_else, place_new, place_longer}
+use Rattle.managed_table.proofs.Places.{same_place, place_set, place_here, place_else}
+use Rattle.managed_table.proofs.Family.{set_family}
 
 cond_same : {A : Type 0} (b : Bool) (a : A) → cond b a a ≡ a
 cond_same true a = refl
@@ -85,12 +86,11 @@ module _ {T : Type 0} (row : RowIs) (locks : ℕ) (by : ℕ → SeatName) (fits 
     ];
     passes = λ z u there. let old = kept.passes z u there in record {
       same_row = old.same_row;
-      named = old.named;
-      below = old.below;
       held = λ t is. still_held w mark inside shut z t (old.held t is);
       turns = old.turns;
     };
     made = kept.made;
+    family = kept.family;
     ordered = kept.ordered;
   }
 
@@ -101,21 +101,23 @@ module _ {T : Type 0} (row : RowIs) (locks : ℕ) (by : ℕ → SeatName) (fits 
     pub mine : FitsPass row locks by kept.accounts s.words (id, 0) v
     mine = kept.passes (id, 0) v at_id
 
-    -- a call stays made where a pass keeps its number and its turns
-    made_set : (owner : ℕ → Place) (z : ℕ × ℕ) (v' : Pass) (lock k : ℕ) → v'.number ≡ v.number → ((p : ℕ) (t : Turn) → get_elem? v.turns p ≡ some t → get_elem? v'.turns p ≡ some t)
-        → IsMade by owner z s.views lock k → IsMade by owner z (set s.views id (alone v')) lock k
-    made_set owner z v' lock k same keeps m = elim (same_place (owner z.0) (id, 0)) [
+    -- a call stays made where a pass keeps its name and its turns
+    made_set : (z : PassName × ℕ) (v' : Pass) (lock k : ℕ) → v'.name ≡ v.name → ((p : ℕ) (t : Turn) → get_elem? v.turns p ≡ some t → get_elem? v'.turns p ≡ some t)
+        → IsMade by z s.views lock k → IsMade by z (set s.views id (alone v')) lock k
+    made_set z v' lock k same keeps m = elim (same_place m.place (id, 0)) [
       | inl here ↦ (let is : m.pass ≡ v = some-injective m.pass v (sym m.at ∙ ap (λ i. pass_at s.views i) here ∙ at_id) in record {
+        place = (id, 0);
         pass = v';
-        at = ap (λ i. pass_at (set s.views id (alone v')) i) here ∙ place_here s.views id v v' at;
-        name = same ∙ ap (λ (u : Pass). u.number) (sym is) ∙ m.name;
+        at = place_here s.views id v v' at;
+        name = same ∙ ap (λ (u : Pass). u.name) (sym is) ∙ m.name;
         turn = m.turn;
         there = keeps z.1 m.turn (ap (λ (u : Pass). get_elem? u.turns z.1) (sym is) ∙ m.there);
         is_in = m.is_in;
       })
       | inr away ↦ record {
+        place = m.place;
         pass = m.pass;
-        at = place_else s.views id v v' (owner z.0) m.pass at away m.at;
+        at = place_else s.views id v v' m.place m.pass at away m.at;
         name = m.name;
         turn = m.turn;
         there = m.there;
@@ -124,45 +126,47 @@ module _ {T : Type 0} (row : RowIs) (locks : ℕ) (by : ℕ → SeatName) (fits 
     ]
 
     -- a turn was there before, or it is one of the pass that changed
-    has_set : (v' : Pass) → v'.number ≡ v.number → (n k : ℕ) (t : Turn) → HasTurn (set s.views id (alone v')) n k t → (HasTurn s.views n k t) ⊎ ((n ≡ v.number) × (get_elem? v'.turns k ≡ some t))
+    has_set : (v' : Pass) → v'.name ≡ v.name → (n : PassName) (k : ℕ) (t : Turn) → HasTurn (set s.views id (alone v')) n k t → (HasTurn s.views n k t) ⊎ ((n ≡ v.name) × (get_elem? v'.turns k ≡ some t))
     has_set v' same n k t h = elim (place_set s.views id v v' h.place h.pass at h.at) [
-      | inl here ↦ inr (sym h.name ∙ ap (λ (u : Pass). u.number) (sym here.1) ∙ same, ap (λ (u : Pass). get_elem? u.turns k) here.1 ∙ h.there)
-      | inr away ↦ inl (record { place = h.place; pass = h.pass; at = away.1; name = h.name; there = h.there })
+      | inl here ↦ inr (sym h.is ∙ ap (λ (u : Pass). u.name) (sym here.1) ∙ same, ap (λ (u : Pass). get_elem? u.turns k) here.1 ∙ h.there)
+      | inr away ↦ inl (record { place = h.place; pass = h.pass; at = away.1; is = h.is; there = h.there })
     ]
 
-    has_mine : (n k : ℕ) (t : Turn) → n ≡ v.number → get_elem? v.turns k ≡ some t → HasTurn s.views n k t
-    has_mine n k t name there = record { place = (id, 0); pass = v; at = at_id; name = sym name; there = there }
+    has_mine : (n : PassName) (k : ℕ) (t : Turn) → n ≡ v.name → get_elem? v.turns k ≡ some t → HasTurn s.views n k t
+    has_mine n k t name there = record { place = (id, 0); pass = v; at = at_id; is = sym name; there = there }
 
-    -- a turn was there before, where a pass keeps its number and its turns
-    had_set : (v' : Pass) → v'.number ≡ v.number → v'.turns ≡ v.turns → (n k : ℕ) (t : Turn) → HasTurn (set s.views id (alone v')) n k t → HasTurn s.views n k t
+    -- a turn was there before, where a pass keeps its name and its turns
+    had_set : (v' : Pass) → v'.name ≡ v.name → v'.turns ≡ v.turns → (n : PassName) (k : ℕ) (t : Turn) → HasTurn (set s.views id (alone v')) n k t → HasTurn s.views n k t
     had_set v' same turns n k t h = elim (has_set v' same n k t h) [
       | inl before ↦ before
       | inr own ↦ has_mine n k t own.0 (ap (λ l. get_elem? l k) (sym turns) ∙ own.1)
     ]
 
-    -- a lock stays shut where a pass keeps its number and the lock
-    shut_set : (owner : ℕ → Place) (v' : Pass) (lock : ℕ) → v'.number ≡ v.number → ((t : Taken) → v.taken ≡ Some t → t.lock ≡ lock → v'.taken ≡ Some t)
-        → IsShut owner s.views lock → IsShut owner (set s.views id (alone v')) lock
-    shut_set owner v' lock same keeps m = elim (same_place (owner m.number) (id, 0)) [
+    -- a lock stays shut where a pass keeps the lock
+    shut_set : (v' : Pass) (lock : ℕ) → ((t : Taken) → v.taken ≡ Some t → t.lock ≡ lock → v'.taken ≡ Some t)
+        → IsShut s.views lock → IsShut (set s.views id (alone v')) lock
+    shut_set v' lock keeps m = elim (same_place m.place (id, 0)) [
       | inl here ↦ (let is : m.pass ≡ v = some-injective m.pass v (sym m.at ∙ ap (λ i. pass_at s.views i) here ∙ at_id) in record {
-        number = m.number;
+        place = (id, 0);
         pass = v';
-        at = ap (λ i. pass_at (set s.views id (alone v')) i) here ∙ place_here s.views id v v' at;
-        name = same ∙ ap (λ (u : Pass). u.number) (sym is) ∙ m.name;
+        at = place_here s.views id v v' at;
         taken = m.taken;
         has = keeps m.taken (ap (λ (u : Pass). u.taken) (sym is) ∙ m.has) m.same;
         same = m.same;
       })
       | inr away ↦ record {
-        number = m.number;
+        place = m.place;
         pass = m.pass;
-        at = place_else s.views id v v' (owner m.number) m.pass at away m.at;
-        name = m.name;
+        at = place_else s.views id v v' m.place m.pass at away m.at;
         taken = m.taken;
         has = m.has;
         same = m.same;
       }
     ]
+
+    -- the family stays where a pass keeps its name and what it lists
+    family_set : (v' : Pass) → v'.name ≡ v.name → v'.further ≡ v.further → AreOneFamily (set s.views id (alone v'))
+    family_set v' name further = set_family s.views id v v' at (record { name = name; further = further }) kept.family
 
     -- a pass has found other locks taken
     module _ (locks' : List ℕ) where
@@ -170,19 +174,20 @@ module _ {T : Type 0} (row : RowIs) (locks : ℕ) (by : ℕ → SeatName) (fits 
       missing = with_missed v locks'
 
       missing_fits : FitsPass row locks by kept.accounts s.words (id, 0) missing
-      missing_fits = record { same_row = mine.same_row; named = mine.named; below = mine.below; held = mine.held; turns = mine.turns }
+      missing_fits = record { same_row = mine.same_row; held = mine.held; turns = mine.turns }
 
       pub missed : LocksRule row locks by fits shown (record { words = s.words; homes = s.homes; views = set s.views id (alone missing) })
       missed = record {
         accounts = kept.accounts;
         wide = kept.wide;
         free = kept.free;
-        shut = λ u lt not_zero. shut_set kept.accounts.owner missing u refl (λ t e q. e) (kept.shut u lt not_zero);
+        shut = λ u lt not_zero. shut_set missing u (λ t e q. e) (kept.shut u lt not_zero);
         passes = λ z u there. elim (place_set s.views id v missing z u at there) [
           | inl here ↦ subst (λ (y : Place × Pass). FitsPass row locks by kept.accounts s.words y.0 y.1) (λ i. (sym here.0 i, here.1 i)) missing_fits
           | inr away ↦ kept.passes z u away.1
         ];
-        made = λ lock k lt below. made_set kept.accounts.owner (kept.accounts.who lock k) missing lock k refl (λ p t e. e) (kept.made lock k lt below);
+        made = λ lock k lt below. made_set (kept.accounts.who lock k) missing lock k refl (λ p t e. e) (kept.made lock k lt below);
+        family = family_set missing refl refl;
         ordered = λ n k m i t u h j. kept.ordered n k m i t u (had_set missing refl refl n k t h) (had_set missing refl refl m i u j);
       }
 
@@ -192,7 +197,7 @@ module _ {T : Type 0} (row : RowIs) (locks : ℕ) (by : ℕ → SeatName) (fits 
       taking = with_taken v (Some (taken w (seen (shown (kept.free w inside unlocked).value)) (shown (kept.free w inside unlocked).value).steps))
 
       abbrev taken_accounts : Accounts
-      taken_accounts = record { logs = kept.accounts.logs; holder = put kept.accounts.holder w (id, 0); owner = kept.accounts.owner; next = kept.accounts.next; who = kept.accounts.who }
+      taken_accounts = record { logs = kept.accounts.logs; holder = put kept.accounts.holder w (id, 0); who = kept.accounts.who }
 
       pub follows : Follows v w (seen (shown (kept.free w inside unlocked).value))
       follows p t there same = subst (λ l. StartsWith l t.after) (ap kept.accounts.logs same ∙ sym (kept.free w inside unlocked).saw) (mine.turns p t there).begins
@@ -216,8 +221,6 @@ module _ {T : Type 0} (row : RowIs) (locks : ℕ) (by : ℕ → SeatName) (fits 
       taking_fits : FitsPass row locks by taken_accounts (set s.words (place_of w) mark) (id, 0) taking
       taking_fits = record {
         same_row = mine.same_row;
-        named = mine.named;
-        below = mine.below;
         held = λ t is. subst (λ (u : Taken). IsHeld locks taken_accounts (set s.words (place_of w) mark) (id, 0) u) (same_taken (taken w (seen (shown (kept.free w inside unlocked).value)) (shown (kept.free w inside unlocked).value).steps) t is) held_here;
         turns = λ p t there. let old = mine.turns p t there in record { begins = old.begins; mine = old.mine };
       }
@@ -225,8 +228,6 @@ module _ {T : Type 0} (row : RowIs) (locks : ℕ) (by : ℕ → SeatName) (fits 
       else_fits : (z : Place) (u : Pass) → FitsPass row locks by kept.accounts s.words z u → FitsPass row locks by taken_accounts (set s.words (place_of w) mark) z u
       else_fits z u old = record {
         same_row = old.same_row;
-        named = old.named;
-        below = old.below;
         held = λ t is. held_else z t (old.held t is);
         turns = λ p t there. let fit = old.turns p t there in record { begins = fit.begins; mine = fit.mine };
       }
@@ -246,21 +247,21 @@ module _ {T : Type 0} (row : RowIs) (locks : ℕ) (by : ℕ → SeatName) (fits 
         ];
         shut = λ u lt not_zero. elim (cases_eq u w) [
           | inl same ↦ record {
-            number = v.number;
+            place = (id, 0);
             pass = taking;
-            at = ap (λ i. pass_at (set s.views id (alone taking)) i) mine.named ∙ place_here s.views id v taking at;
-            name = refl;
+            at = place_here s.views id v taking at;
             taken = taken w (seen (shown (kept.free w inside unlocked).value)) (shown (kept.free w inside unlocked).value).steps;
             has = refl;
             same = sym same;
           }
-          | inr apart ↦ shut_set kept.accounts.owner taking u refl (λ t e q. absurd (not_taken t (sym none_taken ∙ e))) (kept.shut u lt (λ z. not_zero (word_else s.words w u mark apart ∙ z)))
+          | inr apart ↦ shut_set taking u (λ t e q. absurd (not_taken t (sym none_taken ∙ e))) (kept.shut u lt (λ z. not_zero (word_else s.words w u mark apart ∙ z)))
         ];
         passes = λ z u there. elim (place_set s.views id v taking z u at there) [
           | inl here ↦ subst (λ (y : Place × Pass). FitsPass row locks by taken_accounts (set s.words (place_of w) mark) y.0 y.1) (λ i. (sym here.0 i, here.1 i)) taking_fits
           | inr away ↦ else_fits z u (kept.passes z u away.1)
         ];
-        made = λ lock k lt below. made_set kept.accounts.owner (kept.accounts.who lock k) taking lock k refl (λ p t e. e) (kept.made lock k lt below);
+        made = λ lock k lt below. made_set (kept.accounts.who lock k) taking lock k refl (λ p t e. e) (kept.made lock k lt below);
+        family = family_set taking refl refl;
         ordered = λ n k m i t u h j. kept.ordered n k m i t u (had_set taking refl refl n k t h) (had_set taking refl refl m i u j);
       }
 
@@ -272,30 +273,30 @@ module _ {T : Type 0} (row : RowIs) (locks : ℕ) (by : ℕ → SeatName) (fits 
       abbrev now : Pass
       now = with_turns v (turn w b (seen (shown x)) (since c (shown x)) ∷ [])
 
-      abbrev who' : ℕ → ℕ → ℕ × ℕ
-      who' u k = cond (u == w) (cond (ltb k (count (by w) b)) (kept.accounts.who u k) (v.number, length v.turns)) (kept.accounts.who u k)
+      abbrev who' : ℕ → ℕ → PassName × ℕ
+      who' u k = cond (u == w) (cond (ltb k (count (by w) b)) (kept.accounts.who u k) (v.name, length v.turns)) (kept.accounts.who u k)
 
       abbrev back_accounts : Accounts
-      back_accounts = record { logs = put kept.accounts.logs w (seen (shown x)); holder = kept.accounts.holder; owner = kept.accounts.owner; next = kept.accounts.next; who = who' }
+      back_accounts = record { logs = put kept.accounts.logs w (seen (shown x)); holder = kept.accounts.holder; who = who' }
 
       who_below : (u k : ℕ) → k < count (by w) b → who' u k ≡ kept.accounts.who u k
       who_below u k lt =
-          subst (λ t. cond (u == w) (cond t (kept.accounts.who u k) (v.number, length v.turns)) (kept.accounts.who u k) ≡ kept.accounts.who u k)
+          subst (λ t. cond (u == w) (cond t (kept.accounts.who u k) (v.name, length v.turns)) (kept.accounts.who u k) ≡ kept.accounts.who u k)
           (sym (lt-ltb k (count (by w) b) lt)) (cond_same (u == w) (kept.accounts.who u k))
 
       who_else : (u k : ℕ) → u ≢ w → who' u k ≡ kept.accounts.who u k
       who_else u k ne =
-          subst (λ t. cond t (cond (ltb k (count (by w) b)) (kept.accounts.who u k) (v.number, length v.turns)) (kept.accounts.who u k) ≡ kept.accounts.who u k)
+          subst (λ t. cond t (cond (ltb k (count (by w) b)) (kept.accounts.who u k) (v.name, length v.turns)) (kept.accounts.who u k) ≡ kept.accounts.who u k)
           (sym (ne_eqb u w ne)) refl
 
-      who_new : (k : ℕ) → count (by w) b ≤ k → who' w k ≡ (v.number, length v.turns)
+      who_new : (k : ℕ) → count (by w) b ≤ k → who' w k ≡ (v.name, length v.turns)
       who_new k le =
-          subst (λ t. cond t (cond (ltb k (count (by w) b)) (kept.accounts.who w k) (v.number, length v.turns)) (kept.accounts.who w k) ≡ (v.number, length v.turns))
+          subst (λ t. cond t (cond (ltb k (count (by w) b)) (kept.accounts.who w k) (v.name, length v.turns)) (kept.accounts.who w k) ≡ (v.name, length v.turns))
           (sym (eq-eqb w w refl))
-          (subst (λ t. cond t (kept.accounts.who w k) (v.number, length v.turns) ≡ (v.number, length v.turns)) (sym (le-ltb k (count (by w) b) le)) refl)
+          (subst (λ t. cond t (kept.accounts.who w k) (v.name, length v.turns) ≡ (v.name, length v.turns)) (sym (le-ltb k (count (by w) b) le)) refl)
 
-      turn_kept : (number p : ℕ) (g : Turn) → FitsTurn by kept.accounts number p g → FitsTurn by back_accounts number p g
-      turn_kept number p g f = elim (cases_eq g.lock w) [
+      turn_kept : (name : PassName) (p : ℕ) (g : Turn) → FitsTurn by kept.accounts name p g → FitsTurn by back_accounts name p g
+      turn_kept name p g f = elim (cases_eq g.lock w) [
         | inl same ↦ (
             let before : StartsWith b g.after = subst (λ l. StartsWith l g.after) (ap kept.accounts.logs same ∙ sym old.log) f.begins in
             let less : count (by g.lock) g.after ≤ count (by w) b = subst (λ i. count (by i) g.after ≤ count (by w) b) (sym same) (count_more (by w) b g.after before) in record {
@@ -308,7 +309,7 @@ module _ {T : Type 0} (row : RowIs) (locks : ℕ) (by : ℕ → SeatName) (fits 
         }
       ]
 
-      new_turn : FitsTurn by back_accounts v.number (length v.turns) (turn w b (seen (shown x)) (since c (shown x)))
+      new_turn : FitsTurn by back_accounts v.name (length v.turns) (turn w b (seen (shown x)) (since c (shown x)))
       new_turn = record {
         begins = subst (λ l. StartsWith l (seen (shown x))) (sym (put_here kept.accounts.logs w (seen (shown x)))) (starts_same (seen (shown x)));
         mine = λ k is_in. who_new k is_in.from;
@@ -317,38 +318,35 @@ module _ {T : Type 0} (row : RowIs) (locks : ℕ) (by : ℕ → SeatName) (fits 
       now_fits : FitsPass row locks by back_accounts (set s.words (place_of w) 0) (id, 0) now
       now_fits = record {
         same_row = mine.same_row;
-        named = mine.named;
-        below = mine.below;
         held = λ t is. absurd (not_taken t is);
         turns = λ p g there. elim (at_snoc v.turns (turn w b (seen (shown x)) (since c (shown x))) g p there) [
-          | inl before ↦ turn_kept v.number p g (mine.turns p g before)
-          | inr last ↦ subst (λ (z : ℕ × Turn). FitsTurn by back_accounts v.number z.0 z.1) (λ i. (sym last.0 i, last.1 i)) new_turn
+          | inl before ↦ turn_kept v.name p g (mine.turns p g before)
+          | inr last ↦ subst (λ (z : ℕ × Turn). FitsTurn by back_accounts v.name z.0 z.1) (λ i. (sym last.0 i, last.1 i)) new_turn
         ];
       }
 
       others_fit : (z : Place) (u : Pass) → z ≢ (id, 0) → FitsPass row locks by kept.accounts s.words z u → FitsPass row locks by back_accounts (set s.words (place_of w) 0) z u
       others_fit z u away f = record {
         same_row = f.same_row;
-        named = f.named;
-        below = f.below;
         held = λ t is. let h = f.held t is in let apart : t.lock ≢ w = λ q. away (sym h.holder ∙ ap kept.accounts.holder q ∙ old.holder) in record {
           inside = h.inside;
           holder = h.holder;
           log = h.log ∙ sym (put_else kept.accounts.logs w (seen (shown x)) t.lock apart);
           shut = λ q. h.shut (sym (word_else s.words w t.lock 0 apart) ∙ q);
         };
-        turns = λ p g there. turn_kept u.number p g (f.turns p g there);
+        turns = λ p g there. turn_kept u.name p g (f.turns p g there);
       }
 
-      made_here : (k : ℕ) → k < count (by w) (seen (shown x)) → IsMade by kept.accounts.owner (who' w k) (set s.views id (alone now)) w k
+      made_here : (k : ℕ) → k < count (by w) (seen (shown x)) → IsMade by (who' w k) (set s.views id (alone now)) w k
       made_here k lt = elim (cases_lt k (count (by w) b)) [
         | inl below ↦
-            subst (λ z. IsMade by kept.accounts.owner z (set s.views id (alone now)) w k) (sym (who_below w k below))
-            (made_set kept.accounts.owner (kept.accounts.who w k) now w k refl (λ p t e. at_longer v.turns (turn w b (seen (shown x)) (since c (shown x)) ∷ []) p t e)
+            subst (λ z. IsMade by z (set s.views id (alone now)) w k) (sym (who_below w k below))
+            (made_set (kept.accounts.who w k) now w k refl (λ p t e. at_longer v.turns (turn w b (seen (shown x)) (since c (shown x)) ∷ []) p t e)
             (kept.made w k old.inside (subst (λ l. k < count (by w) l) old.log below)))
-        | inr from ↦ subst (λ z. IsMade by kept.accounts.owner z (set s.views id (alone now)) w k) (sym (who_new k from)) (record {
+        | inr from ↦ subst (λ z. IsMade by z (set s.views id (alone now)) w k) (sym (who_new k from)) (record {
+          place = (id, 0);
           pass = now;
-          at = ap (λ i. pass_at (set s.views id (alone now)) i) mine.named ∙ place_here s.views id v now at;
+          at = place_here s.views id v now at;
           name = refl;
           turn = turn w b (seen (shown x)) (since c (shown x));
           there = at_last v.turns (turn w b (seen (shown x)) (since c (shown x))) (length v.turns) refl;
@@ -356,14 +354,14 @@ module _ {T : Type 0} (row : RowIs) (locks : ℕ) (by : ℕ → SeatName) (fits 
         })
       ]
 
-      made_else : (u k : ℕ) → u ≢ w → u < locks → k < count (by u) (put kept.accounts.logs w (seen (shown x)) u) → IsMade by kept.accounts.owner (who' u k) (set s.views id (alone now)) u k
+      made_else : (u k : ℕ) → u ≢ w → u < locks → k < count (by u) (put kept.accounts.logs w (seen (shown x)) u) → IsMade by (who' u k) (set s.views id (alone now)) u k
       made_else u k apart lt below =
-          subst (λ z. IsMade by kept.accounts.owner z (set s.views id (alone now)) u k) (sym (who_else u k apart))
-          (made_set kept.accounts.owner (kept.accounts.who u k) now u k refl (λ p t e. at_longer v.turns (turn w b (seen (shown x)) (since c (shown x)) ∷ []) p t e)
+          subst (λ z. IsMade by z (set s.views id (alone now)) u k) (sym (who_else u k apart))
+          (made_set (kept.accounts.who u k) now u k refl (λ p t e. at_longer v.turns (turn w b (seen (shown x)) (since c (shown x)) ∷ []) p t e)
           (kept.made u k lt (subst (λ l. k < count (by u) l) (put_else kept.accounts.logs w (seen (shown x)) u apart) below)))
 
       -- a turn was there before, or it is this one
-      has_now : (n k : ℕ) (t : Turn) → HasTurn (set s.views id (alone now)) n k t → (HasTurn s.views n k t) ⊎ ((n ≡ v.number) × (k ≡ length v.turns) × (turn w b (seen (shown x)) (since c (shown x)) ≡ t))
+      has_now : (n : PassName) (k : ℕ) (t : Turn) → HasTurn (set s.views id (alone now)) n k t → (HasTurn s.views n k t) ⊎ ((n ≡ v.name) × (k ≡ length v.turns) × (turn w b (seen (shown x)) (since c (shown x)) ≡ t))
       has_now n k t h = elim (has_set now refl n k t h) [
         | inl before ↦ inl before
         | inr own ↦ (elim (at_snoc v.turns (turn w b (seen (shown x)) (since c (shown x))) t k own.1) [
@@ -373,10 +371,10 @@ module _ {T : Type 0} (row : RowIs) (locks : ℕ) (by : ℕ → SeatName) (fits 
       ]
 
       -- whatever turn was there at this lock was before this one
-      came_before : (n k : ℕ) (t : Turn) → HasTurn s.views n k t → t.lock ≡ w → StartsWith b t.after
+      came_before : (n : PassName) (k : ℕ) (t : Turn) → HasTurn s.views n k t → t.lock ≡ w → StartsWith b t.after
       came_before n k t h same = subst (λ l. StartsWith l t.after) (ap kept.accounts.logs same ∙ sym old.log) ((kept.passes h.place h.pass h.at).turns k t h.there).begins
 
-      now_ordered : (n k m i : ℕ) (t u : Turn) → HasTurn (set s.views id (alone now)) n k t → HasTurn (set s.views id (alone now)) m i u → t.lock ≡ u.lock → ((n ≡ m) × (k ≡ i) → ⊥) → AreOrdered t u
+      now_ordered : (n : PassName) (k : ℕ) (m : PassName) (i : ℕ) (t u : Turn) → HasTurn (set s.views id (alone now)) n k t → HasTurn (set s.views id (alone now)) m i u → t.lock ≡ u.lock → ((n ≡ m) × (k ≡ i) → ⊥) → AreOrdered t u
       now_ordered n k m i t u h j same apart = elim (has_now n k t h) [
         | inl one ↦ (elim (has_now m i u j) [
           | inl other ↦ kept.ordered n k m i t u one other same apart
@@ -408,7 +406,7 @@ module _ {T : Type 0} (row : RowIs) (locks : ℕ) (by : ℕ → SeatName) (fits 
         ];
         shut = λ u lt not_zero. elim (cases_eq u w) [
           | inl same ↦ absurd (not_zero (ap (λ i. get_or (set s.words (place_of w) 0) (place_of i) 0) same ∙ word_here s.words locks w 0 kept.wide old.inside))
-          | inr apart ↦ shut_set kept.accounts.owner now u refl (λ t e q. absurd (apart (sym q ∙ ap (λ (k : Taken). k.lock) (same_taken t (taken w b c) (sym e ∙ has))))) (kept.shut u lt (λ z. not_zero (word_else s.words w u 0 apart ∙ z)))
+          | inr apart ↦ shut_set now u (λ t e q. absurd (apart (sym q ∙ ap (λ (k : Taken). k.lock) (same_taken t (taken w b c) (sym e ∙ has))))) (kept.shut u lt (λ z. not_zero (word_else s.words w u 0 apart ∙ z)))
         ];
         passes = λ z u there. elim (place_set s.views id v now z u at there) [
           | inl here ↦ subst (λ (y : Place × Pass). FitsPass row locks by back_accounts (set s.words (place_of w) 0) y.0 y.1) (λ i. (sym here.0 i, here.1 i)) now_fits
@@ -416,83 +414,10 @@ module _ {T : Type 0} (row : RowIs) (locks : ℕ) (by : ℕ → SeatName) (fits 
         ];
         made = λ u k lt below. elim (cases_eq u w) [
           | inl same ↦
-              subst (λ i. IsMade by kept.accounts.owner (who' i k) (set s.views id (alone now)) i k) (sym same)
+              subst (λ i. IsMade by (who' i k) (set s.views id (alone now)) i k) (sym same)
               (made_here k (subst (λ l. k < count (by w) l) (put_here kept.accounts.logs w (seen (shown x))) (subst (λ i. k < count (by i) (put kept.accounts.logs w (seen (shown x)) i)) same below)))
           | inr apart ↦ made_else u k apart lt below
         ];
+        family = family_set now refl refl;
         ordered = now_ordered;
       }
-
-  -- a new pass has the next number
-  abbrev entered_pass : Pass
-  entered_pass = new_pass row kept.accounts.next
-
-  abbrev entered_accounts : Accounts
-  entered_accounts = record {
-    logs = kept.accounts.logs;
-    holder = kept.accounts.holder;
-    owner = put kept.accounts.owner kept.accounts.next (length s.views, 0);
-    next = suc kept.accounts.next;
-    who = kept.accounts.who;
-  }
-
-  entered_fits : FitsPass row locks by entered_accounts s.words (length s.views, 0) entered_pass
-  entered_fits = record {
-    same_row = refl;
-    named = put_here kept.accounts.owner kept.accounts.next (length s.views, 0);
-    below = omega arith;
-    held = λ t is. absurd (not_taken t is);
-    turns = λ k g there. absurd (some-ne-none g (sym there));
-  }
-
-  beside_fits : (z : Place) (u : Pass) → FitsPass row locks by kept.accounts s.words z u → FitsPass row locks by entered_accounts s.words z u
-  beside_fits z u f = record {
-    same_row = f.same_row;
-    named = put_else kept.accounts.owner kept.accounts.next (length s.views, 0) u.number (λ q. let b = f.below in absurd (omega arith)) ∙ f.named;
-    below = let b = f.below in omega arith;
-    held = λ t is. let h = f.held t is in record { inside = h.inside; holder = h.holder; log = h.log; shut = h.shut };
-    turns = λ k g there. let fit = f.turns k g there in record { begins = fit.begins; mine = fit.mine };
-  }
-
-  -- a pass stands where it stood
-  at_entered : (n : ℕ) (u : Pass) → pass_at s.views (kept.accounts.owner n) ≡ some u → u.number ≡ n
-      → pass_at (s.views ++ alone entered_pass ∷ []) (put kept.accounts.owner kept.accounts.next (length s.views, 0) n) ≡ some u
-  at_entered n u there name =
-      let b = (kept.passes (kept.accounts.owner n) u there).below in
-      ap (λ z. pass_at (s.views ++ alone entered_pass ∷ []) z) (put_else kept.accounts.owner kept.accounts.next (length s.views, 0) n (λ q. absurd (omega arith)))
-      ∙ place_longer s.views (alone entered_pass ∷ []) (kept.accounts.owner n) u there
-
-  had_entered : (n k : ℕ) (t : Turn) → HasTurn (s.views ++ alone entered_pass ∷ []) n k t → HasTurn s.views n k t
-  had_entered n k t h = elim (place_new s.views entered_pass h.place h.pass h.at) [
-    | inl before ↦ record { place = h.place; pass = h.pass; at = before; name = h.name; there = h.there }
-    | inr last ↦ absurd (some-ne-none t (sym (ap (λ (u : Pass). get_elem? u.turns k) last.1 ∙ h.there)))
-  ]
-
-  pub entered : LocksRule row locks by fits shown (record { words = s.words; homes = s.homes; views = s.views ++ alone entered_pass ∷ [] })
-  entered = record {
-    accounts = entered_accounts;
-    wide = kept.wide;
-    free = kept.free;
-    shut = λ u lt not_zero. let m = kept.shut u lt not_zero in record {
-      number = m.number;
-      pass = m.pass;
-      at = at_entered m.number m.pass m.at m.name;
-      name = m.name;
-      taken = m.taken;
-      has = m.has;
-      same = m.same;
-    };
-    passes = λ z u there. elim (place_new s.views entered_pass z u there) [
-      | inl before ↦ beside_fits z u (kept.passes z u before)
-      | inr last ↦ subst (λ (y : Place × Pass). FitsPass row locks by entered_accounts s.words y.0 y.1) (λ i. (sym last.0 i, last.1 i)) entered_fits
-    ];
-    made = λ lock k lt below. let m = kept.made lock k lt below in record {
-      pass = m.pass;
-      at = at_entered (kept.accounts.who lock k).0 m.pass m.at m.name;
-      name = m.name;
-      turn = m.turn;
-      there = m.there;
-      is_in = m.is_in;
-    };
-    ordered = λ n k m i t u h j. kept.ordered n k m i t u (had_entered n k t h) (had_entered m i u j);
-  }

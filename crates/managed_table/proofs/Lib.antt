@@ -1,5 +1,6 @@
 pub mod Places
 pub mod Changed
+pub mod Family
 pub mod Keeping
 pub mod Locking
 pub mod Pairing

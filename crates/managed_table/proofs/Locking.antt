@@ -5,7 +5,7 @@ use Rattle.std.proofs.lemmas.List.{get_or-replicate, length-replicate}
 use mathlib.Core.Option.{some, none, some-ne-none}
 use lib.ListN.{get_elem?}
 use prog.Atomic.{either}
-use Rattle.atomic_table.specs.Table.{Me, Act, Valid, takes, gives, keeps, put_back, rest, carried_after, opening, step, stepped, Allows, Enters}
+use Rattle.atomic_table.specs.Table.{Me, Act, Valid, takes, gives, keeps, put_back, rest, carried_after, opening, step, stepped, Allows}
 use Rattle.atomic_table.proofs.Lists.{set_again, at_map, exchanged}
 use Rattle.root_row.specs.declared.view.SeatAnswer.{SeatAnswer}
 use Rattle.root_row.specs.declared.view.AtomicStep.{AtomicStep}
@@ -18,9 +18,9 @@ use Rattle.managed_table.specs.declared.view.Turn.{Turn}
 use Rattle.managed_table.specs.declared.view.Pass.{Pass}
 use Rattle.managed_table.specs.declared.view.Passes.{Passes}
 use Rattle.managed_table.specs.declared.rule.Setting.{Setting}
-use Rattle.managed_table.specs.Locks.{Place, Accounts, FitsPass, HasTurn, LocksRule, AreFresh, first_view}
+use Rattle.managed_table.specs.Locks.{Place, pass_at, Accounts, FitsPass, HasTurn, IsListed, AreOneFamily, LocksRule, AreFresh, first_view}
 use Rattle.managed_table.specs.Kept.{seen}
-use Rattle.managed_table.specs.Turns.{taken, alone, pass_of, new_pass, with_turns, with_misses, turn_of, shown_in_hand, after_turn, HasTaken, IsSame, Misses, Looks, Seizes, Releases, LetsGo, EntersAs}
+use Rattle.managed_table.specs.Turns.{PassName, taken, alone, pass_of, new_pass, with_turns, with_misses, turn_of, shown_in_hand, after_turn, HasTaken, IsSame, Misses, Looks, Seizes, Releases, LetsGo}
 use Rattle.managed_table.specs.Passes.{HasInHand}
 use Rattle.managed_table.proofs.Places.{place_new}
 use Rattle.managed_table.proofs.Keeping as keeping
@@ -158,35 +158,40 @@ module _ {T : Type 0} (shown : T → Seated) (me me' : Me T Passes) (same : IsSa
   pub same_turn : after_turn shown me' ≡ after_turn shown me
   same_turn = ap (λ (m : Me T Passes). after_turn shown m) (λ i. (same.0 i, same.1 i))
 
-pub enters : {T : Type 0} (setting : Setting) (by : ℕ → SeatName) (fits : RowIs → ℕ → T → Type 0) (shown : T → Seated) (slots' : ℕ)
-    → Enters (LocksRule setting.row.value setting.locks by fits shown) slots' 0 (λ n w. EntersAs {T = T} (step slots' 0 0 0 none) (first_view setting, []) n (w, []))
-enters setting by fits shown slots' s kept homes small = (
-  alone (new_pass setting.row.value kept.accounts.next),
-  keeping.entered setting.row.value setting.locks by fits shown s kept,
-  (kept.accounts.next, refl),
-)
-
 -- the first pass, before any other
 abbrev first_pass : Setting → Pass
-first_pass setting = new_pass setting.row.value 0
+first_pass setting = new_pass setting.row.value []
 
 abbrev first_accounts : Accounts
-first_accounts = record { logs = λ _. []; holder = λ _. (0, 0); owner = λ _. (0, 0); next = 1; who = λ _ _. (0, 0) }
+first_accounts = record { logs = λ _. []; holder = λ _. (0, 0); who = λ _ _. ([], 0) }
 
 first_fits : (setting : Setting) (by : ℕ → SeatName) (words : List ℕ) → FitsPass setting.row.value setting.locks by first_accounts words (0, 0) (first_pass setting)
 first_fits setting by words = record {
   same_row = refl;
-  named = refl;
-  below = omega arith;
   held = λ t is. absurd (keeping.not_taken t is);
   turns = λ k g there. absurd (some-ne-none g (sym there));
 }
 
-no_turn : (setting : Setting) (n k : ℕ) (t : Turn) → HasTurn (first_view setting ∷ []) n k t → ⊥
+no_turn : (setting : Setting) (n : PassName) (k : ℕ) (t : Turn) → HasTurn (first_view setting ∷ []) n k t → ⊥
 no_turn setting n k t h = elim (place_new [] (first_pass setting) h.place h.pass h.at) [
   | inl none_there ↦ absurd (some-ne-none h.pass (sym none_there))
   | inr one ↦ absurd (some-ne-none t (sym (ap (λ (u : Pass). get_elem? u.turns k) one.1 ∙ h.there)))
 ]
+
+-- the first pass stands alone
+first_alone : (setting : Setting) (z : Place) (p : Pass) → pass_at (first_view setting ∷ []) z ≡ some p → (z ≡ (0, 0)) × (first_pass setting ≡ p)
+first_alone setting z p there = elim (place_new [] (first_pass setting) z p there) [
+  | inl none_there ↦ absurd (some-ne-none p (sym none_there))
+  | inr one ↦ one
+]
+
+first_family : (setting : Setting) → AreOneFamily (first_view setting ∷ [])
+first_family setting = record {
+  first = record { place = (0, 0); pass = first_pass setting; at = refl; is = refl };
+  listed = λ z p there. subst (λ (q : Pass). IsListed (first_view setting ∷ []) q.name) (first_alone setting z p there).1 tt;
+  stand = λ z p k there lt. let none : k < 0 = subst (λ (q : Pass). k < q.further) (sym (first_alone setting z p there).1) lt in absurd (omega arith);
+  once = λ z y p q there there' same. (first_alone setting z p there).0 ∙ sym (first_alone setting y q there').0;
+}
 
 pub opens : {T : Type 0} (setting : Setting) (by : ℕ → SeatName) (fits : RowIs → ℕ → T → Type 0) (shown : T → Seated) (xs : List T) → length xs ≡ setting.locks → AreFresh fits shown setting.row.value xs
     → LocksRule setting.row.value setting.locks by fits shown (opening (replicate (place_of setting.locks) 0) xs (first_view setting))
@@ -200,5 +205,6 @@ opens setting by fits shown xs many fresh = record {
     | inr one ↦ subst (λ (y : Place × Pass). FitsPass setting.row.value setting.locks by first_accounts (replicate (place_of setting.locks) 0) y.0 y.1) (λ i. (sym one.0 i, one.1 i)) (first_fits setting by (replicate (place_of setting.locks) 0))
   ];
   made = λ lock k lt below. let none : k < 0 = below in absurd (omega arith);
+  family = first_family setting;
   ordered = λ n k m i t u h j. absurd (no_turn setting n k t h);
 }

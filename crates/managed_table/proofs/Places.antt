@@ -22,7 +22,7 @@ same_place z y = elim (cases_eq z.0 y.0) [
 ]
 
 -- a view of one pass has it at its first place
-at_alone : (p u : Pass) (k : ℕ) → get_elem? (alone p).passes k ≡ some u → (k ≡ 0) × (p ≡ u)
+pub at_alone : (p u : Pass) (k : ℕ) → get_elem? (alone p).passes k ≡ some u → (k ≡ 0) × (p ≡ u)
 at_alone p u zero e = (refl, some-injective p u e)
 at_alone p u (suc k) e = absurd (some-ne-none u (sym e))
 

@@ -1,5 +1,5 @@
 -- What contracts see of a managed table and of a caller.
-use Rattle.std.specs.Prelude.{◌≡◌, ◌⊎◌, ℕ, ◌<◌, ◌≤◌}
+use Rattle.std.specs.Prelude.{◌≡◌, ◌⊎◌, ℕ, ◌<◌, ◌≤◌, []}
 use Rattle.atomic_table.specs.Seated.{TableId}
 use Rattle.atomic_table.specs.declared.shared.Seat.{Seat}
 use Rattle.root_row.specs.Seats.{RowIs, Seated}
@@ -11,7 +11,7 @@ use Rattle.root_row.specs.World.{slots}
 use Rattle.managed_table.specs.declared.view.Pass.{Pass}
 use Rattle.managed_table.specs.declared.view.Passes.{Passes}
 use Rattle.managed_table.specs.Kept.{shown, leaf_fits, book_fits}
-use Rattle.managed_table.specs.Turns.{pass_of, with_misses, MadeTurn, MadeOneCall, MadeNoCall}
+use Rattle.managed_table.specs.Turns.{pass_of, new_pass, with_further, further_of, with_misses, MadeTurn, MadeOneCall, MadeNoCall}
 
 -- its row, and which tables of locks are its leaves' and its book's
 pub record ManagedIs : Type 0 where
@@ -36,6 +36,22 @@ abbrev pub IsCallerOf : ManagedIs → CallerIs → Type 0
 IsCallerOf table caller =
     (caller.leaves.table ≡ table.leaves) × (caller.leaves.pass.row.value ≡ table.row)
     × (caller.book.table ≡ table.book) × (caller.book.pass.row.value ≡ table.row)
+
+-- the first caller of a table: it has done nothing, and no further one came from it, so there is no other
+abbrev pub IsFirst : CallerIs → Type 0
+IsFirst caller = (caller.leaves.pass ≡ new_pass caller.leaves.pass.row.value []) × (caller.book.pass ≡ new_pass caller.book.pass.row.value [])
+
+-- the pass, when one further came from it, and that further one
+abbrev pub as_parent : PassIs → PassIs
+as_parent p = record { table = p.table; pass = with_further p.pass }
+
+abbrev pub further_from : PassIs → PassIs
+further_from p = record { table = p.table; pass = further_of p.pass }
+
+-- one further caller came from the caller, who did nothing else; the further one is of the same table, and has done nothing
+pub record GaveFurther (old new further : CallerIs) : Type 0 where
+  pub parent : new ≡ record { leaves = as_parent old.leaves; book = as_parent old.book }
+  pub child : further ≡ record { leaves = further_from old.leaves; book = further_from old.book }
 
 -- worker and slot are in range, or not
 abbrev pub IsInside : ManagedIs → ℕ → ℕ → Type 0

@@ -12,7 +12,7 @@ use Rattle.root_row.specs.History.{StartsWith}
 use Rattle.managed_table.specs.declared.view.Pass.{Pass}
 use Rattle.managed_table.specs.declared.view.Passes.{Passes}
 use Rattle.managed_table.specs.Kept.{seen}
-use Rattle.managed_table.specs.Turns.{taken, alone, pass_of}
+use Rattle.managed_table.specs.Turns.{taken, alone, pass_of, with_further, further_of}
 
 module _ {T : Type 0} where
   -- the seat has one pass, which has no lock
@@ -22,6 +22,12 @@ module _ {T : Type 0} where
   -- and it is of these locks of this row
   abbrev pub IsFree : TableId → RowIs → Seat T Passes → Type 0
   IsFree id row seat = (seat.table_id ≡ id) × ((pass_of seat.me.0).row.value ≡ row) × IsIdle seat
+
+-- the one pass is the last further one that came from the other, and has done nothing
+pub record IsLastOf (p q : Pass) : Type 0 where
+  pub before : Pass
+  pub parent : p ≡ with_further before
+  pub further : q ≡ further_of before
 
 -- the pass has the lock's value in hand, which fits and begins with what was seen at first
 pub record HasInHand {T : Type 0} (fits : RowIs → ℕ → T → Type 0) (shown : T → Seated)

@@ -1,5 +1,5 @@
 -- The turns of a pass.
-use Rattle.std.specs.Prelude.{◌≡◌, ◌⊎◌, ℕ, ◌==◌, List, [], ◌∷◌, ◌++◌, replicate, length, drop, Option, Some, None, MatchBool}
+use Rattle.std.specs.Prelude.{◌≡◌, ◌⊎◌, ℕ, ◌+◌, ◌-◌, ◌==◌, List, [], ◌∷◌, ◌++◌, replicate, length, drop, Option, Some, None, MatchBool}
 use mathlib.Core.Option as core
 use lib.ListN.{get_elem?}
 use Rattle.atomic_table.specs.Table.{Me, Step}
@@ -42,7 +42,7 @@ abbrev pub no_seat : Seated
 no_seat = record { row = no_row.id; view = record { world = no_row.world; members = [] }; steps = [] }
 
 abbrev pub no_pass : Pass
-no_pass = record { row = record { marker = record {}; value = no_row }; number = 0; taken = None; turns = []; missed = [] }
+no_pass = record { row = record { marker = record {}; value = no_row }; name = []; further = 0; taken = None; turns = []; missed = [] }
 
 abbrev pub first_in : List Pass → Pass
 first_in [] = no_pass
@@ -52,21 +52,37 @@ first_in (p ∷ ps) = p
 abbrev pub pass_of : Passes → Pass
 pass_of v = first_in v.passes
 
--- a pass of this number that has done nothing
-abbrev pub new_pass : RowIs → ℕ → Pass
-new_pass row number = record { row = record { marker = record {}; value = row }; number = number; taken = None; turns = []; missed = [] }
+-- the name of a pass: the first one's is empty; a further one's is its number among those of its parent, before the parent's name
+abbrev pub PassName : Type 0
+PassName = List ℕ
+
+-- a pass of this name that has done nothing, and from which no further one came
+abbrev pub new_pass : RowIs → PassName → Pass
+new_pass row name = record { row = record { marker = record {}; value = row }; name = name; further = 0; taken = None; turns = []; missed = [] }
+
+-- one further pass came from the pass
+abbrev pub with_further : Pass → Pass
+with_further p = record { row = p.row; name = p.name; further = p.further + 1; taken = p.taken; turns = p.turns; missed = p.missed }
+
+-- the last further pass has gone back
+abbrev pub without_further : Pass → Pass
+without_further p = record { row = p.row; name = p.name; further = p.further - 1; taken = p.taken; turns = p.turns; missed = p.missed }
+
+-- that further pass
+abbrev pub further_of : Pass → Pass
+further_of p = new_pass p.row.value (p.further ∷ p.name)
 
 -- the pass has taken the lock
 abbrev pub with_taken : Pass → Option Taken → Pass
-with_taken p t = record { row = p.row; number = p.number; taken = t; turns = p.turns; missed = p.missed }
+with_taken p t = record { row = p.row; name = p.name; further = p.further; taken = t; turns = p.turns; missed = p.missed }
 
 -- the pass has had these turns more, and has no lock
 abbrev pub with_turns : Pass → List Turn → Pass
-with_turns p more = record { row = p.row; number = p.number; taken = None; turns = p.turns ++ more; missed = p.missed }
+with_turns p more = record { row = p.row; name = p.name; further = p.further; taken = None; turns = p.turns ++ more; missed = p.missed }
 
 -- the pass has found these locks taken
 abbrev pub with_missed : Pass → List ℕ → Pass
-with_missed p locks = record { row = p.row; number = p.number; taken = p.taken; turns = p.turns; missed = locks }
+with_missed p locks = record { row = p.row; name = p.name; further = p.further; taken = p.taken; turns = p.turns; missed = locks }
 
 -- the pass has found the lock taken so often more
 abbrev pub with_misses : Pass → ℕ → ℕ → Pass
@@ -131,10 +147,6 @@ module _ {T : Type 0} where
   -- where the word was the number that is subtracted, the turn is over; else nothing is known
   abbrev pub LetsGo : (T → Seated) → Step T → Me T Passes → ℕ → Me T Passes → Type 0
   LetsGo shown st me found me' = MatchBool (found == st.first) (Releases shown st me found me') (IsSame me me')
-
-  -- a new pass of the same row, which has done nothing
-  abbrev pub EntersAs : Step T → Me T Passes → ℕ → Me T Passes → Type 0
-  EntersAs st me found me' = (number : ℕ) × (me'.0 ≡ alone (new_pass (pass_of me.0).row.value number))
 
 -- The pass made one turn more, at this lock, which it had found taken so often: it took the value, did so with it, and put it back
 pub record MadeTurn {T : Type 0} (fits : RowIs → ℕ → T → Type 0) (shown : T → Seated)

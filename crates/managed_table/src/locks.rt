@@ -3,11 +3,12 @@ ghost use Rattle.std.specs.Prelude.{◌≡◌, ◌<◌, ◌∷◌, [], length, I
 ghost use Rattle.std.specs.Fn.{FnOnceTakesAtMut, FnOnceReturnsAtMut};
 ghost use Rattle.root_row.specs.World.{place_of};
 ghost use Rattle.managed_table.specs.Locks.{AreFresh};
-ghost use Rattle.managed_table.specs.Turns.{HasTaken, MadeTurn, IsSame, Misses, pass_of, after_turn};
-ghost use Rattle.managed_table.specs.Passes.{IsFree, HasInHand, MayActOn, ActedOn};
+ghost use Rattle.managed_table.specs.Turns.{HasTaken, MadeTurn, IsSame, Misses, new_pass, pass_of, after_turn};
+ghost use Rattle.managed_table.specs.Meeting.{parent, further, taken_back};
+ghost use Rattle.managed_table.specs.Passes.{IsFree, IsLastOf, HasInHand, MayActOn, ActedOn};
 
 use crate::keyed::Keyed;
-use crate::plays::{Enter, LetGo, Seize};
+use crate::plays::{Further, LetGo, Seize, TakeBack};
 use crate::rule::{OneTurn, Setting};
 use crate::view::Passes;
 use atomic_table::{Refused, Seat, Table};
@@ -35,11 +36,17 @@ pub struct Locks<T: Keyed> {
 }
 
 impl<T: Keyed + Drop> Locks<T> {
-    pub fn new(alloc: Global, row: &Row, values: Vec<T>) -> Result<Locks<T>, AllocError>
+    /// The locks, and the first pass for them.
+    pub fn new(
+        alloc: Global,
+        row: &Row,
+        values: Vec<T>,
+    ) -> Result<(Locks<T>, Seat<T, Passes>), AllocError>
         requires few { length values.items < 4294967296 }
         requires fresh { AreFresh T.fits T.shown row.now values.items }
-        ensures row { IfOk result (λ r. r.table.shared.key.row.value ≡ row.now) }
-        ensures count { IfOk result (λ r. r.table.shared.key.locks ≡ length values.items) }
+        ensures row { IfOk result (λ r. r.0.table.shared.key.row.value ≡ row.now) }
+        ensures count { IfOk result (λ r. r.0.table.shared.key.locks ≡ length values.items) }
+        ensures first { IfOk result (λ r. IsFree r.0.table.shared.table_id row.now r.1 × (pass_of r.1.me.0 ≡ new_pass row.now [])) }
     {
         let locks = values.len();
         let words = Vec::from_elem(alloc, FREE, (locks + 1) * WORDS_APART)?;
@@ -48,7 +55,7 @@ impl<T: Keyed + Drop> Locks<T> {
             locks,
         };
         match Table::new(alloc, words.as_slice(), values, &setting) {
-            Ok((table, _first)) => Ok(Locks { table }),
+            Ok((table, first)) => Ok((Locks { table }, first)),
             Err(Refused { slots: _ }) => Err(AllocError),
         }
     }
@@ -59,12 +66,26 @@ impl<T: Keyed + Drop> Locks<T> {
         self.table.slot_count()
     }
 
-    /// A new pass, which has done nothing. One load.
-    pub fn enter(&self) -> Seat<T, Passes>
-        ensures { IsFree self.now.table.shared.table_id self.now.table.shared.key.row.value result × ((pass_of result.me.0).turns ≡ []) }
+    /// A further pass, which comes from the given one. One load.
+    pub fn further(&self, seat: &mut Seat<T, Passes>) -> Seat<T, Passes>
+        requires free { IsFree self.now.table.shared.table_id self.now.table.shared.key.row.value seat.old }
+        ensures parent_id { seat.new.table_id ≡ seat.old.table_id }
+        ensures parent { seat.new.me ≡ (parent seat.old.me.0, []) }
+        ensures further_id { result.table_id ≡ seat.old.table_id }
+        ensures further { result.me ≡ (further seat.old.me.0, []) }
     {
-        let (_, seat) = self.table.shared.load_new_seat::<Enter>(0);
-        seat
+        self.table.shared.split_seat::<Further>(seat)
+    }
+
+    /// The last further pass, which has done nothing, goes back to the one that it came from. One load.
+    pub fn take_back(&self, seat: &mut Seat<T, Passes>, further: Seat<T, Passes>)
+        requires free { IsFree self.now.table.shared.table_id self.now.table.shared.key.row.value seat.old }
+        requires further_free { IsFree self.now.table.shared.table_id self.now.table.shared.key.row.value further }
+        requires last { IsLastOf (pass_of seat.old.me.0) (pass_of further.me.0) }
+        ensures id { seat.new.table_id ≡ seat.old.table_id }
+        ensures back { seat.new.me ≡ (taken_back seat.old.me.0 further.me.0, []) }
+    {
+        self.table.shared.join_seat::<TakeBack>(seat, further);
     }
 
     // Takes the lock where it is free, and else leaves it as it is.

@@ -33,8 +33,7 @@ impl Model for OwnCaller {
 }
 
 impl OwnCaller {
-    ghost use Rattle.std.specs.Prelude.{◌≡◌, ◌<◌, [], All, IfOk, IfSome, IfNone, MatchOption};
-    ghost use Rattle.std.specs.Arc.{arc_value};
+    ghost use Rattle.std.specs.Prelude.{◌≡◌, ◌<◌, All, IfOk, IfErr, IfSome, IfNone, MatchOption};
     ghost use Rattle.dep_index.specs.Catalogue.{modules_of};
     ghost use Rattle.dep_index.specs.Words.{closed};
     ghost use Rattle.dep_index.specs.Refusals.{reply_of, get_refusal, put_refusal};
@@ -44,7 +43,7 @@ impl OwnCaller {
     ghost use Rattle.root_row.specs.declared.view.SeatName.TheVariants as name_is;
     ghost use Rattle.managed_table.specs.Turns.{MadeOneCall, MadeNoCall};
     ghost use Rattle.managed_table.specs.Shown.{HoldsSoOften};
-    ghost use Rattle.managed_table.specs.Callers.{IsCallerOf, LeafMissed, LeafTurned};
+    ghost use Rattle.managed_table.specs.Callers.{CallerIs, IsFirst, GaveFurther, LeafMissed, LeafTurned};
     ghost use Rattle.managed_table.specs.Tries.{GaveUp, AnsweredWithin};
     ghost use Rattle.managed_table.specs.Owned.{row_of, SameTable, IsBeyond, IsWithin};
 
@@ -56,10 +55,11 @@ impl OwnCaller {
     ) -> Result<OwnCaller, AllocError>
         requires few_workers { workers < closed }
         ensures world { IfOk result (λ c. (row_of c).world ≡ record { catalogue = modules_of catalogue.now; workers = workers }) }
-        ensures new { IfOk result (λ c. (c.leaves.pass.turns ≡ []) × (c.book.pass.turns ≡ [])) }
+        ensures first { IfOk result IsFirst }
     {
-        let (table, _readers) = ManagedTable::new(alloc, catalogue, workers)?;
-        Ok(OwnCaller::of(Arc::new(alloc, table)?))
+        let (table, caller, _readers) = ManagedTable::new(alloc, catalogue, workers)?;
+        let table = Arc::new(alloc, table)?;
+        Ok(OwnCaller { caller, table })
     }
 
     /// The same, with a teller for each worker.
@@ -70,30 +70,33 @@ impl OwnCaller {
     ) -> Result<(OwnCaller, Vec<Teller>), AllocError>
         requires few_workers { workers < closed }
         ensures world { IfOk result (λ r. (row_of r.0).world ≡ record { catalogue = modules_of catalogue.now; workers = workers }) }
-        ensures new { IfOk result (λ r. (r.0.leaves.pass.turns ≡ []) × (r.0.book.pass.turns ≡ [])) }
+        ensures first { IfOk result (λ r. IsFirst r.0) }
         ensures tellers { IfOk result (λ r. AreNew (new_reader (row_of r.0).id (row_of r.0).world) workers r.1.items) }
         ensures own { IfOk result (λ r. All (IsOf (row_of r.0)) r.1.items) }
     {
-        let (table, readers) = ManagedTable::new(alloc, catalogue, workers)?;
+        let (table, caller, readers) = ManagedTable::new(alloc, catalogue, workers)?;
         let tellers = tellers_of(alloc, readers)?;
-        Ok((OwnCaller::of(Arc::new(alloc, table)?), tellers))
+        let table = Arc::new(alloc, table)?;
+        Ok((OwnCaller { caller, table }, tellers))
     }
 
-    fn of(table: Arc<ManagedTable, Global>) -> OwnCaller
-        ensures own { IsCallerOf (arc_value table) result }
-        ensures new { (result.leaves.pass.turns ≡ []) × (result.book.pass.turns ≡ []) }
-    {
-        let caller = table.caller();
-        OwnCaller { caller, table }
-    }
-
-    /// A further caller of the same table, who has done nothing.
-    pub fn further(&self) -> Result<OwnCaller, AllocError>
-        ensures same { IfOk result (SameTable self.now) }
-        ensures new { IfOk result (λ c. (c.leaves.pass.turns ≡ []) × (c.book.pass.turns ≡ [])) }
+    /// A further caller of the same table, which comes from this one. It has done nothing. At an error this one is as it was.
+    pub fn further(&mut self) -> Result<OwnCaller, AllocError>
+        ensures further { IfOk result (GaveFurther self.old self.new) }
+        ensures err { IfErr result (λ e. self.new ≡ self.old) }
     {
         let table = Arc::try_clone(&self.table)?;
-        Ok(OwnCaller::of(table))
+        let caller = table.further(&mut self.caller);
+        Ok(OwnCaller { caller, table })
+    }
+
+    /// The last further caller that came from this one goes back, where it has done nothing.
+    pub fn take_back(&mut self, further: OwnCaller)
+        requires last { (before : CallerIs) × GaveFurther before self.old further }
+        ensures back { (before : CallerIs) → GaveFurther before self.old further → self.new ≡ before }
+    {
+        let OwnCaller { caller, table: _ } = further;
+        self.table.take_back(&mut self.caller, caller);
     }
 
     /// How many workers there are.

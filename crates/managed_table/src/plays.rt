@@ -1,4 +1,4 @@
-//! What each step on a lock's word tells a pass, and what a new pass knows.
+//! What each step on a lock's word tells a pass, and how passes come from passes.
 use crate::keyed::Keyed;
 use crate::view::Passes;
 use atomic_table::{Join, Play, Split};
@@ -44,12 +44,26 @@ impl<T: Keyed> Play<T, Passes> for LetGo<T> {
     ghost then = { LetsGo T.shown };
 }
 
-pub(crate) struct Enter;
+/// The last further pass goes back to the one that it came from.
+pub(crate) struct TakeBack;
 
-impl<T> Play<T, Passes> for Enter {
-    ghost use Rattle.managed_table.specs.Turns.{EntersAs};
+impl Join<Passes> for TakeBack {
+    ghost use Rattle.managed_table.specs.Meeting.{taken_back, spent};
 
-    ghost then = { EntersAs };
+    ghost both = { taken_back };
+
+    ghost spent = { spent };
+}
+
+/// One further pass comes from a pass, which lists it.
+pub(crate) struct Further;
+
+impl Split<Passes> for Further {
+    ghost use Rattle.managed_table.specs.Meeting.{parent, further};
+
+    ghost left = { parent };
+
+    ghost right = { further };
 }
 
 /// Two views are put together, and the second seat is spent.

@@ -61,39 +61,58 @@ impl ManagedTable {
     ghost use Rattle.root_row.specs.Steps.{ReaderAnswered};
     ghost use Rattle.managed_table.specs.Kept.{shown, leaf_fits, book_fits};
     ghost use Rattle.managed_table.specs.Passes.{MayActOn};
-    ghost use Rattle.managed_table.specs.Callers.{IsCallerOf, IsInside, IsOutside, LeafTurned, BookTurned};
+    ghost use Rattle.managed_table.specs.Callers.{CallerIs, IsCallerOf, IsFirst, GaveFurther, IsInside, IsOutside, LeafTurned, BookTurned};
 
-    /// A managed table over a catalogue, with a reader for each worker. Every module is Absent, and nothing is held.
+    /// A managed table over a catalogue, its first caller, and a reader for each worker. Every module is Absent, and nothing is
+    /// held.
     pub fn new(
         alloc: Global,
         catalogue: &Catalogue,
         workers: usize,
-    ) -> Result<(ManagedTable, Vec<Reader>), AllocError>
+    ) -> Result<(ManagedTable, Caller, Vec<Reader>), AllocError>
         requires few_workers { workers < closed }
         ensures world { IfOk result (λ r. r.0.row.world ≡ record { catalogue = modules_of catalogue.now; workers = workers }) }
-        ensures readers { IfOk result (λ r. AreNew (new_reader r.0.row.id r.0.row.world) workers r.1.items) }
-        ensures own { IfOk result (λ r. All (IsOf r.0.row) r.1.items) }
+        ensures first { IfOk result (λ r. IsCallerOf r.0 r.1 × IsFirst r.1) }
+        ensures readers { IfOk result (λ r. AreNew (new_reader r.0.row.id r.0.row.world) workers r.2.items) }
+        ensures own { IfOk result (λ r. All (IsOf r.0.row) r.2.items) }
     {
         let (row, leaf_seats, book_seat, read_seats) = Row::new(
             alloc, catalogue, workers, workers,
         )?;
-        let leaves = Locks::new(alloc, &row, leaves_of(alloc, &row, leaf_seats)?)?;
+        let (leaves, leaf_pass) = Locks::new(alloc, &row, leaves_of(alloc, &row, leaf_seats)?)?;
         let mut books = Vec::with_capacity(alloc, 1)?;
         books.push_reserved(Book::new(alloc, book_seat, catalogue)?);
-        let book = Locks::new(alloc, &row, books)?;
+        let (book, book_pass) = Locks::new(alloc, &row, books)?;
         let readers = readers_of(alloc, read_seats)?;
-        Ok((ManagedTable { row, leaves, book }, readers))
+        let first = Caller {
+            leaves: leaf_pass,
+            book: book_pass,
+        };
+        Ok((ManagedTable { row, leaves, book }, first, readers))
     }
 
-    /// A caller of this table, who has done nothing. Two loads, and no memory.
-    pub fn caller(&self) -> Caller
-        ensures own { IsCallerOf self.now result }
-        ensures new { (result.leaves.pass.turns ≡ []) × (result.book.pass.turns ≡ []) }
+    /// A further caller of this table, which comes from the given one. It has done nothing. Two loads, and no memory.
+    pub fn further(&self, caller: &mut Caller) -> Caller
+        requires own { IsCallerOf self.now caller.old }
+        ensures own { IsCallerOf self.now caller.new × IsCallerOf self.now result }
+        ensures further { GaveFurther caller.old caller.new result }
     {
         Caller {
-            leaves: self.leaves.enter(),
-            book: self.book.enter(),
+            leaves: self.leaves.further(&mut caller.leaves),
+            book: self.book.further(&mut caller.book),
         }
+    }
+
+    /// The last further caller that came from the given one goes back, where it has done nothing. Two loads.
+    pub(crate) fn take_back(&self, caller: &mut Caller, further: Caller)
+        requires own { IsCallerOf self.now caller.old × IsCallerOf self.now further }
+        requires last { (before : CallerIs) × GaveFurther before caller.old further }
+        ensures own { IsCallerOf self.now caller.new }
+        ensures back { (before : CallerIs) → GaveFurther before caller.old further → caller.new ≡ before }
+    {
+        let Caller { leaves, book } = further;
+        self.leaves.take_back(&mut caller.leaves, leaves);
+        self.book.take_back(&mut caller.book, book);
     }
 
     /// How many workers there are.

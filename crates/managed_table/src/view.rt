@@ -20,11 +20,14 @@ pub struct Taken {
     pub steps: LinkedList<AtomicStep>,
 }
 
-/// What a pass knows: the row that its locks are of, its own number, the lock that it has taken, its turns, the oldest first,
-/// and the locks that it found taken, one for each time, the last first.
+/// What a pass knows: the row that its locks are of, its own name, how many further passes came from it, the lock that it has
+/// taken, its turns, the oldest first, and the locks that it found taken, one for each time, the last first.
+///
+/// The first pass has the empty name. A further pass has its parent's, with its number among those of that parent before it.
 pub struct Pass {
     pub row: Snapshot<Row>,
-    pub number: u64,
+    pub name: LinkedList<u64>,
+    pub further: u64,
     pub taken: Option<Taken>,
     pub turns: LinkedList<Turn>,
     pub missed: LinkedList<usize>,

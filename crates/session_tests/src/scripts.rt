@@ -37,9 +37,20 @@ fn run_by_callers<R: AllocGlobal + Threads + Wait + Sync, G: Gate + Sync>(
     gate: &G,
 ) -> Result<Course, Fail> {
     let script = read_script(rt.alloc(), input)?;
-    let (table, readers) = ManagedTable::new(rt.alloc(), script.catalogue(), script.workers())?;
-    let answer = run_managed(rt, script.catalogue(), &table, readers, &script, gate);
-    let mut caller = table.caller();
+    let (table, mut caller, readers) = ManagedTable::new(
+        rt.alloc(),
+        script.catalogue(),
+        script.workers(),
+    )?;
+    let answer = run_managed(
+        rt,
+        script.catalogue(),
+        &table,
+        &mut caller,
+        readers,
+        &script,
+        gate,
+    );
     let first = table.held(rt, &mut caller, 0, 0);
     Ok((answer, [first, table.held(rt, &mut caller, 1, 0)]))
 }

@@ -26,6 +26,7 @@ was_made row call reply old new law m other =
       after = m.after;
       steps = m.steps;
       turned = ap (λ p. p.turns) m.turned;
+      childless = ap (λ p. p.further) m.turned;
       elsewhere = other;
       ends = m.ends;
       own = m.own;

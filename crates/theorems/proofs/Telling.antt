@@ -21,7 +21,7 @@ use Rattle.theorems.specs.Told.{MadeNone, MadeAndTold, HeardAndMade, WereMadeInO
 
 module _ (row : RowIs) (call : Call) (old new : CallerIs) (reader reader' : View) (met : MetAt row call old new reader reader') (other : elsewhere (seat_for call) new ≡ elsewhere (seat_for call) old) where
   made_none : MadeNone call old new
-  made_none = record { turn = turn (lock_of (seat_for call)) met.before met.after met.steps; turned = ap (λ p. p.turns) met.turned; elsewhere = other; none = met.own }
+  made_none = record { turn = turn (lock_of (seat_for call)) met.before met.after met.steps; turned = ap (λ p. p.turns) met.turned; childless = ap (λ p. p.further) met.turned; elsewhere = other; none = met.own }
 
   -- the call before the meeting is told
   pub made_and_told : (reply : Reply) (first : CallerIs) → WasMadeOnce row call reply first old → MadeAndTold row call reply first new reader reader'

@@ -46,15 +46,17 @@ elsewhere other caller = caller.leaves
 abbrev pub turns_of : Call → CallerIs → List Turn
 turns_of call caller = (here (seat_for call) caller).pass.turns
 
--- The caller had one turn more. Before it the seat had seen this much; then others made these calls, and the seat made this one,
--- once, by these steps, which was answered so. All that is legal, so removals are safe in it, and it begins with what each earlier
--- turn of the caller at this lock had seen.
+-- The caller had one turn more, at the lock of the call's seat. It did nothing else, and no further caller came from it, by whom
+-- another call could have been made. Before that turn the seat had seen this much; then others made these calls, and the seat made
+-- this one, once, by these steps, which was answered so. All that is legal, so removals are safe in it, and it begins with what each
+-- earlier turn of the caller at this lock had seen.
 pub record WasMadeOnce (row : RowIs) (call : Call) (reply : Reply) (old new : CallerIs) : Type 0 where
   pub before : List SeatAnswer
   pub others : List SeatAnswer
   pub after : List SeatAnswer
   pub steps : List AtomicStep
   pub turned : turns_of call new ≡ turns_of call old ++ record { lock = lock_of (seat_for call); before = before; after = after; steps = steps } ∷ []
+  pub childless : (here (seat_for call) new).pass.further ≡ (here (seat_for call) old).pass.further
   pub elsewhere : elsewhere (seat_for call) new ≡ elsewhere (seat_for call) old
   pub ends : after ≡ (before ++ others) ++ seat_answer (seat_for call) call reply ∷ []
   pub own : own_answers (seat_for call) after ≡ own_answers (seat_for call) before ++ seat_answer (seat_for call) call reply ∷ []

@@ -1,13 +1,14 @@
 //! The program over any input and output.
 ghost use Rattle.std.specs.Prelude.{◌≤◌, All};
 ghost use Rattle.root_row.specs.Seats.{IsOf};
+ghost use Rattle.managed_table.specs.Callers.{IsCallerOf};
 
 use crate::asked::{Asked, asked_by};
 use crate::explain::{explain, explain_work};
 use crate::fault::ScheduleFault;
 use crate::schedule::report;
 use crate::script::{Numbering, OpenGate, Replies, Script, WorkFault, read_script, run_managed};
-use managed_table::ManagedTable;
+use managed_table::{Caller, ManagedTable};
 use program_frame::{InputFault, Status, StreamFault, end_by, tell_no_input, write_text};
 use std::alloc::{AllocError, Global};
 use std::io::{Read, Write};
@@ -46,16 +47,18 @@ fn text_on<R: AllocGlobal + Threads + Wait + Sync>(
     asked: Option<Numbering>,
     script: &Script,
     table: &ManagedTable,
+    caller: &mut Caller,
     readers: Vec<Reader>,
 ) -> Result<Vec<u8>, Fault>
-    requires { All (IsOf table.now.row) readers.items }
+    requires own { IsCallerOf table.now caller.old }
+    requires readers { All (IsOf table.now.row) readers.items }
 {
     let catalogue = script.catalogue();
     let Some(numbering) = asked else {
-        return Ok(run_managed(rt, catalogue, table, readers, script, &OpenGate)?);
+        return Ok(run_managed(rt, catalogue, table, caller, readers, script, &OpenGate)?);
     };
     let replies = Replies::new(rt.alloc(), script)?;
-    let left = run_managed(rt, catalogue, table, readers, script, &replies)?;
+    let left = run_managed(rt, catalogue, table, caller, readers, script, &replies)?;
     let mut text = replies.text(rt.alloc(), script, numbering)?;
     text.extend_from_slice(&left)?;
     Ok(text)
@@ -68,8 +71,12 @@ fn script_text<R: AllocGlobal + Threads + Wait + Sync>(
     input: &[u8],
 ) -> Result<Vec<u8>, Fault> {
     let script = read_script(rt.alloc(), input)?;
-    let (table, readers) = ManagedTable::new(rt.alloc(), script.catalogue(), script.workers())?;
-    text_on(rt, asked, &script, &table, readers)
+    let (table, mut caller, readers) = ManagedTable::new(
+        rt.alloc(),
+        script.catalogue(),
+        script.workers(),
+    )?;
+    text_on(rt, asked, &script, &table, &mut caller, readers)
 }
 
 /// Reads the input and writes its report, or what its script comes to on threads.

@@ -31,8 +31,12 @@ pub(super) struct ManagedAsks<'a> {
 pub(super) type ManagedWorker<'a> = Worker<ManagedCalls<'a>, ManagedAsks<'a>>;
 
 impl<'a> ManagedCalls<'a> {
-    pub(super) fn of(table: &'a ManagedTable) -> ManagedCalls<'a> {
-        let caller = table.caller();
+    /// By a further caller, which comes from this one.
+    pub(super) fn by_further(table: &'a ManagedTable, caller: &mut Caller) -> ManagedCalls<'a>
+        requires own { IsCallerOf table.now caller.old }
+        ensures own { IsCallerOf table.now caller.new }
+    {
+        let caller = table.further(caller);
         ManagedCalls { table, caller }
     }
 }
@@ -74,28 +78,38 @@ impl Asks for ManagedAsks<'_> {
     }
 }
 
-fn managed_worker<'a>(table: &'a ManagedTable, reader: Reader, number: usize) -> ManagedWorker<'a>
-    requires { IsOf table.now.row reader }
+fn managed_worker<'a>(
+    table: &'a ManagedTable,
+    caller: &mut Caller,
+    reader: Reader,
+    number: usize,
+) -> ManagedWorker<'a>
+    requires own { IsCallerOf table.now caller.old }
+    requires reader { IsOf table.now.row reader }
+    ensures own { IsCallerOf table.now caller.new }
 {
     Worker {
-        calls: ManagedCalls::of(table),
+        calls: ManagedCalls::by_further(table, caller),
         asks: ManagedAsks { table, reader },
         number,
     }
 }
 
-/// A worker of a managed table for each reader, with a caller of its own.
+/// A worker of a managed table for each reader, each with a caller of its own, which comes from this one.
 pub(super) fn managed_workers<'a, R: AllocGlobal>(
     rt: &R,
     table: &'a ManagedTable,
+    caller: &mut Caller,
     readers: Vec<Reader>,
 ) -> Result<Vec<ManagedWorker<'a>>, AllocError>
-    requires { All (IsOf table.now.row) readers.items }
+    requires own { IsCallerOf table.now caller.old }
+    requires readers { All (IsOf table.now.row) readers.items }
+    ensures own { IsCallerOf table.now caller.new }
 {
     let mut workers = Vec::new(rt.alloc());
     for reader in readers {
         let number = workers.len();
-        workers.push(managed_worker(table, reader, number))?;
+        workers.push(managed_worker(table, caller, reader, number))?;
     }
     Ok(workers)
 }

@@ -2,6 +2,7 @@
 ghost use denote.Param.Send.{IsSync, IsSend};
 ghost use Rattle.std.specs.Prelude.{◌≡◌, All};
 ghost use Rattle.root_row.specs.Seats.{IsOf};
+ghost use Rattle.managed_table.specs.Callers.{IsCallerOf};
 ghost use Rattle.workload_drive.specs.declared.script.threads.WorkFault.TheVariants as work_faults;
 
 use super::by_caller::{ManagedCalls, managed_workers};
@@ -12,7 +13,7 @@ use super::listing::listing;
 use super::tasks::Script;
 use super::worker::{Worker, make_change};
 use dep_index::{Catalogue, Reply};
-use managed_table::ManagedTable;
+use managed_table::{Caller, ManagedTable};
 use module_table::Manager;
 use proc_modules::push_number;
 use std::alloc::AllocError;
@@ -182,22 +183,26 @@ pub fn run_threads<R: AllocGlobal + Threads + Wait + Sync, G: Gate + Sync>(
     )
 }
 
-/// As `run_threads`, on a managed table: each worker has a caller, so each call that returns is made once.
+/// As `run_threads`, on a managed table: each worker has a caller, which comes from this one, so each call that returns is made
+/// once.
 pub fn run_managed<R: AllocGlobal + Threads + Wait + Sync, G: Gate + Sync>(
     rt: &R,
     catalogue: &Catalogue,
     table: &ManagedTable,
+    caller: &mut Caller,
     readers: Vec<Reader>,
     script: &Script,
     gate: &G,
 ) -> Result<Vec<u8>, WorkFault>
-    requires { All (IsOf table.now.row) readers.items }
+    requires own { IsCallerOf table.now caller.old }
+    requires readers { All (IsOf table.now.row) readers.items }
+    ensures own { IsCallerOf table.now caller.new }
 {
-    let workers = managed_workers(rt, table, readers)?;
+    let workers = managed_workers(rt, table, caller, readers)?;
     run(
         rt,
         catalogue,
-        &mut ManagedCalls::of(table),
+        &mut ManagedCalls::by_further(table, caller),
         workers,
         script,
         gate,
