@@ -2,12 +2,13 @@
 //!
 //! Premises of each claim: the callers and the reader are of this table; the steps on all words are in one order (sequentially
 //! consistent atomics). A function may not return.
-ghost use Rattle.std.specs.Prelude.{IfSome, OnOk};
+ghost use Rattle.std.specs.Prelude.{◌≡◌, ◌<◌, ◌≤◌, IfSome, MatchOption, OnOk};
 ghost use Rattle.dep_index.specs.Refusals.{reply_of, end_remove_refusal};
+ghost use Rattle.root_row.specs.World.{slots};
 ghost use Rattle.root_row.specs.Seats.{IsOf};
 ghost use Rattle.managed_table.specs.Callers.{IsCallerOf};
 ghost use Rattle.theorems.specs.Managed.{WasMadeOnce, CanBeMade, LeftUnused};
-ghost use Rattle.theorems.specs.Told.{FindsItGone};
+ghost use Rattle.theorems.specs.Told.{WereMadeInOrder, FindsItGone};
 
 use crate::told::calls_told_are_in_order;
 use dep_index::laws::legal_is_safe;
@@ -18,7 +19,7 @@ use use_indicator::Reader;
 
 /// A managed drain, or removal, that ended with Ok left no reference by any worker, through whichever caller it was taken, and no
 /// loaded module that needs the module. In every legal history that begins so, no get of the module succeeds afterwards until it
-/// is loaded again.
+/// is loaded again. None comes exactly where the slot is out of range, and nothing is then done.
 pub fn managed_drains_end_unused<R: Wait>(
     rt: &R,
     table: &ManagedTable,
@@ -27,6 +28,7 @@ pub fn managed_drains_end_unused<R: Wait>(
 ) -> Option<Result<(), EndRemoveError>>
     requires own { IsCallerOf table.now caller.old }
     ensures own { IsCallerOf table.now caller.new }
+    ensures range { MatchOption result ((slots table.now.row.world ≤ slot) × (caller.new ≡ caller.old)) (λ _. slot < slots table.now.row.world) }
     ensures once { IfSome result (λ r. WasMadeOnce table.now.row (Call.EndRemove slot) (reply_of end_remove_refusal r) caller.old caller.new) }
     ensures unused { IfSome result (λ r. OnOk r (LeftUnused table.now.row (Call.EndRemove slot) slot caller.old caller.new)) }
 {
@@ -35,7 +37,8 @@ pub fn managed_drains_end_unused<R: Wait>(
 }
 
 /// A get that was told of the end of a drain, which was answered Ok, finds the module gone: it is answered NotLive, unless a load
-/// of the module ended well between the two. The worker and the slot are in range.
+/// of the module ended well between the two. Whatever they are answered, both were made, in this order. The worker and the slot are in
+/// range.
 pub fn gets_told_of_a_drain_find_it_gone<R: Wait>(
     rt: &R,
     table: &ManagedTable,
@@ -52,6 +55,7 @@ pub fn gets_told_of_a_drain_find_it_gone<R: Wait>(
     ensures remover_own { IsCallerOf table.now remover.new }
     ensures user_own { IsCallerOf table.now user.new }
     ensures reader_own { IsOf table.now.row result.2 }
+    ensures in_order { WereMadeInOrder table.now.row (Call.EndRemove slot) result.0 remover.old remover.new (Call.Get worker slot) result.1 user.old user.new }
     ensures gone { FindsItGone table.now.row (Call.EndRemove slot) slot worker result.0 result.1 remover.old remover.new user.old user.new }
 {
     let end = Call::EndRemove(slot);

@@ -1,6 +1,7 @@
 //! Managed calls, which any thread makes.
-ghost use Rattle.std.specs.Prelude.{◌≡◌, ◌↔◌, IsSome, IfSome, IfNone, OnOk};
+ghost use Rattle.std.specs.Prelude.{◌≡◌, ◌<◌, ◌≤◌, ◌↔◌, IsSome, IfSome, IfNone, MatchOption, OnOk};
 ghost use Rattle.dep_index.specs.Refusals.{reply_of, begin_remove_refusal};
+ghost use Rattle.root_row.specs.World.{slots};
 ghost use Rattle.managed_table.specs.Callers.{IsCallerOf};
 ghost use Rattle.theorems.specs.Managed.{WasMadeOnce, CanBeMade, LeftUnused};
 
@@ -10,9 +11,10 @@ use managed_table::{Caller, ManagedTable};
 use std::sync::Wait;
 
 /// Each managed call that returns was made exactly once: its caller had one turn more, and in it the worker's leaf or the book
-/// made this one call. It was answered as the one-thread table answers it in a legal history, which begins with all that this
-/// caller had seen there, and in which removals are safe. It is not made exactly where the worker or the slot is out of range,
-/// or where it is a query, which takes no lock. It may not return.
+/// made this one call. The caller did nothing else, and no further caller came from it: callers come from callers alone, so no other
+/// call was made behind it. The call was answered as the one-thread table answers it in a legal history, which begins with all that
+/// this caller had seen there, and in which removals are safe. It is not made exactly where the worker or the slot is out of range,
+/// or where it is a query, which takes no lock. Nothing is then done. It may not return.
 ///
 /// Premises: the caller is of this table; the steps on all words are in one order (sequentially consistent atomics).
 pub fn managed_calls_are_made_once<R: Wait>(
@@ -33,7 +35,7 @@ pub fn managed_calls_are_made_once<R: Wait>(
 
 /// A managed removal that was begun with Ok found no reference by any worker, through whichever caller it was taken, and no
 /// loaded module that needs it. In every legal history that begins so, no get of the module succeeds afterwards until it is
-/// loaded again. Premises as above.
+/// loaded again. None comes exactly where the slot is out of range, and nothing is then done. Premises as above.
 pub fn managed_removals_find_no_user<R: Wait>(
     rt: &R,
     table: &ManagedTable,
@@ -42,6 +44,7 @@ pub fn managed_removals_find_no_user<R: Wait>(
 ) -> Option<Result<(), BeginRemoveError>>
     requires own { IsCallerOf table.now caller.old }
     ensures own { IsCallerOf table.now caller.new }
+    ensures range { MatchOption result ((slots table.now.row.world ≤ slot) × (caller.new ≡ caller.old)) (λ _. slot < slots table.now.row.world) }
     ensures once { IfSome result (λ r. WasMadeOnce table.now.row (Call.BeginRemove slot) (reply_of begin_remove_refusal r) caller.old caller.new) }
     ensures unused { IfSome result (λ r. OnOk r (LeftUnused table.now.row (Call.BeginRemove slot) slot caller.old caller.new)) }
 {

@@ -67,10 +67,12 @@ pub fn removals_end_unused(book: &mut Book, row: &Row, slot: usize) -> Result<()
 }
 
 /// Two leaves that meet have seen one list. It is legal, begins with what each had seen, and has of each one's calls just
-/// those that it had made.
+/// those that it had made. They come back as they were handed over.
 pub fn leaves_that_meet_have_seen_one_list(first: Leaf, second: Leaf, row: &Row) -> (Leaf, Leaf)
     requires first_own { IsOf row.now first }
     requires second_own { IsOf row.now second }
+    ensures own { IsOf row.now result.0 × IsOf row.now result.1 }
+    ensures workers { (worker_of result.0.view ≡ worker_of first.view) × (worker_of result.1.view ≡ worker_of second.view) }
     ensures one_list { seen_of result.0.view ≡ seen_of result.1.view }
     ensures begins_first { StartsWith (seen_of result.0.view) (seen_of first.view) }
     ensures begins_second { StartsWith (seen_of result.0.view) (seen_of second.view) }

@@ -19,7 +19,7 @@ pub fn queries_are_answered_as_defined(
 }
 
 /// What `--show-depends` without `--remove` answers is the same on each machine with this configuration, these texts and this
-/// folder, whatever is loaded there.
+/// folder, whatever is loaded there. The first answer is the one machine's, the second the other's.
 pub fn machines_show_the_same_depends(
     alloc: Global,
     one: &World,
@@ -28,7 +28,9 @@ pub fn machines_show_the_same_depends(
 ) -> Result<(Answer, Answer), AllocError>
     requires ask { query.now.ask ≡ ShowDepends }
     requires basis { HaveOneBasis one.now other.now }
-    ensures { IfOk result (λ answers. answers.0 ≡ answers.1) }
+    ensures same { IfOk result (λ answers. answers.0 ≡ answers.1) }
+    ensures first { IfOk result (λ answers. answers.0 ≡ answer_of one.now query.now) }
+    ensures second { IfOk result (λ answers. answers.1 ≡ answer_of other.now query.now) }
 {
     show_depends_ignores_states();
     let first = answer_to(alloc, one, query)?;

@@ -43,7 +43,8 @@ pub fn sessions_are_functions_of_their_input<R: Source, W: Sink>(
 }
 
 /// However a session stops before the end of its input, what was written is a beginning of the output that belongs to the
-/// input. So no fault has it write anything else, and where the input has no setup nothing is written.
+/// input. So no fault has it write anything else, and where the input has no setup nothing is written. One that does not stop has
+/// read all, and written all of it.
 ///
 /// Premises: those of the sentence above.
 pub fn stopped_sessions_wrote_a_beginning<R: Source, W: Sink>(
@@ -55,8 +56,11 @@ pub fn stopped_sessions_wrote_a_beginning<R: Source, W: Sink>(
     requires workers { workers ≤ 64 }
     requires reader_works { R.has_failed reader.old ≡ false }
     requires writer_works { W.has_failed writer.old ≡ false }
-    ensures { IfErr result (λ fault. IfTold (R.remaining reader.old) (λ input.
+    ensures beginning { IfErr result (λ fault. IfTold (R.remaining reader.old) (λ input.
         WritesBeginning workers input (W.contents writer.old) (W.contents writer.new))) }
+    ensures output { OnOk result (IfTold (R.remaining reader.old) (λ input.
+        (bytes : List ℕ) × (output workers input ≡ Some bytes) × Appends (W.contents writer.old) (W.contents writer.new) bytes)) }
+    ensures all_read { OnOk result (IsAtEnd (R.remaining reader.new)) }
 {
     sessions_are_functions_of_their_input(alloc, workers, reader, writer)
 }

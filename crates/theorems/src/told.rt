@@ -82,7 +82,7 @@ pub fn calls_told_are_in_order<R: Wait>(
 }
 
 /// A get that was told of a removal which was answered Ok finds the module gone: it is answered NotLive, unless a load of the
-/// module ended well between the two.
+/// module ended well between the two. Whatever they are answered, both were made, in this order.
 pub fn gets_told_of_a_removal_find_it_gone<R: Wait>(
     rt: &R,
     table: &ManagedTable,
@@ -99,6 +99,7 @@ pub fn gets_told_of_a_removal_find_it_gone<R: Wait>(
     ensures remover_own { IsCallerOf table.now remover.new }
     ensures user_own { IsCallerOf table.now user.new }
     ensures reader_own { IsOf table.now.row result.2 }
+    ensures in_order { WereMadeInOrder table.now.row (Call.BeginRemove slot) result.0 remover.old remover.new (Call.Get worker slot) result.1 user.old user.new }
     ensures gone { FindsItGone table.now.row (Call.BeginRemove slot) slot worker result.0 result.1 remover.old remover.new user.old user.new }
 {
     let removal = Call::BeginRemove(slot);

@@ -2,8 +2,8 @@ use Rattle.std.proofs.Common.{◌∙◌, ap, sym}
 use Rattle.modprobe_files.specs.Files.{counted_files}
 use Rattle.theorems.proofs.files.hidden_files_have_no_influence.Goals as goal
 
-pub returns : goal.returns
-returns c =
+pub returns-clause-same : goal.returns-clause-same
+returns-clause-same c =
     let more = c.requires in
     c.in_ok-first.ensures
     ∙ ap counted_files more.has_it

@@ -3,5 +3,5 @@ use Rattle.root_row.specs.Views.{count_of}
 use Rattle.theorems.proofs.Loading.{otherwise}
 use Rattle.theorems.proofs.loads.puts_of_held_modules_make_one_load.Goals as goal
 
-pub returns : goal.returns
-returns c = record { load = otherwise _ _ _ (ne_eqb (count_of c.args.leaf.now.view c.args.slot) 1 (λ e. omega (arith, e, c.requires.held))) c.put.ensures.steps }
+pub returns-clause-load : goal.returns-clause-load
+returns-clause-load c = otherwise _ _ _ (ne_eqb (count_of c.args.leaf.now.view c.args.slot) 1 (λ e. omega (arith, e, c.requires.held))) c.put.ensures.steps

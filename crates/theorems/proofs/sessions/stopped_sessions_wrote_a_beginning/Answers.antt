@@ -5,8 +5,8 @@ use Rattle.theorems.specs.Sessions.{WritesBeginning}
 use Rattle.theorems.proofs.Beginning.{stands_begins}
 use Rattle.theorems.proofs.sessions.stopped_sessions_wrote_a_beginning.Goals as goal
 
-pub returns : goal.returns
-returns g c =
+pub returns-clause-beginning : goal.returns-clause-beginning
+returns-clause-beginning g c =
     let told = g.R.Source.remaining c.args.reader.now in
     let left = g.R.Source.remaining c.sessions_are_functions_of_their_input.new.reader in
     let held = g.W.Sink.contents c.args.writer.now in
