@@ -13,11 +13,13 @@ abbrev pub ReadInto : Result (List Description) (Refusal × ℕ) → Bool → �
 ReadInto read was_full number was line full held =
     MatchBool (number == 0) ((full ≡ true) × (read ≡ Ok held) × (line ≡ was)) ((full ≡ was_full) × FaultTold number was line read)
 
--- the slot of a name, or what was there
+-- the slot that was found; or none was, and what was there stays
+abbrev pub SlotFound : Option ℕ → ℕ → ℕ → ℕ → Type 0
+SlotFound found was number slot = MatchOption found ((number ≡ unknown_name) × (slot ≡ was)) (λ s. (number ≡ 0) × (slot ≡ s))
+
+-- the same of a name, for whose normal form there may have been no memory
 abbrev pub SlotTold : Option ℕ → ℕ → ℕ → ℕ → Type 0
-SlotTold found was number slot =
-    MatchBool (number == out_of_memory) (slot ≡ was)
-    (MatchOption found ((number ≡ unknown_name) × (slot ≡ was)) (λ s. (number ≡ 0) × (slot ≡ s)))
+SlotTold found was number slot = MatchBool (number == out_of_memory) (slot ≡ was) (SlotFound found was number slot)
 
 -- the need at a place of a slot's needs, or what was there
 abbrev pub NeedTold : List Description → ℕ → ℕ → ℕ → ℕ → ℕ → Type 0

@@ -3,7 +3,8 @@ ghost use Rattle.std.specs.Prelude.{◌≡◌, ℕ, true, false, List, length, R
 ghost use Rattle.text_parts.specs.Text.{normal_form};
 ghost use Rattle.dep_index.specs.Catalogue.{Description, Refusal, catalogue_of, slot_named};
 ghost use Rattle.dep_index.specs.Faults.{IsFirstFault};
-ghost use Rattle.gourzhiel.specs.Naming.{ReadInto, SlotTold, NeedTold, NameTold, FaultTold};
+ghost use Rattle.gourzhiel.specs.Numbers.{out_of_memory};
+ghost use Rattle.gourzhiel.specs.Naming.{ReadInto, SlotFound, SlotTold, NeedTold, NameTold, FaultTold};
 
 use crate::handles::GzCatalogue;
 use crate::numbers::{
@@ -11,12 +12,14 @@ use crate::numbers::{
     TWICE_EXPORTED, UNKNOWN_NAME,
 };
 use crate::parts::{Parts, hand_out};
-use dep_index::{CatError, read_catalogue};
+use dep_index::{CatError, Catalogue, read_catalogue};
 use std::alloc::Global;
 use text_parts::Name;
 
+// A want of memory has its number, and no fault of the text has it.
 fn fault(error: CatError, told: &mut usize) -> u32
-    ensures { (read : Result (List Description) (Refusal × ℕ)) → IsFirstFault error read → FaultTold result told.old told.new read }
+    ensures memory { result ≡ out_of_memory → error ≡ CatError.Memory }
+    ensures fault { (read : Result (List Description) (Refusal × ℕ)) → IsFirstFault error read → FaultTold result told.old told.new read }
 {
     let (number, line) = match error {
         CatError::Bad { line } => (BAD_LINE, line),
@@ -83,7 +86,14 @@ pub extern "C" fn gz_catalogue_slot(
     let Ok(normal) = Name::new(alloc, name) else {
         return OUT_OF_MEMORY;
     };
-    match catalogue.lend().slot(normal.as_bytes()) {
+    tell_slot(catalogue.lend(), normal.as_bytes(), slot)
+}
+
+// Once the name is in normal form there is no want of memory.
+fn tell_slot(catalogue: &Catalogue, normal: &[u8], slot: &mut usize) -> u32
+    ensures { SlotFound (slot_named catalogue.now normal.now) slot.old result slot.new }
+{
+    match catalogue.slot(normal) {
         None => UNKNOWN_NAME,
         Some(found) => {
             *slot = found;
