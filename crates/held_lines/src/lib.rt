@@ -1,0 +1,22 @@
+//! A table of modules with named holders: what a line is answered, and what it leaves.
+#![tactic(auto)]
+
+mod asked;
+mod by_name;
+mod found;
+mod gets;
+mod gives;
+mod guest;
+mod holders;
+pub mod laws;
+mod listing;
+mod puts;
+mod reply;
+mod session;
+mod takes;
+mod through;
+
+pub use asked::Reference;
+pub use holders::Holders;
+pub use reply::HeldReply;
+pub use session::HeldSession;

@@ -1,0 +1,115 @@
+//! Lines over a table with holders.
+ghost use Rattle.std.specs.Prelude.{◌≡◌, IfOk, OnOk, OnErr};
+ghost use Rattle.dep_index.specs.Catalogue.{modules_of};
+ghost use Rattle.held_lines.specs.Held.{holding};
+
+use crate::asked::{Asked, parse};
+use crate::by_name::{refer, what_is_held, who_holds};
+use crate::gives::{release, release_all};
+use crate::holders::Holders;
+use crate::listing::all_text;
+use crate::reply::{HeldReply, refuse};
+use crate::takes::hold;
+use crate::through::{as_session, make_half};
+use modprobe::{Code, Reply, Setup};
+use seq_table::Modules;
+use std::alloc::{AllocError, Global};
+use text_parts::{is_comment, words};
+
+/// A table with holders over the catalogue of a setup, and the lines that it answers.
+#[derive(Drop)]
+pub struct HeldSession<'s, H: Holders> {
+    setup: &'s Setup,
+    holders: H,
+    ghost over: { H.catalogue holders ≡ modules_of setup.now.catalogue },
+}
+
+impl<'s, H: Holders> HeldSession<'s, H> {
+    ghost use Rattle.held_lines.specs.Lines.{asked_of};
+    ghost use Rattle.held_lines.specs.Outcomes.{asked_outcome, held_line_outcome};
+    ghost use Rattle.held_lines.specs.ForProofs.{Answers, asked_from};
+    ghost use Rattle.held_lines.specs.Laws.{KeepsHeld};
+
+    /// Uses a table over the catalogue of a setup. It changes nothing.
+    pub fn new(setup: &'s Setup, holders: H) -> HeldSession<'s, H>
+        requires { H.catalogue holders ≡ modules_of setup.now.catalogue }
+        ensures setup { result.setup ≡ setup.entry }
+        ensures holders { result.holders ≡ holders }
+    {
+        HeldSession { setup, holders }
+    }
+
+    /// The table with its holders.
+    pub fn holders(&self) -> &H
+        ensures { result.now ≡ self.now.holders }
+    {
+        &self.holders
+    }
+
+    /// Makes what a line asks for, and answers its reply, by `held_line_outcome`. The table and its holders are those after
+    /// it. Whatever the line is, no module that anybody held before it is removed.
+    ///
+    /// Out of memory, all is as before: all memory is taken before the first change, or what was changed is undone.
+    pub fn perform(&mut self, alloc: Global, line: &[u8]) -> Result<HeldReply, AllocError>
+        ensures answers { IfOk result (λ r. Answers r (holding (H.table self.old.holders) (H.names self.old.holders)) (holding (H.table self.new.holders) (H.names self.new.holders))
+            (held_line_outcome self.old.setup.now (holding (H.table self.old.holders) (H.names self.old.holders)) line.now)) }
+        ensures held { OnOk result (KeepsHeld (H.table self.old.holders) (H.table self.new.holders)) }
+        ensures unchanged { OnErr result (holding (H.table self.new.holders) (H.names self.new.holders) ≡ holding (H.table self.old.holders) (H.names self.old.holders)) }
+        ensures setup { self.new.setup ≡ self.old.setup }
+    {
+        self.holders.laws();
+        let answer = self.answer_line(alloc, line);
+        self.holders.laws();
+        answer
+    }
+
+    /// Makes what a line asks for.
+    #[tactic(auto, unfolding(crate::specs::Outcomes::held_line_outcome))]
+    fn answer_line(&mut self, alloc: Global, line: &[u8]) -> Result<HeldReply, AllocError>
+        ensures answers { IfOk result (λ r. Answers r (holding (H.table self.old.holders) (H.names self.old.holders)) (holding (H.table self.new.holders) (H.names self.new.holders))
+            (held_line_outcome self.old.setup.now (holding (H.table self.old.holders) (H.names self.old.holders)) line.now)) }
+        ensures unchanged { OnErr result (holding (H.table self.new.holders) (H.names self.new.holders) ≡ holding (H.table self.old.holders) (H.names self.old.holders)) }
+        ensures setup { self.new.setup ≡ self.old.setup }
+    {
+        if is_comment(line) {
+            return as_session(alloc, self.setup, &mut self.holders, line);
+        }
+        let words = words(alloc, line)?;
+        let asked = parse(alloc, &words)?;
+        self.answer(alloc, line, asked)
+    }
+
+    /// Makes what is asked for.
+    fn answer(
+        &mut self,
+        alloc: Global,
+        line: &[u8],
+        asked: Asked<'_>,
+    ) -> Result<HeldReply, AllocError>
+        requires { asked_from asked ≡ asked_of line.now }
+        ensures answers { IfOk result (λ r. Answers r (holding (H.table self.old.holders) (H.names self.old.holders)) (holding (H.table self.new.holders) (H.names self.new.holders))
+            (asked_outcome self.old.setup.now (holding (H.table self.old.holders) (H.names self.old.holders)) line.now (asked_from asked.entry))) }
+        ensures unchanged { OnErr result (holding (H.table self.new.holders) (H.names self.new.holders) ≡ holding (H.table self.old.holders) (H.names self.old.holders)) }
+        ensures setup { self.new.setup ≡ self.old.setup }
+    {
+        let (setup, holders) = (self.setup, &mut self.holders);
+        match asked {
+            Asked::AsSession => as_session(alloc, setup, holders, line),
+            Asked::Malformed(first) => refuse(alloc, Code::Syntax, first),
+            Asked::Refer(reference, holder, name) => {
+                refer(alloc, setup, holders, reference, holder, &name)
+            }
+            Asked::Half(half, name) => make_half(alloc, setup, holders, half, &name),
+            Asked::Hold(again, holder, names) => {
+                hold(alloc, setup, holders, again, holder, names)
+            }
+            Asked::Release(holder, names) => release(alloc, setup, holders, &holder, names),
+            Asked::ReleaseAll(holder) => release_all(alloc, holders, &holder),
+            Asked::Holders(name) => Ok(HeldReply::of(who_holds(alloc, setup, holders, &name)?)),
+            Asked::HeldBy(holder) => {
+                Ok(HeldReply::of(what_is_held(alloc, setup, holders, &holder)?))
+            }
+            Asked::Held => Ok(HeldReply::of(Reply::says(all_text(alloc, setup, holders)?))),
+        }
+    }
+}
