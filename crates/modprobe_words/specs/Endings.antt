@@ -1,5 +1,7 @@
 -- What ends a command line before a query is answered.
-use Rattle.std.specs.Prelude.{ℕ, if◌then◌else◌, List, [], ◌∷◌, Option, Some, None}
+use Rattle.std.specs.Prelude.{◌≡◌, ℕ, if◌then◌else◌, List, [], ◌∷◌, Option, Some, None}
+use Rattle.std.specs.Io.KnownBytes.{Appends}
+use Rattle.modprobe_words.specs.declared.help.TheConstants.{HELP, VERSION}
 use Rattle.modprobe_words.specs.declared.options.Switch.TheVariants as switch
 use Rattle.modprobe_words.specs.declared.options.Valued.TheVariants as valued
 use Rattle.modprobe_words.specs.declared.endings.Ending.{Ending as CodeEnding}
@@ -31,6 +33,22 @@ or_later (Some first) later = Some first
 abbrev pub first_ending : List Item → Option Ending
 first_ending [] = None
 first_ending (item ∷ items) = or_later (ending_of item) (first_ending items)
+
+-- the text that an ending shows on standard output; a refusal shows none there
+abbrev pub shown_by : Ending → Option (List ℕ)
+shown_by version = Some VERSION.now
+shown_by help = Some HELP.now
+shown_by (bad_wait text) = None
+shown_by (refused why) = None
+
+-- the status where a text is to be shown is 0 only if it was written, and where there is none, it is 1
+abbrev pub IsShown : Option (List ℕ) → Option (List ℕ) → Option (List ℕ) → ℕ → Type 0
+IsShown None before after status = status ≡ 1
+IsShown (Some text) before after status = status ≡ 0 → Appends before after text
+
+-- how an ending ends the program, by what standard output has before and after, and the status
+abbrev pub IsEnded : Ending → Option (List ℕ) → Option (List ℕ) → ℕ → Type 0
+IsEnded ending before after status = IsShown (shown_by ending) before after status
 
 -- how contracts see the code's
 abbrev pub seen : CodeEnding → Ending

@@ -16,6 +16,7 @@ mod told_endings;
 mod variable;
 mod wishes;
 mod words;
+mod written;
 
 pub use arguments::{given_options, given_words};
 pub use asked::Asked;
@@ -29,3 +30,4 @@ pub use told_endings::end_early;
 pub use variable::variable_words;
 pub use wishes::Wish;
 pub use words::read_words;
+pub use written::{Written, write_whole};

@@ -1,5 +1,6 @@
 //! What people are told where a command line ends before a query is answered.
-ghost use Rattle.std.specs.Prelude.{◌≤◌};
+ghost use Rattle.std.specs.Prelude.{◌≡◌, ◌≤◌, None, option_map};
+ghost use Rattle.modprobe_words.specs.Endings.{IsEnded, seen, shown_by};
 
 use crate::endings::Ending;
 use crate::found::{is_alike, is_near};
@@ -8,6 +9,7 @@ use crate::items::Fault;
 use crate::long_words::name_part;
 use crate::messages::{tell_line, write_parts};
 use crate::options::{LONG_OPTIONS, LongOption};
+use crate::written::{Written, write_whole};
 use std::io::Write;
 
 /// Tells the options that a word may stand for: the first, and those that mean another thing.
@@ -66,25 +68,43 @@ fn tell_fault<E: Write>(fault: Fault<'_>, errors: &mut E) {
     }
 }
 
+/// The text that an ending shows on standard output, if it shows one.
+fn shown_by(ending: Ending<'_>) -> Option<&'static str>
+    ensures { option_map (λ text. text.now) result ≡ shown_by (seen ending.entry) }
+{
+    match ending {
+        Ending::Version => Some(VERSION),
+        Ending::Help => Some(HELP),
+        Ending::BadWait(_) | Ending::Refused(_) => None,
+    }
+}
+
+/// Tells why an ending refuses words, if it does.
+fn tell_why<E: Write>(ending: Ending<'_>, errors: &mut E) {
+    match ending {
+        Ending::BadWait(text) => {
+            tell_line(errors, b"ERROR: unexpected wait value '", text, b"'.");
+        }
+        Ending::Refused(fault) => tell_fault(fault, errors),
+        Ending::Version | Ending::Help => {}
+    }
+}
+
 /// Ends the program where a word says so: the version and the help go to `output`, and why words are refused to `errors`.
 /// The exit status is answered: 0, or 1 where words are refused or the output was not written.
 pub fn end_early<O: Write, E: Write>(ending: Ending<'_>, output: &mut O, errors: &mut E) -> u8
-    ensures { result ≤ 1 }
+    ensures status { result ≤ 1 }
+    ensures end { IsEnded (seen ending.entry) (O.contents output.old) (O.contents output.new) result }
+    ensures silent { shown_by (seen ending.entry) ≡ None → output.new ≡ output.old }
 {
-    let text = match ending {
-        Ending::Version => VERSION,
-        Ending::Help => HELP,
-        Ending::BadWait(text) => {
-            tell_line(errors, b"ERROR: unexpected wait value '", text, b"'.");
-            return 1;
+    match shown_by(ending) {
+        Some(text) => match write_whole(output, text.as_bytes()) {
+            Written::Whole => 0,
+            Written::Closed | Written::Failed => 1,
+        },
+        None => {
+            tell_why(ending, errors);
+            1
         }
-        Ending::Refused(fault) => {
-            tell_fault(fault, errors);
-            return 1;
-        }
-    };
-    match output.write_all(text.as_bytes()) {
-        Ok(()) => 0,
-        Err(_) => 1,
     }
 }
