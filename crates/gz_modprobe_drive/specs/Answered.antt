@@ -1,5 +1,5 @@
 -- What a query is answered, by the texts and the states of a machine.
-use Rattle.std.specs.Prelude.{◌≡◌, ℕ, Bool, not, ◌||◌, List, if◌then◌else◌}
+use Rattle.std.specs.Prelude.{◌≡◌, ℕ, Bool, true, false, not, ◌||◌, List, if◌then◌else◌}
 use Rattle.kmod_conf.specs.Configuration.{Configuration}
 use Rattle.kmod_index.specs.Indexes.{Indexes}
 use Rattle.kmod_query.specs.declared.query.Query.{Query}
@@ -7,6 +7,8 @@ use Rattle.kmod_query.specs.declared.states.ModuleStatus.{ModuleStatus}
 use Rattle.kmod_query.specs.declared.world.World.{World}
 use Rattle.kmod_query.specs.AnswerOf.{answer_of}
 use Rattle.kmod_query.specs.Answers.{Answer}
+use Rattle.modprobe_words.specs.declared.written.Written.{Written}
+use Rattle.modprobe_words.specs.declared.written.Written.TheVariants as written
 use Rattle.gz_modprobe_drive.specs.declared.texts.Machine.{Machine}
 use Rattle.gz_modprobe_drive.specs.Texts.{conf_of, index_of}
 
@@ -33,5 +35,11 @@ pub record IsAnswer (known : Known) (query : Query) (answer : Answer) : Type 0 w
   pub has : known_of world ≡ known
   pub is : answer ≡ answer_of world query
 
-abbrev pub status_of : Answer → Bool → ℕ
-status_of answer is_written = if answer.failed || not is_written then 1 else 0
+abbrev pub is_whole : Written → Bool
+is_whole written.Whole = true
+is_whole written.Closed = false
+is_whole written.Failed = false
+
+-- 1 where a name failed, or the answer was not written whole
+abbrev pub status_of : Answer → Written → ℕ
+status_of answer how = if answer.failed || not (is_whole how) then 1 else 0

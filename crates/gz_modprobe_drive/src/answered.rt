@@ -1,7 +1,8 @@
 //! An answer, from the texts of a machine to a stream.
-ghost use Rattle.std.specs.Prelude.{◌≡◌, IfOk, IsTrue};
+ghost use Rattle.std.specs.Prelude.{◌≡◌, IfOk};
 ghost use Rattle.std.specs.Io.KnownBytes.{Appends};
 ghost use Rattle.kmod_query.specs.AnswerOf.{answer_of};
+ghost use Rattle.modprobe_words.specs.declared.written.Written.TheVariants.{Whole};
 ghost use Rattle.gz_modprobe_drive.specs.Answered.{IsAnswer, said_by, status_of};
 ghost use Rattle.gz_modprobe_drive.specs.Texts.{IsConfOf};
 
@@ -10,37 +11,26 @@ use crate::folder::index_of;
 use crate::texts::Machine;
 use kmod_conf::Conf;
 use kmod_query::{Answer, Query, World, answer_to};
-use modprobe_words::Messages;
+use modprobe_words::{Messages, Written, write_whole};
 use std::alloc::{AllocError, Global};
 use std::io::Write;
 
-/// An answer, and whether its output was written.
+/// An answer, and how its output was written.
 #[derive(Drop)]
 pub(crate) struct Answered {
     pub(crate) answer: Answer,
-    pub(crate) is_written: bool,
+    pub(crate) written: Written,
 }
 
 impl Answered {
     /// The exit status: 1 where a name failed, or the output was not written.
     pub(crate) fn status(&self) -> u8
-        ensures { result ≡ status_of self.now.answer self.now.is_written }
+        ensures { result ≡ status_of self.now.answer self.now.written }
     {
-        if self.answer.has_failed() || !self.is_written {
-            1
-        } else {
-            0
+        match self.written {
+            Written::Whole if !self.answer.has_failed() => 0,
+            _ => 1,
         }
-    }
-}
-
-/// Writes a text to its end. Whether that went well is answered.
-fn writes<O: Write>(output: &mut O, text: &[u8]) -> bool
-    ensures { IsTrue result → Appends (O.contents output.old) (O.contents output.new) text.now }
-{
-    match output.write_all(text) {
-        Ok(()) => output.flush().is_ok(),
-        Err(_) => false,
     }
 }
 
@@ -55,12 +45,12 @@ fn answer_world<O: Write, E: Write>(
     messages: &mut Messages<'_, E>,
 ) -> Result<Answered, AllocError>
     ensures answer { IfOk result (λ own. own.answer ≡ answer_of world.now query.now) }
-    ensures written { IfOk result (λ own. IsTrue own.is_written → Appends (O.contents output.old) (O.contents output.new) own.answer.output) }
+    ensures written { IfOk result (λ own. own.written ≡ Whole → Appends (O.contents output.old) (O.contents output.new) own.answer.output) }
 {
     let answer = answer_to(alloc, world, query)?;
-    let is_written = writes(output, answer.output());
+    let written = write_whole(output, answer.output());
     explain(alloc, machine, world, query, messages);
-    Ok(Answered { answer, is_written })
+    Ok(Answered { answer, written })
 }
 
 /// Answers a query from the texts and states of a machine, and writes the answer's output, whether it is explained or not.
@@ -76,7 +66,7 @@ pub(crate) fn answer_machine<O: Write, E: Write>(
 ) -> Result<Answered, AllocError>
     requires { IsConfOf machine.now.conf.now conf.now }
     ensures answer { IfOk result (λ own. IsAnswer (said_by machine.now) query.now own.answer) }
-    ensures written { IfOk result (λ own. IsTrue own.is_written → Appends (O.contents output.old) (O.contents output.new) own.answer.output) }
+    ensures written { IfOk result (λ own. own.written ≡ Whole → Appends (O.contents output.old) (O.contents output.new) own.answer.output) }
 {
     let index = index_of(alloc, machine.modules)?;
     let world = World {

@@ -10,13 +10,11 @@ use crate::texts::Machine;
 use kmod_conf::Conf;
 use kmod_query::{Query, States};
 use modprobe_files::{
-    ConfTexts, Host, ModuleTexts, directory, is_rootless, read_configuration, read_modules,
+    ConfTexts, Host, ModuleTexts, System, directory, is_rootless, read_configuration, read_modules,
 };
-use modprobe_words::{Asked, Level, Messages};
+use modprobe_words::{Asked, Level, Messages, Written};
 use std::alloc::{AllocError, Global};
-use std::env::Env;
 use std::io::Write;
-use std::rt::Files;
 
 /// Tells the lines of the configuration that say nothing.
 fn tell_bad_lines<E: Write>(
@@ -36,9 +34,9 @@ fn tell_bad_lines<E: Write>(
     Ok(())
 }
 
-/// Tells what is wrong with an answer. The status is answered.
-fn tell_answered<R: Files + AllocGlobal, E: Write>(
-    host: &Host<'_, R>,
+/// Tells what is wrong with an answer; that nobody reads it is nothing to tell. The status is answered.
+fn tell_answered<S: System, E: Write>(
+    host: &Host<'_, S>,
     answered: &Answered,
     query: &Query<'_>,
     directory: &[u8],
@@ -46,7 +44,7 @@ fn tell_answered<R: Files + AllocGlobal, E: Write>(
 ) -> Result<u8, AllocError>
     ensures { IfOk result (λ status. status ≤ 1) }
 {
-    if !answered.is_written {
+    if matches!(answered.written, Written::Failed) {
         let text = b"standard output cannot be written";
         messages.tell_always(Level::Error, text, b"", b"", b"");
     }
@@ -56,8 +54,8 @@ fn tell_answered<R: Files + AllocGlobal, E: Write>(
 
 /// Takes the configuration from its texts and tells what is wrong with it, answers a query, and tells what failed. The
 /// status is answered.
-fn answer_by<R: Files + AllocGlobal, O: Write, E: Write>(
-    host: &Host<'_, R>,
+fn answer_by<S: System, O: Write, E: Write>(
+    host: &Host<'_, S>,
     machine: &Machine<'_>,
     query: &Query<'_>,
     output: &mut O,
@@ -65,7 +63,7 @@ fn answer_by<R: Files + AllocGlobal, O: Write, E: Write>(
 ) -> Result<u8, AllocError>
     ensures { IfOk result (λ status. status ≤ 1) }
 {
-    let alloc = host.rt.alloc();
+    let alloc = host.alloc();
     let conf = conf_of(alloc, machine.conf)?;
     tell_bad_lines(alloc, machine.conf, &conf, messages)?;
     let answered = answer_machine(alloc, machine, &conf, query, output, messages)?;
@@ -73,8 +71,8 @@ fn answer_by<R: Files + AllocGlobal, O: Write, E: Write>(
 }
 
 /// Reads the states that a query asks of, and answers it from texts and states. The status is answered.
-fn answer_from<R: Files + AllocGlobal, O: Write, E: Write>(
-    host: &Host<'_, R>,
+fn answer_from<S: System, O: Write, E: Write>(
+    host: &Host<'_, S>,
     conf: &ConfTexts,
     modules: &ModuleTexts,
     directory: &[u8],
@@ -84,7 +82,7 @@ fn answer_from<R: Files + AllocGlobal, O: Write, E: Write>(
 ) -> Result<u8, AllocError>
     ensures { IfOk result (λ status. status ≤ 1) }
 {
-    let mut states = States::new(host.rt.alloc());
+    let mut states = States::new(host.alloc());
     if asks_states(query.ask) {
         add_states(host, &mut states, messages)?;
     }
@@ -99,8 +97,8 @@ fn answer_from<R: Files + AllocGlobal, O: Write, E: Write>(
 
 /// Reads what counts for a folder of modules: the configuration and the folder's texts. Then it answers a query from them.
 /// The status is answered.
-fn answer_in<R: Files + AllocGlobal, O: Write, E: Write>(
-    host: &Host<'_, R>,
+fn answer_in<S: System, O: Write, E: Write>(
+    host: &Host<'_, S>,
     configurations: &[&[u8]],
     directory: &[u8],
     query: &Query<'_>,
@@ -115,8 +113,8 @@ fn answer_in<R: Files + AllocGlobal, O: Write, E: Write>(
 }
 
 /// Reads what a query asks of, and answers it. The status is answered.
-pub(crate) fn answer_query<R: Files + Env + AllocGlobal, O: Write, E: Write>(
-    host: &Host<'_, R>,
+pub(crate) fn answer_query<S: System, O: Write, E: Write>(
+    host: &Host<'_, S>,
     asked: &Asked<'_>,
     query: &Query<'_>,
     output: &mut O,
@@ -124,7 +122,7 @@ pub(crate) fn answer_query<R: Files + Env + AllocGlobal, O: Write, E: Write>(
 ) -> Result<u8, AllocError>
     ensures { IfOk result (λ status. status ≤ 1) }
 {
-    if is_rootless(host, messages)? {
+    if is_rootless(host, asked.root.unwrap_or(b""), messages)? {
         return Ok(1);
     }
     match directory(host, asked, messages)? {

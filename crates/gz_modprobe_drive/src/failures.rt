@@ -2,11 +2,10 @@
 
 use kmod_names::{Text, name_of_path};
 use kmod_query::{Answer, Failure, Query};
-use modprobe_files::{Host, tell_folder};
+use modprobe_files::{Host, System, tell_folder};
 use modprobe_words::{Level, Messages};
 use std::alloc::{AllocError, Global};
 use std::io::Write;
-use std::rt::Files;
 
 /// Tells why a name was not answered.
 fn tell_failure<E: Write>(
@@ -41,13 +40,21 @@ fn tell_failure<E: Write>(
     messages.tell(level, b"Module ", name.as_bytes(), what, more);
 }
 
+/// What the names of modules' files end with.
+const ENDINGS: [&[u8]; 4] = [b".ko", b".ko.gz", b".ko.xz", b".ko.zst"];
+
+/// Whether a word is a path, or the name of a module's file.
+fn is_path(word: &[u8]) -> bool {
+    word.contains(&b'/') || ENDINGS.iter().any(|ending| word.ends_with(*ending))
+}
+
 /// Tells of a word that was not found whether it is a path.
 fn tell_path<E: Write>(
     alloc: Global,
     word: &[u8],
     messages: &mut Messages<'_, E>,
 ) -> Result<(), AllocError> {
-    if word.contains(&b'/') {
+    if is_path(word) {
         let name = name_of_path(alloc, word)?;
         let text = b" is a path: the name of its module is ";
         messages.tell(Level::Notice, word, text, name.as_bytes(), b"");
@@ -56,8 +63,8 @@ fn tell_path<E: Write>(
 }
 
 /// Tells why names were not answered, and what is wrong with their folder of modules.
-pub(crate) fn tell_failures<R: Files + AllocGlobal, E: Write>(
-    host: &Host<'_, R>,
+pub(crate) fn tell_failures<S: System, E: Write>(
+    host: &Host<'_, S>,
     answer: &Answer,
     query: &Query<'_>,
     directory: &[u8],
@@ -68,7 +75,7 @@ pub(crate) fn tell_failures<R: Files + AllocGlobal, E: Write>(
         tell_failure(failure, query, directory, messages);
         if let Failure::NotFound(word) = failure {
             is_found = false;
-            tell_path(host.rt.alloc(), word.as_bytes(), messages)?;
+            tell_path(host.alloc(), word.as_bytes(), messages)?;
         }
     }
     if !is_found {

@@ -1,10 +1,12 @@
 //! The program over any words, files and streams.
-ghost use Rattle.std.specs.Prelude.{◌≤◌, IfOk};
+ghost use Rattle.std.specs.Prelude.{◌≡◌, ◌≤◌, ◌++◌, IfOk, OnOk};
+ghost use Rattle.text_parts.specs.Text.{texts_of};
+ghost use Rattle.modprobe_words.specs.Variable.{bytes_of};
 
 use crate::answering::answer_query;
 use crate::queries::query_of;
 use crate::refusals::tell_refusal;
-use modprobe_files::Host;
+use modprobe_files::{Disk, Host};
 use modprobe_words::{Asked, Messages, end_early, first_ending, read_words, variable_words};
 use std::alloc::{AllocError, Global};
 use std::env::Env;
@@ -25,10 +27,11 @@ fn answer_asked<R: Files + Env + AllocGlobal, O: Write, E: Write>(
         tell_refusal(wish, errors);
         return Ok(1);
     };
-    let host = Host {
+    let disk = Disk {
         rt,
         root: asked.root.unwrap_or(b""),
     };
+    let host = Host { system: &disk };
     let mut messages = Messages {
         errors,
         verbosity: asked.switches.verbosity,
@@ -37,16 +40,27 @@ fn answer_asked<R: Files + Env + AllocGlobal, O: Write, E: Write>(
     answer_query(&host, asked, &query, output, &mut messages)
 }
 
+/// Adds words.
+fn push_words<'a>(all: &mut Vec<&'a [u8]>, words: &'a [Vec<u8>]) -> Result<(), AllocError>
+    ensures { OnOk result (texts_of all.new.items ≡ texts_of all.old.items ++ bytes_of words.entry.now) }
+{
+    for word in words {
+        all.push(word.as_slice())?;
+    }
+    Ok(())
+}
+
 /// The words of the variable, and those of the command line after them.
 fn all_words<'a>(
     alloc: Global,
     own: &'a [Vec<u8>],
     words: &'a [Vec<u8>],
-) -> Result<Vec<&'a [u8]>, AllocError> {
+) -> Result<Vec<&'a [u8]>, AllocError>
+    ensures { IfOk result (λ all. texts_of all.items ≡ bytes_of own.entry.now ++ bytes_of words.entry.now) }
+{
     let mut all = Vec::new(alloc);
-    for word in own.iter().chain(words) {
-        all.push(word.as_slice())?;
-    }
+    push_words(&mut all, own)?;
+    push_words(&mut all, words)?;
     Ok(all)
 }
 

@@ -2,14 +2,14 @@
 ghost use Rattle.std.specs.Prelude.{◌≡◌, ◌≤◌, length};
 ghost use Rattle.std.specs.List.{prefix_len};
 ghost use Rattle.text_parts.specs.Text.{is_digit};
-ghost use Rattle.gz_modprobe_drive.specs.Sys.{begins_with_space, count_of, number_of, state_of};
+ghost use Rattle.modprobe_words.specs.Asked.{text_of};
+ghost use Rattle.gz_modprobe_drive.specs.Sys.{begins_with_space, count_of, number_of, state_of, status_by};
 
 use kmod_query::{ModuleState, ModuleStatus, States};
-use modprobe_files::{Host, Kind, joined, tell_unread};
+use modprobe_files::{Host, Kind, System, joined, tell_unread};
 use modprobe_words::{Messages, behind_spaces, is_digit, is_space};
 use std::alloc::AllocError;
 use std::io::{ErrorKind, Write};
-use std::rt::Files;
 use text_parts::{is_same, number_within};
 
 const MODULES: &[u8] = b"/sys/module";
@@ -63,69 +63,71 @@ fn count_of(text: &[u8]) -> Option<u64>
 }
 
 /// The text of a file of a module's folder; None where it has none that can be read.
-fn text_in<R: Files + AllocGlobal>(
-    host: &Host<'_, R>,
+fn text_in<S: System>(
+    host: &Host<'_, S>,
     folder: &[u8],
     name: &[u8],
 ) -> Result<Option<Vec<u8>>, AllocError> {
-    match host.read(&joined(host.rt.alloc(), folder, b"/", name)?) {
+    match host.read(&joined(host.alloc(), folder, b"/", name)?) {
         Ok(text) => Ok(Some(text)),
         Err(error) if error.kind() == ErrorKind::OutOfMemory => Err(AllocError),
         Err(_) => Ok(None),
     }
 }
 
-/// The state that the folder of a module tells; None where it tells nothing.
-fn state_in<R: Files + AllocGlobal>(
-    host: &Host<'_, R>,
-    folder: &[u8],
-) -> Result<Option<ModuleState>, AllocError> {
-    if let Some(text) = text_in(host, folder, b"initstate")? {
-        return Ok(Some(state_of(&text)));
-    }
-    match host.kind(folder)? {
-        Kind::Folder => Ok(Some(ModuleState::Folder)),
-        _ => Ok(None),
-    }
+/// What a module tells by its `initstate`, its folder and its `refcnt`; None where it tells nothing. Without `initstate` it
+/// is its folder that tells.
+fn status_by(initstate: Option<&[u8]>, folder: Kind, refcnt: Option<&[u8]>) -> Option<ModuleStatus>
+    ensures { result ≡ status_by (text_of initstate.entry) folder (text_of refcnt.entry) }
+{
+    let state = match (initstate, folder) {
+        (Some(text), _) => state_of(text),
+        (None, Kind::Folder) => ModuleState::Folder,
+        (None, _) => return None,
+    };
+    let users = match refcnt {
+        Some(text) => count_of(text),
+        None => None,
+    };
+    Some(ModuleStatus { state, users })
 }
 
 /// What the folder of a module tells; None where it tells nothing.
-fn status_of<R: Files + AllocGlobal>(
-    host: &Host<'_, R>,
+fn status_of<S: System>(
+    host: &Host<'_, S>,
     folder: &[u8],
 ) -> Result<Option<ModuleStatus>, AllocError> {
-    let Some(state) = state_in(host, folder)? else {
-        return Ok(None);
+    let initstate = text_in(host, folder, b"initstate")?;
+    let refcnt = text_in(host, folder, b"refcnt")?;
+    let kind = match initstate {
+        Some(_) => Kind::Folder,
+        None => host.kind(folder)?,
     };
-    let users = match text_in(host, folder, b"refcnt")? {
-        Some(text) => count_of(&text),
-        None => None,
-    };
-    Ok(Some(ModuleStatus { state, users }))
+    Ok(status_by(initstate.as_deref(), kind, refcnt.as_deref()))
 }
 
 /// The names in /sys/module. One that is not there has none; one that cannot be read is told.
-fn module_names<R: Files + AllocGlobal, E: Write>(
-    host: &Host<'_, R>,
+fn module_names<S: System, E: Write>(
+    host: &Host<'_, S>,
     messages: &mut Messages<'_, E>,
 ) -> Result<Vec<Vec<u8>>, AllocError> {
     match host.names(MODULES) {
         Ok(names) => Ok(names),
-        Err(error) if error.kind() == ErrorKind::NotFound => Ok(Vec::new(host.rt.alloc())),
+        Err(error) if error.kind() == ErrorKind::NotFound => Ok(Vec::new(host.alloc())),
         Err(error) => {
             tell_unread(MODULES, &error, messages)?;
-            Ok(Vec::new(host.rt.alloc()))
+            Ok(Vec::new(host.alloc()))
         }
     }
 }
 
 /// Adds the state of a module, where it has one.
-fn add_state<R: Files + AllocGlobal>(
-    host: &Host<'_, R>,
+fn add_state<S: System>(
+    host: &Host<'_, S>,
     name: &[u8],
     states: &mut States,
 ) -> Result<(), AllocError> {
-    let alloc = host.rt.alloc();
+    let alloc = host.alloc();
     let folder = joined(alloc, MODULES, b"/", name)?;
     match status_of(host, &folder)? {
         Some(status) => states.set(alloc, name, status),
@@ -134,8 +136,8 @@ fn add_state<R: Files + AllocGlobal>(
 }
 
 /// Adds the states of all modules that /sys/module has.
-pub(crate) fn add_states<R: Files + AllocGlobal, E: Write>(
-    host: &Host<'_, R>,
+pub(crate) fn add_states<S: System, E: Write>(
+    host: &Host<'_, S>,
     states: &mut States,
     messages: &mut Messages<'_, E>,
 ) -> Result<(), AllocError> {

@@ -1,2 +1,3 @@
 pub mod FileLemmas
 pub mod HiddenLemmas
+pub mod RootLemmas

@@ -20,6 +20,11 @@ pub data Source : Type 0 where
   single : List ℕ → List ℕ → Source
   folder : List ℕ → List (List ℕ) → Source
 
+-- where a source lies
+abbrev pub path_of : Source → List ℕ
+path_of (single name path) = path
+path_of (folder path names) = path
+
 -- libkmod reads these too, of which modprobe.d(5) does not speak
 abbrev pub is_alias_file : List ℕ → Bool
 is_alias_file name =

@@ -1,2 +1,7 @@
 pub mod Files
+pub mod Folders
 pub mod Paths
+pub mod Places
+pub mod Releases
+pub mod Rooted
+pub mod Texts

@@ -1,56 +1,68 @@
 //! The files of the machine that is asked.
-ghost use Rattle.std.specs.Prelude.{◌≡◌, ◌++◌, IfOk};
+ghost use Rattle.std.specs.Prelude.{◌≡◌, ◌≤◌, ◌++◌, length, IfOk};
+ghost use Rattle.modprobe_files.specs.Places.{IsAllowed};
 
-use program_frame::folder_names;
+use crate::system::{Kind, Place, System};
+use crate::walk::{Resolved, resolve};
 use std::alloc::{AllocError, Global};
-use std::fs::{self, Metadata};
 use std::io::{self, ErrorKind};
-use std::rt::Files;
 
-/// The files below a folder that stands for `/`.
+/// The files of a machine by their paths. With a root, a path is resolved within it.
 #[derive(Drop)]
-pub struct Host<'a, R> {
-    pub rt: &'a R,
-    /// Empty for the machine itself.
-    pub root: &'a [u8],
+pub struct Host<'a, S> {
+    pub system: &'a S,
 }
 
-/// What a path leads to.
-#[derive(Clone, Copy)]
-pub enum Kind {
-    Nothing,
-    Folder,
-    File,
-}
+impl<S: System> Host<'_, S> {
+    pub fn alloc(&self) -> Global {
+        self.system.alloc()
+    }
 
-impl<R: Files + AllocGlobal> Host<'_, R> {
-    /// Where a path of the machine stands.
-    fn place(&self, path: &[u8]) -> io::Result<String> {
-        let slash: &[u8] = if self.root.is_empty() || path.starts_with(b"/") {
-            b""
-        } else {
-            b"/"
-        };
-        match String::from_utf8(joined(self.rt.alloc(), self.root, slash, path)?) {
-            Ok(place) => Ok(place),
-            Err(_) => Err(io::Error::from(ErrorKind::InvalidFilename)),
+    /// Whether there is a root that no path may leave.
+    pub(crate) fn is_rooted(&self) -> bool
+        ensures { result ≡ S.is_rooted self.now.system.now }
+    {
+        self.system.is_rooted()
+    }
+
+    /// Where a path of the machine leads.
+    fn place(&self, path: &[u8]) -> io::Result<Place>
+        ensures { IfOk result (IsAllowed (S.is_rooted self.now.system.now) (S.entries self.now.system.now)) }
+    {
+        if !self.system.is_rooted() {
+            return Ok(Place::AsGiven(Vec::from_slice(self.alloc(), path)?));
         }
+        match resolve(self.system, path)? {
+            Resolved::Found(names) => Ok(Place::Below(names)),
+            Resolved::Missing => Err(io::Error::from(ErrorKind::NotFound)),
+            Resolved::NoFolder => Err(io::Error::from(ErrorKind::NotADirectory)),
+            Resolved::TooManyLinks => Err(io::Error::from(ErrorKind::FilesystemLoop)),
+        }
+    }
+
+    /// The current folder, where there is no root.
+    pub fn current_folder(&self) -> io::Result<Option<Vec<u8>>> {
+        if self.system.is_rooted() {
+            return Ok(None);
+        }
+        Ok(Some(self.system.current_folder()?))
     }
 
     /// All bytes of a file.
     pub fn read(&self, path: &[u8]) -> io::Result<Vec<u8>> {
-        fs::read(self.rt, &self.place(path)?)
+        let place = self.place(path)?;
+        self.system.read(&place)
     }
 
-    fn metadata(&self, path: &[u8]) -> io::Result<Metadata> {
-        fs::metadata(self.rt, &self.place(path)?)
+    fn kind_at(&self, path: &[u8]) -> io::Result<Kind> {
+        let place = self.place(path)?;
+        self.system.kind(&place)
     }
 
     /// What a path leads to, through links.
     pub fn kind(&self, path: &[u8]) -> Result<Kind, AllocError> {
-        match self.metadata(path) {
-            Ok(found) if found.is_dir() => Ok(Kind::Folder),
-            Ok(_) => Ok(Kind::File),
+        match self.kind_at(path) {
+            Ok(kind) => Ok(kind),
             Err(error) if error.kind() == ErrorKind::OutOfMemory => Err(AllocError),
             Err(_) => Ok(Kind::Nothing),
         }
@@ -58,7 +70,8 @@ impl<R: Files + AllocGlobal> Host<'_, R> {
 
     /// The names of a folder, in any order, without `.` and `..`.
     pub fn names(&self, path: &[u8]) -> io::Result<Vec<Vec<u8>>> {
-        folder_names(self.rt.alloc(), self.rt, &self.place(path)?)
+        let place = self.place(path)?;
+        self.system.names(&place)
     }
 }
 
@@ -78,7 +91,9 @@ pub fn joined(
 }
 
 /// What stands behind the last slash.
-pub(crate) fn last_name(path: &[u8]) -> &[u8] {
+pub(crate) fn last_name(path: &[u8]) -> &[u8]
+    ensures { length result.now ≤ length path.entry.now }
+{
     let mut name = path;
     let mut rest = path;
     while let Some((byte, later)) = rest.split_first() {
@@ -88,4 +103,10 @@ pub(crate) fn last_name(path: &[u8]) -> &[u8] {
         }
     }
     name
+}
+
+/// What stands before the last slash.
+pub(crate) fn folder_of(path: &[u8]) -> &[u8] {
+    let length = path.len() - last_name(path).len();
+    &path[..length.saturating_sub(1)]
 }

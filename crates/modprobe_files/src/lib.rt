@@ -1,18 +1,25 @@
 //! The files of modprobe(8): which of them count, and what they hold.
 #![tactic(auto)]
 
+mod disk;
 mod faults;
 mod files;
 mod hidden_files;
 mod host;
 mod laws;
 mod machine;
+mod releases;
 mod sources;
+mod system;
 mod texts;
+mod walk;
 
+pub use disk::Disk;
 pub use faults::{is_rootless, tell_folder, tell_unread};
 pub use files::{File, Source, counted_files};
-pub use host::{Host, Kind, joined};
+pub use host::{Host, joined};
 pub use laws::hidden_files_do_not_count;
 pub use machine::{directory, read_configuration, read_modules};
+pub use system::{Entry, Kind, Place, System};
 pub use texts::{ConfTexts, HiddenFile, ModuleTexts, TextFile};
+pub use walk::{Resolved, resolve};

@@ -4,19 +4,19 @@ use crate::faults::tell_unread;
 use crate::files::{File, counted_files};
 use crate::hidden_files::hidden_files;
 use crate::host::{Host, joined};
+use crate::releases::release_there;
 use crate::sources::configuration_sources;
+use crate::system::System;
 use crate::texts::{COMMAND_LINE, ConfTexts, HiddenFile, ModuleTexts, TextFile};
 use modprobe_words::{Asked, Level, Messages};
 use std::alloc::AllocError;
-use std::env::{self, Env};
 use std::io::{ErrorKind, Write};
-use std::rt::Files;
 
 const RELEASE: &[u8] = b"/proc/sys/kernel/osrelease";
 
 /// The text of a file that may be missing. One that cannot be read is told, and has no text.
-fn text_of<R: Files + AllocGlobal, E: Write>(
-    host: &Host<'_, R>,
+fn text_of<S: System, E: Write>(
+    host: &Host<'_, S>,
     path: &[u8],
     messages: &mut Messages<'_, E>,
 ) -> Result<Option<Vec<u8>>, AllocError> {
@@ -32,73 +32,73 @@ fn text_of<R: Files + AllocGlobal, E: Write>(
     }
 }
 
-/// The release that is asked for, or that of the machine's kernel; None where that is not known, which is told.
-fn release<R: Files + AllocGlobal, E: Write>(
-    host: &Host<'_, R>,
-    asked: Option<&[u8]>,
+/// The release of the machine's kernel; None where that is not known. Without a root that is told, and within one the one
+/// release counts that is there.
+fn own_release<S: System, E: Write>(
+    host: &Host<'_, S>,
+    folder: &[u8],
     messages: &mut Messages<'_, E>,
 ) -> Result<Option<Vec<u8>>, AllocError> {
-    if let Some(release) = asked {
-        return Ok(Some(Vec::from_slice(host.rt.alloc(), release)?));
-    }
     match host.read(RELEASE) {
         Ok(mut text) => {
             if text.ends_with(b"\n") {
                 text.pop();
             }
-            Ok(Some(text))
+            return Ok(Some(text));
         }
-        Err(error) if error.kind() == ErrorKind::OutOfMemory => Err(AllocError),
-        Err(_) => {
-            let text = b": name a release with -S";
-            messages.tell_always(Level::Error, b"cannot read ", RELEASE, text, b"");
-            Ok(None)
+        Err(error) if error.kind() == ErrorKind::OutOfMemory => return Err(AllocError),
+        Err(_) => {}
+    }
+    if host.is_rooted() {
+        let release = release_there(host, folder, messages)?;
+        if release.is_some() {
+            return Ok(release);
         }
     }
+    let text = b": name a release with -S";
+    messages.tell_always(Level::Error, b"cannot read ", RELEASE, text, b"");
+    Ok(None)
 }
 
 /// The folder that holds lib/modules, as it is printed. A path that does not begin at the root stands below the current
 /// folder, which below another root is `/`.
-fn parent<R: Files + Env + AllocGlobal>(
-    host: &Host<'_, R>,
-    path: &[u8],
-) -> Result<Vec<u8>, AllocError> {
-    let alloc = host.rt.alloc();
+fn parent<S: System>(host: &Host<'_, S>, path: &[u8]) -> Result<Vec<u8>, AllocError> {
+    let alloc = host.alloc();
     if path.is_empty() || path.starts_with(b"/") {
         return Vec::from_slice(alloc, path);
     }
-    match env::current_dir(host.rt) {
-        Ok(current) if host.root.is_empty() => joined(
-            alloc,
-            current.as_str().as_bytes(),
-            b"/",
-            path,
-        ),
+    match host.current_folder() {
+        Ok(Some(current)) => joined(alloc, &current, b"/", path),
         Err(error) if error.kind() == ErrorKind::OutOfMemory => Err(AllocError),
         _ => joined(alloc, b"//", path, b""),
     }
 }
 
 /// The folder of modules, as it is printed; None where the release is not known, which is told.
-pub fn directory<R: Files + Env + AllocGlobal, E: Write>(
-    host: &Host<'_, R>,
+pub fn directory<S: System, E: Write>(
+    host: &Host<'_, S>,
     asked: &Asked<'_>,
     messages: &mut Messages<'_, E>,
 ) -> Result<Option<Vec<u8>>, AllocError> {
-    let Some(release) = release(host, asked.release, messages)? else {
-        return Ok(None);
-    };
+    let alloc = host.alloc();
     let parent = parent(host, asked.directory.unwrap_or(b""))?;
-    Ok(Some(joined(host.rt.alloc(), &parent, b"/lib/modules/", &release)?))
+    let folder = joined(alloc, &parent, b"/lib/modules", b"")?;
+    if let Some(release) = asked.release {
+        return Ok(Some(joined(alloc, &folder, b"/", release)?));
+    }
+    match own_release(host, &folder, messages)? {
+        Some(release) => Ok(Some(joined(alloc, &folder, b"/", &release)?)),
+        None => Ok(None),
+    }
 }
 
 /// Reads the files that count. One that is missing or cannot be read is left out.
-fn read_files<R: Files + AllocGlobal, E: Write>(
-    host: &Host<'_, R>,
+fn read_files<S: System, E: Write>(
+    host: &Host<'_, S>,
     files: Vec<File>,
     messages: &mut Messages<'_, E>,
 ) -> Result<Vec<TextFile>, AllocError> {
-    let mut texts = Vec::new(host.rt.alloc());
+    let mut texts = Vec::new(host.alloc());
     for file in files.into_iter() {
         if let Some(text) = text_of(host, &file.path, messages)? {
             let File { name: _name, path } = file;
@@ -109,13 +109,13 @@ fn read_files<R: Files + AllocGlobal, E: Write>(
 }
 
 /// The files that count, and, where answers are explained, those that do not.
-fn chosen_files<R: Files + AllocGlobal, E: Write>(
-    host: &Host<'_, R>,
+fn chosen_files<S: System, E: Write>(
+    host: &Host<'_, S>,
     directory: &[u8],
     paths: &[&[u8]],
     messages: &mut Messages<'_, E>,
 ) -> Result<(Vec<File>, Vec<HiddenFile>), AllocError> {
-    let alloc = host.rt.alloc();
+    let alloc = host.alloc();
     let sources = configuration_sources(host, directory, paths, messages)?;
     let files = counted_files(alloc, &sources)?;
     let hidden = if messages.explains {
@@ -127,8 +127,8 @@ fn chosen_files<R: Files + AllocGlobal, E: Write>(
 }
 
 /// The texts of the configuration: the files that count, and the kernel's command line.
-pub fn read_configuration<R: Files + AllocGlobal, E: Write>(
-    host: &Host<'_, R>,
+pub fn read_configuration<S: System, E: Write>(
+    host: &Host<'_, S>,
     directory: &[u8],
     paths: &[&[u8]],
     messages: &mut Messages<'_, E>,
@@ -142,13 +142,13 @@ pub fn read_configuration<R: Files + AllocGlobal, E: Write>(
 }
 
 /// The text of a file of a folder; empty where it is missing.
-fn text_in<R: Files + AllocGlobal, E: Write>(
-    host: &Host<'_, R>,
+fn text_in<S: System, E: Write>(
+    host: &Host<'_, S>,
     directory: &[u8],
     name: &[u8],
     messages: &mut Messages<'_, E>,
 ) -> Result<Vec<u8>, AllocError> {
-    let alloc = host.rt.alloc();
+    let alloc = host.alloc();
     let path = joined(alloc, directory, b"/", name)?;
     match text_of(host, &path, messages)? {
         Some(text) => Ok(text),
@@ -157,8 +157,8 @@ fn text_in<R: Files + AllocGlobal, E: Write>(
 }
 
 /// The texts of a folder of modules.
-pub fn read_modules<R: Files + AllocGlobal, E: Write>(
-    host: &Host<'_, R>,
+pub fn read_modules<S: System, E: Write>(
+    host: &Host<'_, S>,
     directory: &[u8],
     messages: &mut Messages<'_, E>,
 ) -> Result<ModuleTexts, AllocError> {

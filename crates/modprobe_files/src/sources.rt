@@ -1,12 +1,16 @@
 //! The files of the configuration, as they lie on the machine.
+ghost use Rattle.std.specs.Prelude.{◌≡◌, IfOk, IfSome};
+ghost use Rattle.text_parts.specs.Text.{texts_of};
+ghost use Rattle.modprobe_files.specs.Files.{path_of, source_of};
+ghost use Rattle.modprobe_files.specs.Folders.{paths_by_rank};
 
 use crate::faults::reason;
 use crate::files::{File, Source, file_in, is_read};
-use crate::host::{Host, Kind, joined, last_name};
+use crate::host::{Host, joined, last_name};
+use crate::system::{Kind, System};
 use modprobe_words::{Level, Messages};
 use std::alloc::AllocError;
 use std::io::{ErrorKind, Write};
-use std::rt::Files;
 
 /// The folders of modprobe.d(5), by their rank.
 const FOLDERS: [&[u8]; 4] = [
@@ -16,14 +20,21 @@ const FOLDERS: [&[u8]; 4] = [
     b"/lib/modprobe.d",
 ];
 
+/// The paths of a configuration by their rank: those that were named, or the folders of modprobe.d(5).
+fn paths_by_rank<'a>(named: &'a [&'a [u8]]) -> &'a [&'a [u8]]
+    ensures { texts_of result.now ≡ paths_by_rank (texts_of named.entry.now) }
+{
+    if named.is_empty() { &FOLDERS } else { named }
+}
+
 /// Whether a name of a folder is a folder itself, which is told.
-fn is_folder<R: Files + AllocGlobal, E: Write>(
-    host: &Host<'_, R>,
+fn is_folder<S: System, E: Write>(
+    host: &Host<'_, S>,
     path: &[u8],
     name: &[u8],
     messages: &mut Messages<'_, E>,
 ) -> Result<bool, AllocError> {
-    let own = joined(host.rt.alloc(), path, b"/", name)?;
+    let own = joined(host.alloc(), path, b"/", name)?;
     let is_folder = matches!(host.kind(&own)?, Kind::Folder);
     if is_folder {
         let text = b"Directories inside directories are not supported: ";
@@ -33,8 +44,8 @@ fn is_folder<R: Files + AllocGlobal, E: Write>(
 }
 
 /// The names of a folder that count and are no folders. A folder is told.
-fn names_in<R: Files + AllocGlobal, E: Write>(
-    host: &Host<'_, R>,
+fn names_in<S: System, E: Write>(
+    host: &Host<'_, S>,
     path: &[u8],
     messages: &mut Messages<'_, E>,
 ) -> Result<Vec<Vec<u8>>, AllocError> {
@@ -43,10 +54,10 @@ fn names_in<R: Files + AllocGlobal, E: Write>(
         Err(error) if error.kind() == ErrorKind::OutOfMemory => return Err(AllocError),
         Err(error) => {
             messages.tell_always(Level::Error, b"opendir(", path, b"): ", reason(&error));
-            return Ok(Vec::new(host.rt.alloc()));
+            return Ok(Vec::new(host.alloc()));
         }
     };
-    let mut names = Vec::new(host.rt.alloc());
+    let mut names = Vec::new(host.alloc());
     for name in all.into_iter() {
         if is_read(&name) && !is_folder(host, path, &name, messages)? {
             names.push(name)?;
@@ -56,13 +67,15 @@ fn names_in<R: Files + AllocGlobal, E: Write>(
 }
 
 /// The source of a path: a folder, a file, or nothing, which is told of a path that was named.
-fn source_at<R: Files + AllocGlobal, E: Write>(
-    host: &Host<'_, R>,
+fn source_at<S: System, E: Write>(
+    host: &Host<'_, S>,
     path: &[u8],
     is_named: bool,
     messages: &mut Messages<'_, E>,
-) -> Result<Option<Source>, AllocError> {
-    let alloc = host.rt.alloc();
+) -> Result<Option<Source>, AllocError>
+    ensures { IfOk result (λ found. IfSome found (λ source. path_of (source_of source) ≡ path.now)) }
+{
+    let alloc = host.alloc();
     let source = match host.kind(path)? {
         Kind::Nothing => {
             if is_named {
@@ -85,20 +98,18 @@ fn source_at<R: Files + AllocGlobal, E: Write>(
 
 /// The sources of the configuration by their rank: modules.softdep of the folder of modules, and these paths, or the
 /// folders of modprobe.d.
-pub(crate) fn configuration_sources<R: Files + AllocGlobal, E: Write>(
-    host: &Host<'_, R>,
+pub(crate) fn configuration_sources<S: System, E: Write>(
+    host: &Host<'_, S>,
     directory: &[u8],
     paths: &[&[u8]],
     messages: &mut Messages<'_, E>,
 ) -> Result<Vec<Source>, AllocError> {
-    let alloc = host.rt.alloc();
+    let alloc = host.alloc();
     let File { name, path } = file_in(alloc, directory, b"modules.softdep")?;
     let mut sources = Vec::new(alloc);
     sources.push(Source::Single(name, path))?;
-    let are_named = !paths.is_empty();
-    let paths: &[&[u8]] = if are_named { paths } else { &FOLDERS };
-    for path in paths {
-        if let Some(source) = source_at(host, *path, are_named, messages)? {
+    for path in paths_by_rank(paths) {
+        if let Some(source) = source_at(host, *path, !paths.is_empty(), messages)? {
             sources.push(source)?;
         }
     }

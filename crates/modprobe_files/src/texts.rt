@@ -1,7 +1,7 @@
 //! The texts of a machine, as they were read.
 ghost use Rattle.std.specs.Prelude.{◌≡◌, IfOk};
 ghost use Rattle.text_parts.specs.Text.{texts_of};
-ghost use Rattle.modprobe_files.specs.Paths.{paths_of};
+ghost use Rattle.modprobe_files.specs.Paths.{path_at, paths_of};
 
 use std::alloc::{AllocError, Global};
 
@@ -65,7 +65,9 @@ impl Drop for ModuleTexts {
 
 impl ConfTexts {
     /// The path of the source of a number: a file, or the kernel's command line behind the files.
-    pub fn path(&self, source: usize) -> &[u8] {
+    pub fn path(&self, source: usize) -> &[u8]
+        ensures { result.now ≡ path_at self.entry.now source }
+    {
         match self.files.get(source) {
             Some(file) => &file.path,
             None => COMMAND_LINE,

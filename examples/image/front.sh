@@ -1,0 +1,59 @@
+# What scripts rest on: the status, the variable MODPROBE_OPTIONS, words of any length, and which files count. It needs bash, and gz-modprobe on the path.
+mkdir -p machine/lib/modules/6.1.0 machine/lib/modules/6.2.0 machine/etc/modprobe.d/folder.conf machine/lib/modprobe.d conf.d
+printf 'kernel/loop.ko:\n' | tee machine/lib/modules/6.1.0/modules.dep >machine/lib/modules/6.2.0/modules.dep
+touch machine/lib/modules/6.{1,2}.0/modules.{alias,symbols,builtin,builtin.modinfo}
+
+# Shows the status, if it is not 0.
+tell() {
+    [ "$1" = 0 ] || echo "status $1"
+}
+ask() {
+    echo "> $*"
+    gz-modprobe --root=machine -S 6.1.0 "$@" 2>&1
+    tell $?
+}
+
+# Of files of one name that of /etc counts, a folder is none, and a bad line is told of its own file.
+printf 'options loop max_loop=8\n' >machine/etc/modprobe.d/loop.conf
+printf 'options loop max_loop=64\n' >machine/lib/modprobe.d/loop.conf
+printf 'options loop max_part=4\nnonsense\n' >machine/lib/modprobe.d/part.conf
+printf 'options loop hidden=1\n' >machine/lib/modprobe.d/.hidden.conf
+ask -D loop
+# A file that is there and cannot be read is told, and the others count.
+ln -s /proc/self/mem conf.d/mem.conf
+ln -s "$PWD/machine/etc/modprobe.d/loop.conf" conf.d/link.conf
+ask() {
+    echo "> $*"
+    gz-modprobe -d "$PWD/machine" -S 6.1.0 -C conf.d "$@" 2>&1 | sed "s|$PWD/||"
+    tell "${PIPESTATUS[0]}"
+}
+ask -D loop
+
+# The words of the variable stand before those of the command line: the last release counts.
+export MODPROBE_OPTIONS='-S 6.2.0 -v'
+ask -D loop
+echo '> -D loop, with -S in the variable alone'
+gz-modprobe -d "$PWD/machine" -C conf.d/link.conf -D loop | sed "s|$PWD/||"
+export MODPROBE_OPTIONS='--no-such-option'
+ask -D loop
+unset MODPROBE_OPTIONS
+
+# A long word is one word, and many words are all asked for.
+echo '> -R of 9,000 letters'
+gz-modprobe -d "$PWD/machine" -S 6.1.0 -R "$(printf '%09000d' 7)" 2>&1 | sed "s|0\{100,\}|0..|; s|$PWD/||"
+tell "${PIPESTATUS[0]}"
+echo '> -a -D of 2,000 words'
+gz-modprobe -d "$PWD/machine" -S 6.1.0 -C conf.d/link.conf -a -D $(yes loop | head -2000) | sort | uniq -c | sed "s|$PWD/||; s|^ *||"
+
+# What cannot be written is no success, for an answer, the help and the version.
+for words in '-c -C conf.d/link.conf' --help --version; do
+    echo "> $words >/dev/full"
+    gz-modprobe -d "$PWD/machine" -S 6.1.0 $words 2>&1 >/dev/full
+    tell $?
+done
+# A reader that has what it wants is no error to tell.
+yes 'options loop max_loop=8' | head -10000 >conf.d/many.conf
+echo '> -c | head -1'
+gz-modprobe -d "$PWD/machine" -S 6.1.0 -C conf.d/many.conf -c 2>&1 | head -1
+tell "${PIPESTATUS[0]}"
+rm -r machine conf.d
