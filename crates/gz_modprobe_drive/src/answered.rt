@@ -68,7 +68,7 @@ pub(crate) fn answer_machine<O: Write, E: Write>(
     ensures answer { IfOk result (λ own. IsAnswer (said_by machine.now) query.now own.answer) }
     ensures written { IfOk result (λ own. own.written ≡ Whole → Appends (O.contents output.old) (O.contents output.new) own.answer.output) }
 {
-    let index = index_of(alloc, machine.modules)?;
+    let index = index_of(alloc, machine.modules, query.words.len())?;
     let world = World {
         conf,
         index: &index,

@@ -1,6 +1,10 @@
 -- How contracts see values of the code.
-use Rattle.std.specs.Prelude.{ℕ, List, map}
+use Rattle.std.specs.Prelude.{◌≡◌, ℕ, Bool, true, false, ◌==◌, ◌||◌, if◌then◌else◌, List, [], ◌∷◌, map, Option, Some, None}
 use Rattle.std.specs.Borrow.{Bor}
+use Rattle.kmod_names.specs.ForProofs.{is_special}
+use Rattle.kmod_index.specs.Dependencies.{Dependencies}
+use Rattle.kmod_index.specs.Index.{Texts}
+use Rattle.kmod_index.specs.Indexes.{Indexes}
 use Rattle.kmod_index.specs.Lines.{Keyed}
 
 -- what references point to
@@ -14,3 +18,41 @@ keyed key name number = record { key = key; name = name; number = number }
 -- the key of a line
 abbrev pub key_of : Keyed → List ℕ
 key_of line = line.key
+
+-- what tables have of the texts of a folder
+pub record Tabled : Type 0 where
+  pub dependencies : List Dependencies
+  pub aliases : List Keyed
+  pub symbols : List Keyed
+  pub builtin_names : List (List ℕ)
+  pub builtin_aliases : List Keyed
+
+-- tables have what the texts say
+pub record TabledOf (tables : Tabled) (indexes : Indexes) : Type 0 where
+  pub dependencies : tables.dependencies ≡ indexes.dependencies
+  pub aliases : tables.aliases ≡ indexes.aliases
+  pub symbols : tables.symbols ≡ indexes.symbols
+  pub builtin_names : tables.builtin_names ≡ indexes.builtin_names
+  pub builtin_aliases : tables.builtin_aliases ≡ indexes.builtin_aliases
+
+-- there are no tables, or they have what the texts say
+abbrev pub AreTables : Option Tabled → Indexes → Type 0
+AreTables None indexes = Unit {0}
+AreTables (Some tables) indexes = TabledOf tables indexes
+
+-- a byte at which a key may end, or that may stand for another byte than itself
+abbrev pub is_stop : ℕ → Bool
+is_stop byte = is_special byte || byte == 32
+
+-- whether a name has another byte where a key and what follows it have one that stands for itself, with only such bytes
+-- before it
+abbrev pub parts_early : List ℕ → List ℕ → Bool
+parts_early [] name = false
+parts_early (byte ∷ text) [] = false
+parts_early (byte ∷ text) (other ∷ name) =
+    if is_stop byte then false else (if byte == other then parts_early text name else true)
+
+-- these texts
+abbrev pub known_texts : List ℕ → List ℕ → List ℕ → List ℕ → List ℕ → Texts
+known_texts dep alias symbols builtin builtin_modinfo =
+    record { dep = dep; alias = alias; symbols = symbols; builtin = builtin; builtin_modinfo = builtin_modinfo }

@@ -14,7 +14,7 @@ use text_parts::whole_lines;
 
 /// Aliases in order, their keys in normal form. Contracts see their list.
 #[derive(Drop)]
-pub struct Aliases {
+pub(crate) struct Aliases {
     lines: Vec<IndexLine>,
     patterns: PatternList,
 }
@@ -67,7 +67,11 @@ fn escaped(alloc: Global, key: &[u8]) -> Result<Vec<u8>, AllocError>
 }
 
 /// Adds the pattern that a key is.
-fn push_key(patterns: &mut PatternList, alloc: Global, key: &[u8]) -> Result<(), AllocError>
+pub(crate) fn push_key(
+    patterns: &mut PatternList,
+    alloc: Global,
+    key: &[u8],
+) -> Result<(), AllocError>
     ensures ok { OnOk result (patterns.new ≡ patterns.old ++ pattern_of_key key.now ∷ []) }
     ensures err { OnErr result (patterns.new ≡ patterns.old) }
 {
@@ -111,15 +115,8 @@ impl Aliases {
         }
     }
 
-    /// The aliases, in order.
-    pub fn lines(&self) -> &[IndexLine]
-        ensures { result.now ≡ self.now }
-    {
-        &self.lines
-    }
-
     /// The aliases that a name in normal form matches, in order. It fails only if memory runs out.
-    pub fn matching(&self, alloc: Global, name: &[u8]) -> Result<Vec<&IndexLine>, AllocError>
+    pub(crate) fn matching(&self, alloc: Global, name: &[u8]) -> Result<Vec<&IndexLine>, AllocError>
         ensures { IfOk result (λ found. pointed found.items ≡ matching_lines self.now name.now) }
     {
         let places = self.patterns.places(alloc, name)?;
@@ -128,7 +125,7 @@ impl Aliases {
 }
 
 /// The aliases of a whole modules.alias text. It fails only if memory runs out.
-pub fn read_aliases(alloc: Global, text: &[u8]) -> Result<Aliases, AllocError>
+pub(crate) fn read_aliases(alloc: Global, text: &[u8]) -> Result<Aliases, AllocError>
     ensures { IfOk result (λ aliases. aliases ≡ aliases_of text.now) }
 {
     let mut aliases = Aliases::new(alloc);

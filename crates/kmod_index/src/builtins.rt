@@ -5,6 +5,7 @@ ghost use Rattle.text_parts.specs.Text.{is_letter};
 ghost use Rattle.kmod_index.specs.Builtins.{builtin_name, builtin_names, is_among};
 ghost use Rattle.kmod_names.specs.Places.{ArePlaces};
 
+use crate::path_names::is_name_of_path;
 use kmod_names::{KeyPlaces, Text, name_of_path};
 use std::alloc::{AllocError, Global};
 use std::marker::Model;
@@ -12,7 +13,7 @@ use text_parts::whole_lines;
 
 /// The names of the modules that are built in, in the order of modules.builtin.
 #[derive(Drop)]
-pub struct Builtins {
+pub(crate) struct Builtins {
     names: Vec<Text>,
     places: KeyPlaces,
 }
@@ -55,9 +56,29 @@ fn add_line(
     Ok(())
 }
 
+/// Whether a line has the path of a module of this name.
+fn is_line_of(line: &[u8], name: &[u8]) -> bool
+    ensures { result ≡ is_among (option_to_list (builtin_name line.now)) name.now }
+{
+    begins_with_letter(line) && is_name_of_path(name, line)
+}
+
+/// Whether a modules.builtin text has the module of this name. Names have `_` for each `-`.
+pub(crate) fn is_builtin_in(text: &[u8], name: &[u8]) -> bool
+    ensures { result ≡ is_among (builtin_names text.now) name.now }
+{
+    let mut lines = whole_lines(text);
+    'lines: while let Some(line) = lines.next() {
+        if is_line_of(line, name) {
+            return true;
+        }
+    }
+    false
+}
+
 impl Builtins {
     /// Whether the module of this name is built in. Names have `_` for each `-`.
-    pub fn has(&self, name: &[u8]) -> bool
+    pub(crate) fn has(&self, name: &[u8]) -> bool
         ensures { result ≡ is_among self.now name.now }
     {
         !self.places.of(name).is_empty()
@@ -65,7 +86,7 @@ impl Builtins {
 }
 
 /// The names of a whole modules.builtin text. It fails only if memory runs out.
-pub fn read_builtins(alloc: Global, text: &[u8]) -> Result<Builtins, AllocError>
+pub(crate) fn read_builtins(alloc: Global, text: &[u8]) -> Result<Builtins, AllocError>
     ensures { IfOk result (λ builtins. builtins ≡ builtin_names text.now) }
 {
     let mut names = Vec::new(alloc);

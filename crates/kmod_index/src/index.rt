@@ -1,16 +1,23 @@
 //! All that the texts of a folder of modules say.
+#![tactic(auto, unfolding(crate::specs::Index::indexes_of))]
+
 ghost use Rattle.std.specs.Prelude.{◌≡◌, IfOk};
 ghost use Rattle.kmod_index.specs.Builtins.{is_among};
-ghost use Rattle.kmod_index.specs.ForProofs.{pointed};
+ghost use Rattle.kmod_index.specs.Dependencies.{hard_needs, line_of};
+ghost use Rattle.kmod_index.specs.ForProofs.{AreTables};
+ghost use Rattle.kmod_index.specs.Index.{indexes_of, texts_in};
+ghost use Rattle.kmod_index.specs.Lines.{lines_of_key};
 ghost use Rattle.kmod_index.specs.Tries.{in_order, matching_lines};
 
-use crate::aliases::{Aliases, read_aliases};
-use crate::builtins::{Builtins, read_builtins};
+use crate::alias_scan::{alias_lines, matching_aliases};
+use crate::builtins::is_builtin_in;
+use crate::dep_line::DepLine;
+use crate::dep_scan::{dep_lines, find_line};
 use crate::index_line::IndexLine;
-use crate::modinfo::read_builtin_aliases;
-use crate::modules_dep::{ModulesDep, read_modules_dep};
-use crate::symbols::{Symbols, read_symbols};
-use crate::trie_order::in_order;
+use crate::modinfo::matching_builtins;
+use crate::symbol_scan::{symbol_lines, symbols_of_key};
+use crate::tables::Tables;
+use kmod_names::Text;
 use std::alloc::{AllocError, Global};
 use std::marker::Model;
 
@@ -29,87 +36,154 @@ pub struct IndexTexts<'a> {
     pub builtin_modinfo: &'a [u8],
 }
 
-/// What the texts of a folder of modules say.
+/// What the texts of a folder of modules say. A name is looked up in the texts themselves, or, for many names, in tables
+/// that were made of them.
 pub struct Index {
-    dependencies: ModulesDep,
-    aliases: Aliases,
-    symbols: Symbols,
-    builtins: Builtins,
-    builtin_aliases: Aliases,
+    dep: Text,
+    alias: Text,
+    symbols: Text,
+    builtin: Text,
+    builtin_modinfo: Text,
+    tables: Option<Tables>,
 }
 
 // By hand, since a derived drop is written out, and proved, at each place where a value is let go.
 impl Drop for Index {
     fn drop(self) {
         let Index {
-            dependencies: _,
-            aliases: _,
+            dep: _,
+            alias: _,
             symbols: _,
-            builtins: _,
-            builtin_aliases: _,
+            builtin: _,
+            builtin_modinfo: _,
+            tables: _,
         } = self;
     }
 }
 
 impl Model for Index {
+    ghost use Rattle.kmod_index.specs.ForProofs.{AreTables, known_texts};
+    ghost use Rattle.kmod_index.specs.Index.{indexes_of};
     ghost use Rattle.kmod_index.specs.Indexes.{Indexes};
 
     ghost Value = { Indexes };
 
-    ghost view = { λ index. record { dependencies = index.dependencies; aliases = index.aliases; symbols = index.symbols; builtin_names = index.builtins; builtin_aliases = index.builtin_aliases } };
+    ghost view = { λ index. indexes_of (known_texts index.dep index.alias index.symbols index.builtin index.builtin_modinfo) };
+
+    ghost invariant = { λ index. AreTables index.tables (indexes_of (known_texts index.dep index.alias index.symbols index.builtin index.builtin_modinfo)) };
 }
 
 impl Index {
-    ghost use Rattle.kmod_index.specs.Index.{indexes_of, texts_in};
-
-    /// What the texts say. It fails only if memory runs out.
-    #[tactic(auto, unfolding(crate::specs::Index::indexes_of))]
-    pub fn read(alloc: Global, texts: &IndexTexts) -> Result<Index, AllocError>
+    /// What the texts say, with these tables of them.
+    fn with(alloc: Global, texts: &IndexTexts, tables: Option<Tables>) -> Result<Index, AllocError>
+        requires { AreTables tables (indexes_of (texts_in texts.now)) }
         ensures { IfOk result (λ index. index ≡ indexes_of (texts_in texts.now)) }
     {
         Ok(Index {
-            dependencies: read_modules_dep(alloc, texts.dep)?,
-            aliases: read_aliases(alloc, texts.alias)?,
-            symbols: read_symbols(alloc, texts.symbols)?,
-            builtins: read_builtins(alloc, texts.builtin)?,
-            builtin_aliases: read_builtin_aliases(alloc, texts.builtin_modinfo)?,
+            dep: Text::new(alloc, texts.dep)?,
+            alias: Text::new(alloc, texts.alias)?,
+            symbols: Text::new(alloc, texts.symbols)?,
+            builtin: Text::new(alloc, texts.builtin)?,
+            builtin_modinfo: Text::new(alloc, texts.builtin_modinfo)?,
+            tables,
         })
     }
 
-    /// The lines of modules.dep.
-    pub fn dependencies(&self) -> &ModulesDep
-        ensures { result.now ≡ self.now.dependencies }
+    /// What the texts say. Each look-up goes through a text. It fails only if memory runs out.
+    pub fn read(alloc: Global, texts: &IndexTexts) -> Result<Index, AllocError>
+        ensures { IfOk result (λ index. index ≡ indexes_of (texts_in texts.now)) }
     {
-        &self.dependencies
+        Index::with(alloc, texts, None)
     }
 
-    /// The lines of modules.alias.
-    pub fn aliases(&self) -> &Aliases
-        ensures { result.now ≡ self.now.aliases }
+    /// What the texts say, in tables: many look-ups are faster so. It fails only if memory runs out.
+    pub fn with_tables(alloc: Global, texts: &IndexTexts) -> Result<Index, AllocError>
+        ensures { IfOk result (λ index. index ≡ indexes_of (texts_in texts.now)) }
     {
-        &self.aliases
+        let tables = Tables::read(alloc, texts)?;
+        Index::with(alloc, texts, Some(tables))
     }
 
-    /// The lines of modules.symbols.
-    pub fn symbols(&self) -> &Symbols
-        ensures { result.now ≡ self.now.symbols }
+    /// The first line of modules.dep of the module of this name, None where it has none. Names have `_` for each `-`.
+    pub fn find(&self, name: &[u8]) -> Option<DepLine<'_>>
+        ensures { result ≡ line_of self.now.dependencies name.now }
     {
-        &self.symbols
+        match &self.tables {
+            Some(tables) => tables.find(name),
+            None => find_line(self.dep.as_bytes(), name),
+        }
+    }
+
+    /// The names of the modules that a module needs, in the order in which they are loaded, none where it has no line. It
+    /// fails only if memory runs out.
+    pub fn hard_needs(&self, alloc: Global, name: &[u8]) -> Result<Vec<Text>, AllocError>
+        ensures { IfOk result (λ names. names.items ≡ hard_needs self.now.dependencies name.now) }
+    {
+        match self.find(name) {
+            Some(line) => line.needed_names(alloc),
+            None => Ok(Vec::new(alloc)),
+        }
+    }
+
+    /// The lines of modules.dep, in order. It fails only if memory runs out.
+    pub fn dep_lines(&self, alloc: Global) -> Result<Vec<DepLine<'_>>, AllocError>
+        ensures { IfOk result (λ lines. lines.items ≡ self.now.dependencies) }
+    {
+        dep_lines(alloc, self.dep.as_bytes())
+    }
+
+    /// The lines of modules.alias, in order. It fails only if memory runs out.
+    pub fn alias_lines(&self, alloc: Global) -> Result<Vec<IndexLine>, AllocError>
+        ensures { IfOk result (λ lines. lines.items ≡ self.now.aliases) }
+    {
+        alias_lines(alloc, self.alias.as_bytes())
+    }
+
+    /// The lines of modules.alias whose key a name in normal form matches, in order. It fails only if memory runs out.
+    pub fn matching_aliases(&self, alloc: Global, name: &[u8]) -> Result<Vec<IndexLine>, AllocError>
+        ensures { IfOk result (λ found. found.items ≡ matching_lines self.now.aliases name.now) }
+    {
+        match &self.tables {
+            Some(tables) => tables.matching_aliases(alloc, name),
+            None => matching_aliases(alloc, self.alias.as_bytes(), name),
+        }
+    }
+
+    /// The lines of modules.symbols, in order. It fails only if memory runs out.
+    pub fn symbol_lines(&self, alloc: Global) -> Result<Vec<IndexLine>, AllocError>
+        ensures { IfOk result (λ lines. lines.items ≡ self.now.symbols) }
+    {
+        symbol_lines(alloc, self.symbols.as_bytes())
+    }
+
+    /// The lines of modules.symbols whose key is this text, as `symbol:NAME`, in order. It fails only if memory runs out.
+    pub fn symbols_of_key(&self, alloc: Global, key: &[u8]) -> Result<Vec<IndexLine>, AllocError>
+        ensures { IfOk result (λ found. found.items ≡ lines_of_key self.now.symbols key.now) }
+    {
+        match &self.tables {
+            Some(tables) => tables.symbols_of_key(alloc, key),
+            None => symbols_of_key(alloc, self.symbols.as_bytes(), key),
+        }
     }
 
     /// Whether the module of this name is built in. Names have `_` for each `-`.
     pub fn is_builtin(&self, name: &[u8]) -> bool
         ensures { result ≡ is_among self.now.builtin_names name.now }
     {
-        self.builtins.has(name)
+        match &self.tables {
+            Some(tables) => tables.is_builtin(name),
+            None => is_builtin_in(self.builtin.as_bytes(), name),
+        }
     }
 
     /// The aliases of built-in modules that a name in normal form matches, in kmod's order. It fails only if memory
     /// runs out.
-    pub fn builtin_aliases(&self, alloc: Global, name: &[u8]) -> Result<Vec<&IndexLine>, AllocError>
-        ensures { IfOk result (λ found. pointed found.items ≡ in_order (matching_lines self.now.builtin_aliases name.now)) }
+    pub fn builtin_aliases(&self, alloc: Global, name: &[u8]) -> Result<Vec<IndexLine>, AllocError>
+        ensures { IfOk result (λ found. found.items ≡ in_order (matching_lines self.now.builtin_aliases name.now)) }
     {
-        let found = self.builtin_aliases.matching(alloc, name)?;
-        in_order(alloc, &found)
+        match &self.tables {
+            Some(tables) => tables.builtin_aliases(alloc, name),
+            None => matching_builtins(alloc, self.builtin_modinfo.as_bytes(), name),
+        }
     }
 }

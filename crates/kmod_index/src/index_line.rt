@@ -28,7 +28,7 @@ impl Model for IndexLine {
 }
 
 /// The key and the module of a line.
-fn alias_parts(line: &[u8]) -> Option<(&[u8], &[u8])>
+pub(crate) fn alias_parts(line: &[u8]) -> Option<(&[u8], &[u8])>
     ensures { MatchOption result
         (alias_parts line.entry.now ≡ None)
         (λ parts. alias_parts line.entry.now ≡ Some (parts.0.now, parts.1.now)) }
@@ -37,6 +37,22 @@ fn alias_parts(line: &[u8]) -> Option<(&[u8], &[u8])>
 }
 
 impl IndexLine {
+    /// The line of these parts and this number.
+    pub(crate) fn of_parts(
+        alloc: Global,
+        number: usize,
+        key: &[u8],
+        name: &[u8],
+    ) -> Result<IndexLine, AllocError>
+        ensures { IfOk result (λ line. line ≡ keyed key.now name.now number) }
+    {
+        Ok(IndexLine {
+            key: Text::new(alloc, key)?,
+            name: Text::new(alloc, name)?,
+            number,
+        })
+    }
+
     /// The line of this number, None where it has another form.
     pub(crate) fn read(
         alloc: Global,
@@ -45,14 +61,10 @@ impl IndexLine {
     ) -> Result<Option<IndexLine>, AllocError>
         ensures { IfOk result (λ read. read ≡ keyed_of_line (number, line.now)) }
     {
-        let Some((key, name)) = alias_parts(line) else {
-            return Ok(None);
-        };
-        Ok(Some(IndexLine {
-            key: Text::new(alloc, key)?,
-            name: Text::new(alloc, name)?,
-            number,
-        }))
+        match alias_parts(line) {
+            Some((key, name)) => Ok(Some(IndexLine::of_parts(alloc, number, key, name)?)),
+            None => Ok(None),
+        }
     }
 
     /// The line of an alias of this number, with its key in normal form; None where the key's brackets do not match.
@@ -88,6 +100,13 @@ impl IndexLine {
         }
     }
 
+    /// The same line. It fails only if memory runs out.
+    fn copy(&self, alloc: Global) -> Result<IndexLine, AllocError>
+        ensures { IfOk result (λ line. line ≡ self.now) }
+    {
+        IndexLine::of_parts(alloc, self.number(), self.key(), self.name())
+    }
+
     /// What is looked up.
     pub fn key(&self) -> &[u8]
         ensures { result.now ≡ self.now.key }
@@ -108,6 +127,17 @@ impl IndexLine {
     {
         self.number
     }
+}
+
+/// The lines that these point to. It fails only if memory runs out.
+pub(crate) fn copied(alloc: Global, lines: &[&IndexLine]) -> Result<Vec<IndexLine>, AllocError>
+    ensures { IfOk result (λ copies. copies.items ≡ pointed lines.now) }
+{
+    let mut copies = Vec::with_capacity(alloc, lines.len())?;
+    for line in lines {
+        copies.push(line.copy(alloc)?)?;
+    }
+    Ok(copies)
 }
 
 /// The line at a place, None past the last.

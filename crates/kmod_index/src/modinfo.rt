@@ -3,10 +3,12 @@ ghost use Rattle.std.specs.Prelude.{◌≡◌, ◌++◌, IfOk, OnOk, None, Some,
 ghost use Rattle.std.specs.Option.{option_to_list};
 ghost use Rattle.kmod_index.specs.Builtins.{alias_of_entry, alias_value, builtin_aliases, modinfo_parts};
 ghost use Rattle.kmod_index.specs.Parts.{at_first};
+ghost use Rattle.kmod_index.specs.Tries.{in_order, matching_lines};
 
 use crate::aliases::Aliases;
-use crate::index_line::IndexLine;
+use crate::index_line::{IndexLine, copied};
 use crate::parts::at_first;
+use crate::trie_order::in_order;
 use std::alloc::{AllocError, Global};
 use text_parts::is_same;
 
@@ -53,7 +55,7 @@ fn add_entry(
 }
 
 /// The aliases of a whole modules.builtin.modinfo text. It fails only if memory runs out.
-pub fn read_builtin_aliases(alloc: Global, text: &[u8]) -> Result<Aliases, AllocError>
+pub(crate) fn read_builtin_aliases(alloc: Global, text: &[u8]) -> Result<Aliases, AllocError>
     ensures { IfOk result (λ aliases. aliases ≡ builtin_aliases text.now) }
 {
     let mut aliases = Aliases::new(alloc);
@@ -72,4 +74,18 @@ pub fn read_builtin_aliases(alloc: Global, text: &[u8]) -> Result<Aliases, Alloc
             }
         }
     }
+}
+
+/// The aliases of a whole modules.builtin.modinfo text that a name in normal form matches, in kmod's order. It fails only
+/// if memory runs out.
+pub(crate) fn matching_builtins(
+    alloc: Global,
+    text: &[u8],
+    name: &[u8],
+) -> Result<Vec<IndexLine>, AllocError>
+    ensures { IfOk result (λ found. found.items ≡ in_order (matching_lines (builtin_aliases text.now) name.now)) }
+{
+    let aliases = read_builtin_aliases(alloc, text)?;
+    let found = aliases.matching(alloc, name)?;
+    copied(alloc, &in_order(alloc, &found)?)
 }

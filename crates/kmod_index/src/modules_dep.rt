@@ -1,19 +1,19 @@
 //! The lines of a modules.dep text.
-ghost use Rattle.std.specs.Prelude.{◌≡◌, ◌++◌, map, slice_get, IfOk, OnOk, option_copied};
+ghost use Rattle.std.specs.Prelude.{◌≡◌, ◌++◌, map, slice_get, IfOk, OnOk};
 ghost use Rattle.std.specs.Option.{option_to_list};
-ghost use Rattle.kmod_index.specs.Dependencies.{dependencies_of, dependencies_of_line, hard_needs, line_of, name_of};
+ghost use Rattle.kmod_index.specs.Dependencies.{dependencies_of, dependencies_of_line, line_of, name_of};
 ghost use Rattle.kmod_names.specs.Places.{ArePlaces};
 
-use crate::dep_line::DepLine;
-use kmod_names::{KeyPlaces, Text};
+use crate::dep_line::{DepLine, OwnedLine};
+use kmod_names::KeyPlaces;
 use std::alloc::{AllocError, Global};
 use std::marker::Model;
 use text_parts::whole_lines;
 
 /// The lines of a modules.dep text in order, found by the names of their modules.
 #[derive(Drop)]
-pub struct ModulesDep {
-    lines: Vec<DepLine>,
+pub(crate) struct ModulesDep {
+    lines: Vec<OwnedLine>,
     names: KeyPlaces,
 }
 
@@ -32,7 +32,7 @@ impl Model for ModulesDep {
 /// Adds a line, where it has a colon.
 fn add_line(
     alloc: Global,
-    lines: &mut Vec<DepLine>,
+    lines: &mut Vec<OwnedLine>,
     names: &mut KeyPlaces,
     number: usize,
     line: &[u8],
@@ -41,7 +41,7 @@ fn add_line(
     ensures lines { OnOk result (lines.new.items ≡ lines.old.items ++ option_to_list (dependencies_of_line (number, line.now))) }
     ensures names { OnOk result (ArePlaces names.new (map name_of lines.new.items)) }
 {
-    let Some(read) = DepLine::read(alloc, number, line)? else {
+    let Some(read) = OwnedLine::read(alloc, number, line)? else {
         return Ok(());
     };
     let name = read.name(alloc)?;
@@ -51,44 +51,29 @@ fn add_line(
 }
 
 /// The line at a place, None past the last.
-fn line_at(lines: &[DepLine], place: usize) -> Option<&DepLine>
-    ensures { option_copied result ≡ slice_get lines.entry.now place }
+fn line_at(lines: &[OwnedLine], place: usize) -> Option<DepLine<'_>>
+    ensures { result ≡ slice_get lines.entry.now place }
 {
-    lines.get(place)
+    match lines.get(place) {
+        Some(line) => Some(line.lent()),
+        None => None,
+    }
 }
 
 impl ModulesDep {
-    /// The lines, in the order of the text.
-    pub fn lines(&self) -> &[DepLine]
-        ensures { result.now ≡ self.now }
-    {
-        &self.lines
-    }
-
     /// The first line of the module of this name, None where it has none. Names have `_` for each `-`.
-    pub fn find(&self, name: &[u8]) -> Option<&DepLine>
-        ensures { option_copied result ≡ line_of self.now name.now }
+    pub(crate) fn find(&self, name: &[u8]) -> Option<DepLine<'_>>
+        ensures { result ≡ line_of self.now name.now }
     {
         match self.names.of(name).first() {
             Some(place) => line_at(&self.lines, *place),
             None => None,
         }
     }
-
-    /// The names of the modules that a module needs, in the order in which they are loaded, none where it has no line. It
-    /// fails only if memory runs out.
-    pub fn hard_needs(&self, alloc: Global, name: &[u8]) -> Result<Vec<Text>, AllocError>
-        ensures { IfOk result (λ names. names.items ≡ hard_needs self.now name.now) }
-    {
-        match self.find(name) {
-            Some(line) => line.needed_names(alloc),
-            None => Ok(Vec::new(alloc)),
-        }
-    }
 }
 
 /// The lines of a whole modules.dep text. It fails only if memory runs out.
-pub fn read_modules_dep(alloc: Global, text: &[u8]) -> Result<ModulesDep, AllocError>
+pub(crate) fn read_modules_dep(alloc: Global, text: &[u8]) -> Result<ModulesDep, AllocError>
     ensures { IfOk result (λ dep. dep ≡ dependencies_of text.now) }
 {
     let mut found = Vec::new(alloc);

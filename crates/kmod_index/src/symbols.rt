@@ -13,7 +13,7 @@ use text_parts::whole_lines;
 
 /// The lines of a modules.symbols text in order, found by their keys.
 #[derive(Drop)]
-pub struct Symbols {
+pub(crate) struct Symbols {
     lines: Vec<IndexLine>,
     keys: KeyPlaces,
 }
@@ -52,15 +52,8 @@ fn add_line(
 }
 
 impl Symbols {
-    /// The lines, in the order of the text.
-    pub fn lines(&self) -> &[IndexLine]
-        ensures { result.now ≡ self.now }
-    {
-        &self.lines
-    }
-
     /// The lines whose key is this text, as `symbol:NAME`, in the order of the text. It fails only if memory runs out.
-    pub fn of_key(&self, alloc: Global, key: &[u8]) -> Result<Vec<&IndexLine>, AllocError>
+    pub(crate) fn of_key(&self, alloc: Global, key: &[u8]) -> Result<Vec<&IndexLine>, AllocError>
         ensures { IfOk result (λ found. pointed found.items ≡ lines_of_key self.now key.now) }
     {
         lines_at(alloc, &self.lines, self.keys.of(key))
@@ -68,7 +61,7 @@ impl Symbols {
 }
 
 /// The lines of a whole modules.symbols text. It fails only if memory runs out.
-pub fn read_symbols(alloc: Global, text: &[u8]) -> Result<Symbols, AllocError>
+pub(crate) fn read_symbols(alloc: Global, text: &[u8]) -> Result<Symbols, AllocError>
     ensures { IfOk result (λ symbols. symbols ≡ keyed_lines text.now) }
 {
     let mut found = Vec::new(alloc);

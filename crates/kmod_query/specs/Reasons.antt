@@ -62,21 +62,21 @@ objects_by name nothing = []
 -- what a finding says
 abbrev pub said_by : World → Finding → Reason
 said_by world (by.Configured entries) = configured (map pair_of (pointed entries.items))
-said_by world (by.Module line) = in_modules_dep (Some (file_of world.directory.now line.now.path))
-said_by world (by.Exported lines) = exported (map name_of (pointed lines.items))
+said_by world (by.Module line) = in_modules_dep (Some (file_of world.directory.now line.path))
+said_by world (by.Exported lines) = exported (map name_of lines.items)
 said_by world by.Commanded = commanded
-said_by world (by.Aliased lines) = aliased (map name_of (pointed lines.items))
+said_by world (by.Aliased lines) = aliased (map name_of lines.items)
 said_by world by.BuiltIn = built_in
-said_by world (by.AliasedBuiltIn lines) = aliased_built_in (map name_of (pointed lines.items))
+said_by world (by.AliasedBuiltIn lines) = aliased_built_in (map name_of lines.items)
 said_by world by.Nothing = nothing
 
 -- the modules for which a name stands, as a finding says
 abbrev pub found_by : List ℕ → Finding → List Object
 found_by name (by.Configured entries) = by_patterns (map pair_of (pointed entries.items))
 found_by name (by.Module line) = by_name name ∷ []
-found_by name (by.Exported lines) = by_alias name false (map name_of (pointed lines.items))
+found_by name (by.Exported lines) = by_alias name false (map name_of lines.items)
 found_by name by.Commanded = by_name name ∷ []
-found_by name (by.Aliased lines) = by_alias name false (map name_of (pointed lines.items))
+found_by name (by.Aliased lines) = by_alias name false (map name_of lines.items)
 found_by name by.BuiltIn = by_name name ∷ []
-found_by name (by.AliasedBuiltIn lines) = by_alias name true (map name_of (pointed lines.items))
+found_by name (by.AliasedBuiltIn lines) = by_alias name true (map name_of lines.items)
 found_by name by.Nothing = []

@@ -13,7 +13,7 @@ use std::alloc::{AllocError, Global};
 fn is_unlisted(world: &World, name: &[u8], alias: Option<&[u8]>) -> bool
     ensures { result ≡ is_unlisted (facts_of world.now) name.now (option_map (λ own. own.now) alias.entry) }
 {
-    alias.is_none() && world.index.dependencies().find(name).is_none()
+    alias.is_none() && world.index.find(name).is_none()
 }
 
 /// The install line by which a module was found.

@@ -17,17 +17,17 @@ pub enum Finding<'a> {
     /// Aliases of the configuration.
     Configured(Vec<&'a AliasEntry>),
     /// A line of modules.dep.
-    Module(&'a DepLine),
+    Module(DepLine<'a>),
     /// Lines of modules.symbols.
-    Exported(Vec<&'a IndexLine>),
+    Exported(Vec<IndexLine>),
     /// The name of an install or a remove line.
     Commanded,
     /// Lines of modules.alias.
-    Aliased(Vec<&'a IndexLine>),
+    Aliased(Vec<IndexLine>),
     /// A line of modules.builtin.
     BuiltIn,
     /// Entries of modules.builtin.modinfo.
-    AliasedBuiltIn(Vec<&'a IndexLine>),
+    AliasedBuiltIn(Vec<IndexLine>),
     /// No list has the name.
     Nothing,
 }
@@ -82,9 +82,9 @@ fn by_lines(
     alloc: Global,
     alias: &[u8],
     builtin: bool,
-    lines: &[&IndexLine],
+    lines: &[IndexLine],
 ) -> Result<Vec<Object>, AllocError>
-    ensures { IfOk result (λ objects. objects_of objects.items ≡ by_alias alias.now builtin (map name_of (pointed lines.now))) }
+    ensures { IfOk result (λ objects. objects_of objects.items ≡ by_alias alias.now builtin (map name_of lines.now)) }
 {
     let mut found = Vec::new(alloc);
     'lines: for line in lines {

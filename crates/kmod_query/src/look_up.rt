@@ -2,7 +2,6 @@
 #![tactic(auto, unfolding(crate::specs::World::facts_of))]
 
 ghost use Rattle.std.specs.Prelude.{◌≡◌, map, IfOk};
-ghost use Rattle.kmod_index.specs.ForProofs.{pointed};
 ghost use Rattle.kmod_query.specs.LookUp.{found, look_up, look_up_each};
 ghost use Rattle.kmod_query.specs.Objects.{objects_of};
 ghost use Rattle.kmod_query.specs.Probes.{after_of, before_of};
@@ -17,15 +16,11 @@ use kmod_names::{Text, normal_alias};
 use std::alloc::{AllocError, Global};
 
 /// The lines of modules.symbols of a name, where it is that of a symbol.
-fn exporters<'a>(
-    alloc: Global,
-    world: &World<'a>,
-    name: &[u8],
-) -> Result<Vec<&'a IndexLine>, AllocError>
-    ensures { IfOk result (λ lines. map name_of (pointed lines.items) ≡ exporters_of (facts_of world.now) name.now) }
+fn exporters(alloc: Global, world: &World, name: &[u8]) -> Result<Vec<IndexLine>, AllocError>
+    ensures { IfOk result (λ lines. map name_of lines.items ≡ exporters_of (facts_of world.now) name.now) }
 {
     if name.starts_with(b"symbol:") {
-        world.index.symbols().of_key(alloc, name)
+        world.index.symbols_of_key(alloc, name)
     } else {
         Ok(Vec::new(alloc))
     }
@@ -39,7 +34,7 @@ fn aliased_list<'a>(
 ) -> Result<Finding<'a>, AllocError>
     ensures { IfOk result (λ finding. said_by world.now finding ≡ aliased_reason (facts_of world.now) name.now) }
 {
-    let lines = world.index.aliases().matching(alloc, name)?;
+    let lines = world.index.matching_aliases(alloc, name)?;
     if lines.len() > 0 {
         return Ok(Finding::Aliased(lines));
     }
@@ -79,7 +74,7 @@ fn first_list<'a>(alloc: Global, world: &World<'a>, name: &[u8]) -> Result<Findi
     if entries.len() > 0 {
         return Ok(Finding::Configured(entries));
     }
-    if let Some(line) = world.index.dependencies().find(name) {
+    if let Some(line) = world.index.find(name) {
         return Ok(Finding::Module(line));
     }
     exported_list(alloc, world, name)

@@ -106,7 +106,7 @@ pub(crate) fn shown(alloc: Global, conf: &Conf, index: &Index) -> Result<Vec<u8>
     let mut lines = Vec::new(alloc);
     push_configuration(alloc, &mut lines, conf)?;
     lines.extend_from_slice(b"\n# End of configuration files. Dumping indexes now:\n\n")?;
-    push_index(alloc, &mut lines, index.aliases().lines())?;
-    push_index(alloc, &mut lines, index.symbols().lines())?;
+    push_index(alloc, &mut lines, &index.alias_lines(alloc)?)?;
+    push_index(alloc, &mut lines, &index.symbol_lines(alloc)?)?;
     Ok(lines)
 }

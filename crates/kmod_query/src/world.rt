@@ -40,7 +40,7 @@ pub(crate) fn needs_of(
 ) -> Result<Vec<Vec<u8>>, AllocError>
     ensures { IfOk result (λ needs. names_of needs.items ≡ (facts_of world.now).needs name.now) }
 {
-    let needs = world.index.dependencies().hard_needs(alloc, name)?;
+    let needs = world.index.hard_needs(alloc, name)?;
     copied_names(alloc, &needs)
 }
 
@@ -90,7 +90,7 @@ pub(crate) fn path_of(
 ) -> Result<Option<Vec<u8>>, AllocError>
     ensures { IfOk result (λ path. alias_of path ≡ (facts_of world.now).path name.now) }
 {
-    match world.index.dependencies().find(name) {
+    match world.index.find(name) {
         Some(line) => Ok(Some(file_of(alloc, world.directory, line.path())?)),
         None => Ok(None),
     }

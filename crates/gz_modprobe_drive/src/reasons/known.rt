@@ -33,7 +33,7 @@ impl Known<'_> {
     /// Whether modules.dep has a module.
     pub(crate) fn has_file(&self, name: &[u8]) -> bool {
         let asked = self.asked;
-        asked.world.index.dependencies().find(name).is_some()
+        asked.world.index.find(name).is_some()
     }
 
     /// Whether an object is built in.

@@ -40,7 +40,7 @@ impl Told<'_> {
     fn tell_needed(&mut self, name: &[u8]) -> Result<Vec<Text>, AllocError> {
         let asked = self.known.asked;
         let index = asked.world.index;
-        let Some(line) = index.dependencies().find(name) else {
+        let Some(line) = index.find(name) else {
             return Ok(Vec::new(self.alloc));
         };
         let needs = line.needed_names(self.alloc)?;

@@ -43,7 +43,7 @@ impl Told<'_> {
         }
     }
 
-    fn tell_exported(&mut self, word: &[u8], lines: &[&IndexLine]) {
+    fn tell_exported(&mut self, word: &[u8], lines: &[IndexLine]) {
         for line in lines {
             let spot = Spot::Line(SYMBOLS, line.number());
             self.say(word, &[b"exported by ", line.name()], spot);
@@ -51,7 +51,7 @@ impl Told<'_> {
     }
 
     /// Tells the aliases of modules, or those of modules that are built in.
-    fn tell_aliased(&mut self, word: &[u8], is_built_in: bool, lines: &[&IndexLine]) {
+    fn tell_aliased(&mut self, word: &[u8], is_built_in: bool, lines: &[IndexLine]) {
         for line in lines {
             let (what, spot) = alias_of(is_built_in, line.number());
             self.say(word, &[what, line.name(), b", as ", line.key()], spot);
@@ -112,7 +112,7 @@ impl Told<'_> {
     fn tell_near_names(&mut self, word: &[u8], name: &[u8]) -> Result<(), AllocError> {
         let asked = self.known.asked;
         let mut left = NEAR_NAMES;
-        for line in asked.world.index.dependencies().lines() {
+        for line in &asked.world.index.dep_lines(self.alloc)? {
             let own = line.name(self.alloc)?;
             let own = own.as_bytes();
             if left > 0 && (is_same(own, name) || is_near(own, name)) {

@@ -1,0 +1,159 @@
+-- A name that parts early from the text of a line does not match the line's key.
+use Rattle.std.proofs.Common.{◌≡◌, ℕ, Bool, true, false, nat_eq, ◌==◌, ◌&&◌, ◌||◌, if◌then◌else◌, List, [], ◌∷◌, length, Option, Some, None, Result, Ok, Err, refl, ◌∙◌, ap, inl, inr}
+use Rattle.std.specs.List.{list_any}
+use Rattle.std.specs.Option.{option_to_list}
+use Rattle.std.proofs.lemmas.Bool.{or_parts}
+use Rattle.alias_match.specs.declared.read.PatternError.{PatternError}
+use Rattle.alias_match.specs.Pattern.{Piece, byte, is_match}
+use Rattle.alias_match.specs.Reading.{after_item, item_of, pattern_of, pieces_from}
+use Rattle.kmod_names.specs.ForProofs.{is_special}
+use Rattle.kmod_names.specs.Names.{normal_alias, normal_from, put_before}
+use Rattle.kmod_names.specs.Patterns.{matches_pattern, matches_read}
+use Rattle.kmod_names.proofs.PlaceLemmas.{told}
+use Rattle.kmod_index.specs.Aliases.{alias_of_line, in_normal_form, with_key}
+use Rattle.kmod_index.specs.ForProofs.{is_stop, parts_early}
+use Rattle.kmod_index.specs.Lines.{Keyed, alias_parts, keyed_from}
+use Rattle.kmod_index.specs.Parts.{at_last, onto_parts}
+use Rattle.kmod_index.specs.Tries.{is_wild, matching_lines, pattern_of_key}
+
+none_of : (a b c d e : Bool) → (a || b || c || d || e) ≡ false → (a ≡ false) × (b ≡ false) × (c ≡ false) × (d ≡ false) × (e ≡ false)
+none_of true b c d e h = absurd (cc)
+none_of false true c d e h = absurd (cc)
+none_of false false true d e h = absurd (cc)
+none_of false false false true e h = absurd (cc)
+none_of false false false false true h = absurd (cc)
+none_of false false false false false h = (refl, refl, refl, refl, refl)
+
+-- a byte that is not special is an item
+plain_item : (b : ℕ) (s : List ℕ) → is_special b ≡ false → item_of b s ≡ Ok (byte b, s)
+plain_item b [] h =
+    let none = none_of (b == 42) (b == 45) (b == 63) (b == 91) (b == 92) h in
+    rw (none.3, none.0, none.2, none.4, none.1) refl
+plain_item b (c ∷ s) h =
+    let none = none_of (b == 42) (b == 45) (b == 63) (b == 91) (b == 92) h in
+    rw (none.3, none.0, none.2, none.4, none.1) refl
+
+-- whether a pattern has another byte than a text, with only bytes that stand for themselves up to there
+abbrev pattern_parts : List ℕ → List ℕ → Bool
+pattern_parts [] text = false
+pattern_parts (b ∷ pattern) [] = false
+pattern_parts (b ∷ pattern) (n ∷ text) = if is_special b then false else (if b == n then pattern_parts pattern text else true)
+
+-- a pattern behind a byte that stands for itself
+behind_byte : (b : ℕ) (s : List ℕ) → is_special b ≡ false → pattern_of (b ∷ s) ≡ after_item (λ later. pattern_of s) (Ok (byte b, s))
+behind_byte b s h = ap (after_item (pieces_from (length s))) (plain_item b s h)
+
+no_byte : (a b : ℕ) → (a == b) ≡ false → nat_eq a b ≡ false
+no_byte a b h = h
+
+read_none : (b n : ℕ) (s text : List ℕ) (later : Result (List Piece) PatternError) → (b == n) ≡ false → matches_read (after_item (λ rest. later) (Ok (byte b, s))) (n ∷ text) ≡ false
+read_none b n s text (Ok pieces) h = ap (λ t. t && is_match pieces text) (no_byte b n h)
+read_none b n s text (Err fault) h = refl
+
+read_more : (b n : ℕ) (s text : List ℕ) (later : Result (List Piece) PatternError) → matches_read later text ≡ false → matches_read (after_item (λ rest. later) (Ok (byte b, s))) (n ∷ text) ≡ false
+read_more b n s text (Ok pieces) h = ap (λ t. nat_eq b n && t) h ∙ none (nat_eq b n)
+  where
+    none : (t : Bool) → (t && false) ≡ false
+    none true = refl
+    none false = refl
+read_more b n s text (Err fault) h = refl
+
+parts_none : (pattern text : List ℕ) → pattern_parts pattern text ≡ true → matches_pattern pattern text ≡ false
+parts_none [] text h = absurd (cc)
+parts_none (b ∷ s) [] h = absurd (cc)
+parts_none (b ∷ s) (n ∷ text) h = elim (told (is_special b)) [
+  | inl t ↦ absurd (let no : false ≡ true = rw t at h in cc)
+  | inr t ↦ ap (λ read. matches_read read (n ∷ text)) (behind_byte b s t) ∙ elim (told (b == n)) [
+    | inl u ↦ read_more b n s text (pattern_of s) (parts_none s text (rw (t, u) at h))
+    | inr u ↦ read_none b n s text (pattern_of s) u
+  ]
+]
+
+-- the key of two parts parts early from a name
+abbrev pub KeyParts : List ℕ → Option (List ℕ × List ℕ) → Type 0
+KeyParts name None = Unit {0}
+KeyParts name (Some parts) = parts_early parts.0 name ≡ true
+
+onto_same : (b n : ℕ) (name : List ℕ) (parts : Option (List ℕ × List ℕ)) → is_stop b ≡ false → (b == n) ≡ true → KeyParts name parts → KeyParts (n ∷ name) (onto_parts (b ∷ []) parts)
+onto_same b n name None stop same h = tt
+onto_same b n name (Some parts) stop same h = rw (stop, same) h
+
+onto_other : (b n : ℕ) (name : List ℕ) (parts : Option (List ℕ × List ℕ)) → is_stop b ≡ false → (b == n) ≡ false → KeyParts (n ∷ name) (onto_parts (b ∷ []) parts)
+onto_other b n name None stop same = tt
+onto_other b n name (Some parts) stop same = rw (stop, same) refl
+
+no_truth : {A : Type 0} → false ≡ true → A
+no_truth h = absurd (cc)
+
+pub key_parts : (text name : List ℕ) → parts_early text name ≡ true → KeyParts name (at_last 32 text)
+key_parts [] name h = no_truth h
+key_parts (b ∷ text) [] h = no_truth h
+key_parts (b ∷ text) (n ∷ name) h = elim (told (is_stop b)) [
+  | inl t ↦ no_truth (rw t at h)
+  | inr t ↦ elim (told (list_any (λ c. c == 32) text)) [
+    | inl any ↦ elim (told (b == n)) [
+      | inl same ↦ rw any (onto_same b n name (at_last 32 text) t same (key_parts text name (rw (t, same) at h)))
+      | inr same ↦ rw any (onto_other b n name (at_last 32 text) t same)
+    ]
+    | inr any ↦ (let blank : (b == 32) ≡ false = (or_parts (is_special b) (b == 32) t).1 in rw (any, blank) tt)
+  ]
+]
+
+-- the pattern of a normal form parts early from a name
+abbrev pub NormalParts : List ℕ → Option (List ℕ) → Type 0
+NormalParts name None = Unit {0}
+NormalParts name (Some normal) = pattern_parts (pattern_of_key normal) name ≡ true
+
+-- a byte that stands for itself in a key, a normal form and a pattern
+record Plain (b : ℕ) : Type 0 where
+  special : is_special b ≡ false
+  dash : (b == 45) ≡ false
+  bracket : (b == 91) ≡ false
+  slash : (b == 92) ≡ false
+  wild : is_wild b ≡ false
+
+plain : (b : ℕ) → is_stop b ≡ false → Plain b
+plain b h =
+    let special : is_special b ≡ false = (or_parts (is_special b) (b == 32) h).0 in
+    let none = none_of (b == 42) (b == 45) (b == 63) (b == 91) (b == 92) special in
+    record { special = special; dash = none.1; bracket = none.3; slash = none.4; wild = rw (none.0, none.2, none.3) refl }
+
+put_same : (b n : ℕ) (name : List ℕ) (normal : Option (List ℕ)) → Plain b → (b == n) ≡ true → NormalParts name normal → NormalParts (n ∷ name) (put_before (b ∷ []) normal)
+put_same b n name None p same h = tt
+put_same b n name (Some normal) p same h = rw (p.wild, p.slash, p.special, same) h
+
+put_other : (b n : ℕ) (name : List ℕ) (normal : Option (List ℕ)) → Plain b → (b == n) ≡ false → NormalParts (n ∷ name) (put_before (b ∷ []) normal)
+put_other b n name None p same = tt
+put_other b n name (Some normal) p same = rw (p.wild, p.slash, p.special, same) refl
+
+pub normal_parts : (key name : List ℕ) → parts_early key name ≡ true → NormalParts name (normal_from false key)
+normal_parts [] name h = no_truth h
+normal_parts (b ∷ key) [] h = no_truth h
+normal_parts (b ∷ key) (n ∷ name) h = elim (told (is_stop b)) [
+  | inl t ↦ no_truth (rw t at h)
+  | inr t ↦ elim (told (b == 93)) [
+    | inl closes ↦ rw closes tt
+    | inr closes ↦ (let p : Plain b = plain b t in elim (told (b == n)) [
+      | inl same ↦ rw (closes, p.dash, p.bracket) (put_same b n name (normal_from false key) p same (normal_parts key name (rw (t, same) at h)))
+      | inr same ↦ rw (closes, p.dash, p.bracket) (put_other b n name (normal_from false key) p same)
+    ])
+  ]
+]
+
+keyed_none : (line : Keyed) (name : List ℕ) (normal : Option (List ℕ)) → NormalParts name normal → matching_lines (option_to_list (with_key line normal)) name ≡ []
+keyed_none line name None h = refl
+keyed_none line name (Some normal) h = rw (parts_none (pattern_of_key normal) name h) refl
+
+none_of_parts : (number : ℕ) (name : List ℕ) (parts : Option (List ℕ × List ℕ)) → KeyParts name parts → matching_lines (option_to_list (in_normal_form (keyed_from number parts))) name ≡ []
+none_of_parts number name None h = refl
+none_of_parts number name (Some parts) h =
+    keyed_none (record { key = parts.0; name = parts.1; number = number }) name (normal_alias parts.0) (normal_parts parts.0 name h)
+
+-- a line whose parts are these is no alias that a name matches
+pub is_none_of_line : (number : ℕ) (line text name : List ℕ) → alias_parts line ≡ at_last 32 text → parts_early text name ≡ true → matching_lines (option_to_list (alias_of_line (number, line))) name ≡ []
+is_none_of_line number line text name is h =
+    ap (λ parts. matching_lines (option_to_list (in_normal_form (keyed_from number parts))) name) is
+    ∙ none_of_parts number name (at_last 32 text) (key_parts text name h)
+
+pub no_parts : (number : ℕ) (line name : List ℕ) → alias_parts line ≡ None → matching_lines (option_to_list (alias_of_line (number, line))) name ≡ []
+no_parts number line name is = ap (λ parts. matching_lines (option_to_list (in_normal_form (keyed_from number parts))) name) is

@@ -1,0 +1,10 @@
+use Rattle.std.proofs.Common.{arith}
+use Rattle.std.proofs.lemmas.Grind.{common_steps}
+use Rattle.kmod_index.proofs.ScanLemmas.{matching_more}
+use Rattle.kmod_index.proofs.alias_scan.matching_aliases.Goals as goal
+
+pub lines-preserved : goal.lines-preserved
+lines-preserved c = record {
+  said = grind (arith, common_steps, matching_more);
+  few = grind (arith, common_steps);
+}

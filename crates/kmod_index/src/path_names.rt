@@ -1,0 +1,49 @@
+//! Names of modules, compared with the paths of files where these stand.
+ghost use Rattle.std.specs.Prelude.{◌≡◌, map};
+ghost use Rattle.std.specs.Str.{bytes_eq};
+ghost use Rattle.text_parts.specs.Text.{normal_byte};
+ghost use Rattle.kmod_names.specs.Names.{base_of, name_of_path, stem};
+
+use memchr::memrchr;
+
+/// What stands after the last slash.
+fn base_of(path: &[u8]) -> &[u8]
+    ensures { result.now ≡ base_of path.entry.now }
+{
+    match memrchr(b'/', path) {
+        Some(slash) => &path[slash + 1..],
+        None => path,
+    }
+}
+
+fn normal_byte(byte: u8) -> u8
+    ensures { result ≡ normal_byte byte }
+{
+    if byte == b'-' { b'_' } else { byte }
+}
+
+/// Whether a name is what stands before the first dot, with `_` for each `-`.
+fn is_stem(name: &[u8], base: &[u8]) -> bool
+    ensures { result ≡ bytes_eq name.now (map normal_byte (stem base.now)) }
+{
+    let mut rest = name;
+    let mut others = base;
+    while let Some((byte, later)) = rest.split_first() {
+        let Some((other, other_later)) = others.split_first() else {
+            return false;
+        };
+        if *other == b'.' || *byte != normal_byte(*other) {
+            return false;
+        }
+        rest = later;
+        others = other_later;
+    }
+    matches!(others.first(), None | Some(b'.'))
+}
+
+/// Whether a module has the name that its file gives it, as `name_of_path` tells it.
+pub(crate) fn is_name_of_path(name: &[u8], path: &[u8]) -> bool
+    ensures { result ≡ bytes_eq name.now (name_of_path path.now) }
+{
+    is_stem(name, base_of(path))
+}
