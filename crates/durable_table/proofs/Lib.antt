@@ -1,0 +1,3 @@
+mod CommandLemmas
+mod TableLemmas
+mod MomentLemmas

@@ -1,0 +1,8 @@
+use Rattle.std.proofs.Common.{◌≡◌, true, take}
+use Rattle.std.specs.List.{list_all}
+use Rattle.line_journal.specs.Lines.{bytes_of}
+use Rattle.durable_table.specs.Seals.{is_sealed}
+use Rattle.durable_table.proofs.replay.first_changed.Given as goal
+
+abbrev pub invariant-loop-place : goal.invariant-loop-place
+invariant-loop-place l = list_all is_sealed (bytes_of (take l.place l.lines)) ≡ true

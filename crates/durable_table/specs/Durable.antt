@@ -1,0 +1,22 @@
+-- A table and its journal.
+use Rattle.std.specs.Prelude.{◌≡◌, ◌⊎◌, ℕ, List, Some}
+use Rattle.line_journal.specs.Device.{History}
+use Rattle.line_journal.specs.Journal.{IsReady}
+use Rattle.line_journal.specs.declared.journal.Journal.{Journal}
+use Rattle.modprobe.specs.Setup.{Setup}
+use Rattle.held_table.specs.Held.{Held}
+use Rattle.held_lines.specs.Outcomes.{held_line_outcome}
+use Rattle.durable_table.specs.Tables.{table_of}
+
+-- The journal is at rest on the disk, and stands for this table.
+pub record Stands {D : Type 0} (content : D → List ℕ) (history : D → History) (s : Setup) (h : Held) (journal : Journal D) : Type 0 where
+  pub ready : IsReady content history journal
+  pub same : table_of s (content journal.device) ≡ Some h
+
+-- a file stands for this table
+abbrev pub FileStands : Setup → Held → List ℕ → Type 0
+FileStands s h file = table_of s file ≡ Some h
+
+-- a file stands for the table before a line, or for the one after it
+abbrev pub BeforeOrAfter : Setup → Held → List ℕ → List ℕ → Type 0
+BeforeOrAfter s h line file = FileStands s h file ⊎ FileStands s (held_line_outcome s h line).1 file

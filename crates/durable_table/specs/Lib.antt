@@ -1,0 +1,5 @@
+pub mod Seals
+pub mod Commands
+pub mod Tables
+pub mod Durable
+pub mod Opened

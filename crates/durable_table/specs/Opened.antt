@@ -1,0 +1,44 @@
+-- What `open` makes of a device.
+use Rattle.std.specs.Prelude.{◌≡◌, ℕ, List, true, false, Some, None, Result, Ok, Err}
+use Rattle.line_journal.specs.Device.{History}
+use Rattle.line_journal.specs.Lines.{lines_of, behind}
+use Rattle.line_journal.specs.Journal.{MayCut, IsFound}
+use Rattle.line_journal.specs.declared.device.DeviceError.{DeviceError}
+use Rattle.line_journal.specs.declared.recovery.Repair.{Repair}
+use Rattle.modprobe.specs.Setup.{Setup}
+use Rattle.seq_table.specs.declared.modules.Modules.{Ghosts}
+use Rattle.held_lines.specs.Held.{holding}
+use Rattle.durable_table.specs.Commands.{begins_with_head, commands_of}
+use Rattle.durable_table.specs.Tables.{table_of}
+use Rattle.durable_table.specs.Durable.{Stands}
+use Rattle.durable_table.specs.declared.opening.OpenedTable.{OpenedTable}
+use Rattle.durable_table.specs.declared.opening.Read.{Read}
+use Rattle.durable_table.specs.declared.opening.Read.TheVariants as read_as
+use Rattle.durable_table.specs.declared.opening.OpenedTable.TheVariants.{Ready, Foreign, Changed, Damaged}
+
+-- the table that a file stands for, or why there is none
+abbrev pub IsReadAs : {H : Type 0} {g : Ghosts H} → Setup → List ℕ → Read H g → Type 0
+IsReadAs {g = g} s file (read_as.Table session) =
+    (session.setup.now ≡ s) × (table_of s file ≡ Some (holding (g.table session.holders) (g.names session.holders)))
+IsReadAs s file read_as.Foreign = begins_with_head (lines_of file) ≡ false
+IsReadAs s file (read_as.Changed number) = (begins_with_head (lines_of file) ≡ true) × (commands_of (lines_of file) ≡ None)
+
+-- the table that the journal stands for, and what stood behind its lines; or why there is none, and the file as it was
+abbrev pub IsOpenedAs : {H D : Type 0} {g : Ghosts H} → (D → List ℕ) → (D → History) → Setup → Repair → List ℕ → OpenedTable H D g → Type 0
+IsOpenedAs {g = g} content history s repair file (Ready t found) =
+    Stands content history s (holding (g.table t.session.holders) (g.names t.session.holders)) t.journal
+    × (table_of s file ≡ Some (holding (g.table t.session.holders) (g.names t.session.holders)))
+    × (t.session.setup.now ≡ s) × IsFound file found
+IsOpenedAs content history s repair file (Foreign device) = (content device ≡ file) × (begins_with_head (lines_of file) ≡ false)
+IsOpenedAs content history s repair file (Changed device number) =
+    (content device ≡ file) × (begins_with_head (lines_of file) ≡ true) × (commands_of (lines_of file) ≡ None)
+IsOpenedAs content history s repair file (Damaged device found) =
+    (content device ≡ file) × IsFound file found × (MayCut repair (behind file) → ⊥)
+
+-- the device that the answer holds
+abbrev pub device_after : {H D : Type 0} {g : Ghosts H} → Result (OpenedTable H D g) (DeviceError × D) → D
+device_after (Ok (Ready t found)) = t.journal.device
+device_after (Ok (Foreign device)) = device
+device_after (Ok (Changed device number)) = device
+device_after (Ok (Damaged device found)) = device
+device_after (Err (error, device)) = device

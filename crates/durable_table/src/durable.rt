@@ -1,0 +1,66 @@
+//! The table, and the journal that stands for it.
+ghost use Rattle.std.specs.Prelude.{◌≡◌, ◌<◌, false, IfOk, OnOk, OnErr, IsErrOf};
+ghost use Rattle.line_journal.specs.Device.{AlwaysLeaves, TellsFaults};
+ghost use Rattle.line_journal.specs.Lines.{IsLine};
+ghost use Rattle.held_lines.specs.Held.{holding};
+ghost use Rattle.held_lines.specs.Outcomes.{held_line_outcome};
+ghost use Rattle.durable_table.specs.Durable.{Stands, BeforeOrAfter};
+
+use crate::seal::seal;
+use held_lines::{HeldReply, HeldSession, Holders};
+use line_journal::{Device, DeviceError, Journal};
+use std::alloc::{AllocError, Global};
+use thiserror::Error;
+
+/// Why a line was given no reply.
+#[derive(Clone, Copy, Debug, PartialEq, Eq, Drop, Error)]
+pub enum PerformError {
+    /// Out of memory. Nothing was changed, and the table may be used further.
+    #[error("out of memory")]
+    OutOfMemory,
+    /// The journal could not be written. It stands for the table before the line or after it: open it again.
+    #[error("{0}")]
+    Device(DeviceError),
+}
+
+/// A table with named holders, over the catalogue of a setup, and the journal that stands for it.
+#[derive(Drop)]
+pub struct DurableTable<'s, H: Holders, D: Device> {
+    pub(crate) session: HeldSession<'s, H>,
+    pub(crate) journal: Journal<D>,
+}
+
+impl<'s, H: Holders, D: Device> DurableTable<'s, H, D> {
+    /// Makes what a line asks for. At `Ok` the reply is the one of the table, and the journal stands for the table after
+    /// the line, on the disk: each crash from then on leaves a journal that does. A line that changed nothing writes nothing.
+    ///
+    /// A crash at any moment of the call leaves a journal of the table before the line, or of the one after it.
+    #[tactic(auto, using(crate::proofs::MomentLemmas::no_moments, crate::proofs::CommandLemmas::seal_is_line))]
+    pub fn perform(&mut self, alloc: Global, line: &[u8]) -> Result<HeldReply, PerformError>
+        requires stands { Stands D.content D.history self.old.session.setup.now (holding (H.table self.old.session.holders) (H.names self.old.session.holders)) self.old.journal }
+        requires line { IsLine line.now }
+        ensures reply { IfOk result (λ r. r.reply ≡ (held_line_outcome self.old.session.setup.now (holding (H.table self.old.session.holders) (H.names self.old.session.holders)) line.now).0) }
+        ensures becomes { OnOk result (holding (H.table self.new.session.holders) (H.names self.new.session.holders)
+            ≡ (held_line_outcome self.old.session.setup.now (holding (H.table self.old.session.holders) (H.names self.old.session.holders)) line.now).1) }
+        ensures stands { OnOk result (Stands D.content D.history self.old.session.setup.now (holding (H.table self.new.session.holders) (H.names self.new.session.holders)) self.new.journal) }
+        ensures unchanged { IsErrOf result PerformError.OutOfMemory → (self.new.journal ≡ self.old.journal)
+            × (holding (H.table self.new.session.holders) (H.names self.new.session.holders) ≡ holding (H.table self.old.session.holders) (H.names self.old.session.holders)) }
+        ensures any_moment { AlwaysLeaves (D.history self.old.journal.device) (D.history self.new.journal.device)
+            (BeforeOrAfter self.old.session.setup.now (holding (H.table self.old.session.holders) (H.names self.old.session.holders)) line.now) }
+        ensures setup { self.new.session.setup ≡ self.old.session.setup }
+    {
+        let Ok(sealed) = seal(alloc, line) else {
+            return Err(PerformError::OutOfMemory);
+        };
+        let Ok(reply) = self.session.perform(alloc, line) else {
+            return Err(PerformError::OutOfMemory);
+        };
+        if !reply.changed {
+            return Ok(reply);
+        }
+        match self.journal.put(alloc, &sealed) {
+            Ok(()) => Ok(reply),
+            Err(error) => Err(PerformError::Device(error)),
+        }
+    }
+}

@@ -1,0 +1,11 @@
+//! A table with named holders whose journal is on the disk before a reply is given.
+#![tactic(auto)]
+
+mod durable;
+mod head;
+mod opening;
+mod replay;
+mod seal;
+
+pub use durable::{DurableTable, PerformError};
+pub use opening::{OpenedTable, create, open};

@@ -1,0 +1,41 @@
+//! What a journal's lines make of a table.
+ghost use Rattle.std.specs.Prelude.{◌≡◌, ◌<◌, true, false, length, map, drop, IfSome, IfNone, OnOk};
+ghost use Rattle.std.specs.List.{list_all};
+ghost use Rattle.line_journal.specs.Lines.{bytes_of};
+ghost use Rattle.held_lines.specs.Held.{holding};
+ghost use Rattle.held_lines.specs.Outcomes.{after};
+ghost use Rattle.durable_table.specs.Seals.{is_sealed};
+
+use crate::seal::{command_of, is_sealed};
+use held_lines::{HeldSession, Holders};
+use std::alloc::{AllocError, Global};
+
+/// The place of the first line that is not sealed.
+#[tactic(auto, using(crate::proofs::CommandLemmas::one_unsealed))]
+pub(crate) fn first_changed(lines: &[Vec<u8>]) -> Option<usize>
+    ensures none { IfNone result (list_all is_sealed (bytes_of lines.now) ≡ true) }
+    ensures some { IfSome result (λ place. (place < length lines.now) × (list_all is_sealed (bytes_of lines.now) ≡ false)) }
+{
+    for place in 0..lines.len() {
+        if !is_sealed(&lines[place]) {
+            return Some(place);
+        }
+    }
+    None
+}
+
+/// Makes what the command of each line asks for, one after another.
+pub(crate) fn replay<H: Holders>(
+    alloc: Global,
+    session: &mut HeldSession<'_, H>,
+    lines: &[Vec<u8>],
+) -> Result<(), AllocError>
+    ensures after { OnOk result (holding (H.table session.new.holders) (H.names session.new.holders)
+        ≡ after session.old.setup.now (holding (H.table session.old.holders) (H.names session.old.holders)) (map (drop 9) (bytes_of lines.now))) }
+    ensures setup { session.new.setup ≡ session.old.setup }
+{
+    for line in lines {
+        session.perform(alloc, command_of(line))?;
+    }
+    Ok(())
+}
