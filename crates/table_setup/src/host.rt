@@ -3,7 +3,7 @@ ghost use Rattle.std.specs.Prelude.{◌≡◌, ◌++◌, IfOk, OnOk};
 ghost use Rattle.std.specs.List.{flat_map};
 ghost use Rattle.table_setup.specs.Host.{host_catalogue, line_of, module_lines, needs_line};
 
-use kmod_index::{DepLine, read_modules_dep};
+use kmod_index::{DepLine, Index, IndexTexts};
 use kmod_names::Text;
 use std::alloc::{AllocError, Global};
 
@@ -31,7 +31,7 @@ fn push_needs(text: &mut Vec<u8>, names: &[Text]) -> Result<(), AllocError>
 }
 
 /// Adds the lines of a module.
-fn push_module(alloc: Global, text: &mut Vec<u8>, line: &DepLine) -> Result<(), AllocError>
+fn push_module(alloc: Global, text: &mut Vec<u8>, line: &DepLine<'_>) -> Result<(), AllocError>
     ensures { OnOk result (text.new.items ≡ text.old.items ++ module_lines line.now) }
 {
     let name = [line.name(alloc)?];
@@ -41,7 +41,7 @@ fn push_module(alloc: Global, text: &mut Vec<u8>, line: &DepLine) -> Result<(), 
 }
 
 /// Adds the lines of modules, one after another.
-fn push_modules(alloc: Global, text: &mut Vec<u8>, lines: &[DepLine]) -> Result<(), AllocError>
+fn push_modules(alloc: Global, text: &mut Vec<u8>, lines: &[DepLine<'_>]) -> Result<(), AllocError>
     ensures { OnOk result (text.new.items ≡ text.old.items ++ flat_map module_lines lines.now) }
 {
     for line in lines {
@@ -52,12 +52,20 @@ fn push_modules(alloc: Global, text: &mut Vec<u8>, lines: &[DepLine]) -> Result<
 
 /// The catalogue that a text of modules.dep makes: each of its modules, with all that its line lists as needs, without
 /// sizes and parameters. It is of version 3. Its reader says whether it is a catalogue: it is none where a module has two
-/// lines. Only want of memory refuses.
+/// lines. It fails only if memory runs out.
+#[tactic(auto, unfolding(kmod_index::specs::Index::indexes_of))]
 pub fn host_catalogue(alloc: Global, dependencies: &[u8]) -> Result<Vec<u8>, AllocError>
     ensures { IfOk result (λ text. text.items ≡ host_catalogue dependencies.now) }
 {
-    let modules = read_modules_dep(alloc, dependencies)?;
+    let texts = IndexTexts {
+        dep: dependencies,
+        alias: b"",
+        symbols: b"",
+        builtin: b"",
+        builtin_modinfo: b"",
+    };
+    let index = Index::read(alloc, &texts)?;
     let mut text = Vec::from_slice(alloc, b"version 3\n")?;
-    push_modules(alloc, &mut text, modules.lines())?;
+    push_modules(alloc, &mut text, &index.dep_lines(alloc)?)?;
     Ok(text)
 }

@@ -76,7 +76,7 @@ fn push_number(text: &mut Vec<u8>, number: u64) -> Result<(), AllocError>
     text.extend_from_slice(buffer.format(number).as_bytes())
 }
 
-/// The text with its last line. Only want of memory refuses.
+/// The text with its last line. It fails only if memory runs out.
 pub fn seal(text: Vec<u8>) -> Result<Vec<u8>, AllocError>
     ensures { IfOk result (λ bytes. bytes.items ≡ sealed text.items) }
 {
