@@ -1,0 +1,144 @@
+-- Histories by calls.
+use Rattle.std.proofs.Common.{◌≡◌, ◌⊎◌, inl, inr, ⊎_elim, ℕ, zero, suc, ◌+◌, ◌≤◌, List, [], ◌∷◌, ◌++◌, length, take, drop, refl, sym, ◌∙◌, ap, subst, arith, length-append, length-drop, take-append-drop}
+use Rattle.std.proofs.lemmas.List.{length-take-le, take_all, drop-drop}
+use Rattle.std.specs.declared.snapshot.Snapshot.{Snapshot}
+use Rattle.line_journal.specs.Device.{History, overwritten, Torn, Shortened, UnchangedOr, IsOnDisk, Goes}
+use Rattle.file_journal.specs.declared.call.kinds.Call.{Call}
+use Rattle.file_journal.specs.declared.call.kinds.Call.TheVariants.{Write, Cut, Settle, Replace}
+use Rattle.file_journal.specs.declared.call.kinds.Noted.{Noted}
+use Rattle.file_journal.specs.Calls.{With, after_call, after, after_all, WasLeft, anything, MayLeave, call_history, IsNoted}
+
+was_more : (others : List ℕ → Type 0) (calls : List (Snapshot Noted)) (next : Snapshot Noted) (moment : ℕ) (left : List ℕ) → WasLeft others calls moment left → WasLeft others (calls ++ next ∷ []) moment left
+was_more others [] next moment left was = absurd was
+was_more others (first ∷ rest) next zero left (inl is) = inl is
+was_more others (first ∷ rest) next zero left (inr later) = inr (was_more (after others first.value) rest next zero left later)
+was_more others (first ∷ rest) next (suc moment) left was = was_more (after others first.value) rest next moment left was
+
+was_one : (others : List ℕ → Type 0) (calls : List (Snapshot Noted)) (next : Snapshot Noted) (moment : ℕ) (left : List ℕ)
+    → moment ≤ length calls → WasLeft others (calls ++ next ∷ []) moment left → WasLeft others calls moment left ⊎ With next.value.before.value.items (after_all others calls) left
+was_one others [] next zero left le (inl is) = inr is
+was_one others [] next zero left le (inr none) = absurd none
+was_one others [] next (suc moment) left le was = absurd was
+was_one others (first ∷ rest) next zero left le (inl is) = inl (inl is)
+was_one others (first ∷ rest) next zero left le (inr later) = ⊎_elim (λ was. inl (inr was)) (λ is. inr is) (was_one (after others first.value) rest next zero left (omega arith) later)
+was_one others (first ∷ rest) next (suc moment) left le was = was_one (after others first.value) rest next moment left (omega arith) was
+
+was_last : (others : List ℕ → Type 0) (calls : List (Snapshot Noted)) (next : Snapshot Noted) (moment : ℕ) (left : List ℕ)
+    → moment ≤ length calls → With next.value.before.value.items (after_all others calls) left → WasLeft others (calls ++ next ∷ []) moment left
+was_last others [] next zero left le is = inl is
+was_last others [] next (suc moment) left le is = absurd (omega arith)
+was_last others (first ∷ rest) next zero left le is = inr (was_last (after others first.value) rest next zero left (omega arith) is)
+was_last others (first ∷ rest) next (suc moment) left le is = was_last (after others first.value) rest next moment left (omega arith) is
+
+after_more : (others : List ℕ → Type 0) (calls : List (Snapshot Noted)) (next : Snapshot Noted) (left : List ℕ) → after_all others (calls ++ next ∷ []) left → after (after_all others calls) next.value left
+after_more others [] next left is = is
+after_more others (first ∷ rest) next left is = after_more (after others first.value) rest next left is
+
+-- what a call leaves beside what a read returns
+leaves_by : {call : Call} {before replacement : List ℕ} {calls later : List (Snapshot Noted)} → IsNoted call before replacement calls later
+    → (left : List ℕ) → after_all anything later left → after_call call replacement (MayLeave calls before) left
+leaves_by {call} {before} {replacement} {calls} {later} noted left is =
+    let others = after_all anything calls in
+    let call_was = noted.noted.value.call in
+    let replacement_was = noted.noted.value.replacement.value.items in
+    let by_list = after_more anything calls noted.noted left (subst (λ (l : List (Snapshot Noted)). after_all anything l left) noted.more is) in
+    let by_before = subst (λ (f : List ℕ). after_call call_was replacement_was (With f others) left) noted.is_before by_list in
+    let by_replacement = subst (λ (f : List ℕ). after_call call_was f (With before others) left) noted.is_replacement by_before in
+    subst (λ (k : Call). after_call k replacement (With before others) left) noted.is_call by_replacement
+
+module _ (calls : List (Snapshot Noted)) (next : Snapshot Noted) (old new : List ℕ) (is_old : next.value.before.value.items ≡ old) where
+  goes_by : {step : List ℕ → List ℕ → Type 0} → ((left : List ℕ) → MayLeave (calls ++ next ∷ []) new left → (before : List ℕ) × MayLeave calls old before × step before left)
+      → Goes step (call_history calls old) (call_history (calls ++ next ∷ []) new)
+  goes_by {step} steps = record {
+    later = omega (arith, length-append calls (next ∷ []));
+    steps = steps;
+    nothing_else = λ moment left le since. ⊎_elim (λ now. inr now)
+        (λ was. ⊎_elim (λ before. inl (inr before)) (λ is. inl (inl (subst (λ (f : List ℕ). With f (after_all anything calls) left) is_old is))) (was_one anything calls next moment left le was)) since;
+    keeps = λ moment left le since. inr (⊎_elim (λ now. was_last anything calls next moment left le (subst (λ (f : List ℕ). With f (after_all anything calls) left) (sym is_old) now)) (was_more anything calls next moment left) since);
+  }
+
+-- a call that was noted
+pub goes : {step : List ℕ → List ℕ → Type 0} {call : Call} {before replacement : List ℕ} {calls later : List (Snapshot Noted)} → IsNoted call before replacement calls later → (new : List ℕ) → step before new
+    → ((left : List ℕ) → after_call call replacement (MayLeave calls before) left → (b : List ℕ) × MayLeave calls before b × step b left)
+    → Goes step (call_history calls before) (call_history later new)
+goes {step} {call} {before} {replacement} {calls} {later} noted new does steps =
+    let reached : (left : List ℕ) → MayLeave later new left → (b : List ℕ) × MayLeave calls before b × step b left
+    = λ left leaves. ⊎_elim (λ is. (before, inl refl, subst (step before) (sym is) does)) (λ is. steps left (leaves_by noted left is)) leaves in
+    subst (λ (l : List (Snapshot Noted)). Goes step (call_history calls before) (call_history l new)) (sym noted.more)
+    (goes_by calls noted.noted before new noted.is_before (subst (λ (l : List (Snapshot Noted)). (left : List ℕ) → MayLeave l new left → (b : List ℕ) × MayLeave calls before b × step b left) noted.more reached))
+
+-- a call that was not
+pub stays : {step : List ℕ → List ℕ → Type 0} (history : History) → ((left : List ℕ) → step left left) → Goes step history history
+stays {step} history same = record {
+  later = omega arith;
+  steps = λ left leaves. (left, leaves, same left);
+  nothing_else = λ moment left le since. inl since;
+  keeps = λ moment left le since. since;
+}
+
+pub stays_as : {step : List ℕ → List ℕ → Type 0} {calls later : List (Snapshot Noted)} {old new : List ℕ} → later ≡ calls → new ≡ old → ((left : List ℕ) → step left left)
+    → Goes step (call_history calls old) (call_history later new)
+stays_as {step} {calls} {later} {old} {new} same_calls same does =
+    subst (λ (l : List (Snapshot Noted)). Goes step (call_history calls old) (call_history l new)) (sym same_calls)
+    (subst (λ (f : List ℕ). Goes step (call_history calls old) (call_history calls f)) (sym same) (stays (call_history calls old) does))
+
+-- nothing of a write, and all of it
+pub torn_not : (place count : ℕ) (file : List ℕ) → Torn place count file file
+torn_not place count file = record {
+  middle = take count (drop place file);
+  is = sym (take-append-drop place file) ∙ ap (λ (l : List ℕ). take place file ++ l) (sym (take-append-drop count (drop place file)) ∙ ap (λ (l : List ℕ). take count (drop place file) ++ l) (drop-drop count place file));
+  within = taken count (drop place file);
+  no_shorter = omega arith;
+}
+  where
+    taken : (n : ℕ) (l : List ℕ) → length (take n l) ≤ n
+    taken zero l = omega arith
+    taken (suc n) [] = omega arith
+    taken (suc n) (x ∷ l) = omega (arith, taken n l)
+
+pub torn_done : (file bytes : List ℕ) (place : ℕ) → place ≤ length file → Torn place (length bytes) file (overwritten file place bytes)
+torn_done file bytes place le = record {
+  middle = bytes;
+  is = refl;
+  within = omega arith;
+  no_shorter = omega (
+    arith,
+    le,
+    length-append (take place file) (bytes ++ drop (place + length bytes) file),
+    length-append bytes (drop (place + length bytes) file),
+    length-take-le place file le,
+    length-drop (place + length bytes) file,
+  );
+}
+
+-- a cut of what a crash left: of a shorter file all is left
+pub shortened_not : (least : ℕ) (file : List ℕ) → Shortened least file file
+shortened_not least file = record {
+  size = least + length file;
+  no_less = omega arith;
+  is = sym (take_all (least + length file) file (omega arith));
+}
+
+pub shortened_done : (file : List ℕ) (size : ℕ) → Shortened size file (take size file)
+shortened_done file size = record { size = size; no_less = omega arith; is = refl }
+
+-- each kind of call
+pub write_goes : {before : List ℕ} {calls later : List (Snapshot Noted)} (place count : ℕ) → IsNoted (Write place count) before before calls later → (new : List ℕ) → Torn place count before new
+    → Goes (Torn place count) (call_history calls before) (call_history later new)
+write_goes place count noted new does = goes noted new does (λ left is. is)
+
+pub cut_goes : {before : List ℕ} {calls later : List (Snapshot Noted)} (size : ℕ) → IsNoted (Cut size) before before calls later → (new : List ℕ) → Shortened size before new
+    → Goes (Shortened size) (call_history calls before) (call_history later new)
+cut_goes size noted new does = goes noted new does (λ left is. is)
+
+pub settle_goes : {step : List ℕ → List ℕ → Type 0} {before replacement : List ℕ} {calls later : List (Snapshot Noted)} → IsNoted Settle before replacement calls later → (new : List ℕ) → step before new
+    → Goes step (call_history calls before) (call_history later new)
+settle_goes noted new does = goes noted new does (λ left none. absurd none)
+
+pub replace_goes : {before replacement : List ℕ} {calls later : List (Snapshot Noted)} → IsNoted Replace before replacement calls later
+    → Goes (UnchangedOr replacement) (call_history calls before) (call_history later before)
+replace_goes {before} noted = goes noted before (inl refl) (λ left is. ⊎_elim (λ old. (left, old, inl refl)) (λ new. (before, inl refl, inr new)) is)
+
+-- after a sync
+pub settled : {before replacement : List ℕ} {calls later : List (Snapshot Noted)} → IsNoted Settle before replacement calls later → (new : List ℕ) → IsOnDisk new (call_history later new)
+settled noted new left leaves = ⊎_elim (λ is. is) (λ other. absurd (leaves_by noted left other)) leaves

@@ -1,0 +1,4 @@
+pub mod Belief
+pub mod Calls
+pub mod Faults
+pub mod Renewed

@@ -1,0 +1,135 @@
+ghost use Rattle.std.specs.Prelude.{◌≡◌};
+ghost use Rattle.std.specs.IoError.{error_kind};
+ghost use Rattle.file_journal.specs.Faults.{cause_of};
+
+use std::fmt;
+use std::io::{self, ErrorKind};
+
+/// What was asked of the system.
+#[derive(Clone, Copy, Debug, PartialEq, Eq)]
+pub enum Action {
+    Open,
+    Create,
+    Read,
+    Write,
+    Cut,
+    Sync,
+    Rename,
+    Lock,
+}
+
+/// Of which file.
+#[derive(Clone, Copy, Debug, PartialEq, Eq)]
+pub enum Target {
+    Journal,
+    /// The file that is to stand in the journal's place.
+    NewJournal,
+    /// The folder of the journal.
+    Folder,
+    Lock,
+}
+
+/// Why it did not do so.
+#[derive(Clone, Copy, Debug, PartialEq, Eq)]
+pub enum Cause {
+    NotThere,
+    AlreadyThere,
+    NotAllowed,
+    ReadOnly,
+    /// The disk, or what the user may have of it.
+    Full,
+    NoFile,
+    /// Another wrote to it, or the disk lost what was written.
+    ReadsOtherwise,
+    OutOfMemory,
+    Other(ErrorKind),
+}
+
+impl fmt::Display for Action {
+    fn fmt<W: fmt::Write>(&self, f: &mut fmt::Formatter<W>) -> fmt::Result {
+        f.write_str(match self {
+            Action::Open => "open",
+            Action::Create => "create",
+            Action::Read => "read",
+            Action::Write => "write",
+            Action::Cut => "cut",
+            Action::Sync => "sync",
+            Action::Rename => "rename",
+            Action::Lock => "lock",
+        })
+    }
+}
+
+impl fmt::Display for Target {
+    fn fmt<W: fmt::Write>(&self, f: &mut fmt::Formatter<W>) -> fmt::Result {
+        f.write_str(match self {
+            Target::Journal => "the journal",
+            Target::NewJournal => "the new journal",
+            Target::Folder => "the folder",
+            Target::Lock => "the lock",
+        })
+    }
+}
+
+impl fmt::Display for Cause {
+    fn fmt<W: fmt::Write>(&self, f: &mut fmt::Formatter<W>) -> fmt::Result {
+        match self {
+            Cause::NotThere => f.write_str("it is not there"),
+            Cause::AlreadyThere => f.write_str("it is there already"),
+            Cause::NotAllowed => f.write_str("not allowed"),
+            Cause::ReadOnly => f.write_str("the file system is read-only"),
+            Cause::Full => f.write_str("the disk is full"),
+            Cause::NoFile => f.write_str("it is no file"),
+            Cause::ReadsOtherwise => f.write_str("it does not read as it was written"),
+            Cause::OutOfMemory => f.write_str("out of memory"),
+            Cause::Other(kind) => fmt::Display::fmt(kind, f),
+        }
+    }
+}
+
+/// The cause that an error of the system tells.
+fn cause_of(error: &io::Error) -> Cause
+    ensures { result ≡ cause_of (error_kind error.now) }
+{
+    match error.kind() {
+        ErrorKind::NotFound => Cause::NotThere,
+        ErrorKind::AlreadyExists => Cause::AlreadyThere,
+        ErrorKind::PermissionDenied => Cause::NotAllowed,
+        ErrorKind::ReadOnlyFilesystem => Cause::ReadOnly,
+        ErrorKind::StorageFull => Cause::Full,
+        ErrorKind::QuotaExceeded => Cause::Full,
+        ErrorKind::IsADirectory => Cause::NoFile,
+        ErrorKind::OutOfMemory => Cause::OutOfMemory,
+        kind => Cause::Other(kind),
+    }
+}
+
+/// What failed, of which file, and why.
+#[derive(Clone, Copy, Debug, PartialEq, Eq)]
+pub struct FileFault {
+    pub action: Action,
+    pub target: Target,
+    pub cause: Cause,
+}
+
+impl FileFault {
+    pub(crate) fn of(action: Action, target: Target, error: &io::Error) -> Self
+        ensures action { result.action ≡ action }
+        ensures target { result.target ≡ target }
+        ensures cause { result.cause ≡ cause_of (error_kind error.now) }
+    {
+        FileFault {
+            action,
+            target,
+            cause: cause_of(error),
+        }
+    }
+}
+
+impl fmt::Display for FileFault {
+    fn fmt<W: fmt::Write>(&self, f: &mut fmt::Formatter<W>) -> fmt::Result {
+        write!(f, "cannot {} {}: {}", self.action, self.target, self.cause)
+    }
+}
+
+impl std::error::Error for FileFault {}

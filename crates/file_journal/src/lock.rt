@@ -1,0 +1,122 @@
+use crate::disk_file::path_in;
+use crate::fault::{Action, FileFault, Target};
+use std::alloc::{AllocError, Global};
+use std::fs::{File, TryLockError};
+use std::io::{self, ErrorKind};
+use std::rt::{Clock, Files};
+use std::time::{Duration, Instant};
+use std::{fmt, thread};
+
+/// Who may have a folder's lock at the same time.
+#[derive(Clone, Copy, Debug, PartialEq, Eq)]
+pub enum LockKind {
+    /// Others that read.
+    Shared,
+    /// Nobody.
+    Exclusive,
+}
+
+/// Why a lock was not taken.
+#[derive(Clone, Copy, Debug, PartialEq, Eq)]
+pub enum LockError {
+    OutOfMemory,
+    /// Others held it for all the time that was to be waited.
+    Held,
+    Failed(FileFault),
+}
+
+impl fmt::Display for LockError {
+    fn fmt<W: fmt::Write>(&self, f: &mut fmt::Formatter<W>) -> fmt::Result {
+        match self {
+            LockError::OutOfMemory => f.write_str("out of memory"),
+            LockError::Held => f.write_str("others hold the lock"),
+            LockError::Failed(fault) => fmt::Display::fmt(fault, f),
+        }
+    }
+}
+
+impl std::error::Error for LockError {}
+
+impl From<AllocError> for LockError {
+    fn from(_: AllocError) -> Self {
+        LockError::OutOfMemory
+    }
+}
+
+/// The lock of a folder, which is flock(2) on the file `lock` in it. It is given back where it is dropped.
+#[derive(Drop)]
+pub struct FolderLock {
+    file: File,
+}
+
+fn failed(error: io::Error) -> LockError {
+    match error.kind() {
+        ErrorKind::OutOfMemory => LockError::OutOfMemory,
+        _ => LockError::Failed(FileFault::of(Action::Lock, Target::Lock, &error)),
+    }
+}
+
+/// Opens the file of a lock, and makes it where it is not there.
+fn open_lock<R: Files<File = File>>(rt: &R, path: &str) -> io::Result<File> {
+    match File::open(rt, path) {
+        Err(error) if error.kind() == ErrorKind::NotFound => {
+            let mut options = File::options();
+            options.read(true).write(true).create(true);
+            options.open(rt, path)
+        }
+        opened => opened,
+    }
+}
+
+/// Whether the lock is taken now.
+fn is_taken(file: &File, kind: LockKind) -> io::Result<bool> {
+    let tried = match kind {
+        LockKind::Shared => file.try_lock_shared(),
+        LockKind::Exclusive => file.try_lock(),
+    };
+    match tried {
+        Ok(()) => Ok(true),
+        Err(TryLockError::WouldBlock) => Ok(false),
+        Err(TryLockError::Error(error)) => Err(error),
+    }
+}
+
+/// Tries until the lock is taken, or the time is over.
+fn wait_for<R: Clock>(rt: &R, file: &File, kind: LockKind, limit: Duration) -> io::Result<bool> {
+    let start = Instant::now(rt)?;
+    for _ in 0..u64::MAX {
+        if is_taken(file, kind)? {
+            return Ok(true);
+        }
+        if start.elapsed(rt)? >= limit {
+            break;
+        }
+        thread::sleep(rt, Duration::from_millis(10));
+    }
+    Ok(false)
+}
+
+impl FolderLock {
+    /// Takes the lock of a folder. Where others hold it, it is tried again every 10 milliseconds, for so many seconds.
+    pub fn acquire<R: Files<File = File> + Clock>(
+        rt: &R,
+        alloc: Global,
+        folder: &str,
+        kind: LockKind,
+        seconds: u32,
+    ) -> Result<Self, LockError> {
+        let path = path_in(alloc, folder, "lock", "")?;
+        let file = open_lock(rt, path.as_str()).map_err(failed)?;
+        let limit = Duration::from_secs(u64::from(seconds));
+        if wait_for(rt, &file, kind, limit).map_err(failed)? {
+            Ok(FolderLock { file })
+        } else {
+            Err(LockError::Held)
+        }
+    }
+
+    /// Gives the lock back.
+    pub fn release(self) {
+        let FolderLock { file: _ } = self;
+    }
+}
