@@ -28,7 +28,7 @@ abbrev pub IsOpenedAs : {H D : Type 0} {g : Ghosts H} → (D → List ℕ) → (
 IsOpenedAs {g = g} content history s repair file (Ready t found) =
     Stands content history s (holding (g.table t.session.holders) (g.names t.session.holders)) t.journal
     × (table_of s file ≡ Some (holding (g.table t.session.holders) (g.names t.session.holders)))
-    × (t.session.setup.now ≡ s) × IsFound file found
+    × (t.session.setup.now ≡ s) × IsFound file found × MayCut repair (behind file)
 IsOpenedAs content history s repair file (Foreign device) = (content device ≡ file) × (begins_with_head (lines_of file) ≡ false)
 IsOpenedAs content history s repair file (Changed device number) =
     (content device ≡ file) × (begins_with_head (lines_of file) ≡ true) × (commands_of (lines_of file) ≡ None)
