@@ -11,7 +11,7 @@ use Rattle.std.proofs.lemmas.Slice.Eq.{starts_is}
 use Rattle.table_setup.specs.Sums.{adler32}
 use Rattle.line_journal.specs.Lines.{bytes_of, IsLine}
 use Rattle.durable_table.specs.Seals.{digit, front, seal, is_sealed}
-use Rattle.durable_table.specs.Commands.{head, begins_with_head, commands_in, commands_of}
+use Rattle.durable_table.specs.Commands.{head, begins_with_head, commands_in, commands_of, first_unsealed, changed_line}
 
 pub begins_by_first : (lines : List (Vec ℕ Global)) (other : Vec ℕ Global) → 0 < length lines
     → begins_with_head (bytes_of lines) ≡ bytes_eq (slice_index_or lines 0 other).items head
@@ -28,6 +28,11 @@ pub one_unsealed : (lines : List (Vec ℕ Global)) (place : ℕ) (other : Vec �
 one_unsealed [] place other within fails = absurd (omega (arith, within))
 one_unsealed (first ∷ rest) zero other within fails = grind (arith, fails)
 one_unsealed (first ∷ rest) (suc place) other within fails = grind (arith, one_unsealed rest place other (omega (arith, within)) fails)
+
+-- the lines behind the first have the numbers from 2 on
+pub changed_behind : (lines : List (Vec ℕ Global)) → first_unsealed 2 (bytes_of (drop 1 lines)) ≡ changed_line (bytes_of lines)
+changed_behind [] = refl
+changed_behind (first ∷ rest) = refl
 
 -- what a seal seals stands behind its first nine bytes
 unsealed : (line : List ℕ) → drop 9 (seal line) ≡ line

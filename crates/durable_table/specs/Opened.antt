@@ -8,7 +8,7 @@ use Rattle.line_journal.specs.declared.recovery.Repair.{Repair}
 use Rattle.modprobe.specs.Setup.{Setup}
 use Rattle.seq_table.specs.declared.modules.Modules.{Ghosts}
 use Rattle.held_lines.specs.Held.{holding}
-use Rattle.durable_table.specs.Commands.{begins_with_head, commands_of}
+use Rattle.durable_table.specs.Commands.{begins_with_head, commands_of, changed_line}
 use Rattle.durable_table.specs.Tables.{table_of}
 use Rattle.durable_table.specs.Durable.{Stands}
 use Rattle.durable_table.specs.declared.opening.OpenedTable.{OpenedTable}
@@ -21,7 +21,8 @@ abbrev pub IsReadAs : {H : Type 0} {g : Ghosts H} → Setup → List ℕ → Rea
 IsReadAs {g = g} s file (read_as.Table session) =
     (session.setup.now ≡ s) × (table_of s file ≡ Some (holding (g.table session.holders) (g.names session.holders)))
 IsReadAs s file read_as.Foreign = begins_with_head (lines_of file) ≡ false
-IsReadAs s file (read_as.Changed number) = (begins_with_head (lines_of file) ≡ true) × (commands_of (lines_of file) ≡ None)
+IsReadAs s file (read_as.Changed number) =
+    (begins_with_head (lines_of file) ≡ true) × (commands_of (lines_of file) ≡ None) × (changed_line (lines_of file) ≡ Some number)
 
 -- the table that the journal stands for, and what stood behind its lines; or why there is none, and the file as it was
 abbrev pub IsOpenedAs : {H D : Type 0} {g : Ghosts H} → (D → List ℕ) → (D → History) → Setup → Repair → List ℕ → OpenedTable H D g → Type 0
@@ -32,6 +33,7 @@ IsOpenedAs {g = g} content history s repair file (Ready t found) =
 IsOpenedAs content history s repair file (Foreign device) = (content device ≡ file) × (begins_with_head (lines_of file) ≡ false)
 IsOpenedAs content history s repair file (Changed device number) =
     (content device ≡ file) × (begins_with_head (lines_of file) ≡ true) × (commands_of (lines_of file) ≡ None)
+    × (changed_line (lines_of file) ≡ Some number)
 IsOpenedAs content history s repair file (Damaged device found) =
     (content device ≡ file) × IsFound file found × (MayCut repair (behind file) → ⊥)
 

@@ -39,7 +39,7 @@ pub enum OpenedTable<'s, H: Holders, D: Device> {
     Ready(DurableTable<'s, H, D>, Found),
     /// The file does not begin with the first line of a journal. It is as it was.
     Foreign(D),
-    /// This line of the journal, from 1, has not the sum of its command. The file is as it was.
+    /// The first line of the journal, from 1, that has not the sum of its command. The file is as it was.
     Changed(D, usize),
     /// More would be cut off behind the lines than may be. The file is as it was.
     Damaged(D, Found),
@@ -53,6 +53,7 @@ enum Read<'s, H: Holders> {
 }
 
 /// Reads the table that a journal stands for. The file stays as it is.
+#[tactic(auto, using(crate::proofs::CommandLemmas::changed_behind))]
 fn read_table<'s, H: Holders, D: Device>(
     alloc: Global,
     setup: &'s Setup,
@@ -71,8 +72,8 @@ fn read_table<'s, H: Holders, D: Device>(
         return Ok(Read::Foreign);
     }
     let lines = &found.lines[1..];
-    if let Some(place) = first_changed(lines) {
-        return Ok(Read::Changed(place + 2));
+    if let Some(number) = first_changed(lines) {
+        return Ok(Read::Changed(number));
     }
     let mut session = HeldSession::new(setup, holders);
     replay(alloc, &mut session, lines)?;

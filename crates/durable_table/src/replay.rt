@@ -1,24 +1,26 @@
 //! What a journal's lines make of a table.
-ghost use Rattle.std.specs.Prelude.{◌≡◌, ◌<◌, true, false, length, map, drop, IfSome, IfNone, OnOk};
+ghost use Rattle.std.specs.Prelude.{◌≡◌, true, false, map, drop, IfSome, IfNone, OnOk};
 ghost use Rattle.std.specs.List.{list_all};
 ghost use Rattle.line_journal.specs.Lines.{bytes_of};
 ghost use Rattle.held_lines.specs.Held.{holding};
 ghost use Rattle.held_lines.specs.Outcomes.{after};
 ghost use Rattle.durable_table.specs.Seals.{is_sealed};
+ghost use Rattle.durable_table.specs.Commands.{first_unsealed};
 
 use crate::seal::{command_of, is_sealed};
 use held_lines::{HeldSession, Holders};
 use std::alloc::{AllocError, Global};
 
-/// The place of the first line that is not sealed.
+/// The number of the first line that is not sealed. The lines are those behind the first one, so they begin with number 2.
 #[tactic(auto, using(crate::proofs::CommandLemmas::one_unsealed))]
 pub(crate) fn first_changed(lines: &[Vec<u8>]) -> Option<usize>
+    ensures number { result ≡ first_unsealed 2 (bytes_of lines.now) }
     ensures none { IfNone result (list_all is_sealed (bytes_of lines.now) ≡ true) }
-    ensures some { IfSome result (λ place. (place < length lines.now) × (list_all is_sealed (bytes_of lines.now) ≡ false)) }
+    ensures some { IfSome result (λ _. list_all is_sealed (bytes_of lines.now) ≡ false) }
 {
     for place in 0..lines.len() {
         if !is_sealed(&lines[place]) {
-            return Some(place);
+            return Some(place + 2);
         }
     }
     None
