@@ -43,6 +43,8 @@ impl<'s, H: Holders, D: Device> DurableTable<'s, H, D> {
         ensures becomes { OnOk result (holding (H.table self.new.session.holders) (H.names self.new.session.holders)
             ≡ (held_line_outcome self.old.session.setup.now (holding (H.table self.old.session.holders) (H.names self.old.session.holders)) line.now).1) }
         ensures stands { OnOk result (Stands D.content D.history self.old.session.setup.now (holding (H.table self.new.session.holders) (H.names self.new.session.holders)) self.new.journal) }
+        ensures idle { IfOk result (λ r. r.changed ≡ false → self.new.journal ≡ self.old.journal) }
+        ensures same { IfOk result (λ r. r.changed ≡ false → holding (H.table self.new.session.holders) (H.names self.new.session.holders) ≡ holding (H.table self.old.session.holders) (H.names self.old.session.holders)) }
         ensures unchanged { IsErrOf result PerformError.OutOfMemory → (self.new.journal ≡ self.old.journal)
             × (holding (H.table self.new.session.holders) (H.names self.new.session.holders) ≡ holding (H.table self.old.session.holders) (H.names self.old.session.holders)) }
         ensures any_moment { AlwaysLeaves (D.history self.old.journal.device) (D.history self.new.journal.device)
