@@ -1,8 +1,9 @@
 //! How a journal begins, and how a table is made of one that is there.
-ghost use Rattle.std.specs.Prelude.{◌≡◌, ◌⊎◌, false, [], ◌∷◌, Some, None, IfOk, IfErr, OnOk};
+ghost use Rattle.std.specs.Prelude.{◌≡◌, ◌⊎◌, ◌<◌, [], ◌∷◌, Some, IfOk, IfErr, OnOk};
 ghost use Rattle.dep_index.specs.Catalogue.{modules_of};
 ghost use Rattle.modprobe.specs.Setup.{Setup as AnySetup};
-ghost use Rattle.line_journal.specs.Device.{IsOnDisk, AlwaysLeaves, Goes, UnchangedOr};
+ghost use Rattle.line_journal.specs.Device.{IsOnDisk, AlwaysLeaves, Goes, UnchangedOr, TellsFaults};
+ghost use Rattle.line_journal.specs.declared.device.DeviceError.TheVariants.{Failed};
 ghost use Rattle.line_journal.specs.Lines.{lines_of, at_rest, StandsFor};
 ghost use Rattle.held_lines.specs.Held.{holding};
 ghost use Rattle.durable_table.specs.Tables.{opening_of, table_of};
@@ -28,6 +29,7 @@ pub fn create<D: Device>(device: &mut D) -> Result<(), DeviceError>
     ensures opens { OnOk result ((s : AnySetup) → table_of s (D.content device.new) ≡ Some (opening_of s)) }
     ensures on_disk { OnOk result (IsOnDisk (D.content device.new) (D.history device.new)) }
     ensures any_moment { Goes (UnchangedOr (at_rest (head ∷ []))) (D.history device.old) (D.history device.new) }
+    ensures faults { TellsFaults (D.faults device.old) (D.faults device.new) result }
 {
     device.replace(NEW_JOURNAL)
 }
@@ -66,6 +68,7 @@ fn read_table<'s, H: Holders, D: Device>(
     ensures content { D.content device.new ≡ D.content device.old }
     ensures on_disk { OnOk result (IsOnDisk (D.content device.old) (D.history device.new)) }
     ensures any_moment { AlwaysLeaves (D.history device.old) (D.history device.new) (D.history device.old).leaves }
+    ensures faults { TellsFaults (D.faults device.old) (D.faults device.new) result }
 {
     let found = look(alloc, device)?;
     if !has_head(&found.lines) {
@@ -96,6 +99,7 @@ pub fn open<'s, H: Holders, D: Device>(
     ensures opened { IfOk result (IsOpenedAs D.content D.history setup.now repair (D.content device)) }
     ensures any_moment { AlwaysLeaves (D.history device) (D.history (device_after result))
         (λ file. StandsFor (lines_of (D.content device)) file ⊎ (D.history device).leaves file) }
+    ensures faults { IfErr result (λ error. error.0 ≡ Failed → D.faults device < D.faults error.1) }
 {
     match read_table(alloc, setup, holders, &mut device) {
         Err(error) => Err((error, device)),
