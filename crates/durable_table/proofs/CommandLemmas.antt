@@ -35,10 +35,10 @@ changed_behind [] = refl
 changed_behind (first ∷ rest) = refl
 
 -- what a seal seals stands behind its first nine bytes
-unsealed : (line : List ℕ) → drop 9 (seal line) ≡ line
+pub unsealed : (line : List ℕ) → drop 9 (seal line) ≡ line
 unsealed line = refl
 
-seal_is_sealed : (line : List ℕ) → is_sealed (seal line) ≡ true
+pub seal_is_sealed : (line : List ℕ) → is_sealed (seal line) ≡ true
 seal_is_sealed line = (starts_is Decides-eqb (seal line) (front line) _ refl).1 line refl
 
 -- a command more

@@ -1,3 +1,4 @@
 mod CommandLemmas
 mod TableLemmas
 mod MomentLemmas
+mod GroupLemmas

@@ -2,4 +2,5 @@ pub mod Seals
 pub mod Commands
 pub mod Tables
 pub mod Durable
+pub mod Groups
 pub mod Opened

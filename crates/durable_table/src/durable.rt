@@ -15,10 +15,10 @@ use thiserror::Error;
 /// Why a line was given no reply.
 #[derive(Clone, Copy, Debug, PartialEq, Eq, Drop, Error)]
 pub enum PerformError {
-    /// Out of memory. Nothing was changed, and the table may be used further.
+    /// Out of memory. The journal is as it was.
     #[error("out of memory")]
     OutOfMemory,
-    /// The journal could not be written. It stands for the table before the line or after it: open it again.
+    /// The journal could not be written. It stands for what a crash might have left: open it again.
     #[error("{0}")]
     Device(DeviceError),
 }
@@ -34,7 +34,8 @@ impl<'s, H: Holders, D: Device> DurableTable<'s, H, D> {
     /// Makes what a line asks for. At `Ok` the reply is the one of the table, and the journal stands for the table after
     /// the line, on the disk: each crash from then on leaves a journal that does. A line that changed nothing writes nothing.
     ///
-    /// A crash at any moment of the call leaves a journal of the table before the line, or of the one after it.
+    /// A crash at any moment of the call leaves a journal of the table before the line, or of the one after it. Out of
+    /// memory, nothing was changed, and the table may be used further.
     #[tactic(auto, using(crate::proofs::MomentLemmas::no_moments, crate::proofs::CommandLemmas::seal_is_line))]
     pub fn perform(&mut self, alloc: Global, line: &[u8]) -> Result<HeldReply, PerformError>
         requires stands { Stands D.content D.history self.old.session.setup.now (holding (H.table self.old.session.holders) (H.names self.old.session.holders)) self.old.journal }

@@ -2,6 +2,7 @@
 #![tactic(auto)]
 
 mod durable;
+mod group;
 mod head;
 mod opening;
 mod replay;

@@ -1,0 +1,38 @@
+-- Lines that are made as one group.
+use Rattle.std.specs.Prelude.{◌≡◌, ◌≤◌, ℕ, true, false, List, [], ◌∷◌, length, map, take, drop, All}
+use Rattle.std.specs.List.{list_all}
+use Rattle.line_journal.specs.Lines.{AreLines}
+use Rattle.modprobe.specs.Setup.{Setup}
+use Rattle.held_table.specs.Held.{Held}
+use Rattle.held_lines.specs.declared.reply.HeldReply.{HeldReply}
+use Rattle.modprobe.specs.Outcomes.{Outcome}
+use Rattle.held_lines.specs.Outcomes.{held_line_outcome, after}
+use Rattle.durable_table.specs.Seals.{is_sealed}
+use Rattle.durable_table.specs.Durable.{FileStands}
+
+-- what lines are answered, one after another
+abbrev pub replies_of : Setup → Held → List (List ℕ) → List Outcome
+replies_of s h [] = []
+replies_of s h (line ∷ lines) = (held_line_outcome s h line).0 ∷ replies_of s (held_line_outcome s h line).1 lines
+
+-- a file stands for the table after the first of some lines: none, some or all
+abbrev pub AfterFirstOf : Setup → Held → List (List ℕ) → List ℕ → Type 0
+AfterFirstOf s h lines file = (count : ℕ) × (count ≤ length lines) × FileStands s (after s h (take count lines)) file
+
+-- The kept ones of some lines leave what all of them leave, and the first of the kept ones what the first of all leave.
+pub record LeavesAsMuch (s : Setup) (h : Held) (lines kept : List (List ℕ)) : Type 0 where
+  pub all : after s h kept ≡ after s h lines
+  pub each : (k : ℕ) → (count : ℕ) × (count ≤ length lines) × (after s h (take k kept) ≡ after s h (take count lines))
+
+-- no reply tells a change
+abbrev pub AreIdle : List HeldReply → Type 0
+AreIdle replies = All (λ r. r.changed ≡ false) replies
+
+-- Lines were made on a table: what they are answered, the table after them, and the seals of those that are kept.
+pub record AreMade (s : Setup) (h new : Held) (lines : List (List ℕ)) (replies : List HeldReply) (sealed : List (List ℕ)) : Type 0 where
+  pub answered : map (λ r. r.reply) replies ≡ replies_of s h lines
+  pub becomes : new ≡ after s h lines
+  pub seals : list_all is_sealed sealed ≡ true
+  pub are_lines : AreLines sealed
+  pub kept : LeavesAsMuch s h lines (map (drop 9) sealed)
+  pub idle : AreIdle replies → sealed ≡ []

@@ -1,0 +1,101 @@
+//! Lines that are there already, made as one group.
+ghost use Rattle.std.specs.Prelude.{◌≡◌, ◌++◌, ◌∷◌, [], false, if◌then◌else◌, map, IfOk, OnOk, IsErrOf};
+ghost use Rattle.line_journal.specs.Device.{AlwaysLeaves};
+ghost use Rattle.line_journal.specs.Lines.{bytes_of, IsLine, AreLines};
+ghost use Rattle.held_lines.specs.Held.{holding};
+ghost use Rattle.held_lines.specs.Outcomes.{after, held_line_outcome};
+ghost use Rattle.durable_table.specs.Seals.{seal};
+ghost use Rattle.durable_table.specs.Durable.{Stands};
+ghost use Rattle.durable_table.specs.Groups.{replies_of, AfterFirstOf, AreIdle, AreMade};
+
+use crate::durable::{DurableTable, PerformError};
+use crate::seal::seal;
+use held_lines::{HeldReply, HeldSession, Holders};
+use line_journal::Device;
+use std::alloc::{AllocError, Global};
+
+/// What lines are answered in memory, and the seals of those that may have changed anything.
+#[derive(Drop)]
+struct Group {
+    replies: Vec<HeldReply>,
+    sealed: Vec<Vec<u8>>,
+}
+
+/// Makes what a line asks for, in memory. If that may have changed anything, the seal of the line comes behind the others.
+fn make<H: Holders>(
+    alloc: Global,
+    session: &mut HeldSession<'_, H>,
+    line: &[u8],
+    sealed: &mut Vec<Vec<u8>>,
+) -> Result<HeldReply, AllocError>
+    ensures reply { IfOk result (λ r. r.reply ≡ (held_line_outcome session.old.setup.now (holding (H.table session.old.holders) (H.names session.old.holders)) line.now).0) }
+    ensures becomes { OnOk result (holding (H.table session.new.holders) (H.names session.new.holders)
+        ≡ (held_line_outcome session.old.setup.now (holding (H.table session.old.holders) (H.names session.old.holders)) line.now).1) }
+    ensures same { IfOk result (λ r. r.changed ≡ false → holding (H.table session.new.holders) (H.names session.new.holders) ≡ holding (H.table session.old.holders) (H.names session.old.holders)) }
+    ensures sealed { IfOk result (λ r. bytes_of sealed.new.items ≡ bytes_of sealed.old.items ++ (if r.changed then seal line.now ∷ [] else [])) }
+    ensures setup { session.new.setup ≡ session.old.setup }
+{
+    let reply = session.perform(alloc, line)?;
+    if reply.changed {
+        sealed.push(seal(alloc, line)?)?;
+    }
+    Ok(reply)
+}
+
+/// Makes what each line asks for, in memory, one after another.
+fn make_each<H: Holders>(
+    alloc: Global,
+    session: &mut HeldSession<'_, H>,
+    lines: &[Vec<u8>],
+) -> Result<Group, AllocError>
+    requires { AreLines (bytes_of lines.now) }
+    ensures made { IfOk result (λ group. AreMade session.old.setup.now (holding (H.table session.old.holders) (H.names session.old.holders)) (holding (H.table session.new.holders) (H.names session.new.holders))
+        (bytes_of lines.now) group.replies.items (bytes_of group.sealed.items)) }
+    ensures setup { session.new.setup ≡ session.old.setup }
+{
+    let mut replies = Vec::new(alloc);
+    let mut sealed = Vec::new(alloc);
+    for line in lines {
+        replies.push(make(alloc, session, line, &mut sealed)?)?;
+    }
+    Ok(Group { replies, sealed })
+}
+
+impl<'s, H: Holders, D: Device> DurableTable<'s, H, D> {
+    /// Makes what lines ask for, one after another, as one group: the disk is waited for as often as for one line. At `Ok` the
+    /// replies are those of the table, in order, and the journal stands for the table after all of them, on the disk: each
+    /// crash from then on leaves a journal that does. Lines that changed nothing are not written.
+    ///
+    /// A crash at any moment of the call leaves a journal of the table after the first of the lines: none, some or all. It
+    /// leaves open gates behind the lines that count, at most one less than the group has lines: `open` needs a `Repair` for
+    /// that. Out of memory, the journal is as it was; but some lines may have been made in memory, so open it again.
+    #[tactic(auto, using(crate::proofs::GroupLemmas::none_written, crate::proofs::GroupLemmas::idle_stands))]
+    pub fn perform_all(
+        &mut self,
+        alloc: Global,
+        lines: &[Vec<u8>],
+    ) -> Result<Vec<HeldReply>, PerformError>
+        requires stands { Stands D.content D.history self.old.session.setup.now (holding (H.table self.old.session.holders) (H.names self.old.session.holders)) self.old.journal }
+        requires lines { AreLines (bytes_of lines.now) }
+        ensures replies { IfOk result (λ replies. map (λ r. r.reply) replies.items ≡ replies_of self.old.session.setup.now (holding (H.table self.old.session.holders) (H.names self.old.session.holders)) (bytes_of lines.now)) }
+        ensures becomes { OnOk result (holding (H.table self.new.session.holders) (H.names self.new.session.holders)
+            ≡ after self.old.session.setup.now (holding (H.table self.old.session.holders) (H.names self.old.session.holders)) (bytes_of lines.now)) }
+        ensures stands { OnOk result (Stands D.content D.history self.old.session.setup.now (holding (H.table self.new.session.holders) (H.names self.new.session.holders)) self.new.journal) }
+        ensures idle { IfOk result (λ replies. AreIdle replies.items → self.new.journal ≡ self.old.journal) }
+        ensures unchanged { IsErrOf result PerformError.OutOfMemory → self.new.journal ≡ self.old.journal }
+        ensures any_moment { AlwaysLeaves (D.history self.old.journal.device) (D.history self.new.journal.device)
+            (AfterFirstOf self.old.session.setup.now (holding (H.table self.old.session.holders) (H.names self.old.session.holders)) (bytes_of lines.now)) }
+        ensures setup { self.new.session.setup ≡ self.old.session.setup }
+    {
+        let Ok(Group { replies, sealed }) = make_each(alloc, &mut self.session, lines) else {
+            return Err(PerformError::OutOfMemory);
+        };
+        if sealed.is_empty() {
+            return Ok(replies);
+        }
+        match self.journal.put_group(alloc, &sealed) {
+            Ok(()) => Ok(replies),
+            Err(error) => Err(PerformError::Device(error)),
+        }
+    }
+}
