@@ -1,8 +1,9 @@
 //! The table, and the journal that stands for it.
-ghost use Rattle.std.specs.Prelude.{◌≡◌, ◌<◌, false, IfOk, OnOk, IsErrOf};
+ghost use Rattle.std.specs.Prelude.{◌≡◌, ◌⊎◌, ◌<◌, false, IfOk, OnOk, IsErrOf};
 ghost use Rattle.line_journal.specs.Device.{AlwaysLeaves};
 ghost use Rattle.line_journal.specs.Lines.{IsLine};
 ghost use Rattle.held_lines.specs.Held.{holding};
+ghost use Rattle.held_lines.specs.Laws.{KeepsHeld};
 ghost use Rattle.held_lines.specs.Outcomes.{held_line_outcome};
 ghost use Rattle.durable_table.specs.Durable.{Stands, BeforeOrAfter};
 
@@ -34,8 +35,9 @@ impl<'s, H: Holders, D: Device> DurableTable<'s, H, D> {
     /// Makes what a line asks for. At `Ok` the reply is the one of the table, and the journal stands for the table after
     /// the line, on the disk: each crash from then on leaves a journal that does. A line that changed nothing writes nothing.
     ///
-    /// A crash at any moment of the call leaves a journal of the table before the line, or of the one after it. Out of
-    /// memory, nothing was changed, and the table may be used further.
+    /// A crash at any moment of the call leaves a journal of the table before the line, or of the one after it. Whatever the
+    /// line is, no module that anybody held before it is removed. Out of memory, nothing was changed, and the table may be
+    /// used further.
     #[tactic(auto, using(crate::proofs::MomentLemmas::no_moments, crate::proofs::CommandLemmas::seal_is_line))]
     pub fn perform(&mut self, alloc: Global, line: &[u8]) -> Result<HeldReply, PerformError>
         requires stands { Stands D.content D.history self.old.session.setup.now (holding (H.table self.old.session.holders) (H.names self.old.session.holders)) self.old.journal }
@@ -48,6 +50,8 @@ impl<'s, H: Holders, D: Device> DurableTable<'s, H, D> {
         ensures same { IfOk result (λ r. r.changed ≡ false → holding (H.table self.new.session.holders) (H.names self.new.session.holders) ≡ holding (H.table self.old.session.holders) (H.names self.old.session.holders)) }
         ensures unchanged { IsErrOf result PerformError.OutOfMemory → (self.new.journal ≡ self.old.journal)
             × (holding (H.table self.new.session.holders) (H.names self.new.session.holders) ≡ holding (H.table self.old.session.holders) (H.names self.old.session.holders)) }
+        ensures held { IsErrOf result PerformError.OutOfMemory
+            ⊎ KeepsHeld (H.table self.old.session.holders) (held_line_outcome self.old.session.setup.now (holding (H.table self.old.session.holders) (H.names self.old.session.holders)) line.now).1.table }
         ensures any_moment { AlwaysLeaves (D.history self.old.journal.device) (D.history self.new.journal.device)
             (BeforeOrAfter self.old.session.setup.now (holding (H.table self.old.session.holders) (H.names self.old.session.holders)) line.now) }
         ensures faults { IsErrOf result (PerformError.Device DeviceError.Failed) → D.faults self.old.journal.device < D.faults self.new.journal.device }
@@ -66,5 +70,19 @@ impl<'s, H: Holders, D: Device> DurableTable<'s, H, D> {
             Ok(()) => Ok(reply),
             Err(error) => Err(PerformError::Device(error)),
         }
+    }
+
+    /// The device that the journal is on.
+    pub fn device(&self) -> &D
+        ensures { result.now ≡ self.now.journal.device }
+    {
+        self.journal.device()
+    }
+
+    /// Gives the device back.
+    pub fn into_device(self) -> D
+        ensures { result ≡ self.entry.journal.device }
+    {
+        self.journal.into_device()
     }
 }
