@@ -1,0 +1,3 @@
+pub mod KernelLemmas
+pub mod SlotLemmas
+pub mod StepLemmas
