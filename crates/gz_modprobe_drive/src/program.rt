@@ -34,6 +34,7 @@ fn answer_asked<R: Files + Env + AllocGlobal, O: Write, E: Write>(
     let host = Host { system: &disk };
     let mut messages = Messages {
         errors,
+        program: b"gz-modprobe",
         verbosity: asked.switches.verbosity,
         explains: asked.switches.explain,
     };

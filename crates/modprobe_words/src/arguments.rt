@@ -49,7 +49,15 @@ pub fn given_words<R: Env + AllocGlobal>(rt: &R) -> Result<Vec<Vec<u8>>, AllocEr
     Ok(words)
 }
 
+/// The text of a variable of the environment, where it is set. Only want of memory refuses.
+pub fn given_variable<R: Env + AllocGlobal>(
+    rt: &R,
+    name: &str,
+) -> Result<Option<Vec<u8>>, AllocError> {
+    told(rt, Asking::Variable(name))
+}
+
 /// The text of MODPROBE_OPTIONS, where it is set. Only want of memory refuses.
 pub fn given_options<R: Env + AllocGlobal>(rt: &R) -> Result<Option<Vec<u8>>, AllocError> {
-    told(rt, Asking::Variable("MODPROBE_OPTIONS"))
+    given_variable(rt, "MODPROBE_OPTIONS")
 }

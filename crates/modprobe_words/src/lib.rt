@@ -18,7 +18,7 @@ mod wishes;
 mod words;
 mod written;
 
-pub use arguments::{given_options, given_words};
+pub use arguments::{given_options, given_variable, given_words};
 pub use asked::Asked;
 pub use endings::{Ending, first_ending};
 pub use items::{Fault, Item};

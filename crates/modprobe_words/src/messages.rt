@@ -49,6 +49,8 @@ pub fn tell_line<E: Write>(errors: &mut E, first: &[u8], second: &[u8], third: &
 #[derive(Drop)]
 pub struct Messages<'a, E> {
     pub errors: &'a mut E,
+    /// The name of the program, before each message.
+    pub program: &'a [u8],
     pub verbosity: u64,
     /// Whether it is told why an answer is as it is.
     pub explains: bool,
@@ -71,7 +73,8 @@ impl<E: Write> Messages<'_, E> {
         third: &[u8],
         fourth: &[u8],
     ) {
-        write_parts(self.errors, b"gz-modprobe: ", level.word(), first);
+        write_parts(self.errors, self.program, b": ", level.word());
+        let _ = self.errors.write_all(first);
         write_parts(self.errors, second, third, fourth);
         let _ = self.errors.write_all(b"\n");
     }
