@@ -19,11 +19,7 @@ fn path_in(alloc: Global, folder: &str, name: &str) -> Result<String, AllocError
 }
 
 /// The paths of the files of a folder that count as a configuration (modprobe.d(5)), in the order of their names' bytes.
-pub(crate) fn paths_in<R: Files>(
-    alloc: Global,
-    rt: &R,
-    folder: &str,
-) -> Result<Vec<String>, PathFault> {
+pub fn paths_in<R: Files>(alloc: Global, rt: &R, folder: &str) -> Result<Vec<String>, PathFault> {
     let names = counted_names(folder_names(alloc, rt, folder)?);
     let mut paths = Vec::new(alloc);
     for name in &names {

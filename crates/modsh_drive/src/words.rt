@@ -28,14 +28,14 @@ pub(crate) fn section_named(name: &[u8]) -> Option<Section>
 
 /// A file that a word names, and the section that it is. A folder of a configuration stands for the files that count in it.
 #[derive(Clone, Copy, Drop)]
-pub(crate) struct NamedFile<'a> {
-    pub(crate) section: Section,
-    pub(crate) path: &'a str,
+pub struct NamedFile<'a> {
+    pub section: Section,
+    pub path: &'a str,
 }
 
 impl<'a> NamedFile<'a> {
     /// The file of a word of the form `NAME=PATH`, whose path may have equals signs too.
-    pub(crate) fn of(word: &'a str) -> Option<NamedFile<'a>>
+    pub fn of(word: &'a str) -> Option<NamedFile<'a>>
         ensures section { IfSome result (λ file. section_named (before_first is_equals word.entry.now) ≡ Some file.section) }
         ensures path { IfSome result (λ file. file.path.now ≡ after_first is_equals word.entry.now) }
         ensures none { IfNone result (section_named (before_first is_equals word.entry.now) ≡ None ⊎ (position_or_len is_equals word.entry.now ≡ length word.entry.now)) }
@@ -60,11 +60,7 @@ fn section_line(section: Section) -> &'static [u8]
 
 /// Adds a section of a file's bytes, as they are, with a line feed after them. They are read to where they stay, since
 /// the texts of a kernel's modules have millions.
-pub(crate) fn add_section<F: Read>(
-    input: &mut Vec<u8>,
-    section: Section,
-    file: &mut F,
-) -> io::Result<()>
+pub fn add_section<F: Read>(input: &mut Vec<u8>, section: Section, file: &mut F) -> io::Result<()>
     ensures { OnOk result (IfTold (F.remaining file.old) (λ bytes.
         input.new.items ≡ input.old.items ++ section_text section bytes)) }
 {
