@@ -1,0 +1,3 @@
+mod AnswerLemmas
+mod FeedLemmas
+mod ReadingLemmas

@@ -1,0 +1,5 @@
+pub mod Machine
+pub mod Endings
+pub mod Answers
+pub mod Faults
+pub mod Reading

@@ -1,0 +1,118 @@
+//! What stands in a folder.
+ghost use Rattle.line_journal.specs.Lines.{IsLine};
+
+use crate::answering::Replies;
+use crate::fault::TableFault;
+use crate::input::alone;
+use crate::opening::{read_file, setup_in};
+use crate::reading::answer_copy;
+use crate::shared::{CUT, JOURNAL, SETUP, Shared};
+use file_journal::LockKind;
+use line_journal::{Found, KillOnly, look};
+use modprobe::Setup;
+use program_frame::first_word;
+use std::alloc::{AllocError, Global};
+use std::fs::{self, File, OpenFile};
+use std::rt::Files;
+use std::time::Clock;
+use table_setup::Sealed;
+use text_parts::{is_same, whole_lines};
+
+/// What `check` counts.
+#[derive(Clone, Copy, Default)]
+pub(crate) struct Counts {
+    /// Modules of the catalogue.
+    modules: usize,
+    /// Modules in the table.
+    loaded: usize,
+    holders: usize,
+    /// Lines of the journal, with the first.
+    lines: usize,
+    /// Bytes behind them which a crash left.
+    torn: usize,
+    /// Bytes in the file of what was cut off.
+    cut: u64,
+}
+
+impl Counts {
+    /// What is written of them, a word and a number each line.
+    pub(crate) fn text(&self, alloc: Global) -> Result<String, AllocError> {
+        let Counts {
+            modules,
+            loaded,
+            holders,
+            lines,
+            torn,
+            cut,
+        } = *self;
+        format!(in alloc;
+            "modules {modules}\nloaded {loaded}\nholders {holders}\nlines {lines}\ntorn {torn}\ncut {cut}\n"
+        )
+    }
+}
+
+/// How many different words lines begin with that stand one after another.
+fn count_runs(text: &[u8]) -> usize {
+    let (mut count, mut before) = (0usize, b"".as_slice());
+    for line in whole_lines(text) {
+        let word = first_word(line);
+        if !is_same(word, before) {
+            count = count.saturating_add(1);
+        }
+        before = word;
+    }
+    count
+}
+
+/// The reply to a line that asks, from a copy of the journal.
+fn listing(alloc: Global, setup: &Setup, bytes: &[u8], line: &[u8]) -> Result<Vec<u8>, TableFault>
+    requires { IsLine line.now }
+{
+    let mut replies = Replies::new(alloc);
+    let lines = alone(alloc, line.to_vec(alloc)?)?;
+    answer_copy(alloc, setup, bytes.to_vec(alloc)?, &lines, &mut replies)?;
+    Ok(replies.text)
+}
+
+/// What stands in the journal's file.
+fn found_in(alloc: Global, bytes: &[u8]) -> Result<Found, TableFault> {
+    let mut device = KillOnly::new(alloc, bytes.to_vec(alloc)?);
+    match look(alloc, &mut device) {
+        Ok(found) => Ok(found),
+        Err(_) => Err(TableFault::OutOfMemory),
+    }
+}
+
+/// Reads all files of a folder, with their sums, and counts what stands there. Nothing is written.
+pub(crate) fn check<R: Files<File = File> + Clock + AllocGlobal>(
+    shared: &Shared<'_, R>,
+) -> Result<Counts, TableFault> {
+    let alloc = shared.alloc();
+    let setup_bytes = read_file(shared, SETUP)?;
+    let setup = setup_in(alloc, &setup_bytes)?;
+    if !Sealed::read(&setup_bytes).is_some_and(|sealed| sealed.is_sound()) {
+        return Err(TableFault::ChangedSetup);
+    }
+    let lock = shared.lock(LockKind::Shared)?;
+    let bytes = read_file(shared, JOURNAL)?;
+    let cut = match fs::metadata(shared.rt, &shared.path(CUT)?) {
+        Ok(known) => known.len(),
+        Err(_) => 0,
+    };
+    lock.release();
+    let loaded = listing(alloc, &setup, &bytes, b"proc")?;
+    let held = listing(alloc, &setup, &bytes, b"held")?;
+    let found = found_in(alloc, &bytes)?;
+    Ok(Counts {
+        modules: setup.catalogue().len(),
+        loaded: whole_lines(&loaded).count(),
+        holders: count_runs(&held),
+        lines: found.lines.len(),
+        torn: if found.is_at_rest() {
+            0
+        } else {
+            found.behind.len()
+        },
+        cut,
+    })
+}

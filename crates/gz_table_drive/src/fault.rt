@@ -1,0 +1,117 @@
+//! Why a run did not do what was asked.
+ghost use Rattle.std.specs.Prelude.{◌≡◌};
+ghost use Rattle.gz_table_drive.specs.Faults.{ending_of_fault};
+
+use crate::setup::SectionsFault;
+use file_journal::{Cause, FileFault, LockError, OpenError};
+use program_frame::PathFault;
+use std::alloc::AllocError;
+use std::io::{self, ErrorKind};
+use table_words::Ending;
+
+/// Why a run did not do what was asked.
+#[derive(Clone, Copy, Debug, Drop)]
+pub(crate) enum TableFault {
+    OutOfMemory,
+    /// The folder has no table.
+    NoTable,
+    /// The folder has a table already.
+    ThereAlready,
+    /// The setup does not end with a last line of its length.
+    CutSetup,
+    /// The setup has another sum than its last line says.
+    ChangedSetup,
+    /// The sections of the setup say what they may not.
+    Sections(SectionsFault),
+    /// A file of the folder, of this name, was not read.
+    Unread(&'static str, PathFault),
+    /// The lock was not taken.
+    Lock(LockError),
+    /// The journal was not opened, read or written.
+    File(FileFault),
+    /// The journal failed, and nobody knows why.
+    Journal,
+    /// The journal does not begin with the first line of one.
+    Foreign,
+    /// This line of the journal, from 1, has not the sum of its command.
+    Changed(usize),
+    /// So many lines with open gates stand behind the journal's lines.
+    Damaged(usize),
+    /// The folder was not made.
+    NoFolder(ErrorKind),
+    /// A file of the folder, of this name, was not written.
+    Unwritten(&'static str, ErrorKind),
+    /// Standard input was not read.
+    Input,
+    /// Standard output was not written.
+    Output,
+    /// People were told already, and the run ends so.
+    Told(Ending),
+}
+
+impl TableFault {
+    /// How the run ends.
+    pub(crate) fn ending(self) -> Ending
+        ensures { result ≡ ending_of_fault self }
+    {
+        match self {
+            TableFault::NoTable
+            | TableFault::CutSetup
+            | TableFault::ChangedSetup
+            | TableFault::Sections(_)
+            | TableFault::Foreign
+            | TableFault::Changed(_)
+            | TableFault::Damaged(_) => Ending::Unasked,
+            TableFault::ThereAlready => Ending::Exists,
+            TableFault::Lock(LockError::Held) => Ending::Locked,
+            TableFault::Told(ending) => ending,
+            _ => Ending::Fault,
+        }
+    }
+}
+
+impl From<AllocError> for TableFault {
+    fn from(_: AllocError) -> TableFault {
+        TableFault::OutOfMemory
+    }
+}
+
+impl From<LockError> for TableFault {
+    fn from(error: LockError) -> TableFault {
+        match error {
+            LockError::OutOfMemory => TableFault::OutOfMemory,
+            _ => TableFault::Lock(error),
+        }
+    }
+}
+
+impl From<OpenError> for TableFault {
+    fn from(error: OpenError) -> TableFault {
+        match error {
+            OpenError::OutOfMemory => TableFault::OutOfMemory,
+            OpenError::Failed(fault) => TableFault::File(fault),
+        }
+    }
+}
+
+/// A file of the folder was not written.
+pub(crate) fn unwritten(name: &'static str, error: &io::Error) -> TableFault {
+    match error.kind() {
+        ErrorKind::OutOfMemory => TableFault::OutOfMemory,
+        kind => TableFault::Unwritten(name, kind),
+    }
+}
+
+/// A fault of the journal's file, where it is known.
+pub(crate) fn journal_fault(fault: Option<FileFault>) -> TableFault {
+    match fault {
+        Some(
+            FileFault {
+                cause: Cause::OutOfMemory,
+                ..
+            },
+        ) => TableFault::OutOfMemory,
+        Some(fault) => TableFault::File(fault),
+        None => TableFault::Journal,
+    }
+}

@@ -1,0 +1,23 @@
+//! The program of a table that processes share, over any words and streams.
+#![tactic(auto)]
+
+mod answering;
+mod check;
+mod create;
+mod endings;
+mod fault;
+mod input;
+pub mod laws;
+mod machine;
+mod opening;
+mod program;
+mod reading;
+mod sections;
+mod setup;
+mod shared;
+mod teller;
+mod tenure;
+mod told;
+
+pub use answering::{AnswerError, Replies, answer_lines};
+pub use program::drive;

@@ -1,0 +1,121 @@
+//! The sections of a new table, of a machine's files.
+ghost use Rattle.std.specs.Prelude.{◌≡◌, ◌++◌, IfOk, OnOk};
+ghost use Rattle.std.specs.List.{flat_map};
+ghost use Rattle.modprobe.specs.declared.section.Section.TheVariants as sections;
+ghost use Rattle.modsh_drive.specs.Inputs.{section_text};
+ghost use Rattle.gz_table_drive.specs.Machine.{conf_section, machine_sections};
+
+use modprobe::Section;
+use modprobe_files::{
+    ConfTexts, Disk, Host, ModuleTexts, TextFile, directory, is_rootless, read_configuration,
+    read_modules, tell_folder,
+};
+use modprobe_words::{Asked, Level, Messages, read_words};
+use modsh_drive::add_section;
+use std::alloc::{AllocError, Global};
+use std::env::Env;
+use std::io::Write;
+use std::rt::Files;
+use table_setup::host_catalogue;
+
+/// Adds a section of these bytes.
+fn push_section(text: &mut Vec<u8>, section: Section, bytes: &[u8]) -> Result<(), AllocError>
+    ensures { OnOk result (text.new.items ≡ text.old.items ++ section_text section bytes.now) }
+{
+    let mut rest = bytes;
+    add_section(text, section, &mut rest).map_err(|_| AllocError)
+}
+
+/// Adds the files of a configuration, in their order.
+fn push_configuration(text: &mut Vec<u8>, files: &[TextFile]) -> Result<(), AllocError>
+    ensures { OnOk result (text.new.items ≡ text.old.items ++ flat_map conf_section files.now) }
+{
+    for file in files {
+        push_section(text, Section::Conf, &file.text)?;
+    }
+    Ok(())
+}
+
+/// The sections of a machine's texts: the catalogue of modules.dep, modules.dep, modules.alias, and each file of the
+/// configuration in its order.
+fn machine_sections(
+    alloc: Global,
+    modules: &ModuleTexts,
+    files: &[TextFile],
+) -> Result<Vec<u8>, AllocError>
+    ensures { IfOk result (λ text. text.items ≡ machine_sections modules.now files.now) }
+{
+    let mut text = Vec::new(alloc);
+    push_section(
+        &mut text,
+        Section::Catalogue,
+        &host_catalogue(alloc, &modules.dep)?,
+    )?;
+    push_section(&mut text, Section::Dep, &modules.dep)?;
+    push_section(&mut text, Section::Alias, &modules.alias)?;
+    push_configuration(&mut text, files)?;
+    Ok(text)
+}
+
+/// The folder of modules of a release, or of the running kernel. None where the release is not known, which is told.
+fn folder_of<R: Files + Env + AllocGlobal, E: Write>(
+    host: &Host<'_, Disk<'_, R>>,
+    release: Option<&[u8]>,
+    messages: &mut Messages<'_, E>,
+) -> Result<Option<Vec<u8>>, AllocError> {
+    let alloc = host.alloc();
+    let mut words = Vec::new(alloc);
+    if let Some(release) = release {
+        words.extend_from_slice(&[b"-S".as_slice(), release])?;
+    }
+    let asked = Asked::by(alloc, &read_words(alloc, &words)?)?;
+    directory(host, &asked, messages)
+}
+
+/// Reads a machine's files. None where something is missing without which there is no table, which is told.
+fn read_machine<R: Files + Env + AllocGlobal, E: Write>(
+    host: &Host<'_, Disk<'_, R>>,
+    release: Option<&[u8]>,
+    messages: &mut Messages<'_, E>,
+) -> Result<Option<(ModuleTexts, ConfTexts)>, AllocError> {
+    let Some(directory) = folder_of(host, release, messages)? else {
+        return Ok(None);
+    };
+    let modules = read_modules(host, &directory, messages)?;
+    if modules.dep.is_empty() {
+        tell_folder(host, &directory, messages)?;
+        let behind = b"/modules.dep names no module";
+        messages.tell_always(Level::Error, &directory, behind, b"", b"");
+        return Ok(None);
+    }
+    let conf = read_configuration(host, &directory, &[], messages)?;
+    Ok(Some((modules, conf)))
+}
+
+/// The sections of the machine below a root, of a release or of its running kernel. None where something is missing, which
+/// is told.
+pub(crate) fn sections_of_machine<R: Files + Env + AllocGlobal, E: Write>(
+    rt: &R,
+    release: Option<&[u8]>,
+    root: Option<&[u8]>,
+    errors: &mut E,
+) -> Result<Option<Vec<u8>>, AllocError> {
+    let disk = Disk {
+        rt,
+        root: root.unwrap_or(b""),
+    };
+    let host = Host { system: &disk };
+    let mut messages = Messages {
+        errors,
+        program: b"gz-table",
+        verbosity: 4,
+        explains: false,
+    };
+    if is_rootless(&host, disk.root, &mut messages)? {
+        return Ok(None);
+    }
+    match read_machine(&host, release, &mut messages)? {
+        Some((modules, conf)) => Ok(Some(machine_sections(rt.alloc(), &modules, &conf.files)?)),
+        None => Ok(None),
+    }
+}

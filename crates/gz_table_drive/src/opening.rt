@@ -1,0 +1,136 @@
+//! How a table is read from its folder.
+ghost use Rattle.std.specs.Prelude.{◌≡◌, ◌⊎◌, Some, IfOk};
+ghost use Rattle.line_journal.specs.Device.{AlwaysLeaves};
+ghost use Rattle.line_journal.specs.Lines.{lines_of, StandsFor};
+ghost use Rattle.held_lines.specs.Held.{holding};
+ghost use Rattle.durable_table.specs.Tables.{table_of};
+ghost use Rattle.durable_table.specs.Durable.{Stands};
+
+use crate::answering::GROUP;
+use crate::fault::{TableFault, journal_fault, unwritten};
+use crate::setup::setup_of;
+use crate::shared::{CUT, SETUP, Shared};
+use durable_table::{DurableTable, OpenedTable, open};
+use file_journal::FileDevice;
+use held_table::HeldTable;
+use line_journal::{Device, DeviceError, Repair, look};
+use modprobe::Setup;
+use program_frame::PathFault;
+use std::alloc::{AllocError, Global};
+use std::fs::{self, File, OpenFile};
+use std::io::{self, Write};
+use std::rt::Files;
+use std::time::Clock;
+use table_setup::Sealed;
+
+/// How many lines with open gates a crash leaves behind the journal's lines, at the most. More are damage.
+const TORN: usize = GROUP - 1;
+
+/// All bytes of a file of the folder.
+pub(crate) fn read_file<R: Files<File = File> + Clock + AllocGlobal>(
+    shared: &Shared<'_, R>,
+    name: &'static str,
+) -> Result<Vec<u8>, TableFault> {
+    let path = shared.path(name)?;
+    match fs::read(shared.rt, &path) {
+        Ok(bytes) => Ok(bytes),
+        Err(error) => match PathFault::from(error) {
+            PathFault::Memory => Err(TableFault::OutOfMemory),
+            PathFault::Missing if name == SETUP => Err(TableFault::NoTable),
+            why => Err(TableFault::Unread(name, why)),
+        },
+    }
+}
+
+/// What the bytes of a setup say.
+pub(crate) fn setup_in(alloc: Global, bytes: &[u8]) -> Result<Setup, TableFault> {
+    let Some(sealed) = Sealed::read(bytes) else {
+        return Err(TableFault::CutSetup);
+    };
+    match setup_of(alloc, sealed.text) {
+        Ok(setup) => Ok(setup),
+        Err(fault) => Err(TableFault::Sections(fault)),
+    }
+}
+
+/// What the table of the folder was made of.
+pub(crate) fn setup<R: Files<File = File> + Clock + AllocGlobal>(
+    shared: &Shared<'_, R>,
+) -> Result<Setup, TableFault> {
+    let bytes = read_file(shared, SETUP)?;
+    setup_in(shared.alloc(), &bytes)
+}
+
+/// A table was not opened. The device is handed back.
+#[derive(Drop)]
+pub(crate) enum OpenFault<D> {
+    Device(DeviceError, D),
+    OutOfMemory,
+    Foreign,
+    Changed(usize),
+    Damaged(usize),
+}
+
+impl<D> From<AllocError> for OpenFault<D> {
+    fn from(_: AllocError) -> OpenFault<D> {
+        OpenFault::OutOfMemory
+    }
+}
+
+/// The table that a journal stands for.
+pub(crate) fn open_table<'s, D: Device + Drop>(
+    alloc: Global,
+    setup: &'s Setup,
+    device: D,
+) -> Result<DurableTable<'s, HeldTable, D>, OpenFault<D>>
+    ensures stands { IfOk result (λ t. Stands D.content D.history setup.now (holding t.session.holders.held.table t.session.holders.held.names) t.journal) }
+    ensures same { IfOk result (λ t. table_of setup.now (D.content device) ≡ Some (holding t.session.holders.held.table t.session.holders.held.names)) }
+    ensures setup { IfOk result (λ t. t.session.setup.now ≡ setup.now) }
+    ensures any_moment { IfOk result (λ t. AlwaysLeaves (D.history device) (D.history t.journal.device)
+        (λ file. StandsFor (lines_of (D.content device)) file ⊎ (D.history device).leaves file)) }
+{
+    let holders = HeldTable::new(alloc, setup.catalogue().slots(alloc)?)?;
+    match open(alloc, setup, holders, device, Repair::CutAtMost(TORN)) {
+        Ok(OpenedTable::Ready(table, _)) => Ok(table),
+        Ok(OpenedTable::Foreign(_)) => Err(OpenFault::Foreign),
+        Ok(OpenedTable::Changed(_, line)) => Err(OpenFault::Changed(line)),
+        Ok(OpenedTable::Damaged(_, found)) => Err(OpenFault::Damaged(found.open_gates_behind())),
+        Err((error, device)) => Err(OpenFault::Device(error, device)),
+    }
+}
+
+/// Adds what is to be cut off to the file that is kept of it, with a line feed behind it.
+fn keep_cut<R: Files<File = File> + Clock + AllocGlobal>(
+    shared: &Shared<'_, R>,
+    path: &str,
+    behind: &[u8],
+) -> io::Result<()> {
+    let mut file = File::options()
+        .append(true)
+        .create(true)
+        .open(shared.rt, path)?;
+    file.write_all(behind)?;
+    file.write_all(b"\n")?;
+    file.sync_all()
+}
+
+/// Keeps what stands behind the journal's lines, where it is about to be cut off. How many bytes is answered.
+pub(crate) fn keep_torn<R: Files<File = File> + Clock + AllocGlobal>(
+    shared: &Shared<'_, R>,
+    device: &mut FileDevice<&R>,
+) -> Result<usize, TableFault> {
+    let alloc = shared.alloc();
+    let found = match look(alloc, device) {
+        Ok(found) => found,
+        Err(DeviceError::OutOfMemory) => return Err(TableFault::OutOfMemory),
+        Err(DeviceError::Failed) => return Err(journal_fault(device.fault())),
+    };
+    if found.is_at_rest() || found.behind.is_empty() || found.open_gates_behind() > TORN {
+        return Ok(0);
+    }
+    let path = shared.path(CUT)?;
+    match keep_cut(shared, &path, &found.behind) {
+        Ok(()) => Ok(found.behind.len()),
+        Err(error) => Err(unwritten(CUT, &error)),
+    }
+}

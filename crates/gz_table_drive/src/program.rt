@@ -1,0 +1,224 @@
+//! The program over any words and streams.
+ghost use Rattle.std.specs.Prelude.{◌≡◌, ◌+◌, ◌≤◌, length, IfOk};
+ghost use Rattle.line_journal.specs.Lines.{AreLines, bytes_of};
+ghost use Rattle.table_words.specs.Endings.{number_of};
+ghost use Rattle.table_words.specs.declared.ending.Ending.{Ending as AnyEnding};
+
+use crate::answering::Replies;
+use crate::check::check;
+use crate::create::create;
+use crate::fault::TableFault;
+use crate::input::{InputFault, InputLines, alone};
+use crate::opening::setup;
+use crate::shared::Shared;
+use crate::teller::Teller;
+use crate::tenure::answer_in_tenure;
+use crate::told::tell_fault;
+use file_journal::Syncs;
+use line_journal::is_line;
+use modprobe::Setup;
+use std::alloc::{AllocError, Global};
+use std::env::Env;
+use std::fs::File;
+use std::io::{Read, Write};
+use std::rt::Files;
+use std::str;
+use std::time::Clock;
+use table_words::{Asked, Ending, HELP, Job, Stop, VERSION, line_of, read_words};
+
+/// Writes a text, and waits until the stream has it.
+fn write_whole<O: Write>(text: &[u8], output: &mut O) -> Result<(), TableFault> {
+    if output.write_all(text).is_err() || output.flush().is_err() {
+        return Err(TableFault::Output);
+    }
+    Ok(())
+}
+
+/// The lines behind the first of them.
+fn lines_behind(lines: &[Vec<u8>], count: usize) -> &[Vec<u8>]
+    requires within { count ≤ length lines.now }
+    requires lines { AreLines (bytes_of lines.now) }
+    ensures lines { AreLines (bytes_of result.now) }
+    ensures fewer { length result.now + count ≡ length lines.entry.now }
+{
+    &lines[count..]
+}
+
+/// Answers lines, in as many tenures as it takes, and writes their replies. How they end together is answered.
+fn answer_group<R: Files<File = File> + Clock + AllocGlobal, O: Write, E: Write>(
+    shared: &Shared<'_, R>,
+    setup: &Setup,
+    lines: &[Vec<u8>],
+    output: &mut O,
+    teller: &mut Teller<'_, E>,
+) -> Result<Ending, TableFault>
+    requires { AreLines (bytes_of lines.now) }
+{
+    let (mut rest, mut ending) = (lines, Ending::Done);
+    while !rest.is_empty() {
+        let mut replies = Replies::new(shared.alloc());
+        let answered = answer_in_tenure(shared, setup, rest, &mut replies, teller);
+        write_whole(&replies.text, output)?;
+        ending = ending.behind(replies.ending());
+        rest = lines_behind(rest, answered?);
+    }
+    Ok(ending)
+}
+
+/// The line of a command. Its words were read as words of a line.
+fn command_line<E: Write>(
+    alloc: Global,
+    words: &[&[u8]],
+    teller: &mut Teller<'_, E>,
+) -> Result<Vec<Vec<u8>>, TableFault>
+    ensures { IfOk result (λ lines. AreLines (bytes_of lines.items)) }
+{
+    let line = line_of(alloc, words)?;
+    if !is_line(&line) {
+        return Err(teller.say("bad command", &line, "a command is one line"));
+    }
+    Ok(alone(alloc, line)?)
+}
+
+/// Answers one line, and writes its reply.
+fn answer_command<R: Files<File = File> + Clock + AllocGlobal, O: Write, E: Write>(
+    shared: &Shared<'_, R>,
+    words: &[&[u8]],
+    output: &mut O,
+    teller: &mut Teller<'_, E>,
+) -> Result<Ending, TableFault> {
+    let alloc = shared.alloc();
+    let setup = setup(shared)?;
+    let lines = command_line(alloc, words, teller)?;
+    let mut replies = Replies::new(alloc);
+    answer_in_tenure(shared, &setup, &lines, &mut replies, teller)?;
+    write_whole(&replies.text, output)?;
+    Ok(replies.endings.first().copied().unwrap_or(Ending::Done))
+}
+
+/// Answers the lines of an input.
+fn answer_input<R: Files<File = File> + Clock + AllocGlobal, I: Read, O: Write, E: Write>(
+    shared: &Shared<'_, R>,
+    input: &mut I,
+    output: &mut O,
+    teller: &mut Teller<'_, E>,
+) -> Result<Ending, TableFault> {
+    let setup = setup(shared)?;
+    let mut reader = InputLines::new(shared.alloc(), input);
+    let mut ending = Ending::Done;
+    for _ in 0..u64::MAX {
+        let lines = match reader.next_lines() {
+            Ok(lines) => lines,
+            Err(InputFault::OutOfMemory) => return Err(TableFault::OutOfMemory),
+            Err(InputFault::Failed) => return Err(TableFault::Input),
+        };
+        if lines.is_empty() {
+            break;
+        }
+        ending = ending.behind(answer_group(shared, &setup, &lines, output, teller)?);
+    }
+    teller.too_long(reader.too_long());
+    Ok(ending)
+}
+
+/// Does a job.
+fn perform<R: Files<File = File> + Env + Clock + AllocGlobal, I: Read, O: Write, E: Write>(
+    shared: &Shared<'_, R>,
+    job: Job<'_, '_>,
+    input: &mut I,
+    output: &mut O,
+    teller: &mut Teller<'_, E>,
+) -> Result<Ending, TableFault> {
+    match job {
+        Job::Create(origin) => create(shared, origin, teller),
+        Job::Command(words) => answer_command(shared, words, output, teller),
+        Job::Lines => answer_input(shared, input, output, teller),
+        Job::Check => {
+            let text = check(shared)?.text(shared.alloc())?;
+            write_whole(text.as_bytes(), output)?;
+            Ok(Ending::Done)
+        }
+        Job::Compact => {
+            let advice = "this version does not write a journal anew, and it is as it was";
+            Err(teller.say("no command", b"compact", advice))
+        }
+    }
+}
+
+/// Does what is asked, and tells why where it is not done.
+fn answer_asked<R: Files<File = File> + Env + Clock + AllocGlobal, I: Read, O: Write, E: Write>(
+    rt: &R,
+    asked: &Asked<'_, '_>,
+    input: &mut I,
+    output: &mut O,
+    teller: &mut Teller<'_, E>,
+) -> Ending {
+    let folder = match str::from_utf8(asked.folder) {
+        Ok(folder) if !folder.is_empty() => folder,
+        _ => {
+            let advice = "the path of a folder is UTF-8, and not empty";
+            return teller.say("bad folder", asked.folder, advice).ending();
+        }
+    };
+    let shared = Shared {
+        rt,
+        folder,
+        wait: u32::try_from(asked.wait).unwrap_or(u32::MAX),
+        syncs: if asked.sync {
+            Syncs::Kept
+        } else {
+            Syncs::LeftOut
+        },
+    };
+    match perform(&shared, asked.job, input, output, teller) {
+        Ok(ending) => ending,
+        Err(fault) => teller.end(folder, shared.wait, fault),
+    }
+}
+
+fn slices(alloc: Global, words: &[Vec<u8>]) -> Result<Vec<&[u8]>, AllocError> {
+    let mut slices = Vec::new(alloc);
+    for word in words {
+        slices.push(word.as_slice())?;
+    }
+    Ok(slices)
+}
+
+/// Writes a text that was asked for in the place of work.
+fn tell_text<O: Write, E: Write>(
+    text: &[u8],
+    output: &mut O,
+    teller: &mut Teller<'_, E>,
+) -> Ending {
+    match write_whole(text, output) {
+        Ok(()) => Ending::Done,
+        Err(fault) => teller.end("", 0, fault),
+    }
+}
+
+/// Runs the program on its words and the text of GZ_TABLE. The status is answered.
+pub fn drive<R: Files<File = File> + Env + Clock + AllocGlobal, I: Read, O: Write, E: Write>(
+    rt: &R,
+    words: &[Vec<u8>],
+    table: Option<&[u8]>,
+    input: &mut I,
+    output: &mut O,
+    errors: &mut E,
+) -> u8
+    ensures { (ending : AnyEnding) × (result ≡ number_of ending) }
+{
+    let mut teller = Teller::new(errors);
+    let Ok(words) = slices(rt.alloc(), words) else {
+        return teller.end("", 0, TableFault::OutOfMemory).number();
+    };
+    let ending = match read_words(table, &words) {
+        Ok(asked) => answer_asked(rt, &asked, input, output, &mut teller),
+        Err(Stop::Refused(fault)) => {
+            tell_fault(fault, teller.errors());
+            Ending::Unasked
+        }
+        Err(Stop::Help) => tell_text(HELP, output, &mut teller),
+        Err(Stop::Version) => tell_text(VERSION, output, &mut teller),
+    };
+    ending.number()
+}

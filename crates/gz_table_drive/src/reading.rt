@@ -1,0 +1,76 @@
+//! Lines that change nothing, and their replies from a copy of the journal.
+ghost use Rattle.std.specs.Prelude.{◌≡◌, Some, take, ◌<◌, ◌≤◌, length, IfOk};
+ghost use Rattle.text_parts.specs.Text.{texts_of};
+ghost use Rattle.line_journal.specs.Lines.{AreLines, bytes_of};
+ghost use Rattle.held_table.specs.Held.{Held};
+ghost use Rattle.durable_table.specs.Tables.{table_of};
+ghost use Rattle.gz_table_drive.specs.Answers.{HasAnswered};
+ghost use Rattle.gz_table_drive.specs.Reading.{asks, asks_by, is_reading};
+
+use crate::answering::{Replies, answer_lines};
+use crate::fault::TableFault;
+use crate::opening::{OpenFault, open_table};
+use line_journal::KillOnly;
+use modprobe::Setup;
+use std::alloc::{AllocError, Global};
+use text_parts::{is_comment, is_same, words};
+
+/// Whether this is the first word of a command that asks.
+fn asks(first: &[u8]) -> bool
+    ensures { result ≡ asks first.now }
+{
+    is_same(first, b"query")
+        || is_same(first, b"modinfo")
+        || is_same(first, b"lsmod")
+        || is_same(first, b"proc")
+        || is_same(first, b"plan")
+        || is_same(first, b"holders")
+        || is_same(first, b"held")
+}
+
+/// Whether a line asks, or is no command. It fails only if memory runs out.
+pub(crate) fn is_reading(alloc: Global, line: &[u8]) -> Result<bool, AllocError>
+    ensures { IfOk result (λ reads. reads ≡ is_reading line.now) }
+{
+    if is_comment(line) {
+        return Ok(true);
+    }
+    let words = words(alloc, line)?;
+    Ok(words.first().is_none_or(|first| asks(*first)))
+}
+
+/// Whether all lines ask, or are no commands.
+pub(crate) fn are_reading(alloc: Global, lines: &[Vec<u8>]) -> Result<bool, AllocError> {
+    for line in lines {
+        if !is_reading(alloc, line)? {
+            return Ok(false);
+        }
+    }
+    Ok(true)
+}
+
+/// Answers the first of some lines, as `answer_lines` does, from the table that a journal's bytes stand for.
+pub(crate) fn answer_copy(
+    alloc: Global,
+    setup: &Setup,
+    bytes: Vec<u8>,
+    lines: &[Vec<u8>],
+    replies: &mut Replies,
+) -> Result<usize, TableFault>
+    requires { AreLines (bytes_of lines.now) }
+    ensures answered { IfOk result (λ count. (h : Held) × (table_of setup.now bytes.items ≡ Some h) × HasAnswered setup.now h (take count (bytes_of lines.now)) replies.old replies.new) }
+    ensures some { IfOk result (λ count. 0 < length lines.now → 0 < count) }
+    ensures within { IfOk result (λ count. count ≤ length lines.now) }
+{
+    let mut table = match open_table(alloc, setup, KillOnly::new(alloc, bytes)) {
+        Ok(table) => table,
+        Err(OpenFault::Foreign) => return Err(TableFault::Foreign),
+        Err(OpenFault::Changed(line)) => return Err(TableFault::Changed(line)),
+        Err(OpenFault::Damaged(lines)) => return Err(TableFault::Damaged(lines)),
+        Err(_) => return Err(TableFault::OutOfMemory),
+    };
+    match answer_lines(alloc, &mut table, lines, replies) {
+        Ok(count) => Ok(count),
+        Err(_) => Err(TableFault::OutOfMemory),
+    }
+}

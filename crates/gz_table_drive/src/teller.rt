@@ -1,0 +1,195 @@
+//! Where people are told why a run ends, and how it ends then.
+
+use crate::fault::TableFault;
+use crate::setup::SectionsFault;
+use file_journal::{Cause, FileFault, LockError};
+use program_frame::{PathFault, Shown};
+use std::io::{ErrorKind, Write};
+use table_words::Ending;
+
+/// The stream for errors. Where it fails, nobody is told.
+#[derive(Drop)]
+pub(crate) struct Teller<'e, E> {
+    errors: &'e mut E,
+}
+
+/// What may be done about a cause.
+fn advice_on(cause: Cause) -> &'static str {
+    match cause {
+        Cause::NotAllowed | Cause::ReadOnly => "; run it as one who may write to the folder",
+        Cause::Full => "; free some room and ask again: what was answered is kept",
+        Cause::NotThere => "; restore it, or make the table in another folder",
+        Cause::ReadsOtherwise => "; another program writes to it: check says what stands there",
+        _ => "",
+    }
+}
+
+/// Why something was not written, and what may be done.
+fn unwritten_for(kind: ErrorKind) -> &'static str {
+    match kind {
+        ErrorKind::NotFound => "a folder above it is missing; make that first",
+        ErrorKind::NotADirectory | ErrorKind::AlreadyExists => "it is no folder; name another",
+        ErrorKind::PermissionDenied => "permission denied; run it as one who may write there",
+        ErrorKind::ReadOnlyFilesystem => "the file system is read-only; name a folder elsewhere",
+        ErrorKind::StorageFull | ErrorKind::QuotaExceeded => "the disk is full; free some room",
+        _ => "the disk failed",
+    }
+}
+
+impl<'e, E: Write> Teller<'e, E> {
+    pub(crate) fn new(errors: &'e mut E) -> Teller<'e, E> {
+        Teller { errors }
+    }
+
+    /// The stream itself.
+    pub(crate) fn errors(&mut self) -> &mut E {
+        self.errors
+    }
+
+    /// What is said of some bytes that the words have.
+    pub(crate) fn say(&mut self, what: &str, bytes: &[u8], advice: &str) -> TableFault {
+        let bytes = Shown(bytes);
+        let _ = writeln!(self.errors, "gz-table: {what} {bytes}: {advice}");
+        TableFault::Told(Ending::Unasked)
+    }
+
+    /// A path that the words name is not read.
+    pub(crate) fn unread(&mut self, path: &str, why: PathFault) -> TableFault {
+        if why == PathFault::Memory {
+            return TableFault::OutOfMemory;
+        }
+        let _ = writeln!(self.errors, "gz-table: cannot read {path}: {why}");
+        TableFault::Told(Ending::Unasked)
+    }
+
+    /// So many bytes behind the journal's lines are cut off.
+    pub(crate) fn cut(&mut self, folder: &str, bytes: usize) {
+        if bytes > 0 {
+            let _ = writeln!(
+                self.errors,
+                "gz-table: {folder}/journal: a crash left {bytes} bytes behind its lines, which are cut off and kept in {folder}/journal.cut"
+            );
+        }
+    }
+
+    /// So many lines were too long.
+    pub(crate) fn too_long(&mut self, lines: u64) {
+        if lines > 0 {
+            let _ = writeln!(
+                self.errors,
+                "gz-table: {lines} lines have more than 65,535 bytes, and were refused: write shorter ones"
+            );
+        }
+    }
+
+    /// The sections of a new table are refused.
+    pub(crate) fn refused_sections(&mut self, fault: SectionsFault) -> TableFault {
+        match fault {
+            SectionsFault::Memory => return TableFault::OutOfMemory,
+            SectionsFault::Setup(fault) => {
+                let _ = writeln!(
+                    self.errors,
+                    "gz-table: the sections are refused: {fault}; modsh --lint says more of them"
+                );
+            }
+            SectionsFault::Session => {
+                let _ = writeln!(
+                    self.errors,
+                    "gz-table: the sections are refused: a line %session stands among them"
+                );
+            }
+        }
+        TableFault::Told(Ending::Unasked)
+    }
+
+    fn tell_lock(&mut self, folder: &str, wait: u32, error: LockError) {
+        let _ = match error {
+            LockError::Held => writeln!(
+                self.errors,
+                "gz-table: {folder}: another process has held the table for {wait} seconds; ask again, or wait longer with --wait"
+            ),
+            LockError::Failed(fault) => {
+                let advice = advice_on(fault.cause);
+                writeln!(self.errors, "gz-table: {folder}: {fault}{advice}")
+            }
+            LockError::OutOfMemory => writeln!(self.errors, "gz-table: out of memory"),
+        };
+    }
+
+    fn tell_file(&mut self, folder: &str, fault: FileFault) {
+        let advice = advice_on(fault.cause);
+        let _ = writeln!(self.errors, "gz-table: {folder}: {fault}{advice}");
+    }
+
+    /// What is wrong with the files of a folder, and what to do.
+    fn tell_folder(&mut self, folder: &str, fault: &TableFault) {
+        let _ = match fault {
+            TableFault::NoTable => writeln!(
+                self.errors,
+                "gz-table: there is no table in {folder}: make one with gz-table {folder} create --host"
+            ),
+            TableFault::ThereAlready => writeln!(
+                self.errors,
+                "gz-table: {folder} has a table already: name another folder, or remove its files first"
+            ),
+            TableFault::CutSetup => writeln!(
+                self.errors,
+                "gz-table: {folder}/setup was cut or changed; restore it, or make the table in another folder"
+            ),
+            TableFault::ChangedSetup => writeln!(
+                self.errors,
+                "gz-table: {folder}/setup was changed: its text has another sum than its last line says; restore it, or make the table in another folder"
+            ),
+            TableFault::Foreign => writeln!(
+                self.errors,
+                "gz-table: {folder}/journal is no journal of a table; restore it, or make the table in another folder"
+            ),
+            TableFault::Changed(line) => writeln!(
+                self.errors,
+                "gz-table: {folder}/journal, line {line}: it was changed, since its sum is another; nothing was done: restore the line, or make the table in another folder"
+            ),
+            TableFault::Damaged(lines) => writeln!(
+                self.errors,
+                "gz-table: {folder}/journal: a line was changed, and {lines} lines behind it would be lost; nothing was done: restore the line, or make the table in another folder"
+            ),
+            _ => Ok(()),
+        };
+    }
+
+    /// Tells a fault, and answers how the run ends.
+    pub(crate) fn end(&mut self, folder: &str, wait: u32, fault: TableFault) -> Ending {
+        let _ = match fault {
+            TableFault::OutOfMemory => writeln!(self.errors, "gz-table: out of memory"),
+            TableFault::Sections(why) => writeln!(
+                self.errors,
+                "gz-table: {folder}/setup is refused: {why}; restore it, or make the table in another folder"
+            ),
+            TableFault::Unread(name, why) => {
+                writeln!(self.errors, "gz-table: cannot read {folder}/{name}: {why}")
+            }
+            TableFault::NoFolder(kind) => {
+                let why = unwritten_for(kind);
+                writeln!(
+                    self.errors,
+                    "gz-table: cannot make the folder {folder}: {why}"
+                )
+            }
+            TableFault::Unwritten(name, kind) => {
+                let why = unwritten_for(kind);
+                writeln!(self.errors, "gz-table: cannot write {folder}/{name}: {why}")
+            }
+            TableFault::Journal => writeln!(self.errors, "gz-table: {folder}/journal failed"),
+            TableFault::Input => writeln!(self.errors, "gz-table: standard input was not read"),
+            TableFault::Output => {
+                writeln!(self.errors, "gz-table: standard output was not written")
+            }
+            _ => Ok(()),
+        };
+        match fault {
+            TableFault::Lock(error) => self.tell_lock(folder, wait, error),
+            TableFault::File(fault) => self.tell_file(folder, fault),
+            _ => self.tell_folder(folder, &fault),
+        }
+        fault.ending()
+    }
+}
