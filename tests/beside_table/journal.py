@@ -1,6 +1,11 @@
 """The journal as gourzhiel(5) tells it: which lines count, and the commands in them."""
 
+import os
+import threading
+import time
 import zlib
+
+from beside_table.model import Table
 
 HEAD = "gourzhiel journal 1"
 
@@ -23,3 +28,62 @@ def commands_of(data):
         if line[:9] != f"{zlib.adler32(line[9:].encode()):08x} ":
             faults.append(f"`{line}` has another sum")
     return [line[9:] for line in lines[1:]], faults
+
+
+def without_snapshot(commands, table):
+    """The commands after those that make a table from nothing; None if no beginning of them makes it."""
+    made = Table()
+    for at in range(len(commands) + 1):
+        if made == table:
+            return commands[at:]
+        if at < len(commands):
+            made.answer(commands[at])
+    return None
+
+
+class Kept:
+    """Keeps what a journal was before it was written anew: a link to each file that had its name."""
+
+    def __init__(self, journal, room):
+        self.journal, self.room, self.links, self.ended = journal, room, [], threading.Event()
+        self.thread = threading.Thread(target=self.watch)
+
+    def watch(self):
+        while not self.ended.is_set():
+            self.look()
+            time.sleep(0.001)
+
+    def look(self):
+        if not self.links or os.stat(self.journal).st_ino != os.stat(self.links[-1]).st_ino:
+            link = self.room / f"journal{len(self.links)}"
+            os.link(self.journal, link)
+            self.links.append(link)
+
+    def __enter__(self):
+        self.look()
+        self.thread.start()
+        return self
+
+    def __exit__(self, *_):
+        self.ended.set()
+        self.thread.join()
+        self.look()
+
+    @property
+    def anew(self):
+        return len(self.links) - 1
+
+    def commands(self):
+        """The commands of all, one after another, and what is wrong with the journals."""
+        commands, faults, table = [], [], Table()
+        for link in self.links:
+            own, wrong = commands_of(link.read_bytes())
+            faults += wrong
+            rest = without_snapshot(own, table)
+            if rest is None:
+                faults.append(f"{link.name} does not begin with the table that was left before it")
+                rest = own
+            for line in rest:
+                table.answer(line)
+            commands += rest
+        return commands, faults
