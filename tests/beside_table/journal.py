@@ -30,6 +30,17 @@ def commands_of(data):
     return [line[9:] for line in lines[1:]], faults
 
 
+def end_of(data):
+    """Where the lines that count end."""
+    return sum(len(line.encode()) + 2 for line in counted(data))
+
+
+def has_open_gate_behind(data):
+    """Whether an open gate stands after the lines that count."""
+    rest = data[end_of(data) :]
+    return rest.startswith(b"+") or b"\n+" in rest
+
+
 def without_snapshot(commands, table):
     """The commands after those that make a table from nothing; None if no beginning of them makes it."""
     made = Table()
