@@ -94,7 +94,7 @@ class Disk:
         file = self.names[name]
         if "O_TRUNC" in arguments and file.seen:
             file.change((0, None))
-        self.open[descriptor] = [file, 0]
+        self.open[descriptor] = [file, len(file.seen) if "O_APPEND" in arguments else 0]
 
     def at_file(self, name, descriptor, texts, arguments, result):
         file, place = self.open[descriptor]
