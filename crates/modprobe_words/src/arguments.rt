@@ -1,9 +1,13 @@
 //! The words that a program is given, as bytes.
+ghost use Rattle.std.specs.Io.{WritesAtMost};
 
 use std::alloc::AllocError;
 use std::env::{Env, FillError};
 
-/// How often a buffer is doubled.
+/// The room that a word has at first.
+const ROOM: [u8; 4096] = [0; 4096];
+
+/// How often the room is doubled.
 const TURNS: usize = 20;
 
 /// What is asked of the environment.
@@ -13,7 +17,9 @@ enum Asking<'a> {
     Variable(&'a str),
 }
 
-fn fill<R: Env>(rt: &R, asking: Asking<'_>, buffer: &mut [u8]) -> Result<usize, FillError> {
+fn fill<R: Env>(rt: &R, asking: Asking<'_>, buffer: &mut [u8]) -> Result<usize, FillError>
+    ensures { WritesAtMost result buffer.new }
+{
     match asking {
         Asking::Word(at) => rt.arg(at, buffer),
         Asking::Variable(name) => rt.var(name, buffer),
@@ -22,16 +28,15 @@ fn fill<R: Env>(rt: &R, asking: Asking<'_>, buffer: &mut [u8]) -> Result<usize, 
 
 /// What is there, None where nothing is.
 fn told<R: Env + AllocGlobal>(rt: &R, asking: Asking<'_>) -> Result<Option<Vec<u8>>, AllocError> {
-    let mut size = 4096usize;
+    let mut room = Vec::from_slice(rt.alloc(), &ROOM)?;
     for _turn in 0..TURNS {
-        let mut buffer = vec![in rt.alloc(); 0u8; size]?;
-        match fill(rt, asking, &mut buffer) {
-            Ok(length) => {
-                buffer.truncate(length);
-                return Ok(Some(buffer));
-            }
+        match fill(rt, asking, &mut room) {
+            Ok(length) => return Ok(Some(Vec::from_slice(rt.alloc(), &room[..length])?)),
             Err(FillError::NotPresent) => return Ok(None),
-            Err(FillError::TooLong) => size = size.saturating_mul(2),
+            Err(FillError::TooLong) => {
+                let size = room.len().saturating_mul(2);
+                room.resize(size, 0)?;
+            }
         }
     }
     Err(AllocError)
