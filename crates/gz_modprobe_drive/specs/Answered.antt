@@ -1,16 +1,20 @@
 -- What a query is answered, by the texts and the states of a machine.
-use Rattle.std.specs.Prelude.{◌≡◌, ℕ, Bool, true, false, not, ◌||◌, List, if◌then◌else◌}
+use Rattle.std.specs.Prelude.{◌≡◌, ℕ, Bool, true, false, not, ◌||◌, List, Option, Some, None, if◌then◌else◌}
+use Rattle.text_parts.specs.Text.{texts_of}
 use Rattle.kmod_conf.specs.Configuration.{Configuration}
+use Rattle.kmod_index.specs.Index.{Texts, indexes_of}
 use Rattle.kmod_index.specs.Indexes.{Indexes}
 use Rattle.kmod_query.specs.declared.query.Query.{Query}
 use Rattle.kmod_query.specs.declared.states.ModuleStatus.{ModuleStatus}
 use Rattle.kmod_query.specs.declared.world.World.{World}
 use Rattle.kmod_query.specs.AnswerOf.{answer_of}
 use Rattle.kmod_query.specs.Answers.{Answer}
+use Rattle.kmod_query.specs.Early.{is_early, is_symbolless}
+use Rattle.kmod_query.specs.World.{facts_of}
 use Rattle.modprobe_words.specs.declared.written.Written.{Written}
 use Rattle.modprobe_words.specs.declared.written.Written.TheVariants as written
 use Rattle.gz_modprobe_drive.specs.declared.texts.Machine.{Machine}
-use Rattle.gz_modprobe_drive.specs.Texts.{conf_of, index_of}
+use Rattle.gz_modprobe_drive.specs.Texts.{AreRead, conf_of, folder_texts, large_texts}
 
 -- what is known of a machine
 pub record Known : Type 0 where
@@ -19,10 +23,14 @@ pub record Known : Type 0 where
   pub states : List (List ℕ × ModuleStatus)
   pub directory : List ℕ
 
--- what the texts and states of a machine say
-unfoldable pub said_by : Machine → Known
-said_by machine =
-    record { conf = conf_of machine.conf.now; index = index_of machine.modules.now; states = machine.states.now; directory = machine.directory.now }
+-- what a machine's states and texts say, if these are the texts of its folder of modules
+unfoldable pub said_by : Machine → Texts → Known
+said_by machine whole =
+    record { conf = conf_of machine.conf.now; index = indexes_of whole; states = machine.states.now; directory = machine.directory.now }
+
+-- the texts of its folder of modules, as far as they were read
+abbrev pub texts_of_folder : Machine → Texts
+texts_of_folder machine = folder_texts machine.modules.now machine.later.now
 
 -- what a world has
 abbrev pub known_of : World → Known
@@ -34,6 +42,29 @@ pub record IsAnswer (known : Known) (query : Query) (answer : Answer) : Type 0 w
   pub world : World
   pub has : known_of world ≡ known
   pub is : answer ≡ answer_of world query
+
+-- a query of what is known is answered early
+pub record IsEarly (known : Known) (query : Query) : Type 0 where
+  pub world : World
+  pub has : known_of world ≡ known
+  pub is : is_early (facts_of world) query (texts_of query.words.now) ≡ true
+
+-- a query is one that modules.symbols does not matter for, if that text was not read
+abbrev pub IsEnoughFor : Option (List ℕ) → Query → Type 0
+IsEnoughFor None query = is_symbolless query (texts_of query.words.now) ≡ true
+IsEnoughFor (Some symbols) query = Unit {0}
+
+abbrev pub IsEnoughBy : Option (List ℕ) → Option (List ℕ) → Machine → Query → Type 0
+IsEnoughBy None symbols machine query = IsEarly (said_by machine (texts_of_folder machine)) query
+IsEnoughBy (Some alias) symbols machine query = IsEnoughFor symbols query
+
+-- what was read is enough for a query: it is answered early, or modules.alias was read, and modules.symbols if it matters
+pub record IsEnough (machine : Machine) (query : Query) : Type 0 where
+  pub is : IsEnoughBy (large_texts machine.later.now).alias (large_texts machine.later.now).symbols machine query
+
+-- an answer is that of the machine's texts and states, whatever stands in texts that were not read
+pub record IsAnswerOf (machine : Machine) (query : Query) (answer : Answer) : Type 0 where
+  pub is : (whole : Texts) → AreRead machine.modules.now (large_texts machine.later.now) whole → IsAnswer (said_by machine whole) query answer
 
 abbrev pub is_whole : Written → Bool
 is_whole written.Whole = true

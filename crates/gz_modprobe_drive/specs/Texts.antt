@@ -1,11 +1,13 @@
 -- What the texts of a machine say.
-use Rattle.std.specs.Prelude.{◌≡◌, ℕ, ◌+◌, List, [], ◌∷◌, length, map, Option, Some, None, option_map}
+use Rattle.std.specs.Prelude.{◌≡◌, ℕ, ◌+◌, List, [], ◌∷◌, length, map, Option, Some, None, option_map, Vec}
+use Rattle.std.specs.Global.{Global}
 use Rattle.kmod_conf.specs.CommandLine.{conf_with_command_line}
 use Rattle.kmod_conf.specs.Configuration.{Configuration, conf_with_text, no_lines}
 use Rattle.kmod_index.specs.Index.{Texts, indexes_of}
 use Rattle.kmod_index.specs.Indexes.{Indexes}
 use Rattle.modprobe_files.specs.declared.texts.TextFile.{TextFile}
 use Rattle.modprobe_files.specs.declared.texts.ConfTexts.{ConfTexts}
+use Rattle.modprobe_files.specs.declared.texts.LaterTexts.{LaterTexts}
 use Rattle.modprobe_files.specs.declared.texts.ModuleTexts.{ModuleTexts}
 
 abbrev pub text_in : TextFile → List ℕ
@@ -38,17 +40,52 @@ conf_of texts = with_texts no_lines texts
 pub record IsConfOf (texts : ConfTexts) (conf : Configuration) : Type 0 where
   pub is : conf ≡ conf_of texts
 
--- the texts of a folder of modules
-abbrev pub folder_texts : ModuleTexts → Texts
-folder_texts texts =
+-- a text, where it was read
+abbrev pub read_text : Option (Vec ℕ Global) → Option (List ℕ)
+read_text text = option_map (λ text. text.items) text
+
+abbrev pub or_empty : Option (List ℕ) → List ℕ
+or_empty None = []
+or_empty (Some text) = text
+
+abbrev pub text_or_empty : Option (Vec ℕ Global) → List ℕ
+text_or_empty text = or_empty (read_text text)
+
+-- what was read of modules.alias and modules.symbols
+pub record Large : Type 0 where
+  pub alias : Option (List ℕ)
+  pub symbols : Option (List ℕ)
+
+abbrev pub large_texts : LaterTexts → Large
+large_texts later = record { alias = read_text later.alias; symbols = read_text later.symbols }
+
+-- the texts of a folder of modules, empty where they were not read
+abbrev pub texts_with : ModuleTexts → Large → Texts
+texts_with texts large =
     record {
       dep = texts.dep.items;
-      alias = texts.alias.items;
-      symbols = texts.symbols.items;
+      alias = or_empty large.alias;
+      symbols = or_empty large.symbols;
       builtin = texts.builtin.items;
       builtin_modinfo = texts.builtin_modinfo.items;
     }
 
--- what the texts of a folder of modules say
-abbrev pub index_of : ModuleTexts → Indexes
-index_of texts = indexes_of (folder_texts texts)
+abbrev pub folder_texts : ModuleTexts → LaterTexts → Texts
+folder_texts texts later = texts_with texts (large_texts later)
+
+-- what the texts of a folder of modules say, as far as they were read
+abbrev pub index_of : ModuleTexts → LaterTexts → Indexes
+index_of texts later = indexes_of (folder_texts texts later)
+
+-- a text, where it was read, is this one
+abbrev pub IsThis : Option (List ℕ) → List ℕ → Type 0
+IsThis None whole = Unit {0}
+IsThis (Some text) whole = whole ≡ text
+
+-- all texts of a folder, of which these were read
+pub record AreRead (texts : ModuleTexts) (large : Large) (whole : Texts) : Type 0 where
+  pub dep : whole.dep ≡ texts.dep.items
+  pub builtin : whole.builtin ≡ texts.builtin.items
+  pub builtin_modinfo : whole.builtin_modinfo ≡ texts.builtin_modinfo.items
+  pub alias : IsThis large.alias whole.alias
+  pub symbols : IsThis large.symbols whole.symbols

@@ -3,7 +3,7 @@ ghost use Rattle.std.specs.Prelude.{◌≡◌, IfOk};
 ghost use Rattle.std.specs.Io.KnownBytes.{Appends};
 ghost use Rattle.kmod_query.specs.AnswerOf.{answer_of};
 ghost use Rattle.modprobe_words.specs.declared.written.Written.TheVariants.{Whole};
-ghost use Rattle.gz_modprobe_drive.specs.Answered.{IsAnswer, said_by, status_of};
+ghost use Rattle.gz_modprobe_drive.specs.Answered.{IsAnswerOf, IsEnough, status_of};
 ghost use Rattle.gz_modprobe_drive.specs.Texts.{IsConfOf};
 
 use crate::explained::explain;
@@ -54,8 +54,8 @@ fn answer_world<O: Write, E: Write>(
 }
 
 /// Answers a query from the texts and states of a machine, and writes the answer's output, whether it is explained or not.
-/// `conf` is what the machine's configuration says. It fails only if memory runs out.
-#[tactic(auto, unfolding(crate::specs::Answered::said_by))]
+/// `conf` is what the machine's configuration says. Texts that were not read do not matter. It fails only if memory runs
+/// out.
 pub(crate) fn answer_machine<O: Write, E: Write>(
     alloc: Global,
     machine: &Machine<'_>,
@@ -64,11 +64,12 @@ pub(crate) fn answer_machine<O: Write, E: Write>(
     output: &mut O,
     messages: &mut Messages<'_, E>,
 ) -> Result<Answered, AllocError>
-    requires { IsConfOf machine.now.conf.now conf.now }
-    ensures answer { IfOk result (λ own. IsAnswer (said_by machine.now) query.now own.answer) }
+    requires conf { IsConfOf machine.now.conf.now conf.now }
+    requires enough { IsEnough machine.now query.now }
+    ensures answer { IfOk result (λ own. IsAnswerOf machine.now query.now own.answer) }
     ensures written { IfOk result (λ own. own.written ≡ Whole → Appends (O.contents output.old) (O.contents output.new) own.answer.output) }
 {
-    let index = index_of(alloc, machine.modules, query.words.len())?;
+    let index = index_of(alloc, machine.modules, machine.later, query.words.len())?;
     let world = World {
         conf,
         index: &index,

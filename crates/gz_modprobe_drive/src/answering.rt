@@ -1,8 +1,11 @@
 //! How a query is answered: what is read for it, and what is told.
-ghost use Rattle.std.specs.Prelude.{◌≤◌, IfOk};
+ghost use Rattle.std.specs.Prelude.{◌≡◌, ◌≤◌, None, IfOk};
+ghost use Rattle.gz_modprobe_drive.specs.Answered.{IsEnough};
+ghost use Rattle.gz_modprobe_drive.specs.Texts.{IsConfOf};
 
 use crate::answered::{Answered, answer_machine};
 use crate::configuration::conf_of;
+use crate::early::{asks_symbols, is_answered_early};
 use crate::failures::tell_failures;
 use crate::queries::asks_states;
 use crate::sys::add_states;
@@ -10,7 +13,8 @@ use crate::texts::Machine;
 use kmod_conf::Conf;
 use kmod_query::{Query, States};
 use modprobe_files::{
-    ConfTexts, Host, ModuleTexts, System, directory, is_rootless, read_configuration, read_modules,
+    ConfTexts, Host, LaterTexts, ModuleTexts, System, directory, is_rootless, read_configuration,
+    read_later, read_modules,
 };
 use modprobe_words::{Asked, Level, Messages, Written};
 use std::alloc::{AllocError, Global};
@@ -52,22 +56,67 @@ fn tell_answered<S: System, E: Write>(
     Ok(answered.status())
 }
 
-/// Takes the configuration from its texts and tells what is wrong with it, answers a query, and tells what failed. The
-/// status is answered.
+/// Answers a query from what was read, and tells what failed. The status is answered.
+fn answer_read<S: System, O: Write, E: Write>(
+    host: &Host<'_, S>,
+    machine: &Machine<'_>,
+    conf: &Conf,
+    query: &Query<'_>,
+    output: &mut O,
+    messages: &mut Messages<'_, E>,
+) -> Result<u8, AllocError>
+    requires conf { IsConfOf machine.now.conf.now conf.now }
+    requires enough { IsEnough machine.now query.now }
+    ensures { IfOk result (λ status. status ≤ 1) }
+{
+    let answered = answer_machine(host.alloc(), machine, conf, query, output, messages)?;
+    tell_answered(host, &answered, query, machine.directory, messages)
+}
+
+/// Answers a query, early if it can be and is not explained. Else modules.alias is read for it, and modules.symbols if it may
+/// matter. The status is answered.
 fn answer_by<S: System, O: Write, E: Write>(
+    host: &Host<'_, S>,
+    machine: &Machine<'_>,
+    conf: &Conf,
+    query: &Query<'_>,
+    output: &mut O,
+    messages: &mut Messages<'_, E>,
+) -> Result<u8, AllocError>
+    requires conf { IsConfOf machine.now.conf.now conf.now }
+    requires unread { machine.now.later.now.alias ≡ None }
+    ensures { IfOk result (λ status. status ≤ 1) }
+{
+    let alloc = host.alloc();
+    if is_answered_early(alloc, machine, conf, query, messages.explains)? {
+        return answer_read(host, machine, conf, query, output, messages);
+    }
+    let has_symbols = asks_symbols(alloc, query, messages.explains)?;
+    let later = read_later(host, machine.directory, has_symbols, messages)?;
+    let whole = Machine {
+        conf: machine.conf,
+        modules: machine.modules,
+        later: &later,
+        states: machine.states,
+        directory: machine.directory,
+    };
+    answer_read(host, &whole, conf, query, output, messages)
+}
+
+/// Takes the configuration from its texts and tells what is wrong with it, and answers a query. The status is answered.
+fn answer_configured<S: System, O: Write, E: Write>(
     host: &Host<'_, S>,
     machine: &Machine<'_>,
     query: &Query<'_>,
     output: &mut O,
     messages: &mut Messages<'_, E>,
 ) -> Result<u8, AllocError>
+    requires { machine.now.later.now.alias ≡ None }
     ensures { IfOk result (λ status. status ≤ 1) }
 {
-    let alloc = host.alloc();
-    let conf = conf_of(alloc, machine.conf)?;
-    tell_bad_lines(alloc, machine.conf, &conf, messages)?;
-    let answered = answer_machine(alloc, machine, &conf, query, output, messages)?;
-    tell_answered(host, &answered, query, machine.directory, messages)
+    let conf = conf_of(host.alloc(), machine.conf)?;
+    tell_bad_lines(host.alloc(), machine.conf, &conf, messages)?;
+    answer_by(host, machine, &conf, query, output, messages)
 }
 
 /// Reads the states that a query asks of, and answers it from texts and states. The status is answered.
@@ -86,13 +135,18 @@ fn answer_from<S: System, O: Write, E: Write>(
     if asks_states(query.ask) {
         add_states(host, &mut states, messages)?;
     }
+    let unread = LaterTexts {
+        alias: None,
+        symbols: None,
+    };
     let machine = Machine {
         conf,
         modules,
+        later: &unread,
         states: &states,
         directory,
     };
-    answer_by(host, &machine, query, output, messages)
+    answer_configured(host, &machine, query, output, messages)
 }
 
 /// Reads what counts for a folder of modules: the configuration and the folder's texts. Then it answers a query from them.

@@ -1,29 +1,53 @@
 //! What the texts of a folder of modules say.
 ghost use Rattle.std.specs.Prelude.{◌≡◌, IfOk};
-ghost use Rattle.gz_modprobe_drive.specs.Texts.{index_of};
+ghost use Rattle.kmod_index.specs.Index.{texts_in};
+ghost use Rattle.gz_modprobe_drive.specs.Texts.{folder_texts, index_of, text_or_empty};
 
 use kmod_index::{Index, IndexTexts};
-use modprobe_files::ModuleTexts;
+use modprobe_files::{LaterTexts, ModuleTexts};
 use std::alloc::{AllocError, Global};
 
 /// How many names are looked up in the texts themselves. For more, tables are made of the texts first: that takes as long
 /// as the look-up of about so many.
-const FEW_NAMES: usize = 32;
+pub(crate) const FEW_NAMES: usize = 32;
 
-/// What the texts of a folder of modules say, for a query of so many names. It fails only if memory runs out.
-pub fn index_of(alloc: Global, texts: &ModuleTexts, names: usize) -> Result<Index, AllocError>
-    ensures { IfOk result (λ index. index ≡ index_of texts.now) }
+/// A text; one that was not read is empty.
+fn lent(text: &Option<Vec<u8>>) -> &[u8]
+    ensures { result.now ≡ text_or_empty text.entry.now }
 {
-    let indexed = IndexTexts {
+    match text {
+        Some(text) => text,
+        None => b"",
+    }
+}
+
+/// The texts of a folder of modules. One that was not read is empty.
+pub(crate) fn folder_texts<'a>(texts: &'a ModuleTexts, later: &'a LaterTexts) -> IndexTexts<'a>
+    ensures { texts_in result ≡ folder_texts texts.entry.now later.entry.now }
+{
+    IndexTexts {
         dep: &texts.dep,
-        alias: &texts.alias,
-        symbols: &texts.symbols,
+        alias: lent(&later.alias),
+        symbols: lent(&later.symbols),
         builtin: &texts.builtin,
         builtin_modinfo: &texts.builtin_modinfo,
-    };
+    }
+}
+
+/// What the texts of a folder of modules say, for a query of so many names. One that was not read is taken for empty. It
+/// fails only if memory runs out.
+pub fn index_of<'a>(
+    alloc: Global,
+    texts: &'a ModuleTexts,
+    later: &'a LaterTexts,
+    names: usize,
+) -> Result<Index<'a>, AllocError>
+    ensures { IfOk result (λ index. index ≡ index_of texts.entry.now later.entry.now) }
+{
+    let indexed = folder_texts(texts, later);
     if names > FEW_NAMES {
-        Index::with_tables(alloc, &indexed)
+        Index::with_tables(alloc, indexed)
     } else {
-        Index::read(alloc, &indexed)
+        Ok(Index::read(indexed))
     }
 }

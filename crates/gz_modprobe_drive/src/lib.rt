@@ -4,6 +4,7 @@
 mod answered;
 mod answering;
 mod configuration;
+mod early;
 mod explained;
 mod failures;
 mod folder;

@@ -1,6 +1,6 @@
 -- A name that parts early from the text of a line does not match the line's key.
-use Rattle.std.proofs.Common.{◌≡◌, ℕ, Bool, true, false, nat_eq, ◌==◌, ◌&&◌, ◌||◌, if◌then◌else◌, List, [], ◌∷◌, length, Option, Some, None, Result, Ok, Err, refl, ◌∙◌, ap, inl, inr}
-use Rattle.std.specs.List.{list_any}
+use Rattle.std.proofs.Common.{◌≡◌, ℕ, Bool, true, false, nat_eq, ◌==◌, ◌&&◌, ◌||◌, if◌then◌else◌, List, [], ◌∷◌, cond, codes, drop, length, Option, Some, None, Result, Ok, Err, refl, ◌∙◌, ap, inl, inr}
+use Rattle.std.specs.List.{list_any, starts_with}
 use Rattle.std.specs.Option.{option_to_list}
 use Rattle.std.proofs.lemmas.Bool.{or_parts}
 use Rattle.alias_match.specs.declared.read.PatternError.{PatternError}
@@ -149,11 +149,13 @@ none_of_parts number name None h = refl
 none_of_parts number name (Some parts) h =
     keyed_none (record { key = parts.0; name = parts.1; number = number }) name (normal_alias parts.0) (normal_parts parts.0 name h)
 
--- a line whose parts are these is no alias that a name matches
-pub is_none_of_line : (number : ℕ) (line text name : List ℕ) → alias_parts line ≡ at_last 32 text → parts_early text name ≡ true → matching_lines (option_to_list (alias_of_line (number, line))) name ≡ []
-is_none_of_line number line text name is h =
-    ap (λ parts. matching_lines (option_to_list (in_normal_form (keyed_from number parts))) name) is
-    ∙ none_of_parts number name (at_last 32 text) (key_parts text name h)
+-- a line whose key would part early from a name is no alias that the name matches
+pub is_none_of_line : (number : ℕ) (line name : List ℕ) → parts_early (drop 6 line) name ≡ true → matching_lines (option_to_list (alias_of_line (number, line))) name ≡ []
+is_none_of_line number line name h = next (starts_with nat_eq line (codes "alias "))
+  where
+    next : (is_alias : Bool) → matching_lines (option_to_list (in_normal_form (keyed_from number (cond is_alias (at_last 32 (drop 6 line)) None)))) name ≡ []
+    next true = none_of_parts number name (at_last 32 (drop 6 line)) (key_parts (drop 6 line) name h)
+    next false = refl
 
 pub no_parts : (number : ℕ) (line name : List ℕ) → alias_parts line ≡ None → matching_lines (option_to_list (alias_of_line (number, line))) name ≡ []
 no_parts number line name is = ap (λ parts. matching_lines (option_to_list (in_normal_form (keyed_from number parts))) name) is

@@ -3,7 +3,6 @@ use Rattle.std.specs.Prelude.{◌≡◌, ℕ, Bool, true, false, ◌==◌, ◌||
 use Rattle.std.specs.Borrow.{Bor}
 use Rattle.kmod_names.specs.ForProofs.{is_special}
 use Rattle.kmod_index.specs.Dependencies.{Dependencies}
-use Rattle.kmod_index.specs.Index.{Texts}
 use Rattle.kmod_index.specs.Indexes.{Indexes}
 use Rattle.kmod_index.specs.Lines.{Keyed}
 
@@ -51,8 +50,3 @@ parts_early [] name = false
 parts_early (byte ∷ text) [] = false
 parts_early (byte ∷ text) (other ∷ name) =
     if is_stop byte then false else (if byte == other then parts_early text name else true)
-
--- these texts
-abbrev pub known_texts : List ℕ → List ℕ → List ℕ → List ℕ → List ℕ → Texts
-known_texts dep alias symbols builtin builtin_modinfo =
-    record { dep = dep; alias = alias; symbols = symbols; builtin = builtin; builtin_modinfo = builtin_modinfo }

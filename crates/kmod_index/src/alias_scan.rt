@@ -1,5 +1,5 @@
 //! Lines of a modules.alias text, found in the text itself.
-ghost use Rattle.std.specs.Prelude.{◌≡◌, ◌∷◌, ◌++◌, [], ℕ, None, IfOk, IsTrue, MatchOption, OnOk};
+ghost use Rattle.std.specs.Prelude.{◌≡◌, ◌∷◌, ◌++◌, [], ℕ, None, drop, IfOk, IsTrue, MatchOption, OnOk};
 ghost use Rattle.std.specs.Option.{option_to_list};
 ghost use Rattle.kmod_index.specs.Aliases.{alias_of_line, aliases_of};
 ghost use Rattle.kmod_index.specs.ForProofs.{is_stop, parts_early};
@@ -52,12 +52,22 @@ fn alias_text(line: &[u8]) -> Option<&[u8]>
     line.strip_prefix(b"alias ")
 }
 
-/// Whether a line is seen at once to be no alias that a name matches.
+/// Whether a name parts early from what stands in the place of a line's key, behind `alias` and a blank.
+fn key_parts_early(line: &[u8], name: &[u8]) -> bool
+    ensures { result ≡ parts_early (drop 6 line.now) name.now }
+{
+    line.len() > 6 && parts_early(&line[6..], name)
+}
+
+/// Whether a line is seen at once to be no alias that a name matches. Most lines part early, so that is tried first.
 fn is_other(line: &[u8], name: &[u8]) -> bool
     ensures { IsTrue result → (number : ℕ) → matching_lines (option_to_list (alias_of_line (number, line.now))) name.now ≡ [] }
 {
+    if key_parts_early(line, name) {
+        return true;
+    }
     match alias_text(line) {
-        Some(text) => parts_early(text, name),
+        Some(_) => false,
         None => true,
     }
 }

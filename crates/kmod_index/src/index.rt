@@ -38,70 +38,50 @@ pub struct IndexTexts<'a> {
 
 /// What the texts of a folder of modules say. A name is looked up in the texts themselves, or, for many names, in tables
 /// that were made of them.
-pub struct Index {
-    dep: Text,
-    alias: Text,
-    symbols: Text,
-    builtin: Text,
-    builtin_modinfo: Text,
+pub struct Index<'a> {
+    texts: IndexTexts<'a>,
     tables: Option<Tables>,
 }
 
 // By hand, since a derived drop is written out, and proved, at each place where a value is let go.
-impl Drop for Index {
+impl Drop for Index<'_> {
     fn drop(self) {
         let Index {
-            dep: _,
-            alias: _,
-            symbols: _,
-            builtin: _,
-            builtin_modinfo: _,
+            texts: _,
             tables: _,
         } = self;
     }
 }
 
-impl Model for Index {
-    ghost use Rattle.kmod_index.specs.ForProofs.{AreTables, known_texts};
-    ghost use Rattle.kmod_index.specs.Index.{indexes_of};
+impl<'a> Model for Index<'a> {
+    ghost use Rattle.kmod_index.specs.ForProofs.{AreTables};
+    ghost use Rattle.kmod_index.specs.Index.{indexes_of, texts_in};
     ghost use Rattle.kmod_index.specs.Indexes.{Indexes};
 
     ghost Value = { Indexes };
 
-    ghost view = { λ index. indexes_of (known_texts index.dep index.alias index.symbols index.builtin index.builtin_modinfo) };
+    ghost view = { λ index. indexes_of (texts_in index.texts) };
 
-    ghost invariant = { λ index. AreTables index.tables (indexes_of (known_texts index.dep index.alias index.symbols index.builtin index.builtin_modinfo)) };
+    ghost invariant = { λ index. AreTables index.tables (indexes_of (texts_in index.texts)) };
 }
 
-impl Index {
-    /// What the texts say, with these tables of them.
-    fn with(alloc: Global, texts: &IndexTexts, tables: Option<Tables>) -> Result<Index, AllocError>
-        requires { AreTables tables (indexes_of (texts_in texts.now)) }
-        ensures { IfOk result (λ index. index ≡ indexes_of (texts_in texts.now)) }
+impl<'a> Index<'a> {
+    /// What the texts say. Each look-up goes through a text.
+    pub fn read(texts: IndexTexts<'a>) -> Index<'a>
+        ensures { result ≡ indexes_of (texts_in texts.entry) }
     {
-        Ok(Index {
-            dep: Text::new(alloc, texts.dep)?,
-            alias: Text::new(alloc, texts.alias)?,
-            symbols: Text::new(alloc, texts.symbols)?,
-            builtin: Text::new(alloc, texts.builtin)?,
-            builtin_modinfo: Text::new(alloc, texts.builtin_modinfo)?,
-            tables,
-        })
-    }
-
-    /// What the texts say. Each look-up goes through a text. It fails only if memory runs out.
-    pub fn read(alloc: Global, texts: &IndexTexts) -> Result<Index, AllocError>
-        ensures { IfOk result (λ index. index ≡ indexes_of (texts_in texts.now)) }
-    {
-        Index::with(alloc, texts, None)
+        Index {
+            texts,
+            tables: None,
+        }
     }
 
     /// What the texts say, in tables: many look-ups are faster so. It fails only if memory runs out.
-    pub fn with_tables(alloc: Global, texts: &IndexTexts) -> Result<Index, AllocError>
-        ensures { IfOk result (λ index. index ≡ indexes_of (texts_in texts.now)) }
+    pub fn with_tables(alloc: Global, texts: IndexTexts<'a>) -> Result<Index<'a>, AllocError>
+        ensures { IfOk result (λ index. index ≡ indexes_of (texts_in texts.entry)) }
     {
-        let tables = Tables::read(alloc, texts)?;
-        Index::with(alloc, texts, Some(tables))
+        let tables = Some(Tables::read(alloc, &texts)?);
+        Ok(Index { texts, tables })
     }
 
     /// The first line of modules.dep of the module of this name, None where it has none. Names have `_` for each `-`.
@@ -110,7 +90,7 @@ impl Index {
     {
         match &self.tables {
             Some(tables) => tables.find(name),
-            None => find_line(self.dep.as_bytes(), name),
+            None => find_line(self.texts.dep, name),
         }
     }
 
@@ -129,14 +109,14 @@ impl Index {
     pub fn dep_lines(&self, alloc: Global) -> Result<Vec<DepLine<'_>>, AllocError>
         ensures { IfOk result (λ lines. lines.items ≡ self.now.dependencies) }
     {
-        dep_lines(alloc, self.dep.as_bytes())
+        dep_lines(alloc, self.texts.dep)
     }
 
     /// The lines of modules.alias, in order. It fails only if memory runs out.
     pub fn alias_lines(&self, alloc: Global) -> Result<Vec<IndexLine>, AllocError>
         ensures { IfOk result (λ lines. lines.items ≡ self.now.aliases) }
     {
-        alias_lines(alloc, self.alias.as_bytes())
+        alias_lines(alloc, self.texts.alias)
     }
 
     /// The lines of modules.alias whose key a name in normal form matches, in order. It fails only if memory runs out.
@@ -145,7 +125,7 @@ impl Index {
     {
         match &self.tables {
             Some(tables) => tables.matching_aliases(alloc, name),
-            None => matching_aliases(alloc, self.alias.as_bytes(), name),
+            None => matching_aliases(alloc, self.texts.alias, name),
         }
     }
 
@@ -153,7 +133,7 @@ impl Index {
     pub fn symbol_lines(&self, alloc: Global) -> Result<Vec<IndexLine>, AllocError>
         ensures { IfOk result (λ lines. lines.items ≡ self.now.symbols) }
     {
-        symbol_lines(alloc, self.symbols.as_bytes())
+        symbol_lines(alloc, self.texts.symbols)
     }
 
     /// The lines of modules.symbols whose key is this text, as `symbol:NAME`, in order. It fails only if memory runs out.
@@ -162,7 +142,7 @@ impl Index {
     {
         match &self.tables {
             Some(tables) => tables.symbols_of_key(alloc, key),
-            None => symbols_of_key(alloc, self.symbols.as_bytes(), key),
+            None => symbols_of_key(alloc, self.texts.symbols, key),
         }
     }
 
@@ -172,7 +152,7 @@ impl Index {
     {
         match &self.tables {
             Some(tables) => tables.is_builtin(name),
-            None => is_builtin_in(self.builtin.as_bytes(), name),
+            None => is_builtin_in(self.texts.builtin, name),
         }
     }
 
@@ -183,7 +163,7 @@ impl Index {
     {
         match &self.tables {
             Some(tables) => tables.builtin_aliases(alloc, name),
-            None => matching_builtins(alloc, self.builtin_modinfo.as_bytes(), name),
+            None => matching_builtins(alloc, self.texts.builtin_modinfo, name),
         }
     }
 }

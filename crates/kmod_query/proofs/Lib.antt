@@ -9,3 +9,5 @@ pub mod WayLemmas
 pub mod LawLemmas
 pub mod ReasonLemmas
 pub mod OrderLemmas
+pub mod EarlyLemmas
+pub mod SymbolLemmas

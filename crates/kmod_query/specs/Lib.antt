@@ -16,3 +16,4 @@ pub mod World
 pub mod AnswerOf
 pub mod Reasons
 pub mod Order
+pub mod Early

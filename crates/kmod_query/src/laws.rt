@@ -1,13 +1,16 @@
 //! The laws of answers.
 ghost use Rattle.std.specs.Prelude.{◌≡◌, ◌++◌, ◌∷◌, [], ℕ, Bool, List, false, true, is_some, map};
 ghost use Rattle.std.specs.List.{flat_map, list_any};
+ghost use Rattle.text_parts.specs.Text.{texts_of};
 ghost use Rattle.kmod_query.specs.AnswerOf.{answer_of};
+ghost use Rattle.kmod_query.specs.Early.{is_early, is_symbolless};
 ghost use Rattle.kmod_query.specs.Facts.{Facts};
 ghost use Rattle.kmod_query.specs.Lines.{load_line};
 ghost use Rattle.kmod_query.specs.Loading.{answer_names, is_barred, load};
 ghost use Rattle.kmod_query.specs.Objects.{Object, by_name};
 ghost use Rattle.kmod_query.specs.Order.{StandInOrder, is_done};
 ghost use Rattle.kmod_query.specs.Probes.{first_tasks, probe_list, step_limit};
+ghost use Rattle.kmod_query.specs.World.{facts_of};
 ghost use Rattle.kmod_query.specs.declared.query.Ask.TheVariants.{ShowDepends};
 ghost use Rattle.kmod_query.specs.declared.query.Query.{Query};
 ghost use Rattle.kmod_query.specs.declared.world.World.{World};
@@ -56,4 +59,29 @@ pub fn hard_needs_come_first()
         → query.ask ≡ ShowDepends → is_barred facts query top ≡ false
         → (load facts query parameters top).output
         ≡ flat_map (load_line facts query.ignore_commands parameters top) (probe_list facts query.ignore_commands top) }
+{}
+
+/// An answer that is early is the same whatever modules.alias and modules.symbols say: worlds with the same configuration,
+/// states, folder, modules.dep and texts of built-in modules answer it the same.
+pub fn later_texts_do_not_count()
+    ensures { (one other : World) (query : Query)
+        → is_early (facts_of one) query (texts_of query.words.now) ≡ true
+        → one.conf.now ≡ other.conf.now → one.states.now ≡ other.states.now → one.directory.now ≡ other.directory.now
+        → one.index.now.dependencies ≡ other.index.now.dependencies
+        → one.index.now.builtin_names ≡ other.index.now.builtin_names
+        → one.index.now.builtin_aliases ≡ other.index.now.builtin_aliases
+        → answer_of one query ≡ answer_of other query }
+{}
+
+/// Where names are resolved, and none of them is that of a symbol, the answer is the same whatever modules.symbols says: worlds
+/// with the same configuration, states, folder and other texts answer it the same.
+pub fn symbols_do_not_count()
+    ensures { (one other : World) (query : Query)
+        → is_symbolless query (texts_of query.words.now) ≡ true
+        → one.conf.now ≡ other.conf.now → one.states.now ≡ other.states.now → one.directory.now ≡ other.directory.now
+        → one.index.now.dependencies ≡ other.index.now.dependencies
+        → one.index.now.aliases ≡ other.index.now.aliases
+        → one.index.now.builtin_names ≡ other.index.now.builtin_names
+        → one.index.now.builtin_aliases ≡ other.index.now.builtin_aliases
+        → answer_of one query ≡ answer_of other query }
 {}

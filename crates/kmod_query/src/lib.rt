@@ -5,6 +5,7 @@ mod answer;
 mod answering;
 mod asked;
 mod commands;
+mod early;
 mod finding;
 mod fronts;
 mod groups;
@@ -31,10 +32,11 @@ pub use answer::{Answer, Failure};
 pub use answering::answer_to;
 pub use asked::Asked;
 pub use commands::{install_line, remove_line};
+pub use early::{is_early, is_symbolless};
 pub use finding::Finding;
 pub use laws::{
-    blacklisted_modules_are_not_loaded, hard_needs_come_first, names_are_answered_in_turn,
-    show_depends_ignores_states,
+    blacklisted_modules_are_not_loaded, hard_needs_come_first, later_texts_do_not_count,
+    names_are_answered_in_turn, show_depends_ignores_states, symbols_do_not_count,
 };
 pub use loading::{is_barred, is_passed};
 pub use look_up::find_name;

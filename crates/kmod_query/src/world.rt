@@ -17,7 +17,7 @@ use std::alloc::{AllocError, Global};
 #[derive(Clone, Copy)]
 pub struct World<'a> {
     pub conf: &'a Conf,
-    pub index: &'a Index,
+    pub index: &'a Index<'a>,
     pub states: &'a States,
     pub directory: &'a [u8],
 }

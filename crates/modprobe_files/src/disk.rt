@@ -4,10 +4,11 @@ ghost use Rattle.modprobe_words.specs.Variable.{bytes_of};
 ghost use Rattle.modprobe_files.specs.Places.{has_root, path_below};
 
 use crate::system::{Entry, Kind, Place, System};
+use crate::whole_files::whole;
 use program_frame::folder_names;
 use std::alloc::{AllocError, Global};
 use std::env::{self, Env};
-use std::fs::{self, Metadata};
+use std::fs::{self, Metadata, OpenFile};
 use std::io::{self, ErrorKind};
 use std::rt::Files;
 
@@ -86,7 +87,9 @@ impl<R: Files + Env + AllocGlobal> System for Disk<'_, R> {
     }
 
     fn read(&self, place: &Place) -> io::Result<Vec<u8>> {
-        fs::read(self.rt, &self.path(place)?)
+        let mut file = fs::open(self.rt, self.path(place)?)?;
+        let expected = usize::try_from(file.metadata()?.len()).unwrap_or(0);
+        whole(self.rt.alloc(), &mut file, expected)
     }
 
     fn kind(&self, place: &Place) -> io::Result<Kind> {

@@ -13,13 +13,14 @@ mod sources;
 mod system;
 mod texts;
 mod walk;
+mod whole_files;
 
 pub use disk::Disk;
 pub use faults::{is_rootless, tell_folder, tell_unread};
 pub use files::{File, Source, counted_files};
 pub use host::{Host, joined};
 pub use laws::hidden_files_do_not_count;
-pub use machine::{directory, read_configuration, read_modules};
+pub use machine::{directory, read_configuration, read_later, read_modules};
 pub use system::{Entry, Kind, Place, System};
-pub use texts::{ConfTexts, HiddenFile, ModuleTexts, TextFile};
+pub use texts::{ConfTexts, HiddenFile, LaterTexts, ModuleTexts, TextFile};
 pub use walk::{Resolved, resolve};

@@ -1,4 +1,5 @@
 //! The texts of the machine that is asked.
+ghost use Rattle.std.specs.Prelude.{◌≡◌, true, IfOk, IsSome};
 
 use crate::faults::tell_unread;
 use crate::files::{File, counted_files};
@@ -7,7 +8,7 @@ use crate::host::{Host, joined};
 use crate::releases::release_there;
 use crate::sources::configuration_sources;
 use crate::system::System;
-use crate::texts::{COMMAND_LINE, ConfTexts, HiddenFile, ModuleTexts, TextFile};
+use crate::texts::{COMMAND_LINE, ConfTexts, HiddenFile, LaterTexts, ModuleTexts, TextFile};
 use modprobe_words::{Asked, Level, Messages};
 use std::alloc::AllocError;
 use std::io::{ErrorKind, Write};
@@ -156,7 +157,7 @@ fn text_in<S: System, E: Write>(
     }
 }
 
-/// The texts of a folder of modules.
+/// Reads the texts of a folder of modules that each query may ask: modules.dep and those of built-in modules.
 pub fn read_modules<S: System, E: Write>(
     host: &Host<'_, S>,
     directory: &[u8],
@@ -164,9 +165,28 @@ pub fn read_modules<S: System, E: Write>(
 ) -> Result<ModuleTexts, AllocError> {
     Ok(ModuleTexts {
         dep: text_in(host, directory, b"modules.dep", messages)?,
-        alias: text_in(host, directory, b"modules.alias", messages)?,
-        symbols: text_in(host, directory, b"modules.symbols", messages)?,
         builtin: text_in(host, directory, b"modules.builtin", messages)?,
         builtin_modinfo: text_in(host, directory, b"modules.builtin.modinfo", messages)?,
     })
+}
+
+/// Reads the large texts of a folder of modules: modules.alias, and modules.symbols if it is asked for.
+pub fn read_later<S: System, E: Write>(
+    host: &Host<'_, S>,
+    directory: &[u8],
+    has_symbols: bool,
+    messages: &mut Messages<'_, E>,
+) -> Result<LaterTexts, AllocError>
+    ensures alias { IfOk result (λ texts. IsSome texts.alias) }
+    ensures symbols { IfOk result (λ texts. has_symbols ≡ true → IsSome texts.symbols) }
+{
+    let alias = Some(text_in(host, directory, b"modules.alias", messages)?);
+    if !has_symbols {
+        return Ok(LaterTexts {
+            alias,
+            symbols: None,
+        });
+    }
+    let symbols = Some(text_in(host, directory, b"modules.symbols", messages)?);
+    Ok(LaterTexts { alias, symbols })
 }

@@ -42,25 +42,20 @@ impl Drop for ConfTexts {
     }
 }
 
-/// The texts of a folder of modules; one that is not there is empty.
+/// The texts of a folder of modules that each query may ask; one that is not there is empty.
+#[derive(Drop)]
 pub struct ModuleTexts {
     pub dep: Vec<u8>,
-    pub alias: Vec<u8>,
-    pub symbols: Vec<u8>,
     pub builtin: Vec<u8>,
     pub builtin_modinfo: Vec<u8>,
 }
 
-impl Drop for ModuleTexts {
-    fn drop(self) {
-        let ModuleTexts {
-            dep: _,
-            alias: _,
-            symbols: _,
-            builtin: _,
-            builtin_modinfo: _,
-        } = self;
-    }
+/// The large texts of a folder of modules, which few queries ask. One that is not there is empty, and one that was not read
+/// is None.
+#[derive(Drop)]
+pub struct LaterTexts {
+    pub alias: Option<Vec<u8>>,
+    pub symbols: Option<Vec<u8>>,
 }
 
 impl ConfTexts {

@@ -64,7 +64,7 @@ pub fn host_catalogue(alloc: Global, dependencies: &[u8]) -> Result<Vec<u8>, All
         builtin: b"",
         builtin_modinfo: b"",
     };
-    let index = Index::read(alloc, &texts)?;
+    let index = Index::read(texts);
     let mut text = Vec::from_slice(alloc, b"version 3\n")?;
     push_modules(alloc, &mut text, &index.dep_lines(alloc)?)?;
     Ok(text)

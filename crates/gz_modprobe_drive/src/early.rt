@@ -1,0 +1,55 @@
+//! Which of the large texts are read for a query.
+ghost use Rattle.std.specs.Prelude.{◌≡◌, false, true, IfOk};
+ghost use Rattle.text_parts.specs.Text.{texts_of};
+ghost use Rattle.kmod_query.specs.Early.{is_symbolless};
+ghost use Rattle.gz_modprobe_drive.specs.Answered.{IsEarly, said_by, texts_of_folder};
+ghost use Rattle.gz_modprobe_drive.specs.Texts.{IsConfOf};
+
+use crate::folder::{FEW_NAMES, folder_texts};
+use crate::texts::Machine;
+use kmod_conf::Conf;
+use kmod_index::Index;
+use kmod_query::{Query, World, is_early, is_symbolless};
+use std::alloc::{AllocError, Global};
+
+/// Whether the answer to a query is seen to be the same whatever stands in modules.alias and modules.symbols. `conf` is what
+/// the machine's configuration says. It is not tried for many names, nor if the answer is explained. It fails only if memory
+/// runs out.
+#[tactic(auto, unfolding(crate::specs::Answered::said_by))]
+pub(crate) fn is_answered_early(
+    alloc: Global,
+    machine: &Machine<'_>,
+    conf: &Conf,
+    query: &Query<'_>,
+    explains: bool,
+) -> Result<bool, AllocError>
+    requires { IsConfOf machine.now.conf.now conf.now }
+    ensures { IfOk result (λ early. early ≡ true → IsEarly (said_by machine.now (texts_of_folder machine.now)) query.now) }
+{
+    if explains || query.words.len() > FEW_NAMES {
+        return Ok(false);
+    }
+    let index = Index::read(folder_texts(machine.modules, machine.later));
+    let world = World {
+        conf,
+        index: &index,
+        states: machine.states,
+        directory: machine.directory,
+    };
+    is_early(alloc, &world, query)
+}
+
+/// Whether modules.symbols is read for a query: if its answer is explained or may depend on that text. It fails only if memory
+/// runs out.
+pub(crate) fn asks_symbols(
+    alloc: Global,
+    query: &Query<'_>,
+    explains: bool,
+) -> Result<bool, AllocError>
+    ensures { IfOk result (λ asks. asks ≡ false → is_symbolless query.now (texts_of query.now.words.now) ≡ true) }
+{
+    if explains {
+        return Ok(true);
+    }
+    Ok(!is_symbolless(alloc, query)?)
+}
