@@ -1,1 +1,2 @@
 pub mod AnswerLemmas
+pub mod EndLemmas

@@ -1,4 +1,5 @@
 pub mod Answered
+pub mod Ends
 pub mod Queries
 pub mod Sys
 pub mod Texts

@@ -1,6 +1,7 @@
 //! How a query is answered: what is read for it, and what is told.
 ghost use Rattle.std.specs.Prelude.{◌≡◌, ◌≤◌, None, IfOk};
-ghost use Rattle.gz_modprobe_drive.specs.Answered.{IsEnough};
+ghost use Rattle.gz_modprobe_drive.specs.Answered.{IsEnough, status_of};
+ghost use Rattle.gz_modprobe_drive.specs.Ends.{WasAnswered};
 ghost use Rattle.gz_modprobe_drive.specs.Texts.{IsConfOf};
 
 use crate::answered::{Answered, answer_machine};
@@ -46,7 +47,8 @@ fn tell_answered<S: System, E: Write>(
     directory: &[u8],
     messages: &mut Messages<'_, E>,
 ) -> Result<u8, AllocError>
-    ensures { IfOk result (λ status. status ≤ 1) }
+    ensures status { IfOk result (λ status. status ≤ 1) }
+    ensures told { IfOk result (λ status. status ≡ status_of answered.now.answer answered.now.written) }
 {
     if matches!(answered.written, Written::Failed) {
         let text = b"standard output cannot be written";
@@ -67,7 +69,8 @@ fn answer_read<S: System, O: Write, E: Write>(
 ) -> Result<u8, AllocError>
     requires conf { IsConfOf machine.now.conf.now conf.now }
     requires enough { IsEnough machine.now query.now }
-    ensures { IfOk result (λ status. status ≤ 1) }
+    ensures status { IfOk result (λ status. status ≤ 1) }
+    ensures well { IfOk result (λ status. status ≡ 0 → WasAnswered query.now (O.contents output.old) (O.contents output.new)) }
 {
     let answered = answer_machine(host.alloc(), machine, conf, query, output, messages)?;
     tell_answered(host, &answered, query, machine.directory, messages)
@@ -85,7 +88,8 @@ fn answer_by<S: System, O: Write, E: Write>(
 ) -> Result<u8, AllocError>
     requires conf { IsConfOf machine.now.conf.now conf.now }
     requires unread { machine.now.later.now.alias ≡ None }
-    ensures { IfOk result (λ status. status ≤ 1) }
+    ensures status { IfOk result (λ status. status ≤ 1) }
+    ensures well { IfOk result (λ status. status ≡ 0 → WasAnswered query.now (O.contents output.old) (O.contents output.new)) }
 {
     let alloc = host.alloc();
     if is_answered_early(alloc, machine, conf, query, messages.explains)? {
@@ -112,7 +116,8 @@ fn answer_configured<S: System, O: Write, E: Write>(
     messages: &mut Messages<'_, E>,
 ) -> Result<u8, AllocError>
     requires { machine.now.later.now.alias ≡ None }
-    ensures { IfOk result (λ status. status ≤ 1) }
+    ensures status { IfOk result (λ status. status ≤ 1) }
+    ensures well { IfOk result (λ status. status ≡ 0 → WasAnswered query.now (O.contents output.old) (O.contents output.new)) }
 {
     let conf = conf_of(host.alloc(), machine.conf)?;
     tell_bad_lines(host.alloc(), machine.conf, &conf, messages)?;
@@ -129,7 +134,8 @@ fn answer_from<S: System, O: Write, E: Write>(
     output: &mut O,
     messages: &mut Messages<'_, E>,
 ) -> Result<u8, AllocError>
-    ensures { IfOk result (λ status. status ≤ 1) }
+    ensures status { IfOk result (λ status. status ≤ 1) }
+    ensures well { IfOk result (λ status. status ≡ 0 → WasAnswered query.now (O.contents output.old) (O.contents output.new)) }
 {
     let mut states = States::new(host.alloc());
     if asks_states(query.ask) {
@@ -159,7 +165,8 @@ fn answer_in<S: System, O: Write, E: Write>(
     output: &mut O,
     messages: &mut Messages<'_, E>,
 ) -> Result<u8, AllocError>
-    ensures { IfOk result (λ status. status ≤ 1) }
+    ensures status { IfOk result (λ status. status ≤ 1) }
+    ensures well { IfOk result (λ status. status ≡ 0 → WasAnswered query.now (O.contents output.old) (O.contents output.new)) }
 {
     let conf = read_configuration(host, directory, configurations, messages)?;
     let modules = read_modules(host, directory, messages)?;
@@ -174,7 +181,8 @@ pub(crate) fn answer_query<S: System, O: Write, E: Write>(
     output: &mut O,
     messages: &mut Messages<'_, E>,
 ) -> Result<u8, AllocError>
-    ensures { IfOk result (λ status. status ≤ 1) }
+    ensures status { IfOk result (λ status. status ≤ 1) }
+    ensures well { IfOk result (λ status. status ≡ 0 → WasAnswered query.now (O.contents output.old) (O.contents output.new)) }
 {
     if is_rootless(host, asked.root.unwrap_or(b""), messages)? {
         return Ok(1);

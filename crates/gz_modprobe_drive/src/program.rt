@@ -1,7 +1,9 @@
 //! The program over any words, files and streams.
 ghost use Rattle.std.specs.Prelude.{◌≡◌, ◌≤◌, ◌++◌, IfOk, OnOk};
 ghost use Rattle.text_parts.specs.Text.{texts_of};
+ghost use Rattle.modprobe_words.specs.Asked.{asked_of, text_of};
 ghost use Rattle.modprobe_words.specs.Variable.{bytes_of};
+ghost use Rattle.gz_modprobe_drive.specs.Ends.{IsEndOf, WereAnswered, given};
 
 use crate::answering::answer_query;
 use crate::queries::query_of;
@@ -20,7 +22,8 @@ fn answer_asked<R: Files + Env + AllocGlobal, O: Write, E: Write>(
     output: &mut O,
     errors: &mut E,
 ) -> Result<u8, AllocError>
-    ensures { IfOk result (λ status. status ≤ 1) }
+    ensures status { IfOk result (λ status. status ≤ 1) }
+    ensures well { IfOk result (λ status. status ≡ 0 → WereAnswered (asked_of asked.now) (O.contents output.old) (O.contents output.new)) }
 {
     let wish = asked.switches.wish(!asked.words.is_empty());
     let Some(query) = query_of(wish, asked.switches, &asked.words) else {
@@ -72,7 +75,8 @@ fn run_words<R: Files + Env + AllocGlobal, O: Write, E: Write>(
     output: &mut O,
     errors: &mut E,
 ) -> Result<u8, AllocError>
-    ensures { IfOk result (λ status. status ≤ 1) }
+    ensures status { IfOk result (λ status. status ≤ 1) }
+    ensures end { IfOk result (IsEndOf (texts_of words.now) (O.contents output.old) (O.contents output.new)) }
 {
     let items = read_words(rt.alloc(), words)?;
     if let Some(ending) = first_ending(&items) {
@@ -90,7 +94,8 @@ fn run<R: Files + Env + AllocGlobal, O: Write, E: Write>(
     output: &mut O,
     errors: &mut E,
 ) -> Result<u8, AllocError>
-    ensures { IfOk result (λ status. status ≤ 1) }
+    ensures status { IfOk result (λ status. status ≤ 1) }
+    ensures end { IfOk result (IsEndOf (given (text_of options.entry) (bytes_of words.now)) (O.contents output.old) (O.contents output.new)) }
 {
     let alloc = rt.alloc();
     let own = variable_words(alloc, options.unwrap_or(b""))?;
@@ -107,7 +112,8 @@ pub fn drive<R: Files + Env + AllocGlobal, O: Write, E: Write>(
     output: &mut O,
     errors: &mut E,
 ) -> u8
-    ensures { result ≤ 1 }
+    ensures status { result ≤ 1 }
+    ensures end { IsEndOf (given (text_of options.entry) (bytes_of words.now)) (O.contents output.old) (O.contents output.new) result }
 {
     match run(rt, words, options, output, errors) {
         Ok(status) => status,

@@ -1,0 +1,39 @@
+-- How a run ends, by its words.
+use Rattle.std.specs.Prelude.{◌≡◌, ℕ, false, nat_lt, List, [], ◌++◌, length, Option, Some, None, unwrap_or}
+use Rattle.std.specs.Io.KnownBytes.{Appends}
+use Rattle.kmod_query.specs.Answers.{Answer}
+use Rattle.kmod_query.specs.declared.query.Query.{Query}
+use Rattle.modprobe_words.specs.Asked.{Asked, asked_by}
+use Rattle.modprobe_words.specs.Endings.{Ending, IsEnded, first_ending}
+use Rattle.modprobe_words.specs.Variable.{words_of}
+use Rattle.modprobe_words.specs.Wishes.{wish_of}
+use Rattle.modprobe_words.specs.Words.{items}
+use Rattle.gz_modprobe_drive.specs.Answered.{IsAnswer, Known}
+use Rattle.gz_modprobe_drive.specs.Queries.{IsQueryOf}
+
+-- the words of a run: those of MODPROBE_OPTIONS, and then those of the command line (modprobe(8))
+abbrev pub given : Option (List ℕ) → List (List ℕ) → List (List ℕ)
+given options words = words_of (unwrap_or options []) ++ words
+
+-- A query was answered well: standard output has grown by the answer to it of a machine, in which no name failed.
+pub record WasAnswered (query : Query) (before after : Option (List ℕ)) : Type 0 where
+  pub known : Known
+  pub answer : Answer
+  pub is : IsAnswer known query answer
+  pub well : answer.failed ≡ false
+  pub written : Appends before after answer.output
+
+-- what is asked for is a query, and it was answered well
+pub record WereAnswered (asked : Asked) (before after : Option (List ℕ)) : Type 0 where
+  pub query : Query
+  pub asks : IsQueryOf (wish_of asked.switches (nat_lt 0 (length asked.words))) asked.switches asked.words query
+  pub answered : WasAnswered query before after
+
+-- words that ask for an end before a query end so; other ones end with 0 only if they were answered well
+abbrev pub IsEndBy : Option Ending → Asked → Option (List ℕ) → Option (List ℕ) → ℕ → Type 0
+IsEndBy (Some ending) asked before after status = IsEnded ending before after status
+IsEndBy None asked before after status = status ≡ 0 → WereAnswered asked before after
+
+-- how words end a run, by what standard output has before and after, and the status
+abbrev pub IsEndOf : List (List ℕ) → Option (List ℕ) → Option (List ℕ) → ℕ → Type 0
+IsEndOf words before after status = IsEndBy (first_ending (items words)) (asked_by (items words)) before after status
