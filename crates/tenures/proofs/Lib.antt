@@ -1,0 +1,6 @@
+mod ListLemmas
+mod KeptLemmas
+mod MomentLemmas
+mod RemovalLemmas
+mod StepLemmas
+mod AskedLemmas

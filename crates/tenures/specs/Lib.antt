@@ -1,0 +1,2 @@
+pub mod Tenures
+pub mod Kept

@@ -1,0 +1,43 @@
+//! What is round the processes that use a table.
+ghost use Rattle.std.specs.Prelude.{◌≡◌, ◌≤◌, [], ◌∷◌, ◌++◌, ℕ, List};
+ghost use Rattle.modprobe.specs.Outcomes.{Outcome};
+ghost use Rattle.line_journal.specs.Lines.{bytes_of};
+ghost use Rattle.tenures.specs.Tenures.{Tenure};
+
+use held_lines::HeldReply;
+use line_journal::Device;
+
+/// What is round the processes that use a table, one after another: who takes their replies, what kills them, and which file
+/// a crash leaves to the next.
+pub trait World<D: Device> {
+    /// The tenures that are over, oldest first.
+    ghost past: { Self → List Tenure };
+
+    /// The replies that the process has begun.
+    ghost replies: { Self → List Outcome };
+
+    /// The moment of the device at which the process began its last reply. If there is none, at which it found the file.
+    ghost since: { Self → ℕ };
+
+    /// Whether the process is alive after what it did last.
+    fn is_alive(&mut self) -> bool
+        ensures past { past self.new ≡ past self.old }
+        ensures replies { replies self.new ≡ replies self.old }
+        ensures since { since self.new ≡ since self.old };
+
+    /// The process begins to write a reply.
+    fn begin_reply(&mut self, device: &D, reply: &HeldReply)
+        ensures past { past self.new ≡ past self.old }
+        ensures replies { replies self.new ≡ replies self.old ++ reply.now.reply ∷ [] }
+        ensures since { since self.new ≡ (D.history device.now).now };
+
+    /// The process, which was asked these lines, has ended. Or it was killed, or its machine crashed, at some moment after it
+    /// began its last reply. The next process finds the device that is returned: each file that a crash may leave of it is one that
+    /// a crash may have left since then.
+    fn next(&mut self, device: D, asked: &[Vec<u8>]) -> D
+        requires { since self.old ≤ (D.history device).now }
+        ensures past { past self.new ≡ past self.old ++ record { asked = bytes_of asked.now; replies = replies self.old } ∷ [] }
+        ensures replies { replies self.new ≡ [] }
+        ensures since { since self.new ≡ (D.history result).now }
+        ensures left { (file : List ℕ) → (D.history result).leaves file → (D.history device).left_since (since self.old) file };
+}
