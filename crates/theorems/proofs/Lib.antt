@@ -10,3 +10,4 @@ pub mod Refusing
 pub mod Resting
 pub mod Managing
 pub mod Telling
+mod Keeping

@@ -10,3 +10,4 @@ pub mod Managed
 pub mod Told
 pub mod Queries
 pub mod Files
+pub mod Durability
