@@ -1,5 +1,5 @@
 -- After a hold that is done its holder holds each of its modules.
-use Rattle.std.proofs.Common.{◌≡◌, ℕ, ◌+◌, ◌<◌, ◌≤◌, ◌⊎◌, inl, inr, Bool, true, false, ◌||◌, eqb, ltb, cond, List, [], ◌∷◌, ◌++◌, length, get_or, Option, Some, None, refl, sym, ap, subst, ◌∙◌, arith}
+use Rattle.std.proofs.Common.{◌≡◌, ℕ, ◌+◌, ◌<◌, ◌≤◌, inl, inr, Bool, true, false, ◌||◌, eqb, ltb, cond, List, [], ◌∷◌, ◌++◌, length, get_or, Some, None, refl, sym, ap, ◌∙◌, arith}
 use Rattle.std.proofs.Math.ListN.{replicate}
 use Rattle.std.specs.List.{filter, All}
 use Rattle.std.proofs.lemmas.Bool.{cases_lt, cases_order, ltb-true, eqb-false, or_parts}
@@ -15,9 +15,9 @@ use Rattle.modprobe.specs.Changes.{Change}
 use Rattle.held_table.specs.Held.{Held, number_of, is_there_or_full, with_holder, entered}
 use Rattle.held_lines.specs.Held.{holding}
 use Rattle.held_lines.specs.Holds.{to_take, gets}
-use Rattle.held_lines.specs.Outcomes.{unless_refused, hold_change, hold_outcome, first_name}
+use Rattle.held_lines.specs.Outcomes.{unless_refused, hold_change, first_name}
 use Rattle.held_lines.specs.Laws.{IsOver, HoldsAll}
-use Rattle.held_lines.proofs.HoldLemmas.{AreHeld, gets_hold}
+use Rattle.held_lines.proofs.HoldLemmas.{gets_hold}
 
 -- What holds of those that pass, and of those that do not, holds of all.
 all_from_filter : (P : ℕ → Type 0) (p : ℕ → Bool) (xs : List ℕ) → All P (filter p xs) → ((x : ℕ) → p x ≡ false → P x) → All P xs

@@ -1,15 +1,14 @@
 -- Gets of several modules, one after another.
-use Rattle.std.proofs.Common.{◌≡◌, ℕ, ◌+◌, ◌-◌, ◌<◌, ◌≤◌, Bool, true, false, not, eqb, leb, cond, List, [], ◌∷◌, ◌++◌, length, get_or, Option, Some, None, refl, sym, ap, subst, ◌∙◌, arith, get_or-set_same}
+use Rattle.std.proofs.Common.{◌≡◌, ℕ, ◌+◌, ◌-◌, ◌<◌, Bool, true, false, not, eqb, leb, cond, List, [], ◌∷◌, ◌++◌, length, get_or, Some, None, refl, sym, ap, subst, ◌∙◌, arith, get_or-set_same}
 use Rattle.std.proofs.Math.ListN.{set}
 use Rattle.std.specs.Option.{is_some, unwrap_or}
 use Rattle.std.proofs.lemmas.Bool.{ne_eqb}
 use Rattle.std.proofs.lemmas.List.{set-set, set-get_or}
-use Rattle.dep_index.specs.Table.{Module, Table, is_live, state_of, count_of}
+use Rattle.dep_index.specs.Table.{Table, is_live, state_of, count_of}
 use Rattle.dep_index.specs.Catalogue.{modules_of}
-use Rattle.dep_index.specs.Calls.{refuse, refusal, reply, next, effect}
+use Rattle.dep_index.specs.Calls.{refuse, refusal, next, effect}
 use Rattle.dep_index.specs.Laws.{IsShaped}
 use Rattle.dep_index.specs.declared.table.calls.Call.TheVariants as call
-use Rattle.dep_index.specs.declared.table.calls.Reply.{Reply}
 use Rattle.dep_index.specs.declared.table.calls.Reply.TheVariants.{Done, NotLive, TooMany}
 use Rattle.dep_index.proofs.RunLaws.{next_shaped}
 use Rattle.modprobe.specs.Setup.{Setup}

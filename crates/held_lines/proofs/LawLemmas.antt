@@ -1,8 +1,8 @@
 -- No line removes what anybody holds: it leaves the rows as they are, or the book.
-use Rattle.std.proofs.Common.{◌≡◌, ℕ, ◌<◌, ◌⊎◌, inl, inr, Bool, true, false, cond, ltb, List, [], ◌∷◌, length, Option, Some, None, Result, Ok, Err, refl, sym, ap, subst, ◌∙◌}
+use Rattle.std.proofs.Common.{◌≡◌, ℕ, ◌<◌, ◌⊎◌, inl, inr, Bool, true, false, cond, ltb, List, [], ◌∷◌, length, Option, Some, None, Ok, Err, refl, sym, subst, ◌∙◌}
 use Rattle.std.specs.Option.{is_some}
 use Rattle.std.proofs.lemmas.Bool.{ltb-true}
-use Rattle.dep_index.specs.Table.{Module, Book, Table, state_of, is_held, holders, takes_references, count_of}
+use Rattle.dep_index.specs.Table.{Module, Book, Table, state_of, holders, takes_references}
 use Rattle.dep_index.specs.Catalogue.{modules_of, slot_named}
 use Rattle.dep_index.specs.Calls.{refusal, next, effect, book_effect}
 use Rattle.dep_index.specs.Laws.{IsLawful}
@@ -23,7 +23,7 @@ use Rattle.held_lines.specs.Held.{holding}
 use Rattle.held_lines.specs.Lines.{Asked, as_session, malformed, refer, half, hold, release, release_all, holders as who_holds, held_by, held, asked_of}
 use Rattle.held_lines.specs.Found.{Found, found_for}
 use Rattle.held_lines.specs.Holds.{to_take, gets, first_not_held, each_given_back}
-use Rattle.held_lines.specs.Outcomes.{unless_refused, action_of, after_reference, refer_outcome, refer_at, hold_change, hold_outcome, first_name, by_found, release_change, release_by, release_all_by, asked_outcome, held_line_outcome}
+use Rattle.held_lines.specs.Outcomes.{unless_refused, action_of, after_reference, refer_outcome, hold_change, hold_outcome, first_name, by_found, release_change, release_by, release_all_by, asked_outcome, held_line_outcome}
 use Rattle.held_lines.specs.Laws.{KeepsHeld}
 use Rattle.held_lines.proofs.RowLemmas.{line_rows, half_rows}
 

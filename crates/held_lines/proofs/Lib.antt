@@ -11,3 +11,5 @@ pub mod SlotLemmas
 pub mod TakeLemmas
 pub mod ThroughLemmas
 pub mod UndoLemmas
+mod SameLemmas
+mod SnapshotLemmas

@@ -1,24 +1,22 @@
 -- What no worker does leaves the rows as they are.
-use Rattle.std.proofs.Common.{◌≡◌, ℕ, Bool, true, false, ◌&&◌, ◌||◌, cond, List, [], ◌∷◌, Option, Some, None, Result, Ok, Err, refl, sym, ap, ◌∙◌}
+use Rattle.std.proofs.Common.{◌≡◌, ℕ, Bool, true, false, ◌&&◌, ◌||◌, cond, List, [], ◌∷◌, Option, Some, None, Result, Ok, Err, refl, ◌∙◌}
 use Rattle.std.specs.Option.{is_some}
 use Rattle.std.specs.Prelude.{codes, ⊤}
 use Rattle.std.specs.Str.{bytes_eq}
 use Rattle.text_parts.specs.Text.{words, is_comment, normal_form}
 use Rattle.dep_index.specs.declared.table.calls.Call.{Call}
 use Rattle.dep_index.specs.declared.table.calls.Call.TheVariants as call
-use Rattle.dep_index.specs.declared.table.calls.Reply.{Reply}
-use Rattle.dep_index.specs.Table.{Module, Table, state_of, is_absent, is_live, is_draining, is_held}
+use Rattle.dep_index.specs.Table.{Module, Table, state_of, is_absent, is_live, is_draining}
 use Rattle.dep_index.specs.Catalogue.{description_at, modules_of, slot_named}
 use Rattle.dep_index.specs.Calls.{refusal, next, effect, rows_effect}
 use Rattle.load_plan.specs.declared.items.Item.{Item}
 use Rattle.load_plan.specs.declared.items.PlanError.{PlanError}
 use Rattle.load_plan.specs.Parameters.{are_valid}
 use Rattle.load_plan.specs.Sources.{is_kept}
-use Rattle.modprobe.specs.declared.refusal.Code.{Code}
 use Rattle.modprobe.specs.declared.half.Half.{Half}
 use Rattle.modprobe.specs.declared.half.Half.TheVariants as half_is
 use Rattle.modprobe.specs.Setup.{Setup, name_at}
-use Rattle.modprobe.specs.Refusals.{Refusal, code_of, unload_code}
+use Rattle.modprobe.specs.Refusals.{code_of, unload_code}
 use Rattle.modprobe.specs.Changes.{Change, ◌then◌, call_change, end_of_load, one_load, one_removal, half_change}
 use Rattle.modprobe.specs.Commands.{Action, insmod, rmmod, drain, query, get, put, Request, act, modinfo, plan, modprobe, modprobe_remove, Command, nothing, malformed, by_name, lsmod, proc}
 use Rattle.modprobe.specs.Commands as commands

@@ -1,5 +1,5 @@
 -- What a holder is answered that takes references or puts one back.
-use Rattle.std.proofs.Common.{◌≡◌, ℕ, zero, suc, ◌+◌, ◌<◌, ◌≤◌, Bool, true, false, eqb, ltb, leb, cond, List, [], ◌∷◌, ◌++◌, length, get_or, Option, Some, None, refl, sym, ap, ◌∙◌, arith}
+use Rattle.std.proofs.Common.{◌≡◌, ℕ, zero, suc, ◌<◌, ◌≤◌, true, false, eqb, ltb, leb, List, [], ◌∷◌, ◌++◌, length, get_or, Option, Some, None, refl, sym, ap, ◌∙◌, arith}
 use Rattle.std.proofs.Math.ListN.{replicate}
 use Rattle.std.specs.Option.{is_some, unwrap_or}
 use Rattle.std.proofs.lemmas.Bool.{lt-ltb, lt-leb, le-ltb, le-leb, cond-true, cond-false, or_left, or_right, or_from}
@@ -11,7 +11,6 @@ use Rattle.dep_index.specs.declared.table.calls.Call.{Call}
 use Rattle.dep_index.specs.declared.table.calls.Call.TheVariants as call
 use Rattle.dep_index.specs.declared.table.calls.Reply.{Reply}
 use Rattle.dep_index.specs.declared.table.calls.Reply.TheVariants as reply_is
-use Rattle.modprobe.specs.declared.refusal.Code.{Code}
 use Rattle.modprobe.specs.declared.refusal.Code.TheVariants.{NotHeld, Worker}
 use Rattle.modprobe.specs.Setup.{Setup, name_at}
 use Rattle.modprobe.specs.Refusals.{Refusal, code_of}

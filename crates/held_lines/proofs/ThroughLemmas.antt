@@ -1,10 +1,9 @@
 -- What a session makes of the table.
-use Rattle.std.proofs.Common.{◌≡◌, ℕ, Bool, false, List, refl, sym, ap, ◌∙◌}
+use Rattle.std.proofs.Common.{◌≡◌, ℕ, false, List, sym, ap, ◌∙◌}
 use Rattle.dep_index.specs.Table.{Book, Table}
 use Rattle.modprobe.specs.Outcomes.{Outcome}
 use Rattle.held_lines.specs.declared.reply.HeldReply.{HeldReply}
-use Rattle.held_lines.specs.declared.through.BookCopy.{BookCopy}
-use Rattle.held_table.specs.Held.{Held}
+use Rattle.held_lines.specs.declared.book_copy.BookCopy.{BookCopy}
 use Rattle.held_lines.specs.Held.{holding}
 use Rattle.held_lines.specs.Outcomes.{on_table}
 use Rattle.held_lines.specs.ForProofs.{Answers, IsBookOf}

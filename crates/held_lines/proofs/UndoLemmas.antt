@@ -1,5 +1,5 @@
 -- Gets that are put back, the last one first.
-use Rattle.std.proofs.Common.{◌≡◌, ℕ, ◌+◌, ◌<◌, ◌≤◌, List, [], ◌∷◌, ◌++◌, length, take, drop, get_or, Bool, true, false, cond, Option, Some, None, refl, sym, ap, subst, ◌∙◌, arith}
+use Rattle.std.proofs.Common.{◌≡◌, ℕ, ◌+◌, ◌<◌, List, [], ◌∷◌, ◌++◌, length, take, drop, get_or, Bool, true, false, cond, None, refl, sym, ap, subst, ◌∙◌, arith}
 use Rattle.std.specs.List.{All}
 use Rattle.std.specs.Option.{is_some}
 use Rattle.std.proofs.lemmas.List.{length-append, length-set, get_or_append_left, get_or_at, take_more, drop_more, take-append-drop}
@@ -9,7 +9,6 @@ use Rattle.dep_index.specs.Calls.{refusal, next, effect}
 use Rattle.dep_index.specs.Laws.{IsShaped}
 use Rattle.dep_index.specs.declared.table.calls.Call.TheVariants as call
 use Rattle.modprobe.specs.Setup.{Setup, name_at}
-use Rattle.modprobe.specs.Refusals.{Refusal}
 use Rattle.modprobe.specs.Changes.{Change}
 use Rattle.held_lines.specs.declared.gets.TakeError.{TakeError}
 use Rattle.held_lines.specs.declared.gets.TakeError.TheVariants as take_error

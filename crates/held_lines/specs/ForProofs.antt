@@ -1,5 +1,5 @@
 -- What the contracts of private functions say, for the proofs of the public ones.
-use Rattle.std.specs.Prelude.{◌≡◌, ℕ, ◌<◌, nat_lt, true, false, List, length, Option, ⊤}
+use Rattle.std.specs.Prelude.{◌≡◌, ℕ, ◌<◌, nat_lt, false, List, length, Option, ⊤}
 use Rattle.text_parts.specs.Text.{texts_of}
 use Rattle.held_table.specs.Names.{name_bytes}
 use Rattle.modprobe.specs.Setup.{Setup, name_at}
@@ -9,7 +9,7 @@ use Rattle.modprobe.specs.declared.refusal.Code.TheVariants.{Worker}
 use Rattle.held_lines.specs.Outcomes.{first_name}
 use Rattle.held_lines.specs.declared.gets.TakeError.{TakeError}
 use Rattle.held_lines.specs.declared.gets.TakeError.TheVariants as take_error
-use Rattle.held_lines.specs.declared.through.BookCopy.{BookCopy}
+use Rattle.held_lines.specs.declared.book_copy.BookCopy.{BookCopy}
 use Rattle.dep_index.specs.Table.{Table}
 use Rattle.held_lines.specs.declared.reply.HeldReply.{HeldReply}
 use Rattle.held_table.specs.Held.{Held}

@@ -1,5 +1,5 @@
 -- What is made of the references of one holder.
-use Rattle.std.specs.Prelude.{ℕ, ◌==◌, Bool, ◌||◌, if◌then◌else◌, List, [], ◌∷◌, ◌++◌, map, filter, flat_map, codes, Option, Some, None}
+use Rattle.std.specs.Prelude.{ℕ, ◌==◌, Bool, ◌||◌, if◌then◌else◌, List, [], ◌∷◌, ◌++◌, map, filter, codes, Option, None}
 use Rattle.dep_index.specs.Table.{Table, count_of}
 use Rattle.dep_index.specs.declared.table.calls.Call.TheVariants as call
 use Rattle.modprobe.specs.declared.refusal.Code.TheVariants.{NotHeld}

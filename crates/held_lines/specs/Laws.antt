@@ -3,7 +3,7 @@ use Rattle.std.specs.Prelude.{◌≡◌, ℕ, ◌<◌, Bool, true, List, length,
 use Rattle.dep_index.specs.Table.{Table, state_of, count_of, is_held, takes_references}
 use Rattle.dep_index.specs.Laws.{IsShaped}
 use Rattle.modprobe.specs.Setup.{Setup}
-use Rattle.modprobe.specs.Outcomes.{Outcome, says}
+use Rattle.modprobe.specs.Outcomes.{says}
 use Rattle.held_table.specs.Held.{Held, number_of}
 use Rattle.held_lines.specs.Holds.{to_take}
 use Rattle.held_lines.specs.Outcomes.{hold_outcome}

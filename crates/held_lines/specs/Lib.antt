@@ -4,5 +4,6 @@ pub mod Found
 pub mod Holds
 pub mod Listings
 pub mod Outcomes
+pub mod Snapshots
 pub mod Laws
 pub mod ForProofs

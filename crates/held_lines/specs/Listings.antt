@@ -10,7 +10,7 @@ abbrev pub count_line : List ℕ → ℕ → List ℕ
 count_line name count = if count == 0 then [] else name ++ (codes " " ++ (decimal count ++ 10 ∷ []))
 
 -- what is written of each element by its place, the first place being given
-abbrev pub each_line : {A : Type 0} → (ℕ → A → List ℕ) → ℕ → List A → List ℕ
+abbrev pub each_line : {A B : Type 0} → (ℕ → A → List B) → ℕ → List A → List B
 each_line line place [] = []
 each_line line place (x ∷ xs) = line place x ++ each_line line (place + 1) xs
 

@@ -4,7 +4,7 @@ use Rattle.dep_index.specs.Table.{Table}
 use Rattle.dep_index.specs.Catalogue.{slot_named}
 use Rattle.modprobe.specs.declared.refusal.Code.TheVariants.{Enoent, NotHeld, Syntax, Worker}
 use Rattle.modprobe.specs.Setup.{Setup, name_at}
-use Rattle.modprobe.specs.Refusals.{Refusal, refuse}
+use Rattle.modprobe.specs.Refusals.{Refusal}
 use Rattle.modprobe.specs.Outcomes.{Outcome, says, refuses, refused, text_of}
 use Rattle.modprobe.specs.Changes.{Change}
 use Rattle.modprobe.specs.Commands.{Action, get, put}

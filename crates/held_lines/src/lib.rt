@@ -2,6 +2,7 @@
 #![tactic(auto)]
 
 mod asked;
+mod book_copy;
 mod by_name;
 mod found;
 mod gets;
@@ -12,7 +13,9 @@ pub mod laws;
 mod listing;
 mod puts;
 mod reply;
+mod same;
 mod session;
+mod snapshot;
 mod takes;
 mod through;
 

@@ -1,5 +1,5 @@
 //! Lines over a table with holders.
-ghost use Rattle.std.specs.Prelude.{◌≡◌, IfOk, OnOk, OnErr};
+ghost use Rattle.std.specs.Prelude.{◌≡◌, true, IfOk, OnOk, OnErr};
 ghost use Rattle.dep_index.specs.Catalogue.{modules_of};
 ghost use Rattle.held_lines.specs.Held.{holding};
 
@@ -9,6 +9,8 @@ use crate::gives::{release, release_all};
 use crate::holders::Holders;
 use crate::listing::all_text;
 use crate::reply::{HeldReply, refuse};
+use crate::same::is_same;
+use crate::snapshot::snapshot;
 use crate::takes::hold;
 use crate::through::{as_session, make_half};
 use modprobe::{Code, Reply, Setup};
@@ -29,6 +31,7 @@ impl<'s, H: Holders> HeldSession<'s, H> {
     ghost use Rattle.held_lines.specs.Outcomes.{asked_outcome, held_line_outcome};
     ghost use Rattle.held_lines.specs.ForProofs.{Answers, asked_from};
     ghost use Rattle.held_lines.specs.Laws.{KeepsHeld};
+    ghost use Rattle.held_lines.specs.Snapshots.{texts_in, snapshot_of};
 
     /// Uses a table over the catalogue of a setup. It changes nothing.
     pub fn new(setup: &'s Setup, holders: H) -> HeldSession<'s, H>
@@ -39,11 +42,34 @@ impl<'s, H: Holders> HeldSession<'s, H> {
         HeldSession { setup, holders }
     }
 
+    /// The setup over whose catalogue the table is.
+    pub fn setup(&self) -> &Setup
+        ensures { result.now ≡ self.now.setup.now }
+    {
+        self.setup
+    }
+
     /// The table with its holders.
     pub fn holders(&self) -> &H
         ensures { result.now ≡ self.now.holders }
     {
         &self.holders
+    }
+
+    /// The lines that make the table from the one in which each module is absent and no holder is there, by `snapshot_of`:
+    /// whether they do is for the caller to see. None of them has a line feed, if no name of a module has one.
+    pub fn snapshot(&self, alloc: Global) -> Result<Vec<Vec<u8>>, AllocError>
+        ensures { IfOk result (λ lines. texts_in lines.items ≡ snapshot_of self.now.setup.now (holding (H.table self.now.holders) (H.names self.now.holders))) }
+    {
+        snapshot(alloc, self.setup, &self.holders)
+    }
+
+    /// Whether the tables of two sessions over one setup are the same, with their holders.
+    pub fn is_same(&self, alloc: Global, other: &HeldSession<'_, H>) -> Result<bool, AllocError>
+        requires { other.now.setup.now ≡ self.now.setup.now }
+        ensures { IfOk result (λ is_same. is_same ≡ true → holding (H.table other.now.holders) (H.names other.now.holders) ≡ holding (H.table self.now.holders) (H.names self.now.holders)) }
+    {
+        is_same(alloc, &self.holders, &other.holders)
     }
 
     /// Makes what a line asks for, and answers its reply, by `held_line_outcome`. The table and its holders are those after

@@ -1,8 +1,7 @@
-use Rattle.std.proofs.Common.{◌≡◌, subst, not, rules}
+use Rattle.std.proofs.Common.{subst, not, rules}
 use Rattle.std.proofs.lemmas.Bool.{not-false}
 use Rattle.modprobe.specs.Session.{line_outcome}
 use Rattle.held_lines.specs.declared.reply.HeldReply.{HeldReply}
-use Rattle.held_table.specs.Held.{Held}
 use Rattle.held_lines.specs.Held.{holding}
 use Rattle.held_lines.specs.Outcomes.{on_table}
 use Rattle.held_lines.specs.ForProofs.{Answers}

@@ -1,4 +1,4 @@
-use Rattle.std.proofs.Common.{◌≡◌, sym, subst}
+use Rattle.std.proofs.Common.{sym, subst}
 use Rattle.std.proofs.lemmas.Result.{IfOk-weaker}
 use Rattle.held_lines.specs.declared.reply.HeldReply.{HeldReply}
 use Rattle.held_table.specs.Held.{Held}

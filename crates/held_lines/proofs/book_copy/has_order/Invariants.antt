@@ -1,5 +1,5 @@
 use Rattle.std.proofs.Common.{◌≡◌, take}
-use Rattle.held_lines.proofs.through.has_order.Given as goal
+use Rattle.held_lines.proofs.book_copy.has_order.Given as goal
 
 abbrev pub invariant-loop-place : goal.invariant-loop-place
 invariant-loop-place g l = take l.place l.order ≡ take l.place (g.M.Modules.table l.table).book.order

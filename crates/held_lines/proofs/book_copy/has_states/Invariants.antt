@@ -1,5 +1,5 @@
 use Rattle.std.proofs.Common.{◌≡◌, take}
-use Rattle.held_lines.proofs.through.has_states.Given as goal
+use Rattle.held_lines.proofs.book_copy.has_states.Given as goal
 
 abbrev pub invariant-loop-slot : goal.invariant-loop-slot
 invariant-loop-slot g l = take l.slot l.states ≡ take l.slot (g.M.Modules.table l.table).book.states

@@ -1,0 +1,65 @@
+//! Whether two tables with holders are the same.
+ghost use Rattle.std.specs.Prelude.{◌≡◌, ◌<◌, ℕ, true, [], length, slice_index_or, IfOk};
+ghost use Rattle.dep_index.specs.Table.{count_of};
+ghost use Rattle.held_lines.specs.Held.{holding};
+
+use crate::book_copy::BookCopy;
+use crate::holders::Holders;
+use seq_table::Modules;
+use std::alloc::{AllocError, Global};
+
+/// Whether a holder holds the same in two tables whose modules have the same states.
+fn holds_same<M: Modules>(table: &M, other: &M, number: usize) -> bool
+    requires catalogue { M.catalogue other.now ≡ M.catalogue table.now }
+    requires book { (M.table other.now).book ≡ (M.table table.now).book }
+    requires number { number < length (M.table table.now).rows }
+    requires too { number < length (M.table other.now).rows }
+    ensures { result ≡ true → slice_index_or (M.table other.now).rows number [] ≡ slice_index_or (M.table table.now).rows number [] }
+{
+    table.laws();
+    other.laws();
+    for place in 0..table.loaded() {
+        let slot = table.loaded_at(place);
+        if other.held(number, slot) != table.held(number, slot) {
+            return false;
+        }
+    }
+    true
+}
+
+/// Whether the holders of a number have one name.
+fn has_same_name<H: Holders>(holders: &H, other: &H, number: usize) -> bool
+    requires number { number < length (H.names holders.now) }
+    requires too { number < length (H.names other.now) }
+    ensures { result ≡ true → slice_index_or (H.names other.now) number [] ≡ slice_index_or (H.names holders.now) number [] }
+{
+    other.name(number).as_bytes() == holders.name(number).as_bytes()
+}
+
+/// Whether the same holders hold the same in two tables whose modules have the same states.
+fn has_same_holders<H: Holders>(holders: &H, other: &H) -> bool
+    requires catalogue { H.catalogue other.now ≡ H.catalogue holders.now }
+    requires book { (H.table other.now).book ≡ (H.table holders.now).book }
+    ensures { result ≡ true → holding (H.table other.now) (H.names other.now) ≡ holding (H.table holders.now) (H.names holders.now) }
+{
+    holders.holder_laws();
+    other.holder_laws();
+    if other.workers() != holders.workers() {
+        return false;
+    }
+    for number in 0..holders.workers() {
+        if !has_same_name(holders, other, number) || !holds_same(holders, other, number) {
+            return false;
+        }
+    }
+    true
+}
+
+/// Whether two tables over one catalogue are the same, with their holders.
+pub(crate) fn is_same<H: Holders>(alloc: Global, holders: &H, other: &H) -> Result<bool, AllocError>
+    requires { H.catalogue other.now ≡ H.catalogue holders.now }
+    ensures { IfOk result (λ is_same. is_same ≡ true → holding (H.table other.now) (H.names other.now) ≡ holding (H.table holders.now) (H.names holders.now)) }
+{
+    let book = BookCopy::of(alloc, holders)?;
+    Ok(book.is_of(other) && has_same_holders(holders, other))
+}
