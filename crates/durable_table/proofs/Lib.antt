@@ -2,3 +2,5 @@ mod CommandLemmas
 mod TableLemmas
 mod MomentLemmas
 mod GroupLemmas
+mod CompactLemmas
+mod SizeLemmas

@@ -3,4 +3,5 @@ pub mod Commands
 pub mod Tables
 pub mod Durable
 pub mod Groups
+pub mod Compacting
 pub mod Opened

@@ -1,6 +1,7 @@
 //! A table with named holders whose journal is on the disk before a reply is given.
 #![tactic(auto)]
 
+mod compaction;
 mod durable;
 mod group;
 mod head;
@@ -8,5 +9,6 @@ mod opening;
 mod replay;
 mod seal;
 
+pub use compaction::Compacted;
 pub use durable::{DurableTable, PerformError};
 pub use opening::{OpenedTable, create, open};

@@ -1,0 +1,125 @@
+//! A journal is rewritten as the lines that make its table.
+ghost use Rattle.std.specs.Prelude.{◌≡◌, ◌+◌, nat_lt, Ok, length, map, IfOk, IfSome, OnOk, IsErrOf};
+ghost use Rattle.dep_index.specs.Catalogue.{modules_of};
+ghost use Rattle.line_journal.specs.Device.{AlwaysLeaves};
+ghost use Rattle.line_journal.specs.Journal.{lines_in};
+ghost use Rattle.line_journal.specs.Lines.{bytes_of, open_text};
+ghost use Rattle.held_lines.specs.Held.{holding};
+ghost use Rattle.durable_table.specs.Seals.{seal};
+ghost use Rattle.durable_table.specs.Tables.{opening_of};
+ghost use Rattle.durable_table.specs.Durable.{Stands, FileStands};
+ghost use Rattle.durable_table.specs.Compacting.{journal_of, compacted, IsRemade};
+
+use crate::durable::{DurableTable, PerformError};
+use crate::head::{HEAD, head_line};
+use crate::replay::replay;
+use crate::seal::seal;
+use held_lines::{HeldSession, Holders};
+use line_journal::{Device, are_lines};
+use std::alloc::{AllocError, Global};
+
+/// By how many bytes a long journal is longer than the lines that make its table.
+const LONG: usize = 65536;
+
+/// What stands in a journal beside the bytes of a command: a gate, its sum and a line feed.
+const BESIDE: usize = 11;
+
+/// What `compact` made of a journal.
+#[derive(Clone, Copy, Debug, PartialEq, Eq)]
+pub enum Compacted {
+    /// It has the lines that make its table, and no others.
+    Done,
+    /// These lines do not make its table: it is as it was.
+    Kept,
+}
+
+/// The lines of a journal of these commands.
+fn journal_of(alloc: Global, commands: &[Vec<u8>]) -> Result<Vec<Vec<u8>>, AllocError>
+    ensures { IfOk result (λ lines. bytes_of lines.items ≡ journal_of (bytes_of commands.now)) }
+{
+    let mut lines = Vec::new(alloc);
+    lines.push(head_line(alloc)?)?;
+    for command in commands {
+        lines.push(seal(alloc, command)?)?;
+    }
+    Ok(lines)
+}
+
+/// The lines of a journal that make a table anew, if they do. They are tried on holders of which none is there yet.
+#[tactic(auto, using(crate::proofs::CompactLemmas::has_first))]
+fn remake<H: Holders>(
+    alloc: Global,
+    session: &HeldSession<'_, H>,
+    fresh: H,
+) -> Result<Option<Vec<Vec<u8>>>, AllocError>
+    requires over { H.catalogue fresh ≡ modules_of session.now.setup.now.catalogue }
+    requires opening { holding (H.table fresh) (H.names fresh) ≡ opening_of session.now.setup.now }
+    ensures { IfOk result (λ found. IfSome found (λ lines. IsRemade session.now.setup.now (holding (H.table session.now.holders) (H.names session.now.holders)) (bytes_of lines.items))) }
+{
+    let lines = journal_of(alloc, &session.snapshot(alloc)?)?;
+    let mut other = HeldSession::new(session.setup(), fresh);
+    replay(alloc, &mut other, &lines[1..])?;
+    if !are_lines(&lines) || !session.is_same(alloc, &other)? {
+        return Ok(None);
+    }
+    Ok(Some(lines))
+}
+
+/// Whether a journal has less than so many bytes of these commands behind its first line.
+#[tactic(auto, using(crate::proofs::SizeLemmas::size_more))]
+fn is_room(room: usize, commands: &[Vec<u8>]) -> bool
+    ensures { result ≡ nat_lt (length (open_text (map seal (bytes_of commands.now)))) room }
+{
+    let mut left = room;
+    for command in commands {
+        if left <= BESIDE || left - BESIDE <= command.len() {
+            return false;
+        }
+        left -= BESIDE + command.len();
+    }
+    left > 0
+}
+
+impl<'s, H: Holders, D: Device> DurableTable<'s, H, D> {
+    /// Rewrites the journal as the lines that make the table. They are first tried, on holders of which none is there yet,
+    /// and only if they make the same table is the journal rewritten. At `Ok` it stands for the table, on the disk.
+    ///
+    /// A crash at any moment of the call leaves a journal of the same table. Out of memory, nothing was changed.
+    #[tactic(auto, using(crate::proofs::CompactLemmas::still_stands))]
+    pub fn compact(&mut self, alloc: Global, fresh: H) -> Result<Compacted, PerformError>
+        requires over { H.catalogue fresh ≡ modules_of self.old.session.setup.now.catalogue }
+        requires opening { holding (H.table fresh) (H.names fresh) ≡ opening_of self.old.session.setup.now }
+        requires stands { Stands D.content D.history self.old.session.setup.now (holding (H.table self.old.session.holders) (H.names self.old.session.holders)) self.old.journal }
+        ensures done { result ≡ Ok Compacted.Done → lines_in D.content self.new.journal ≡ compacted self.old.session.setup.now (holding (H.table self.old.session.holders) (H.names self.old.session.holders)) }
+        ensures stands { OnOk result (Stands D.content D.history self.old.session.setup.now (holding (H.table self.old.session.holders) (H.names self.old.session.holders)) self.new.journal) }
+        ensures kept { result ≡ Ok Compacted.Kept → self.new.journal ≡ self.old.journal }
+        ensures unchanged { IsErrOf result PerformError.OutOfMemory → self.new.journal ≡ self.old.journal }
+        ensures any_moment { AlwaysLeaves (D.history self.old.journal.device) (D.history self.new.journal.device)
+            (FileStands self.old.session.setup.now (holding (H.table self.old.session.holders) (H.names self.old.session.holders))) }
+        ensures session { self.new.session ≡ self.old.session }
+    {
+        let Ok(found) = remake(alloc, &self.session, fresh) else {
+            return Err(PerformError::OutOfMemory);
+        };
+        let Some(lines) = found else {
+            return Ok(Compacted::Kept);
+        };
+        match self.journal.rewrite(alloc, &lines) {
+            Ok(()) => Ok(Compacted::Done),
+            Err(error) => Err(PerformError::Device(error)),
+        }
+    }
+
+    /// Whether the lines of the journal are longer by more than 64 KiB than those that `compact` would write.
+    #[tactic(auto, using(crate::proofs::SizeLemmas::size_behind))]
+    pub fn is_long(&self, alloc: Global) -> Result<bool, AllocError>
+        ensures { IfOk result (λ is_long. is_long ≡ nat_lt (length (open_text (compacted self.now.session.setup.now (holding (H.table self.now.session.holders) (H.names self.now.session.holders)))) + 65536) self.now.journal.end) }
+    {
+        let front = LONG + HEAD.len() + 2;
+        if self.journal.end() <= front {
+            return Ok(false);
+        }
+        let commands = self.session.snapshot(alloc)?;
+        Ok(is_room(self.journal.end() - front, &commands))
+    }
+}
