@@ -13,7 +13,7 @@ mod kinds {
     pub enum Call {
         /// To write so many bytes from a place on.
         Write(usize, usize),
-        /// To end behind so many bytes.
+        /// To end after so many bytes.
         Cut(usize),
         /// To be on the disk as it reads then. It was done.
         Settle,

@@ -46,7 +46,7 @@ impl From<FileFault> for OpenError {
     }
 }
 
-/// What failed, where a file was not opened.
+/// What failed, by the reason that a file was not opened.
 fn fault_of(error: OpenError) -> FileFault {
     match error {
         OpenError::Failed(fault) => fault,

@@ -85,7 +85,7 @@ impl<R: Files + Drop> DiskFile<R> {
         Ok(())
     }
 
-    /// Makes an empty file, where none is there.
+    /// Makes an empty file, if none is there.
     pub(crate) fn create(rt: R, paths: Paths, syncs: Syncs) -> Result<Self, FileFault> {
         let made = File::create_new(&rt, paths.journal.as_str());
         let file = made.map_err(|error| FileFault::of(Action::Create, Target::Journal, &error))?;

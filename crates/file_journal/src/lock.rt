@@ -43,7 +43,7 @@ impl From<AllocError> for LockError {
     }
 }
 
-/// The lock of a folder, which is flock(2) on the file `lock` in it. It is given back where it is dropped.
+/// The lock of a folder, which is flock(2) on the file `lock` in it. It is given back when it is dropped.
 #[derive(Drop)]
 pub struct FolderLock {
     file: File,
@@ -56,7 +56,7 @@ fn failed(error: io::Error) -> LockError {
     }
 }
 
-/// Opens the file of a lock, and makes it where it is not there.
+/// Opens the file of a lock, and makes it if it is not there.
 fn open_lock<R: Files<File = File>>(rt: &R, path: &str) -> io::Result<File> {
     match File::open(rt, path) {
         Err(error) if error.kind() == ErrorKind::NotFound => {
@@ -97,7 +97,7 @@ fn wait_for<R: Clock>(rt: &R, file: &File, kind: LockKind, limit: Duration) -> i
 }
 
 impl FolderLock {
-    /// Takes the lock of a folder. Where others hold it, it is tried again every 10 milliseconds, for so many seconds.
+    /// Takes the lock of a folder. If others hold it, it is tried again every 10 milliseconds, for so many seconds.
     pub fn acquire<R: Files<File = File> + Clock>(
         rt: &R,
         alloc: Global,

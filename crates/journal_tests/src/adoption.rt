@@ -55,9 +55,11 @@ fn adopted(alloc: Global) -> Result<Adoption, Fail> {
             }
         }
     }
-    if 4 < table.slots() && 0 < table.workers() {
-        table.begin_remove(4)?;
+    if 2 < table.slots() && 0 < table.workers() {
         table.get(0, 2)?;
+    }
+    if 4 < table.slots() {
+        table.begin_remove(4)?;
     }
     let kernel = read_modules(alloc, KERNEL)?;
     Ok(adopt(alloc, &catalogue, &table, &kernel)?)

@@ -66,7 +66,7 @@ fn a_journal_is_replaced(rt: HostRuntime) -> Result<(), Fail> {
 }
 
 #[test]
-fn what_another_wrote_is_told(rt: HostRuntime) -> Result<(), Fail> {
+fn what_another_wrote_is_reported(rt: HostRuntime) -> Result<(), Fail> {
     let alloc = rt.alloc();
     let folder = folder(&rt, "other")?;
     let mut device = FileDevice::create(&rt, alloc, &folder, "journal", Syncs::Kept)?;
@@ -93,8 +93,8 @@ fn what_another_wrote_is_read_anew(rt: HostRuntime) -> Result<(), Fail> {
     rewrite(alloc, other, b"get web17 snd_pcm", b"put web17 snd_pcm")?;
     assert_eq!(rt; device.renew()?, Renewed::Other);
     let lines = look(alloc, &mut device)?.lines;
-    let first = lines.first().map(|line| line.as_slice());
-    assert!(rt; first == Some(b"get web17 snd_pcm".as_slice()));
+    assert_eq!(rt; lines.len(), 2);
+    assert_eq!(rt; lines[0].as_slice(), b"get web17 snd_pcm".as_slice());
     fs::remove_dir_all(&rt, folder.as_str())?;
     assert!(rt; device.renew().is_err());
     assert!(rt; look(alloc, &mut device).is_err());
@@ -110,7 +110,7 @@ fn cause<T: Drop>(opened: Result<T, OpenError>) -> Option<Cause> {
 }
 
 #[test]
-fn a_refused_open_tells_why(rt: HostRuntime) -> Result<(), Fail> {
+fn a_refused_open_says_why(rt: HostRuntime) -> Result<(), Fail> {
     let alloc = rt.alloc();
     let folder = folder(&rt, "refused")?;
     let opened = FileDevice::open(&rt, alloc, &folder, "journal", Syncs::Kept);

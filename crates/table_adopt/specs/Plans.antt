@@ -38,7 +38,7 @@ with_course plan course m =
       lost = plan.lost ++ if_listed (is_lost course) m;
     }
 
--- what becomes of a module, where these are gone
+-- what becomes of a module, once these are gone
 abbrev pub course_at : List Description → Table → List KernelModule → List ℕ → ℕ → Course
 course_at catalogue t kernel gone m =
     let said = kernel_state kernel (description_at catalogue m).name in

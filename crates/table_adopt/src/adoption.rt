@@ -79,10 +79,10 @@ fn push_lost(text: &mut Vec<u8>, catalogue: &Catalogue, lost: &[usize]) -> Resul
 /// What brings a table over the catalogue to the modules of a kernel, the newest first. Nothing is changed: the lines are to
 /// be performed on this very table, one after another. Only memory refuses.
 ///
-/// First each module of the table, the newest first: where its load or removal has ended in the kernel, it ends in the
-/// table; where the kernel does not have it, it is removed, if nobody holds it, it is not permanent, and none that stays
-/// needs it. Then each live module of the kernel that the table does not have is loaded, the oldest first. No line is of a
-/// module that anybody holds.
+/// First each module of the table, the newest first. If its load or removal has ended in the kernel, it ends in the table.
+/// If the kernel does not have it, it is removed, if nobody holds it, it is not permanent, and none that stays needs it.
+/// Then each live module of the kernel that the table does not have is loaded, the oldest first. No line is of a module
+/// that anybody holds.
 pub fn adopt<M: Modules>(
     alloc: Global,
     catalogue: &Catalogue,

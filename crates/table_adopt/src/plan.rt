@@ -60,7 +60,7 @@ fn is_needed(catalogue: &Catalogue, users: &[usize], gone: &[usize], slot: usize
     false
 }
 
-/// Adds the slot, where it is to be listed.
+/// Adds the slot, if it is to be listed.
 fn push_if(listed: bool, slots: &mut Vec<usize>, slot: usize) -> Result<(), AllocError>
     ensures { OnOk result (slots.new.items ≡ slots.old.items ++ if_listed listed slot) }
 {
@@ -116,7 +116,7 @@ fn newest_first<M: Modules>(alloc: Global, table: &M) -> Result<Vec<usize>, Allo
     Ok(found)
 }
 
-/// Whether nothing keeps a module in the table, where these are gone.
+/// Whether nothing keeps a module in the table, once these are gone.
 fn is_free<M: Modules>(
     catalogue: &Catalogue,
     table: &M,
@@ -136,7 +136,7 @@ fn is_free<M: Modules>(
     !kept
 }
 
-/// What becomes of a module of the table, where these are gone.
+/// What becomes of a module of the table, once these are gone.
 fn course_at<M: Modules>(
     catalogue: &Catalogue,
     table: &M,
