@@ -2,7 +2,6 @@
 use Rattle.std.specs.Prelude.{ℕ, List, ◌++◌}
 use Rattle.std.specs.List.{flat_map}
 use Rattle.modprobe.specs.declared.section.Section.TheVariants.{Catalogue, Dep, Alias, Conf}
-use Rattle.modprobe_files.specs.declared.texts.ModuleTexts.{ModuleTexts}
 use Rattle.modprobe_files.specs.declared.texts.TextFile.{TextFile}
 use Rattle.modsh_drive.specs.Inputs.{section_text}
 use Rattle.table_setup.specs.Host.{host_catalogue}
@@ -11,7 +10,6 @@ abbrev pub conf_section : TextFile → List ℕ
 conf_section file = section_text Conf file.text.items
 
 -- the catalogue that modules.dep makes, modules.dep, modules.alias, and each file of the configuration in its order
-abbrev pub machine_sections : ModuleTexts → List TextFile → List ℕ
-machine_sections modules files =
-    section_text Catalogue (host_catalogue modules.dep.items) ++ section_text Dep modules.dep.items ++ section_text Alias modules.alias.items
-    ++ flat_map conf_section files
+abbrev pub machine_sections : List ℕ → List ℕ → List TextFile → List ℕ
+machine_sections dep alias files =
+    section_text Catalogue (host_catalogue dep) ++ section_text Dep dep ++ section_text Alias alias ++ flat_map conf_section files

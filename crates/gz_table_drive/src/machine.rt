@@ -7,7 +7,7 @@ ghost use Rattle.gz_table_drive.specs.Machine.{conf_section, machine_sections};
 
 use modprobe::Section;
 use modprobe_files::{
-    ConfTexts, Disk, Host, ModuleTexts, TextFile, directory, is_rootless, read_configuration,
+    ConfTexts, Disk, Host, TextFile, directory, is_rootless, read_configuration, read_later,
     read_modules, tell_folder,
 };
 use modprobe_words::{Asked, Level, Messages, read_words};
@@ -17,6 +17,14 @@ use std::env::Env;
 use std::io::Write;
 use std::rt::Files;
 use table_setup::host_catalogue;
+
+/// The texts of a machine that a table is made of.
+#[derive(Drop)]
+struct MachineTexts {
+    dep: Vec<u8>,
+    alias: Vec<u8>,
+    configuration: ConfTexts,
+}
 
 /// Adds a section of these bytes.
 fn push_section(text: &mut Vec<u8>, section: Section, bytes: &[u8]) -> Result<(), AllocError>
@@ -40,19 +48,16 @@ fn push_configuration(text: &mut Vec<u8>, files: &[TextFile]) -> Result<(), Allo
 /// configuration in its order.
 fn machine_sections(
     alloc: Global,
-    modules: &ModuleTexts,
+    dep: &[u8],
+    alias: &[u8],
     files: &[TextFile],
 ) -> Result<Vec<u8>, AllocError>
-    ensures { IfOk result (λ text. text.items ≡ machine_sections modules.now files.now) }
+    ensures { IfOk result (λ text. text.items ≡ machine_sections dep.now alias.now files.now) }
 {
     let mut text = Vec::new(alloc);
-    push_section(
-        &mut text,
-        Section::Catalogue,
-        &host_catalogue(alloc, &modules.dep)?,
-    )?;
-    push_section(&mut text, Section::Dep, &modules.dep)?;
-    push_section(&mut text, Section::Alias, &modules.alias)?;
+    push_section(&mut text, Section::Catalogue, &host_catalogue(alloc, dep)?)?;
+    push_section(&mut text, Section::Dep, dep)?;
+    push_section(&mut text, Section::Alias, alias)?;
     push_configuration(&mut text, files)?;
     Ok(text)
 }
@@ -77,7 +82,7 @@ fn read_machine<R: Files + Env + AllocGlobal, E: Write>(
     host: &Host<'_, Disk<'_, R>>,
     release: Option<&[u8]>,
     messages: &mut Messages<'_, E>,
-) -> Result<Option<(ModuleTexts, ConfTexts)>, AllocError> {
+) -> Result<Option<MachineTexts>, AllocError> {
     let Some(directory) = folder_of(host, release, messages)? else {
         return Ok(None);
     };
@@ -88,8 +93,12 @@ fn read_machine<R: Files + Env + AllocGlobal, E: Write>(
         messages.tell_always(Level::Error, &directory, behind, b"", b"");
         return Ok(None);
     }
-    let conf = read_configuration(host, &directory, &[], messages)?;
-    Ok(Some((modules, conf)))
+    let later = read_later(host, &directory, false, messages)?;
+    Ok(Some(MachineTexts {
+        dep: modules.dep,
+        alias: later.alias.unwrap_or(Vec::new(host.alloc())),
+        configuration: read_configuration(host, &directory, &[], messages)?,
+    }))
 }
 
 /// The sections of the machine below a root, of a release or of its running kernel. None where something is missing, which
@@ -114,8 +123,9 @@ pub(crate) fn sections_of_machine<R: Files + Env + AllocGlobal, E: Write>(
     if is_rootless(&host, disk.root, &mut messages)? {
         return Ok(None);
     }
-    match read_machine(&host, release, &mut messages)? {
-        Some((modules, conf)) => Ok(Some(machine_sections(rt.alloc(), &modules, &conf.files)?)),
-        None => Ok(None),
-    }
+    let Some(texts) = read_machine(&host, release, &mut messages)? else {
+        return Ok(None);
+    };
+    let files = &texts.configuration.files;
+    Ok(Some(machine_sections(rt.alloc(), &texts.dep, &texts.alias, files)?))
 }
