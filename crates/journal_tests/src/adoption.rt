@@ -1,4 +1,5 @@
 //! The lines that bring a table to the modules of a kernel.
+ghost use Rattle.std.specs.Prelude.{◌≡◌};
 
 use dep_index::read_catalogue;
 use proc_modules::LineError;
@@ -43,18 +44,28 @@ const LINES: [&str; 12] = [
     "end_load ext4 ok",
 ];
 
+/// Begins the load of a module, and ends it if the module is to be live.
+fn load(table: &mut Table, slot: usize, is_live: bool) -> Result<(), Fail>
+    ensures { table.new.catalogue ≡ table.old.catalogue }
+{
+    if slot < table.slots() {
+        table.begin_load(slot)?;
+        if is_live {
+            table.end_load(slot, true)?;
+        }
+    }
+    Ok(())
+}
+
 /// What brings to the kernel a table in which crc, fat and loop are live, loop is held, nls loads and zip unloads.
 fn adopted(alloc: Global) -> Result<Adoption, Fail> {
     let catalogue = read_catalogue(alloc, CATALOGUE)?;
     let mut table = Table::new(alloc, &catalogue, 1)?;
-    for slot in 0..5 {
-        if slot < table.slots() {
-            table.begin_load(slot)?;
-            if slot != 3 {
-                table.end_load(slot, true)?;
-            }
-        }
-    }
+    load(&mut table, 0, true)?;
+    load(&mut table, 1, true)?;
+    load(&mut table, 2, true)?;
+    load(&mut table, 3, false)?;
+    load(&mut table, 4, true)?;
     if 2 < table.slots() && 0 < table.workers() {
         table.get(0, 2)?;
     }
