@@ -3,7 +3,8 @@ ghost use Rattle.std.specs.Prelude.{◌≡◌, ◌⊎◌, Some, IfOk};
 ghost use Rattle.line_journal.specs.Device.{AlwaysLeaves};
 ghost use Rattle.line_journal.specs.Lines.{lines_of, StandsFor};
 ghost use Rattle.held_lines.specs.Held.{holding};
-ghost use Rattle.durable_table.specs.Tables.{table_of};
+ghost use Rattle.dep_index.specs.Catalogue.{modules_of};
+ghost use Rattle.durable_table.specs.Tables.{opening_of, table_of};
 ghost use Rattle.durable_table.specs.Durable.{Stands};
 
 use crate::answering::GROUP;
@@ -77,6 +78,14 @@ impl<D> From<AllocError> for OpenFault<D> {
     }
 }
 
+/// Holders of a setup, of which none is there yet.
+pub(crate) fn no_holders(alloc: Global, setup: &Setup) -> Result<HeldTable, AllocError>
+    ensures over { IfOk result (λ t. t.catalogue ≡ modules_of setup.now.catalogue) }
+    ensures opening { IfOk result (λ t. holding t.held.table t.held.names ≡ opening_of setup.now) }
+{
+    HeldTable::new(alloc, setup.catalogue().slots(alloc)?)
+}
+
 /// The table that a journal stands for.
 pub(crate) fn open_table<'s, D: Device + Drop>(
     alloc: Global,
@@ -89,7 +98,7 @@ pub(crate) fn open_table<'s, D: Device + Drop>(
     ensures any_moment { IfOk result (λ t. AlwaysLeaves (D.history device) (D.history t.journal.device)
         (λ file. StandsFor (lines_of (D.content device)) file ⊎ (D.history device).leaves file)) }
 {
-    let holders = HeldTable::new(alloc, setup.catalogue().slots(alloc)?)?;
+    let holders = no_holders(alloc, setup)?;
     match open(alloc, setup, holders, device, Repair::CutAtMost(TORN)) {
         Ok(OpenedTable::Ready(table, _)) => Ok(table),
         Ok(OpenedTable::Foreign(_)) => Err(OpenFault::Foreign),

@@ -12,8 +12,9 @@ use crate::input::{InputFault, InputLines, alone};
 use crate::opening::setup;
 use crate::shared::Shared;
 use crate::teller::Teller;
-use crate::tenure::answer_in_tenure;
+use crate::tenure::{answer_in_tenure, compact};
 use crate::told::tell_fault;
+use durable_table::Compacted;
 use file_journal::Syncs;
 use line_journal::is_line;
 use modprobe::Setup;
@@ -138,10 +139,10 @@ fn perform<R: Files<File = File> + Env + Clock + AllocGlobal, I: Read, O: Write,
             write_whole(text.as_bytes(), output)?;
             Ok(Ending::Done)
         }
-        Job::Compact => {
-            let advice = "this version does not write a journal anew, and it is as it was";
-            Err(teller.say("no command", b"compact", advice))
-        }
+        Job::Compact => match compact(shared, teller)? {
+            Compacted::Done => Ok(Ending::Done),
+            Compacted::Kept => Err(teller.kept(shared.folder)),
+        },
     }
 }
 

@@ -72,6 +72,15 @@ impl<'e, E: Write> Teller<'e, E> {
         }
     }
 
+    /// The journal is not written anew, and is as it was.
+    pub(crate) fn kept(&mut self, folder: &str) -> TableFault {
+        let _ = writeln!(
+            self.errors,
+            "gz-table: {folder}/journal is as it was: no shorter lines were found that make its table; go on with it"
+        );
+        TableFault::Told(Ending::Fault)
+    }
+
     /// So many lines were too long.
     pub(crate) fn too_long(&mut self, lines: u64) {
         if lines > 0 {

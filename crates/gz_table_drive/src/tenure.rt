@@ -1,15 +1,19 @@
 //! One tenure: what a process does from where it takes the lock to where it gives it back.
-ghost use Rattle.std.specs.Prelude.{◌<◌, ◌≤◌, length, IfOk};
+ghost use Rattle.std.specs.Prelude.{◌≡◌, ◌<◌, ◌≤◌, length, IfOk};
 ghost use Rattle.line_journal.specs.Lines.{AreLines, bytes_of};
+ghost use Rattle.held_lines.specs.Held.{holding};
+ghost use Rattle.durable_table.specs.Durable.{Stands};
 
 use crate::answering::{AnswerError, Replies, answer_lines};
 use crate::fault::{TableFault, journal_fault};
-use crate::opening::{OpenFault, keep_torn, open_table, read_file};
+use crate::opening::{OpenFault, keep_torn, no_holders, open_table, read_file, setup};
 use crate::reading::{answer_copy, are_reading};
 use crate::shared::{JOURNAL, Shared};
 use crate::teller::Teller;
+use durable_table::{Compacted, DurableTable, PerformError};
 use file_journal::{FileDevice, LockKind};
-use line_journal::DeviceError;
+use held_table::HeldTable;
+use line_journal::{Device, DeviceError};
 use modprobe::Setup;
 use std::alloc::Global;
 use std::fs::File;
@@ -34,7 +38,48 @@ fn answer_reading<R: Files<File = File> + Clock + AllocGlobal>(
     answer_copy(shared.alloc(), setup, bytes, lines, replies)
 }
 
-/// Answers lines over the table of a journal's file. What they change is on the disk then.
+/// Why the table of a journal's file was not opened.
+fn unopened<R: Files + Drop>(fault: OpenFault<FileDevice<R>>) -> TableFault {
+    match fault {
+        OpenFault::Foreign => TableFault::Foreign,
+        OpenFault::Changed(line) => TableFault::Changed(line),
+        OpenFault::Damaged(lines) => TableFault::Damaged(lines),
+        OpenFault::Device(DeviceError::Failed, device) => journal_fault(device.fault()),
+        _ => TableFault::OutOfMemory,
+    }
+}
+
+/// Writes the journal anew, as the lines that make its table.
+fn compact_table<D: Device + Drop>(
+    alloc: Global,
+    setup: &Setup,
+    table: &mut DurableTable<'_, HeldTable, D>,
+) -> Result<Compacted, PerformError>
+    requires stands { Stands D.content D.history setup.now (holding table.old.session.holders.held.table table.old.session.holders.held.names) table.old.journal }
+    requires setup { table.old.session.setup.now ≡ setup.now }
+{
+    match no_holders(alloc, setup) {
+        Ok(fresh) => table.compact(alloc, fresh),
+        Err(_) => Err(PerformError::OutOfMemory),
+    }
+}
+
+/// Writes a journal that has become long anew. If that fails, it stands for the same table all the same.
+fn shorten<D: Device + Drop>(
+    alloc: Global,
+    setup: &Setup,
+    table: &mut DurableTable<'_, HeldTable, D>,
+)
+    requires stands { Stands D.content D.history setup.now (holding table.old.session.holders.held.table table.old.session.holders.held.names) table.old.journal }
+    requires setup { table.old.session.setup.now ≡ setup.now }
+{
+    if table.is_long(alloc) == Ok(true) {
+        let _ = compact_table(alloc, setup, table);
+    }
+}
+
+/// Answers lines over the table of a journal's file. What they change is on the disk then. A journal that has become long is
+/// written anew.
 fn answer_file<R: Files + Drop>(
     alloc: Global,
     setup: &Setup,
@@ -48,16 +93,13 @@ fn answer_file<R: Files + Drop>(
 {
     let mut table = match open_table(alloc, setup, device) {
         Ok(table) => table,
-        Err(OpenFault::Foreign) => return Err(TableFault::Foreign),
-        Err(OpenFault::Changed(line)) => return Err(TableFault::Changed(line)),
-        Err(OpenFault::Damaged(lines)) => return Err(TableFault::Damaged(lines)),
-        Err(OpenFault::Device(DeviceError::Failed, device)) => {
-            return Err(journal_fault(device.fault()));
-        }
-        Err(_) => return Err(TableFault::OutOfMemory),
+        Err(fault) => return Err(unopened(fault)),
     };
     match answer_lines(alloc, &mut table, lines, replies) {
-        Ok(count) => Ok(count),
+        Ok(count) => {
+            shorten(alloc, setup, &mut table);
+            Ok(count)
+        }
         Err(AnswerError::Device(DeviceError::Failed)) => Err(journal_fault(table.device().fault())),
         Err(_) => Err(TableFault::OutOfMemory),
     }
@@ -102,4 +144,39 @@ pub(crate) fn answer_in_tenure<R: Files<File = File> + Clock + AllocGlobal, E: W
     } else {
         answer_changing(shared, setup, lines, replies, teller)
     }
+}
+
+/// Writes the journal of a file anew.
+fn compact_file<R: Files + Drop>(
+    alloc: Global,
+    setup: &Setup,
+    device: FileDevice<R>,
+) -> Result<Compacted, TableFault> {
+    let mut table = match open_table(alloc, setup, device) {
+        Ok(table) => table,
+        Err(fault) => return Err(unopened(fault)),
+    };
+    match compact_table(alloc, setup, &mut table) {
+        Ok(compacted) => Ok(compacted),
+        Err(PerformError::Device(DeviceError::Failed)) => {
+            Err(journal_fault(table.device().fault()))
+        }
+        Err(_) => Err(TableFault::OutOfMemory),
+    }
+}
+
+/// Writes the journal of a folder anew, as the lines that make its table.
+pub(crate) fn compact<R: Files<File = File> + Clock + AllocGlobal, E: Write>(
+    shared: &Shared<'_, R>,
+    teller: &mut Teller<'_, E>,
+) -> Result<Compacted, TableFault> {
+    let (rt, alloc, folder) = (shared.rt, shared.alloc(), shared.folder);
+    let setup = setup(shared)?;
+    let lock = shared.lock(LockKind::Exclusive)?;
+    let mut device = FileDevice::open(rt, alloc, folder, JOURNAL, shared.syncs)?;
+    let cut = keep_torn(shared, &mut device)?;
+    teller.cut(folder, cut);
+    let compacted = compact_file(alloc, &setup, device);
+    lock.release();
+    compacted
 }
