@@ -21,6 +21,7 @@ ending_of_fault fault.Foreign = Unasked
 ending_of_fault (fault.Changed line) = Unasked
 ending_of_fault (fault.Damaged lines) = Unasked
 ending_of_fault fault.ThereAlready = Exists
+ending_of_fault fault.UsedJournal = Exists
 ending_of_fault (fault.Lock error) = ending_of_lock error
 ending_of_fault (fault.Told ending) = ending
 ending_of_fault _ = Fault

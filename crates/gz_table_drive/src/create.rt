@@ -2,6 +2,7 @@
 
 use crate::fault::{TableFault, journal_fault, unwritten};
 use crate::machine::sections_of_machine;
+use crate::opening::found_in;
 use crate::sections::named_sections;
 use crate::setup::setup_of;
 use crate::shared::{JOURNAL, SETUP, Shared};
@@ -63,11 +64,15 @@ fn journal_file<'r, R: Files<File = File> + Clock + AllocGlobal>(
     }
 }
 
-/// Writes the journal of a new table.
+/// Writes the journal of a new table. One that has commands stays as it is.
 fn write_journal<R: Files<File = File> + Clock + AllocGlobal>(
     shared: &Shared<'_, R>,
 ) -> Result<(), TableFault> {
     let mut device = journal_file(shared)?;
+    let found = found_in(shared.alloc(), &mut device)?;
+    if found.lines.len() > 1 || !(found.behind.is_empty() || found.is_at_rest()) {
+        return Err(TableFault::UsedJournal);
+    }
     match durable_table::create(&mut device) {
         Ok(()) => Ok(()),
         Err(DeviceError::OutOfMemory) => Err(TableFault::OutOfMemory),

@@ -17,6 +17,8 @@ pub(crate) enum TableFault {
     NoTable,
     /// The folder has a table already.
     ThereAlready,
+    /// The folder has a journal with commands, and no setup.
+    UsedJournal,
     /// The setup does not end with a last line of its length.
     CutSetup,
     /// The setup has another sum than its last line says.
@@ -62,7 +64,7 @@ impl TableFault {
             | TableFault::Foreign
             | TableFault::Changed(_)
             | TableFault::Damaged(_) => Ending::Unasked,
-            TableFault::ThereAlready => Ending::Exists,
+            TableFault::ThereAlready | TableFault::UsedJournal => Ending::Exists,
             TableFault::Lock(LockError::Held) => Ending::Locked,
             TableFault::Told(ending) => ending,
             _ => Ending::Fault,

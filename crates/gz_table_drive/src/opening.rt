@@ -14,7 +14,7 @@ use crate::shared::{CUT, SETUP, Shared};
 use durable_table::{DurableTable, OpenedTable, open};
 use file_journal::FileDevice;
 use held_table::HeldTable;
-use line_journal::{Device, DeviceError, Repair, look};
+use line_journal::{Device, DeviceError, Found, Repair, look};
 use modprobe::Setup;
 use program_frame::PathFault;
 use std::alloc::{AllocError, Global};
@@ -108,6 +108,18 @@ pub(crate) fn open_table<'s, D: Device + Drop>(
     }
 }
 
+/// What stands in a journal's file.
+pub(crate) fn found_in<R: Files + Drop>(
+    alloc: Global,
+    device: &mut FileDevice<R>,
+) -> Result<Found, TableFault> {
+    match look(alloc, device) {
+        Ok(found) => Ok(found),
+        Err(DeviceError::OutOfMemory) => Err(TableFault::OutOfMemory),
+        Err(DeviceError::Failed) => Err(journal_fault(device.fault())),
+    }
+}
+
 /// Adds what is to be cut off to the file that is kept of it, with a line feed behind it.
 fn keep_cut<R: Files<File = File> + Clock + AllocGlobal>(
     shared: &Shared<'_, R>,
@@ -128,12 +140,7 @@ pub(crate) fn keep_torn<R: Files<File = File> + Clock + AllocGlobal>(
     shared: &Shared<'_, R>,
     device: &mut FileDevice<&R>,
 ) -> Result<usize, TableFault> {
-    let alloc = shared.alloc();
-    let found = match look(alloc, device) {
-        Ok(found) => found,
-        Err(DeviceError::OutOfMemory) => return Err(TableFault::OutOfMemory),
-        Err(DeviceError::Failed) => return Err(journal_fault(device.fault())),
-    };
+    let found = found_in(shared.alloc(), device)?;
     if found.is_at_rest() || found.behind.is_empty() || found.open_gates_behind() > TORN {
         return Ok(0);
     }

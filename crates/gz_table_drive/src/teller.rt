@@ -135,11 +135,15 @@ impl<'e, E: Write> Teller<'e, E> {
         let _ = match fault {
             TableFault::NoTable => writeln!(
                 self.errors,
-                "gz-table: there is no table in {folder}: make one with gz-table {folder} create --host"
+                "gz-table: there is no table in {folder}: make one with create --host; if GZ_TABLE is set, it names the folder, and no word does"
             ),
             TableFault::ThereAlready => writeln!(
                 self.errors,
                 "gz-table: {folder} has a table already: name another folder, or remove its files first"
+            ),
+            TableFault::UsedJournal => writeln!(
+                self.errors,
+                "gz-table: {folder}/journal has commands, but there is no setup, and nothing was done: restore {folder}/setup, or name another folder"
             ),
             TableFault::CutSetup => writeln!(
                 self.errors,
