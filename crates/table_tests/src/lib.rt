@@ -2,6 +2,8 @@
 #![tactic(auto)]
 
 #[cfg(test)]
+mod compacting;
+#[cfg(test)]
 mod performing;
 #[cfg(test)]
 mod support;

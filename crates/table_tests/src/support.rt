@@ -6,7 +6,7 @@ ghost use Rattle.held_lines.specs.Held.{holding};
 ghost use Rattle.durable_table.specs.Durable.{Stands};
 ghost use Rattle.durable_table.specs.Tables.{opening_of};
 
-use durable_table::{DurableTable, OpenedTable, create, open};
+use durable_table::{Compacted, DurableTable, OpenedTable, create, open};
 use held_table::HeldTable;
 use line_journal::{KillOnly, Repair, are_lines, is_line};
 use modprobe::{Buffer, FromRead, Lines, Setup, read_setup};
@@ -122,4 +122,22 @@ pub(crate) fn answers(
         text.extend_from_slice(reply.reply.text())?;
     }
     Ok(String::from_utf8_lossy(alloc, &text)?)
+}
+
+/// The journal is compacted.
+pub(crate) fn compacted(
+    table: &mut DurableTable<'_, HeldTable, KillOnly>,
+    alloc: Global,
+    setup: &Setup,
+) -> Result<(), Fail>
+    requires stands { Stands held_by history_of table.old.session.setup.now (holding table.old.session.holders.held.table table.old.session.holders.held.names) table.old.journal }
+    requires setup { table.old.session.setup.now ≡ setup.now }
+    ensures stands { OnOk result (Stands held_by history_of table.new.session.setup.now (holding table.new.session.holders.held.table table.new.session.holders.held.names) table.new.journal) }
+    ensures setup { table.new.session.setup ≡ table.old.session.setup }
+{
+    let holders = fresh(alloc, setup)?;
+    match table.compact(alloc, holders) {
+        Ok(Compacted::Done) => Ok(()),
+        _ => Err("not compacted".into()),
+    }
 }
