@@ -5,7 +5,7 @@ use Rattle.std.proofs.lemmas.List.{get_or_append_left}
 use Rattle.alias_match.specs.ForProofs.{end_below}
 use Rattle.alias_match.proofs.Members.{told}
 
--- where one test passes only with another, its last place is in the other's chain
+-- if one test passes only with another, its last place is in the other's chain
 pub end_in_chain : (p r : ℕ → Bool) (numbers : List ℕ) (n : ℕ) → ((x : ℕ) → p x ≡ true → r x ≡ true) → end_below p numbers (end_below r numbers n) ≡ end_below p numbers n
 end_in_chain p r numbers zero sub = refl
 end_in_chain p r numbers (suc n) sub = elim (told (r (slice_index numbers n))) [

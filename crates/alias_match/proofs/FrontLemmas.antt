@@ -46,7 +46,7 @@ front_few fronts aliases place other have within =
     let own : (alias : Alias) × (slice_get aliases place ≡ Some alias) × IsFrontOf (get_or fronts place other) alias.pattern = front_at fronts aliases place other have within in
     own.2.few
 
--- an alias is passed over only where the text begins otherwise than its pattern
+-- an alias is passed over only if the text begins otherwise than its pattern
 pub passed_over : (fronts : List Front) (aliases : List Alias) (text : List ℕ) (place : ℕ) (other : Front) → HaveFronts fronts aliases → place < length aliases → mark (take (get_or fronts place other).count text) ≢ (get_or fronts place other).number → is_match_at aliases text place ≡ false
 passed_over fronts aliases text place other have within apart =
     let own : (alias : Alias) × (slice_get aliases place ≡ Some alias) × IsFrontOf (get_or fronts place other) alias.pattern = front_at fronts aliases place other have within in

@@ -50,7 +50,7 @@ next_linked ends numbers befores place bucket told_ends linked is within there i
     less : nat_eq i place ≡ false → i < place
     less f = omega (arith, apart f)
 
--- what an entry is where there is none
+-- what an entry is if there is none
 abbrev pub no_entry : ChainEntry
 no_entry = record { key = 0; before = 0 }
 

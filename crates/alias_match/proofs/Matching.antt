@@ -47,7 +47,7 @@ abbrev pub IsShort : Piece → Type 0
 IsShort run = ⊥
 IsShort _ = Unit {0}
 
--- a short piece takes the first byte, where it holds it, and no other text
+-- a short piece takes the first byte, if it holds it, and no other text
 pub Matches-short : (p : Piece) (ps : List Piece) (s : List ℕ) → IsShort p → Matches (p ∷ ps) s → (b : ℕ) × (u : List ℕ) × (s ≡ b ∷ u) × (holds p b ≡ true) × Matches ps u
 Matches-short (byte own) ps s short (front, rest, split, here, behind) =
     (own, rest, split ∙ ap (λ l. l ++ rest) here, same_number own, behind)
@@ -204,7 +204,7 @@ Keeps-taken {all} {text} {back} {qs} {ps} {r} {s} k p b these those h =
 IsEnd-none : {v : List ℕ} → IsEnd v [] → v ≡ []
 IsEnd-none whole = refl
 
--- where the text is over and pieces are left, no return helps
+-- if the text is over and pieces are left, no return helps
 Later-none : (back : Option Place) (ps : List Piece) → IsOnWay back ps [] → IsStuck ps [] → Later back → ⊥
 Later-none None ps way stuck l = l
 Later-none (Some (a, [])) ps way stuck l = l
@@ -227,7 +227,7 @@ none_before own b s t = rw t refl
 one_before : (own b : ℕ) (s : List ℕ) → nat_eq own b ≡ false → count_before own (b ∷ s) ≡ suc (count_before own s)
 one_before own b s f = rw f (omega arith)
 
--- where the pieces begin with a byte, no end is a match before the first that begins with it
+-- if the pieces begin with a byte, no end is a match before the first that begins with it
 Keeps-skip : {all : List Piece} {text : List ℕ} (own : ℕ) (ps : List Piece) (s : List ℕ) → Keeps all text (Some (byte own ∷ ps, s)) (byte own ∷ ps) s → Keeps all text (Some (byte own ∷ ps, drop (count_before own s) s)) (byte own ∷ ps) (drop (count_before own s) s)
 Keeps-skip own ps [] k = k
 Keeps-skip {all} {text} own ps (b ∷ s) k = elim (told (nat_eq own b)) [

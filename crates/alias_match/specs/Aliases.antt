@@ -53,7 +53,7 @@ aliases_of text = entries_of alias_of (enumerate_from 1 (lines text))
 abbrev pub matching : List Alias → List ℕ → List Alias
 matching aliases text = filter (λ alias. is_match alias.pattern text) aliases
 
--- the places of what passes, where the list begins at a place
+-- the places of what passes, if the list begins at a place
 abbrev pub places_where : {X : Type 0} → (X → Bool) → ℕ → List X → List ℕ
 places_where passes place [] = []
 places_where passes place (x ∷ xs) =

@@ -6,7 +6,7 @@ use Rattle.alias_match.specs.Pattern.{Piece, Matches, literal_beginning}
 abbrev pub with_digit : ℕ → ℕ → ℕ
 with_digit number digit = number % 72057594037927936 * 256 + digit
 
--- the number that the last eight bytes are, or all bytes where there are fewer
+-- the number that the last eight bytes are, or all bytes if there are fewer
 abbrev pub mark : List ℕ → ℕ
 mark bytes = fold with_digit 0 (drop (length bytes - 8) bytes)
 

@@ -17,7 +17,7 @@ pub struct Alias {
     pub target: Name,
 }
 
-/// The pattern that the text is, None where it is none.
+/// The pattern that the text is, None if it is none.
 fn read_pattern(alloc: Global, text: &[u8]) -> Result<Option<Pattern>, AllocError>
     ensures { IfOk result (λ pattern. pattern ≡ result_ok (pattern_of text.now)) }
 {
@@ -32,7 +32,7 @@ fn read_pattern(alloc: Global, text: &[u8]) -> Result<Option<Pattern>, AllocErro
 
 impl Alias {
     /// The alias that the words of a line are: `alias`, a pattern and a name. Words after these have no effect.
-    /// None where the first word is another, there are fewer, or the pattern cannot be read.
+    /// None if the first word is another, there are fewer, or the pattern cannot be read.
     pub fn read(alloc: Global, words: &[&[u8]]) -> Result<Option<Alias>, AllocError>
         ensures { IfOk result (λ alias. alias ≡ alias_of (texts_of words.now)) }
     {

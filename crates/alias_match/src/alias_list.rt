@@ -43,7 +43,7 @@ impl Model for AliasList {
     ghost invariant = { λ l. KeepsEach l.table l.fronts.items l.entries.items };
 }
 
-/// Whether the alias at a place matches. The alias is read only where the text begins as its front says, so a look-up that
+/// Whether the alias at a place matches. The alias is read only if the text begins as its front says, so a look-up that
 /// tries many aliases in vain stays in the processor's cache.
 #[inline(always)]
 fn is_match_at(entries: &[Alias], fronts: &[Front], text: &NumberedText, place: usize) -> bool
@@ -134,7 +134,7 @@ impl AliasList {
         }
     }
 
-    /// Adds an alias after the others. Where memory runs out the list stays as it was.
+    /// Adds an alias after the others. If memory runs out the list stays as it was.
     pub fn push(&mut self, alloc: Global, alias: Alias) -> Result<(), AllocError>
         ensures ok { OnOk result (self.new ≡ self.old ++ alias ∷ []) }
         ensures err { OnErr result (self.new ≡ self.old) }

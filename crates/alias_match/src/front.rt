@@ -44,7 +44,7 @@ impl<'t> Model for NumberedText<'t> {
     ghost invariant = { λ text. AreNumbers text.numbers 8 text.bytes.now };
 }
 
-/// The number of one byte more of a text, where it has one.
+/// The number of one byte more of a text, if it has one.
 pub(crate) fn next_number(number: u64, text: &[u8], count: usize) -> u64
     requires { number ≡ mark (take count text.now) }
     ensures { result ≡ mark (take (count + 1) text.now) }

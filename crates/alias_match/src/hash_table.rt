@@ -20,7 +20,7 @@ pub(crate) fn with_digit(number: u64, digit: u8) -> u64
     number % SEVEN_DIGITS * 256 + u64::from(digit)
 }
 
-/// The number that the last eight bytes are, or all bytes where there are fewer.
+/// The number that the last eight bytes are, or all bytes if there are fewer.
 pub(crate) fn mark(bytes: &[u8]) -> u64
     ensures { result ≡ mark bytes.now }
 {
@@ -33,7 +33,7 @@ pub(crate) fn mark(bytes: &[u8]) -> u64
 }
 
 /// A hash table with chains. Its keys are marks, in the order in which they were added, and it finds the places of a key from
-/// the last to the first. A bucket has one more than the place of its chain's last entry, 0 where it is empty.
+/// the last to the first. A bucket has one more than the place of its chain's last entry, 0 if it is empty.
 #[derive(Drop)]
 pub(crate) struct HashTable {
     buckets: Vec<usize>,
@@ -64,7 +64,7 @@ impl HashTable {
         }
     }
 
-    /// Adds a key after the others. Where memory runs out they stay as they were. Half of the buckets are left over, so that
+    /// Adds a key after the others. If memory runs out they stay as they were. Half of the buckets are left over, so that
     /// chains are short.
     pub fn add(&mut self, alloc: Global, key: u64) -> Result<(), AllocError>
         ensures ok { OnOk result (self.new ≡ self.old ++ key ∷ []) }

@@ -8,7 +8,7 @@ ghost use Rattle.alias_match.specs.ForProofs.{piece};
 use crate::read::{PatternError, after_end, after_members, next_item, next_member, split_sign};
 use std::marker::Model;
 
-/// The bytes from the first to the last, none where the first is greater.
+/// The bytes from the first to the last, none if the first is greater.
 #[derive(Clone, Copy, Debug, PartialEq, Eq, Drop)]
 pub(crate) struct ByteRange {
     pub first: u8,

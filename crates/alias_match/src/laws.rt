@@ -21,7 +21,7 @@ pub fn reading_is_total()
 {}
 
 /// A text that a pattern matches begins with the pattern's literal beginning. So a pattern is left out of a look-up
-/// where the text begins otherwise.
+/// if the text begins otherwise.
 pub fn matches_begin_literally()
     ensures { BeginsLiterally }
 {}

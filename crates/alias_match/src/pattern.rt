@@ -49,7 +49,7 @@ fn count_before(own: u8, text: &[u8]) -> usize
     text.iter().take_while(|byte| own != **byte).count()
 }
 
-/// The end of the text at which the items are tried next: where they begin with a byte, the first that begins with it.
+/// The end of the text at which the items are tried next: if they begin with a byte, the first that begins with it.
 #[inline(always)]
 fn next_end<'t>(items: &Items, text: &'t [u8]) -> &'t [u8]
     ensures end { result.now ≡ next_end items.now text.entry.now }
@@ -174,7 +174,7 @@ fn items_match(pattern: Items, text: &[u8]) -> bool
 }
 
 impl Pattern {
-    /// The pattern that the text is (glob(7)), or its first fault from the left; `Memory` where memory runs out.
+    /// The pattern that the text is (glob(7)), or its first fault from the left; `Memory` if memory runs out.
     pub fn read(alloc: Global, text: &[u8]) -> Result<Pattern, PatternError>
         ensures { Gives (λ pattern. pattern) result (Reads text.now) }
     {

@@ -89,7 +89,7 @@ fn begins_class(text: &[u8]) -> bool
     }
 }
 
-/// What follows the end of a set, where the text begins with it.
+/// What follows the end of a set, if the text begins with it.
 #[inline(always)]
 pub(crate) fn after_end(text: &[u8]) -> Option<&[u8]>
     ensures { MatchOption result

@@ -52,7 +52,7 @@ fn longer_behind_first<'a>(items: Items<'a>, longest: usize) -> Option<Items<'a>
 }
 
 /// The mark of the longest run of single bytes in a pattern: bytes that stand for themselves, and items after them. A run
-/// after other items counts only where it fills a mark.
+/// after other items counts only if it fills a mark.
 pub(crate) fn longest_run_mark(front: &[u8], items: Items) -> u64
     ensures { IsMarkOf result (map (λ b. byte b) front.now ++ items.entry) }
 {

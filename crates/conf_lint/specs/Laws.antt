@@ -11,7 +11,7 @@ abbrev pub softdeps_after : Known → List ℕ → List (ℕ × List ℕ) → Li
 softdeps_after known slots [] = slots
 softdeps_after known slots (line ∷ later) = softdeps_after known (with_line known slots line) later
 
--- the note is one of a line, where those before it are as they are
+-- the note is one of a line, if those before it are as they are
 abbrev pub IsOfLine : Known → List ℕ → List (ℕ × List ℕ) → Note → Type 0
 IsOfLine known slots ls told =
     (earlier : List (ℕ × List ℕ)) × (line : ℕ × List ℕ) × (later : List (ℕ × List ℕ))

@@ -133,14 +133,14 @@ with_words known slots (w ∷ name ∷ ws) =
     else with_setting slots (slot_named known.catalogue.now (normal_form name)) (setting_said w ws)
 with_words known slots _ = slots
 
--- of a numbered line, where these slots have a softdep line before it; a line whose first byte is `#` is ignored
+-- of a numbered line, if these slots have a softdep line before it; a line whose first byte is `#` is ignored
 abbrev pub line_notes : Known → List ℕ → ℕ × List ℕ → List Note
 line_notes known slots line = if is_comment line.1 then [] else word_notes known line.0 slots (words line.1)
 
 abbrev pub with_line : Known → List ℕ → ℕ × List ℕ → List ℕ
 with_line known slots line = if is_comment line.1 then slots else with_words known slots (words line.1)
 
--- of numbered lines, where these slots have a softdep line before them
+-- of numbered lines, if these slots have a softdep line before them
 abbrev pub notes_from : Known → List ℕ → List (ℕ × List ℕ) → List Note
 notes_from known slots [] = []
 notes_from known slots (line ∷ later) = line_notes known slots line ++ notes_from known (with_line known slots line) later

@@ -62,7 +62,7 @@ fn add_line(
 
 /// The notes of a configuration text, in the order of its lines: of each line that is about nothing among the names that a
 /// session has, and of no other. A line that has no effect at all, as `idle_settings` of modprobe_conf tells, has none.
-/// Only want of memory refuses.
+/// It fails only out of memory.
 pub fn lint(alloc: Global, known: &Known<'_>, text: &[u8]) -> Result<Vec<Note>, AllocError>
     ensures { IfOk result (λ notes. notes.items ≡ notes_of known.now text.now) }
 {

@@ -19,7 +19,7 @@ pub enum NoteKind {
     PatternItem(Word),
 }
 
-/// A note of a line: its number, from 1, which is that of the first line where lines are joined, and what is said of it.
+/// A note of a line: its number, from 1, which is that of the first line if lines are joined, and what is said of it.
 #[derive(Drop)]
 pub struct Note {
     pub number: usize,

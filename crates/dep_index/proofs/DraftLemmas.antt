@@ -29,7 +29,7 @@ pub list_any-map : {X Y : Type 0} (p : Y → Bool) (f : X → Y) (xs : List X) �
 list_any-map p f [] = refl
 list_any-map p f (x ∷ xs) = ap (λ t. p (f x) || t) (list_any-map p f xs)
 
--- the index has a name where a description has
+-- the index has a name if a description has
 pub name_found : (name : List ℕ) (es : List (Vec ℕ Global × Details)) → is_some (lookup (λ (k : Vec ℕ Global). bytes_eq name k.items) es) ≡ has_name (descriptions_in es) name
 name_found name es =
     is_some-lookup (λ (k : Vec ℕ Global). bytes_eq name k.items) es

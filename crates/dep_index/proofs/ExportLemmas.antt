@@ -22,7 +22,7 @@ slot_at-own s m (e ∷ es) rest =
       | false ↦ slot_at-own s m es rest
     ]
 
--- a symbol has a link where a module exports it
+-- a symbol has a link if a module exports it
 some_link : (s : List ℕ) (k : ℕ) (ds : List Description) → is_some (slot_at (links_from k ds) s) ≡ list_any (exports_symbol s) ds
 some_link s k [] = refl
 some_link s k (d ∷ ds) =
@@ -102,7 +102,7 @@ export_linked earlier last (s ∷ ss) =
     (ap (λ ls. export_links ls (length earlier) (record last { exports = last.exports ++ (s ∷ []) }) ss) (links_more earlier last s)
     ∙ export_linked earlier (record last { exports = last.exports ++ (s ∷ []) }) ss)
 
--- where the exports stay, the links stay
+-- if the exports stay, the links stay
 kept : (earlier : List Description) (last last' : Description) → last'.exports ≡ last.exports → with_links (links_of (earlier ++ last ∷ [])) (Ok last') ≡ linked earlier (Ok last')
 kept earlier last last' e = ap (λ ls. Ok (last', ls)) (sym (links_same earlier last' last e))
 

@@ -261,7 +261,7 @@ none_past room m (x ∷ xs) within past = at (is_slot x) refl (none_past room m 
 pub slot_below : (m room : ℕ) → m < room → room ≤ 65535 → is_slot m ≡ true
 slot_below m room below few = not_from_false (eqb m 65535) (ne_eqb m 65535 (λ e. omega (arith, e)))
 
--- a slot that is not marked is among the entries where it stands at its place
+-- a slot that is not marked is among the entries if it stands at its place
 pub any_at_place : (m p : ℕ) (xs : List ℕ) → is_slot m ≡ true → p < length xs → get_or xs p 0 ≡ m → list_any (λ s. eqb s m) (slots_in xs) ≡ true
 any_at_place m p xs slot within here = any_slot m xs slot ∙ list_any_at (λ s. eqb s m) xs p 0 within (eq-eqb (get_or xs p 0) m here)
 
@@ -299,7 +299,7 @@ slots_short xs = omega (arith, length-filter is_slot xs, count_by-le-length is_s
 pub filter_short : (p : ℕ → Bool) (xs : List ℕ) → length (filter p xs) ≤ length xs
 filter_short p xs = omega (arith, length-filter p xs, count_by-le-length p xs)
 
--- where a slot is still to come, fewer stand there
+-- if a slot is still to come, fewer stand there
 pub fill_room : (p : ℕ → Bool) (xs : List ℕ) (i : ℕ) → i < length xs → is_slot (get_or xs i 0) ≡ true → length (filter p (slots_in (take i xs))) < length (slots_in xs)
 fill_room p xs i within slot =
     let more : count_by is_slot (take (i + 1) xs) ≡ count_by is_slot (take i xs) + 1 = count_by_more_yes is_slot xs i 0 within slot in
@@ -347,7 +347,7 @@ ordered_is slots slots' room room' s r = λ i. record { slots = s i; room = r i 
 pub slots_push : (xs : List ℕ) (y : ℕ) → is_slot y ≡ true → slots_in (xs ++ y ∷ []) ≡ slots_in xs ++ y ∷ []
 slots_push xs y slot = filter-append is_slot xs (y ∷ []) ∙ ap (λ (b : Bool). slots_in xs ++ cond b (y ∷ []) []) slot
 
--- where a slot stands, there is one
+-- if a slot stands, there is one
 pub some_slot : (xs : List ℕ) (p : ℕ) → p < length xs → is_slot (get_or xs p 0) ≡ true → 0 < length (slots_in xs)
 some_slot xs p within slot =
     let one : ℕ = 1 in

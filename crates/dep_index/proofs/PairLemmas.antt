@@ -33,7 +33,7 @@ lookup-pairs name (e ∷ es) =
 abbrev IsSame : Vec ℕ Global → Vec ℕ Global → Bool
 IsSame a b = bytes_eq a.items b.items
 
--- the index has a name where a pair has
+-- the index has a name if a pair has
 pub name_paired : (name : List ℕ) (entries : List (Vec ℕ Global × Names)) → is_some (lookup (λ (k : Vec ℕ Global). bytes_eq name k.items) entries) ≡ list_any (λ p. bytes_eq name p.0) (pairs_in entries)
 name_paired name entries =
     is_some-lookup (λ (k : Vec ℕ Global). bytes_eq name k.items) entries

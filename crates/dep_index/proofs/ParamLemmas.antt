@@ -54,7 +54,7 @@ later-more ps param = by (nat_le 16 (length ps)) refl where
       let one_more : length (ps ++ param ∷ []) ≡ length ps + 1 = length-append ps (param ∷ []) in
       ap (map (λ (p : Param). p.name)) (drop_all 16 (ps ++ param ∷ []) (omega (arith, short, one_more)) ∙ sym (drop_all 16 ps (omega (arith, short))))
 
--- a name that is none of the first ones is a later one, where a parameter has it
+-- a name that is none of the first ones is a later one, if a parameter has it
 pub behind : (name : List ℕ) (ps : List Param) → list_any (λ (p : Param). bytes_eq name p.name) (take 16 ps) ≡ false
     → list_any (bytes_eq name) (later_names ps) ≡ list_any (λ (p : Param). bytes_eq name p.name) ps
 behind name ps none = sym (ap (λ b. b || list_any (bytes_eq name) (later_names ps)) none) ∙ parted name ps

@@ -9,7 +9,7 @@ use Rattle.text_parts.proofs.PlaceLemmas.{from_zero, here_not}
 use Rattle.dep_index.proofs.LinkLemmas.{chosen}
 use Rattle.std.proofs.Common.{inl, inr}
 
--- no place of the rest, where there is none from the next on
+-- no place of the rest, if there is none from the next on
 later : (test : ℕ → Bool) (b : ℕ) (s : List ℕ) (i j : ℕ) → Nowhere (Passes test (b ∷ s)) (suc i) (suc j) → Nowhere (Passes test s) i j
 later test b s i j none k low high is = none (suc k) (omega arith) (omega arith) is
 

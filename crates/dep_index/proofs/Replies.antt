@@ -60,7 +60,7 @@ answer_same table (BeginDrain m) = refl
 answer_same table (BeginRemove m) = refl
 answer_same table (EndRemove m) = refl
 
--- where the reply is Done the call has its effect, and any other changes nothing
+-- if the reply is Done the call has its effect, and any other changes nothing
 pub next_is : (catalogue : List Module) (table : Table) (call : Call) → next catalogue table call ≡ cond (is_done (reply catalogue table call)) (effect table call) table
 next_is catalogue table call = at (refusal catalogue table call) refl where
   refused : (r : Reply) → refusal catalogue table call ≡ Some r → (b : Bool) → is_done r ≡ b → table ≡ cond b (effect table call) table

@@ -151,7 +151,7 @@ accepted catalogue table call done = at (refusal catalogue table call) refl wher
       let same : r ≡ Done = rw e at done in
       absurd (refusal_done catalogue table call (e ∙ ap Some same))
 
--- users are none where the module is not Live
+-- users are none if the module is not Live
 unused_when_down : (catalogue : List Module) (table : Table) (m : ℕ) → IsLawful catalogue table → is_live (state_of table.book m) ≡ false → users catalogue table.book m ≡ []
 unused_when_down catalogue table m lawful down = filter_empty (needs_slot catalogue m) table.book.order nobody where
   present : (u : ℕ) → list_any (λ s. eqb s u) table.book.order ≡ true → is_absent (state_of table.book u) ≡ false

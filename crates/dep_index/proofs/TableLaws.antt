@@ -53,7 +53,7 @@ order_kept book new m s change same stays exact k = at (cases_eq k m) where
       subst (λ (i : ℕ). count_by (λ j. eqb j i) new.order ≡ cond (is_absent (state_of new i)) 0 1) (sym e) at_m
   at (inr ne) = rw (same, change.other k ne) (exact k)
 
--- what a book needs stays Live where the changed slot has no users or becomes Live
+-- what a book needs stays Live if the changed slot has no users or becomes Live
 pub needs_kept : (catalogue : List Module) (book new : Book) (m : ℕ) (s : ModuleState) → StateChange book new m s
     → ((n : ℕ) → n ≢ m → is_absent s ≡ false → needs_slot catalogue n m ≡ true → state_of book n ≡ Live)
     → ((u : ℕ) → is_absent (state_of new u) ≡ false → needs_slot catalogue m u ≡ true → s ≡ Live)
@@ -120,7 +120,7 @@ loading_from Live e = cc
 loading_from Draining e = cc
 loading_from Unloading e = cc
 
--- where no worker holds the slot, each count is 0
+-- if no worker holds the slot, each count is 0
 pub none_held : (rows : List (List ℕ)) (m w : ℕ) → holders rows m ≡ 0 → get_or (get_or rows w []) m 0 ≡ 0
 none_held [] m w none = refl
 none_held (row ∷ rows) m zero none =

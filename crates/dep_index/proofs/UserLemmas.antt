@@ -85,7 +85,7 @@ present q u (x ∷ xs) some e = at (eqb x u) refl (present q u xs) some where
   at true same rest any = or_left (q x) (list_any q xs) (ap q (eqb-true x u same) ∙ e)
   at false other rest any = or_right (q x) (list_any q xs) (rest any e)
 
--- among those that are noted a user is loaded where one is in the order
+-- among those that are noted a user is loaded if one is in the order
 pub loaded_users : (p : ℕ → Bool) (order row : List ℕ) → ((u : ℕ) → p u ≡ true → list_any (λ s. eqb s u) row ≡ true)
     → list_any (λ u. list_any (λ s. eqb s u) order && p u) row ≡ list_any p order
 loaded_users p order row noted = at (list_any (λ u. list_any (λ s. eqb s u) order && p u) row) (list_any p order) refl refl where

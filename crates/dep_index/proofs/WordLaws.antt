@@ -28,7 +28,7 @@ get_look_live : (b : Bool) (n c : ℕ) → eqb c 0 ≡ b
 get_look_live true n c h = (refl, grind (arith, nat_tests), refl)
 get_look_live false n c h = count_answer (leb 65535 c) c refl
 
--- the load of a get answers what the table answers; it goes on to the exchange only where the get will be done
+-- the load of a get answers what the table answers; it goes on to the exchange only if the get will be done
 pub get_look_law : (s : ModuleState) (n c : ℕ) → n < 4294967296
     → MatchOutcome (get_look c (word_in s n)).outcome (λ r. r ≡ get_answer s c) (λ x. (s ≡ Live) × (c ≡ 0) × (x ≡ n))
 get_look_law Absent n c h = refl
@@ -56,7 +56,7 @@ above_drained (suc n) =
     let p : ltb 0 (suc n) ≡ true = grind (arith, nat_tests) in
     e ∙ sym p
 
--- a load of a query answers whether some worker holds the slot, where only Live and Draining modules are held
+-- a load of a query answers whether some worker holds the slot, if only Live and Draining modules are held
 pub query_look_law : (s : ModuleState) (n : ℕ) → n < 4294967296 → (0 < n → takes_references s ≡ true)
     → (query_look (word_in s n)).outcome ≡ Effect (cond (ltb 0 n) Yes No)
 query_look_law Absent n h held = rw (no_holders n held) refl
@@ -69,7 +69,7 @@ closes_at_zero : (b : Bool) (n : ℕ) → ltb 0 n ≡ b → (close_step 0 n).out
 closes_at_zero true n h = let e : eqb n 0 ≡ false = grind (arith, nat_tests) in rw e refl
 closes_at_zero false n h = let e : eqb n 0 ≡ true = grind (arith, nat_tests) in rw e refl
 
--- an exchange of Open 0 is made exactly where nobody holds the slot
+-- an exchange of Open 0 is made exactly if nobody holds the slot
 pub close_open_law : (n : ℕ) → (close_step 0 n).outcome ≡ Effect (unwrap_or (refuse (ltb 0 n) InUse None) Done)
 close_open_law n = closes_at_zero (ltb 0 n) n refl
 

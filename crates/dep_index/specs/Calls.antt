@@ -9,7 +9,7 @@ use Rattle.dep_index.specs.declared.table.calls.Reply.{Reply}
 use Rattle.dep_index.specs.declared.table.calls.Reply.TheVariants.{Done, Yes, No, NotLive, TooMany, NotHeld, Exists, UnknownSymbol, NeedNotLive, NotLoading, NoEntry, NeededBy, Permanent, InUse, NotUnloading}
 use Rattle.dep_index.specs.Table.{Module, Book, Table, module_at, state_of, is_absent, is_loading, is_live, is_draining, is_unloading, count_of, is_held, has_users}
 
--- the refusal, where the test holds; else what is tested next
+-- the refusal, if the test holds; else what is tested next
 abbrev pub refuse : Bool → Reply → Option Reply → Option Reply
 refuse true reply later = Some reply
 refuse false reply later = later
@@ -147,7 +147,7 @@ worker_of (Get w m) = Some w
 worker_of (Put w m) = Some w
 worker_of _ = None
 
--- the worker, where the call names one, is one of so many
+-- the worker, if the call names one, is one of so many
 abbrev pub IsWorkerInRange : ℕ → Option ℕ → Type 0
 IsWorkerInRange workers (Some w) = w < workers
 IsWorkerInRange workers None = Unit {0}

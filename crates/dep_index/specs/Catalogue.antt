@@ -93,12 +93,12 @@ kind_of word =
     else (if is_array word then option_map Array (scalar_of (take (length word - 2) word))
     else option_map One (scalar_of word))
 
--- a size, where the word is one
+-- a size, if the word is one
 abbrev pub with_size : Option ℕ → Option Directive
 with_size None = None
 with_size (Some n) = Some (size n)
 
--- a parameter, where its kind is one
+-- a parameter, if its kind is one
 abbrev pub with_kind : List ℕ → Option ParamKind → Option Directive
 with_kind name None = None
 with_kind name (Some kind) = Some (param name kind)
@@ -140,7 +140,7 @@ version_of (word ∷ []) =
     else (if bytes_eq word (codes "3") then Some (version text.Three) else None)
 version_of _ = None
 
--- what a first word and the words behind it say; None where they have no form of a catalogue line
+-- what a first word and the words behind it say; None if they have no form of a catalogue line
 abbrev pub directive_of : List ℕ → List (List ℕ) → Option Directive
 directive_of word rest =
     if bytes_eq word (codes "module") then begin_of rest
@@ -255,7 +255,7 @@ change v earlier last (param name kind) =
     else Ok (record last { params = last.params ++ (defined v name kind ∷ []) })
 change v earlier last permanent = Ok (record last { permanent = true })
 
--- the last of the modules changes; where there is none the line is bad
+-- the last of the modules changes; if there is none the line is bad
 abbrev pub change_last : Version → List Description → List Description → Directive → Result (List Description) Refusal
 change_last v earlier [] directive = Err bad
 change_last v earlier (m ∷ []) directive = with_last earlier (change v earlier m directive)
@@ -309,7 +309,7 @@ modules_read (Err e) = Err e
 abbrev pub catalogue_of : List ℕ → Result (List Description) (Refusal × ℕ)
 catalogue_of text = modules_read (read_lines 1 no_draft (lines text))
 
--- the slots that are found, and an exporter behind them, where it is another slot and not there
+-- the slots that are found, and an exporter behind them, if it is another slot and not there
 abbrev pub with_need : ℕ → List ℕ → Option ℕ → List ℕ
 with_need m found None = found
 with_need m found (Some k) = if k == m || list_any (nat_eq k) found then found else found ++ (k ∷ [])

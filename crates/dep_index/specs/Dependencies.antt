@@ -39,7 +39,7 @@ abbrev pub before_colon : List ℕ → Option (List ℕ × List ℕ) → Option 
 before_colon front None = None
 before_colon front (Some x) = Some (front ++ x.0, x.1)
 
--- the parts before and behind the first colon, where there is one
+-- the parts before and behind the first colon, if there is one
 abbrev pub at_colon : List ℕ → Option (List ℕ × List ℕ)
 at_colon [] = None
 at_colon (b ∷ s) = if b == 58 then Some ([], s) else before_colon (b ∷ []) (at_colon s)
@@ -84,7 +84,7 @@ dep_lines n pairs (l ∷ ls) = then_pairs n (dep_line pairs l) (λ more. dep_lin
 abbrev pub dependencies_of : List ℕ → Result (List Pair) (DepRefusal × ℕ)
 dependencies_of text = dep_lines 1 [] (lines text)
 
--- the dependencies of a name, where it has a line
+-- the dependencies of a name, if it has a line
 abbrev pub deps : List Pair → List ℕ → Option (List (List ℕ))
 deps [] name = None
 deps (p ∷ ps) name = if bytes_eq name p.0 then Some p.1 else deps ps name

@@ -11,7 +11,7 @@ use Rattle.dep_index.specs.declared.faults.DepRefused.TheVariants as dep_line
 use Rattle.dep_index.specs.declared.faults.DepError.{DepError}
 use Rattle.dep_index.specs.declared.faults.DepError.TheVariants as dep
 
--- the text has this fault first, at this line; want of memory says nothing of the text
+-- the text has this fault first, at this line; out of memory says nothing of the text
 abbrev pub IsFirstFault : {A : Type 0} → CatError → Result A (Refusal × ℕ) → Type 0
 IsFirstFault (cat.Bad n) read = read ≡ Err (bad, n)
 IsFirstFault (cat.Duplicate n) read = read ≡ Err (duplicate, n)
@@ -26,7 +26,7 @@ IsFirstDepFault (dep.EmptyName n) read = read ≡ Err (empty_name, n)
 IsFirstDepFault (dep.SecondLine n) read = read ≡ Err (second_line, n)
 IsFirstDepFault dep.Memory read = Unit {0}
 
--- the line is refused for this; want of memory says nothing of the line
+-- the line is refused for this; out of memory says nothing of the line
 abbrev pub IsRefused : {A : Type 0} → Refused → Result A Refusal → Type 0
 IsRefused line.Bad read = read ≡ Err bad
 IsRefused line.Duplicate read = read ≡ Err duplicate

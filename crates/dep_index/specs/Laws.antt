@@ -49,7 +49,7 @@ AlwaysLawful =
 abbrev pub IsRemoval : ℕ → Call → Type 0
 IsRemoval m call = (call ≡ BeginRemove m) ⊎ (call ≡ EndRemove m)
 
--- where a removal answers Ok, no pair names the module, and it has no users
+-- if a removal answers Ok, no pair names the module, and it has no users
 abbrev pub RemovesUnused : Type 0
 RemovesUnused =
     (catalogue : List Module) (workers : ℕ) (calls : List Call) (m : ℕ) (call : Call)

@@ -64,7 +64,7 @@ put_step count word =
 abbrev pub query_look : ℕ → WordStep
 query_look word = takes_effect word (if shows_holders word then Yes else No)
 
--- exchange this word, where it is found, by closed: made, the call is done; missed, there are references
+-- exchange this word, if it is found, by closed: made, the call is done; missed, there are references
 abbrev pub close_step : ℕ → ℕ → WordStep
 close_step expected word = if word == expected then takes_effect closed Done else takes_effect word InUse
 
@@ -90,7 +90,7 @@ word_step catalogue table (Query m) word = query_look word
 word_step catalogue table call word =
     unless_refused (book_refusal catalogue table.book call) word (book_step table.book call word)
 
--- get: the exchange, by a leaf that does not hold the slot; where it misses, the word is looked at again
+-- get: the exchange, by a leaf that does not hold the slot; if it misses, the word is looked at again
 abbrev pub arrive : ℕ → ℕ → ℕ
 arrive expected word = if word == expected then word + 1 else word
 
@@ -99,8 +99,8 @@ abbrev pub MatchOutcome : Outcome → (Reply → Type 0) → (ℕ → Type 0) �
 MatchOutcome (Effect reply) P Q = P reply
 MatchOutcome (GoesOn word) P Q = Q word
 
--- the first step of a call on its slot's word is right: where it takes effect, it answers what the table answers and leaves
--- the word that belongs to the next table; where it goes on, the call will be Done, and one more on the word is the next one
+-- the first step of a call on its slot's word is right: if it takes effect, it answers what the table answers and leaves
+-- the word that belongs to the next table; if it goes on, the call will be Done, and one more on the word is the next one
 abbrev pub IsRightStep : List Module → Table → Call → WordStep → Type 0
 IsRightStep catalogue table call step =
     MatchOutcome step.outcome
@@ -112,7 +112,7 @@ IsRightStep catalogue table call step =
     × (is_open word ≡ true)
     × (word_of (next catalogue table call) (slot_of call) ≡ word + 1))
 
--- each call's first step on a word is right where the word belongs to its slot, and no call changes what belongs to another slot
+-- each call's first step on a word is right if the word belongs to its slot, and no call changes what belongs to another slot
 abbrev pub WordStepsAreRight : Type 0
 WordStepsAreRight =
     (catalogue : List Module) (workers : ℕ) (table : Table) (call : Call) → IsShaped (length catalogue) workers table

@@ -86,7 +86,7 @@ impl Catalogue {
         name
     }
 
-    /// The size of the module, 0 where the text has none.
+    /// The size of the module, 0 if the text has none.
     pub fn size(&self, slot: usize) -> u32
         requires { slot < length self.now }
         ensures { result ≡ unwrap_or (description_at self.now slot).size 0 }

@@ -43,7 +43,7 @@ impl DepIndex {
         DepIndex { lines }
     }
 
-    /// The names that the name depends on, in the order of its line, repeats kept, or `None` where it has no line.
+    /// The names that the name depends on, in the order of its line, repeats kept, or `None` if it has no line.
     /// The name is compared as it stands: names are kept in normal form.
     pub fn deps(&self, name: &[u8]) -> Option<&[Name]>
         ensures { option_map (λ names. names.now) result ≡ deps self.now name.now }

@@ -10,7 +10,7 @@ pub fn always_lawful()
     ensures { AlwaysLawful }
 {}
 
-/// Where `begin_remove` or `end_remove` answers Ok, no pair names the module, and it has no users.
+/// If `begin_remove` or `end_remove` answers Ok, no pair names the module, and it has no users.
 pub fn removes_unused()
     ensures { RemovesUnused }
 {}
@@ -21,7 +21,7 @@ pub fn stays_shut()
     ensures { StaysShut }
 {}
 
-/// Each call's first step on its slot's word is right, where the word belongs to the slot, and no call changes
+/// Each call's first step on its slot's word is right, if the word belongs to the slot, and no call changes
 /// the word that belongs to another slot.
 pub fn word_steps_are_right()
     ensures { WordStepsAreRight }

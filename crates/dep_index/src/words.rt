@@ -29,7 +29,7 @@ pub const CLOSED: u64 = 1 << 32;
 /// What is added to the word of a module that drains.
 pub const DRAINED: u64 = 1 << 33;
 
-/// A get's load of the word, by a leaf that holds the slot `count` times: it goes on to an exchange where the leaf
+/// A get's load of the word, by a leaf that holds the slot `count` times: it goes on to an exchange if the leaf
 /// holds no reference yet.
 pub fn get_look(count: u16, word: u64) -> WordStep
     ensures { result ≡ get_look count word }
@@ -85,7 +85,7 @@ pub fn takes_effect(word: u64, reply: Reply) -> WordStep
     WordStep { word, outcome }
 }
 
-/// Exchanges the expected word for the closed one; where another word is found, there are references.
+/// Exchanges the expected word for the closed one; if another word is found, there are references.
 pub fn close_step(expected: u64, word: u64) -> WordStep
     ensures { result ≡ close_step expected word }
 {

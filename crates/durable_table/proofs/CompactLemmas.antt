@@ -70,7 +70,7 @@ pub has_first : (lines : List (Vec ℕ Global)) (commands : List (List ℕ)) →
 has_first [] commands is = absurd (omega (arith, ap length is))
 has_first (first ∷ rest) commands is = omega arith
 
--- where nothing is written, the journal stands for the table
+-- if nothing is written, the journal stands for the table
 pub still_stands : {D : Type 0} (content : D → List ℕ) (history : D → History) (s : Setup) (h : Held) (journal : Journal D)
     → Stands content history s h journal → AlwaysLeaves (history journal.device) (history journal.device) (FileStands s h)
 still_stands content history s h journal stands =

@@ -186,7 +186,7 @@ group_stands content history s h now lines sealed written replies old new stands
       same = ap (table_in s) (more ∙ ap (λ l. lines_in content old ++ l) is) ∙ table_in_all s (lines_in content old) sealed h stands.same made.seals ∙ ap Some (made.kept.all ∙ sym made.becomes);
     }
 
--- where nothing is written, the journal stands for the table before the lines
+-- if nothing is written, the journal stands for the table before the lines
 pub none_written : {D : Type 0} (content : D → List ℕ) (history : D → History) (s : Setup) (h : Held) (lines : List (List ℕ)) (journal : Journal D)
     → Stands content history s h journal → AlwaysLeaves (history journal.device) (history journal.device) (AfterFirstOf s h lines)
 none_written content history s h lines journal stands =

@@ -32,7 +32,7 @@ put_stands content history s h line sealed old new stands is ready more =
       same = ap (table_in s) (more ∙ ap (λ bytes. lines_in content old ++ bytes ∷ []) is) ∙ table_in_more s (lines_in content old) line h stands.same;
     }
 
--- where nothing is written, the journal stands for the table before the line
+-- if nothing is written, the journal stands for the table before the line
 pub no_moments : {D : Type 0} (content : D → List ℕ) (history : D → History) (s : Setup) (h : Held) (line : List ℕ) (journal : Journal D)
     → Stands content history s h journal → AlwaysLeaves (history journal.device) (history journal.device) (BeforeOrAfter s h line)
 no_moments content history s h line journal stands =

@@ -33,7 +33,7 @@ pub extern "C" fn gz_book_begin_load(book: &mut GzBook, slot: usize, need: &mut 
     }
 }
 
-/// Ends a load: the module is then live where it went well, else absent.
+/// Ends a load: the module is then live if it went well, else absent.
 ///
 /// NOT_LOADING: its load has not begun. OUT_OF_RANGE: the slot is none of the table.
 #[unsafe(no_mangle)]

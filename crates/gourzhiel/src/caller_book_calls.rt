@@ -1,4 +1,4 @@
-//! The managed calls of the book, on the handle of a caller. Each is BUSY where the lock was taken at each of so many tries.
+//! The managed calls of the book, on the handle of a caller. Each is BUSY if the lock was taken at each of so many tries.
 ghost use Rattle.std.specs.Prelude.{◌≡◌, ◌≢◌, true};
 ghost use Rattle.managed_table.specs.Owned.{SameTable};
 ghost use Rattle.gourzhiel.specs.Called.{BookCallEnded};

@@ -16,7 +16,7 @@ use dep_index::{CatError, Catalogue, read_catalogue};
 use std::alloc::Global;
 use text_parts::Name;
 
-// A want of memory has its number, and no fault of the text has it.
+// Out of memory has a number of its own, which no fault of the text has.
 fn fault(error: CatError, told: &mut usize) -> u32
     ensures memory { result ≡ out_of_memory → error ≡ CatError.Memory }
     ensures fault { (read : Result (List Description) (Refusal × ℕ)) → IsFirstFault error read → FaultTold result told.old told.new read }
@@ -89,7 +89,7 @@ pub extern "C" fn gz_catalogue_slot(
     tell_slot(catalogue.lend(), normal.as_bytes(), slot)
 }
 
-// Once the name is in normal form there is no want of memory.
+// Once the name is in normal form, memory suffices.
 fn tell_slot(catalogue: &Catalogue, normal: &[u8], slot: &mut usize) -> u32
     ensures { SlotFound (slot_named catalogue.now normal.now) slot.old result slot.new }
 {
@@ -132,7 +132,7 @@ pub extern "C" fn gz_catalogue_need(
 /// The name of the module in a slot, written to the front of the buffer, and its length, at most 55.
 ///
 /// OUT_OF_RANGE: the slot is none of the catalogue, and the length is left as it is. TOO_SHORT: the buffer is shorter than
-/// the name, whose length is told; nothing is written.
+/// the name, whose length is reported; nothing is written.
 #[unsafe(no_mangle)]
 pub extern "C" fn gz_catalogue_name(
     catalogue: &mut GzCatalogue,

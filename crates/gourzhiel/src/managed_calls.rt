@@ -24,7 +24,7 @@ fn first_box(
     Ok(Box::new(alloc, OwnCaller::new(alloc, catalogue, workers)?)?)
 }
 
-// Where there is no room for the further caller it goes back.
+// If there is no room for the further caller it goes back.
 fn further_box(alloc: Global, caller: &mut OwnCaller) -> Result<Box<OwnCaller>, AllocError>
     ensures further { IfOk result (λ b. GaveFurther caller.old caller.new b.value) }
     ensures err { IfErr result (λ e. caller.new ≡ caller.old) }

@@ -71,6 +71,6 @@ is_whole written.Whole = true
 is_whole written.Closed = false
 is_whole written.Failed = false
 
--- 1 where a name failed, or the answer was not written whole
+-- 1 if a name failed, or the answer was not written whole
 abbrev pub status_of : Answer → Written → ℕ
 status_of answer how = if answer.failed || not (is_whole how) then 1 else 0

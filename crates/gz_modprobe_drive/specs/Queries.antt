@@ -8,7 +8,7 @@ use Rattle.modprobe_words.specs.declared.switches.Switches.{Switches}
 use Rattle.modprobe_words.specs.declared.wishes.Wish.{Wish}
 use Rattle.modprobe_words.specs.declared.wishes.Wish.TheVariants as wishes
 
--- what a wish asks; none where it is refused
+-- what a wish asks; none if it is refused
 abbrev pub ask_of : Wish → Option Ask
 ask_of wishes.ShowConfig = Some asks.ShowConfig
 ask_of wishes.ShowDepends = Some asks.ShowDepends

@@ -21,7 +21,7 @@ abbrev pub begins_with_space : List ℕ → Bool
 begins_with_space [] = false
 begins_with_space (byte ∷ rest) = is_space byte
 
--- the number that one to ten digits at the beginning are, where white space follows them
+-- the number that one to ten digits at the beginning are, if white space follows them
 abbrev pub number_of : List ℕ → Option ℕ
 number_of text =
     if begins_with_space (drop (prefix_len is_digit text) text)
@@ -31,7 +31,7 @@ number_of text =
 abbrev pub count_of : List ℕ → Option ℕ
 count_of text = number_of (behind_spaces text)
 
--- the number of users, where a module has a text of `refcnt` that is one
+-- the number of users, if a module has a text of `refcnt` that is one
 abbrev pub users_by : Option (List ℕ) → Option ℕ
 users_by None = None
 users_by (Some text) = count_of text

@@ -21,7 +21,7 @@ abbrev pub conf_from : ℕ → Configuration → List (List ℕ) → Configurati
 conf_from source conf [] = conf
 conf_from source conf (text ∷ texts) = conf_from (source + 1) (conf_with_text conf source text) texts
 
--- the kernel's command line, where there is one, after what is there
+-- the kernel's command line, if there is one, after what is there
 unfoldable pub with_command_line : Configuration → ℕ → Option (List ℕ) → Configuration
 with_command_line conf source None = conf
 with_command_line conf source (Some text) = conf_with_command_line conf source text
@@ -40,7 +40,7 @@ conf_of texts = with_texts no_lines texts
 pub record IsConfOf (texts : ConfTexts) (conf : Configuration) : Type 0 where
   pub is : conf ≡ conf_of texts
 
--- a text, where it was read
+-- a text, if it was read
 abbrev pub read_text : Option (Vec ℕ Global) → Option (List ℕ)
 read_text text = option_map (λ text. text.items) text
 
@@ -59,7 +59,7 @@ pub record Large : Type 0 where
 abbrev pub large_texts : LaterTexts → Large
 large_texts later = record { alias = read_text later.alias; symbols = read_text later.symbols }
 
--- the texts of a folder of modules, empty where they were not read
+-- the texts of a folder of modules, empty if they were not read
 abbrev pub texts_with : ModuleTexts → Large → Texts
 texts_with texts large =
     record {
@@ -77,7 +77,7 @@ folder_texts texts later = texts_with texts (large_texts later)
 abbrev pub index_of : ModuleTexts → LaterTexts → Indexes
 index_of texts later = indexes_of (folder_texts texts later)
 
--- a text, where it was read, is this one
+-- a text, if it was read, is this one
 abbrev pub IsThis : Option (List ℕ) → List ℕ → Type 0
 IsThis None whole = Unit {0}
 IsThis (Some text) whole = whole ≡ text

@@ -23,7 +23,7 @@ pub(crate) struct Answered {
 }
 
 impl Answered {
-    /// The exit status: 1 where a name failed, or the output was not written.
+    /// The exit status: 1 if a name failed, or the output was not written.
     pub(crate) fn status(&self) -> u8
         ensures { result ≡ status_of self.now.answer self.now.written }
     {

@@ -1,4 +1,4 @@
-//! How a query is answered: what is read for it, and what is told.
+//! How a query is answered: what is read for it, and what is reported.
 ghost use Rattle.std.specs.Prelude.{◌≡◌, ◌≤◌, None, IfOk};
 ghost use Rattle.gz_modprobe_drive.specs.Answered.{IsEnough, status_of};
 ghost use Rattle.gz_modprobe_drive.specs.Ends.{WasAnswered};
@@ -39,7 +39,7 @@ fn tell_bad_lines<E: Write>(
     Ok(())
 }
 
-/// Tells what is wrong with an answer; that nobody reads it is nothing to tell. The status is answered.
+/// Tells what is wrong with an answer; that nobody reads it is nothing to tell. Returns the status.
 fn tell_answered<S: System, E: Write>(
     host: &Host<'_, S>,
     answered: &Answered,
@@ -58,7 +58,7 @@ fn tell_answered<S: System, E: Write>(
     Ok(answered.status())
 }
 
-/// Answers a query from what was read, and tells what failed. The status is answered.
+/// Answers a query from what was read, and tells what failed. Returns the status.
 fn answer_read<S: System, O: Write, E: Write>(
     host: &Host<'_, S>,
     machine: &Machine<'_>,
@@ -77,7 +77,7 @@ fn answer_read<S: System, O: Write, E: Write>(
 }
 
 /// Answers a query, early if it can be and is not explained. Else modules.alias is read for it, and modules.symbols if it may
-/// matter. The status is answered.
+/// matter. Returns the status.
 fn answer_by<S: System, O: Write, E: Write>(
     host: &Host<'_, S>,
     machine: &Machine<'_>,
@@ -107,7 +107,7 @@ fn answer_by<S: System, O: Write, E: Write>(
     answer_read(host, &whole, conf, query, output, messages)
 }
 
-/// Takes the configuration from its texts and tells what is wrong with it, and answers a query. The status is answered.
+/// Takes the configuration from its texts and tells what is wrong with it, and answers a query. Returns the status.
 fn answer_configured<S: System, O: Write, E: Write>(
     host: &Host<'_, S>,
     machine: &Machine<'_>,
@@ -124,7 +124,7 @@ fn answer_configured<S: System, O: Write, E: Write>(
     answer_by(host, machine, &conf, query, output, messages)
 }
 
-/// Reads the states that a query asks of, and answers it from texts and states. The status is answered.
+/// Reads the states that a query asks of, and answers it from texts and states. Returns the status.
 fn answer_from<S: System, O: Write, E: Write>(
     host: &Host<'_, S>,
     conf: &ConfTexts,
@@ -156,7 +156,7 @@ fn answer_from<S: System, O: Write, E: Write>(
 }
 
 /// Reads what counts for a folder of modules: the configuration and the folder's texts. Then it answers a query from them.
-/// The status is answered.
+/// Returns the status.
 fn answer_in<S: System, O: Write, E: Write>(
     host: &Host<'_, S>,
     configurations: &[&[u8]],
@@ -173,7 +173,7 @@ fn answer_in<S: System, O: Write, E: Write>(
     answer_from(host, &conf, &modules, directory, query, output, messages)
 }
 
-/// Reads what a query asks of, and answers it. The status is answered.
+/// Reads what a query asks of, and answers it. Returns the status.
 pub(crate) fn answer_query<S: System, O: Write, E: Write>(
     host: &Host<'_, S>,
     asked: &Asked<'_>,

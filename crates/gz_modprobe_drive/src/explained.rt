@@ -23,7 +23,7 @@ fn explained(
     explanation(alloc, &sources, world, query)
 }
 
-/// Tells why an answer is as it is, where that is asked for.
+/// Tells why an answer is as it is, if that is asked for.
 pub(crate) fn explain<E: Write>(
     alloc: Global,
     machine: &Machine,

@@ -15,7 +15,7 @@ use std::env::Env;
 use std::io::Write;
 use std::rt::Files;
 
-/// Answers what is asked. The status is answered.
+/// Answers what is asked. Returns the status.
 fn answer_asked<R: Files + Env + AllocGlobal, O: Write, E: Write>(
     rt: &R,
     asked: &Asked<'_>,
@@ -68,7 +68,7 @@ fn all_words<'a>(
     Ok(all)
 }
 
-/// Runs the program on all words. The status is answered.
+/// Runs the program on all words. Returns the status.
 fn run_words<R: Files + Env + AllocGlobal, O: Write, E: Write>(
     rt: &R,
     words: &[&[u8]],
@@ -86,7 +86,7 @@ fn run_words<R: Files + Env + AllocGlobal, O: Write, E: Write>(
     answer_asked(rt, &asked, output, errors)
 }
 
-/// Runs the program on its words and the text of MODPROBE_OPTIONS. The status is answered.
+/// Runs the program on its words and the text of MODPROBE_OPTIONS. Returns the status.
 fn run<R: Files + Env + AllocGlobal, O: Write, E: Write>(
     rt: &R,
     words: &[Vec<u8>],
@@ -104,7 +104,7 @@ fn run<R: Files + Env + AllocGlobal, O: Write, E: Write>(
 }
 
 /// Runs the program on its words, without its own name, and the text of MODPROBE_OPTIONS. It writes the answer to
-/// `output`, and messages to `errors`. The exit status is answered: 0, or 1 where something failed or was refused.
+/// `output`, and messages to `errors`. Returns the exit status: 0, or 1 if something failed or was refused.
 pub fn drive<R: Files + Env + AllocGlobal, O: Write, E: Write>(
     rt: &R,
     words: &[Vec<u8>],

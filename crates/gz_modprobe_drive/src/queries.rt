@@ -6,7 +6,7 @@ ghost use Rattle.gz_modprobe_drive.specs.Queries.{IsQueryOf, ask_of, asks_states
 use kmod_query::{Ask, Query};
 use modprobe_words::{Switches, Wish};
 
-/// What a wish asks, where it is a query.
+/// What a wish asks, if it is a query.
 fn ask_of(wish: Wish) -> Option<Ask>
     ensures { result ≡ ask_of wish }
 {
@@ -21,7 +21,7 @@ fn ask_of(wish: Wish) -> Option<Ask>
     }
 }
 
-/// The query of a wish, None where it is none.
+/// The query of a wish, None if it is none.
 pub(crate) fn query_of<'a>(
     wish: Wish,
     switches: Switches,

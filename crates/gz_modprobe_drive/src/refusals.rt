@@ -1,4 +1,4 @@
-//! What people are told where a command line asks no query.
+//! What people are told if a command line asks no query.
 
 use modprobe_words::{Wish, tell_line, write_parts};
 use std::io::Write;

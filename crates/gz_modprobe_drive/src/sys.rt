@@ -43,7 +43,7 @@ fn begins_with_space(text: &[u8]) -> bool
     matches!(text.first(), Some(byte) if is_space(*byte))
 }
 
-/// The number that one to ten digits at the beginning are, where white space follows them.
+/// The number that one to ten digits at the beginning are, if white space follows them.
 fn number_of(text: &[u8]) -> Option<u64>
     ensures { result ≡ number_of text.now }
 {
@@ -62,7 +62,7 @@ fn count_of(text: &[u8]) -> Option<u64>
     number_of(behind_spaces(text))
 }
 
-/// The text of a file of a module's folder; None where it has none that can be read.
+/// The text of a file of a module's folder; None if it has none that can be read.
 fn text_in<S: System>(
     host: &Host<'_, S>,
     folder: &[u8],
@@ -75,7 +75,7 @@ fn text_in<S: System>(
     }
 }
 
-/// What a module tells by its `initstate`, its folder and its `refcnt`; None where it tells nothing. Without `initstate` it
+/// What a module tells by its `initstate`, its folder and its `refcnt`; None if it tells nothing. Without `initstate` it
 /// is its folder that tells.
 fn status_by(initstate: Option<&[u8]>, folder: Kind, refcnt: Option<&[u8]>) -> Option<ModuleStatus>
     ensures { result ≡ status_by (text_of initstate.entry) folder (text_of refcnt.entry) }
@@ -92,7 +92,7 @@ fn status_by(initstate: Option<&[u8]>, folder: Kind, refcnt: Option<&[u8]>) -> O
     Some(ModuleStatus { state, users })
 }
 
-/// What the folder of a module tells; None where it tells nothing.
+/// What the folder of a module tells; None if it tells nothing.
 fn status_of<S: System>(
     host: &Host<'_, S>,
     folder: &[u8],
@@ -106,7 +106,7 @@ fn status_of<S: System>(
     Ok(status_by(initstate.as_deref(), kind, refcnt.as_deref()))
 }
 
-/// The names in /sys/module. One that is not there has none; one that cannot be read is told.
+/// The names in /sys/module. One that is not there has none; one that cannot be read is reported.
 fn module_names<S: System, E: Write>(
     host: &Host<'_, S>,
     messages: &mut Messages<'_, E>,
@@ -121,7 +121,7 @@ fn module_names<S: System, E: Write>(
     }
 }
 
-/// Adds the state of a module, where it has one.
+/// Adds the state of a module, if it has one.
 fn add_state<S: System>(
     host: &Host<'_, S>,
     name: &[u8],

@@ -68,7 +68,7 @@ no_words_ask : (first name : List ℕ) (ws : List (List ℕ)) → Asks (commands
 no_words_ask first name [] = tt
 no_words_ask first name (word ∷ ws) = tt
 
--- what a line's words ask for, also where it is a comment
+-- what a line's words ask for, also if it is a comment
 asked_by : (line first : List ℕ) (rest : List (List ℕ)) → words line ≡ first ∷ rest → asked.by_first first rest ≡ asked.as_session → asked.asked_of line ≡ asked.as_session
 asked_by line first rest are is = at (is_comment line) (words line) are where
   at : (c : Bool) (ws : List (List ℕ)) → ws ≡ first ∷ rest → cond c asked.as_session (asked.by_words ws) ≡ asked.as_session
@@ -136,7 +136,7 @@ with_held_asks first (holder ∷ []) = at (is_holder_name holder) where
   at false = tt
 with_held_asks first (holder ∷ other ∷ rest) = tt
 
--- a line of such words, also where it is a comment
+-- a line of such words, also if it is a comment
 word_same : (s : Setup) (h : Held) (line first : List ℕ) (rest : List (List ℕ)) → words line ≡ first ∷ rest → AsksHolders (asked.by_first first rest) → (held_line_outcome s h line).1 ≡ h
 unfolding held_line_outcome
 word_same s h line first rest are a = at (is_comment line) refl where

@@ -126,7 +126,7 @@ fn answer_group<H: Holders, D: Device>(
 }
 
 /// Answers the first of these lines, one after another, and adds their replies: as many lines as it takes for a megabyte of
-/// replies, or all. How many is answered. What a line changes is on the disk before its reply is there.
+/// replies, or all. Returns how many. What a line changes is on the disk before its reply is there.
 ///
 /// A crash at any moment leaves the table after the first lines, for some number of them. At an error some lines were
 /// answered, and a crash leaves the table after these, or after more.

@@ -104,7 +104,7 @@ pub(crate) fn unwritten(name: &'static str, error: &io::Error) -> TableFault {
     }
 }
 
-/// A fault of the journal's file, where it is known.
+/// A fault of the journal's file, if it is known.
 pub(crate) fn journal_fault(fault: Option<FileFault>) -> TableFault {
     match fault {
         Some(

@@ -148,7 +148,7 @@ impl<'i, I: Read> InputLines<'i, I> {
         Err(InputFault::Failed)
     }
 
-    /// Reads once, and adds the lines that end. Whether the input has ended is answered.
+    /// Reads once, and adds the lines that end. Returns whether the input has ended.
     fn read_lines(&mut self, piece: &mut [u8], lines: &mut Vec<Vec<u8>>) -> Result<bool, InputFault>
         requires begun { IsLine self.old.begun.items }
         requires lines { AreLines (bytes_of lines.old.items) }

@@ -62,7 +62,7 @@ fn machine_sections(
     Ok(text)
 }
 
-/// The folder of modules of a release, or of the running kernel. None where the release is not known, which is told.
+/// The folder of modules of a release, or of the running kernel. None if the release is not known, which is reported.
 fn folder_of<R: Files + Env + AllocGlobal, E: Write>(
     host: &Host<'_, Disk<'_, R>>,
     release: Option<&[u8]>,
@@ -77,7 +77,7 @@ fn folder_of<R: Files + Env + AllocGlobal, E: Write>(
     directory(host, &asked, messages)
 }
 
-/// Reads a machine's files. None where something is missing without which there is no table, which is told.
+/// Reads a machine's files. None if something is missing without which there is no table, which is reported.
 fn read_machine<R: Files + Env + AllocGlobal, E: Write>(
     host: &Host<'_, Disk<'_, R>>,
     release: Option<&[u8]>,
@@ -101,8 +101,8 @@ fn read_machine<R: Files + Env + AllocGlobal, E: Write>(
     }))
 }
 
-/// The sections of the machine below a root, of a release or of its running kernel. None where something is missing, which
-/// is told.
+/// The sections of the machine below a root, of a release or of its running kernel. None if something is missing, which
+/// is reported.
 pub(crate) fn sections_of_machine<R: Files + Env + AllocGlobal, E: Write>(
     rt: &R,
     release: Option<&[u8]>,

@@ -135,7 +135,7 @@ fn keep_cut<R: Files<File = File> + Clock + AllocGlobal>(
     file.sync_all()
 }
 
-/// Keeps what stands behind the journal's lines, where it is about to be cut off. How many bytes is answered.
+/// Keeps what stands behind the journal's lines, if it is about to be cut off. Returns how many bytes.
 pub(crate) fn keep_torn<R: Files<File = File> + Clock + AllocGlobal>(
     shared: &Shared<'_, R>,
     device: &mut FileDevice<&R>,

@@ -45,7 +45,7 @@ fn lines_behind(lines: &[Vec<u8>], count: usize) -> &[Vec<u8>]
     &lines[count..]
 }
 
-/// Answers lines, in as many tenures as it takes, and writes their replies. How they end together is answered.
+/// Answers lines, in as many tenures as it takes, and writes their replies. Returns how they end together.
 fn answer_group<R: Files<File = File> + Clock + AllocGlobal, O: Write, E: Write>(
     shared: &Shared<'_, R>,
     setup: &Setup,
@@ -146,7 +146,7 @@ fn perform<R: Files<File = File> + Env + Clock + AllocGlobal, I: Read, O: Write,
     }
 }
 
-/// Does what is asked, and tells why where it is not done.
+/// Does what is asked, and tells why if it is not done.
 fn answer_asked<R: Files<File = File> + Env + Clock + AllocGlobal, I: Read, O: Write, E: Write>(
     rt: &R,
     asked: &Asked<'_, '_>,
@@ -197,7 +197,7 @@ fn tell_text<O: Write, E: Write>(
     }
 }
 
-/// Runs the program on its words and the text of GZ_TABLE. The status is answered.
+/// Runs the program on its words and the text of GZ_TABLE. Returns the status.
 pub fn drive<R: Files<File = File> + Env + Clock + AllocGlobal, I: Read, O: Write, E: Write>(
     rt: &R,
     words: &[Vec<u8>],

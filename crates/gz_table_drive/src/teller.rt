@@ -7,7 +7,7 @@ use program_frame::{PathFault, Shown};
 use std::io::{ErrorKind, Write};
 use table_words::Ending;
 
-/// The stream for errors. Where it fails, nobody is told.
+/// The stream for errors. If it fails, nobody is told.
 #[derive(Drop)]
 pub(crate) struct Teller<'e, E> {
     errors: &'e mut E,

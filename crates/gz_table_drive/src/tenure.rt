@@ -127,7 +127,7 @@ fn answer_changing<R: Files<File = File> + Clock + AllocGlobal, E: Write>(
     answered
 }
 
-/// Answers the first of some lines, as `answer_lines` does. The lock is shared where all of them ask.
+/// Answers the first of some lines, as `answer_lines` does. The lock is shared if all of them ask.
 pub(crate) fn answer_in_tenure<R: Files<File = File> + Clock + AllocGlobal, E: Write>(
     shared: &Shared<'_, R>,
     setup: &Setup,

@@ -58,7 +58,7 @@ let_out_again h holder number is_new same num new below = at (place_of h.names h
             absurd (omega arith)
       ]
 
--- The same, where it is said of a new state.
+-- The same, if it is said of a new state.
 pub let_out_new : (h new : Held) (holder : List ℕ) (number : ℕ) (is_new : Bool) → new ≡ entered h holder → number ≡ number_of h.names holder
     → is_new ≡ is_none (place_of h.names holder) → length h.names ≡ length h.table.rows → number < length new.names → let_out is_new number new ≡ h
 let_out_new h new holder number is_new enters num fresh same below =

@@ -55,7 +55,7 @@ IsTold s slots (take_error.Refused code slot) r = r ≡ record { reply = refused
 IsTold s slots take_error.Full r = r ≡ record { reply = refused Worker (first_name s slots); changed = false }
 IsTold s slots take_error.Memory r = ⊥
 
--- A line is answered so: what it says and leaves is what is meant, and where nothing is told to have changed, nothing has.
+-- A line is answered so: what it says and leaves is what is meant, and if nothing is told to have changed, nothing has.
 pub record Answers (reply : HeldReply) (old new : Held) (meant : Outcome × Held) : Type 0 where
   pub says : reply.reply ≡ meant.0
   pub leaves : new ≡ meant.1

@@ -5,7 +5,7 @@ use Rattle.dep_index.specs.Catalogue.{Description}
 use Rattle.modprobe.specs.Setup.{Setup}
 use Rattle.held_table.specs.Held.{Held}
 
--- a name and a count; nothing where the count is 0
+-- a name and a count; nothing if the count is 0
 abbrev pub count_line : List ℕ → ℕ → List ℕ
 count_line name count = if count == 0 then [] else name ++ (codes " " ++ (decimal count ++ 10 ∷ []))
 

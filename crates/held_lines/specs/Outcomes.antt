@@ -89,7 +89,7 @@ by_found h next (Err name) = (refused Enoent name, h)
 abbrev pub done : Outcome
 done = says (codes "ok" ++ 10 ∷ [])
 
--- a holder gives back all references to these modules, or none where it does not hold one of them
+-- a holder gives back all references to these modules, or none if it does not hold one of them
 abbrev pub release_change : Setup → ℕ → List ℕ → Table → Option Refusal → Outcome × Table
 release_change s number slots t None = (done, each_given_back number slots t)
 release_change s number slots t (Some r) = (refuses r, t)
@@ -109,7 +109,7 @@ abbrev pub holders_outcome : Held → List ℕ → Option ℕ → Outcome
 holders_outcome h name None = refused Enoent name
 holders_outcome h name (Some slot) = says (holders_text h slot)
 
--- nothing, where there is no such holder
+-- nothing, if there is no such holder
 abbrev pub held_outcome : Setup → Held → Option ℕ → Outcome
 held_outcome s h None = says []
 held_outcome s h (Some number) = says (held_text s h.table number)

@@ -104,7 +104,7 @@ fn put_back<M: Modules>(setup: &Setup, table: &mut M, number: usize, slots: &[us
     }
 }
 
-/// A holder takes a reference to each of these modules, in order. Where one is refused, or memory runs out, it takes none.
+/// A holder takes a reference to each of these modules, in order. If one is refused, or memory runs out, it takes none.
 #[tactic(auto, using(crate::proofs::SlotLemmas::modules_of_length))]
 pub(crate) fn take_each<M: Modules>(
     setup: &Setup,

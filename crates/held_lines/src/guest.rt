@@ -1,4 +1,4 @@
-//! A holder that takes references: where it is new, it comes in first.
+//! A holder that takes references: if it is new, it comes in first.
 ghost use Rattle.std.specs.Prelude.{◌≡◌, ◌<◌, false, nat_lt, length, Err, IfOk, OnErr, OnOk};
 ghost use Rattle.held_table.specs.Names.{name_bytes};
 ghost use Rattle.held_table.specs.Held.{number_of, entered};

@@ -70,7 +70,7 @@ pub(crate) fn held_line(
     Ok(text)
 }
 
-/// The name of the first of these modules; where there is none it is empty.
+/// The name of the first of these modules; if there is none it is empty.
 pub(crate) fn first_name<'a>(setup: &'a Setup, slots: &[usize]) -> &'a [u8]
     requires { All (λ slot. slot < length setup.now.catalogue) slots.now }
     ensures { result.now ≡ first_name setup.now slots.now }

@@ -70,7 +70,7 @@ count_in_total holdings totals kept w m win min =
     let is = ap (λ r. get_or r m 0) (row_get (length totals) holdings w win) ∙ row_at (length totals) (get_or holdings w no_holding) m min in
     omega (arith, part, is, kept.sums m min)
 
--- where each holder holds the same, the rows are the same
+-- if each holder holds the same, the rows are the same
 pub rows_same : (n : ℕ) (old new : List Holding) → length new ≡ length old → ((v : ℕ) → held_at new v ≡ held_at old v) → map (row_of n) new ≡ map (row_of n) old
 rows_same n old new len same =
     same_list [] (map (row_of n) new) (map (row_of n) old) (length-map new (row_of n) ∙ len ∙ sym (length-map old (row_of n)))

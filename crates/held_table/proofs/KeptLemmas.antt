@@ -39,7 +39,7 @@ kept_from catalogue book rows new names left same also kept =
     subst (λ (n : List (List ℕ)). IsKept catalogue (record { table = record { book = book; rows = new }; names = n })) (sym also)
     (subst (λ (r : List (List ℕ)). IsKept catalogue (record { table = record { book = book; rows = r }; names = names })) (sym same) kept)
 
--- where each count that is held was held by somebody, the laws stay
+-- if each count that is held was held by somebody, the laws stay
 pub lawful_rows : (catalogue : List Module) (book : Book) (old new : List (List ℕ)) → IsLawful catalogue (record { book = book; rows = old })
     → ((w m : ℕ) → 0 < get_or (get_or new w []) m 0 → (j : ℕ) × (get_or (get_or new w []) m 0 ≡ get_or (get_or old j []) m 0))
     → IsLawful catalogue (record { book = book; rows = new })

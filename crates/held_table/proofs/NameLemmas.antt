@@ -46,7 +46,7 @@ map-swap_remove f xs i d e within =
     ∙ ap (take (length xs - 1)) (map-set f xs i (get_or xs (length xs - 1) d) ∙ ap (set (map f xs) i) (sym (get_or-map f xs (length xs - 1) d e last)))
     ∙ ap (λ len. take (len - 1) (set (map f xs) i (get_or (map f xs) (len - 1) e))) (sym (length-map xs f))
 
--- what is said of what was found at a place, where there is one
+-- what is said of what was found at a place, if there is one
 pub if_found : {X : Type 0} (P : X → Type 0) (xs : List X) (i : ℕ) (d : X) (r : Option X) → i < length xs → r ≡ slice_get xs i → IfSome r P → P (get_or xs i d)
 if_found P xs i d r within is said = subst (λ o. IfSome o P) (is ∙ slice_get-get_or xs i d within) said
 
@@ -70,7 +70,7 @@ each_once {X} f (key ∷ keys) apart i j iin jin same = by (cases_lt i j) (cases
   by (inr _) (inl above) = absurd (never j i above jin iin (sym same))
   by (inr h) (inr k) = omega (arith, h, k)
 
--- what is left where the key of a number was swapped out
+-- what is left if the key of a number was swapped out
 pub swapped_out : {X : Type 0} (f : X → List ℕ) (keys left : List X) (i : ℕ) (found : Option X) → i < length (map f keys)
     → found ≡ slice_get keys i → IfSome found (λ k. left ≡ swap_remove keys i k) → map f left ≡ swap_remove (map f keys) i []
 swapped_out f [] left i found within is said = absurd (omega (arith, within))

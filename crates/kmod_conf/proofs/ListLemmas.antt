@@ -28,7 +28,7 @@ some_place f name k (line ∷ lines) =
       | inr t ↦ rw (turned, t) (some_place f name (suc k) lines)
     ]
 
--- a name has a place where some line has it
+-- a name has a place if some line has it
 pub has_line : {X : Type 0} (f : X → List ℕ) (pairs : List (List ℕ × List ℕ)) (inside lines : List X) (places name : List ℕ)
     → ArePlaces pairs (map f inside) → places ≡ places_in pairs name → inside ≡ lines → not (length places == 0) ≡ list_any (λ line. bytes_eq (f line) name) lines
 has_line f pairs inside lines places name are is all =

@@ -19,7 +19,7 @@ counted text = line_text (take 4095 text)
 abbrev pub ends_name : ℕ → Bool
 ends_name byte = byte == 34 || byte == 46 || byte == 61 || is_space byte
 
--- the byte after a name, 0 where it ends the text
+-- the byte after a name, 0 if it ends the text
 abbrev pub name_end : List ℕ → ℕ
 name_end text = slice_index text (position_or_len ends_name text)
 

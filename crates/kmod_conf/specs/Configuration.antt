@@ -26,7 +26,7 @@ pub record Configuration : Type 0 where
 abbrev pub no_lines : Configuration
 no_lines = record { aliases = []; blacklist = []; options = []; installs = []; removes = []; softdeps = []; bad = [] }
 
--- the normal form of a word; none is there where there is no word
+-- the normal form of a word; none is there if there is no word
 abbrev pub name_of_word : List ℕ → Option (List ℕ)
 name_of_word [] = None
 name_of_word (byte ∷ rest) = normal_alias (byte ∷ rest)

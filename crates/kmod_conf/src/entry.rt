@@ -22,7 +22,7 @@ pub(crate) enum Entry {
     Bad(NameLine),
 }
 
-/// The normal form of a word, None where there is no word or it has none.
+/// The normal form of a word, None if there is no word or it has none.
 fn name_of_word(alloc: Global, word: &[u8]) -> Result<Option<Text>, AllocError>
     ensures { IfOk result (λ name. name ≡ name_of_word word.now) }
 {
@@ -60,7 +60,7 @@ fn read_blacklist(alloc: Global, text: &[u8], place: Place) -> Result<Option<Ent
     Ok(Some(Entry::Blacklist(NameLine { name, place })))
 }
 
-/// A name and the text after it, None where it has not both.
+/// A name and the text after it, None if it has not both.
 fn read_text_line(alloc: Global, text: &[u8], place: Place) -> Result<Option<TextLine>, AllocError>
     ensures { IfOk result (λ line. line ≡ text_line place text.now) }
 {
@@ -118,7 +118,7 @@ fn read_softdep(alloc: Global, text: &[u8], place: Place) -> Result<Option<Entry
     })))
 }
 
-/// What a line with this first word and this text after it says, None where it is bad.
+/// What a line with this first word and this text after it says, None if it is bad.
 fn read_known(
     alloc: Global,
     word: &[u8],
@@ -145,7 +145,7 @@ fn read_known(
 }
 
 impl Entry {
-    /// What a line says, None where it is a comment or has no word. A bad line is told by its end, as kmod does.
+    /// What a line says, None if it is a comment or has no word. A bad line is reported by its end, as kmod does.
     pub(crate) fn read(
         alloc: Global,
         line: &[u8],

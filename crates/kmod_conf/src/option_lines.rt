@@ -8,7 +8,7 @@ use crate::line::TextLine;
 use crate::named_lines::NamedLines;
 use std::alloc::{AllocError, Global};
 
-/// The line at a place, where it has text.
+/// The line at a place, if it has text.
 fn filled_at(lines: &[TextLine], place: usize) -> Option<&TextLine>
     ensures { option_copied result ≡ filled_at lines.entry.now place }
 {

@@ -60,7 +60,7 @@ impl<L: Named> PatternLines<L> {
         }
     }
 
-    /// Adds a line after the others. Where memory runs out the list stays as it was.
+    /// Adds a line after the others. If memory runs out the list stays as it was.
     pub(crate) fn push(&mut self, alloc: Global, line: L) -> Result<(), AllocError>
         ensures ok { OnOk result (self.new ≡ self.old ++ line ∷ []) }
         ensures err { OnErr result (self.new ≡ self.old) }

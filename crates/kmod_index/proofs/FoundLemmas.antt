@@ -44,6 +44,6 @@ some_place p k (own ∷ names) = elim (told (p own)) [
   | inr t ↦ rw t (some_place p (suc k) names)
 ]
 
--- a name has a place where it is among the names
+-- a name has a place if it is among the names
 pub has_place : (pairs : List (List ℕ × List ℕ)) (names : List (List ℕ)) (places name : List ℕ) → ArePlaces pairs names → places ≡ places_in pairs name → not (length places == 0) ≡ is_among names name
 has_place pairs names places name are is = ap (λ l. not (length l == 0)) (is ∙ are name) ∙ some_place (bytes_eq name) 0 names

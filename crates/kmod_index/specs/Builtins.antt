@@ -22,7 +22,7 @@ builtin_names text = filter_map builtin_name (lines text)
 abbrev pub is_among : List (List ℕ) → List ℕ → Bool
 is_among names name = list_any (bytes_eq name) names
 
--- the value and the module, where the key is `alias` and neither is empty
+-- the value and the module, if the key is `alias` and neither is empty
 abbrev pub alias_value : List ℕ → Option (List ℕ × List ℕ) → Option (List ℕ × List ℕ)
 alias_value value None = None
 alias_value value (Some parts) =

@@ -42,6 +42,6 @@ abbrev pub needed_by : Option Dependencies → List (List ℕ)
 needed_by None = []
 needed_by (Some line) = needed_names line
 
--- the names of what a module needs, none where it has no line
+-- the names of what a module needs, none if it has no line
 abbrev pub hard_needs : List Dependencies → List ℕ → List (List ℕ)
 hard_needs dependencies name = needed_by (line_of dependencies name)

@@ -34,7 +34,7 @@ byte_before plain c d =
     if plain && is_wild c && not (is_wild d) then false
     else (if plain && not (is_wild c) && is_wild d then true else nat_lt d c)
 
--- whether what has the first key comes before what has the second, where a name matches both: a key that ends where
+-- whether what has the first key comes before what has the second, if a name matches both: a key that ends where
 -- they part is the first. kmod walks its trie, wildcards first and by rising bytes, and puts what it finds in front.
 abbrev pub comes_before : Bool → List ℕ → List ℕ → Bool
 comes_before plain p [] = false

@@ -81,7 +81,7 @@ fn is_key_match(alloc: Global, key: &[u8], name: &[u8]) -> Result<bool, AllocErr
     Ok(patterns.first(alloc, name)?.is_some())
 }
 
-/// Adds an alias, where a name matches its key.
+/// Adds an alias, if a name matches its key.
 fn add_match(
     alloc: Global,
     found: &mut Vec<IndexLine>,
@@ -96,7 +96,7 @@ fn add_match(
     Ok(())
 }
 
-/// Adds the alias that the line of this number is, where a name matches its key.
+/// Adds the alias that the line of this number is, if a name matches its key.
 fn add_line(
     alloc: Global,
     found: &mut Vec<IndexLine>,
@@ -133,7 +133,7 @@ pub(crate) fn matching_aliases(
     Ok(found)
 }
 
-/// Adds the alias that the line of this number is, where it is one.
+/// Adds the alias that the line of this number is, if it is one.
 fn add_alias(
     alloc: Global,
     found: &mut Vec<IndexLine>,

@@ -94,7 +94,7 @@ impl Aliases {
         }
     }
 
-    /// Adds an alias after the others. Where memory runs out they stay as they were.
+    /// Adds an alias after the others. If memory runs out they stay as they were.
     pub(crate) fn push(&mut self, alloc: Global, line: IndexLine) -> Result<(), AllocError>
         ensures ok { OnOk result (self.new ≡ self.old ++ line ∷ []) }
         ensures err { OnErr result (self.new ≡ self.old) }
@@ -105,7 +105,7 @@ impl Aliases {
         Ok(())
     }
 
-    /// Adds the alias that a line is, where it is one.
+    /// Adds the alias that a line is, if it is one.
     fn add_line(&mut self, alloc: Global, number: usize, line: &[u8]) -> Result<(), AllocError>
         ensures { OnOk result (self.new ≡ self.old ++ option_to_list (alias_of_line (number, line.now))) }
     {

@@ -36,7 +36,7 @@ fn begins_with_letter(line: &[u8]) -> bool
     matches!(line.first(), Some(byte) if byte.is_ascii_alphabetic())
 }
 
-/// Adds the name in a line's path, where it has one.
+/// Adds the name in a line's path, if it has one.
 fn add_line(
     alloc: Global,
     names: &mut Vec<Text>,

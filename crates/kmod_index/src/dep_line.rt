@@ -39,7 +39,7 @@ fn names_of(alloc: Global, paths: &[&[u8]]) -> Result<Vec<Text>, AllocError>
 }
 
 impl<'a> DepLine<'a> {
-    /// The line of this number, from 1, None where it has no colon.
+    /// The line of this number, from 1, None if it has no colon.
     pub(crate) fn read(number: usize, line: &'a [u8]) -> Option<DepLine<'a>>
         ensures { result ≡ dependencies_of_line (number, line.entry.now) }
     {
@@ -51,7 +51,7 @@ impl<'a> DepLine<'a> {
         })
     }
 
-    /// The path of the module's file, as it stands: below the folder of modules.dep, or from the root where it begins
+    /// The path of the module's file, as it stands: below the folder of modules.dep, or from the root if it begins
     /// with `/`.
     pub fn path(&self) -> &'a [u8]
         ensures { result.now ≡ self.now.path }
@@ -103,7 +103,7 @@ impl Model for OwnedLine {
 }
 
 impl OwnedLine {
-    /// The line of this number, from 1, None where it has no colon.
+    /// The line of this number, from 1, None if it has no colon.
     pub(crate) fn read(
         alloc: Global,
         number: usize,
@@ -128,7 +128,7 @@ impl OwnedLine {
         name_of_path(alloc, self.path.as_bytes())
     }
 
-    /// The line, where it stands here.
+    /// The line, if it stands here.
     pub(crate) fn lent(&self) -> DepLine<'_>
         ensures { result ≡ self.now }
     {

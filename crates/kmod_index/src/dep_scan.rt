@@ -8,7 +8,7 @@ use crate::path_names::is_name_of_path;
 use std::alloc::{AllocError, Global};
 use text_parts::whole_lines;
 
-/// The line of this number, where its module has this name.
+/// The line of this number, if its module has this name.
 fn named_line<'a>(number: usize, line: &'a [u8], name: &[u8]) -> Option<DepLine<'a>>
     ensures { result ≡ line_of (option_to_list (dependencies_of_line (number, line.entry.now))) name.now }
 {
@@ -20,7 +20,7 @@ fn named_line<'a>(number: usize, line: &'a [u8], name: &[u8]) -> Option<DepLine<
     }
 }
 
-/// The first line of the module of this name, None where it has none. Names have `_` for each `-`.
+/// The first line of the module of this name, None if it has none. Names have `_` for each `-`.
 pub(crate) fn find_line<'a>(text: &'a [u8], name: &[u8]) -> Option<DepLine<'a>>
     ensures { result ≡ line_of (dependencies_of text.entry.now) name.now }
 {
@@ -35,7 +35,7 @@ pub(crate) fn find_line<'a>(text: &'a [u8], name: &[u8]) -> Option<DepLine<'a>>
     None
 }
 
-/// Adds the line of this number, where it has a colon.
+/// Adds the line of this number, if it has a colon.
 fn add_line<'a>(
     found: &mut Vec<DepLine<'a>>,
     number: usize,

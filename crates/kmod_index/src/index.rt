@@ -84,7 +84,7 @@ impl<'a> Index<'a> {
         Ok(Index { texts, tables })
     }
 
-    /// The first line of modules.dep of the module of this name, None where it has none. Names have `_` for each `-`.
+    /// The first line of modules.dep of the module of this name, None if it has none. Names have `_` for each `-`.
     pub fn find(&self, name: &[u8]) -> Option<DepLine<'_>>
         ensures { result ≡ line_of self.now.dependencies name.now }
     {
@@ -94,7 +94,7 @@ impl<'a> Index<'a> {
         }
     }
 
-    /// The names of the modules that a module needs, in the order in which they are loaded, none where it has no line. It
+    /// The names of the modules that a module needs, in the order in which they are loaded, none if it has no line. It
     /// fails only if memory runs out.
     pub fn hard_needs(&self, alloc: Global, name: &[u8]) -> Result<Vec<Text>, AllocError>
         ensures { IfOk result (λ names. names.items ≡ hard_needs self.now.dependencies name.now) }

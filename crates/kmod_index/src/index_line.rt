@@ -53,7 +53,7 @@ impl IndexLine {
         })
     }
 
-    /// The line of this number, None where it has another form.
+    /// The line of this number, None if it has another form.
     pub(crate) fn read(
         alloc: Global,
         number: usize,
@@ -67,7 +67,7 @@ impl IndexLine {
         }
     }
 
-    /// The line of an alias of this number, with its key in normal form; None where the key's brackets do not match.
+    /// The line of an alias of this number, with its key in normal form; None if the key's brackets do not match.
     pub(crate) fn of_alias(
         alloc: Global,
         number: usize,
@@ -86,7 +86,7 @@ impl IndexLine {
         }))
     }
 
-    /// The alias that the line of this number is, None where it is none.
+    /// The alias that the line of this number is, None if it is none.
     pub(crate) fn read_alias(
         alloc: Global,
         number: usize,

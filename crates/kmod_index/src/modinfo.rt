@@ -12,7 +12,7 @@ use crate::trie_order::in_order;
 use std::alloc::{AllocError, Global};
 use text_parts::is_same;
 
-/// The value and the module of a key and its value, where the key is that of an alias.
+/// The value and the module of a key and its value, if the key is that of an alias.
 fn alias_value<'a>(key: &'a [u8], value: &'a [u8]) -> Option<(&'a [u8], &'a [u8])>
     ensures { MatchOption result
         (alias_value value.entry.now (at_first 46 key.entry.now) ≡ None)
@@ -36,7 +36,7 @@ fn modinfo_parts(entry: &[u8]) -> Option<(&[u8], &[u8])>
     alias_value(key, value)
 }
 
-/// Adds the alias of the entry of this number, where it has one.
+/// Adds the alias of the entry of this number, if it has one.
 fn add_entry(
     aliases: &mut Aliases,
     alloc: Global,

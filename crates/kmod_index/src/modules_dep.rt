@@ -29,7 +29,7 @@ impl Model for ModulesDep {
     ghost invariant = { λ dep. ArePlaces dep.names (map name_of dep.lines.items) };
 }
 
-/// Adds a line, where it has a colon.
+/// Adds a line, if it has a colon.
 fn add_line(
     alloc: Global,
     lines: &mut Vec<OwnedLine>,
@@ -61,7 +61,7 @@ fn line_at(lines: &[OwnedLine], place: usize) -> Option<DepLine<'_>>
 }
 
 impl ModulesDep {
-    /// The first line of the module of this name, None where it has none. Names have `_` for each `-`.
+    /// The first line of the module of this name, None if it has none. Names have `_` for each `-`.
     pub(crate) fn find(&self, name: &[u8]) -> Option<DepLine<'_>>
         ensures { result ≡ line_of self.now name.now }
     {

@@ -7,7 +7,7 @@ use crate::index_line::{IndexLine, alias_parts};
 use std::alloc::{AllocError, Global};
 use text_parts::{is_same, whole_lines};
 
-/// Adds the line of this number, where it has this key.
+/// Adds the line of this number, if it has this key.
 fn add_match(
     alloc: Global,
     found: &mut Vec<IndexLine>,
@@ -44,7 +44,7 @@ pub(crate) fn symbols_of_key(
     Ok(found)
 }
 
-/// Adds the line of this number, where it has a key.
+/// Adds the line of this number, if it has a key.
 fn add_line(
     alloc: Global,
     found: &mut Vec<IndexLine>,

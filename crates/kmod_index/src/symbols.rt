@@ -31,7 +31,7 @@ impl Model for Symbols {
     ghost invariant = { λ symbols. ArePlaces symbols.keys (map key_of symbols.lines.items) };
 }
 
-/// Adds a line, where it has a key.
+/// Adds a line, if it has a key.
 fn add_line(
     alloc: Global,
     lines: &mut Vec<IndexLine>,

@@ -136,7 +136,7 @@ some_named name k (own ∷ patterns) h =
       | inr t ↦ rw (turned, t) (some_named name (suc k) patterns h)
     ]
 
--- a literal text has a place where some pattern is that text
+-- a literal text has a place if some pattern is that text
 pub has_literal : (patterns : List (List ℕ)) (literals : List (List ℕ × List ℕ)) (others : List Alias) (other_places name places : List ℕ)
     → FindsEach patterns literals others other_places → is_literal name ≡ true → places ≡ places_in literals name
     → not (length places == 0) ≡ list_any (λ own. bytes_eq own name) patterns

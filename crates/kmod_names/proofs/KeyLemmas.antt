@@ -18,7 +18,7 @@ Pair = Vec ℕ Global × Vec ℕ Global
 abbrev pub pair_of : Pair → List ℕ × List ℕ
 pair_of entry = (entry.0.items, entry.1.items)
 
--- the items of a vector, where there is one
+-- the items of a vector, if there is one
 abbrev items_or : Option (Vec ℕ Global) → List ℕ
 items_or None = []
 items_or (Some places) = places.items
@@ -136,7 +136,7 @@ map_own : (names : List (List ℕ)) → map (λ name. name) names ≡ names
 map_own [] = refl
 map_own (name ∷ names) = ap (λ l. name ∷ l) (map_own names)
 
--- the same, where each is its own key
+-- the same, if each is its own key
 pub own_added : (old new : List (List ℕ × List ℕ)) (olds news : List (List ℕ)) (name key : List ℕ) (place : ℕ)
     → ArePlaces old olds → new ≡ with_place old key place → key ≡ name → place ≡ length olds → news ≡ olds ++ name ∷ [] → ArePlaces new news
 own_added old new olds news name key place h put own last pushed =

@@ -7,7 +7,7 @@ pub told : (b : Bool) → (b ≡ true) ⊎ (b ≡ false)
 told true = inl refl
 told false = inr refl
 
--- the place of what is added, where it passes
+-- the place of what is added, if it passes
 abbrev pub place_if : Bool → ℕ → List ℕ
 place_if passes place = cond passes (place ∷ []) []
 

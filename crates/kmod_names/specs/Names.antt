@@ -17,7 +17,7 @@ abbrev pub put_before : List ℕ → Option (List ℕ) → Option (List ℕ)
 put_before front None = None
 put_before front (Some rest) = Some (front ++ rest)
 
--- `_` for each `-` outside `[..]`; none where a `]` stands outside or a `[` is open at the end
+-- `_` for each `-` outside `[..]`; none if a `]` stands outside or a `[` is open at the end
 abbrev pub normal_from : Bool → List ℕ → Option (List ℕ)
 normal_from is_set [] = if is_set then None else Some []
 normal_from is_set (byte ∷ rest) =
@@ -28,7 +28,7 @@ normal_from is_set (byte ∷ rest) =
 abbrev pub normal_alias : List ℕ → Option (List ℕ)
 normal_alias text = normal_from false text
 
--- what follows the last slash of a text, where there is one; else the base so far
+-- what follows the last slash of a text, if there is one; else the base so far
 abbrev pub base_from : List ℕ → List ℕ → List ℕ
 base_from base [] = base
 base_from base (byte ∷ rest) = base_from (if byte == 47 then rest else base) rest

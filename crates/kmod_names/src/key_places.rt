@@ -95,7 +95,7 @@ impl KeyPlaces {
         }
     }
 
-    /// The places of one key or of another, in rising order and each once, where the places of each key rise.
+    /// The places of one key or of another, in rising order and each once, if the places of each key rise.
     pub fn of_either(
         &self,
         alloc: Global,
@@ -108,7 +108,7 @@ impl KeyPlaces {
         merged(alloc, self.of(one), self.of(other))
     }
 
-    /// Adds a place of a key. Where memory runs out no key has other places than before.
+    /// Adds a place of a key. If memory runs out no key has other places than before.
     pub fn add(&mut self, alloc: Global, key: &[u8], place: usize) -> Result<(), AllocError>
         ensures ok { OnOk result (self.new ≡ with_place self.old key.now place) }
         ensures err { OnErr result ((other : List ℕ) → places_in self.new other ≡ places_in self.old other) }

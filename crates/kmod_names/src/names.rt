@@ -27,7 +27,7 @@ fn is_set_after(is_set: bool, byte: u8) -> bool
     if is_set { byte != b']' } else { byte == b'[' }
 }
 
-/// The text of a name or an alias in normal form: `_` for each `-` that stands outside `[..]`. None where a `]` stands
+/// The text of a name or an alias in normal form: `_` for each `-` that stands outside `[..]`. None if a `]` stands
 /// outside or a `[` has no `]` after it. It fails only if memory runs out.
 pub fn normal_alias(alloc: Global, text: &[u8]) -> Result<Option<Text>, AllocError>
     ensures { IfOk result (λ found. found ≡ normal_alias text.now) }

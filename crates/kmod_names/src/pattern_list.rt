@@ -87,7 +87,7 @@ fn items_at(alloc: Global, items: &[usize], places: &[usize]) -> Result<Vec<usiz
     Ok(found)
 }
 
-/// The alias of a pattern, None where the pattern cannot be read.
+/// The alias of a pattern, None if the pattern cannot be read.
 fn read_alias(alloc: Global, pattern: &[u8]) -> Result<Option<Alias>, AllocError>
     ensures { IfOk result (λ found. option_map (λ alias. alias.pattern) found ≡ result_ok (pattern_of pattern.now)) }
 {
@@ -104,7 +104,7 @@ fn no_match(alloc: Global) -> Result<Alias, AllocError>
     }
 }
 
-/// An alias whose pattern matches as the text does, also where the text cannot be read.
+/// An alias whose pattern matches as the text does, also if the text cannot be read.
 fn alias_for(alloc: Global, pattern: &[u8]) -> Result<Alias, AllocError>
     ensures { IfOk result (λ alias. IsReadAs pattern.now alias.pattern) }
 {
@@ -153,7 +153,7 @@ impl PatternList {
         Ok(())
     }
 
-    /// Adds a pattern after the others. Where memory runs out the list stays as it was.
+    /// Adds a pattern after the others. If memory runs out the list stays as it was.
     pub fn push(&mut self, alloc: Global, pattern: &[u8]) -> Result<(), AllocError>
         ensures ok { OnOk result (self.new ≡ self.old ++ pattern.now ∷ []) }
         ensures err { OnErr result (self.new ≡ self.old) }

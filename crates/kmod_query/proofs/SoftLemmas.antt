@@ -69,7 +69,7 @@ first_found [] (Some found) h = absurd (cc (h.0))
 first_found (x ∷ xs) None h = absurd (cc (h))
 first_found (x ∷ xs) (Some found) h = sym (lt-ltb 0 (length (x ∷ xs)) (zero-lt-suc (length xs)))
 
--- where the first item before a module is none, that after it tells whether the module has soft items
+-- if the first item before a module is none, that after it tells whether the module has soft items
 pub has_after : (facts : Facts) (name : List ℕ) (before after : Option Found) (b a : Bool) → b ≡ is_some before → a ≡ is_some after → b ≡ false
     → IsFound (soft_of facts Before name) 0 before → IsFound (soft_of facts After name) 0 after → a ≡ has_soft_items facts name
 has_after facts name before after b a p q none x y =

@@ -1,4 +1,4 @@
--- Where names are resolved that are no symbols' names, the answer does not depend on modules.symbols.
+-- If names are resolved that are no symbols' names, the answer does not depend on modules.symbols.
 use Rattle.std.proofs.Common.{◌≡◌, ℕ, ◌==◌, Bool, true, false, cond, List, [], ◌∷◌, ◌++◌, fold, length, refl, sym, ◌∙◌, ap, Option, Some, None}
 use Rattle.std.specs.List.{list_all}
 use Rattle.text_parts.specs.Text.{texts_of}

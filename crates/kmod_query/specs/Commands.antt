@@ -8,7 +8,7 @@ abbrev pub is_unlisted : Facts → List ℕ → Option (List ℕ) → Bool
 is_unlisted facts name alias = is_none alias && not (facts.is_loadable name)
 
 -- A line of its very name, by which such a module is found, gives it that line's command: the install line, and only
--- where there is none the remove line.
+-- if there is none the remove line.
 abbrev pub own_install : Facts → List ℕ → Option (List ℕ) → Option (List ℕ)
 own_install facts name alias = if is_unlisted facts name alias then facts.install_named name else None
 

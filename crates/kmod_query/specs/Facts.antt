@@ -5,7 +5,7 @@ use Rattle.kmod_query.specs.declared.states.ModuleStatus.{ModuleStatus}
 -- A name that is asked for is in normal form. Modules that lines and files name stand as they were read, and so do words of
 -- softdep lines.
 pub record Facts : Type 0 where
-  -- the normal form of a word, None where its brackets do not match
+  -- the normal form of a word, None if its brackets do not match
   pub normal : List ℕ → Option (List ℕ)
   -- the configuration's aliases that match a name: pattern and module (modprobe.d(5))
   pub configured : List ℕ → List (List ℕ × List ℕ)

@@ -9,7 +9,7 @@ use Rattle.kmod_query.specs.Facts.{Facts}
 use Rattle.kmod_query.specs.Objects.{Object, is_same}
 use Rattle.kmod_query.specs.Probes.{before_of, after_of}
 
--- a text after another, with a blank between them where the first is not empty
+-- a text after another, with a blank between them if the first is not empty
 abbrev pub joined : List ℕ → List ℕ → List ℕ
 joined front text = if length front == 0 then text else front ++ (32 ∷ text)
 

@@ -72,7 +72,7 @@ answer_found facts query parameters word found =
 abbrev pub answer_name : Facts → Query → List ℕ → List ℕ → Answer
 answer_name facts query parameters word = answer_found facts query parameters word (look_up facts word)
 
--- a name and its parameters, where words are not all names
+-- a name and its parameters, if words are not all names
 abbrev pub answer_one : Facts → Query → List (List ℕ) → Answer
 answer_one facts query [] = nothing
 answer_one facts query (word ∷ parameters) = answer_name facts query (parameter_text parameters) word

@@ -16,7 +16,7 @@ by_alias alias builtin names = map (by_one_alias alias builtin) names
 abbrev pub by_patterns : List (List ℕ × List ℕ) → List Object
 by_patterns pairs = map (λ pair. by_one_alias pair.0 false pair.1) pairs
 
--- the name itself, where it is known
+-- the name itself, if it is known
 abbrev pub itself : Bool → List ℕ → List Object
 itself known name = if known then by_name name ∷ [] else []
 

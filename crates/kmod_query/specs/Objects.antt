@@ -7,7 +7,7 @@ use Rattle.std.specs.Global.{Global}
 use Rattle.std.specs.Str.{bytes_eq}
 use Rattle.kmod_query.specs.declared.object.Object.{Object as CodeObject}
 
--- a module, the alias by which it was found, where it was by one, and whether that is an alias of a built-in module
+-- a module, the alias by which it was found, if it was by one, and whether that is an alias of a built-in module
 pub record Object : Type 0 where
   pub name : List ℕ
   pub alias : Option (List ℕ)

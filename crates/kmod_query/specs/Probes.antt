@@ -31,7 +31,7 @@ probe_tasks facts object = map (λ need. fill (by_name need)) (facts.needs objec
 abbrev pub bare_tasks : Facts → Object → List Task
 bare_tasks facts object = map (λ need. fill (by_name need)) (facts.needs object.name) ++ (add object ∷ [])
 
--- What tasks add to the list, where some objects were met. An object is probed once: where it was met, nothing is
+-- What tasks add to the list, if some objects were met. An object is probed once: if it was met, nothing is
 -- done. The number counts the steps that may be made.
 unfoldable pub run : Facts → ℕ → List Object → List Task → List Object
 run facts zero met tasks = []

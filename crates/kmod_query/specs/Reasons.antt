@@ -25,7 +25,7 @@ pub data Reason : Type 0 where
 abbrev pub unless_empty : {X : Type 0} → List X → (List X → Reason) → Reason → Reason
 unless_empty xs reason later = if nat_lt 0 (length xs) then reason xs else later
 
--- the modules that export the symbol of a name, where it is that of one
+-- the modules that export the symbol of a name, if it is that of one
 abbrev pub exporters_of : Facts → List ℕ → List (List ℕ)
 exporters_of facts name = if is_symbol name then facts.exporters name else []
 

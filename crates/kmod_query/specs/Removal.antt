@@ -53,7 +53,7 @@ removed_before facts query name = if query.ignore_commands then [] else after_of
 abbrev pub removed_after : Facts → Query → List ℕ → List Object
 removed_after facts query name = if query.ignore_commands then [] else before_of facts name
 
--- states and users count where no command removes the module
+-- states and users count if no command removes the module
 abbrev pub counts_state : Facts → Query → Object → Bool
 counts_state facts query object = not (is_some (removal_command facts query object)) && is_remove query.ask
 
@@ -96,7 +96,7 @@ absent_verdict query object = if query.first_time then refuse (NotInKernel objec
 abbrev pub builtin_verdict : Bool → Object → Verdict
 builtin_verdict soft object = if soft then pass else refuse (Builtin object.name)
 
--- a built-in module is passed over where it is a soft item
+-- a built-in module is passed over if it is a soft item
 abbrev pub verdict : Facts → Query → Bool → Object → Verdict
 verdict facts query soft object =
     if not (counts_state facts query object) then remove
@@ -109,7 +109,7 @@ is_in_use facts query object = counts_state facts query object && has_users (fac
 abbrev pub option_mark : List ℕ
 option_mark = codes "$CMDLINE_OPTS"
 
--- a text without the mark, where some of its first bytes are left out
+-- a text without the mark, if some of its first bytes are left out
 abbrev pub unmarked_from : ℕ → List ℕ → List ℕ
 unmarked_from skipped [] = []
 unmarked_from (suc skipped) (byte ∷ rest) = unmarked_from skipped rest

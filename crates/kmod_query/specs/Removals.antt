@@ -20,7 +20,7 @@ removal_of Leave = leave
 abbrev pub removals_of : List Removal → List Task
 removals_of tasks = reverse (map removal_of tasks)
 
--- names with one more after them, where it is not there
+-- names with one more after them, if it is not there
 abbrev pub with_name : List (List ℕ) → List ℕ → List (List ℕ)
 with_name names name = if list_any (bytes_eq name) names then names else names ++ name ∷ []
 

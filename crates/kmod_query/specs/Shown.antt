@@ -29,11 +29,11 @@ alias_line own = line (codes "alias ") own.pattern own.target
 abbrev pub spaced : List (List ℕ) → List ℕ
 spaced words = flat_map (λ word. 32 ∷ word) words
 
--- a mark and the words after it, where there are any
+-- a mark and the words after it, if there are any
 abbrev pub marked : List ℕ → List (List ℕ) → List ℕ
 marked mark words = if length words == 0 then [] else mark ++ spaced words
 
--- with a blank between them where there are both
+-- with a blank between them if there are both
 abbrev pub soft_items : List ℕ → List ℕ → List ℕ
 soft_items pre post = if length post == 0 then pre else joined pre post
 

@@ -53,7 +53,7 @@ IsFront met zero objects = Unit {0}
 IsFront met (suc count) [] = ⊥
 IsFront met (suc count) (object ∷ objects) = (has met object ≡ true) × IsFront met count objects
 
--- what a map has at a name; 0 where it has nothing
+-- what a map has at a name; 0 if it has nothing
 abbrev pub count_in : List (Vec ℕ Global × ℕ) → List ℕ → ℕ
 count_in entries name = unwrap_or (lookup (λ (key : Vec ℕ Global). bytes_eq name key.items) entries) 0
 

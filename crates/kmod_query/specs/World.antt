@@ -30,7 +30,7 @@ abbrev pub post_of : Option SoftdepLine → List (List ℕ)
 post_of None = []
 post_of (Some line) = line.items.post
 
--- the file of a path of modules.dep: below the folder, where the path does not begin with a slash
+-- the file of a path of modules.dep: below the folder, if the path does not begin with a slash
 abbrev pub file_of : List ℕ → List ℕ → List ℕ
 file_of directory path = if slice_index path 0 == 47 then path else directory ++ (47 ∷ path)
 

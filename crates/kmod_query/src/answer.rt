@@ -51,7 +51,7 @@ impl Answer {
         &self.output
     }
 
-    /// What failed, in the order in which it is told on standard error.
+    /// What failed, in the order in which it is reported on standard error.
     pub fn failures(&self) -> &[Failure]
         ensures { result.now ≡ self.now.failures }
     {
@@ -90,7 +90,7 @@ impl Answer {
         Answer::noted(alloc, false, failure)
     }
 
-    /// A failure that counts for the status where it is not that of a soft item.
+    /// A failure that counts for the status if it is not that of a soft item.
     pub(crate) fn noted(alloc: Global, soft: bool, failure: Failure) -> Result<Answer, AllocError>
         ensures { IfOk result (λ answer. answer ≡ noted soft failure) }
     {

@@ -27,7 +27,7 @@ fn own_install<'a>(world: &World<'a>, name: &[u8], alias: Option<&[u8]>) -> Opti
     }
 }
 
-/// The remove line by which a module was found, where no install line has its name.
+/// The remove line by which a module was found, if no install line has its name.
 fn own_remove<'a>(world: &World<'a>, name: &[u8], alias: Option<&[u8]>) -> Option<&'a TextLine>
     ensures { option_map text_of (option_copied result) ≡ own_remove (facts_of world.now) name.now (option_map (λ own. own.now) alias.entry) }
 {
@@ -38,7 +38,7 @@ fn own_remove<'a>(world: &World<'a>, name: &[u8], alias: Option<&[u8]>) -> Optio
     }
 }
 
-/// The install line that counts for a module where it has no soft items, by the module's name and the alias by which it
+/// The install line that counts for a module if it has no soft items, by the module's name and the alias by which it
 /// came: the line of just this name that found it, or else the first whose pattern matches. It fails only if memory runs
 /// out.
 pub fn install_line<'a>(
@@ -73,7 +73,7 @@ pub fn remove_line<'a>(
     }
 }
 
-/// The text of a line, where there is one.
+/// The text of a line, if there is one.
 pub(crate) fn text_in(line: Option<&TextLine>) -> Option<&[u8]>
     ensures { option_copied result ≡ option_map text_of (option_copied line.entry) }
 {

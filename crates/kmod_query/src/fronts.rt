@@ -73,7 +73,7 @@ impl Fronts {
         }
     }
 
-    /// The item at an index is met, and `next` is the index after it. It is noted where all before it are known to be met.
+    /// The item at an index is met, and `next` is the index after it. It is noted if all before it are known to be met.
     pub(crate) fn meet(
         &mut self,
         alloc: Global,

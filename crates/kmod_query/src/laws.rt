@@ -24,7 +24,7 @@ pub fn show_depends_ignores_states()
 {}
 
 /// Under `--all`, but for removals, the lines are those of each name alone, in turn; so are the failures, and the status is 1
-/// where it is so for a name.
+/// if it is so for a name.
 pub fn names_are_answered_in_turn()
     ensures lines { (facts : Facts) (query : Query) (words : List (List ℕ)) → query.all ≡ true
         → (answer_names facts query words).output
@@ -37,7 +37,7 @@ pub fn names_are_answered_in_turn()
         ≡ list_any (λ word. (answer_names facts query (word ∷ [])).failed) words }
 {}
 
-/// A module that is asked for is not loaded, nor what goes with it, where it is on the blacklist and was found by an alias, or
+/// A module that is asked for is not loaded, nor what goes with it, if it is on the blacklist and was found by an alias, or
 /// is on it under `--use-blacklist`. Of needs and soft items of other modules it says nothing.
 pub fn blacklisted_modules_are_not_loaded()
     ensures alias { (facts : Facts) (query : Query) (parameters : List ℕ) (object : Object)
@@ -73,7 +73,7 @@ pub fn later_texts_do_not_count()
         → answer_of one query ≡ answer_of other query }
 {}
 
-/// Where names are resolved, and none of them is that of a symbol, the answer is the same whatever modules.symbols says: worlds
+/// If names are resolved, and none of them is that of a symbol, the answer is the same whatever modules.symbols says: worlds
 /// with the same configuration, states, folder and other texts answer it the same.
 pub fn symbols_do_not_count()
     ensures { (one other : World) (query : Query)

@@ -131,7 +131,7 @@ pub(crate) fn name_line(alloc: Global, front: &[u8], name: &[u8]) -> Result<Vec<
     Ok(text)
 }
 
-/// The line by the command, the file, and whether it is built in; empty where there is nothing to say.
+/// The line by the command, the file, and whether it is built in; empty if there is nothing to say.
 fn line_by(
     alloc: Global,
     command: Option<&[u8]>,

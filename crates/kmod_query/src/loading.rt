@@ -119,7 +119,7 @@ fn load_lines(asked: &Asked, parameters: &[u8], top: &Object) -> Result<Vec<u8>,
     lines_by(asked, parameters, top, &mut course)
 }
 
-/// What is answered where the kernel has the object.
+/// What is answered if the kernel has the object.
 fn already(alloc: Global, query: &Query, object: &Object) -> Result<Answer, AllocError>
     ensures { IfOk result (λ answer. answer ≡ already query.now (object_of object.now)) }
 {

@@ -15,7 +15,7 @@ use kmod_index::IndexLine;
 use kmod_names::{Text, normal_alias};
 use std::alloc::{AllocError, Global};
 
-/// The lines of modules.symbols of a name, where it is that of a symbol.
+/// The lines of modules.symbols of a name, if it is that of a symbol.
 fn exporters(alloc: Global, world: &World, name: &[u8]) -> Result<Vec<IndexLine>, AllocError>
     ensures { IfOk result (λ lines. map name_of lines.items ≡ exporters_of (facts_of world.now) name.now) }
 {

@@ -6,7 +6,7 @@ use indexmap::IndexSet;
 use std::alloc::{AllocError, Global};
 use std::marker::Model;
 
-/// A module, and the alias by which it was found, where it was by one. `builtin` says that this was an alias of
+/// A module, and the alias by which it was found, if it was by one. `builtin` says that this was an alias of
 /// modules.builtin.modinfo.
 #[derive(PartialEq, Drop)]
 pub struct Object {

@@ -49,7 +49,7 @@ fn push_quoted(text: &mut Vec<u8>, word: &[u8]) -> Result<(), AllocError>
     text.extend_from_slice(word)
 }
 
-/// Adds a text, after a blank where something stands before it.
+/// Adds a text, after a blank if something stands before it.
 pub(crate) fn push_joined(front: &mut Vec<u8>, text: &[u8]) -> Result<(), AllocError>
     ensures { OnOk result (front.new.items ≡ joined front.old.items text.now) }
 {

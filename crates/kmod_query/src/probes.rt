@@ -79,7 +79,7 @@ fn push_fill(alloc: Global, stack: &mut Vec<Task>, object: Object) -> Result<(),
     Ok(())
 }
 
-/// What probes an object that was not met, before what is to be done already; without its soft items where it is bare.
+/// What probes an object that was not met, before what is to be done already; without its soft items if it is bare.
 fn push_probe(
     alloc: Global,
     world: &World,

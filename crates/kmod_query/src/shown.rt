@@ -55,7 +55,7 @@ fn push_words(text: &mut Vec<u8>, words: &[Text]) -> Result<(), AllocError>
     Ok(())
 }
 
-/// A mark and the words after it, where there are any.
+/// A mark and the words after it, if there are any.
 fn marked(alloc: Global, mark: &[u8], words: &[Text]) -> Result<Vec<u8>, AllocError>
     ensures { IfOk result (λ text. text.items ≡ marked mark.now words.now) }
 {

@@ -21,7 +21,7 @@ pub enum ModuleState {
     Folder,
 }
 
-/// The state of a module, and how many use it: the number in `refcnt`. None where there is no such file or no number in it.
+/// The state of a module, and how many use it: the number in `refcnt`. None if there is no such file or no number in it.
 #[derive(Clone, Copy)]
 pub struct ModuleStatus {
     pub state: ModuleState,

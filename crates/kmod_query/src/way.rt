@@ -39,7 +39,7 @@ impl Way {
         self.names.contains(name)
     }
 
-    /// Adds a module as the innermost, where it is not there.
+    /// Adds a module as the innermost, if it is not there.
     pub(crate) fn enter(&mut self, alloc: Global, name: &[u8]) -> Result<(), AllocError>
         ensures { OnOk result (self.new ≡ with_name self.old name.now) }
     {

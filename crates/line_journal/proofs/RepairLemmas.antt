@@ -12,7 +12,7 @@ use Rattle.line_journal.specs.declared.reading.Found.{Found}
 use Rattle.line_journal.proofs.ByteLemmas.{overwritten_end, torn_end, take_past}
 use Rattle.line_journal.proofs.LineLemmas.{rests, length-at_rest, Ended, ended_or_not, lines_of-line, lines_of_torn, lines_of-open_text, closed, parts, are_lines, behind_is}
 
--- where an end stands for nothing, so does the front of it
+-- if an end stands for nothing, so does the front of it
 front_nothing : (n : ℕ) (end : List ℕ) → lines_of end ≡ [] → lines_of (take n end) ≡ []
 front_nothing zero end none = refl
 front_nothing (suc n) [] none = refl

@@ -38,7 +38,7 @@ open_text (line ∷ lines) = 43 ∷ line ++ 10 ∷ open_text lines
 abbrev pub at_rest : List (List ℕ) → List ℕ
 at_rest lines = open_text lines ++ 32 ∷ []
 
--- the first gate, or a closed one where there is none
+-- the first gate, or a closed one if there is none
 abbrev pub first_gate : List ℕ → ℕ
 first_gate [] = 32
 first_gate (gate ∷ gates) = gate
@@ -81,7 +81,7 @@ IsWhole bytes = bytes ≡ open_text (lines_of bytes)
 abbrev pub behind : List ℕ → List ℕ
 behind file = drop (length (open_text (lines_of file))) file
 
--- how many of these bytes are open gates, where this byte stands before them
+-- how many of these bytes are open gates, if this byte stands before them
 abbrev pub gates_after : ℕ → List ℕ → ℕ
 gates_after before [] = 0
 gates_after before (byte ∷ rest) = (if (before == 10) && (byte == 43) then 1 else 0) + gates_after byte rest

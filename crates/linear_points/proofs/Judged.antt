@@ -31,7 +31,7 @@ table_calls_in_range catalogue workers threads steps over table calls few run sa
     (subst (λ (n : ℕ). AllInRange catalogue n calls) (sym (ap (λ (t : Table). length t.rows) opens ∙ length-replicate workers (replicate (length catalogue) 0)))
     (subst (AllInRange catalogue workers) (sym told) (run_calls_in_range catalogue workers threads steps few run)))
 
--- where all else holds, the replay decides
+-- if all else holds, the replay decides
 pub replay_decides : (catalogue : List Module) (workers threads : ℕ) (steps : List Step) (points : List Point) (es : List Event) (over : List Module) (table : Table) (calls : List Call) (answer : Bool)
     → workers < closed → IsRun catalogue workers threads steps → es ≡ run_events catalogue workers threads steps → calls ≡ run_calls catalogue workers threads steps
     → over ≡ catalogue → table ≡ opening catalogue workers

@@ -197,7 +197,7 @@ calls-with_end [] k i r h = absurd (omega arith)
 calls-with_end (x ∷ found) zero i r h = refl
 calls-with_end (x ∷ found) (suc k) i r h = ap (λ (cs : List Call). x.call ∷ cs) (calls-with_end found k i r (omega arith))
 
--- where each call has its interval so far, so it has with one event more
+-- if each call has its interval so far, so it has with one event more
 noted_intervals : (es : List Event) (found : List Interval) (i : ℕ) (s : Step) (e : Event) → AreIntervals es found → i ≡ length es → NumbersCall (length found) s e
     → AreIntervals (es ++ e ∷ []) (noted found i s e)
 noted_intervals es found i s Nothing has at_end numbers = between_intervals es found Nothing has tt

@@ -58,7 +58,7 @@ tail_same x y xs ys e = cc
 rest_is : (points : List Point) (i : ℕ) (d : Point) → i < length points → drop i points ≡ get_or points i d ∷ drop (i + 1) points
 rest_is points i d h = drop-cons points i d h ∙ ap (λ (n : ℕ). get_or points i d ∷ drop n points) (sym (add-one i))
 
--- where the next point has its reply, the rest decides
+-- if the next point has its reply, the rest decides
 pub goes_on : (catalogue : List Module) (table : Table) (calls : List Call) (points : List Point) (i : ℕ) (d : Point) (call : Call) → i < length points → call_numbered calls (get_or points i d).call ≡ call
     → reply catalogue table call ≡ (get_or points i d).reply
     → (Replays catalogue table calls (drop i points)) ↔ (Replays catalogue (next catalogue table call) calls (drop (i + 1) points))

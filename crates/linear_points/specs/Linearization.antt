@@ -25,7 +25,7 @@ abbrev pub is_returned : ℕ → Event → Bool
 is_returned n (Returned k r) = k == n
 is_returned n e = false
 
--- the index of the first event that passes the test, where the first event has index i
+-- the index of the first event that passes the test, if the first event has index i
 abbrev pub first_index : (Event → Bool) → ℕ → List Event → Option ℕ
 first_index test i [] = None
 first_index test i (e ∷ es) = if test e then Some i else first_index test (i + 1) es

@@ -20,7 +20,7 @@ abbrev pub IsInvoke : Step → Type 0
 IsInvoke (Invoke t call) = Unit {0}
 IsInvoke (Go t) = ⊥
 
--- where n calls were invoked before, the event numbers a new call n, and only one of the n returns
+-- if n calls were invoked before, the event numbers a new call n, and only one of the n returns
 abbrev pub NumbersCall : ℕ → Step → Event → Type 0
 NumbersCall n s (Invoked k) = (k ≡ n) × IsInvoke s
 NumbersCall n s (Returned k r) = k < n
@@ -30,7 +30,7 @@ abbrev pub invoked_after : ℕ → Event → ℕ
 invoked_after n (Invoked k) = n + 1
 invoked_after n e = n
 
--- these are events of these steps, one event a step, where n calls were invoked before
+-- these are events of these steps, one event a step, if n calls were invoked before
 abbrev pub AreNumberedFrom : ℕ → List Step → List Event → Type 0
 AreNumberedFrom n [] [] = Unit {0}
 AreNumberedFrom n (s ∷ steps) (e ∷ es) = NumbersCall n s e × AreNumberedFrom (invoked_after n e) steps es

@@ -82,7 +82,7 @@ impl Course {
         true
     }
 
-    /// Whether the point has the reply that its call returned, where it returned.
+    /// Whether the point has the reply that its call returned, if it returned.
     fn is_as_returned(&self, point: &Point) -> bool
         requires { AreIntervals self.now.events.items self.now.intervals.items }
         ensures { IsTrue result ↔ IsAsReturned self.now.events.items point.now }
@@ -93,7 +93,7 @@ impl Course {
         }
     }
 
-    /// Whether each point has the reply that its call returned, where it returned.
+    /// Whether each point has the reply that its call returned, if it returned.
     pub fn answers(&self, points: &[Point]) -> bool
         requires { AreIntervals self.now.events.items self.now.intervals.items }
         ensures { IsTrue result ↔ All (IsAsReturned self.now.events.items) points.now }

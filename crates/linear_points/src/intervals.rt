@@ -43,7 +43,7 @@ impl Interval {
         }
     }
 
-    /// Whether the call may have so many points: one where it returned, at most one where it is open.
+    /// Whether the call may have so many points: one if it returned, at most one if it is open.
     pub(crate) fn may_have(&self, points: usize) -> bool
         ensures { IsTrue result ↔ MatchOption self.now.end (points ≤ 1) (λ end. points ≡ 1) }
     {

@@ -1,4 +1,4 @@
--- A soft item is clean exactly where a walk goes through that begins with what is in progress as its way and
+-- A soft item is clean exactly if a walk goes through that begins with what is in progress as its way and
 -- with the list as it is.
 use Rattle.std.proofs.Common.{◌≡◌, ℕ, zero, suc, ◌<◌, arith, get_or, nat_lt, lt-ltb, true, false, not, List, [], ◌∷◌, length, Result, Ok, Err, refl, sym, ◌∙◌, ap, ◌⊎◌, inl, inr}
 use Rattle.std.specs.List.{list_any}
@@ -44,7 +44,7 @@ whole_walk w m reached bounded below h =
     let all : (q : ℕ) → has reached q ≡ true → (q < length w) × ((node_at w q).installs ≡ false) = x.0.entered (λ q g. absurd (cc)) in
     record { order = x.0.order; here = x.1; below = λ q g. (all q g).0; entered = λ q g. (all q g).1 }
 
--- where the walk of a soft item is free, it goes through from here too
+-- if the walk of a soft item is free, it goes through from here too
 clean_walks : (w : List Node) (progress done : List ℕ) (m : ℕ) (r : Result (List ℕ) PlanRefusal) → IsKept w progress done → m < length w → hard_walk w true (Slot m) ≡ r → is_free progress r ≡ true → (after : List ℕ) × (walk w true (length w) progress done (Slot m) ≡ Ok after)
 clean_walks w progress done m (Err e) kept below h free = absurd (cc)
 clean_walks w progress done m (Ok reached) kept below h free =
@@ -53,7 +53,7 @@ clean_walks w progress done m (Ok reached) kept below h free =
     walk_goes w (length w) progress reached x.order x.entered (λ q on. none_in_progress progress reached q free on) (order_fits w reached x.order x.below) done m x.here in
     (t.after, t.is)
 
--- where a walk goes through from here, the walk of the soft item is free
+-- if a walk goes through from here, the walk of the soft item is free
 walks_clean : (w : List Node) (progress done : List ℕ) (m : ℕ) (after : List ℕ) → IsKept w progress done → m < length w → walk w true (length w) progress done (Slot m) ≡ Ok after → is_free progress (hard_walk w true (Slot m)) ≡ true
 walks_clean w progress done m after kept below h =
     let x : Extends w true progress done after × (has after m ≡ true) = walk_extends w true kept.bounded (length w) progress done (Slot m) after (lt-makes m (length w) below) kept.order kept.off h in

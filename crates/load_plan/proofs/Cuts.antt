@@ -75,7 +75,7 @@ parts_pass p ts row f =
     (ap (list_all p) (range-joined ts row.hard_from row.pre_from row.post_from f.hard f.pre (omega (arith, f.post, f.within)))
     ∙ list_all-append p (slice_range ts row.hard_from row.pre_from) (slice_range ts row.pre_from row.post_from))
 
--- whole: what a row cuts out at once, where the node came after the others
+-- whole: what a row cuts out at once, if the node came after the others
 pub whole-passes : (p : Target → Bool) {before after : List Target} {row : Row} {node : Node} → Appends before after row node → (list_all p node.hard && list_all p node.pre && list_all p node.post) ≡ true → list_all p (slice_range after row.hard_from row.end) ≡ true
 whole-passes p {before} {after} {row} {node} added all =
     parts_pass p after row added.fits ∙ ap (λ (n : Node). list_all p n.hard && list_all p n.pre && list_all p n.post) added.same ∙ all

@@ -1,4 +1,4 @@
--- Where no soft item is a module of the graph, a visit gives what the hard walk gives.
+-- If no soft item is a module of the graph, a visit gives what the hard walk gives.
 use Rattle.std.proofs.Common.{◌≡◌, ℕ, zero, suc, ◌<◌, true, false, List, [], ◌∷◌, ◌++◌, length, if◌then◌else◌, Result, Ok, Err, refl, sym, ◌∙◌, ap, arith, inl, inr, Bool, IfOk}
 use Rattle.std.specs.List.{All, list_all}
 use Rattle.load_plan.specs.declared.graph.Target.{Target}
@@ -30,7 +30,7 @@ passes_soft w progress go done [] h = refl
 passes_soft w progress go done (Slot m ∷ ts) h = absurd (cc)
 passes_soft w progress go done (Missing name ∷ ts) h = passes_soft w progress go done ts h
 
--- what a visit at some fuel gives is what the walk at this fuel gives, where that has no fault
+-- what a visit at some fuel gives is what the walk at this fuel gives, if that has no fault
 abbrev AreSame : List Node → ℕ → Type 0
 AreSame w n = (way progress done : List ℕ) (m : ℕ) (after : List ℕ) → has done m ≡ false → walk w true n way done (Slot m) ≡ Ok after → visit w n progress done (Slot m) ≡ after
 

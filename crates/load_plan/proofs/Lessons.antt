@@ -103,7 +103,7 @@ pub met_among : (w : List Node) (progress : List ℕ) (ts : List Target) (t : Ta
 met_among w progress ts t i within at None met = tt
 met_among w progress ts t i within at (Some x) met = record { on = met.0; target = t; among = (i, within, sym at); needs = met.1 }
 
--- What a walk is, where a module is barred or meets one in progress.
+-- What a walk is, if a module is barred or meets one in progress.
 
 not_free : (w : List Node) (progress : List ℕ) (m : ℕ) (r : Result (List ℕ) PlanRefusal) → is_bounded w ≡ true → m < length w → hard_walk w true (Slot m) ≡ r → ((ms : List ℕ) → IsPassable w ms → has ms m ≡ true → is_free progress (Ok ms) ≡ false) → is_free progress r ≡ false
 not_free w progress m (Err e) bounded lt is h = refl

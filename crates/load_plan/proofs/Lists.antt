@@ -130,7 +130,7 @@ all-append p (x ∷ xs) ys h k =
     let a : (p x ≡ true) × (list_all p xs ≡ true) = and_true (p x) (list_all p xs) h in
     and_makes (p x) (list_all p (xs ++ ys)) a.0 (all-append p xs ys a.1 k)
 
--- one more than the first k, where t comes after them
+-- one more than the first k, if t comes after them
 take-next : {A : Type 0} (ts : List A) (k : ℕ) (t : A) (rest : List A) → drop k ts ≡ t ∷ rest → take (suc k) ts ≡ take k ts ++ t ∷ []
 take-next [] zero t rest e = absurd (cc)
 take-next [] (suc k) t rest e = absurd (cc)

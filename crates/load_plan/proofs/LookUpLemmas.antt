@@ -42,7 +42,7 @@ texts-insert_key keys own =
     next true = refl
     next false = map-append (λ (n : Bor (List ℕ)). n.now) keys (own ∷ [])
 
--- a name that is added where it is not there
+-- a name that is added if it is not there
 pub names-added : (names : List (List ℕ)) (name : List ℕ) (added : Bool) → added ≡ not (list_any (bytes_eq name) names) → cond added (names ++ name ∷ []) names ≡ with_name names name
 names-added names name added is = ap (λ b. cond b (names ++ name ∷ []) names) is ∙ turned (list_any (bytes_eq name) names)
   where

@@ -11,7 +11,7 @@ use Rattle.load_plan.specs.Plan.{is_free, is_clean, each_soft, is_done, each_har
 use Rattle.load_plan.specs.Parts.{is_target_in, names_in, IsPart}
 use Rattle.load_plan.proofs.Lists.{and_true}
 
--- what comes of each target in order, where two ways agree on the targets
+-- what comes of each target in order, if two ways agree on the targets
 walk_each-same : (p : Target → Bool) (f g : List ℕ → Target → Result (List ℕ) PlanRefusal) → ((done : List ℕ) (t : Target) → p t ≡ true → f done t ≡ g done t) → (ts : List Target) (done : List ℕ) → list_all p ts ≡ true → walk_each f done ts ≡ walk_each g done ts
 walk_each-same p f g same [] done h = refl
 walk_each-same p f g same (t ∷ ts) done h =

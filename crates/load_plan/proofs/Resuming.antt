@@ -51,7 +51,7 @@ cond-not : {A : Type 0} (b : Bool) (x y : A) → cond b x y ≡ cond (not b) y x
 cond-not true x y = refl
 cond-not false x y = refl
 
--- the first target of a phase is visited where it is taken, and passed where not
+-- the first target of a phase is visited if it is taken, and passed if not
 each-first : (w : List Node) (n : ℕ) (phase : Phase) (m : ℕ) (below done : List ℕ) (t : Target) (ts : List Target) → each_of w n phase m below done (t ∷ ts) ≡ each_of w n phase m below (cond (is_taken w (with_phase phase m below) done phase t) (visit w n (with_phase phase m below) done t) done) ts
 each-first w n Pre m below done t ts = refl
 each-first w n Hard m below done t ts = ap (λ d. each_hard (visit w n (m ∷ below)) d ts) (cond-not (is_done done t) done (visit w n (m ∷ below) done t))

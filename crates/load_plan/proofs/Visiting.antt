@@ -27,7 +27,7 @@ use Rattle.load_plan.proofs.Walking.{mark_new, marks-open, marks-done}
 use Rattle.load_plan.proofs.Free.{IsFree, free_hard, free_walk, free_clean}
 use Rattle.load_plan.proofs.Resuming.{slots_of, with_phase, progress_of, resume, resume-pass, resume-enter, resume-turn, resume-append, resume-leave}
 
--- What holds of a stage, by its phase; `above` has the module whose visit began last, where there is one.
+-- What holds of a stage, by its phase; `above` has the module whose visit began last, if there is one.
 abbrev pub StageHolds : List Node → List ℕ → List ℕ → List ℕ → Phase → ℕ → ℕ → Type 0
 StageHolds w done above below Pre m k = IsFree w below m
 StageHolds w done above below Hard m k = IsFree w below m × (list_all (is_in (above ++ done)) (take k (node_at w m).hard) ≡ true)

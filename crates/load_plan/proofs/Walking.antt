@@ -376,7 +376,7 @@ settled w tests n k way done m h = elim h [
   | inr u ↦ walk-cycle w tests n way done m u.0 u.1 ∙ sym (walk-cycle w tests k way done m u.0 u.1)
 ]
 
--- no fuel is left only where the module is one of these
+-- no fuel is left only if the module is one of these
 no_fuel : (n : ℕ) (way done : List ℕ) (m : ℕ) → IsDistinct nat_eq way → ((q : ℕ) → has way q ≡ true → q < n) → n ≤ zero + length way → m < n → (has done m ≡ true) ⊎ ((has done m ≡ false) × (has way m ≡ true))
 no_fuel n way done m apart below enough within =
     elim (either_way (has done m)) [

@@ -42,7 +42,7 @@ pub record IsGraph (targets : List Target) (rows : List Row) (has_soft : Bool) :
   pub are_rows : AreRows targets rows
   pub plain : has_soft ≡ false → HasNoSoftModules (nodes_in targets rows)
 
--- the targets of a node came after the others, where its row says
+-- the targets of a node came after the others, if its row says
 pub record Appends (before after : List Target) (row : Row) (node : Node) : Type 0 where
   pub more : List Target
   pub behind : after ≡ before ++ more

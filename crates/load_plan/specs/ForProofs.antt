@@ -36,7 +36,7 @@ next_frame frame = record { slot = frame.slot; walked = frame.walked + 1 }
 abbrev pub Leads : List Node → Frame → Target → Type 0
 Leads graph frame target = left_of graph frame ≡ target ∷ left_of graph (next_frame frame)
 
--- what the first target that is left asks, where it is not finished
+-- what the first target that is left asks, if it is not finished
 abbrev pub IsAsked : List Node → Bool → List Mark → Frame → Step → Type 0
 IsAsked graph tests marks frame Finish = left_of graph frame ≡ []
 IsAsked graph tests marks frame (Enter m next) =
@@ -74,7 +74,7 @@ abbrev pub is_done_mark : Mark → Bool
 is_done_mark Done = true
 is_done_mark _ = false
 
--- a module as a step of a plan, soft where its mark is not Done
+-- a module as a step of a plan, soft if its mark is not Done
 abbrev pub step_of : List Mark → ℕ → PlanStep
 step_of marks m = record { slot = m; soft = not (is_done_mark (slice_index_or marks m New)) }
 

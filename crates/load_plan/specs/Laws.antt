@@ -35,7 +35,7 @@ PlansAreOrders =
     → is_bounded graph ≡ true → m < length graph → plan graph (Slot m) ≡ Ok steps
     → IsOrder graph (slots_in steps) × (has (slots_in steps) m ≡ true)
 
--- What is hard and what is soft in the plan of m, where the hard walk from m reaches these modules.
+-- What is hard and what is soft in the plan of m, if the hard walk from m reaches these modules.
 pub record HasRightMarks (graph : List Node) (m : ℕ) (reached : List ℕ) (steps : List PlanStep) : Type 0 where
   pub all : (q : ℕ) → has reached q ≡ true → has (slots_in steps) q ≡ true
   pub marks : (step : PlanStep) → Contains steps step → step.soft ≡ not (has reached step.slot)

@@ -53,7 +53,7 @@ pub data IsOver (graph : List Node) (done : List ℕ) : List ℕ → Type 0 wher
 abbrev pub ArePlaced : List Verdict → List ℕ → Type 0
 ArePlaced verdicts order = (i : ℕ) → i < length order → verdict_at verdicts (slice_index_or order i 0) ≡ Free i
 
--- where the list has the module, by its verdict
+-- if the list has the module, by its verdict
 abbrev pub IsPlaceOf : List Verdict → List ℕ → ℕ → Option ℕ → Type 0
 IsPlaceOf verdicts order m (Some place) = (place < length order) × (slice_index_or order place 0 ≡ m) × (verdict_at verdicts m ≡ Free place)
 IsPlaceOf verdicts order m None = ArePlaced verdicts order → has order m ≡ false

@@ -20,7 +20,7 @@ is_equals byte = byte == 61
 abbrev pub name_of : List ℕ → List ℕ
 name_of word = before_first is_equals word
 
--- the part after it, where there is one
+-- the part after it, if there is one
 abbrev pub value_of : List ℕ → Option (List ℕ)
 value_of word = option_map (λ place. drop (place + 1) word) (position is_equals word)
 
@@ -39,7 +39,7 @@ abbrev pub with_digit : Base → ℕ → Option ℕ → (ℕ → Option ℕ) →
 with_digit base high None rest = None
 with_digit base high (Some digit) rest = rest (high * radix base + digit)
 
--- the number that digits are, after those that came before them, where all are digits
+-- the number that digits are, after those that came before them, if all are digits
 abbrev pub number_from : Base → ℕ → List ℕ → Option ℕ
 number_from base high [] = Some high
 number_from base high (byte ∷ bytes) = with_digit base high (digit_of base byte) (λ next. number_from base next bytes)

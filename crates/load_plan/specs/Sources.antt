@@ -16,12 +16,12 @@ target_at name (Some m) = Slot m
 abbrev pub target_of : List Description → List ℕ → Target
 target_of catalogue name = target_at name (slot_named catalogue name)
 
--- the hard dependencies of a slot: those of its name's line in modules.dep, and where it has none its needs
+-- the hard dependencies of a slot: those of its name's line in modules.dep, and if it has none its needs
 abbrev pub hard_of : List Description → ℕ → Option (List (List ℕ)) → List Target
 hard_of catalogue m (Some names) = map (target_of catalogue) names
 hard_of catalogue m None = map Slot (needs_of catalogue m)
 
--- the pre items: those of the softdep line, and where there is none the softneeds of the catalogue
+-- the pre items: those of the softdep line, and if there is none the softneeds of the catalogue
 abbrev pub pre_of : Description → Option SoftItems → List (List ℕ)
 pre_of m (Some items) = items.pre
 pre_of m None = m.softneeds
@@ -30,7 +30,7 @@ abbrev pub post_of : Option SoftItems → List (List ℕ)
 post_of (Some items) = items.post
 post_of None = []
 
--- an install line counts where there is no softdep line
+-- an install line counts if there is no softdep line
 abbrev pub is_stopped : Configuration → List ℕ → Bool
 is_stopped configuration name = has_install_line configuration name && not (is_some (softdep_of configuration name))
 

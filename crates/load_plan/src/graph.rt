@@ -47,7 +47,7 @@ pub(crate) enum Target<'a> {
     Missing(MissingName<'a>),
 }
 
-/// The target at an index, where there is one.
+/// The target at an index, if there is one.
 pub(crate) fn target_at<'t, 'a>(targets: &'t [Target<'a>], index: usize) -> Option<&'t Target<'a>>
     ensures first { MatchOption result
         (drop index targets.entry.now ≡ [])
@@ -110,7 +110,7 @@ impl<'a> Model for DependencyGraph<'a> {
 }
 
 impl<'a> DependencyGraph<'a> {
-    /// The modules of these rows. Where `has_soft` is false no soft item is a module.
+    /// The modules of these rows. If `has_soft` is false no soft item is a module.
     pub(crate) fn new(
         rows: BySlot<Row>,
         targets: Vec<Target<'a>>,

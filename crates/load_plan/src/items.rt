@@ -105,7 +105,7 @@ pub(crate) struct Asked<'a, 'b> {
     pub(crate) words: &'b [&'a [u8]],
 }
 
-/// The words of the options lines of a slot. They are looked up where its name may have some.
+/// The words of the options lines of a slot. They are looked up if its name may have some.
 fn options_at<'a>(sources: &Sources<'a>, part: &Part<'a>, slot: usize) -> &'a [Word]
     requires slot { slot < length sources.now.catalogue.now }
     requires bare { AreBare sources.now part.now.bare.items }
@@ -181,10 +181,10 @@ pub(crate) fn planned<'a>(
 }
 
 /// The plan of a name: the modules that are loaded for it, in order. Hard dependencies stand before their users,
-/// none stands twice; soft items stand before or after (modprobe.d(5)), and are skipped where they can't be
+/// none stands twice; soft items stand before or after (modprobe.d(5)), and are skipped if they can't be
 /// loaded. The words of the command are the last words of the name's own module. It is refused at the first module
 /// of the hard walk that is on the way to itself (Cycle), that the catalogue does not have (Unknown), or that has
-/// an install line and no softdep line (Install), and where memory runs out.
+/// an install line and no softdep line (Install), and if memory runs out.
 pub fn plan<'a>(
     alloc: Global,
     name: &[u8],
@@ -222,8 +222,8 @@ pub(crate) fn removal_planned(
 }
 
 /// The removal plan of a name: its module, and then what it stands on, each user before its dependencies. It is
-/// refused where the name has a remove line and no softdep line (Remove), else at the first module of the hard walk
-/// that is on the way to itself (Cycle) or that the catalogue does not have (Unknown), and where memory runs out.
+/// refused if the name has a remove line and no softdep line (Remove), else at the first module of the hard walk
+/// that is on the way to itself (Cycle) or that the catalogue does not have (Unknown), and if memory runs out.
 pub fn removal_plan(alloc: Global, name: &[u8], sources: &Sources) -> Result<Vec<usize>, PlanError>
     ensures order { Answers (λ order. order.items) result (removal_plan_from sources.now name.now) }
     ensures within { IfOk result (λ order. All (λ slot. slot < length sources.now.catalogue.now) order.items) }

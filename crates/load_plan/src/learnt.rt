@@ -283,7 +283,7 @@ impl Learnt {
         Ok(())
     }
 
-    /// The module that the verdict of this one names, where the one that it met is in progress no longer.
+    /// The module that the verdict of this one names, if the one that it met is in progress no longer.
     fn outdated(&self, marks: &[Mark], slot: usize) -> Option<usize>
         requires slot { slot < length marks.now }
         requires long { length self.now.verdicts.items ≡ length marks.now }
@@ -298,7 +298,7 @@ impl Learnt {
         }
     }
 
-    /// Looks again at the module that the verdict of this one names, where the one that it met is in progress no longer.
+    /// Looks again at the module that the verdict of this one names, if the one that it met is in progress no longer.
     /// Its dependencies alone may tell of all whose verdicts name it.
     pub(crate) fn renew(&mut self, graph: &DependencyGraph, marks: &[Mark], slot: usize)
         requires slot { slot < length graph.now }

@@ -81,7 +81,7 @@ fn free(
 /// The modules of a name, in normal form: the targets of the configuration's aliases that match it; if there are
 /// none, the catalogue module of that name; if there is none, the targets of modules.alias that match it and are
 /// not blacklisted. Each stands once, in the order of the lines. A target need not be in the catalogue. NotFound
-/// where all three have nothing.
+/// if all three have nothing.
 pub fn find(
     alloc: Global,
     name: &[u8],

@@ -69,7 +69,7 @@ fn takes_words(params: &[Param], words: &[&[u8]]) -> bool
 }
 
 /// Whether all words, `name` or `name=value`, are good for the module in the slot: each is of a parameter that the
-/// module does not define, or a value that the parameter takes (init_module(2) answers EINVAL where one is not).
+/// module does not define, or a value that the parameter takes (init_module(2) answers EINVAL if one is not).
 pub fn params_valid(catalogue: &Catalogue, slot: usize, words: &[&[u8]]) -> bool
     requires { slot < length catalogue.now }
     ensures { result ≡ are_valid (description_at catalogue.now slot) (texts_of words.now) }

@@ -19,7 +19,7 @@ pub(crate) struct PlanStep {
     pub(crate) soft: bool,
 }
 
-/// The module as a step of the plan: it is soft where the hard walk that left these marks did not reach it.
+/// The module as a step of the plan: it is soft if the hard walk that left these marks did not reach it.
 pub(crate) fn step_of(marks: &[Mark], slot: usize) -> PlanStep
     ensures { result ≡ step_of marks.now slot }
 {

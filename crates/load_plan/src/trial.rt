@@ -32,7 +32,7 @@ fn is_on_way(learnt: &Learnt, way: &[Frame], last: usize, slot: usize) -> bool
 }
 
 /// The last hard dependency that is left, and the frame after it. A visit enters the first ones first, and forgets what
-/// was learnt later than of the module that it enters: so it forgets the least where the first ones are learnt last.
+/// was learnt later than of the module that it enters: so it forgets the least if the first ones are learnt last.
 fn last_left<'g, 'a>(
     graph: &'g DependencyGraph<'a>,
     frame: Frame,

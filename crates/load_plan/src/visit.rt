@@ -75,7 +75,7 @@ fn walks_clean(
     }
 }
 
-/// Whether a soft item is clean, by what was learnt. A walk is made only where nothing can be learnt.
+/// Whether a soft item is clean, by what was learnt. A walk is made only if nothing can be learnt.
 fn is_clean(
     alloc: Global,
     graph: &DependencyGraph,

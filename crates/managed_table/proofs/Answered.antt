@@ -111,7 +111,7 @@ turn_missed row worker slot old new same_row Did (Some None) t told =
     let h = told t.taken t.left t.did in leaf_shown row worker slot (Did None) old new same_row t 0 h.0 h.1 h.2
 turn_missed row worker slot old new same_row Did (Some (Some r)) t told = tt
 
--- what its steps show, where it gave up and where it was answered
+-- what its steps show, if it gave up and if it was answered
 module _ {R : Type 0} (worker : ℕ) (old new : Pass) (Did : Option R → Seated → Seated → Type 0) where
   pub turn_shows : (Shows : Seated → Seated → Type 0) (r : Option R) → MadeTurn leaf_fits shown worker (Did r) old new → ((x y : Seated) → Did r x y → Shows x y) → MadeTurn leaf_fits shown worker Shows old new
   turn_shows Shows r t told = record {
@@ -136,7 +136,7 @@ module _ {R : Type 0} (worker : ℕ) (old new : Pass) (Did : Option R → Seated
   in_time Gives (Some None) t told = tt
   in_time Gives (Some (Some r)) t told = turn_shows (Gives r) (Some r) t (told r)
 
--- the same where the lock may have been found taken at each try
+-- the same if the lock may have been found taken at each try
 module _ {R : Type 0} (worker : ℕ) (old new : Pass) (Same : Type 0) (Did : Option R → Seated → Seated → Type 0) where
   pub given_up_within : (Gave : Seated → Seated → Type 0) (o : Option (Option (Option R))) → IfSome o (λ p. MatchOption p Same (λ a. MadeTurn leaf_fits shown worker (Did a) old new))
       → ((x y : Seated) → Did None x y → Gave x y) → IfSome o (λ p. IfSome p (λ a. IfNone a (MadeTurn leaf_fits shown worker Gave old new)))

@@ -50,6 +50,6 @@ module _ (table : ManagedIs) (seat : Seat Seated Passes) (book : PassIs) (caller
     took = took;
   }
 
-  -- it stays one of the table where it has let go
+  -- it stays one of the table if it has let go
   pub still_own : IsFree table.leaves table.row seat' → IsCallerOf table (record { leaves = pass_is seat'; book = book })
   still_own free = (free.0, free.1, ap (λ (k : CallerIs). k.book.table) is ∙ own.2, ap (λ (k : CallerIs). k.book.pass.row.value) is ∙ own.3)

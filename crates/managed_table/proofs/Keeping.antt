@@ -33,7 +33,7 @@ word_here words locks w x wide lt = get_or-set_same words (place_of w) x 0 (omeg
 word_else : (words : List ℕ) (w u x : ℕ) → u ≢ w → get_or (set words (place_of w) x) (place_of u) 0 ≡ get_or words (place_of u) 0
 word_else words w u x ne = get_or-set_other words (place_of w) (place_of u) x 0 (λ q. ne (omega arith))
 
--- what is taken, where it is known
+-- what is taken, if it is known
 abbrev lock_in : Taken → Option Taken → Taken
 lock_in d None = d
 lock_in d (Some t) = t
@@ -101,7 +101,7 @@ module _ {T : Type 0} (row : RowIs) (locks : ℕ) (by : ℕ → SeatName) (fits 
     pub mine : FitsPass row locks by kept.accounts s.words (id, 0) v
     mine = kept.passes (id, 0) v at_id
 
-    -- a call stays made where a pass keeps its name and its turns
+    -- a call stays made if a pass keeps its name and its turns
     made_set : (z : PassName × ℕ) (v' : Pass) (lock k : ℕ) → v'.name ≡ v.name → ((p : ℕ) (t : Turn) → get_elem? v.turns p ≡ some t → get_elem? v'.turns p ≡ some t)
         → IsMade by z s.views lock k → IsMade by z (set s.views id (alone v')) lock k
     made_set z v' lock k same keeps m = elim (same_place m.place (id, 0)) [
@@ -135,14 +135,14 @@ module _ {T : Type 0} (row : RowIs) (locks : ℕ) (by : ℕ → SeatName) (fits 
     has_mine : (n : PassName) (k : ℕ) (t : Turn) → n ≡ v.name → get_elem? v.turns k ≡ some t → HasTurn s.views n k t
     has_mine n k t name there = record { place = (id, 0); pass = v; at = at_id; is = sym name; there = there }
 
-    -- a turn was there before, where a pass keeps its name and its turns
+    -- a turn was there before, if a pass keeps its name and its turns
     had_set : (v' : Pass) → v'.name ≡ v.name → v'.turns ≡ v.turns → (n : PassName) (k : ℕ) (t : Turn) → HasTurn (set s.views id (alone v')) n k t → HasTurn s.views n k t
     had_set v' same turns n k t h = elim (has_set v' same n k t h) [
       | inl before ↦ before
       | inr own ↦ has_mine n k t own.0 (ap (λ l. get_elem? l k) (sym turns) ∙ own.1)
     ]
 
-    -- a lock stays shut where a pass keeps the lock
+    -- a lock stays shut if a pass keeps the lock
     shut_set : (v' : Pass) (lock : ℕ) → ((t : Taken) → v.taken ≡ Some t → t.lock ≡ lock → v'.taken ≡ Some t)
         → IsShut s.views lock → IsShut (set s.views id (alone v')) lock
     shut_set v' lock keeps m = elim (same_place m.place (id, 0)) [
@@ -164,7 +164,7 @@ module _ {T : Type 0} (row : RowIs) (locks : ℕ) (by : ℕ → SeatName) (fits 
       }
     ]
 
-    -- the family stays where a pass keeps its name and what it lists
+    -- the family stays if a pass keeps its name and what it lists
     family_set : (v' : Pass) → v'.name ≡ v.name → v'.further ≡ v.further → AreOneFamily (set s.views id (alone v'))
     family_set v' name further = set_family s.views id v v' at (record { name = name; further = further }) kept.family
 

@@ -99,7 +99,7 @@ module _ {T : Type 0} (row : RowIs) (locks : ℕ) (by : ℕ → SeatName) (fits 
         (refl, ap rest hand),
       )
 
--- 1 less, where the word has 64 bits
+-- 1 less, if the word has 64 bits
 to_zero : (n : ℕ) → n ≡ 1 → (n + 18446744073709551615) % 18446744073709551616 ≡ 0
 to_zero n is_one = ap (λ k. (k + 18446744073709551615) % 18446744073709551616) is_one
 
@@ -127,7 +127,7 @@ module _ {T : Type 0} (row : RowIs) (locks : ℕ) (by : ℕ → SeatName) (fits 
       miss : get_or s.words (place_of w) 0 ≢ 0 → Goal (get_or s.words (place_of w) 0)
       miss away = seizes row locks by fits shown slots' id me one w (get_or s.words (place_of w) 0) empty none_taken inside away s kept homes at small
 
-  -- a lock that is waited for stays taken where its word becomes 1 less
+  -- a lock that is waited for stays taken if its word becomes 1 less
   pub drops : (w : ℕ) (x : T) (b : List SeatAnswer) (c : List AtomicStep) → me.1 ≡ (w, x) ∷ [] → own_pass.taken ≡ Some (taken w b c) → fits own_pass.row.value w x → StartsWith (seen (shown x)) b → slots' ≡ locks
       → Allows (LocksRule row locks by fits shown) slots' id me (place_of w) (λ n. (n + (2 ^ 64 - 1)) % 2 ^ 64) (LetsGo shown (step slots' (place_of w) 1 0 none) me)
   drops w x b c hand has fit grows as_many s kept homes at small = elim (cases_eq (get_or s.words (place_of w) 0) 1) [

@@ -108,7 +108,7 @@ module _ {T : Type 0} (row : RowIs) (locks : ℕ) (by : ℕ → SeatName) (fits 
     ordered = λ n k m i t u h j. kept.ordered n k m i t u (turn_back n k t h) (turn_back m i u j);
   }
 
--- the same where no pass comes
+-- the same if no pass comes
 module _ {T : Type 0} (row : RowIs) (locks : ℕ) (by : ℕ → SeatName) (fits : RowIs → ℕ → T → Type 0) (shown : T → Seated) (s : State T Passes) (kept : LocksRule row locks by fits shown s) (views : List Passes) (f : Place → Place)
     (back : (z : Place) (p : Pass) → pass_at views z ≡ some p → (y : Place) × (f y ≡ z) × (pass_at s.views y ≡ some p))
     (there : (z : Place) (p : Pass) → pass_at s.views z ≡ some p → pass_at views (f z) ≡ some p) where
@@ -269,7 +269,7 @@ module _ {T : Type 0} (row : RowIs) (locks : ℕ) (by : ℕ → SeatName) (fits 
   pub comes : (id : ℕ) (v : Passes) → v ≡ alone (pass_of v) → Splits (LocksRule row locks by fits shown) id v (parent v) (further v)
   comes id v one = subst (λ (y : Passes). Splits (LocksRule row locks by fits shown) id y (parent y) (further y)) (sym one) (further_comes id (pass_of v))
 
-  -- the last further pass goes back, where it has done nothing
+  -- the last further pass goes back, if it has done nothing
   goes_back : (id other : ℕ) (p : Pass) → Joins (LocksRule row locks by fits shown) id (alone (with_further p)) other (alone (further_of p)) (alone p) spent
   goes_back id other p s kept at apart there =
       let there' = sym (set_else s.views id other (alone p) apart) ∙ there in

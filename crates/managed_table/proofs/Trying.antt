@@ -49,7 +49,7 @@ module _ (table : ManagedIs) (before after : CallerIs) (own : IsCallerOf table b
   leaf_tried worker slot kind reply Did (Some r) t told =
       let d = told r t.taken t.left t.did in leaf_call_made (row_of before) worker slot (Did r) before.leaves.pass after.leaves.pass refl t kind (reply r) (is_of t.left d.0) d.1
 
-  -- the same where it may not have been tried at all
+  -- the same if it may not have been tried at all
   pub leaf_tried_if : {R : Type 0} (worker slot : ℕ) (kind : LeafCall) (reply : R → Reply) (Did : R → Seated → Seated → Type 0) (o : Option (Option R)) → IfSome o (LeafTurned worker Did)
       → ((r : R) (x y : Seated) → Did r x y → IsOf table.row y × LeafAnswered x.view slot kind (reply r) y.view)
       → IfSome o (λ p. MatchOption p (LeafMissed worker tries before after) (λ r. MadeOneCall (row_of before) worker (name_is.Leaf worker) (leaf_call kind worker slot) (reply r) before.leaves.pass after.leaves.pass))
@@ -63,7 +63,7 @@ module _ (table : ManagedIs) (before after : CallerIs) (own : IsCallerOf table b
   leaf_looked worker slot count Did (Some r) t told =
       let d = told r t.taken t.left t.did in leaf_shown (row_of before) worker slot (Did r) before.leaves.pass after.leaves.pass refl t (count r) d.0 d.1 d.2
 
-  -- the same where it may not have been tried at all
+  -- the same if it may not have been tried at all
   pub leaf_looked_if : {R : Type 0} (worker slot : ℕ) (count : R → ℕ) (Did : R → Seated → Seated → Type 0) (o : Option (Option R)) → IfSome o (LeafTurned worker Did)
       → ((r : R) (x y : Seated) → Did r x y → KnowsTable x.view × (y.view ≡ x.view) × (count_of x.view slot ≡ count r))
       → IfSome o (λ p. MatchOption p (LeafMissed worker tries before after) (λ r. MadeNoCall (row_of before) worker (HoldsSoOften worker slot (count r)) before.leaves.pass after.leaves.pass))

@@ -123,11 +123,11 @@ module _ {T : Type 0} where
   abbrev pub Misses : ℕ → ℕ → Me T Passes → Me T Passes → Type 0
   Misses lock times me me' = (me'.0 ≡ alone (with_misses (pass_of me.0) lock times)) × (me'.1 ≡ me.1)
 
-  -- where the word is 0 nothing is known; else the lock was found taken
+  -- if the word is 0 nothing is known; else the lock was found taken
   abbrev pub Looks : Step T → Me T Passes → ℕ → Me T Passes → Type 0
   Looks st me found me' = (lock : ℕ) → st.word ≡ place_of lock → MatchBool (found == 0) (IsSame me me') (Misses lock 1 me me')
 
-  -- where the word was 0 the lock is taken; else it was found taken
+  -- if the word was 0 the lock is taken; else it was found taken
   abbrev pub Seizes : (RowIs → ℕ → T → Type 0) → (T → Seated) → Step T → Me T Passes → ℕ → Me T Passes → Type 0
   Seizes fits shown st me found me' =
       (lock : ℕ) → st.word ≡ place_of lock → MatchBool (found == 0) (HasTaken fits shown lock [] (pass_of me.0) me') (Misses lock 1 me me')
@@ -144,7 +144,7 @@ module _ {T : Type 0} where
   abbrev pub Releases : (T → Seated) → Step T → Me T Passes → ℕ → Me T Passes → Type 0
   Releases shown st me found me' = (me'.0 ≡ after_turn shown me) × (me'.1 ≡ [])
 
-  -- where the word was the number that is subtracted, the turn is over; else nothing is known
+  -- if the word was the number that is subtracted, the turn is over; else nothing is known
   abbrev pub LetsGo : (T → Seated) → Step T → Me T Passes → ℕ → Me T Passes → Type 0
   LetsGo shown st me found me' = MatchBool (found == st.first) (Releases shown st me found me') (IsSame me me')
 

@@ -15,7 +15,7 @@ impl ManagedTable {
     ghost use Rattle.managed_table.specs.Shown.{IsInState, HasLoaded, HasLoadedAt, HasNoneAt};
     ghost use Rattle.managed_table.specs.Callers.{IsCallerOf, BookMade, BookShown};
 
-    /// Begins a load. It is None exactly where the slot is out of range.
+    /// Begins a load. It is None exactly if the slot is out of range.
     ///
     /// Else the caller made one turn more: in it the book made this one call, which was answered so.
     pub fn begin_load<R: Wait>(
@@ -148,7 +148,7 @@ impl ManagedTable {
         })
     }
 
-    /// The loaded module at this place, the oldest first. It is None where no more modules are loaded. The turn makes no call.
+    /// The loaded module at this place, the oldest first. It is None if no more modules are loaded. The turn makes no call.
     pub fn loaded_at<R: Wait>(&self, rt: &R, caller: &mut Caller, place: usize) -> Option<usize>
         requires own { IsCallerOf self.now caller.old }
         ensures own { IsCallerOf self.now caller.new }

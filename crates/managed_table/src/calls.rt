@@ -9,7 +9,7 @@ impl ManagedTable {
     ghost use Rattle.managed_table.specs.Callers.{IsCallerOf};
     ghost use Rattle.managed_table.specs.Calls.{CanBeMade, CallMade};
 
-    /// Makes a call. It is None exactly where the worker or the slot is out of range, and of a query, which takes no lock.
+    /// Makes a call. It is None exactly if the worker or the slot is out of range, and of a query, which takes no lock.
     ///
     /// Else the caller made one turn more: in it the worker's leaf, or the book, made this one call, which was answered so.
     pub fn make<R: Wait>(&self, rt: &R, caller: &mut Caller, call: Call) -> Option<Reply>

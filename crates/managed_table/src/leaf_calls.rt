@@ -11,9 +11,9 @@ impl ManagedTable {
     ghost use Rattle.managed_table.specs.Callers.{IsCallerOf, IsInside, IsOutside, LeafMade, LeafShown, LeafTurned};
     ghost use Rattle.managed_table.specs.Tries.{GaveUp, AnsweredWithin};
 
-    /// Takes one reference for the worker. It is None exactly where the worker or the slot is out of range.
+    /// Takes one reference for the worker. It is None exactly if the worker or the slot is out of range.
     ///
-    /// Else the caller made one turn more: in it the worker's leaf made this one call, which was answered so. Where another
+    /// Else the caller made one turn more: in it the worker's leaf made this one call, which was answered so. If another
     /// worker changed the module's word between, the leaf tries again.
     pub fn get<R: Wait>(
         &self,

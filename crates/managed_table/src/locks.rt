@@ -88,7 +88,7 @@ impl<T: Keyed + Drop> Locks<T> {
         self.table.shared.join_seat::<TakeBack>(seat, further);
     }
 
-    // Takes the lock where it is free, and else leaves it as it is.
+    // Takes the lock if it is free, and else leaves it as it is.
     #[inline(always)]
     pub(crate) fn try_take(&self, seat: &mut Seat<T, Passes>, lock: usize) -> bool
         requires inside { lock < self.now.table.shared.key.locks }
@@ -100,7 +100,7 @@ impl<T: Keyed + Drop> Locks<T> {
         shared.compare_exchange::<Seize<T>>(seat, (lock + 1) * WORDS_APART, FREE, HELD) == FREE
     }
 
-    // Marks the lock as waited for, and takes it where it was free.
+    // Marks the lock as waited for, and takes it if it was free.
     fn mark(&self, seat: &mut Seat<T, Passes>, lock: usize) -> bool
         requires inside { lock < self.now.table.shared.key.locks }
         requires free { IsFree self.now.table.shared.table_id self.now.table.shared.key.row.value seat.old }
@@ -111,7 +111,7 @@ impl<T: Keyed + Drop> Locks<T> {
         shared.swap::<Seize<T>>(seat, (lock + 1) * WORDS_APART, WAITED_FOR) == FREE
     }
 
-    /// Takes a lock, and waits for it where another pass has it.
+    /// Takes a lock, and waits for it if another pass has it.
     #[inline(always)]
     fn take<R: Wait>(&self, rt: &R, seat: &mut Seat<T, Passes>, lock: usize)
         requires inside { lock < self.now.table.shared.key.locks }
@@ -159,7 +159,7 @@ impl<T: Keyed + Drop> Locks<T> {
         act(seat.slot_mut(&self.table.shared, lock))
     }
 
-    // Lets go of the lock where nobody waits for it. Else the pass is as it was.
+    // Lets go of the lock if nobody waits for it. Else the pass is as it was.
     #[inline(always)]
     fn try_let_go(&self, seat: &mut Seat<T, Passes>, lock: usize) -> bool
         requires inside { lock < self.now.table.shared.key.locks }

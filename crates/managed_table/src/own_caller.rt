@@ -90,7 +90,7 @@ impl OwnCaller {
         Ok(OwnCaller { caller, table })
     }
 
-    /// The last further caller that came from this one goes back, where it has done nothing.
+    /// The last further caller that came from this one goes back, if it has done nothing.
     pub fn take_back(&mut self, further: OwnCaller)
         requires last { (before : CallerIs) × GaveFurther before self.old further }
         ensures back { (before : CallerIs) → GaveFurther before self.old further → self.new ≡ before }

@@ -33,7 +33,7 @@ impl<T: Keyed> Play<T, Passes> for Release<T> {
     ghost then = { Releases T.shown };
 }
 
-/// The turn is over where nobody waits for the lock.
+/// The turn is over if nobody waits for the lock.
 pub(crate) struct LetGo<T> {
     marker: PhantomData<T>,
 }

@@ -103,7 +103,7 @@ impl ManagedTable {
         }
     }
 
-    /// The last further caller that came from the given one goes back, where it has done nothing. Two loads.
+    /// The last further caller that came from the given one goes back, if it has done nothing. Two loads.
     pub(crate) fn take_back(&self, caller: &mut Caller, further: Caller)
         requires own { IsCallerOf self.now caller.old × IsCallerOf self.now further }
         requires last { (before : CallerIs) × GaveFurther before caller.old further }
@@ -139,7 +139,7 @@ impl ManagedTable {
         reader.in_use(&self.row, slot)
     }
 
-    // One turn of the lock of the worker's leaf, where worker and slot are in range. It makes the steps of `Locks::turn` itself:
+    // One turn of the lock of the worker's leaf, if worker and slot are in range. It makes the steps of `Locks::turn` itself:
     // behind each call that may wait the compiled code has a check.
     #[inline(always)]
     pub(crate) fn leaf_turn<R: Wait, A, F: FnOnce(&mut Leaf) -> A>(

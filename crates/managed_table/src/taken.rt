@@ -77,7 +77,7 @@ impl ManagedTable {
         answer
     }
 
-    // A turn with a get, where the lock was taken at a try.
+    // A turn with a get, if the lock was taken at a try.
     #[cold]
     #[inline(never)]
     pub(crate) fn wait_and_get<R: Wait>(
@@ -95,7 +95,7 @@ impl ManagedTable {
         self.end_by_long_get(rt, seat, worker, slot)
     }
 
-    // A turn with a put, where the lock was taken at a try.
+    // A turn with a put, if the lock was taken at a try.
     #[cold]
     #[inline(never)]
     pub(crate) fn wait_and_put<R: Wait>(

@@ -1,4 +1,4 @@
-//! Turns that are given up where the lock is taken.
+//! Turns that are given up if the lock is taken.
 ghost use Rattle.std.specs.Prelude.{◌≡◌, ◌<◌, ◌≤◌, ◌⊎◌, [], IfSome, IfNone, MatchBool, MatchOption};
 ghost use Rattle.std.specs.Fn.{FnOnceReturnsAtMut};
 ghost use Rattle.dep_index.specs.Refusals.{reply_of, get_refusal};
@@ -35,7 +35,7 @@ impl<T: Keyed + Drop> Locks<T> {
         shared.load::<Look>(seat, (lock + 1) * WORDS_APART) == FREE
     }
 
-    // Takes the lock where it is free.
+    // Takes the lock if it is free.
     #[inline(always)]
     fn take_free(&self, seat: &mut Seat<T, Passes>, lock: usize) -> bool
         requires inside { lock < self.now.table.shared.key.locks }
@@ -79,7 +79,7 @@ impl<T: Keyed + Drop> Locks<T> {
         shared.swap::<Release<T>>(seat, (lock + 1) * WORDS_APART, FREE);
     }
 
-    /// As `turn`, but it never waits and wakes nobody, for locks that nobody waits for. It is None where the lock was found taken
+    /// As `turn`, but it never waits and wakes nobody, for locks that nobody waits for. It is None if the lock was found taken
     /// at each of so many tries, and nothing else was done.
     #[inline(always)]
     pub fn try_turn<A, F: FnOnce(&mut T) -> A + Drop>(

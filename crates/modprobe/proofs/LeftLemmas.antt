@@ -1,4 +1,4 @@
--- What is left of a source, where it is told.
+-- What is left of a source, if it is told.
 use Rattle.std.proofs.Common.{◌≡◌, ℕ, ◌+◌, ◌<◌, ◌≤◌, Bool, true, false, List, [], ◌∷◌, ◌++◌, length, take, drop, get_or, suc, add-one, refl, sym, ap, subst, ◌∙◌, arith, take-append-drop}
 use Rattle.std.specs.Prelude.{◌==◌, Option, Some, None}
 use Rattle.std.specs.Option.{option_map}
@@ -17,7 +17,7 @@ use Rattle.modprobe.specs.declared.lines.LineFault.TheVariants.{LongLine}
 use Rattle.modprobe.specs.Lines.{bytes_left, StoppedReading, left_of, HasNoFeed, IfTold, BeginsWithLongLine, GivesLine}
 use Rattle.modprobe.proofs.LineLemmas.{begins_with_long_line}
 
--- The text begins with a line that is too long, where the line and the bytes that go to it are.
+-- The text begins with a line that is too long, if the line and the bytes that go to it are.
 pub long_taken : (line piece : List ℕ) (count : ℕ) (at_end : Bool) (told : Option (List ℕ)) → count ≤ length piece → at_end ≡ false → HasNoFeed line → HasNoFeed (take count piece) → 65536 < length line + count
     → IfTold (option_map (λ rest. line ++ rest) (left_of at_end piece told)) BeginsWithLongLine
 long_taken line piece count at_end None within going none none' long = tt

@@ -41,7 +41,7 @@ counts_errors workers (Some old) (Some middle) s start errors gives opens counte
     let P : List (List ℕ) → Type 0 = λ ls. errors ≡ min (error_count s (opening_of s workers) ls) (2 ^ 64 - 1) in
     (s, cut_lines middle, gives, subst P (sym (lines_have_texts middle)) (rw opens at counted))
 
--- Where nothing is left for further lines, the source is at its end.
+-- If nothing is left for further lines, the source is at its end.
 pub source_end : (at_end : Bool) (unused : List ℕ) (told : Option (List ℕ)) → (at_end ≡ true → IsAtEnd told) → IsAtEnd (left_of at_end unused told) → IsAtEnd told
 source_end true unused told ended is = ended refl
 source_end false unused None ended is = tt

@@ -115,7 +115,7 @@ stops_somehow : (old : Option (List ℕ)) → IfTold old (λ text. ⊤)
 stops_somehow None = tt
 stops_somehow (Some text) = tt
 
--- A fault of the lines says why the sections stop, where it is a long line.
+-- A fault of the lines says why the sections stop, if it is a long line.
 pub stops_as : (old middle : Option (List ℕ)) (current : Option Section) (parts : Parts) (fault : LineFault)
     → SectionsGoOn old middle current parts → (fault ≡ LongLine → IfTold middle BeginsWithLongLine) → IfTold old (λ text. StopsAs (setup_code_of fault) text)
 stops_as old middle current parts Read before long = stops_somehow old
@@ -136,7 +136,7 @@ refuses_setup (Some old) None parts fault gives refused = absurd gives
 refuses_setup (Some old) (Some new) parts fault gives refused =
     subst (λ (r : Result (Parts × List Line) Stopped). Refuses fault (of_sections r)) (sym gives) (refused (cut_lines new))
 
--- Where the lines stop at the source, the sections go on in the line in hand.
+-- If the lines stop at the source, the sections go on in the line in hand.
 pub setup_stops : (old middle left ungiven : Option (List ℕ)) (done : List Line) (current : Option Section) (parts : Parts) (fault : LineFault) (line : List ℕ)
     → GivesCuts old middle done → steps_of None no_parts done ≡ go current parts → AllEnded done → (fault ≢ LongLine → IsPartOfLine middle left line) → (fault ≡ Read → left ≡ ungiven) → (fault ≡ Turns → left ≡ ungiven)
     → SetupStops (setup_code_of fault) old ungiven line

@@ -15,7 +15,7 @@ use Rattle.modprobe.specs.declared.half.Half.TheVariants as half_is
 use Rattle.modprobe.specs.Setup.{Setup, name_at}
 use Rattle.modprobe.specs.Refusals.{Refusal, refuse, code_of, unload_code}
 
--- a change of the table: a refusal, where it met one, and the table that it leaves
+-- a change of the table: a refusal, if it met one, and the table that it leaves
 abbrev pub Change : Type 0
 Change = Option Refusal × Table
 
@@ -36,7 +36,7 @@ abbrev pub call_change : Setup → (Reply → Code) → ℕ → Call → Table �
 call_change s code slot call t =
     (refusal_of s code slot (reply (modules_of s.catalogue) t call), next (modules_of s.catalogue) t call)
 
--- the end of a load; where a parameter has no good value the load fails, and the module leaves the table
+-- the end of a load; if a parameter has no good value the load fails, and the module leaves the table
 abbrev pub end_of_load : Setup → ℕ → Bool → Table → Change
 end_of_load s slot true t = call_change s code_of slot (call.EndLoad slot true) t
 end_of_load s slot false t = call_change s code_of slot (call.EndLoad slot false) t then (λ u. (refuse Einval (name_at s slot), u))
@@ -46,7 +46,7 @@ abbrev pub one_load : Setup → ℕ → List (List ℕ) → Table → Change
 one_load s slot words t =
     call_change s code_of slot (call.BeginLoad slot) t then (λ u. end_of_load s slot (are_valid (description_at s.catalogue slot) words) u)
 
--- a removal is two calls, and the second alone where the module is draining
+-- a removal is two calls, and the second alone if the module is draining
 abbrev pub one_removal : Setup → ℕ → Table → Change
 one_removal s slot t =
     if is_draining (state_of t.book slot) then call_change s unload_code slot (call.EndRemove slot) t

@@ -138,7 +138,7 @@ is_text_code M2 = true
 is_text_code M3 = true
 is_text_code _ = false
 
--- a fault of the sections has the line 1 where it is an early line, and else none
+-- a fault of the sections has the line 1 if it is an early line, and else none
 abbrev pub line_of : SetupCode → Option ℕ
 line_of B1 = Some 1
 line_of _ = None

@@ -18,7 +18,7 @@ HasNoFeed bytes = All (λ byte. (byte == 10) ≡ false) bytes
 abbrev pub left_of : Bool → List ℕ → Option (List ℕ) → Option (List ℕ)
 left_of at_end unused told = option_map (λ rest. if at_end then [] else unused ++ rest) told
 
--- the bytes that are left for further lines, where the source tells them
+-- the bytes that are left for further lines, if the source tells them
 abbrev pub bytes_left : {R : Type 0} → (R → Option (List ℕ)) → Lines R → Option (List ℕ)
 bytes_left remaining s = left_of s.at_end s.piece (remaining s.reader.now)
 
@@ -58,7 +58,7 @@ steps_left s = s.turns * 4097 + length s.piece
 abbrev pub BeginsWithLongLine : List ℕ → Type 0
 BeginsWithLongLine text = (line : List ℕ) × (more : List (List ℕ)) × (lines text ≡ line ∷ more) × (65535 < length line)
 
--- the fact holds of the text, where it is told
+-- the fact holds of the text, if it is told
 abbrev pub IfTold : Option (List ℕ) → (List ℕ → Type 0) → Type 0
 IfTold None P = ⊤
 IfTold (Some text) P = P text
@@ -93,7 +93,7 @@ texts cut = map (λ (line : Line). line.text) cut
 abbrev pub SpendsTurns : {R : Type 0} → (R → ℕ) → Lines R → Lines R → Type 0
 SpendsTurns read_count old new = read_count new.reader.now + new.turns ≡ read_count old.reader.now + old.turns
 
--- where the lines are known to be at their end, the source is at its own
+-- if the lines are known to be at their end, the source is at its own
 abbrev pub HasTrueEnd : {R : Type 0} → (R → Option (List ℕ)) → Lines R → Type 0
 HasTrueEnd remaining s = s.at_end ≡ true → IsAtEnd (remaining s.reader.now)
 
@@ -118,7 +118,7 @@ StopsForTurns remaining old new =
     (new.turns ≡ 0) × (old.at_end ≡ false) × GaveAtLeast old.turns (remaining old.reader.now) (remaining new.reader.now)
 
 -- What is at hand where reading stops: the bytes that are left of the input, those of them that the source has not
--- given yet, what was read of a line, and the end of that line, where it was read.
+-- given yet, what was read of a line, and the end of that line, if it was read.
 pub record AtHand : Type 0 where
   pub left : Option (List ℕ)
   pub ungiven : Option (List ℕ)
@@ -202,7 +202,7 @@ pub record FoundEnd {R : Type 0} (remaining : R → Option (List ℕ)) (old new 
   pub kept : Keeps (bytes_left remaining old) (bytes_left remaining new)
   pub paid : IsPaid remaining old new
 
--- No line was given, for a fault. What was read of it is in hand and has no end, unless it is too long. Where the source
+-- No line was given, for a fault. What was read of it is in hand and has no end, unless it is too long. If the source
 -- failed, or may not be read again, that is all that it gave.
 pub record StoppedReading {R : Type 0} (fault : LineFault) (remaining : R → Option (List ℕ)) (old new : Lines R) : Type 0 where
   pub going : old.at_end ≡ false

@@ -64,7 +64,7 @@ abbrev pub rest_removals : Setup → List ℕ → Table → Table
 rest_removals s [] t = t
 rest_removals s (slot ∷ slots) t = rest_removals s slots (rest_removal s slot t)
 
--- one removal plan: its module, and then the rest; where the module is absent by now there is nothing to do
+-- one removal plan: its module, and then the rest; if the module is absent by now there is nothing to do
 abbrev pub plan_removal : Setup → List ℕ → Table → Change
 plan_removal s [] t = (None, t)
 plan_removal s (slot ∷ rest) t =

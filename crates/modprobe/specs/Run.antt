@@ -1,4 +1,4 @@
--- What a run leaves, also where it stops.
+-- What a run leaves, also if it stops.
 use Rattle.std.specs.Prelude.{◌≡◌, ℕ, ◌<◌, ◌≤◌, ◌⊎◌, Bool, true, false, List, [], ◌∷◌, ◌++◌, All, length, Option, Result, Ok, Err, take}
 use Rattle.std.specs.Io.KnownBytes.{Appends, prepend_known}
 use Rattle.text_parts.specs.Text.{Line}
@@ -36,7 +36,7 @@ StoppedAtLongLine s start text held written table =
     (done : List Line) × (rest : Option (List ℕ)) × Answered s start text rest held written table done × AllEnded done
     × IfTold rest BeginsWithLongLine
 
--- the line in hand, where it was read whole
+-- the line in hand, if it was read whole
 abbrev pub line_in : AtHand → Line
 line_in hand = record { text = hand.line; ending = hand.ending }
 

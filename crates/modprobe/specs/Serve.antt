@@ -38,7 +38,7 @@ StopsInSession workers fault input ungiven held written =
     × ((hand : AtHand) × (table : Table) × (hand.ungiven ≡ ungiven)
     × StandsAfter fault s (opening_of s workers) (Some session) hand held written table)
 
--- what stands after each fault: where the session has not begun, nothing was written
+-- what stands after each fault: if the session has not begun, nothing was written
 abbrev pub ServeStands : ℕ → ServeFault → Option (List ℕ) → Option (List ℕ) → Option (List ℕ) → Option (List ℕ) → Type 0
 ServeStands workers (serve_fault.Setup fault) told ungiven held written =
     Keeps held written × IfTold told (λ input. Refuses fault (setup_of input))

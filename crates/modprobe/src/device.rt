@@ -14,7 +14,7 @@ pub struct Failed;
 
 /// A device that gives bytes.
 pub trait Source {
-    // The bytes that it has left to give, or `None` where it does not tell them.
+    // The bytes that it has left to give, or `None` if it does not tell them.
     ghost remaining: { Self → Option (List ℕ) };
 
     // How often it was read.
@@ -23,7 +23,7 @@ pub trait Source {
     // A read has failed.
     ghost has_failed: { Self → Bool };
 
-    /// Reads some bytes to the front of `buffer`: none only at the end, or where there is no room.
+    /// Reads some bytes to the front of `buffer`: none only at the end, or if there is no room.
     /// A read that fails takes no byte.
     fn read(&mut self, buffer: &mut [u8]) -> Result<usize, Failed>
         requires { has_failed self.old ≡ false }
@@ -39,7 +39,7 @@ pub trait Source {
 
 /// A device that takes bytes.
 pub trait Sink {
-    // The bytes that it has taken, or `None` where it does not tell them.
+    // The bytes that it has taken, or `None` if it does not tell them.
     ghost contents: { Self → Option (List ℕ) };
 
     // A write has failed, or has taken none of some bytes.

@@ -50,7 +50,7 @@ pub enum SetupCode {
     LongLine,
 }
 
-/// Why an input has no setup, and the line where the code has one: of the catalogue text for C1 to C4, of
+/// Why an input has no setup, and the line if the code has one: of the catalogue text for C1 to C4, of
 /// the text of modules.dep for M1 to M3, 1 for B1.
 #[derive(Clone, Copy, Debug, PartialEq, Eq, Drop)]
 pub struct SetupFault {

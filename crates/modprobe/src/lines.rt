@@ -110,7 +110,7 @@ impl<'a, R: Source> Lines<'a, R> {
         }
     }
 
-    // Reads a piece where none is left of the last one. It answers whether there is one.
+    // Reads a piece if none is left of the last one. It answers whether there is one.
     fn fetch(&mut self) -> Result<bool, LineFault>
         requires { R.has_failed (source_of self.old) ≡ false }
         ensures same_reader { SameReader self.old self.new }

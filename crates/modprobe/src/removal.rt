@@ -27,7 +27,7 @@ impl Model for RemovalPlan {
 
 #[tactic(auto, using(crate::proofs::SlotLemmas::modules_of_length))]
 impl<'s, 't, M: Modules> Session<'s, 't, M> {
-    /// Removes a module of the rest of a plan, where that can be done.
+    /// Removes a module of the rest of a plan, if that can be done.
     fn remove_from_rest(&mut self, slot: usize)
         requires { slot < length self.old.setup.now.catalogue }
         ensures { Becomes self.old self.new (λ s t. rest_removal s slot t) }

@@ -18,7 +18,7 @@ use crate::watch::{Refused, Watch};
 use seq_table::Modules;
 use std::alloc::Global;
 
-/// Writes all bytes. Where that fails, a front part of them was written.
+/// Writes all bytes. If that fails, a front part of them was written.
 fn write_all<W: Sink>(writer: &mut W, bytes: &[u8]) -> Result<(), Failed>
     requires { W.has_failed writer.old ≡ false }
     ensures ok { OnOk result (Appends (W.contents writer.old) (W.contents writer.new) bytes.now) }

@@ -17,7 +17,7 @@ pub trait Watch {
     /// A fault ended the reading, with this line in hand, or the part of it that was read.
     fn stop(&mut self, _line: &[u8]) {}
 
-    /// These are the texts of the sections, as far as they were read, also where that ended with a fault.
+    /// These are the texts of the sections, as far as they were read, also if that ended with a fault.
     fn texts(&mut self, _texts: Texts) {}
 
     /// This is the setup that the texts make.

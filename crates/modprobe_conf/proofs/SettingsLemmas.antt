@@ -13,7 +13,7 @@ told false = inr refl
 same_name : (a b : List ℕ) → bytes_eq a b ≡ true → a ≡ b
 same_name a b h = (bytes_eq-Decides a b).0 h
 
--- where two names are not the same, no name is the same as both
+-- if two names are not the same, no name is the same as both
 other_name : (q own known : List ℕ) → bytes_eq own known ≡ false → bytes_eq q known ≡ true → bytes_eq q own ≡ false
 other_name q own known apart is = by (told (bytes_eq q own))
   where

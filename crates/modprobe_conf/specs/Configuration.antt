@@ -142,7 +142,7 @@ settings_by ls =
       is_blacklisted = list_any is_blacklist ls;
     }
 
--- a softdep line counts where there was none
+-- a softdep line counts if there was none
 abbrev pub or_first : Option SoftItems → SoftItems → Option SoftItems
 or_first None items = Some items
 or_first (Some first) items = Some first

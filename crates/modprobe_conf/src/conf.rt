@@ -150,7 +150,7 @@ impl Conf {
         self.aliases.matching(alloc, text)
     }
 
-    /// All that is said of the name, None where no line names it: one look-up for what the calls below tell one by
+    /// All that is said of the name, None if no line names it: one look-up for what the calls below tell one by
     /// one.
     pub fn settings(&self, name: &[u8]) -> Option<&Settings>
         ensures { MatchOption result

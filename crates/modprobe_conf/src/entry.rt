@@ -86,7 +86,7 @@ fn read_short(alloc: Global, word: &[u8], name: &[u8]) -> Result<Option<Entry>, 
 }
 
 impl Entry {
-    /// What the words of a line say, None where they have no effect.
+    /// What the words of a line say, None if they have no effect.
     pub(crate) fn read(alloc: Global, words: &[&[u8]]) -> Result<Option<Entry>, AllocError>
         ensures { IfOk result (λ entry. option_map entry_seen entry
             ≡ entry_of (texts_of words.now)) }

@@ -48,7 +48,7 @@ impl<'a> Model for JoinedLines<'a> {
     ghost invariant = { λ joined. joined.number + length joined.lines < 2 ^ 64 };
 }
 
-/// The line without the backslash at its end, where it has one.
+/// The line without the backslash at its end, if it has one.
 fn before_backslash(line: &[u8]) -> Option<&[u8]>
     ensures { MatchOption result
         (ends_with_backslash line.entry.now ≡ false)

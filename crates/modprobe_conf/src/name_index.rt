@@ -33,7 +33,7 @@ impl NameIndex {
         }
     }
 
-    /// What is said of a name, None where no line names it.
+    /// What is said of a name, None if no line names it.
     pub(crate) fn at(&self, name: &[u8]) -> Option<&Settings>
         ensures { MatchOption result
             (settings_in self.now name.now ≡ settings_by [])

@@ -9,7 +9,7 @@ use modprobe_words::{Level, Messages};
 use std::alloc::AllocError;
 use std::io::{self, ErrorKind, Write};
 
-/// Why a file was not read, in C's words where it has them.
+/// Why a file was not read, in C's words if it has them.
 pub(crate) fn reason(error: &io::Error) -> &'static [u8] {
     match error.kind() {
         ErrorKind::NotFound => b"No such file or directory",
@@ -22,7 +22,7 @@ pub(crate) fn reason(error: &io::Error) -> &'static [u8] {
     }
 }
 
-/// Tells that a file was not read. Want of memory is no such fault.
+/// Tells that a file was not read. Out of memory is no such fault.
 pub fn tell_unread<E: Write>(
     path: &[u8],
     error: &io::Error,
@@ -90,7 +90,7 @@ pub fn tell_folder<S: System, E: Write>(
     Ok(())
 }
 
-/// Tells that the folder of `--root` is none, where it is none. Whether it was told is answered.
+/// Tells that the folder of `--root` is none, if it is none. Returns whether it was told.
 pub fn is_rootless<S: System, E: Write>(
     host: &Host<'_, S>,
     root: &[u8],

@@ -118,7 +118,7 @@ fn add_source(alloc: Global, files: &mut Vec<File>, source: &Source) -> Result<(
 }
 
 /// The files that count, in the order in which they are read: of files of one name that of the first source, sorted by
-/// the bytes of names. Only want of memory refuses.
+/// the bytes of names. It fails only out of memory.
 pub fn counted_files(alloc: Global, sources: &[Source]) -> Result<Vec<File>, AllocError>
     ensures { IfOk result (λ files. files_of files.items ≡ counted_files (sources_of sources.now)) }
 {

@@ -6,7 +6,7 @@ use crate::texts::HiddenFile;
 use std::alloc::{AllocError, Global};
 use text_parts::is_same;
 
-/// Notes a file, where the one of its name that counts is another.
+/// Notes a file, if the one of its name that counts is another.
 fn add_file(
     alloc: Global,
     hidden: &mut Vec<HiddenFile>,
@@ -41,7 +41,7 @@ fn add_folder(
     Ok(())
 }
 
-/// The files of sources that are not among those that count. Only want of memory refuses.
+/// The files of sources that are not among those that count. It fails only out of memory.
 pub(crate) fn hidden_files(
     alloc: Global,
     sources: &[Source],

@@ -40,7 +40,7 @@ impl<S: System> Host<'_, S> {
         }
     }
 
-    /// The current folder, where there is no root.
+    /// The current folder, if there is no root.
     pub fn current_folder(&self) -> io::Result<Option<Vec<u8>>> {
         if self.system.is_rooted() {
             return Ok(None);
@@ -75,7 +75,7 @@ impl<S: System> Host<'_, S> {
     }
 }
 
-/// Three parts of a path as one. Only want of memory refuses.
+/// Three parts of a path as one. It fails only out of memory.
 pub fn joined(
     alloc: Global,
     first: &[u8],

@@ -3,7 +3,7 @@ ghost use Rattle.std.specs.Prelude.{◌≡◌, ◌++◌, ◌∷◌, ℕ, List, t
 ghost use Rattle.std.specs.List.{flat_map};
 ghost use Rattle.modprobe_files.specs.Files.{File, Source, candidates, counted, counted_files, folder, has_name};
 
-/// A file has no influence where a source before it has one of its name (modprobe.d(5)): without it the same files count,
+/// A file has no influence if a source before it has one of its name (modprobe.d(5)): without it the same files count,
 /// in the same order. The second clause says so of a name of a folder.
 pub fn hidden_files_do_not_count()
     ensures file { (before after : List File) (file : File) → has_name before file.name ≡ true

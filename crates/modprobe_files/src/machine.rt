@@ -15,7 +15,7 @@ use std::io::{ErrorKind, Write};
 
 const RELEASE: &[u8] = b"/proc/sys/kernel/osrelease";
 
-/// The text of a file that may be missing. One that cannot be read is told, and has no text.
+/// The text of a file that may be missing. One that cannot be read is reported, and has no text.
 fn text_of<S: System, E: Write>(
     host: &Host<'_, S>,
     path: &[u8],
@@ -33,7 +33,7 @@ fn text_of<S: System, E: Write>(
     }
 }
 
-/// The release of the machine's kernel; None where that is not known. Without a root that is told, and within one the one
+/// The release of the machine's kernel; None if that is not known. Without a root that is reported, and within one the one
 /// release counts that is there.
 fn own_release<S: System, E: Write>(
     host: &Host<'_, S>,
@@ -75,7 +75,7 @@ fn parent<S: System>(host: &Host<'_, S>, path: &[u8]) -> Result<Vec<u8>, AllocEr
     }
 }
 
-/// The folder of modules, as it is printed; None where the release is not known, which is told.
+/// The folder of modules, as it is printed; None if the release is not known, which is reported.
 pub fn directory<S: System, E: Write>(
     host: &Host<'_, S>,
     asked: &Asked<'_>,
@@ -109,7 +109,7 @@ fn read_files<S: System, E: Write>(
     Ok(texts)
 }
 
-/// The files that count, and, where answers are explained, those that do not.
+/// The files that count, and, if answers are explained, those that do not.
 fn chosen_files<S: System, E: Write>(
     host: &Host<'_, S>,
     directory: &[u8],
@@ -142,7 +142,7 @@ pub fn read_configuration<S: System, E: Write>(
     })
 }
 
-/// The text of a file of a folder; empty where it is missing.
+/// The text of a file of a folder; empty if it is missing.
 fn text_in<S: System, E: Write>(
     host: &Host<'_, S>,
     directory: &[u8],

@@ -49,7 +49,7 @@ fn releases<S: System>(host: &Host<'_, S>, folder: &[u8]) -> Result<Vec<Vec<u8>>
     Ok(releases)
 }
 
-/// The one release of the folder of releases. Where there are more or none, None is answered, and they are told.
+/// The one release of the folder of releases. If there are more or none, it returns None and reports them.
 pub(crate) fn release_there<S: System, E: Write>(
     host: &Host<'_, S>,
     folder: &[u8],

@@ -27,7 +27,7 @@ fn paths_by_rank<'a>(named: &'a [&'a [u8]]) -> &'a [&'a [u8]]
     if named.is_empty() { &FOLDERS } else { named }
 }
 
-/// Whether a name of a folder is a folder itself, which is told.
+/// Whether a name of a folder is a folder itself, which is reported.
 fn is_folder<S: System, E: Write>(
     host: &Host<'_, S>,
     path: &[u8],
@@ -43,7 +43,7 @@ fn is_folder<S: System, E: Write>(
     Ok(is_folder)
 }
 
-/// The names of a folder that count and are no folders. A folder is told.
+/// The names of a folder that count and are no folders. A folder is reported.
 fn names_in<S: System, E: Write>(
     host: &Host<'_, S>,
     path: &[u8],
@@ -66,7 +66,7 @@ fn names_in<S: System, E: Write>(
     Ok(names)
 }
 
-/// The source of a path: a folder, a file, or nothing, which is told of a path that was named.
+/// The source of a path: a folder, a file, or nothing, which is reported of a path that was named.
 fn source_at<S: System, E: Write>(
     host: &Host<'_, S>,
     path: &[u8],

@@ -41,7 +41,7 @@ pub trait System {
     /// Whether there is a root that no path may leave.
     ghost is_rooted: { Self → Bool };
 
-    /// What stands at each place below the root; None where that is not told.
+    /// What stands at each place below the root; None if that is not told.
     ghost entries: { Self → Option Entries };
 
     /// Where its texts and names have their memory.
@@ -68,6 +68,6 @@ pub trait System {
     fn names(&self, place: &Place) -> io::Result<Vec<Vec<u8>>>
         requires { IsAllowed (is_rooted self.now) (entries self.now) place.now };
 
-    /// The current folder, where there is no root.
+    /// The current folder, if there is no root.
     fn current_folder(&self) -> io::Result<Vec<u8>>;
 }

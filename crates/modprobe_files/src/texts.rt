@@ -27,7 +27,7 @@ pub struct ConfTexts {
     /// In the order in which they count.
     pub files: Vec<TextFile>,
     pub command_line: Option<Vec<u8>>,
-    /// The files that are not read, where an answer is explained.
+    /// The files that are not read, if an answer is explained.
     pub hidden: Vec<HiddenFile>,
 }
 

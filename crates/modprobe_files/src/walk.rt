@@ -66,7 +66,7 @@ fn parts_of(alloc: Global, path: &[u8]) -> Result<Vec<Vec<u8>>, AllocError>
     Ok(parts)
 }
 
-/// One part more from a folder on. What stands there is answered; a link is not followed.
+/// One part more from a folder on. Returns what stands there; a link is not followed.
 #[tactic(auto, unfolding(crate::specs::Rooted::step_by))]
 fn enter<S: System>(system: &S, place: &mut Vec<Vec<u8>>, part: &[u8]) -> io::Result<Entry>
     requires folder { IsReached (S.entries system.now) (bytes_of place.old.items) }

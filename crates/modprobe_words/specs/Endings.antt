@@ -41,7 +41,7 @@ shown_by help = Some HELP.now
 shown_by (bad_wait text) = None
 shown_by (refused why) = None
 
--- the status where a text is to be shown is 0 only if it was written, and where there is none, it is 1
+-- the status if a text is to be shown is 0 only if it was written, and if there is none, it is 1
 abbrev pub IsShown : Option (List ℕ) → Option (List ℕ) → Option (List ℕ) → ℕ → Type 0
 IsShown None before after status = status ≡ 1
 IsShown (Some text) before after status = status ≡ 0 → Appends before after text

@@ -26,7 +26,7 @@ fn fill<R: Env>(rt: &R, asking: Asking<'_>, buffer: &mut [u8]) -> Result<usize, 
     }
 }
 
-/// What is there, None where nothing is.
+/// What is there, None if nothing is.
 fn told<R: Env + AllocGlobal>(rt: &R, asking: Asking<'_>) -> Result<Option<Vec<u8>>, AllocError> {
     let mut room = Vec::from_slice(rt.alloc(), &ROOM)?;
     for _turn in 0..TURNS {
@@ -42,7 +42,7 @@ fn told<R: Env + AllocGlobal>(rt: &R, asking: Asking<'_>) -> Result<Option<Vec<u
     Err(AllocError)
 }
 
-/// The words of the program without its own name. Only want of memory refuses.
+/// The words of the program without its own name. It fails only out of memory.
 pub fn given_words<R: Env + AllocGlobal>(rt: &R) -> Result<Vec<Vec<u8>>, AllocError> {
     let mut words = Vec::new(rt.alloc());
     for at in 1..usize::MAX {
@@ -54,7 +54,7 @@ pub fn given_words<R: Env + AllocGlobal>(rt: &R) -> Result<Vec<Vec<u8>>, AllocEr
     Ok(words)
 }
 
-/// The text of a variable of the environment, where it is set. Only want of memory refuses.
+/// The text of a variable of the environment, if it is set. It fails only out of memory.
 pub fn given_variable<R: Env + AllocGlobal>(
     rt: &R,
     name: &str,
@@ -62,7 +62,7 @@ pub fn given_variable<R: Env + AllocGlobal>(
     told(rt, Asking::Variable(name))
 }
 
-/// The text of MODPROBE_OPTIONS, where it is set. Only want of memory refuses.
+/// The text of MODPROBE_OPTIONS, if it is set. It fails only out of memory.
 pub fn given_options<R: Env + AllocGlobal>(rt: &R) -> Result<Option<Vec<u8>>, AllocError> {
     given_variable(rt, "MODPROBE_OPTIONS")
 }

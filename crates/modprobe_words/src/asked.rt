@@ -8,7 +8,7 @@ use crate::options::Valued;
 use crate::switches::Switches;
 use std::alloc::{AllocError, Global};
 
-/// What a command line asks for, where its words are not refused.
+/// What a command line asks for, if its words are not refused.
 #[derive(Drop)]
 pub struct Asked<'a> {
     pub switches: Switches,
@@ -53,7 +53,7 @@ impl<'a> Asked<'a> {
         Ok(())
     }
 
-    /// What items ask for, one after another. Only want of memory refuses.
+    /// What items ask for, one after another. It fails only out of memory.
     pub fn by(alloc: Global, items: &[Item<'a>]) -> Result<Asked<'a>, AllocError>
         ensures { IfOk result (λ asked. asked_of asked ≡ asked_by (items_of items.entry.now)) }
     {

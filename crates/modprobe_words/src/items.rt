@@ -40,7 +40,7 @@ pub(crate) struct Waiting {
 }
 
 impl Waiting {
-    /// Why the words are refused where there is no next one.
+    /// Why the words are refused if there is no next one.
     pub(crate) fn fault<'a>(self) -> Fault<'a>
         ensures { fault_of result ≡ wanting self.asker }
     {

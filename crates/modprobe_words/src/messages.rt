@@ -31,7 +31,7 @@ impl Level {
     }
 }
 
-/// Writes three parts, one after another. Where the stream fails, nobody is told.
+/// Writes three parts, one after another. If the stream fails, nobody is told.
 pub fn write_parts<E: Write>(errors: &mut E, first: &[u8], second: &[u8], third: &[u8]) {
     let _ = errors.write_all(first);
     let _ = errors.write_all(second);
@@ -57,7 +57,7 @@ pub struct Messages<'a, E> {
 }
 
 impl<E: Write> Messages<'_, E> {
-    /// Tells a line of this level, of four parts, where it is shown.
+    /// Tells a line of this level, of four parts, if it is shown.
     pub fn tell(&mut self, level: Level, first: &[u8], second: &[u8], third: &[u8], fourth: &[u8]) {
         if level.verbosity() <= self.verbosity {
             self.tell_always(level, first, second, third, fourth);

@@ -1,4 +1,4 @@
-//! What people are told where a command line ends before a query is answered.
+//! What people are told if a command line ends before a query is answered.
 ghost use Rattle.std.specs.Prelude.{◌≡◌, ◌≤◌, None, option_map};
 ghost use Rattle.modprobe_words.specs.Endings.{IsEnded, seen, shown_by};
 
@@ -90,8 +90,8 @@ fn tell_why<E: Write>(ending: Ending<'_>, errors: &mut E) {
     }
 }
 
-/// Ends the program where a word says so: the version and the help go to `output`, and why words are refused to `errors`.
-/// The exit status is answered: 0, or 1 where words are refused or the output was not written.
+/// Ends the program if a word says so: the version and the help go to `output`, and why words are refused to `errors`.
+/// Returns the exit status: 0, or 1 if words are refused or the output was not written.
 pub fn end_early<O: Write, E: Write>(ending: Ending<'_>, output: &mut O, errors: &mut E) -> u8
     ensures status { result ≤ 1 }
     ensures end { IsEnded (seen ending.entry) (O.contents output.old) (O.contents output.new) result }

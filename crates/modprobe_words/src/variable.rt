@@ -39,7 +39,7 @@ impl Reading {
         Ok(())
     }
 
-    /// What stood in quotes, where they end.
+    /// What stood in quotes, if they end.
     fn take_quoted(&mut self, text: Vec<u8>) -> Result<(), AllocError>
         requires { quote_of self.old.quote ≡ closed }
         ensures { OnOk result ((rest : List ℕ) → whole self.new rest ≡ bytes_of self.old.words.items ++ behind_quotes self.old.word.items text.items rest) }
@@ -86,7 +86,7 @@ impl Reading {
     }
 }
 
-/// The words of a text of MODPROBE_OPTIONS. Only want of memory refuses.
+/// The words of a text of MODPROBE_OPTIONS. It fails only out of memory.
 pub fn variable_words(alloc: Global, text: &[u8]) -> Result<Vec<Vec<u8>>, AllocError>
     ensures { IfOk result (λ words. bytes_of words.items ≡ words_of text.now) }
 {

@@ -28,7 +28,7 @@ pub enum Wish {
 }
 
 impl Switches {
-    /// What is wished where nothing is removed.
+    /// What is wished if nothing is removed.
     fn loads(self) -> Wish
         ensures { result ≡ loads self }
     {
@@ -43,7 +43,7 @@ impl Switches {
         }
     }
 
-    /// What is wished, where there is a name or not.
+    /// What is wished, if there is a name or not.
     #[tactic(auto, unfolding(crate::specs::Wishes::wish_of))]
     pub fn wish(self, has_name: bool) -> Wish
         ensures { result ≡ wish_of self has_name }

@@ -9,7 +9,7 @@ use crate::options::{Meaning, meaning_of_letter};
 use std::alloc::{AllocError, Global};
 use text_parts::is_same;
 
-/// Adds what was read. An option whose value is the next word is answered.
+/// Adds what was read. Returns an option whose value is the next word.
 fn push_step<'a>(items: &mut Vec<Item<'a>>, step: Step<'a>) -> Result<Option<Waiting>, AllocError>
     ensures items { OnOk result (items_of items.new.items ≡ items_of items.old.items ++ (step_of step.entry).items) }
     ensures waiting { IfOk result (λ waiting. waiting ≡ (step_of step.entry).waiting) }
@@ -98,7 +98,7 @@ fn is_end(waiting: Option<Waiting>, word: &[u8]) -> bool
     waiting.is_none() && is_same(word, b"--")
 }
 
-/// Adds that an option had no word behind it, where that is so.
+/// Adds that an option had no word behind it, if that is so.
 fn push_wanting(items: &mut Vec<Item<'_>>, waiting: Option<Waiting>) -> Result<(), AllocError>
     ensures { OnOk result (items_of items.new.items ≡ items_of items.old.items ++ items_from waiting []) }
 {

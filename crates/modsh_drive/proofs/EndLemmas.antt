@@ -43,7 +43,7 @@ answered workers fail input held written false answers asked none = (answers, no
 some_errors : (errors : ℕ) → nat_lt 0 (suc errors) ≡ true
 some_errors errors = grind (arith, nat_tests)
 
--- no error counts where none is told and there was a session
+-- no error counts if none is told and there was a session
 none_count : (workers : ℕ) (input : List ℕ) (fail has_session : Bool) (errors : ℕ) → CountsErrors workers input errors
     → (fail && (nat_lt 0 errors || not has_session)) ≡ false → fail ≡ true → CountsErrors workers input 0
 none_count workers input true has_session zero counts e asked = counts
@@ -79,7 +79,7 @@ not_refused : (counts : Bool) → cond counts ErrorReply Done ≡ Refused → �
 not_refused true e = cc
 not_refused false e = cc
 
--- where the status is Refused nothing was written
+-- if the status is Refused nothing was written
 pub silent : (workers : ℕ) (fail has_session : Bool) (told held written ungiven : Option (List ℕ)) (answer : Result ℕ ServeFault)
     → IfErr answer (λ fault. ServeStands workers fault told ungiven held written)
     → status_after answer fail has_session ≡ Refused → Keeps held written

@@ -9,7 +9,7 @@ pub range_with_len-more : (n : ℕ) → range_with_len 0 (n + 1) ≡ range_with_
 range_with_len-more n =
     sym (map-id (range_with_len 0 (n + 1))) ∙ map-range_with_len_more (λ k. k) 0 n n (zero-add n) ∙ ap (λ (ns : List ℕ). ns ++ n ∷ []) (map-id (range_with_len 0 n))
 
--- one more number, where it passes
+-- one more number, if it passes
 pub next_number : (p : ℕ → Bool) (found next : List ℕ) (n : ℕ) (passes : Bool) → found ≡ filter p (range_with_len 0 n) → passes ≡ p n
     → next ≡ found ++ cond passes (n ∷ []) [] → next ≡ filter p (range_with_len 0 (n + 1))
 next_number p found next n passes before own after =
@@ -17,7 +17,7 @@ next_number p found next n passes before own after =
     ∙ ap (λ (b : Bool). filter p (range_with_len 0 n) ++ cond b (n ∷ []) []) own
     ∙ sym (ap (filter p) (range_with_len-more n) ∙ filter-append p (range_with_len 0 n) (n ∷ []))
 
--- one more element of a list, where it passes
+-- one more element of a list, if it passes
 pub next_element : (p : ℕ → Bool) (xs found next : List ℕ) (i x : ℕ) (passes : Bool) → i < length xs → found ≡ filter p (take i xs) → x ≡ get_or xs i 0
     → (Contains xs x → passes ≡ p x) → next ≡ found ++ cond passes (x ∷ []) [] → next ≡ filter p (take (i + 1) xs)
 next_element p xs found next i x passes below before element own after =

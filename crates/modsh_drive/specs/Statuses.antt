@@ -32,7 +32,7 @@ status_of serve_fault.Memory = Fault
 abbrev pub status_of_lint : ℕ → Status
 status_of_lint notes = if notes == 0 then Done else ErrorReply
 
--- the status after a session with so many error replies: these count where that is asked for, and so does an input without a session
+-- the status after a session with so many error replies: these count if that is asked for, and so does an input without a session
 abbrev pub status_after : Result ℕ ServeFault → Bool → Bool → Status
 status_after (Ok errors) fail has_session = if fail && (nat_lt 0 errors || not has_session) then ErrorReply else Done
 status_after (Err fault) fail has_session = status_of fault

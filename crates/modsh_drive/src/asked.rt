@@ -79,7 +79,7 @@ pub(crate) struct Asked {
     pub(crate) explain: bool,
     /// Whether a reply that is an error, or an input without a session, makes the status 1.
     pub(crate) fail: bool,
-    /// Whether lines of the sections are listed that have no effect or are about nothing, and no command is answered.
+    /// Whether lines of the sections are listed that have no effect or are about nothing, and no command is made.
     pub(crate) lint: bool,
     ghost few: { workers ≤ 64 },
 }

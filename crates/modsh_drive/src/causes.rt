@@ -137,7 +137,7 @@ impl<'a, M: Modules> Cause<'a, M> {
         Ok(near)
     }
 
-    /// Asks whether one of these names was meant, where there is one.
+    /// Asks whether one of these names was meant, if there is one.
     fn tell_near<E: Write>(&self, near: &[Shown<'_>], errors: &mut E) {
         if !near.is_empty() {
             let row = Row::one(near);

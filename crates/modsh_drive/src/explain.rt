@@ -103,7 +103,7 @@ pub(crate) fn tell_answer<E: Write>(
     };
 }
 
-/// Tells all that is told after a session: its fault, lines without effect, and lines about nothing.
+/// Tells all that is reported after a session: its fault, lines without effect, and lines about nothing.
 pub(crate) fn explain<E: Write>(answer: &Result<u64, ServeFault>, kept: &Kept<'_>, errors: &mut E) {
     match answer {
         Err(fault) => explain_fault(fault, kept, errors),
@@ -121,7 +121,7 @@ pub(crate) fn explain<E: Write>(answer: &Result<u64, ServeFault>, kept: &Kept<'_
     }
 }
 
-/// Tells the notes of a lint, and answers how many there are. No memory refuses, also where there was none to keep them.
+/// Tells the notes of a lint, and answers how many there are. No memory refuses, also if there was none to keep them.
 pub(crate) fn tell_lint<E: Write>(kept: &Kept<'_>, errors: &mut E) -> Result<usize, AllocError> {
     let idle = note_idle(kept, errors)?;
     note_about(kept, errors);

@@ -22,7 +22,7 @@ fn reason(why: NoEffect) -> &'static str {
     }
 }
 
-/// What is told of a line by a note, and the word that it is about, or none for the line.
+/// What is reported of a line by a note, and the word that it is about, or none for the line.
 fn about(kind: &NoteKind) -> (&'static str, Option<&[u8]>) {
     let unread = "no pattern is read here, and no module has this name";
     match kind {

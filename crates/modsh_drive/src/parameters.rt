@@ -25,7 +25,7 @@ fn name_in(word: &[u8]) -> &[u8]
     }
 }
 
-/// The kind of the parameter that a word is for, where it is one of these.
+/// The kind of the parameter that a word is for, if it is one of these.
 pub(crate) fn kind_of(
     alloc: Global,
     params: &[Param],

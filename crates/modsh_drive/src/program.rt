@@ -44,7 +44,7 @@ impl<'a, 'e, E: Write> Program<'a, 'e, E> {
         }
     }
 
-    /// The files that the words name, in order. The first word that has not its form is told.
+    /// The files that the words name, in order. The first word that has not its form is reported.
     fn named_files(&mut self, words: &[&'a str]) -> Result<Vec<NamedFile<'a>>, Status> {
         let mut named = Vec::new(self.alloc);
         for word in words {
@@ -68,7 +68,7 @@ impl<'a, 'e, E: Write> Program<'a, 'e, E> {
         Ok(())
     }
 
-    /// Takes the words, of which the first is the program's own name. Where they ask for no work the program ends.
+    /// Takes the words, of which the first is the program's own name. If they ask for no work the program ends.
     fn take<R: Files, O: Write>(
         &mut self,
         rt: &R,

@@ -85,7 +85,7 @@ impl<M: Modules> Cause<'_, M> {
         Ok(())
     }
 
-    /// Tells the code of the refusal, with its name where the command has not that name, and why.
+    /// Tells the code of the refusal, with its name if the command has not that name, and why.
     fn tell_code<E: Write>(&self, kept: &Kept<'_>, errors: &mut E) -> Result<(), AllocError> {
         let (code, name) = (Shown(self.refusal.code.text()), Shown(self.refusal.name));
         let _ = write!(errors, ": {code}");

@@ -5,7 +5,7 @@ ghost use Rattle.modsh_drive.specs.Statuses.{status_of, status_after, status_of_
 use modprobe::{ServeFault, SetupCode, SetupFault};
 use program_frame::Status;
 
-/// The status after a fault: that of a setup is refused where it is a fault of its text.
+/// The status after a fault: that of a setup is refused if it is a fault of its text.
 fn status_of(fault: &ServeFault) -> Status
     ensures { result ≡ status_of fault.now }
 {
@@ -21,7 +21,7 @@ fn status_of(fault: &ServeFault) -> Status
     }
 }
 
-/// The status after a session with so many error replies, which count as an error where that is asked for. So does an
+/// The status after a session with so many error replies, which count as an error if that is asked for. So does an
 /// input without a session.
 pub(crate) fn status_after(
     answer: &Result<u64, ServeFault>,

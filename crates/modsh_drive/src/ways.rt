@@ -32,7 +32,7 @@ struct Walk {
     start: usize,
 }
 
-/// What says which modules a module depends on: modules.dep where it has a line for it, and else the catalogue.
+/// What says which modules a module depends on: modules.dep if it has a line for it, and else the catalogue.
 #[derive(Drop)]
 pub(crate) struct Dependencies<'a> {
     pub(crate) catalogue: &'a Catalogue,
@@ -40,7 +40,7 @@ pub(crate) struct Dependencies<'a> {
 }
 
 impl Dependencies<'_> {
-    /// The slot of the dependency in a place of a module's list, None where it is no module; and None after the last.
+    /// The slot of the dependency in a place of a module's list, None if it is no module; and None after the last.
     fn at(&self, slot: usize, place: usize) -> Option<Option<usize>> {
         if slot >= self.catalogue.len() {
             return None;
@@ -94,7 +94,7 @@ impl Walk {
     }
 }
 
-/// The modules of a cycle from this one back to it, each of which has the next as a hard dependency; none where no cycle is
+/// The modules of a cycle from this one back to it, each of which has the next as a hard dependency; none if no cycle is
 /// found.
 pub(crate) fn cycle_from(
     alloc: Global,

@@ -17,7 +17,7 @@ use std::io::Write;
 /// How much of a line that is in hand at a fault is kept: what is shown, and whether it has more.
 const MOST_KEPT: usize = 64;
 
-/// What is kept to explain a session, where that is asked for, and in any case whether it began.
+/// What is kept to explain a session, if that is asked for, and in any case whether it began.
 #[derive(Drop)]
 pub(crate) struct Kept<'a> {
     pub(crate) alloc: Global,
@@ -90,7 +90,7 @@ impl<'a> Kept<'a> {
     }
 }
 
-/// A watch over a session. Where it explains, it keeps what that takes, and tells at once why a command is refused.
+/// A watch over a session. If it explains, it keeps what that takes, and tells at once why a command is refused.
 #[derive(Drop)]
 pub(crate) struct Witness<'a, 'e, E> {
     explains: bool,

@@ -15,7 +15,7 @@ use use_indicator::Reader;
 
 /// A row of root words, a lock for each worker's leaf and one for the book. Contracts see its row.
 ///
-/// A call that locks takes one lock, makes one call and lets go. It answers None where the worker, the slot or the place
+/// A call that locks takes one lock, makes one call and lets go. It answers None if the worker, the slot or the place
 /// is out of range, and nothing is changed then. What it did under the lock no contract says, nor how often it locked: a
 /// caller who wants to know takes the lock by `leaf` or `book`, and reads the contracts of `OwnLeaf` and `OwnBook`.
 ///
@@ -85,7 +85,7 @@ impl Manager {
         self.row.slots()
     }
 
-    /// The lock of a worker's leaf. It is None exactly where the worker is out of range.
+    /// The lock of a worker's leaf. It is None exactly if the worker is out of range.
     pub fn leaf(&self, worker: usize) -> Option<&Mutex<OwnLeaf>>
         ensures { IsNone result ↔ (self.now.world.workers ≤ worker) }
     {

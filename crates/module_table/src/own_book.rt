@@ -59,7 +59,7 @@ impl OwnBook {
         self.row.slots()
     }
 
-    /// The state of a module. It is None where the slot is out of range, as for each call.
+    /// The state of a module. It is None if the slot is out of range, as for each call.
     pub fn state(&self, slot: usize) -> Option<ModuleState>
         ensures range { IsNone result ↔ (slots self.now.view.world ≤ slot) }
         ensures state { IfSome result (λ s. s ≡ state_in self.now.view slot) }
@@ -101,7 +101,7 @@ impl OwnBook {
         Some(self.book.begin_load(&self.row, slot))
     }
 
-    /// Ends a load: the module is then Live where it went well, else Absent.
+    /// Ends a load: the module is then Live if it went well, else Absent.
     pub fn end_load(&mut self, slot: usize, ok: bool) -> Option<Result<(), EndLoadError>>
         ensures range { MatchOption result ((slots self.old.view.world ≤ slot) × (self.new ≡ self.old)) (λ _. slot < slots self.old.view.world) }
         ensures call { IfSome result (λ r. BookAnswered self.old.view slot (BookCall.EndLoad ok) (reply_of end_load_refusal r) self.new.view) }

@@ -64,7 +64,7 @@ impl OwnLeaf {
         self.row.slots()
     }
 
-    /// How often the worker holds the module. It is None where the slot is out of range, as for each call.
+    /// How often the worker holds the module. It is None if the slot is out of range, as for each call.
     pub fn held(&self, slot: usize) -> Option<u32>
         ensures range { IsNone result ↔ (slots self.now.view.world ≤ slot) }
         ensures count { IfSome result (λ count. count ≡ count_of self.now.view slot) }

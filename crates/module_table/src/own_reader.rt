@@ -39,7 +39,7 @@ impl OwnReader {
         OwnReader { reader, row }
     }
 
-    /// Whether any worker holds the module, by one load. It is None where the slot is out of range.
+    /// Whether any worker holds the module, by one load. It is None if the slot is out of range.
     pub fn in_use(&mut self, slot: usize) -> Option<bool>
         ensures range { MatchOption result ((slots self.old.view.world ≤ slot) × (self.new ≡ self.old)) (λ _. slot < slots self.old.view.world) }
         ensures call { MatchOption result (self.new ≡ self.old) (λ used. ReaderAnswered self.old.view slot (if used then Yes else No) self.new.view) }

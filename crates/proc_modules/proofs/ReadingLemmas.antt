@@ -89,7 +89,7 @@ users_in-step parts later users after i name d below rest so_far more unmarked n
     ∙ ap (λ (us : List (List ℕ)). with_users us (users_in (texts_of later))) (sym pushed)
     ∙ ap (λ (ps : List (Bor (List ℕ))). with_users after (users_in (texts_of ps))) rest
 
--- where the numbers of a line are read, its name is good
+-- if the numbers of a line are read, its name is good
 pub good_name : (name size count : List ℕ) (numbers : ℕ × ℕ) → numbers_in name size count ≡ Ok numbers → is_line_name name ≡ true
 good_name name size count numbers e = at (is_line_name name) refl where
   at : (b : Bool) → is_line_name name ≡ b → is_line_name name ≡ true

@@ -18,7 +18,7 @@ no_address = codes "0x0000000000000000"
 abbrev pub with_comma : List ℕ → List ℕ
 with_comma name = name ++ 44 ∷ []
 
--- what stands after the users: the mark of a permanent module, or `-` where there is neither user nor mark
+-- what stands after the users: the mark of a permanent module, or `-` if there is neither user nor mark
 abbrev pub users_end : Bool → Bool → List ℕ
 users_end is_used true = codes "[permanent],"
 users_end true false = []

@@ -14,7 +14,7 @@ use Rattle.proc_modules.specs.LineText.{line_text}
 abbrev pub name_of : List Description → ℕ → List ℕ
 name_of catalogue slot = (description_at catalogue slot).name
 
--- the size of a module, 0 where the catalogue has none
+-- the size of a module, 0 if the catalogue has none
 abbrev pub size_of : List Description → ℕ → ℕ
 size_of catalogue slot = unwrap_or (description_at catalogue slot).size 0
 

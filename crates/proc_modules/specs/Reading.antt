@@ -120,7 +120,7 @@ abbrev pub line_in : List (List ℕ) → Result Line LineError
 line_in (name ∷ size ∷ count ∷ users ∷ state ∷ address ∷ more) = line_of_fields name size count users state address more
 line_in _ = Err MissingField
 
--- the bytes before the first line feed, and how many bytes there are with it; all, where there is none
+-- the bytes before the first line feed, and how many bytes there are with it; all, if there is none
 abbrev pub first_line : List ℕ → Option ℕ → List ℕ × ℕ
 first_line text None = (text, length text)
 first_line text (Some end) = (take end text, end + 1)

@@ -7,7 +7,7 @@ use Rattle.std.specs.Ordering.{nat_cmp}
 use Rattle.std.specs.Str.{bytes_eq}
 use Rattle.std.specs.declared.cmp.Ordering.{Ordering}
 
--- a name of a folder counts where it ends in `.conf`, has a byte before that, and begins with no dot
+-- a name of a folder counts if it ends in `.conf`, has a byte before that, and begins with no dot
 abbrev pub counts : List ℕ → Bool
 counts name =
     not (starts_with nat_eq name (codes ".")) && nat_lt 5 (length name) && bytes_eq (drop (length name - 5) name) (codes ".conf")

@@ -4,7 +4,7 @@ use Rattle.std.specs.declared.io.ErrorKind.TheVariants.{NotFound, NotADirectory,
 use Rattle.program_frame.specs.declared.path.PathFault.{PathFault}
 use Rattle.program_frame.specs.declared.path.PathFault.TheVariants.{Missing, Folder, Denied, Name, Unreadable, Memory}
 
--- what an error of the system says of a path (errno(3)): nothing is there, also where a part of the path is no folder; it is a folder;
+-- what an error of the system says of a path (errno(3)): nothing is there, also if a part of the path is no folder; it is a folder;
 -- it may not be read; a name is not taken; there was no memory; or something else
 abbrev pub fault_of : ErrorKind → PathFault
 fault_of NotFound = Missing

@@ -33,7 +33,7 @@ pub fn flag<'a>(alloc: Global, name: &'a str, help: &'a str) -> Arg<'a> {
         .help(help)
 }
 
-/// Ends the program of this name where its words ask for no work: help and the version go to `writer`, and why words are
+/// Ends the program of this name if its words ask for no work: help and the version go to `writer`, and why words are
 /// refused goes to `errors`.
 pub fn end_by<O: Write, E: Write>(
     name: &str,

@@ -5,7 +5,7 @@ ghost use Rattle.text_parts.specs.Text.{is_blank, is_filled};
 
 use text_parts::is_blank;
 
-/// The first word of a line, between blanks and tabs; empty where it has none.
+/// The first word of a line, between blanks and tabs; empty if it has none.
 pub fn first_word(line: &[u8]) -> &[u8]
     ensures { result.now ≡ unwrap_or (find is_filled (slice_split is_blank line.now)) [] }
 {

@@ -5,7 +5,7 @@ use std::fmt;
 /// How many bytes of a line are shown.
 const MOST_SHOWN: usize = 60;
 
-/// Bytes as a message shows them: a byte that is no printable ASCII as `\xHH`, and dots where more than 60 stand.
+/// Bytes as a message shows them: a byte that is no printable ASCII as `\xHH`, and dots if more than 60 stand.
 #[derive(Clone, Copy, Drop)]
 pub struct Shown<'a>(pub &'a [u8]);
 

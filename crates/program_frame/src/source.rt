@@ -40,7 +40,7 @@ impl InputFault {
 }
 
 impl<'a> Source<'a> {
-    /// The source that a word names: a path, where it is not `-`. Without a word it is standard input.
+    /// The source that a word names: a path, if it is not `-`. Without a word it is standard input.
     pub fn of(word: Option<&'a str>) -> Source<'a>
         ensures { path_of result ≡ path_named (option_map (λ word. word.now) word.entry) }
     {
@@ -50,7 +50,7 @@ impl<'a> Source<'a> {
         }
     }
 
-    /// All bytes of the input. `reader` is standard input, and stays as it was where a file is read.
+    /// All bytes of the input. `reader` is standard input, and stays as it was if a file is read.
     pub fn read<R: Files + AllocGlobal, I: Read>(
         self,
         rt: &R,

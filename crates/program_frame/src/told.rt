@@ -1,4 +1,4 @@
-//! What people are told on the stream for errors. Where that stream fails, nobody is told.
+//! What people are told on the stream for errors. If that stream fails, nobody is told.
 ghost use Rattle.std.specs.Prelude.{◌≡◌};
 ghost use Rattle.program_frame.specs.declared.status.Status.TheVariants as statuses;
 
@@ -20,7 +20,7 @@ pub fn tell_sentence<E: Write>(sentence: &str, errors: &mut E) {
     let _ = writeln!(errors, "  {sentence}");
 }
 
-/// Tells what may have been meant, where there is something to tell.
+/// Tells what may have been meant, if there is something to tell.
 pub fn tell_hint<E: Write>(hint: Option<&str>, errors: &mut E) {
     if let Some(hint) = hint {
         let _ = writeln!(errors, "  hint: {hint}");

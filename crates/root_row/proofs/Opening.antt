@@ -165,7 +165,7 @@ pub next_reader : (world : World) (n i : ℕ) (tail : List Part) → i < n
     → (first_member (new_view world (reader_parts (n - i) i ++ tail)) ≡ new_view world (part_is.Reader i ∷ [])) × (other_members (new_view world (reader_parts (n - i) i ++ tail)) ≡ new_view world (reader_parts (n - (i + 1)) (i + 1) ++ tail))
 next_reader world n i tail lt = reader_cut world (n - i) (n - (i + 1)) i tail (omega arith)
 
--- what is known of a cut, where the rest has the parts of the loop
+-- what is known of a cut, if the rest has the parts of the loop
 pub cut_leaf : (world : World) (n i : ℕ) (tail : List Part) (me rest seat : TrailState) → i < n → me ≡ (trail (new_view world (leaf_parts world (n - i) i ++ tail)) [], [])
     → seat ≡ (first_trail me.0, []) → rest ≡ (other_trail me.0, me.1)
     → (seat ≡ (trail (new_view world (part_is.Leaf i (replicate (slots world) 0) ∷ [])) [], [])) × (rest ≡ (trail (new_view world (leaf_parts world (n - (i + 1)) (i + 1) ++ tail)) [], []))

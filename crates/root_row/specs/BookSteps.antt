@@ -24,7 +24,7 @@ book_call book_is.BeginDrain m = call_is.BeginDrain m
 book_call book_is.BeginRemove m = call_is.BeginRemove m
 book_call book_is.EndRemove m = call_is.EndRemove m
 
--- what a look answers where the book does not refuse the call: nothing, where an exchange or an addition makes the call
+-- what a look answers if the book does not refuse the call: nothing, if an exchange or an addition makes the call
 abbrev pub unrefused_look : Book → BookCall → ℕ → Option Reply
 unrefused_look book book_is.BeginLoad m = Some Done
 unrefused_look book (book_is.EndLoad ok) m = if ok then None else Some Done

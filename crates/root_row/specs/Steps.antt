@@ -50,7 +50,7 @@ abbrev pub leaf_call : LeafCall → ℕ → ℕ → Call
 leaf_call leaf_is.Get w m = call_is.Get w m
 leaf_call leaf_is.Put w m = call_is.Put w m
 
--- what a look comes to: it goes on where a get finds the slot open and the leaf does not hold it, and where a put gives
+-- what a look comes to: it goes on if a get finds the slot open and the leaf does not hold it, and if a put gives
 -- the last reference back; else the look is the point
 abbrev pub leaf_look : LeafCall → ℕ → ℕ → Outcome
 leaf_look leaf_is.Get count found = (get_look count found).outcome

@@ -57,14 +57,14 @@ Recorded Tells entry st me found me' =
     Tells st (shown_seat me) found (shown_seat me')
     × ((m : ℕ) → st.word ≡ place_of m → me'.0.steps ≡ me.0.steps ++ entry st m found ∷ [])
 
--- where a seat is cut, both go on with its steps
+-- if a seat is cut, both go on with its steps
 abbrev pub first_trail : Trail → Trail
 first_trail t = trail (first_member t.view) t.steps
 
 abbrev pub other_trail : Trail → Trail
 other_trail t = trail (other_members t.view) t.steps
 
--- where two seats are put together, the steps begin anew
+-- if two seats are put together, the steps begin anew
 abbrev pub joined_trail : Trail → Trail → Trail
 joined_trail t u = trail (joined t.view u.view) []
 

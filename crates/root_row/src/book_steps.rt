@@ -19,7 +19,7 @@ use dep_index::{ModuleState, Reply};
 impl Row {
     /// One load for a call of the book, which answers the word.
     ///
-    /// It is the call's point, but where the book refuses nothing and the call ends a load well, begins a drain or a
+    /// It is the call's point, but if the book refuses nothing and the call ends a load well, begins a drain or a
     /// removal, or removes a module that drains: those are made by `open`, `drain` and `try_close`.
     pub fn look_book<C: Asked>(&self, seat: &mut BookSeat, slot: usize) -> u64
         requires own { IsOf self.now seat.old }
@@ -61,7 +61,7 @@ impl Row {
     }
 
     /// The exchange that closes the word of a slot that no leaf holds: the point of `begin_remove`, or of `end_remove`
-    /// where the module drains.
+    /// if the module drains.
     ///
     /// Answers whether it was made. A miss is the answer InUse, and changes no word.
     pub fn try_close(&self, seat: &mut BookSeat, slot: usize) -> bool

@@ -18,7 +18,7 @@ use dep_index::Reply;
 impl Row {
     /// One load for a get or a put of a leaf, which answers the word.
     ///
-    /// It is the call's point, but where a get finds the slot open and the leaf does not hold it, and where a put gives
+    /// It is the call's point, but if a get finds the slot open and the leaf does not hold it, and if a put gives
     /// the leaf's last reference back.
     pub fn look(&self, seat: &mut LeafSeat, slot: usize, call: LeafCall) -> u64
         requires own { IsOf self.now seat.old }
@@ -35,7 +35,7 @@ impl Row {
         }
     }
 
-    /// The exchange of a get by a leaf that does not hold the slot: an open word, where it is `expected`, by one more.
+    /// The exchange of a get by a leaf that does not hold the slot: an open word, if it is `expected`, by one more.
     ///
     /// Answers whether it was made; then the get is done. A miss is no point.
     pub fn try_arrive(&self, seat: &mut LeafSeat, slot: usize, expected: u64) -> bool

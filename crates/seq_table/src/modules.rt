@@ -22,7 +22,7 @@ pub trait Modules {
     /// The table that it is.
     ghost table: { Self → OneThread };
 
-    /// The names of the workers, by number, where they have names. No call changes them.
+    /// The names of the workers, by number, if they have names. No call changes them.
     ghost names: { Self → List (List ℕ) };
 
     /// A get by this worker takes no memory.
@@ -127,7 +127,7 @@ pub trait Modules {
         ensures over { catalogue self.new ≡ catalogue self.old }
         ensures named { names self.new ≡ names self.old };
 
-    /// A load ends: the module is live, or where it did not go well it leaves the table. `NotLoading`: it does not load.
+    /// A load ends: the module is live, or if it did not go well it leaves the table. `NotLoading`: it does not load.
     fn end_load(&mut self, slot: usize, ok: bool) -> Result<(), EndLoadError>
         requires { slot < length (catalogue self.old) }
         ensures answers { reply_of end_load_refusal result ≡ reply (catalogue self.old) (table self.old) (EndLoad slot ok) }

@@ -114,7 +114,7 @@ impl Meeting {
         }
     }
 
-    /// One more has come behind so many; nothing where it is not its turn.
+    /// One more has come behind so many; nothing if it is not its turn.
     fn comes_behind(&self, count: usize) {
         let next = count.saturating_add(1);
         let _ = self

@@ -152,7 +152,7 @@ const CARD_RUN: &[u8] =
 const CARD_ANSWER: &[u8] =
     b"ok\nsnd_pcm 0 0 - Live 0x0000000000000000\nsnd 0 1 snd_pcm, Live 0x0000000000000000\nerror EWOULDBLOCK snd\nok\n";
 
-/// Whether a session ends with this answer or, where an allocation is refused, says so after a beginning of it.
+/// Whether a session ends with this answer or, if an allocation is refused, says so after a beginning of it.
 fn is_answered_or_out_of_memory(alloc: Global, input: &[u8], wanted: &[u8]) -> bool {
     let mut reader = FromRead::new(input);
     let mut output = FromWrite::new(Narrow::new(256, false));

@@ -1,5 +1,5 @@
 //! Makes each public call that takes memory, once, on a worked example, and says on one line what came of it:
-//! `CALL: ok`, `CALL: no memory`, or `CALL: not made` where there was no memory for what the call needs. Any other
+//! `CALL: ok`, `CALL: no memory`, or `CALL: not made` if there was no memory for what the call needs. Any other
 //! answer ends the program with status 1.
 #![tactic(auto)]
 

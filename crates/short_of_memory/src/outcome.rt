@@ -10,7 +10,7 @@ use text_parts::Name;
 pub(crate) enum Stop {
     /// There was no memory for what the call needs, so it was not made.
     NotMade,
-    /// The call answered want of memory.
+    /// The call was out of memory.
     NoMemory,
     /// The call answered something else.
     Wrong,
@@ -22,7 +22,7 @@ impl From<AllocError> for Stop {
     }
 }
 
-/// A fault that is want of memory, or another.
+/// A fault: out of memory, or another.
 pub(crate) fn stop_at(is_memory: bool) -> Stop {
     if is_memory {
         Stop::NoMemory

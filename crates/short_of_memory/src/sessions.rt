@@ -1,4 +1,4 @@
-//! Lines, sections and sessions: where memory is wanting, what was written is the beginning of the answer.
+//! Lines, sections and sessions: if memory is wanting, what was written is the beginning of the answer.
 ghost use Rattle.std.specs.Prelude.{◌≡◌, false, None};
 
 use crate::outcome::{Stop, needed, stop_at};

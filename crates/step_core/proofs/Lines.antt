@@ -51,7 +51,7 @@ holds_only locks t u (Leaf w) held e = some_is u t (sym e ∙ held)
 holds_only locks t u TableLock held e = some_is u t (sym e ∙ held)
 holds_only locks t u NoLock held e = let bad : None ≡ Some u = e in cc
 
--- where a thread holds the lock, what is pending under it is what the thread writes
+-- if a thread holds the lock, what is pending under it is what the thread writes
 own_pends : (threads : List (Option Activity)) (locks : Locks) (t : ℕ) (l : LockName) → Holds locks t l → writing (get_or threads t None) ≡ None → pends threads locks l ≡ None
 own_pends threads locks t (Leaf w) held none = rw held none
 own_pends threads locks t TableLock held none = rw held none

@@ -137,7 +137,7 @@ worker_under_table (BeginDrain m) e = refl
 worker_under_table (BeginRemove m) e = refl
 worker_under_table (EndRemove m) e = refl
 
--- nothing is pending under a lock where no thread stands at the line that writes under it
+-- nothing is pending under a lock if no thread stands at the line that writes under it
 quiet : (catalogue : List Module) (workers : ℕ) (s : State) (l : LockName) (o : Option ℕ) → IsSound catalogue workers s → holder s.locks l ≡ o
     → ((t : ℕ) (call : Call) → writes_next s t ≡ Some call → lock_of call ≡ l → ⊥) → pending s.threads o ≡ None
 quiet catalogue workers s l None sound held none = refl

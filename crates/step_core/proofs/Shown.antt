@@ -29,7 +29,7 @@ rows_after-at threads [] (row ∷ rows) (suc w) h = refl
 rows_after-at threads (lock ∷ locks) (row ∷ rows) zero h = refl
 rows_after-at threads (lock ∷ locks) (row ∷ rows) (suc w) h = rows_after-at threads locks rows w (omega arith)
 
--- the rows are as written where nothing is about to be written
+-- the rows are as written if nothing is about to be written
 pub rows_after-none : (threads : List (Option Activity)) (locks : List (Option ℕ)) (rows : List (List ℕ))
     → ((w : ℕ) → pending_at threads locks w ≡ None) → rows_after threads locks rows ≡ rows
 rows_after-none threads locks [] none = refl
@@ -39,7 +39,7 @@ rows_after-none threads (lock ∷ locks) (row ∷ rows) none =
     let rest : rows_after threads locks rows ≡ rows = rows_after-none threads locks rows (λ w. none (suc w)) in
     rw (here, rest) refl
 
--- the rows stay where nothing else is about to be written
+-- the rows stay if nothing else is about to be written
 pub rows_after-same : (threads threads' : List (Option Activity)) (locks locks' : List (Option ℕ)) (rows : List (List ℕ))
     → ((w : ℕ) → pending_at threads' locks' w ≡ pending_at threads locks w)
     → rows_after threads' locks' rows ≡ rows_after threads locks rows
@@ -127,7 +127,7 @@ holder-with_other locks TableLock TableLock t ne = absurd (ne refl)
 holder-with_other locks TableLock NoLock t ne = refl
 holder-with_other locks NoLock k t ne = refl
 
--- the table that is shown stays where the same writes are pending
+-- the table that is shown stays if the same writes are pending
 pub shown-same : (old new : State) → new.written ≡ old.written
     → ((l : LockName) → pends new.threads new.locks l ≡ pends old.threads old.locks l) → shown new ≡ shown old
 shown-same old new written same =

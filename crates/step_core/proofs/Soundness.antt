@@ -32,7 +32,7 @@ others_pend catalogue workers s t a sound here x locks same l other =
     ap (pending (set s.threads t x)) (same l other)
     ∙ pending-other s.threads t x (holder s.locks l) (holds_no_other catalogue workers s t a sound here l other)
 
--- a thread holds a lock still where its holder stays
+-- a thread holds a lock still if its holder stays
 pub holds_still : (locks locks' : Locks) (u : ℕ) (l : LockName) → (HasLock l → holder locks' l ≡ holder locks l) → Holds locks u l → Holds locks' u l
 holds_still locks locks' u (Leaf w) same held = same tt ∙ held
 holds_still locks locks' u TableLock same held = same tt ∙ held
@@ -43,7 +43,7 @@ holds_is locks u (Leaf w) has held = held
 holds_is locks u TableLock has held = held
 holds_is locks u NoLock has held = absurd has
 
--- what another thread relies on stays, where its lock is not this one
+-- what another thread relies on stays, if its lock is not this one
 place_still : (locks locks' : Locks) (written written' : Table) (u : ℕ) (call : Call) (line : Line)
     → (Holds locks u (lock_of call) → Holds locks' u (lock_of call))
     → (Holds locks u (lock_of call) → IsArriving written call → IsArriving written' call)

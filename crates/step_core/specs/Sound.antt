@@ -14,7 +14,7 @@ use Rattle.step_core.specs.Machine.{State, Locks, LockName, Leaf, TableLock, NoL
 use Rattle.step_core.specs.Shown.{shown}
 use Rattle.step_core.specs.StepLaw.{StepLaw}
 
--- the thread holds the lock, where there is one to hold
+-- the thread holds the lock, if there is one to hold
 abbrev pub Holds : Locks → ℕ → LockName → Type 0
 Holds locks t (Leaf w) = holder locks (Leaf w) ≡ Some t
 Holds locks t TableLock = holder locks TableLock ≡ Some t

@@ -25,7 +25,7 @@ StepLaw catalogue old (Go t) (Point n r) new = IsSomeAnd (activity old t) (Takes
 StepLaw catalogue old (Invoke t call) (Point n r) new = ⊥
 StepLaw catalogue old step _ new = shown new ≡ shown old
 
--- each word belongs to its slot of the shown table: Open n where it is Live, Drain n where it is Draining,
+-- each word belongs to its slot of the shown table: Open n if it is Live, Drain n if it is Draining,
 -- else Closed, n the workers that hold it
 abbrev pub WordsAreRight : List Module → State → Type 0
 WordsAreRight catalogue state =

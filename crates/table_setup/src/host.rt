@@ -20,7 +20,7 @@ fn push_line(text: &mut Vec<u8>, first: &[u8], others: &[Text]) -> Result<(), Al
     Ok(())
 }
 
-/// Adds the line of what a module needs, where it needs anything.
+/// Adds the line of what a module needs, if it needs anything.
 fn push_needs(text: &mut Vec<u8>, names: &[Text]) -> Result<(), AllocError>
     ensures { OnOk result (text.new.items ≡ text.old.items ++ needs_line names.now) }
 {
@@ -51,7 +51,7 @@ fn push_modules(alloc: Global, text: &mut Vec<u8>, lines: &[DepLine<'_>]) -> Res
 }
 
 /// The catalogue that a text of modules.dep makes: each of its modules, with all that its line lists as needs, without
-/// sizes and parameters. It is of version 3. Its reader says whether it is a catalogue: it is none where a module has two
+/// sizes and parameters. It is of version 3. Its reader says whether it is a catalogue: it is none if a module has two
 /// lines. It fails only if memory runs out.
 #[tactic(auto, unfolding(kmod_index::specs::Index::indexes_of))]
 pub fn host_catalogue(alloc: Global, dependencies: &[u8]) -> Result<Vec<u8>, AllocError>

@@ -18,7 +18,7 @@ pub struct Sealed<'a> {
     pub sum: u64,
 }
 
-/// What stands behind these bytes, where the text begins with them.
+/// What stands behind these bytes, if the text begins with them.
 fn behind<'a>(front: &[u8], text: &'a [u8]) -> Option<&'a [u8]>
     ensures { MatchOption result ((rest : List ℕ) → text.entry.now ≢ front.now ++ rest)
         (λ rest. text.entry.now ≡ front.now ++ rest.now) }
@@ -26,7 +26,7 @@ fn behind<'a>(front: &[u8], text: &'a [u8]) -> Option<&'a [u8]>
     text.strip_prefix(front)
 }
 
-/// What stands before these bytes, where the text ends with them.
+/// What stands before these bytes, if the text ends with them.
 fn cut_end<'a>(text: &'a [u8], end: &[u8]) -> Option<&'a [u8]>
     ensures { MatchOption result ((rest : List ℕ) → text.entry.now ≢ rest ++ end.now)
         (λ rest. text.entry.now ≡ rest.now ++ end.now) }
@@ -47,7 +47,7 @@ fn sum_word(line: &[u8], length: usize) -> Option<&[u8]>
 }
 
 impl<'a> Sealed<'a> {
-    /// The text of these bytes, where they end with its last line; None where they do not, as where they were cut. It
+    /// The text of these bytes, if they end with its last line; None if they do not, as if they were cut. It
     /// computes no sum.
     pub fn read(bytes: &'a [u8]) -> Option<Sealed<'a>>
         ensures some { IfSome result (λ found. IsSealed bytes.entry.now found.text.now found.sum) }

@@ -57,7 +57,7 @@ origin_of_front (Err stop) = Err stop
 abbrev pub is_stray : List ℕ → Bool
 is_stray word = not (is_line_word word)
 
--- one command, where its words are words of a line
+-- one command, if its words are words of a line
 abbrev pub command_of : List (List ℕ) → Option (List ℕ) → Result Job Stop
 command_of words None = Ok (command words)
 command_of words (Some word) = Err (refused (bad_word word))
@@ -80,7 +80,7 @@ abbrev pub asked_in : List ℕ → Result Front Stop → Result Asked Stop
 asked_in folder (Ok read) = ask_job folder read.options (job_of read.options read.rest)
 asked_in folder (Err stop) = Err stop
 
--- the first word that is no option is the folder, where the environment names none
+-- the first word that is no option is the folder, if the environment names none
 abbrev pub asked_behind : Option (List ℕ) → Options → List (List ℕ) → Result Asked Stop
 asked_behind (Some folder) options words = asked_in folder (Ok (record { options = options; rest = words }))
 asked_behind None options [] = Err (refused no_folder)

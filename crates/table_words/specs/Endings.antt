@@ -35,7 +35,7 @@ ending_of number =
     else (if number == 17 then Some NoPlan
     else (if number == 18 then Some TooMany else None))))))))))))
 
--- an answer is no refusal, also where it is no
+-- an answer is no refusal, also if it is no
 abbrev pub is_refusal : Ending → Bool
 is_refusal Done = false
 is_refusal No = false

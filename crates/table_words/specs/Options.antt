@@ -41,7 +41,7 @@ pub record Options : Type 0 where
   pub release : Option (List ℕ)
   pub root : Option (List ℕ)
 
--- where no option stands, another process is waited for 10 seconds
+-- if no option stands, another process is waited for 10 seconds
 abbrev pub no_options : Options
 no_options = record { wait = 10; sync = true; host = false; release = None; root = None }
 

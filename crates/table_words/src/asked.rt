@@ -40,7 +40,7 @@ pub struct Asked<'w, 'a> {
     pub folder: &'a [u8],
     /// How many seconds another process is waited for.
     pub wait: u64,
-    /// Whether a change is on the disk before it is answered.
+    /// Whether a change is on the disk before its reply is written.
     pub sync: bool,
     pub job: Job<'w, 'a>,
 }
@@ -127,7 +127,7 @@ fn asked_in<'w, 'a>(folder: &'a [u8], read: Read<'w, 'a>) -> Result<Asked<'w, 'a
 }
 
 /// What the words of a program, without its own name, ask for; or why they ask for no work. `table` is the folder that
-/// the environment names: where it names none the first word that is no option does. Options stand before the command,
+/// the environment names: if it names none the first word that is no option does. Options stand before the command,
 /// those of `create` behind it too. All that follows is the command's.
 pub fn read_words<'w, 'a>(
     table: Option<&'a [u8]>,

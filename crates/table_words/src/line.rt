@@ -34,7 +34,7 @@ fn joined(alloc: Global, words: &[&[u8]]) -> Result<Vec<u8>, AllocError>
     Ok(line)
 }
 
-/// The words with a space between each two. Only want of memory refuses.
+/// The words with a space between each two. It fails only out of memory.
 pub fn line_of(alloc: Global, words: &[&[u8]]) -> Result<Vec<u8>, AllocError>
     ensures line { IfOk result (λ line. line.items ≡ line_of (texts_of words.now)) }
     ensures same { list_all is_line_word (texts_of words.now) ≡ true → IfOk result (λ line. words_of line.items ≡ texts_of words.now) }

@@ -22,7 +22,7 @@ pub enum Valued {
 pub(crate) struct Options<'a> {
     /// How many seconds another process is waited for.
     pub(crate) wait: u64,
-    /// Whether a change is on the disk before it is answered.
+    /// Whether a change is on the disk before its reply is written.
     pub(crate) sync: bool,
     pub(crate) host: bool,
     pub(crate) release: Option<&'a [u8]>,

@@ -8,7 +8,7 @@ use Rattle.std.proofs.lemmas.Bool.{false_from_ne_true, lt-ltb}
 use Rattle.memchr.specs.Find.{Nowhere, Passes}
 use Rattle.text_parts.specs.Text.{words, has_word, is_blank, is_filled}
 
--- the part alone, where it is a word
+-- the part alone, if it is a word
 abbrev pub as_words : List ℕ → List (List ℕ)
 as_words part = filter is_filled (part ∷ [])
 
@@ -20,13 +20,13 @@ HasNoBlank bytes = All (λ byte. is_blank byte ≡ false) bytes
 pub words-whole : (line : List ℕ) → HasNoBlank line → words line ≡ as_words line
 words-whole line none = ap (filter is_filled) (slice_split_none is_blank line none)
 
--- The words of a line that has a blank: the part before it, where that is a word, and the words after it.
+-- The words of a line that has a blank: the part before it, if that is a word, and the words after it.
 pub words-cut : (part rest : List ℕ) (blank : ℕ) → HasNoBlank part → is_blank blank ≡ true → words (part ++ blank ∷ rest) ≡ as_words part ++ words rest
 words-cut part rest blank none is =
     ap (filter is_filled) (slice_split_at is_blank part blank rest none is)
     ∙ elim (is_filled part) as (λ t. cond t (part ∷ words rest) (words rest) ≡ cond t (part ∷ []) [] ++ words rest) [ true ↦ refl | false ↦ refl ]
 
--- Where no byte up to a place divides words, the bytes before it are part of one word.
+-- If no byte up to a place divides words, the bytes before it are part of one word.
 pub HasNoBlank-take : (line : List ℕ) (end : ℕ) → end ≤ length line → Nowhere (Passes is_blank line) 0 end → HasNoBlank (take end line)
 HasNoBlank-take line end within nowhere k d below =
     let before : k < end = omega (arith, length-take end line) in
@@ -61,7 +61,7 @@ first_filled b (part ∷ parts) =
     ap (λ t. nat_lt 0 (length (cond t ((b ∷ part) ∷ filter is_filled parts) (filter is_filled parts)))) (lt-ltb 0 (suc (length part)) (omega arith))
     ∙ lt-ltb 0 (suc (length (filter is_filled parts))) (omega arith)
 
--- a line has a word where not every byte divides words
+-- a line has a word if not every byte divides words
 pub word_found : (line : List ℕ) → not (list_all is_blank line) ≡ has_word line
 word_found [] = refl
 word_found (b ∷ s) =

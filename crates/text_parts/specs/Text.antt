@@ -84,7 +84,7 @@ digits_from high (digit ∷ digits) = digits_from (high * 10 + (digit - 48)) dig
 abbrev pub is_number : List ℕ → Bool
 is_number word = nat_le 1 (length word) && nat_le (length word) 10 && list_all is_digit word
 
--- the number that 1 to 10 decimal digits are, where it is at most the limit
+-- the number that 1 to 10 decimal digits are, if it is at most the limit
 abbrev pub number_within : ℕ → List ℕ → Option ℕ
 number_within limit word =
     if is_number word && nat_le (digits_from 0 word) limit then Some (digits_from 0 word) else None

@@ -38,7 +38,7 @@ fn normal(alloc: Global, word: &[u8]) -> Result<Vec<u8>, AllocError>
 }
 
 impl Name {
-    /// The normal form of a word. It fails for want of memory alone.
+    /// The normal form of a word. It fails only out of memory.
     pub fn new(alloc: Global, word: &[u8]) -> Result<Name, AllocError>
         ensures { IfOk result (λ name. name ≡ normal_form word.now) }
     {
@@ -46,7 +46,7 @@ impl Name {
         Ok(Name { bytes })
     }
 
-    /// The same name, for another owner. It fails for want of memory alone.
+    /// The same name, for another owner. It fails only out of memory.
     pub fn copy(&self, alloc: Global) -> Result<Name, AllocError>
         ensures { IfOk result (λ copied. copied ≡ self.now) }
     {

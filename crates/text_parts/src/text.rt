@@ -36,7 +36,7 @@ pub fn has_word(line: &[u8]) -> bool
     !is_all_blank(line)
 }
 
-/// Adds the part, where it is a word.
+/// Adds the part, if it is a word.
 fn push_word<'a>(found: &mut Vec<&'a [u8]>, part: &'a [u8]) -> Result<(), AllocError>
     ensures { OnOk result (texts_of found.new.items ≡ texts_of found.old.items ++ filter is_filled (part.now ∷ [])) }
 {
@@ -47,7 +47,7 @@ fn push_word<'a>(found: &mut Vec<&'a [u8]>, part: &'a [u8]) -> Result<(), AllocE
 }
 
 /// The words of a line, in order, in place of what `found` had: the parts of the line between spaces and tabs that are
-/// not empty. One vector serves line after line, so that few lines take memory. Only want of memory refuses, and what
+/// not empty. One vector serves line after line, so that few lines take memory. It fails only out of memory, and what
 /// `found` has then is not said.
 pub fn find_words<'a>(found: &mut Vec<&'a [u8]>, line: &'a [u8]) -> Result<(), AllocError>
     ensures { OnOk result (texts_of found.new.items ≡ words line.now) }
@@ -125,7 +125,7 @@ fn value(word: &[u8]) -> u64
     value
 }
 
-/// The number that the word is, where it is 1 to 10 decimal digits and at most `limit`; leading zeros are good.
+/// The number that the word is, if it is 1 to 10 decimal digits and at most `limit`; leading zeros are good.
 pub fn number_within(limit: u64, word: &[u8]) -> Option<u64>
     ensures value { result ≡ number_within limit word.now }
     ensures within { IfSome result (λ n. n ≤ limit) }

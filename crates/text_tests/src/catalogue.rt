@@ -464,7 +464,7 @@ fn has_line_or_memory(alloc: Global, text: &[u8], name: &[u8]) -> bool {
     }
 }
 
-/// With ample memory all is read. Under an allocator that refuses, want of memory is the one fault.
+/// With ample memory all is read. Under an allocator that refuses, out of memory is the one fault.
 #[test]
 fn no_other_fault(rt: HostRuntime) {
     for text in [SOUND, SOFT] {

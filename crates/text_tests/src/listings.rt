@@ -1,4 +1,4 @@
-//! Lines of /proc/modules, the listings of a table, and what is told of a module, byte for byte.
+//! Lines of /proc/modules, the listings of a table, and what is reported of a module, byte for byte.
 ghost use Rattle.std.specs.Prelude.{◌≡◌, ◌<◌, length, IfOk};
 ghost use Rattle.dep_index.specs.Catalogue.{modules_of};
 
@@ -128,7 +128,7 @@ fn tells_the_parts_of_a_line(rt: HostRuntime) {
     assert!(rt; tells_snd(read_line(rt.alloc(), text)));
 }
 
-/// Makes a call that changes states, where it is one.
+/// Makes a call that changes states, if it is one.
 fn make_change(table: &mut Table, slot: usize, call: Call)
     requires { slot < length table.old.catalogue }
     ensures { table.new.catalogue ≡ table.old.catalogue }
@@ -144,7 +144,7 @@ fn make_change(table: &mut Table, slot: usize, call: Call)
     }
 }
 
-/// Makes the call, where it is in range.
+/// Makes the call, if it is in range.
 fn make(table: &mut Table, call: Call)
     ensures { table.new.catalogue ≡ table.old.catalogue }
 {
@@ -303,7 +303,7 @@ fn lists_tables(rt: HostRuntime) {
     }
 }
 
-/// Whether this is told of the module of the name.
+/// Whether this is reported of the module of the name.
 fn tells(alloc: Global, read: Result<Catalogue, CatError>, name: &[u8], wanted: &[u8]) -> bool {
     let Ok(catalogue) = read else {
         return false;
@@ -316,7 +316,7 @@ fn tells(alloc: Global, read: Result<Catalogue, CatError>, name: &[u8], wanted: 
     }
 }
 
-/// A catalogue, a name, and what is told of the module of the name.
+/// A catalogue, a name, and what is reported of the module of the name.
 static MODULES: [(&[u8], &str, &[u8]); 2] = [
     (
         CARDS,

@@ -18,7 +18,7 @@ pub(crate) fn holds_at(rt: &impl Abort, length: usize, fact: bool) {
     assert!(rt; fact, "at {length}");
 }
 
-/// What is left of a wanted text, or nothing where something else was found.
+/// What is left of a wanted text, or nothing if something else was found.
 pub(crate) type Rest<'a> = Option<&'a [u8]>;
 
 /// What is left behind these pieces.

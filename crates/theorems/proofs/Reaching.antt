@@ -60,7 +60,7 @@ rows_after : (catalogue : List Module) (table : Table) (xs : List Call) → leng
 rows_after catalogue table [] = refl
 rows_after catalogue table (x ∷ xs) = rows_after catalogue (next catalogue table x) xs ∙ rows_next catalogue table x
 
--- a fact of what is given, where it is given
+-- a fact of what is given, if it is given
 abbrev IfGiven : {A : Type 0} → (A → Type 0) → Result A PlanError → Type 0
 IfGiven P (Ok x) = P x
 IfGiven P (Err e) = Unit {0}

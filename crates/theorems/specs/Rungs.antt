@@ -56,7 +56,7 @@ pub record LooksAreWordSteps (world : World) (t : Table) (m found : ℕ) : Type 
 abbrev pub AllLooksAreWordSteps : Type 0
 AllLooksAreWordSteps = (world : World) (t : Table) (m found : ℕ) → LooksAreWordSteps world t m found
 
--- which word the machine's step on the word leaves, where the row has a step that writes
+-- which word the machine's step on the word leaves, if the row has a step that writes
 pub record WritesAreWordSteps (catalogue : List Module) (t : Table) (m found : ℕ) : Type 0 where
   pub arrive : (w : ℕ) → count_of t w m ≡ 0 → is_open found ≡ true → word_step catalogue t (Get w m) found ≡ record { word = found; outcome = GoesOn found }
   pub depart : (w : ℕ) → count_of t w m ≡ 1 → word_step catalogue t (Put w m) found ≡ takes_effect (found - 1) Done

@@ -17,11 +17,11 @@ abbrev pub output_of : ℕ → Result (Setup × List Line) SetupRefusal → Opti
 output_of workers (Ok p) = Some (answer p.0 (opening_of p.0 workers) (texts p.1)).0
 output_of workers (Err e) = None
 
--- what a session writes, a function of its input and the number of workers; None, where the input has no setup
+-- what a session writes, a function of its input and the number of workers; None, if the input has no setup
 abbrev pub output : ℕ → List ℕ → Option (List ℕ)
 output workers input = output_of workers (setup_of input)
 
--- the bytes are a beginning of the output; where there is none, there are no bytes
+-- the bytes are a beginning of the output; if there is none, there are no bytes
 abbrev pub IsBeginning : List ℕ → Option (List ℕ) → Type 0
 IsBeginning bytes None = bytes ≡ []
 IsBeginning bytes (Some whole) = (rest : List ℕ) × (whole ≡ bytes ++ rest)

@@ -50,7 +50,7 @@ pub record WereMadeInOrder (row : RowIs) (first : Call) (reply : Reply) (old new
   pub since : List SeatAnswer
   pub order : other.after ≡ (one.after ++ since) ++ seat_answer (seat_for second) second reply' ∷ []
 
--- Where this removal of the slot was answered Ok, the get is answered NotLive, unless a load of the module ended well between the two
+-- If this removal of the slot was answered Ok, the get is answered NotLive, unless a load of the module ended well between the two
 abbrev pub FindsItGone : RowIs → Call → ℕ → ℕ → Reply → Reply → CallerIs → CallerIs → CallerIs → CallerIs → Type 0
 FindsItGone row removal slot worker reply get old new old' new' =
     reply ≡ Done

@@ -19,7 +19,7 @@ use use_indicator::Reader;
 
 /// A managed drain, or removal, that ended with Ok left no reference by any worker, through whichever caller it was taken, and no
 /// loaded module that needs the module. In every legal history that begins so, no get of the module succeeds afterwards until it
-/// is loaded again. None comes exactly where the slot is out of range, and nothing is then done.
+/// is loaded again. None comes exactly if the slot is out of range, and nothing is then done.
 pub fn managed_drains_end_unused<R: Wait>(
     rt: &R,
     table: &ManagedTable,

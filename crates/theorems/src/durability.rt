@@ -15,7 +15,7 @@ use tenures::laws::removals_find_no_holder;
 /// Processes use one table, one after another. Each is asked lines, and begins replies to the first of them. Each is ended,
 /// or cut off at whatever moment: it is killed, or its machine crashes. Then the table is that of one list of commands. In it each
 /// command whose reply was begun stands once, in the order of the replies. Of the others each stands at most once, and only the
-/// last one that a process was asked. Each reply is the one of the table at the place where its command stands. So no
+/// last one that a process was asked. Each reply is the one of the table at the place if its command stands. So no
 /// removal succeeds while any holder of any process, alive or dead, holds the module, whatever was killed when. This is durable
 /// linearizability (Izraelevitz, Mendes, Scott, DISC 2016).
 ///

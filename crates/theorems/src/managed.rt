@@ -13,8 +13,8 @@ use std::sync::Wait;
 /// Each managed call that returns was made exactly once: its caller had one turn more, and in it the worker's leaf or the book
 /// made this one call. The caller did nothing else, and no further caller came from it: callers come from callers alone, so no other
 /// call was made behind it. The call was answered as the one-thread table answers it in a legal history, which begins with all that
-/// this caller had seen there, and in which removals are safe. It is not made exactly where the worker or the slot is out of range,
-/// or where it is a query, which takes no lock. Nothing is then done. It may not return.
+/// this caller had seen there, and in which removals are safe. It is not made exactly if the worker or the slot is out of range,
+/// or if it is a query, which takes no lock. Nothing is then done. It may not return.
 ///
 /// Premises: the caller is of this table; the steps on all words are in one order (sequentially consistent atomics).
 pub fn managed_calls_are_made_once<R: Wait>(
@@ -35,7 +35,7 @@ pub fn managed_calls_are_made_once<R: Wait>(
 
 /// A managed removal that was begun with Ok found no reference by any worker, through whichever caller it was taken, and no
 /// loaded module that needs it. In every legal history that begins so, no get of the module succeeds afterwards until it is
-/// loaded again. None comes exactly where the slot is out of range, and nothing is then done. Premises as above.
+/// loaded again. None comes exactly if the slot is out of range, and nothing is then done. Premises as above.
 pub fn managed_removals_find_no_user<R: Wait>(
     rt: &R,
     table: &ManagedTable,

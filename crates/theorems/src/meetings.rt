@@ -35,7 +35,7 @@ pub fn gets_are_answered_in_one_history<R: Wait>(
     result
 }
 
-/// A removal that the book begins was answered as the one-thread table answers it in a legal history, and where it is
+/// A removal that the book begins was answered as the one-thread table answers it in a legal history, and if it is
 /// answered Ok there was no reference to the module, and no module of the table that needs it. Premises as above.
 pub fn removals_find_no_user(
     book: &mut Book,

@@ -14,7 +14,7 @@ use step_core::Step;
 
 /// For every list of the workers' atomic steps, each returned get, put, query, load and removal takes effect at one
 /// step between its first and its last and answers as the one-thread table does there; so a removal succeeds only
-/// where no reference is held and no loaded module needs it, and no get succeeds afterwards until the module is live
+/// if no reference is held and no loaded module needs it, and no get succeeds afterwards until the module is live
 /// again.
 ///
 /// Premises: the catalogue was accepted; there are fewer than 2^32 workers; the machine accepts the steps, else the

@@ -14,10 +14,10 @@ use modprobe::{Lines, RunFault, ServeFault, Setup, Sink, Source, run, serve};
 use seq_table::Modules;
 use std::alloc::Global;
 
-/// A session is a function of its input: where it is answered Ok, what was written is the output that belongs to the
+/// A session is a function of its input: if it is answered Ok, what was written is the output that belongs to the
 /// input and the number of workers, and nothing else, and the reader is at its end. After a fault it is said what stands.
-/// A fault of the reader or of the writer comes exactly where that one failed. The reader is read 16,777,216 times at
-/// most, and as often where a fault of turns comes.
+/// A fault of the reader or of the writer comes exactly if that one failed. The reader is read 16,777,216 times at
+/// most, and as often if a fault of turns comes.
 ///
 /// Premises: the reader and the writer tell their bytes, and have not failed before; there are at most 64 workers.
 pub fn sessions_are_functions_of_their_input<R: Source, W: Sink>(
@@ -43,7 +43,7 @@ pub fn sessions_are_functions_of_their_input<R: Source, W: Sink>(
 }
 
 /// However a session stops before the end of its input, what was written is a beginning of the output that belongs to the
-/// input. So no fault has it write anything else, and where the input has no setup nothing is written. One that does not stop has
+/// input. So no fault has it write anything else, and if the input has no setup nothing is written. One that does not stop has
 /// read all, and written all of it.
 ///
 /// Premises: those of the sentence above.

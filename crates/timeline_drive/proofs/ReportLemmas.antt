@@ -52,7 +52,7 @@ refused_at items line later text n before is counted =
     ap (λ (o : List (Option Entry)). option_map (λ (b : ℕ). b + 1) (position is_none o)) split
     ∙ ap (option_map (λ (b : ℕ). b + 1)) place ∙ ap Some same
 
--- where no line is left, all were calls
+-- if no line is left, all were calls
 pub all_read : (items : List entry_type.Entry) (all : List (Option Entry)) → map Some (entries_in items) ++ lines_from (length items) [] ≡ all
     → all ≡ map Some (entries_in items)
 all_read items all before = sym before ∙ append-nil (map Some (entries_in items))

@@ -78,7 +78,7 @@ is_ordered times = lies_within times.first times.last times.effect
 abbrev pub ordered : Times → Option Times
 ordered times = if is_ordered times then Some times else None
 
--- the times, where each of their words is one
+-- the times, if each of their words is one
 abbrev pub times_with : Option ℕ → Option (Option ℕ) → Option (Option Effect) → Option Times
 times_with (Some first) (Some last) (Some effect) = ordered (record { first = first; last = last; effect = effect })
 times_with None last effect = None

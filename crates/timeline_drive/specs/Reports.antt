@@ -12,7 +12,7 @@ abbrev pub numbered : ℕ → Option Entry → Option Entry
 numbered n None = None
 numbered n (Some e) = if e.number == n then Some e else None
 
--- the call that a line is, where it has this number
+-- the call that a line is, if it has this number
 abbrev pub line_at : ℕ → List ℕ → Option Entry
 line_at n line = numbered n (entry_of (slice_split (λ byte. byte == 32) line))
 
@@ -32,7 +32,7 @@ entries_in entries = map entry_in entries
 abbrev pub first_fault : List ℕ → Option ℕ
 first_fault text = option_map (λ before. before + 1) (position is_none (lines_from 0 (lines text)))
 
--- a line is refused where it is the first that is none; out of memory says nothing of the text
+-- a line is refused if it is the first that is none; out of memory says nothing of the text
 abbrev pub Refuses : List ℕ → ReportFault → Type 0
 Refuses text (Line line) = first_fault text ≡ Some line
 Refuses text Memory = Unit {0}

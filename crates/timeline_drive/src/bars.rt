@@ -45,7 +45,7 @@ pub(crate) struct Bar<'e> {
     pub(crate) has_first: bool,
     /// Whether it ends here, by its last step or with the picture.
     pub(crate) has_end: bool,
-    /// The column of its point, where that is here.
+    /// The column of its point, if that is here.
     pub(crate) point: Option<u32>,
     pub(crate) label: Label,
 }

@@ -69,7 +69,7 @@ impl Columns {
         column_of(self.ticks.get(at))
     }
 
-    /// The last column; 0 where no step is named.
+    /// The last column; 0 if no step is named.
     pub(crate) fn last(&self) -> u32 {
         column_of(self.ticks.last())
     }

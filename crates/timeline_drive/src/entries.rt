@@ -156,7 +156,7 @@ fn times_of(words: &[&[u8]]) -> Option<Times>
     if is_ordered(times) { Some(times) } else { None }
 }
 
-/// The entry that the words of a line are; None where they are none.
+/// The entry that the words of a line are; None if they are none.
 pub(crate) fn entry_of<'a>(words: &[&'a [u8]]) -> Option<Entry<'a>>
     ensures { option_map entry_in result ≡ entry_of (texts_of words.now) }
 {

@@ -33,7 +33,7 @@ fn above(scale: &Scale, bar: &Bar<'_>, letters: u32, rows: &mut Rows) -> Option<
     None
 }
 
-/// The label of a bar: in it where there is room for all, else above it, else what there is room for.
+/// The label of a bar: in it if there is room for all, else above it, else what there is room for.
 fn place(scale: &Scale, bar: &Bar<'_>, rows: &mut Rows) -> Label {
     let words = letters(bar.words);
     let reply = letters(reply_text(bar.entry.effect).as_bytes());

@@ -11,7 +11,7 @@ use std::alloc::{AllocError, Global};
 pub(crate) struct Layout<'e> {
     /// The threads that make calls, in rising order: a lane each.
     pub(crate) threads: Vec<u8>,
-    /// The last column; 0 where no step is named.
+    /// The last column; 0 if no step is named.
     pub(crate) last: u32,
     pub(crate) bands: Vec<Band<'e>>,
 }

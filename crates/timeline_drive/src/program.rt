@@ -42,7 +42,7 @@ fn tell<E: Write>(
     Status::Refused
 }
 
-/// Draws the report that an input is. A fault is told.
+/// Draws the report that an input is. A fault is reported.
 fn draw<O: Write, E: Write>(
     alloc: Global,
     asked: Asked<'_>,
@@ -61,7 +61,7 @@ fn draw<O: Write, E: Write>(
     Status::Fault
 }
 
-/// Reads a report and draws it. A fault is told.
+/// Reads a report and draws it. A fault is reported.
 fn answer<R: AllocGlobal + Files, I: Read, O: Write, E: Write>(
     rt: &R,
     asked: Asked<'_>,
@@ -78,8 +78,8 @@ fn answer<R: AllocGlobal + Files, I: Read, O: Write, E: Write>(
     }
 }
 
-/// Runs the program on these words, the first of which is its own name, and answers its status: 0 where the picture was
-/// written, 2 where an argument, the file or the report is refused, 3 for a fault. The report is the file that a word
+/// Runs the program on these words, the first of which is its own name, and answers its status: 0 if the picture was
+/// written, 2 if an argument, the file or the report is refused, 3 for a fault. The report is the file that a word
 /// names, else that of `reader`. What is refused, and what failed, is said on `errors`; help and the version go to
 /// `writer`.
 pub fn drive<R: AllocGlobal + Files, I: Read, O: Write, E: Write>(

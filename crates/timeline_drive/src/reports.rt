@@ -49,7 +49,7 @@ pub(crate) fn words<'a>(alloc: Global, line: &'a [u8]) -> Result<Vec<&'a [u8]>, 
     line.split(|byte| *byte == b' ').collect(alloc)
 }
 
-/// The call that a line is, where it has this number.
+/// The call that a line is, if it has this number.
 fn line_at<'a>(
     alloc: Global,
     number: usize,

@@ -24,7 +24,7 @@ const LEFT: u32 = 5;
 /// A line of letters.
 const BLANK: [u8; 80] = [b' '; 80];
 
-/// Writes a letter into a line, where the line goes so far.
+/// Writes a letter into a line, if the line goes so far.
 fn put(line: &mut [u8], at: u32, letter: u8) {
     if let Some(cell) = line.get_mut(at as usize) {
         *cell = letter;
@@ -64,7 +64,7 @@ fn middle(column: u32) -> u32 {
     SCALE.width(column).saturating_add(LEFT + 1)
 }
 
-/// Adds the steps, each with its number where there is room for it.
+/// Adds the steps, each with its number if there is room for it.
 fn push_axis(page: &mut Page, ticks: &[Tick]) {
     let mut line = BLANK;
     write_at(&mut line, 0, b"step");
@@ -83,7 +83,7 @@ fn push_axis(page: &mut Page, ticks: &[Tick]) {
     push_line(page, &line);
 }
 
-/// Writes a bar: `[===o===]`, `[---x---]` where the call was refused, `[...` before its point is known.
+/// Writes a bar: `[===o===]`, `[---x---]` if the call was refused, `[...` before its point is known.
 fn write_bar(line: &mut [u8], bar: &Bar<'_>) {
     let (stroke, mark) = match bar.entry.effect {
         Some(_) if is_refused(bar.entry) => (b'-', b'x'),
@@ -120,7 +120,7 @@ fn write_cut(line: &mut [u8], at: u32, text: &[u8], room: u32) -> u32 {
     dots.saturating_add(2)
 }
 
-/// Writes the text of a bar, where it stands in this row.
+/// Writes the text of a bar, if it stands in this row.
 fn write_label(line: &mut [u8], bar: &Bar<'_>, row: u32) {
     let Label::Above {
         row: own,
@@ -184,7 +184,7 @@ fn push_band(page: &mut Page, threads: &[u8], band: &Band<'_>) {
 }
 
 /// The picture of a report's calls in letters, in lines of at most 80: a line for the bars of each thread, and rows for
-/// their texts above it. Where the columns do not fit side by side, they go on below.
+/// their texts above it. If the columns do not fit side by side, they go on below.
 pub(crate) fn terminal_text(alloc: Global, calls: &[Call<'_>]) -> Result<String, AllocError> {
     let layout = Layout::new(alloc, &SCALE, calls)?;
     let mut page = Page::new(alloc);

@@ -13,7 +13,7 @@ abbrev pub missed : ℕ → List ℕ → List AtomicStep
 missed m [] = []
 missed m (n ∷ ns) = Load m n ∷ Exchange m n (n + 1) false ∷ missed m ns
 
--- the last try of a get: where the get is done, its exchange was made; else its load was the last step
+-- the last try of a get: if the get is done, its exchange was made; else its load was the last step
 abbrev pub last_try : ℕ → ℕ → Reply → List AtomicStep
 last_try m n answer = Load m n ∷ (if is_done answer then Exchange m n (n + 1) true ∷ [] else [])
 

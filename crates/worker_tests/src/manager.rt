@@ -68,7 +68,7 @@ static ENDED: [Row; 5] = [
     Answers(Call::Get(0, 2), None),
 ];
 
-/// What an outcome says; None where the worker or the slot is out of range.
+/// What an outcome says; None if the worker or the slot is out of range.
 fn reply_of<E: Refusal>(outcome: Option<Result<(), E>>) -> Option<Reply> {
     Some(Reply::of(outcome?))
 }

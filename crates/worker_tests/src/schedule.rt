@@ -60,7 +60,7 @@ fn event_in(first: usize, courses: &[Course], index: usize) -> Option<Event> {
 }
 
 impl Schedule {
-    /// What a step comes to, where a call begins, takes effect or returns there.
+    /// What a step comes to, if a call begins, takes effect or returns there.
     pub(crate) fn event(&self, index: usize) -> Option<Event> {
         let event = event_in(0, &LOADED_CALLS, index);
         if event.is_some() {

@@ -94,7 +94,7 @@ fn table(alloc: Global, workers: usize) -> Result<Table, Fail>
     Ok(Table::new(alloc, &read_catalogue(alloc, FOUR)?, workers)?)
 }
 
-/// What a call answers, where its module and its worker are in range.
+/// What a call answers, if its module and its worker are in range.
 fn reply_to(table: &mut Table, call: Call) -> Option<Reply> {
     if call.slot() >= table.slots() {
         return None;

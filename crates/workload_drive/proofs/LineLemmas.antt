@@ -68,7 +68,7 @@ lines_last found found' line all rest nowhere some before pushed made =
     ∙ ap (λ (ls : List text.Line). lines_in found ++ numbered (length found + 1) ls) (sym (cut_lines-last rest (no_more_feed rest nowhere) some))
     ∙ before
 
--- where nothing is left there is no line more
+-- if nothing is left there is no line more
 pub lines_done : (found : List Line) (all : List Numbered) (rest : List ℕ) → length rest ≡ 0
     → lines_in found ++ numbered (length found + 1) (cut_lines rest) ≡ all → lines_in found ≡ all
 lines_done found all [] none before = sym (append-nil (lines_in found)) ∙ before

@@ -40,7 +40,7 @@ or_none : {A : Type 0} (o : Option A) → or_else o None ≡ o
 or_none None = refl
 or_none (Some x) = refl
 
--- with one more point, a call has that point where it is its own and there was none
+-- with one more point, a call has that point if it is its own and there was none
 at_point : (taken : List (Option Point)) (p : Point) (n : ℕ) → n < length taken
     → get_or (with_point taken p) n None ≡ or_else (get_or taken n None) (cond (p.call == n) (Some p) None)
 at_point taken p n below = elim (cases_eq p.call n) [ inl same ↦ mine same (get_or taken p.call None) refl | inr other ↦ others other (is_some (get_or taken p.call None)) refl ] where

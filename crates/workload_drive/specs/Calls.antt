@@ -16,14 +16,14 @@ first_of Remove slot = calls.BeginRemove slot
 first_of Drain slot = calls.BeginDrain slot
 first_of Finish slot = calls.EndRemove slot
 
--- the call that is made where the first was Done
+-- the call that is made if the first was Done
 abbrev pub second_of : Change → ℕ → Option Call
 second_of Load slot = Some (calls.EndLoad slot true)
 second_of Remove slot = Some (calls.EndRemove slot)
 second_of Drain slot = None
 second_of Finish slot = None
 
--- where the first call had this reply: the second was made and answered so, or there is none and that is the reply
+-- if the first call had this reply: the second was made and answered so, or there is none and that is the reply
 abbrev pub Ended : {T : Type 0} → (T → Call → Reply → T → Type 0) → Option Call → Reply → Reply → T → T → Type 0
 Ended made (Some call) Done reply between new = made between call reply new
 Ended made second first reply between new = (reply ≡ first) × (new ≡ between)

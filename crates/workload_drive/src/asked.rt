@@ -60,7 +60,7 @@ fn command<'a>(alloc: Global) -> Result<Command<'a>, AllocError> {
         .arg(file(alloc))
 }
 
-/// How the lines of replies are numbered, where replies are asked for.
+/// How the lines of replies are numbered, if replies are asked for.
 fn numbering_in(matches: &ArgMatches<'_>) -> Option<Numbering> {
     if !matches.get_flag("replies") {
         None

@@ -41,7 +41,7 @@ fn status_of(fault: Fault) -> Status {
     }
 }
 
-/// What the workers of a script come to on a table, after their replies where these are asked for.
+/// What the workers of a script come to on a table, after their replies if these are asked for.
 fn text_on<R: AllocGlobal + Threads + Wait + Sync>(
     rt: &R,
     asked: Option<Numbering>,
@@ -97,7 +97,7 @@ fn write_answer<R: AllocGlobal + Files + Threads + Wait + Sync, I: Read, O: Writ
     Ok(())
 }
 
-/// Tells a fault in one line, and then for people, where that is asked for.
+/// Tells a fault in one line, and then for people, if that is asked for.
 fn tell<E: Write>(alloc: Global, asked: Asked<'_>, fault: Fault, input: &[u8], errors: &mut E) {
     if let Fault::Read(fault) = fault {
         return tell_no_input("workload", asked.source, fault, errors);
@@ -110,7 +110,7 @@ fn tell<E: Write>(alloc: Global, asked: Asked<'_>, fault: Fault, input: &[u8], e
     }
 }
 
-/// Reads the input and writes what it comes to. A fault is told.
+/// Reads the input and writes what it comes to. A fault is reported.
 fn answer<R: AllocGlobal + Files + Threads + Wait + Sync, I: Read, O: Write, E: Write>(
     rt: &R,
     asked: Asked<'_>,
@@ -128,8 +128,8 @@ fn answer<R: AllocGlobal + Files + Threads + Wait + Sync, I: Read, O: Write, E: 
     }
 }
 
-/// Runs the program on these words, the first of which is its own name, and answers its status: 0 where the report, or
-/// with `--threads` what the script comes to, was written, 2 where an argument, the file or the input is refused, 3 for a
+/// Runs the program on these words, the first of which is its own name, and answers its status: 0 if the report, or
+/// with `--threads` what the script comes to, was written, 2 if an argument, the file or the input is refused, 3 for a
 /// fault. The input is the file that a word names, else that of `reader`. What is refused, and what failed, is said on
 /// `errors`; help goes to `writer`.
 pub fn drive<R: AllocGlobal + Files + Threads + Wait + Sync, I: Read, O: Write, E: Write>(

@@ -111,7 +111,7 @@ pub(crate) fn read_parts<'a>(
     })
 }
 
-/// The number, where it is not 0.
+/// The number, if it is not 0.
 pub(crate) fn from_one(number: Option<u64>) -> Option<u64>
     ensures { result ≡ from_one number }
 {

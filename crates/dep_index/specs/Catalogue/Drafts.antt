@@ -10,7 +10,7 @@ use Rattle.dep_index.specs.declared.faults.Refused.{Refused}
 use Rattle.dep_index.specs.declared.catalogue.details.Open.{Open}
 use Rattle.dep_index.specs.declared.catalogue.draft.Draft.{Draft}
 
--- the open module, where there is one
+-- the open module, if there is one
 abbrev pub last_in : Option Open → List Description
 last_in None = []
 last_in (Some o) = open_in o ∷ []
@@ -28,7 +28,7 @@ draft_in draft =
       modules = modules_read draft;
     }
 
--- the open module has no name of an earlier one; where none is open there is none at all
+-- the open module has no name of an earlier one; if none is open there is none at all
 abbrev pub IsNew : List Description → Option Open → Type 0
 IsNew earlier None = earlier ≡ []
 IsNew earlier (Some o) = has_name earlier o.name.items ≡ false

@@ -193,7 +193,7 @@ fn version<'w, 'a>(rest: &'w [&'a [u8]]) -> Option<Directive<'w, 'a>>
     }
 }
 
-/// What the first word and those behind it say, or `None` where they have no form of a catalogue line.
+/// What the first word and those behind it say, or `None` if they have no form of a catalogue line.
 pub(crate) fn read_directive<'w, 'a>(
     alloc: Global,
     word: &[u8],

@@ -52,7 +52,7 @@ fn is_compared(params: &[Param], name: &[u8]) -> bool
         .any(|param| is_same(name, param.name.as_bytes()))
 }
 
-/// Adds the name, which is not there, where so many parameters stand before its own that they are not compared.
+/// Adds the name, which is not there, if so many parameters stand before its own that they are not compared.
 fn note(
     alloc: Global,
     later: &mut IndexSet<Vec<u8>>,

@@ -47,7 +47,7 @@ fn any_loaded(order: &Order, slots: &Slots, slot: usize, users: &[u16]) -> bool
 }
 
 impl Book {
-    /// The book of a catalogue whose modules are all Absent. It fails for want of memory alone.
+    /// The book of a catalogue whose modules are all Absent. It fails only out of memory.
     pub fn new(alloc: Global, slots: &Slots) -> Result<Book, AllocError>
         ensures { IfOk result (λ book. book ≡ (opening slots.now 0).book) }
     {
@@ -94,7 +94,7 @@ impl Book {
         any_loaded(&self.order, slots, slot, slots.users(slot))
     }
 
-    /// Why no load of the slot begins; None where one does.
+    /// Why no load of the slot begins; None if one does.
     pub fn load_refusal(&self, slots: &Slots, slot: usize) -> Option<BeginLoadError>
         requires { slot < length slots.now }
         ensures { refusal_of begin_load_refusal result ≡ book_refusal slots.now self.now (BeginLoad slot) }
@@ -110,7 +110,7 @@ impl Book {
         )
     }
 
-    /// Why no load of the slot ends; None where one does.
+    /// Why no load of the slot ends; None if one does.
     pub fn end_load_refusal(&self, slot: usize) -> Option<EndLoadError>
         ensures { refusal_of end_load_refusal result ≡ book_refusal [] self.now (EndLoad slot true) }
     {
@@ -121,7 +121,7 @@ impl Book {
         }
     }
 
-    /// Why no drain of the slot begins; None where one does.
+    /// Why no drain of the slot begins; None if one does.
     pub fn drain_refusal(&self, slots: &Slots, slot: usize) -> Option<BeginDrainError>
         requires { slot < length slots.now }
         ensures { refusal_of begin_drain_refusal result ≡ unload_refusal slots.now self.now slot }
@@ -140,7 +140,7 @@ impl Book {
         }
     }
 
-    /// Why the book lets no removal of the slot begin; it knows nothing of references. None where one may begin.
+    /// Why the book lets no removal of the slot begin; it knows nothing of references. None if one may begin.
     pub fn remove_refusal(&self, slots: &Slots, slot: usize) -> Option<BeginRemoveError>
         requires { slot < length slots.now }
         ensures { refusal_of begin_remove_refusal result ≡ unload_refusal slots.now self.now slot }
@@ -149,7 +149,7 @@ impl Book {
         Some(refusal.into())
     }
 
-    /// Why the book lets no removal and no drain of the slot end; it knows nothing of references. None where one may end.
+    /// Why the book lets no removal and no drain of the slot end; it knows nothing of references. None if one may end.
     pub fn end_remove_refusal(&self, slot: usize) -> Option<EndRemoveError>
         ensures { refusal_of end_remove_refusal result ≡ book_refusal [] self.now (EndRemove slot) }
     {
@@ -161,7 +161,7 @@ impl Book {
         }
     }
 
-    /// Why the book refuses a call, as a reply; None where it does not.
+    /// Why the book refuses a call, as a reply; None if it does not.
     pub fn refusal(&self, slots: &Slots, call: Call) -> Option<Reply>
         requires { slot_of call < length slots.now }
         ensures { result ≡ book_refusal slots.now self.now call }

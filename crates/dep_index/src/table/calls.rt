@@ -14,7 +14,7 @@ pub enum Call {
     InUse(usize),
     /// Begins a load (init_module(2)): the module is Loading then, and the newest.
     BeginLoad(usize),
-    /// Ends a load: where it went well the module is Live, else it is Absent again.
+    /// Ends a load: if it went well the module is Live, else it is Absent again.
     EndLoad(usize, bool),
     /// Takes no further reference to a Live module, which is Draining then.
     BeginDrain(usize),
@@ -90,7 +90,7 @@ impl Reply {
         }
     }
 
-    /// What a call answers that is refused; None where it is not.
+    /// What a call answers that is refused; None if it is not.
     pub fn of_refusal<E: Refusal>(refusal: Option<E>) -> Option<Reply>
         ensures { result ≡ refusal_of E.as_reply refusal }
     {

@@ -20,7 +20,7 @@ const REPEATED: u32 = u32::MAX;
 /// How many entries are counted together.
 const BLOCK: usize = 256;
 
-/// The slots in the order in which they entered. A slot that leaves becomes a gap. The entries are packed where they
+/// The slots in the order in which they entered. A slot that leaves becomes a gap. The entries are packed if they
 /// reach the end of their room, which is twice that of the slots: so often as many slots have entered since.
 /// Contracts see it as the list of its slots, and how many slots there are.
 pub(crate) struct Order {
@@ -182,7 +182,7 @@ fn pack(
     refill(spare, without, entries, places, counts);
 }
 
-/// The entries are packed where they are at the end of their room.
+/// The entries are packed if they are at the end of their room.
 fn make_room(
     entries: &mut Vec<u16>,
     spare: &mut Vec<u16>,
@@ -247,7 +247,7 @@ fn count_users(entries: &[u16], slots: &Slots, slot: usize) -> usize
 }
 
 impl Order {
-    /// No slot, with room for as many as there are. It fails for want of memory alone.
+    /// No slot, with room for as many as there are. It fails only out of memory.
     pub fn new(alloc: Global, room: usize) -> Result<Order, AllocError>
         requires { room ≤ 65535 }
         ensures { IfOk result (λ order. order ≡ record { slots = []; room = room }) }

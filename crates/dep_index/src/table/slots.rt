@@ -19,7 +19,7 @@ struct Slot {
 #[derive(Drop)]
 pub struct Slots {
     slots: Vec<Slot>,
-    /// By slot, who needs it. For want of memory at a `push` some may be noted that do not.
+    /// By slot, who needs it. Out of memory at a `push`, some may be noted that do not.
     users: Vec<Vec<u16>>,
 }
 
@@ -86,7 +86,7 @@ impl Slots {
         }
     }
 
-    /// Adds a module behind the others, of which there are at most 65,534. For want of memory it is not added.
+    /// Adds a module behind the others, of which there are at most 65,534. Out of memory, it is not added.
     pub fn push(
         &mut self,
         needs: Vec<u16>,
@@ -150,7 +150,7 @@ impl Slots {
         self.slots[slot].permanent
     }
 
-    /// The same slots, for another owner. It fails for want of memory alone.
+    /// The same slots, for another owner. It fails only out of memory.
     pub fn copy(&self, alloc: Global) -> Result<Slots, AllocError>
         ensures { IfOk result (λ copied. copied ≡ self.now) }
     {

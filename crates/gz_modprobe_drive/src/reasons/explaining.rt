@@ -44,7 +44,7 @@ impl Told<'_> {
         tasks.add_load(self.alloc, object, part)
     }
 
-    /// Begins with a module that a name stands for. Whether it is refused is answered.
+    /// Begins with a module that a name stands for. Returns whether it is refused.
     fn begin(&mut self, tasks: &mut Tasks, object: &Object) -> Result<bool, AllocError> {
         match self.known.asked.query.ask {
             Ask::ShowDepends | Ask::DryRun => {
@@ -64,7 +64,7 @@ impl Told<'_> {
         }
     }
 
-    /// Begins with the modules of a name, up to one that is refused. Whether one is refused is answered.
+    /// Begins with the modules of a name, up to one that is refused. Returns whether one is refused.
     fn begin_each(&mut self, tasks: &mut Tasks, objects: &[Object]) -> Result<bool, AllocError> {
         for (at, object) in objects.iter().enumerate() {
             if self.begin(tasks, object)? {
@@ -76,7 +76,7 @@ impl Told<'_> {
         Ok(false)
     }
 
-    /// Tells why a name of the command line stands for modules, and begins with them. Whether it is refused is answered.
+    /// Tells why a name of the command line stands for modules, and begins with them. Returns whether it is refused.
     fn begin_word(&mut self, tasks: &mut Tasks, word: &[u8]) -> Result<bool, AllocError> {
         let found = self.tell_word(word)?;
         let objects = found.as_deref().unwrap_or(&[]);

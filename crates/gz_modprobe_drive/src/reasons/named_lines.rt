@@ -18,7 +18,7 @@ pub(crate) struct NamedLines<'a> {
     pub(crate) builtins: KeyPlaces,
 }
 
-/// Adds the number of a line of modules.builtin, where it names a module.
+/// Adds the number of a line of modules.builtin, if it names a module.
 fn add_file(
     alloc: Global,
     numbers: &mut KeyPlaces,

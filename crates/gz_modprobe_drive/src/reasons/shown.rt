@@ -5,8 +5,8 @@ ghost use Rattle.gz_modprobe_drive.specs.Told.{is_shown, shown_byte};
 
 use std::alloc::{AllocError, Global};
 
-/// Lines for people: the line feeds are their only control characters. Where memory runs out, that is kept for the end, so
-/// that what is told needs no test at each step.
+/// Lines for people: the line feeds are their only control characters. If memory runs out, that is kept for the end, so
+/// that what is reported needs no test at each step.
 #[derive(Drop)]
 pub(crate) struct Shown {
     bytes: Vec<u8>,

@@ -14,7 +14,7 @@ pub struct Sources<'a> {
 }
 
 impl<'a> Sources<'a> {
-    /// The path of a text of the configuration; empty where none has this number.
+    /// The path of a text of the configuration; empty if none has this number.
     pub(crate) fn path(&self, number: usize) -> &'a [u8] {
         self.paths.get(number).copied().unwrap_or(b"")
     }

@@ -35,14 +35,14 @@ pub(crate) struct Tasks {
     told: usize,
     /// Whether nothing more is to be told, since a refusal ended the query.
     ended: bool,
-    /// Whether a module that a name stands for is the same where another one asks for it.
+    /// Whether a module that a name stands for is the same if another one asks for it.
     merges: bool,
     /// The words of softdep lines that were told, each with whether it stands for a module.
     words: IndexMap<Vec<u8>, bool>,
 }
 
 impl Tasks {
-    /// No tasks yet. `merges` says that a module which a name stands for is the same where another one asks for it.
+    /// No tasks yet. `merges` says that a module which a name stands for is the same if another one asks for it.
     pub(crate) fn new(alloc: Global, merges: bool) -> Tasks {
         Tasks {
             all: IndexSet::new(alloc),
@@ -106,7 +106,7 @@ impl Tasks {
         self.add_name(alloc, &object.name, Part::Needs)
     }
 
-    /// Whether a word of a softdep line stands for a module, None where it was not told.
+    /// Whether a word of a softdep line stands for a module, None if it was not told.
     pub(crate) fn is_found(&self, word: &[u8]) -> Option<bool> {
         self.words.get(word).copied()
     }

@@ -1,4 +1,4 @@
-//! What is told of a module: the lines that count for it, and those that do not.
+//! What is reported of a module: the lines that count for it, and those that do not.
 
 use crate::reasons::heads::Heads;
 use crate::reasons::tasks::{Part, Task, Tasks};
@@ -12,7 +12,7 @@ use text_parts::is_same;
 
 const MODULES: &[u8] = b"/sys/module";
 
-/// What is told of a line that an earlier one of its kind keeps from counting.
+/// What is reported of a line that an earlier one of its kind keeps from counting.
 pub(crate) const LATER: &[u8] = b" line does not count, since another comes first";
 
 impl Told<'_> {
@@ -111,7 +111,7 @@ impl Told<'_> {
         Ok(())
     }
 
-    /// Tells why a word of a softdep line stands for modules, once. Whether it stands for any is answered.
+    /// Tells why a word of a softdep line stands for modules, once. Returns whether it stands for any.
     fn tell_soft(&mut self, tasks: &mut Tasks, word: &[u8]) -> Result<bool, AllocError> {
         if let Some(found) = tasks.is_found(word) {
             return Ok(found);
@@ -123,7 +123,7 @@ impl Told<'_> {
         Ok(!objects.is_empty())
     }
 
-    /// Tells words of a softdep line. Whether one of them stands for a module is answered.
+    /// Tells words of a softdep line. Returns whether one of them stands for a module.
     pub(crate) fn tell_items(
         &mut self,
         tasks: &mut Tasks,

@@ -1,4 +1,4 @@
-//! What is told of a module that is to be removed.
+//! What is reported of a module that is to be removed.
 
 use crate::reasons::tasks::{Part, Tasks};
 use crate::reasons::told::{Spot, Told};
@@ -66,7 +66,7 @@ impl Told<'_> {
         self.tell_need_state(&object.name)
     }
 
-    /// Begins with a module that is to be removed, a soft item or not. Whether it is refused is answered.
+    /// Begins with a module that is to be removed, a soft item or not. Returns whether it is refused.
     pub(crate) fn begin_removal(
         &mut self,
         tasks: &mut Tasks,

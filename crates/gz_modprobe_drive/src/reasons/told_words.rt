@@ -1,4 +1,4 @@
-//! What is told of a word of a command line or of a softdep line.
+//! What is reported of a word of a command line or of a softdep line.
 
 use crate::reasons::near_names::is_near;
 use crate::reasons::told::{Spot, Told};
@@ -96,7 +96,7 @@ impl Told<'_> {
         }
     }
 
-    /// Tells why a word stands for modules, which are answered. None where it is no name.
+    /// Tells why a word stands for modules, which are answered. None if it is no name.
     pub(crate) fn tell_word(&mut self, word: &[u8]) -> Result<Option<Vec<Object>>, AllocError> {
         let Some(name) = normal_alias(self.alloc, word)? else {
             let what = b"no name, since a bracket stands alone";

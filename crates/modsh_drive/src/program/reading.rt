@@ -37,7 +37,7 @@ impl<'a, 'e, E: Write> Program<'a, 'e, E> {
         Status::Refused
     }
 
-    /// Reads a file. One that cannot be read is told.
+    /// Reads a file. One that cannot be read is reported.
     fn read_file<R: Files>(
         &mut self,
         rt: &R,
@@ -57,7 +57,7 @@ impl<'a, 'e, E: Write> Program<'a, 'e, E> {
         }
     }
 
-    /// Reads the files of a folder that count. A folder among them is told, and where there is none, that is told.
+    /// Reads the files of a folder that count. A folder among them is told, and if there is none, that is told.
     fn read_folder<R: Files>(
         &mut self,
         rt: &R,

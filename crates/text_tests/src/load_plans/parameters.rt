@@ -13,7 +13,7 @@ const LEVELS: &[u8] =
 /// A module with a text and a truth value, of which one is named with a dash.
 const DASHES: &[u8] = b"module q\nparam card-id charp\nparam fast_io bool\n";
 
-/// Whether the module in the slot takes the words. There is none where the catalogue is refused or has no such slot.
+/// Whether the module in the slot takes the words. There is none if the catalogue is refused or has no such slot.
 fn takes(alloc: Global, catalogue: &[u8], slot: usize, words: &[&[u8]]) -> Option<bool> {
     match read_catalogue(alloc, catalogue) {
         Ok(catalogue) if slot < catalogue.len() => Some(params_valid(&catalogue, slot, words)),

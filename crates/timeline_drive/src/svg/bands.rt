@@ -41,7 +41,7 @@ pub(crate) fn middle(column: u32) -> u32 {
     SCALE.width(column).saturating_add(LEFT + SCALE.column / 2)
 }
 
-/// Adds the steps of an axis, each with its number where there is room for it.
+/// Adds the steps of an axis, each with its number if there is room for it.
 fn push_ticks(page: &mut Page, ticks: &[Tick], y: u32) {
     let (upper, base) = (y.saturating_sub(4), y.saturating_sub(8));
     let mut free = 0;

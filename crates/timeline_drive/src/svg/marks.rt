@@ -61,7 +61,7 @@ fn push_outline(page: &mut Page, bar: &Bar<'_>, begin: u32, end: u32, top: u32) 
     );
 }
 
-/// Adds the shape of a bar: with round corners, or with sharp ones where the call was refused or goes on in another band.
+/// Adds the shape of a bar: with round corners, or with sharp ones if the call was refused or goes on in another band.
 fn push_shape(page: &mut Page, bar: &Bar<'_>, top: u32) {
     let begin = SCALE
         .width(bar.from)
@@ -139,7 +139,7 @@ fn push_above(page: &mut Page, bar: &Bar<'_>, at: u32, letters: u32, base: u32) 
     page.add("</tspan></text>");
 }
 
-/// Adds the mark of a point: a disc, or a diamond where the call was refused.
+/// Adds the mark of a point: a disc, or a diamond if the call was refused.
 fn push_mark(page: &mut Page, bar: &Bar<'_>, top: u32) {
     let Some(point) = bar.point else {
         return;

@@ -81,7 +81,7 @@ const NARROW: &str =
     "<style>@media(max-width:500px){text,.legend{display:none}.lane{display:inline;font-size:$px;dominant-baseline:central}.mark{stroke-width:8px}.done .mark{stroke:#2563ab}.refused .mark{stroke:#b1430a}}</style>
 ";
 
-/// Adds the beginning of a picture of this size: its style and its legend. Where it is shown less than 500 pixels wide, it has no
+/// Adds the beginning of a picture of this size: its style and its legend. If it is shown less than 500 pixels wide, it has no
 /// texts but the names of the lanes, and these and the points are larger.
 pub(crate) fn push_head(page: &mut Page, width: u32, height: u32) {
     page.fill(

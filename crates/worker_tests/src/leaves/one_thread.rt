@@ -37,7 +37,7 @@ static GIVEN: [(Call, Reply); 4] = [
 /// The module is gone.
 static GONE: [(Call, Reply); 2] = [(Get(1, 0), NotLive), (InUse(0), No)];
 
-/// What a call of leaf 0, of leaf 1 or of the reader answers; None where it is none of these, or the slot is out of range.
+/// What a call of leaf 0, of leaf 1 or of the reader answers; None if it is none of these, or the slot is out of range.
 fn reply_to<R: Wait>(rt: &R, row: &Row, users: &mut Users, call: Call) -> Option<Reply>
     requires leaf { IsOf row.now users.old.leaf }
     requires other { IsOf row.now users.old.other }

@@ -170,7 +170,7 @@ pub(super) fn arrive(row: &Row, leaf: &mut LeafSeat, expected: u64) -> bool
     row.try_arrive(leaf, 0, expected)
 }
 
-/// A put's look and its subtraction, where the leaf gives its last reference back. Answers the word that was found.
+/// A put's look and its subtraction, if the leaf gives its last reference back. Answers the word that was found.
 pub(super) fn put_last(row: &Row, leaf: &mut LeafSeat) -> u64
     requires own { IsOf row.now leaf.old }
     requires inside { 0 < slots row.now.world }

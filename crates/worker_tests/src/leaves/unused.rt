@@ -10,7 +10,7 @@ use root_row::Row;
 use std::test::Fail;
 use use_indicator::Leaf;
 
-/// What such a get of so many tries answers; None where it gave up.
+/// What such a get of so many tries answers; None if it gave up.
 fn guess(row: &Row, leaf: &mut Leaf, slot: usize, tries: u32) -> Option<Reply>
     requires inside { slot < slots row.now.world }
     requires leaf { IsOf row.now leaf.old }

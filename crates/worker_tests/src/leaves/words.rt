@@ -64,7 +64,7 @@ fn both_enter(row: &Row, book: &mut BookSeat, seats: &mut (LeafSeat, LeafSeat)) 
     word == 2 && !closed && both_put(row, book, first, second)
 }
 
-/// The load of the first module and what comes of it with the last two seats; None where there are fewer.
+/// The load of the first module and what comes of it with the last two seats; None if there are fewer.
 fn are_right(row: &Row, book: &mut BookSeat, leaves: Vec<LeafSeat>) -> Option<bool>
     requires inside { 0 < slots row.now.world }
     requires free { module_at row.now.world.catalogue 0 ≡ no_module }

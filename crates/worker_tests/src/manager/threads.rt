@@ -41,7 +41,7 @@ fn load<R: Wait>(rt: &R, manager: &Manager, slot: usize) {
     let _ = manager.end_load(rt, slot, true);
 }
 
-/// Removes or drains a module where nothing refuses.
+/// Removes or drains a module if nothing refuses.
 fn remove<R: Wait>(rt: &R, manager: &Manager, slot: usize, drains: bool) {
     let _ = if drains {
         manager.begin_drain(rt, slot).is_some()

@@ -23,7 +23,7 @@ go_of [] = Some (go 1)
 go_of (count ∷ []) = option_map go (from_one (number_within 1000000 count))
 go_of (_ ∷ _ ∷ _) = None
 
--- the order of the words after a thread; None where they have no form
+-- the order of the words after a thread; None if they have no form
 abbrev pub order_of : List (List ℕ) → Option Order
 order_of [] = None
 order_of (first ∷ []) = if bytes_eq first (codes "go") then Some (go 1) else None

@@ -90,7 +90,7 @@ abbrev pub Reports : List ℕ → List ℕ → Type 0
 Reports input text = IsOkAnd (schedule_of input) (IsReport text)
 
 -- why an input has no report: a line is the first faulty one; or no line is faulty, and the machine accepts all steps
--- before this one and refuses it. Want of memory says nothing of the input
+-- before this one and refuses it. Out of memory says nothing of the input
 abbrev pub Refuses : List ℕ → ScheduleFault → Type 0
 Refuses input (fault.Line f) = schedule_of input ≡ Err f
 Refuses input (fault.Step index cause) =

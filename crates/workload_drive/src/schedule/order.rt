@@ -32,7 +32,7 @@ fn go_of<'a>(words: &[&'a [u8]]) -> Option<Order<'a>>
     }
 }
 
-/// What the words after a thread ask of it, or `None` where they have no form.
+/// What the words after a thread ask of it, or `None` if they have no form.
 pub(crate) fn order_of<'a>(words: &[&'a [u8]]) -> Option<Order<'a>>
     ensures { option_map order_in result ≡ order_of (texts_of words.now) }
 {

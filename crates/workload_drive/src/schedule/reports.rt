@@ -25,7 +25,7 @@ fn thread_at(steps: &[Step], index: usize) -> usize
     }
 }
 
-/// Notes a point, where its call has none yet.
+/// Notes a point, if its call has none yet.
 fn note_point(taken: &mut Vec<Option<Point>>, point: Point)
     ensures { taken.new.items ≡ with_point taken.old.items point }
 {
@@ -159,7 +159,7 @@ fn report_of(alloc: Global, schedule: &Schedule) -> Result<Vec<u8>, ScheduleFaul
 }
 
 /// The report of an input that is a schedule: a line for each call of its run, by the calls' numbers, with its first
-/// step, its last step, its point and its reply. `Line` is the first faulty line; `Step`, where no line is faulty, the
+/// step, its last step, its point and its reply. `Line` is the first faulty line; `Step`, if no line is faulty, the
 /// first step that the machine refuses, whose cause is never `Calls`; `Memory` says that there was none.
 pub fn report(alloc: Global, input: &[u8]) -> Result<Vec<u8>, ScheduleFault>
     ensures report { IfOk result (λ text. Reports input.now text.items) }

@@ -13,9 +13,9 @@ use text_parts::is_same;
 /// A change of the table, of one call or two.
 #[derive(Clone, Copy, Drop)]
 pub(crate) enum Change {
-    /// The begin of a load and, where that is ok, its end.
+    /// The begin of a load and, if that is ok, its end.
     Load,
-    /// The begin of a removal and, where that is ok, its end.
+    /// The begin of a removal and, if that is ok, its end.
     Remove,
     /// The begin of a drain.
     Drain,
@@ -61,7 +61,7 @@ impl Change {
         }
     }
 
-    /// The call that is made where the first was Done.
+    /// The call that is made if the first was Done.
     pub(super) fn second(self, slot: usize) -> Option<Call>
         ensures { result ≡ second_of self slot }
     {
@@ -118,7 +118,7 @@ fn deed_of(verb: &[u8]) -> Option<Deed>
         .find(|deed| is_same(verb, deed.text()))
 }
 
-/// What a line of these words asks, or `None` where it has no form.
+/// What a line of these words asks, or `None` if it has no form.
 pub(crate) fn named_act_of<'a>(words: &[&'a [u8]]) -> Option<NamedAct<'a>>
     ensures { option_map named_act_in result ≡ named_act_of (texts_of words.now) }
 {

@@ -13,7 +13,7 @@ pub(super) trait Calls {
 
     fn workers(&self) -> usize;
 
-    /// Makes a call. It is None where the worker or the slot is out of range, and of a query, which locks nothing.
+    /// Makes a call. It is None if the worker or the slot is out of range, and of a query, which locks nothing.
     fn make<R: Wait>(&mut self, rt: &R, call: Call) -> Option<Reply>
         ensures { IfSome result (λ reply. made self.old call reply self.new) };
 
@@ -26,7 +26,7 @@ pub(super) trait Calls {
     fn loaded_at<R: Wait>(&mut self, rt: &R, place: usize) -> Option<usize>;
 }
 
-/// One who asks whether some worker holds a module, which locks nothing. It is None where the slot is out of range.
+/// One who asks whether some worker holds a module, which locks nothing. It is None if the slot is out of range.
 pub(super) trait Asks {
     fn ask(&mut self, slot: usize) -> Option<bool>;
 }

@@ -38,7 +38,7 @@ impl Course {
         self.is_short.store(true, Ordering::SeqCst);
     }
 
-    /// How many lines were made, where nothing stopped a worker.
+    /// How many lines were made, if nothing stopped a worker.
     pub(super) fn calls(&self) -> Result<usize, WorkFault> {
         if self.is_short.load(Ordering::SeqCst) {
             return Err(WorkFault::Spawn);

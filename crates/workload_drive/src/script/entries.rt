@@ -97,7 +97,7 @@ fn entry_at(
     }
 }
 
-/// What a statement asks, where workers' lines stand before it or not.
+/// What a statement asks, if workers' lines stand before it or not.
 fn entry_of(
     alloc: Global,
     catalogue: &Catalogue,

@@ -25,7 +25,7 @@ use use_indicator::Reader;
 
 /// Who is asked before each line of a worker, and told after it, and after each change that comes before the workers. Lines are counted from 0, each worker's by itself.
 pub trait Gate {
-    /// Whether the worker may make this line. Where it may not, it makes no further one.
+    /// Whether the worker may make this line. If it may not, it makes no further one.
     fn before(&self, worker: usize, line: usize) -> bool;
 
     /// The change of this number, from 0, which comes before the workers, was made with this reply.

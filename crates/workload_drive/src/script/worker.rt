@@ -16,8 +16,8 @@ pub(super) struct Worker<C: Drop, A: Drop> {
     pub(super) number: usize,
 }
 
-/// Makes a change: its first call and, where that is Done, its second. The reply is that of the last call that was made. It
-/// is None where the slot is out of range.
+/// Makes a change: its first call and, if that is Done, its second. The reply is that of the last call that was made. It
+/// is None if the slot is out of range.
 pub(super) fn make_change<R: Wait, C: Calls>(
     rt: &R,
     calls: &mut C,
@@ -34,7 +34,7 @@ pub(super) fn make_change<R: Wait, C: Calls>(
 }
 
 impl<C: Calls + Drop, A: Asks + Drop> Worker<C, A> {
-    /// Does a task, and answers its reply. It is None where the worker or the slot is out of range.
+    /// Does a task, and answers its reply. It is None if the worker or the slot is out of range.
     pub(super) fn perform<R: Wait>(&mut self, rt: &R, task: Task) -> Option<Reply>
         ensures line { IfSome result (λ reply. LineMade C.made self.old.number task.deed task.slot reply self.old.calls self.new.calls) }
         ensures number { self.new.number ≡ self.old.number }
