@@ -3,7 +3,8 @@
 ghost use Rattle.std.specs.Prelude.{◌≡◌, ◌≢◌, ◌<◌, ◌≤◌, ◌+◌, length, nat_eq};
 ghost use Rattle.alias_match.specs.ForProofs.{IsChained, IsEnd, bucket_of, end_below, keys_of, place_of_end};
 
-/// An odd number, with which a product has in its upper bits something of each bit of a key.
+/// The multiplier of Fibonacci hashing: 2^64 divided by the golden ratio, made odd (Knuth, The Art of Computer Programming,
+/// volume 3, section 6.4).
 const SPREAD: u64 = 11_400_714_819_323_198_485;
 
 /// The key of an entry, and one more than the place of the entry before it in its chain, 0 at the chain's first.
@@ -13,7 +14,7 @@ pub(crate) struct ChainEntry {
     pub before: usize,
 }
 
-/// The hash of a key, as a bucket: among all numbers of 64 bits the product stands as far up as the bucket among all buckets.
+/// The bucket of a key: its product with the multiplier, of 64 bits, scaled to the number of buckets.
 pub(crate) fn bucket_of(key: u64, buckets: usize) -> usize
     requires { buckets ≢ 0 }
     ensures bucket { result ≡ bucket_of key buckets }

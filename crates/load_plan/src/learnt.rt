@@ -1,4 +1,5 @@
-//! What a visit has learnt of hard walks. Nothing of it is forgotten while it holds.
+//! A depth-first search for cycles that remembers its results (memoisation): what a visit has learnt of hard walks. Nothing of
+//! it is forgotten while it holds.
 ghost use Rattle.std.specs.Prelude.{◌≡◌, ◌<◌, ◌⊎◌, ℕ, List, [], ◌∷◌, ◌++◌, length, replicate, set, slice_index_or, true, false, IfSome, IfOk, OnOk};
 ghost use Rattle.std.specs.List.{list_all};
 ghost use Rattle.load_plan.specs.declared.learnt.Verdict.TheVariants.{Unknown, Meets, Free};

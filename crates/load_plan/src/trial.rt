@@ -1,4 +1,4 @@
-//! What the hard walk of a module meets, learnt from the hard dependencies up.
+//! The remembered search for cycles: what the hard walk of a module meets, learnt from the hard dependencies up.
 ghost use Rattle.std.specs.Prelude.{◌≡◌, ◌<◌, length, reverse, true, IfOk, IfSome, OnOk};
 ghost use Rattle.load_plan.specs.Graph.{is_within};
 ghost use Rattle.load_plan.specs.Learnt.{IsHard, IsLesson, IsNew, IsOnWay, IsWay, StaysKnown};

@@ -20,9 +20,10 @@ use std::sync::Wait;
 // How far a lock's word stands from the next lock's: two cache lines.
 pub(crate) const WORDS_APART: usize = 16;
 
+// The three states of a mutex over a futex (Drepper, Futexes Are Tricky). A pass lets go by one subtraction of HELD: what is
+// left is FREE, unless another pass waits.
 pub(crate) const FREE: u64 = 0;
 
-// Less itself it is FREE, and WAITED_FOR less it is not.
 const HELD: u64 = 1;
 
 const WAITED_FOR: u64 = 2;
