@@ -2,7 +2,7 @@ ghost use Rattle.std.specs.Prelude.{IfOk, OnOk};
 ghost use Rattle.line_journal.specs.Journal.{IsReady};
 ghost use Rattle.line_journal.specs.KillOnly.{held_by, history_of};
 
-use line_journal::{Journal, KillOnly, Opened, Repair, are_lines, is_line, look, look_from, open};
+use line_journal::{Journal, KillOnly, Opened, Repair, are_lines, is_line, look, peek_from, open};
 use std::alloc::Global;
 use std::test::Fail;
 
@@ -65,7 +65,7 @@ fn a_journal_goes_on_from_what_was_found(rt: HostRuntime) -> Result<(), Fail> {
     let found = look(alloc, &mut file)?;
     assert_eq!(rt; found.lines.len(), 2);
     assert!(rt; found.is_at_rest());
-    let again = look_from(alloc, &mut file, 0)?;
+    let again = peek_from(alloc, &mut file, 0)?;
     assert_eq!(rt; again.lines.len(), 2);
     assert_eq!(rt; again.end, 14);
     let journal = Journal::resume(file, found.end);

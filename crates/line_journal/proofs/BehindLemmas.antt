@@ -29,7 +29,7 @@ module _ (file : List ℕ) (from : ℕ) (within : from ≤ length file) (whole :
       let size : from + length (open_text (lines_of rest)) ≡ length (open_text (lines_of file)) = omega (arith, ap length texts, length-append (open_text known) (open_text (lines_of rest)), ap length whole, length-take-le from file within) in
       drop-drop (length (open_text (lines_of rest))) from file ∙ ap (λ (n : ℕ). drop n file) size
 
--- lines that were read before still stand at the front, whatever was added: what `look_from` requires
+-- lines that were read before still stand at the front, whatever was added: what `peek_from` requires
 pub record ReadBefore (file : List ℕ) (lines : List (List ℕ)) (end : ℕ) : Type 0 where
   pub within : end ≤ length file
   pub whole : IsWhole (take end file)

@@ -1,6 +1,7 @@
 pub mod BehindLemmas
 mod ByteLemmas
 pub mod DamageLemmas
+pub mod FollowLemmas
 mod GroupLemmas
 mod KillLemmas
 mod LineLemmas

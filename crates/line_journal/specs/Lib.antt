@@ -4,3 +4,4 @@ pub mod KillOnly
 pub mod Lines
 pub mod Opened
 pub mod Past
+pub mod Renewed

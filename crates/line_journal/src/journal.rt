@@ -12,8 +12,8 @@ use std::alloc::Global;
 /// The lines of a file, to which more are added. `open` makes one. After an error, `open` its device again.
 #[derive(Drop)]
 pub struct Journal<D: Device> {
-    device: D,
-    end: usize,
+    pub(crate) device: D,
+    pub(crate) end: usize,
 }
 
 impl<D: Device> Journal<D> {

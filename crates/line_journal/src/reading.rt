@@ -1,5 +1,5 @@
 ghost use Rattle.std.specs.Prelude.{◌≡◌, ◌≢◌, ◌↔◌, true, ◌+◌, ◌≤◌, ◌<◌, ◌^◌, ◌++◌, [], ◌∷◌, List, ℕ, length, take, drop, All, IfOk, IfSome, IfNone, OnOk};
-ghost use Rattle.line_journal.specs.Device.{IsOnDisk, AlwaysLeaves, TellsFaults};
+ghost use Rattle.line_journal.specs.Device.{IsOnDisk, Unchanged, Goes, AlwaysLeaves, TellsFaults};
 ghost use Rattle.line_journal.specs.Journal.{IsFound, IsAtRest};
 ghost use Rattle.line_journal.specs.Lines.{lines_of, open_text, behind, bytes_of, IsLine, IsWhole, open_gates};
 
@@ -48,12 +48,25 @@ pub fn look<D: Device>(alloc: Global, device: &mut D) -> Result<Found, DeviceErr
 
     ensures faults { TellsFaults (D.faults device.old) (D.faults device.new) result }
 {
-    let bytes = read_settled(alloc, device, 0)?;
+    device.sync()?;
+    let found = peek(alloc, device)?;
+    Ok(found)
+}
+
+/// Reads the lines of a file, as `look` does, but waits for nothing: what it reads may not be on the disk yet.
+pub fn peek<D: Device>(alloc: Global, device: &mut D) -> Result<Found, DeviceError>
+    ensures found { IfOk result (λ found. IsFound (D.content device.old) found) }
+    ensures fits { OnOk result (length (D.content device.old) < 2 ^ 64) }
+    ensures content { D.content device.new ≡ D.content device.old }
+    ensures crash { Goes Unchanged (D.history device.old) (D.history device.new) }
+    ensures faults { TellsFaults (D.faults device.old) (D.faults device.new) result }
+{
+    let bytes = device.read_from(alloc, 0)?;
     Ok(read_lines(alloc, &bytes)?)
 }
 
-/// Reads the lines behind the first `from` bytes, which are lines that were read before. It is otherwise as `look`.
-pub fn look_from<D: Device>(
+/// Reads the lines behind the first `from` bytes, which are lines that were read before. It is otherwise as `peek`.
+pub fn peek_from<D: Device>(
     alloc: Global,
     device: &mut D,
     from: usize,
@@ -63,34 +76,15 @@ pub fn look_from<D: Device>(
     ensures lines { IfOk result (λ found. lines_of (D.content device.old) ≡ lines_of (take from (D.content device.old)) ++ bytes_of found.lines.items) }
     ensures end { IfOk result (λ found. found.end ≡ length (open_text (lines_of (D.content device.old)))) }
     ensures behind { IfOk result (λ found. found.behind.items ≡ behind (D.content device.old)) }
+    ensures fits { OnOk result (length (D.content device.old) < 2 ^ 64) }
     ensures content { D.content device.new ≡ D.content device.old }
-    ensures on_disk { OnOk result (IsOnDisk (D.content device.old) (D.history device.new)) }
-    ensures any_moment { AlwaysLeaves (D.history device.old) (D.history device.new) (D.history device.old).leaves }
+    ensures crash { Goes Unchanged (D.history device.old) (D.history device.new) }
     ensures faults { TellsFaults (D.faults device.old) (D.faults device.new) result }
 {
-    let bytes = read_settled(alloc, device, from)?;
+    let bytes = device.read_from(alloc, from)?;
     let mut found = read_lines(alloc, &bytes)?;
     found.end += from;
     Ok(found)
-}
-
-// Reads the bytes from `from` on, once they are on the disk.
-fn read_settled<D: Device>(
-    alloc: Global,
-    device: &mut D,
-    from: usize,
-) -> Result<Vec<u8>, DeviceError>
-    requires { from ≤ length (D.content device.old) }
-    ensures bytes { IfOk result (λ bytes. bytes.items ≡ drop from (D.content device.old)) }
-    ensures fits { OnOk result (length (D.content device.old) < 2 ^ 64) }
-    ensures content { D.content device.new ≡ D.content device.old }
-    ensures on_disk { OnOk result (IsOnDisk (D.content device.old) (D.history device.new)) }
-    ensures any_moment { AlwaysLeaves (D.history device.old) (D.history device.new) (D.history device.old).leaves }
-    ensures faults { TellsFaults (D.faults device.old) (D.faults device.new) result }
-{
-    device.sync()?;
-    let bytes = device.read_from(alloc, from)?;
-    Ok(bytes)
 }
 
 fn read_lines(alloc: Global, bytes: &[u8]) -> Result<Found, AllocError>

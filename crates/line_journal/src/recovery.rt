@@ -1,7 +1,7 @@
-ghost use Rattle.std.specs.Prelude.{◌≡◌, ◌⊎◌, ◌↔◌, true, ◌<◌, length, IfOk, IfErr, OnOk};
+ghost use Rattle.std.specs.Prelude.{◌≡◌, ◌⊎◌, ◌↔◌, true, ◌<◌, ◌^◌, length, IfOk, IfErr, OnOk};
 ghost use Rattle.line_journal.specs.declared.device.DeviceError.TheVariants.{Failed};
 ghost use Rattle.line_journal.specs.Device.{IsOnDisk, AlwaysLeaves, TellsFaults};
-ghost use Rattle.line_journal.specs.Journal.{IsAtRest, IsRecovered, MayCut};
+ghost use Rattle.line_journal.specs.Journal.{IsFound, IsAtRest, IsRested, IsRecovered, MayCut};
 ghost use Rattle.line_journal.specs.Opened.{IsOpened, device_after};
 ghost use Rattle.line_journal.specs.Lines.{lines_of, open_text, at_rest, StandsFor};
 
@@ -50,14 +50,30 @@ pub fn recover<D: Device>(
     ensures faults { TellsFaults (D.faults device.old) (D.faults device.new) result }
 {
     let found = look(alloc, device)?;
-    if found.is_at_rest() {
-        return Ok(Recovered::AtRest(found));
+    if rest(device, &found, repair)? {
+        Ok(Recovered::AtRest(found))
+    } else {
+        Ok(Recovered::Damaged(found))
     }
-    if !may_cut(repair, &found) {
-        return Ok(Recovered::Damaged(found));
+}
+
+// Brings the end of a file to rest that was looked at, or returns no if more would be cut off than may be.
+fn rest<D: Device>(device: &mut D, found: &Found, repair: Repair) -> Result<bool, DeviceError>
+    requires found { IsFound (D.content device.old) found.now }
+    requires on_disk { IsOnDisk (D.content device.old) (D.history device.old) }
+    requires fits { length (D.content device.old) < 2 ^ 64 }
+    ensures rests { IfOk result (IsRested repair (D.content device.old) (D.content device.new) (D.history device.new) found.now) }
+    ensures any_moment { AlwaysLeaves (D.history device.old) (D.history device.new) (StandsFor (lines_of (D.content device.old))) }
+    ensures faults { TellsFaults (D.faults device.old) (D.faults device.new) result }
+{
+    if found.is_at_rest() {
+        return Ok(true);
+    }
+    if !may_cut(repair, found) {
+        return Ok(false);
     }
     close(device, found.end)?;
-    Ok(Recovered::AtRest(found))
+    Ok(true)
 }
 
 fn may_cut(repair: Repair, found: &Found) -> bool
@@ -106,11 +122,29 @@ pub fn open<D: Device>(
         → AlwaysLeaves (D.history device) (D.history (device_after result)) (StandsFor (lines_of (D.content device))) }
     ensures faults { IfErr result (λ error. error.0 ≡ Failed → D.faults device < D.faults error.1) }
 {
-    match recover(alloc, &mut device, repair) {
-        Ok(Recovered::AtRest(found)) => {
-            Ok(Opened::Ready(Journal::resume(device, found.end), found))
-        }
-        Ok(Recovered::Damaged(found)) => Ok(Opened::Damaged(device, found)),
+    let found = match look(alloc, &mut device) {
+        Ok(found) => found,
+        Err(error) => return Err((error, device)),
+    };
+    open_found(device, found, repair)
+}
+
+/// Makes a journal of a file that was just looked at, as `open` does. It does not read the file again.
+pub fn open_found<D: Device>(
+    mut device: D,
+    found: Found,
+    repair: Repair,
+) -> Result<Opened<D>, (DeviceError, D)>
+    requires found { IsFound (D.content device) found }
+    requires on_disk { IsOnDisk (D.content device) (D.history device) }
+    requires fits { length (D.content device) < 2 ^ 64 }
+    ensures opened { IfOk result (IsOpened D.content D.history repair device) }
+    ensures any_moment { AlwaysLeaves (D.history device) (D.history (device_after result)) (StandsFor (lines_of (D.content device))) }
+    ensures faults { IfErr result (λ error. error.0 ≡ Failed → D.faults device < D.faults error.1) }
+{
+    match rest(&mut device, &found, repair) {
+        Ok(true) => Ok(Opened::Ready(Journal::resume(device, found.end), found)),
+        Ok(false) => Ok(Opened::Damaged(device, found)),
         Err(error) => Err((error, device)),
     }
 }

@@ -2,7 +2,7 @@ use Rattle.std.proofs.Common.{◌≡◌, ◌++◌, List, ℕ, length, take, drop
 use Rattle.line_journal.specs.Lines.{lines_of, open_text, behind}
 use Rattle.line_journal.proofs.BehindLemmas.{lines_behind, end_behind, same_behind}
 use Rattle.line_journal.proofs.RepairLemmas.{end_within}
-use Rattle.line_journal.proofs.reading.look_from.Goals as goal
+use Rattle.line_journal.proofs.reading.peek_from.Goals as goal
 
 pub overflow_add-found : goal.overflow_add-found
 overflow_add-found g c =

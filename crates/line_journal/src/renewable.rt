@@ -1,0 +1,27 @@
+//! A file that other processes write to as well.
+ghost use Rattle.std.specs.Prelude.{◌≤◌, length, IfOk};
+ghost use Rattle.line_journal.specs.Device.{TellsFaults};
+ghost use Rattle.line_journal.specs.Renewed.{IsRenewed};
+
+use crate::{Device, DeviceError};
+
+/// What others have made of a file.
+#[derive(Clone, Copy, Debug, PartialEq, Eq)]
+pub enum Renewed {
+    /// It reads as before.
+    Same,
+    /// Its first bytes read as before. The others may be new.
+    Longer,
+    /// It is another file, or reads otherwise.
+    Other,
+}
+
+/// A file that other processes write to as well, one process at a time. They add to it, or put another file in its place.
+pub trait Renewable: Device {
+    /// Looks at what others have made of the file since this process had its turn. The first `kept` bytes are those that
+    /// are to stay. What was read anew may not be on the disk yet.
+    fn renew(&mut self, kept: usize) -> Result<Renewed, DeviceError>
+        requires within { kept ≤ length (Self.content self.old) }
+        ensures renewed { IfOk result (IsRenewed kept (Self.content self.old) (Self.content self.new)) }
+        ensures faults { TellsFaults (Self.faults self.old) (Self.faults self.new) result };
+}
