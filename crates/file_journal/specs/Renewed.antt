@@ -1,17 +1,23 @@
--- A file that was read anew.
-use Rattle.std.specs.Prelude.{◌≡◌, ◌≢◌, ℕ, List}
-use Rattle.line_journal.specs.Device.{IsOnDisk, Unchanged, Goes}
+-- What is believed of a file after others had it.
+use Rattle.std.specs.Prelude.{⊤, ◌≡◌, ◌≢◌, ℕ, List, ◌++◌, take, drop}
+use Rattle.line_journal.specs.Renewed.{IsRenewed}
+use Rattle.line_journal.specs.declared.renewable.Renewed.{Renewed}
+use Rattle.line_journal.specs.declared.renewable.Renewed.TheVariants.{Same, Longer, Other}
 use Rattle.file_journal.specs.Belief.{history_of, MayBeAnything}
 use Rattle.file_journal.specs.declared.belief.Belief.{Belief}
-use Rattle.file_journal.specs.declared.renewed.Renewed.{Renewed}
-use Rattle.file_journal.specs.declared.renewed.Renewed.TheVariants.{Same, Other}
 
--- these bytes were read: they are those that were believed, or they are believed now, as of a file that was opened
-abbrev pub Believes : Belief → List ℕ → Belief → Renewed → Type 0
-Believes old read new Same = (read ≡ old.bytes.items) × (new ≡ old)
-Believes old read new Other = (read ≢ old.bytes.items) × (new.bytes.items ≡ read) × MayBeAnything (history_of new)
+-- These bytes were read behind the first ones: they are those that were believed; or they are believed now, as of a file
+-- that was opened.
+abbrev pub Believes : ℕ → Belief → List ℕ → Belief → Renewed → Type 0
+Believes kept old read new Same = (read ≡ drop kept old.bytes.items) × (new ≡ old)
+Believes kept old read new Longer = (read ≢ drop kept old.bytes.items) × (new.bytes.items ≡ take kept old.bytes.items ++ read) × MayBeAnything (history_of new)
+Believes kept old read new Other = ⊥
 
--- it has the bytes that were believed, and they are on the disk; or it has others, and is as a file that was opened
-abbrev pub IsRenewed : Belief → Belief → Renewed → Type 0
-IsRenewed old new Same = (new.bytes.items ≡ old.bytes.items) × IsOnDisk old.bytes.items (history_of new) × Goes Unchanged (history_of old) (history_of new)
-IsRenewed old new Other = (new.bytes.items ≢ old.bytes.items) × MayBeAnything (history_of new)
+-- it reads as it was believed, and that is believed still; or a crash may leave anything of it, as of a file that was opened
+abbrev pub IsKnown : Belief → Belief → Renewed → Type 0
+IsKnown old new Same = new ≡ old
+IsKnown old new Longer = (new.bytes.items ≢ old.bytes.items) × MayBeAnything (history_of new)
+IsKnown old new Other = MayBeAnything (history_of new)
+
+abbrev pub IsRenewedTo : ℕ → Belief → Belief → Renewed → Type 0
+IsRenewedTo kept old new renewed = IsRenewed kept old.bytes.items new.bytes.items renewed × IsKnown old new renewed

@@ -1,9 +1,9 @@
-ghost use Rattle.std.specs.Prelude.{◌≡◌, ◌+◌, ◌<◌, ◌≤◌, ◌^◌, ◌↔◌, length, take, drop, IsTrue, OnOk};
+ghost use Rattle.std.specs.Prelude.{◌≡◌, ◌+◌, ◌<◌, ◌≤◌, ◌^◌, ◌↔◌, length, take, drop, IsTrue, IfOk, OnOk};
 ghost use Rattle.line_journal.specs.Device.{overwritten, Torn, Shortened, Unchanged, UnchangedOr, IsOnDisk, Goes};
 
 use crate::call::{Call, Noted, note};
 use crate::overwrite::overwrite;
-use crate::renewed::Renewed;
+use line_journal::Renewed;
 use std::alloc::{AllocError, Global};
 use std::snapshot::Snapshot;
 
@@ -37,15 +37,23 @@ impl Belief {
         bytes == &self.bytes[place..]
     }
 
-    /// The file was read anew, and has these bytes.
-    pub(crate) fn renew(&mut self, alloc: Global, bytes: Vec<u8>) -> Renewed
-        ensures { Believes self.old bytes.items self.new result }
+    /// The file was read anew behind its first `kept` bytes, and has these there.
+    pub(crate) fn renew(
+        &mut self,
+        alloc: Global,
+        kept: usize,
+        bytes: &[u8],
+    ) -> Result<Renewed, AllocError>
+        requires { kept ≤ length self.old.bytes.items }
+        ensures { IfOk result (Believes kept self.old bytes.now self.new) }
     {
-        if self.agrees(0, &bytes) {
-            return Renewed::Same;
+        if self.agrees(kept, bytes) {
+            return Ok(Renewed::Same);
         }
-        *self = Belief::new(alloc, bytes);
-        Renewed::Other
+        self.bytes.truncate(kept);
+        self.bytes.extend_from_slice(bytes)?;
+        self.calls = Vec::new(alloc);
+        Ok(Renewed::Longer)
     }
 
     /// The file is about to be written to.

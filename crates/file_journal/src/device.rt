@@ -1,14 +1,13 @@
-ghost use Rattle.std.specs.Prelude.{◌≡◌, ◌≢◌, ◌<◌, ◌≤◌, [], None, IfOk, OnOk, OnErr, IsErrOf};
+ghost use Rattle.std.specs.Prelude.{◌≡◌, ◌≢◌, ◌<◌, ◌≤◌, [], None, length, IfOk, OnOk, OnErr, IsErrOf};
 ghost use Rattle.std.proofs.Common.{inl, refl};
-ghost use Rattle.line_journal.specs.Device.{Unchanged, Goes};
+ghost use Rattle.line_journal.specs.Device.{TellsFaults};
 ghost use Rattle.line_journal.specs.declared.device.DeviceError.TheVariants.{Failed};
 ghost use Rattle.file_journal.specs.Belief.{history_of};
 
 use crate::belief::Belief;
 use crate::disk_file::{DiskFile, Paths, Syncs};
 use crate::fault::{Action, Cause, FileFault, Target};
-use crate::renewed::Renewed;
-use line_journal::{Device, DeviceError};
+use line_journal::{Device, DeviceError, Renewable, Renewed};
 use std::alloc::{AllocError, Global};
 use std::fmt;
 use std::rt::Files;
@@ -72,7 +71,7 @@ pub struct FileDevice<R: Files + Drop> {
 
 impl<R: Files + Drop> FileDevice<R> {
     ghost use Rattle.file_journal.specs.Belief.{MayBeAnything};
-    ghost use Rattle.file_journal.specs.Renewed.{IsRenewed};
+    ghost use Rattle.file_journal.specs.Renewed.{IsRenewedTo};
 
     /// Opens the file of this name in a folder, which has to be there.
     pub fn open(
@@ -122,44 +121,21 @@ impl<R: Files + Drop> FileDevice<R> {
         }
     }
 
-    /// Reads the file that has the journal's path now. Another process may have written to it since, or put another one
-    /// in its place. Later calls go to that file, and calls that failed before are forgotten. After an error each
-    /// further call fails, until one of this method is `Ok`.
-    pub fn renew(&mut self) -> Result<Renewed, OpenError>
-        ensures renewed { IfOk result (IsRenewed self.old.belief self.new.belief) }
-        ensures works { OnOk result (self.new.fault ≡ None) }
-        ensures bytes { OnErr result (self.new.belief.bytes ≡ self.old.belief.bytes) }
-        ensures crash { OnErr result (Goes Unchanged (history_of self.old.belief) (history_of self.new.belief)) }
-        ensures fails { OnErr result (self.new.fault ≢ None) }
-        ensures faults { self.old.faults ≤ self.new.faults }
-    {
-        match self.read_anew() {
-            Ok(renewed) => {
-                self.fault = None;
-                Ok(renewed)
-            }
-            Err(error) => {
-                let _ = self.fail(fault_of(error));
-                Err(error)
-            }
-        }
-    }
-
-    fn read_anew(&mut self) -> Result<Renewed, OpenError>
-        ensures renewed { IfOk result (IsRenewed self.old.belief self.new.belief) }
-        ensures bytes { OnErr result (self.new.belief.bytes ≡ self.old.belief.bytes) }
-        ensures crash { OnErr result (Goes Unchanged (history_of self.old.belief) (history_of self.new.belief)) }
+    /// Reads what others have made of the file, which is the one that has the journal's path now.
+    fn read_anew(&mut self, kept: usize) -> Result<Renewed, OpenError>
+        requires { kept ≤ length self.old.belief.bytes.items }
+        ensures renewed { IfOk result (IsRenewedTo kept self.old.belief self.new.belief) }
         ensures faults { self.new.faults ≡ self.old.faults }
     {
-        self.disk.reopen()?;
-        let expected = self.belief.bytes.len();
-        let bytes = self.disk.read(self.alloc, 0, expected)?;
-        let renewed = self.belief.renew(self.alloc, bytes);
-        if renewed == Renewed::Same {
-            self.disk.sync()?;
-            self.belief.settle()?;
+        if !self.disk.is_there(kept)? {
+            self.disk.reopen()?;
+            let bytes = self.disk.read(self.alloc, 0, 0)?;
+            self.belief = Belief::new(self.alloc, bytes);
+            return Ok(Renewed::Other);
         }
-        Ok(renewed)
+        let expected = self.belief.bytes.len() - kept;
+        let bytes = self.disk.read(self.alloc, kept, expected)?;
+        Ok(self.belief.renew(self.alloc, kept, &bytes)?)
     }
 
     /// Why the first call that failed did so.
@@ -259,6 +235,29 @@ impl<R: Files + Drop> Device for FileDevice<R> {
                 self.belief.may_replace(&next)?;
                 Err(self.fail(fault))
             }
+        }
+    }
+}
+
+impl<R: Files + Drop> Renewable for FileDevice<R> {
+    ghost use Rattle.file_journal.specs.Renewed.{IsRenewedTo};
+
+    /// Reads the bytes behind the first `kept` ones, if the file that has the journal's path now is this one. If it is
+    /// another, later calls go to that one. Calls that failed before are forgotten. After an error each further call fails,
+    /// until one of this method is `Ok`.
+    fn renew(&mut self, kept: usize) -> Result<Renewed, DeviceError>
+        requires within { kept ≤ length self.old.belief.bytes.items }
+        ensures renewed { IfOk result (IsRenewedTo kept self.old.belief self.new.belief) }
+        ensures works { OnOk result (self.new.fault ≡ None) }
+        ensures fails { OnErr result (self.new.fault ≢ None) }
+        ensures faults { TellsFaults self.old.faults self.new.faults result }
+    {
+        match self.read_anew(kept) {
+            Ok(renewed) => {
+                self.fault = None;
+                Ok(renewed)
+            }
+            Err(error) => Err(self.fail(fault_of(error))),
         }
     }
 }

@@ -2,6 +2,7 @@ use crate::fault::{Action, Cause, FileFault, Target};
 use std::alloc::{AllocError, Global};
 use std::fs::{self, File, OpenFile};
 use std::io::{self, Read, Seek, SeekFrom, Write};
+use std::os::unix::fs::MetadataExt;
 use std::rt::Files;
 
 /// Whether what was written is waited for until it is on the disk.
@@ -77,6 +78,16 @@ impl<R: Files + Drop> DiskFile<R> {
             paths,
             syncs,
         })
+    }
+
+    /// Whether the file that has the journal's path now is this one, and has so many bytes or more.
+    pub(crate) fn is_there(&self, least: usize) -> Result<bool, FileFault> {
+        let there = fs::metadata(&self.rt, self.paths.journal.as_str());
+        let there = there.map_err(|error| FileFault::of(Action::Open, Target::Journal, &error))?;
+        let known = self.file.metadata();
+        let known = known.map_err(|error| FileFault::of(Action::Open, Target::Journal, &error))?;
+        let is_same = there.dev() == known.dev() && there.ino() == known.ino();
+        Ok(is_same && there.len() >= least as u64)
     }
 
     /// Opens the file that has the journal's path now. Later calls go to that one.

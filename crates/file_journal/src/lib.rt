@@ -8,10 +8,8 @@ mod disk_file;
 mod fault;
 mod lock;
 mod overwrite;
-mod renewed;
 
 pub use device::{FileDevice, OpenError};
 pub use disk_file::Syncs;
 pub use fault::{Action, Cause, FileFault, Target};
 pub use lock::{FolderLock, LockError, LockKind};
-pub use renewed::Renewed;

@@ -1,5 +1,7 @@
-use file_journal::{Cause, FileDevice, FolderLock, LockError, LockKind, OpenError, Renewed, Syncs};
-use line_journal::{Device, DeviceError, Opened, Repair, are_lines, is_line, look, open};
+use file_journal::{Cause, FileDevice, FolderLock, LockError, LockKind, OpenError, Syncs};
+use line_journal::{
+    Device, DeviceError, Opened, Renewable, Renewed, Repair, are_lines, is_line, look, open,
+};
 use std::alloc::Global;
 use std::test::Fail;
 use std::{fs, process};
@@ -83,20 +85,20 @@ fn what_another_wrote_is_read_anew(rt: HostRuntime) -> Result<(), Fail> {
     let alloc = rt.alloc();
     let folder = folder(&rt, "renew")?;
     let mut device = FileDevice::create(&rt, alloc, &folder, "journal", Syncs::Kept)?;
-    assert_eq!(rt; device.renew()?, Renewed::Same);
+    assert_eq!(rt; device.renew(0)?, Renewed::Same);
     let other = FileDevice::open(&rt, alloc, &folder, "journal", Syncs::Kept)?;
     put(alloc, other, b"get web17 overlay")?;
-    assert_eq!(rt; device.renew()?, Renewed::Other);
-    assert_eq!(rt; device.renew()?, Renewed::Same);
+    assert_eq!(rt; device.renew(0)?, Renewed::Longer);
+    assert_eq!(rt; device.renew(0)?, Renewed::Same);
     assert_eq!(rt; look(alloc, &mut device)?.lines.len(), 1);
     let other = FileDevice::open(&rt, alloc, &folder, "journal", Syncs::Kept)?;
     rewrite(alloc, other, b"get web17 snd_pcm", b"put web17 snd_pcm")?;
-    assert_eq!(rt; device.renew()?, Renewed::Other);
+    assert_eq!(rt; device.renew(0)?, Renewed::Other);
     let lines = look(alloc, &mut device)?.lines;
     assert_eq!(rt; lines.len(), 2);
     assert_eq!(rt; lines[0].as_slice(), b"get web17 snd_pcm".as_slice());
     fs::remove_dir_all(&rt, folder.as_str())?;
-    assert!(rt; device.renew().is_err());
+    assert!(rt; device.renew(0).is_err());
     assert!(rt; look(alloc, &mut device).is_err());
     Ok(())
 }

@@ -2,7 +2,7 @@ ghost use Rattle.std.specs.Prelude.{IfOk, OnOk};
 ghost use Rattle.line_journal.specs.Journal.{IsReady};
 ghost use Rattle.line_journal.specs.KillOnly.{held_by, history_of};
 
-use line_journal::{Journal, KillOnly, Opened, Repair, are_lines, is_line, look, peek_from, open};
+use line_journal::{Journal, KillOnly, Opened, Repair, are_lines, is_line, look, open, peek_from};
 use std::alloc::Global;
 use std::test::Fail;
 
