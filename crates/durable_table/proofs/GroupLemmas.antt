@@ -53,7 +53,7 @@ all_by s lines more h (Some commands) are is all =
     grind (arith, commands_of_all lines more commands are all, after-append s (opening_of s) commands (map (drop 9) more), is)
 
 -- the lines stand for the table after sealed ones, once these are behind them
-table_in_all : (s : Setup) (lines more : List (List ℕ)) (h : Held) → table_in s lines ≡ Some h → list_all is_sealed more ≡ true
+pub table_in_all : (s : Setup) (lines more : List (List ℕ)) (h : Held) → table_in s lines ≡ Some h → list_all is_sealed more ≡ true
     → table_in s (lines ++ more) ≡ Some (after s h (map (drop 9) more))
 table_in_all s lines more h is all = all_by s lines more h (commands_of lines) refl is all
 

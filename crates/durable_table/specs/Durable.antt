@@ -2,6 +2,7 @@
 use Rattle.std.specs.Prelude.{◌≡◌, ◌⊎◌, ℕ, List, Some}
 use Rattle.line_journal.specs.Device.{History}
 use Rattle.line_journal.specs.Journal.{IsReady}
+use Rattle.line_journal.specs.Renewed.{IsRead}
 use Rattle.line_journal.specs.declared.journal.Journal.{Journal}
 use Rattle.modprobe.specs.Setup.{Setup}
 use Rattle.held_table.specs.Held.{Held}
@@ -11,6 +12,11 @@ use Rattle.durable_table.specs.Tables.{table_of}
 -- The journal is at rest on the disk, and stands for this table.
 pub record Stands {D : Type 0} (content : D → List ℕ) (history : D → History) (s : Setup) (h : Held) (journal : Journal D) : Type 0 where
   pub ready : IsReady content history journal
+  pub same : table_of s (content journal.device) ≡ Some h
+
+-- The journal reads as one at rest, and stands for this table. It may not be on the disk yet.
+pub record Reads {D : Type 0} (content : D → List ℕ) (s : Setup) (h : Held) (journal : Journal D) : Type 0 where
+  pub read : IsRead content journal
   pub same : table_of s (content journal.device) ≡ Some h
 
 -- a file stands for this table

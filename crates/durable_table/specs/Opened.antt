@@ -9,20 +9,22 @@ use Rattle.modprobe.specs.Setup.{Setup}
 use Rattle.seq_table.specs.declared.modules.Modules.{Ghosts}
 use Rattle.held_lines.specs.Held.{holding}
 use Rattle.durable_table.specs.Commands.{begins_with_head, commands_of, changed_line}
-use Rattle.durable_table.specs.Tables.{table_of}
-use Rattle.durable_table.specs.Durable.{Stands}
+use Rattle.durable_table.specs.Tables.{table_in, table_of}
+use Rattle.durable_table.specs.Durable.{Stands, Reads}
 use Rattle.durable_table.specs.declared.opening.OpenedTable.{OpenedTable}
 use Rattle.durable_table.specs.declared.opening.Read.{Read}
 use Rattle.durable_table.specs.declared.opening.Read.TheVariants as read_as
+use Rattle.durable_table.specs.declared.opening.ReadTable.{ReadTable}
+use Rattle.durable_table.specs.declared.opening.ReadTable.TheVariants as read_table_as
 use Rattle.durable_table.specs.declared.opening.OpenedTable.TheVariants.{Ready, Foreign, Changed, Damaged}
 
--- the table that a file stands for, or why there is none
-abbrev pub IsReadAs : {H : Type 0} {g : Ghosts H} → Setup → List ℕ → Read H g → Type 0
-IsReadAs {g = g} s file (read_as.Table session) =
-    (session.setup.now ≡ s) × (table_of s file ≡ Some (holding (g.table session.holders) (g.names session.holders)))
-IsReadAs s file read_as.Foreign = begins_with_head (lines_of file) ≡ false
-IsReadAs s file (read_as.Changed number) =
-    (begins_with_head (lines_of file) ≡ true) × (commands_of (lines_of file) ≡ None) × (changed_line (lines_of file) ≡ Some number)
+-- the table that the lines of a journal stand for, or why there is none
+abbrev pub IsReadAs : {H : Type 0} {g : Ghosts H} → Setup → List (List ℕ) → Read H g → Type 0
+IsReadAs {g = g} s lines (read_as.Table session) =
+    (session.setup.now ≡ s) × (table_in s lines ≡ Some (holding (g.table session.holders) (g.names session.holders)))
+IsReadAs s lines read_as.Foreign = begins_with_head lines ≡ false
+IsReadAs s lines (read_as.Changed number) =
+    (begins_with_head lines ≡ true) × (commands_of lines ≡ None) × (changed_line lines ≡ Some number)
 
 -- the table that the journal stands for, and what stood behind its lines; or why there is none, and the file as it was
 abbrev pub IsOpenedAs : {H D : Type 0} {g : Ghosts H} → (D → List ℕ) → (D → History) → Setup → Repair → List ℕ → OpenedTable H D g → Type 0
@@ -44,3 +46,16 @@ device_after (Ok (Foreign device)) = device
 device_after (Ok (Changed device number)) = device
 device_after (Ok (Damaged device found)) = device
 device_after (Err (error, device)) = device
+
+-- the table that the journal reads as, or the file as it was
+abbrev pub IsTableRead : {H D : Type 0} {g : Ghosts H} → (D → List ℕ) → Setup → List ℕ → ReadTable H D g → Type 0
+IsTableRead {g = g} content s file (read_table_as.Ready t) =
+    Reads content s (holding (g.table t.session.holders) (g.names t.session.holders)) t.journal
+    × (content t.journal.device ≡ file) × (t.session.setup.now ≡ s)
+IsTableRead content s file (read_table_as.Anew device) = content device ≡ file
+
+-- the device that the answer of `open_reading` holds
+abbrev pub device_read : {H D : Type 0} {g : Ghosts H} → Result (ReadTable H D g) (DeviceError × D) → D
+device_read (Ok (read_table_as.Ready t)) = t.journal.device
+device_read (Ok (read_table_as.Anew device)) = device
+device_read (Err (error, device)) = device

@@ -16,8 +16,8 @@ use std::alloc::{AllocError, Global};
 
 /// What lines are answered in memory, and the seals of those that may have changed anything.
 #[derive(Drop)]
-struct Group {
-    replies: Vec<HeldReply>,
+pub(crate) struct Group {
+    pub(crate) replies: Vec<HeldReply>,
     sealed: Vec<Vec<u8>>,
 }
 
@@ -43,7 +43,7 @@ fn make<H: Holders>(
 }
 
 /// Makes what each line asks for, in memory, one after another.
-fn make_each<H: Holders>(
+pub(crate) fn make_each<H: Holders>(
     alloc: Global,
     session: &mut HeldSession<'_, H>,
     lines: &[Vec<u8>],

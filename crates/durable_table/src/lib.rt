@@ -5,10 +5,12 @@ mod compaction;
 mod durable;
 mod group;
 mod head;
+mod kept;
 mod opening;
 mod replay;
 mod seal;
 
 pub use compaction::Compacted;
 pub use durable::{DurableTable, PerformError};
-pub use opening::{OpenedTable, create, open};
+pub use kept::CaughtUp;
+pub use opening::{OpenedTable, ReadTable, create, open, open_reading};

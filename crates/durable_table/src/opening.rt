@@ -2,21 +2,21 @@
 ghost use Rattle.std.specs.Prelude.{◌≡◌, ◌⊎◌, ◌<◌, [], ◌∷◌, Some, IfOk, IfErr, OnOk};
 ghost use Rattle.dep_index.specs.Catalogue.{modules_of};
 ghost use Rattle.modprobe.specs.Setup.{Setup as AnySetup};
-ghost use Rattle.line_journal.specs.Device.{IsOnDisk, AlwaysLeaves, Goes, UnchangedOr, TellsFaults};
+ghost use Rattle.line_journal.specs.Device.{IsOnDisk, AlwaysLeaves, Goes, Unchanged, UnchangedOr, TellsFaults};
 ghost use Rattle.line_journal.specs.declared.device.DeviceError.TheVariants.{Failed};
-ghost use Rattle.line_journal.specs.Lines.{lines_of, at_rest, StandsFor};
+ghost use Rattle.line_journal.specs.Lines.{lines_of, at_rest, bytes_of, StandsFor};
 ghost use Rattle.held_lines.specs.Held.{holding};
 ghost use Rattle.durable_table.specs.Tables.{opening_of, table_of};
 ghost use Rattle.durable_table.specs.Commands.{head};
-ghost use Rattle.durable_table.specs.Opened.{IsReadAs, IsOpenedAs, device_after};
+ghost use Rattle.durable_table.specs.Opened.{IsReadAs, IsOpenedAs, IsTableRead, device_after, device_read};
 
 use crate::durable::DurableTable;
 use crate::head::has_head;
 use crate::replay::{first_changed, replay};
 use held_lines::{HeldSession, Holders};
-use line_journal::{Device, DeviceError, Found, Opened, Repair, look};
+use line_journal::{Device, DeviceError, Found, Journal, Opened, Repair, look, open_found, peek};
 use modprobe::Setup;
-use std::alloc::Global;
+use std::alloc::{AllocError, Global};
 
 /// A journal without commands: its first line, and a closed gate.
 const NEW_JOURNAL: &[u8] = b"+gourzhiel journal 1\n ";
@@ -54,37 +54,33 @@ enum Read<'s, H: Holders> {
     Changed(usize),
 }
 
-/// Reads the table that a journal stands for. The file stays as it is.
+/// Makes the table that the lines of a journal stand for.
 #[tactic(auto, using(crate::proofs::CommandLemmas::changed_behind))]
-fn read_table<'s, H: Holders, D: Device>(
+fn read_table<'s, H: Holders>(
     alloc: Global,
     setup: &'s Setup,
     holders: H,
-    device: &mut D,
-) -> Result<Read<'s, H>, DeviceError>
+    lines: &[Vec<u8>],
+) -> Result<Read<'s, H>, AllocError>
     requires over { H.catalogue holders ≡ modules_of setup.now.catalogue }
     requires opening { holding (H.table holders) (H.names holders) ≡ opening_of setup.now }
-    ensures read { IfOk result (IsReadAs setup.now (D.content device.old)) }
-    ensures content { D.content device.new ≡ D.content device.old }
-    ensures on_disk { OnOk result (IsOnDisk (D.content device.old) (D.history device.new)) }
-    ensures any_moment { AlwaysLeaves (D.history device.old) (D.history device.new) (D.history device.old).leaves }
-    ensures faults { TellsFaults (D.faults device.old) (D.faults device.new) result }
+    ensures { IfOk result (IsReadAs setup.now (bytes_of lines.now)) }
 {
-    let found = look(alloc, device)?;
-    if !has_head(&found.lines) {
+    if !has_head(lines) {
         return Ok(Read::Foreign);
     }
-    let lines = &found.lines[1..];
-    if let Some(number) = first_changed(lines) {
+    let commands = &lines[1..];
+    if let Some(number) = first_changed(commands) {
         return Ok(Read::Changed(number));
     }
     let mut session = HeldSession::new(setup, holders);
-    replay(alloc, &mut session, lines)?;
+    replay(alloc, &mut session, commands)?;
     Ok(Read::Table(session))
 }
 
-/// Makes the table that a journal stands for, over holders of which none is there yet. If a crash left the journal torn, its
-/// end is repaired, as `line_journal::open` says; but nothing is written before all lines were read and found whole.
+/// Makes the table that a journal stands for, over holders of which none is there yet. The file is read once, and waited for
+/// once. If a crash left the journal torn, its end is repaired, as `line_journal::open` says; but nothing is written before all
+/// lines were read and found whole.
 ///
 /// A crash at any moment leaves the same lines, or what it might have left before the call. An error hands the device back.
 pub fn open<'s, H: Holders, D: Device>(
@@ -101,15 +97,59 @@ pub fn open<'s, H: Holders, D: Device>(
         (λ file. StandsFor (lines_of (D.content device)) file ⊎ (D.history device).leaves file) }
     ensures faults { IfErr result (λ error. error.0 ≡ Failed → D.faults device < D.faults error.1) }
 {
-    match read_table(alloc, setup, holders, &mut device) {
-        Err(error) => Err((error, device)),
+    let found = match look(alloc, &mut device) {
+        Ok(found) => found,
+        Err(error) => return Err((error, device)),
+    };
+    match read_table(alloc, setup, holders, &found.lines) {
+        Err(_) => Err((DeviceError::OutOfMemory, device)),
         Ok(Read::Foreign) => Ok(OpenedTable::Foreign(device)),
         Ok(Read::Changed(number)) => Ok(OpenedTable::Changed(device, number)),
-        Ok(Read::Table(session)) => match line_journal::open(alloc, device, repair)? {
+        Ok(Read::Table(session)) => match open_found(device, found, repair)? {
             Opened::Ready(journal, found) => {
                 Ok(OpenedTable::Ready(DurableTable { session, journal }, found))
             }
             Opened::Damaged(device, found) => Ok(OpenedTable::Damaged(device, found)),
         },
+    }
+}
+
+/// What `open_reading` made of a device.
+#[derive(Drop)]
+pub enum ReadTable<'s, H: Holders, D: Device> {
+    /// The table that the journal reads as.
+    Ready(DurableTable<'s, H, D>),
+    /// The file does not read as a journal at rest. `open` says why, or repairs it.
+    Anew(D),
+}
+
+/// Makes the table that a journal reads as, over holders of which none is there yet, if it is whole and at rest. Nothing is
+/// written, and nothing is waited for: what was read may not be on the disk yet. An error hands the device back.
+pub fn open_reading<'s, H: Holders, D: Device>(
+    alloc: Global,
+    setup: &'s Setup,
+    holders: H,
+    mut device: D,
+) -> Result<ReadTable<'s, H, D>, (DeviceError, D)>
+    requires over { H.catalogue holders ≡ modules_of setup.now.catalogue }
+    requires opening { holding (H.table holders) (H.names holders) ≡ opening_of setup.now }
+    ensures read { IfOk result (IsTableRead D.content setup.now (D.content device)) }
+    ensures crash { Goes Unchanged (D.history device) (D.history (device_read result)) }
+    ensures faults { IfErr result (λ error. error.0 ≡ Failed → D.faults device < D.faults error.1) }
+{
+    let found = match peek(alloc, &mut device) {
+        Ok(found) => found,
+        Err(error) => return Err((error, device)),
+    };
+    if !found.is_at_rest() {
+        return Ok(ReadTable::Anew(device));
+    }
+    match read_table(alloc, setup, holders, &found.lines) {
+        Err(_) => Err((DeviceError::OutOfMemory, device)),
+        Ok(Read::Table(session)) => {
+            let journal = Journal::resume(device, found.end);
+            Ok(ReadTable::Ready(DurableTable { session, journal }))
+        }
+        Ok(Read::Foreign | Read::Changed(_)) => Ok(ReadTable::Anew(device)),
     }
 }

@@ -1,0 +1,23 @@
+use Rattle.std.proofs.Common.{◌≡◌, ◌∙◌, ap, subst, rules, map, drop, true, List, Vec, ℕ}
+use Rattle.std.specs.List.{list_all}
+use Rattle.std.specs.declared.alloc.Global.{Global}
+use Rattle.line_journal.specs.Lines.{bytes_of}
+use Rattle.line_journal.specs.Renewed.{IsFollowed}
+use Rattle.line_journal.specs.declared.following.Followed.TheVariants.{AtRest}
+use Rattle.held_table.specs.Held.{Held}
+use Rattle.held_lines.specs.Held.{holding}
+use Rattle.held_lines.specs.Outcomes.{after}
+use Rattle.durable_table.specs.Seals.{is_sealed}
+use Rattle.durable_table.proofs.KeptLemmas.{caught_up}
+use Rattle.durable_table.proofs.durable.DurableTable.catch_up.Goals as goal
+
+pub returns-clause-reads : goal.returns-clause-reads
+returns-clause-reads g c = λ ready.
+    let s = c.args.self.now.session.setup.now in
+    let h : Held = holding (g.H.Modules.table c.args.self.now.session.holders) (g.H.Modules.names c.args.self.now.session.holders) in
+    let now : Held = holding (g.H.Modules.table c.replay.new.session.holders) (g.H.Modules.names c.replay.new.session.holders) in
+    let followed : IsFollowed g.D.Device.content c.args.self.now.journal c.follow.new.self (AtRest c.in-AtRest.added) = search rules in
+    let sealed : list_all is_sealed (bytes_of c.deref.result.now) ≡ true = search rules in
+    caught_up g.D.Device.content s h now (bytes_of c.in-AtRest.added.items) c.args.self.now.journal c.follow.new.self c.requires.reads followed.0 followed.1
+    (subst (λ (l : List (Vec ℕ Global)). list_all is_sealed (bytes_of l) ≡ true) c.deref.ensures.value sealed)
+    (c.in_ok-replay.ensures.after ∙ ap (λ (l : List (Vec ℕ Global)). after s h (map (drop 9) (bytes_of l))) c.deref-2.ensures.value)

@@ -1,0 +1,75 @@
+//! A table that a process keeps while others use its journal.
+ghost use Rattle.std.specs.Prelude.{◌≡◌, Ok, map, true, IfOk, OnOk};
+ghost use Rattle.std.specs.List.{list_all};
+ghost use Rattle.line_journal.specs.Device.{Unchanged, Goes, TellsFaults};
+ghost use Rattle.line_journal.specs.Lines.{bytes_of, AreLines};
+ghost use Rattle.held_lines.specs.Held.{holding};
+ghost use Rattle.held_lines.specs.Outcomes.{after};
+ghost use Rattle.durable_table.specs.Durable.{Stands, Reads};
+ghost use Rattle.durable_table.specs.Groups.{replies_of};
+
+use crate::durable::DurableTable;
+use crate::group::make_each;
+use crate::replay::{first_changed, replay};
+use held_lines::{HeldReply, Holders};
+use line_journal::{Device, DeviceError, Followed, Renewable};
+use std::alloc::{AllocError, Global};
+
+/// Whether a table was brought up to what others made of its journal.
+#[derive(Clone, Copy, Debug, PartialEq, Eq)]
+pub enum CaughtUp {
+    /// It is the table that the journal stands for now.
+    Ready,
+    /// It is another journal, or its end is torn, or a line was changed. The table is not the journal's: open it anew.
+    Anew,
+}
+
+impl<'s, H: Holders, D: Renewable> DurableTable<'s, H, D> {
+    /// Makes what the lines ask for that other processes have added to the journal since this one had its turn, in memory.
+    /// Only these are read. Nothing is written, and nothing is waited for: what was read may not be on the disk yet.
+    ///
+    /// If it is not `Ready`, or fails, nothing is said of the table: open it anew.
+    pub fn catch_up(&mut self, alloc: Global) -> Result<CaughtUp, DeviceError>
+        requires reads { Reads D.content self.old.session.setup.now (holding (H.table self.old.session.holders) (H.names self.old.session.holders)) self.old.journal }
+        ensures reads { result ≡ Ok CaughtUp.Ready → Reads D.content self.old.session.setup.now (holding (H.table self.new.session.holders) (H.names self.new.session.holders)) self.new.journal }
+        ensures setup { self.new.session.setup ≡ self.old.session.setup }
+        ensures faults { TellsFaults (D.faults self.old.journal.device) (D.faults self.new.journal.device) result }
+    {
+        let added = match self.journal.follow(alloc)? {
+            Followed::AtRest(added) => added,
+            Followed::Anew => return Ok(CaughtUp::Anew),
+        };
+        if first_changed(&added).is_some() {
+            return Ok(CaughtUp::Anew);
+        }
+        replay(alloc, &mut self.session, &added)?;
+        Ok(CaughtUp::Ready)
+    }
+}
+
+impl<'s, H: Holders, D: Device> DurableTable<'s, H, D> {
+    /// Waits until the journal is on the disk as it was read. Before that no line may be performed: a crash could lose what
+    /// it was answered by.
+    pub fn settle(&mut self) -> Result<(), DeviceError>
+        requires reads { Reads D.content self.old.session.setup.now (holding (H.table self.old.session.holders) (H.names self.old.session.holders)) self.old.journal }
+        ensures stands { OnOk result (Stands D.content D.history self.old.session.setup.now (holding (H.table self.new.session.holders) (H.names self.new.session.holders)) self.new.journal) }
+        ensures session { self.new.session ≡ self.old.session }
+        ensures crash { Goes Unchanged (D.history self.old.journal.device) (D.history self.new.journal.device) }
+        ensures faults { TellsFaults (D.faults self.old.journal.device) (D.faults self.new.journal.device) result }
+    {
+        self.journal.settle()
+    }
+
+    /// Answers lines in memory alone, one after another. The journal stays, so it is for lines that ask. Out of memory,
+    /// nothing is said of the table.
+    pub fn ask(&mut self, alloc: Global, lines: &[Vec<u8>]) -> Result<Vec<HeldReply>, AllocError>
+        requires lines { AreLines (bytes_of lines.now) }
+        ensures replies { IfOk result (λ replies. map (λ r. r.reply) replies.items ≡ replies_of self.old.session.setup.now (holding (H.table self.old.session.holders) (H.names self.old.session.holders)) (bytes_of lines.now)) }
+        ensures becomes { OnOk result (holding (H.table self.new.session.holders) (H.names self.new.session.holders)
+            ≡ after self.old.session.setup.now (holding (H.table self.old.session.holders) (H.names self.old.session.holders)) (bytes_of lines.now)) }
+        ensures journal { self.new.journal ≡ self.old.journal }
+        ensures setup { self.new.session.setup ≡ self.old.session.setup }
+    {
+        Ok(make_each(alloc, &mut self.session, lines)?.replies)
+    }
+}
