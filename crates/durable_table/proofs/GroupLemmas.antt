@@ -15,22 +15,31 @@ use Rattle.line_journal.proofs.Moments.{implies, from_disk}
 use Rattle.modprobe.specs.Setup.{Setup}
 use Rattle.held_table.specs.Held.{Held}
 use Rattle.held_lines.specs.declared.reply.HeldReply.{HeldReply}
+use Rattle.held_lines.specs.Laws.{KeepsHeld}
 use Rattle.held_lines.specs.Outcomes.{after, held_line_outcome}
 use Rattle.durable_table.specs.Seals.{seal, is_sealed}
 use Rattle.durable_table.specs.Commands.{commands_in, commands_of}
 use Rattle.durable_table.specs.Tables.{opening_of, table_in}
 use Rattle.durable_table.specs.Durable.{Stands}
-use Rattle.durable_table.specs.Groups.{replies_of, AfterFirstOf, LeavesAsMuch, AreMade}
+use Rattle.durable_table.specs.Groups.{replies_of, KeepsHeldAlong, AfterFirstOf, LeavesAsMuch, AreMade}
 use Rattle.durable_table.proofs.CommandLemmas.{seal_is_sealed, seal_is_line, unsealed}
 
-after-append : (s : Setup) (h : Held) (lines more : List (List ℕ)) → after s h (lines ++ more) ≡ after s (after s h lines) more
+pub after-append : (s : Setup) (h : Held) (lines more : List (List ℕ)) → after s h (lines ++ more) ≡ after s (after s h lines) more
 after-append s h [] more = refl
 after-append s h (line ∷ lines) more = after-append s (held_line_outcome s h line).1 lines more
 
+pub replies-append : (s : Setup) (h : Held) (lines more : List (List ℕ)) → replies_of s h (lines ++ more) ≡ replies_of s h lines ++ replies_of s (after s h lines) more
+replies-append s h [] more = refl
+replies-append s h (line ∷ lines) more = ap (λ rs. (held_line_outcome s h line).0 ∷ rs) (replies-append s (held_line_outcome s h line).1 lines more)
+
+pub held-append : (s : Setup) (h : Held) (lines more : List (List ℕ)) → KeepsHeldAlong s h lines → KeepsHeldAlong s (after s h lines) more
+    → KeepsHeldAlong s h (lines ++ more)
+held-append s h [] more first second = second
+held-append s h (line ∷ lines) more first second = (first.0, held-append s (held_line_outcome s h line).1 lines more first.1 second)
+
 replies_more : (s : Setup) (h : Held) (lines : List (List ℕ)) (line : List ℕ)
     → replies_of s h (lines ++ line ∷ []) ≡ replies_of s h lines ++ (held_line_outcome s (after s h lines) line).0 ∷ []
-replies_more s h [] line = refl
-replies_more s h (first ∷ lines) line = ap (λ rs. (held_line_outcome s h first).0 ∷ rs) (replies_more s (held_line_outcome s h first).1 lines line)
+replies_more s h lines line = replies-append s h lines (line ∷ [])
 
 sealed_front : (lines : List (List ℕ)) (k : ℕ) → list_all is_sealed lines ≡ true → list_all is_sealed (take k lines) ≡ true
 sealed_front lines k all = grind (arith, all, take-append-drop k lines, list_all-append is_sealed (take k lines) (drop k lines))
@@ -94,6 +103,7 @@ pub made_none : (s : Setup) (h : Held) → AreMade s h h [] [] []
 made_none s h = record {
   answered = refl;
   becomes = refl;
+  held = tt;
   seals = refl;
   are_lines = All-nil IsLine;
   kept = record { all = refl; each = λ k. (0, omega arith, ap (after s h) (take_all k [] (omega arith))) };
@@ -103,9 +113,9 @@ made_none s h = record {
 -- one line more was made
 pub made_more : (s : Setup) (h now new : Held) (lines : List (List ℕ)) (line : List ℕ) (replies : List HeldReply) (reply : HeldReply) (sealed more : List (List ℕ))
     → AreMade s h now lines replies sealed → IsLine line → reply.reply ≡ (held_line_outcome s now line).0 → new ≡ (held_line_outcome s now line).1
-    → (reply.changed ≡ false → new ≡ now) → more ≡ sealed ++ (if reply.changed then seal line ∷ [] else [])
+    → KeepsHeld now.table new.table → (reply.changed ≡ false → new ≡ now) → more ≡ sealed ++ (if reply.changed then seal line ∷ [] else [])
     → AreMade s h new (lines ++ line ∷ []) (replies ++ reply ∷ []) more
-made_more s h now new lines line replies reply sealed more made is_line says leaves same is = by (cases_Bool reply.changed) where
+made_more s h now new lines line replies reply sealed more made is_line says leaves keeps same is = by (cases_Bool reply.changed) where
   Same : HeldReply → Type 0
   Same r = r.changed ≡ false
 
@@ -118,12 +128,18 @@ made_more s h now new lines line replies reply sealed more made is_line says lea
   becomes : new ≡ after s h (lines ++ line ∷ [])
   becomes = leaves ∙ ap (λ there. (held_line_outcome s there line).1) made.becomes ∙ sym (after-append s h lines (line ∷ []))
 
+  held : KeepsHeldAlong s h (lines ++ line ∷ [])
+  held =
+      held-append s h lines (line ∷ []) made.held
+      (subst (λ (u : Held). KeepsHeld u.table (held_line_outcome s u line).1.table) made.becomes (subst (λ (u : Held). KeepsHeld now.table u.table) leaves keeps), tt)
+
   by : (reply.changed ≡ true) ⊎ (reply.changed ≡ false) → AreMade s h new (lines ++ line ∷ []) (replies ++ reply ∷ []) more
   by (inl changed) =
       let sealed_too : more ≡ sealed ++ seal line ∷ [] = is ∙ ap (λ c. sealed ++ (if c then seal line ∷ [] else [])) changed in
       record {
         answered = answered;
         becomes = becomes;
+        held = held;
         seals = grind (arith, sealed_too, made.seals, list_all-append is_sealed sealed (seal line ∷ []), seal_is_sealed line);
         are_lines = subst AreLines (sym sealed_too) (All-append IsLine sealed (seal line ∷ []) made.are_lines (All-cons IsLine (seal line) [] (seal_is_line line is_line) (All-nil IsLine)));
         kept = subst (λ kept. LeavesAsMuch s h (lines ++ line ∷ []) kept)
@@ -136,6 +152,7 @@ made_more s h now new lines line replies reply sealed more made is_line says lea
       record {
         answered = answered;
         becomes = becomes;
+        held = held;
         seals = ap (list_all is_sealed) same_seals ∙ made.seals;
         are_lines = subst AreLines (sym same_seals) made.are_lines;
         kept = subst (λ kept. LeavesAsMuch s h (lines ++ line ∷ []) (map (drop 9) kept)) (sym same_seals)
@@ -153,15 +170,15 @@ one_more lines i line below is =
 pub made_next : (s : Setup) (h now new : Held) (lines : List (Vec ℕ Global)) (i : ℕ) (line : Vec ℕ Global) (text : List ℕ) (replies : List HeldReply) (reply : HeldReply) (sealed more : List (List ℕ))
     → i < length lines → line ≡ get_or lines i line → AreLines (bytes_of lines) → text ≡ line.items
     → AreMade s h now (bytes_of (take i lines)) replies sealed → reply.reply ≡ (held_line_outcome s now text).0 → new ≡ (held_line_outcome s now text).1
-    → (reply.changed ≡ false → new ≡ now) → more ≡ sealed ++ (if reply.changed then seal text ∷ [] else [])
+    → KeepsHeld now.table new.table → (reply.changed ≡ false → new ≡ now) → more ≡ sealed ++ (if reply.changed then seal text ∷ [] else [])
     → AreMade s h new (bytes_of (take (i + 1) lines)) (replies ++ reply ∷ []) more
-made_next s h now new lines i line text replies reply sealed more below is are text_is made says leaves same sealed_is =
+made_next s h now new lines i line text replies reply sealed more below is are text_is made says leaves keeps same sealed_is =
     let at : get_or (bytes_of lines) i text ≡ text =
     get_or-map (λ (v : Vec ℕ Global). v.items) lines i line text below ∙ ap (λ (v : Vec ℕ Global). v.items) (sym is) ∙ sym text_is in
     let is_line : IsLine text = subst IsLine at (All-get_or IsLine (bytes_of lines) i text (omega (arith, below, length-map lines (λ (v : Vec ℕ Global). v.items))) are) in
     subst (λ made_lines. AreMade s h new made_lines (replies ++ reply ∷ []) more)
     (ap (λ t. bytes_of (take i lines) ++ t ∷ []) text_is ∙ sym (one_more lines i line below is))
-    (made_more s h now new (bytes_of (take i lines)) text replies reply sealed more made is_line says leaves same sealed_is)
+    (made_more s h now new (bytes_of (take i lines)) text replies reply sealed more made is_line says leaves keeps same sealed_is)
 
 -- a crash at any moment of a group leaves the table after the first of its lines
 pub group_moments : {D : Type 0} (content : D → List ℕ) (history : D → History) (s : Setup) (h new : Held) (lines sealed written : List (List ℕ)) (replies : List HeldReply) (old : Journal D) (before now : History)

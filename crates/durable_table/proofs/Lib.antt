@@ -3,5 +3,6 @@ mod TableLemmas
 mod MomentLemmas
 mod GroupLemmas
 pub mod KeptLemmas
+pub mod GroupLemmas
 mod CompactLemmas
 mod SizeLemmas

@@ -5,6 +5,7 @@ use Rattle.line_journal.specs.Lines.{AreLines}
 use Rattle.modprobe.specs.Setup.{Setup}
 use Rattle.held_table.specs.Held.{Held}
 use Rattle.held_lines.specs.declared.reply.HeldReply.{HeldReply}
+use Rattle.held_lines.specs.Laws.{KeepsHeld}
 use Rattle.modprobe.specs.Outcomes.{Outcome}
 use Rattle.held_lines.specs.Outcomes.{held_line_outcome, after}
 use Rattle.durable_table.specs.Seals.{is_sealed}
@@ -14,6 +15,12 @@ use Rattle.durable_table.specs.Durable.{FileStands}
 abbrev pub replies_of : Setup → Held → List (List ℕ) → List Outcome
 replies_of s h [] = []
 replies_of s h (line ∷ lines) = (held_line_outcome s h line).0 ∷ replies_of s (held_line_outcome s h line).1 lines
+
+-- at each of some lines, what anybody held before it is in the table after it
+abbrev pub KeepsHeldAlong : Setup → Held → List (List ℕ) → Type 0
+KeepsHeldAlong s h [] = Unit {0}
+KeepsHeldAlong s h (line ∷ lines) =
+    KeepsHeld h.table (held_line_outcome s h line).1.table × KeepsHeldAlong s (held_line_outcome s h line).1 lines
 
 -- a file stands for the table after the first of some lines: none, some or all
 abbrev pub AfterFirstOf : Setup → Held → List (List ℕ) → List ℕ → Type 0
@@ -32,6 +39,7 @@ AreIdle replies = All (λ r. r.changed ≡ false) replies
 pub record AreMade (s : Setup) (h new : Held) (lines : List (List ℕ)) (replies : List HeldReply) (sealed : List (List ℕ)) : Type 0 where
   pub answered : map (λ r. r.reply) replies ≡ replies_of s h lines
   pub becomes : new ≡ after s h lines
+  pub held : KeepsHeldAlong s h lines
   pub seals : list_all is_sealed sealed ≡ true
   pub are_lines : AreLines sealed
   pub kept : LeavesAsMuch s h lines (map (drop 9) sealed)

@@ -1,12 +1,13 @@
 //! Lines that are there already, made as one group.
-ghost use Rattle.std.specs.Prelude.{◌≡◌, ◌++◌, ◌∷◌, [], false, if◌then◌else◌, map, IfOk, OnOk, IsErrOf};
+ghost use Rattle.std.specs.Prelude.{◌≡◌, ◌⊎◌, ◌++◌, ◌∷◌, [], false, if◌then◌else◌, map, IfOk, OnOk, IsErrOf};
 ghost use Rattle.line_journal.specs.Device.{AlwaysLeaves};
 ghost use Rattle.line_journal.specs.Lines.{bytes_of, IsLine, AreLines};
 ghost use Rattle.held_lines.specs.Held.{holding};
+ghost use Rattle.held_lines.specs.Laws.{KeepsHeld};
 ghost use Rattle.held_lines.specs.Outcomes.{after, held_line_outcome};
 ghost use Rattle.durable_table.specs.Seals.{seal};
 ghost use Rattle.durable_table.specs.Durable.{Stands};
-ghost use Rattle.durable_table.specs.Groups.{replies_of, AfterFirstOf, AreIdle, AreMade};
+ghost use Rattle.durable_table.specs.Groups.{replies_of, KeepsHeldAlong, AfterFirstOf, AreIdle, AreMade};
 
 use crate::durable::{DurableTable, PerformError};
 use crate::seal::seal;
@@ -31,6 +32,7 @@ fn make<H: Holders>(
     ensures reply { IfOk result (λ r. r.reply ≡ (held_line_outcome session.old.setup.now (holding (H.table session.old.holders) (H.names session.old.holders)) line.now).0) }
     ensures becomes { OnOk result (holding (H.table session.new.holders) (H.names session.new.holders)
         ≡ (held_line_outcome session.old.setup.now (holding (H.table session.old.holders) (H.names session.old.holders)) line.now).1) }
+    ensures held { OnOk result (KeepsHeld (H.table session.old.holders) (H.table session.new.holders)) }
     ensures same { IfOk result (λ r. r.changed ≡ false → holding (H.table session.new.holders) (H.names session.new.holders) ≡ holding (H.table session.old.holders) (H.names session.old.holders)) }
     ensures sealed { IfOk result (λ r. bytes_of sealed.new.items ≡ bytes_of sealed.old.items ++ (if r.changed then seal line.now ∷ [] else [])) }
     ensures setup { session.new.setup ≡ session.old.setup }
@@ -68,7 +70,8 @@ impl<'s, H: Holders, D: Device> DurableTable<'s, H, D> {
     ///
     /// A crash at any moment of the call leaves a journal of the table after the first of the lines: none, some or all. It
     /// leaves open gates behind the lines that count, at most one less than the group has lines: `open` needs a `Repair` for
-    /// that. Out of memory, the journal is as it was; but some lines may have been made in memory, so open it again.
+    /// that. Whatever the lines are, none of them removes a module that anybody held before it. Out of memory, the journal is
+    /// as it was; but some lines may have been made in memory, so open it again.
     #[tactic(auto, using(crate::proofs::GroupLemmas::none_written, crate::proofs::GroupLemmas::idle_stands))]
     pub fn perform_all(
         &mut self,
@@ -83,6 +86,8 @@ impl<'s, H: Holders, D: Device> DurableTable<'s, H, D> {
         ensures stands { OnOk result (Stands D.content D.history self.old.session.setup.now (holding (H.table self.new.session.holders) (H.names self.new.session.holders)) self.new.journal) }
         ensures idle { IfOk result (λ replies. AreIdle replies.items → self.new.journal ≡ self.old.journal) }
         ensures unchanged { IsErrOf result PerformError.OutOfMemory → self.new.journal ≡ self.old.journal }
+        ensures held { IsErrOf result PerformError.OutOfMemory
+            ⊎ KeepsHeldAlong self.old.session.setup.now (holding (H.table self.old.session.holders) (H.names self.old.session.holders)) (bytes_of lines.now) }
         ensures any_moment { AlwaysLeaves (D.history self.old.journal.device) (D.history self.new.journal.device)
             (AfterFirstOf self.old.session.setup.now (holding (H.table self.old.session.holders) (H.names self.old.session.holders)) (bytes_of lines.now)) }
         ensures setup { self.new.session.setup ≡ self.old.session.setup }
