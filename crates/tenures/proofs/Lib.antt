@@ -3,4 +3,5 @@ mod KeptLemmas
 mod MomentLemmas
 mod RemovalLemmas
 mod StepLemmas
+mod ReplyLemmas
 mod AskedLemmas

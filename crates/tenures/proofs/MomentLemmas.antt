@@ -1,17 +1,16 @@
--- What crashes may leave, call by call.
-use Rattle.std.proofs.Common.{◌≡◌, sym, ap, subst, ◌∙◌, ◌⊎◌, ⊎_elim, ℕ, ◌≤◌, List, [], ◌∷◌, ◌++◌, Some, Option, unwrap_or}
-use Rattle.line_journal.specs.Device.{History, IsOnDisk, AlwaysLeaves}
+-- What crashes may leave, step by step.
+use Rattle.std.proofs.Common.{arith, ◌≡◌, refl, sym, ap, subst, ◌∙◌, ◌⊎◌, ⊎_elim, inl, inr, ℕ, ◌≤◌, List, [], ◌∷◌, ◌++◌, Some, Option, unwrap_or, append-nil}
+use Rattle.line_journal.specs.Device.{History, AlwaysLeaves}
 use Rattle.line_journal.specs.Lines.{lines_of, StandsFor}
 use Rattle.modprobe.specs.Setup.{Setup}
 use Rattle.modprobe.specs.Outcomes.{Outcome}
 use Rattle.held_table.specs.Held.{Held}
-use Rattle.held_lines.specs.Laws.{KeepsHeld}
-use Rattle.held_lines.specs.Outcomes.{held_line_outcome}
 use Rattle.durable_table.specs.Tables.{table_in, table_of}
-use Rattle.durable_table.specs.Durable.{FileStands, BeforeOrAfter}
+use Rattle.durable_table.specs.Groups.{replies_of}
 use Rattle.tenures.specs.Tenures.{Tenure}
+use Rattle.tenures.specs.Steps.{StandsAfterFirst, IsUnanswered, IsAnswered, IsMade}
 use Rattle.tenures.specs.Kept.{Keeps, IsKept, IsKeptSince, LeadsTo}
-use Rattle.tenures.proofs.KeptLemmas.{GoesOn, tenure_of, stays, goes_one, idle}
+use Rattle.tenures.proofs.KeptLemmas.{GoesOn, tenure_of, stands_on, idle}
 
 same_lines : {s : Setup} {past : List Tenure} {file : List ℕ} (left : List ℕ) → StandsFor (lines_of file) left → Keeps s past file → Keeps s past left
 same_lines {s} left same keeps = record {
@@ -27,35 +26,54 @@ pub opened : (s : Setup) (past : List Tenure) (file : List ℕ) (old new : Histo
 opened s past file old new there kept always left since =
     ⊎_elim (λ same. same_lines left same (kept file there)) (λ before. kept left before) (always.each left since)
 
--- a line is made
-pub performed : (s : Setup) (past : List Tenure) (asked rest : List (List ℕ)) (line : List ℕ) (replies : List Outcome) (h : Held) (old new : History) (since : ℕ)
-    → GoesOn s past asked (line ∷ rest) replies h → KeepsHeld h.table (held_line_outcome s h line).1.table → AlwaysLeaves old new (BeforeOrAfter s h line)
-    → since ≤ old.now → IsKeptSince s (past ++ tenure_of asked replies ∷ []) old since → IsKeptSince s (past ++ tenure_of asked replies ∷ []) new since
-performed s past asked rest line replies h old new since goes keeps always before kept left from =
-    ⊎_elim (λ earlier. kept left earlier)
-    (λ now. ⊎_elim (λ stands. stays goes left stands) (λ stands. goes_one goes keeps left stands) now)
-    (always.earlier since left before from)
+module _ (s : Setup) (past : List Tenure) (asked left : List (List (List ℕ))) (group : List (List ℕ)) (replies begun : List Outcome) (h : Held) (old new : History) (since since_new : ℕ)
+    (goes : GoesOn s past asked (group ∷ left) replies h) (before : since ≤ old.now) where
+  unanswered : IsUnanswered s h group old new replies begun since since_new → IsKeptSince s (past ++ tenure_of asked replies ∷ []) old since
+      → IsKeptSince s (past ++ tenure_of asked begun ∷ []) new since_new
+  unanswered made kept file from =
+      ⊎_elim (λ earlier. subst (λ (os : List Outcome). Keeps s (past ++ tenure_of asked os ∷ []) file) (sym made.none) (kept file earlier))
+      (λ (stands : StandsAfterFirst s h group file).
+      stands_on goes stands.0 [] begun stands.1 (made.none ∙ sym (append-nil replies)) (inl refl) (replies_of s h stands.0, refl) stands.2 file stands.3)
+      (made.meanwhile.earlier since file before (subst (λ (n : ℕ). new.left_since n file) made.same from))
 
--- a reply is begun
-pub replied : (s : Setup) (past : List Tenure) (asked rest : List (List ℕ)) (replies : List Outcome) (h : Held) (file : List ℕ) (history : History) (since : ℕ)
-    → GoesOn s past asked rest replies h → IsOnDisk file history → FileStands s h file → since ≡ history.now
-    → IsKeptSince s (past ++ tenure_of asked replies ∷ []) history since
-replied s past asked rest replies h file history since goes on_disk stands now left from =
-    let here : history.leaves left = history.only_now left (subst (λ (m : ℕ). history.left_since m left) now from) in
-    subst (Keeps s (past ++ tenure_of asked replies ∷ [])) (sym (on_disk left here)) (stays goes file stands)
+  answered : IsAnswered s h group old new replies begun since_new → IsKeptSince s (past ++ tenure_of asked begun ∷ []) new since_new
+  answered made file from =
+      stands_on goes group made.more begun ([], sym (append-nil group)) made.grows (inr refl) made.first made.held file
+      (made.leaves file (new.only_now file (subst (λ (n : ℕ). new.left_since n file) made.now from)))
 
--- a process that answers nothing
-pub idle_since : (s : Setup) (past : List Tenure) (asked : List (List ℕ)) (history : History) (since : ℕ) → IsKeptSince s past history since
+  -- a step is made, as far as the process came
+  pub made_kept : IsMade s h group old new replies begun since since_new → IsKeptSince s (past ++ tenure_of asked replies ∷ []) old since
+      → IsKeptSince s (past ++ tenure_of asked begun ∷ []) new since_new
+  made_kept made kept = ⊎_elim (λ none. unanswered none kept) (λ some. answered some) made
+
+pub made_since : (s : Setup) (group : List (List ℕ)) (replies begun : List Outcome) (h : Held) (old new : History) (since since_new : ℕ) → since ≤ old.now
+    → IsMade s h group old new replies begun since since_new → since_new ≤ new.now
+made_since s group replies begun h old new since since_new before made =
+    ⊎_elim
+    (λ (none : IsUnanswered s h group old new replies begun since since_new). omega (arith, before, none.same, none.meanwhile.later))
+    (λ (some : IsAnswered s h group old new replies begun since_new). omega (arith, some.now))
+    made
+
+-- a process that makes nothing
+pub idle_since : (s : Setup) (past : List Tenure) (asked : List (List (List ℕ))) (history : History) (since : ℕ) → IsKeptSince s past history since
     → IsKeptSince s (past ++ tenure_of asked [] ∷ []) history since
 idle_since s past asked history since kept left from = idle asked (kept left from)
 
--- a process that answers nothing is over
-pub over_idle : (s : Setup) (past more : List Tenure) (asked : List (List ℕ)) (replies : List Outcome) (file : List ℕ) (old new next : History) (since : ℕ)
+-- a process that makes nothing is over
+pub over_idle : (s : Setup) (past more : List Tenure) (asked : List (List (List ℕ))) (replies : List Outcome) (file : List ℕ) (old new next : History) (since : ℕ)
     → old.leaves file → IsKept s past old → AlwaysLeaves old new (λ left. StandsFor (lines_of file) left ⊎ old.leaves left) → since ≡ old.now → replies ≡ []
     → more ≡ past ++ tenure_of asked replies ∷ [] → ((left : List ℕ) → next.leaves left → new.left_since since left) → IsKept s more next
 over_idle s past more asked replies file old new next since there kept always begins none is left found leaves =
     subst (λ (ts : List Tenure). Keeps s ts found) (sym (is ∙ ap (λ (os : List Outcome). past ++ tenure_of asked os ∷ []) none))
     (idle asked (opened s past file old new there kept always found (subst (λ (n : ℕ). new.left_since n found) begins (left found leaves))))
+
+-- a process is over
+pub over_answered : (s t : Setup) (past before more : List Tenure) (asked : List (List (List ℕ))) (replies : List Outcome) (history next : History) (since : ℕ)
+    → t ≡ s → IsKeptSince t (past ++ tenure_of asked replies ∷ []) history since → before ≡ past → more ≡ before ++ tenure_of asked replies ∷ []
+    → ((left : List ℕ) → next.leaves left → history.left_since since left) → IsKept s more next
+over_answered s t past before more asked replies history next since same kept is grows left found leaves =
+    subst (λ (ts : List Tenure). Keeps s ts found) (sym (grows ∙ ap (λ (ts : List Tenure). ts ++ tenure_of asked replies ∷ []) is))
+    (subst (λ (v : Setup). Keeps v (past ++ tenure_of asked replies ∷ []) found) same (kept found (left found leaves)))
 
 some_one : {g h : Held} → Some g ≡ Some h → g ≡ h
 some_one {g} {h} is = ap (λ (o : Option Held). unwrap_or o g) is
@@ -65,11 +83,3 @@ pub opened_leads : (s : Setup) (past : List Tenure) (file : List ℕ) (h : Held)
     → (commands : List (List ℕ)) × LeadsTo s past commands h
 opened_leads s past file h keeps is =
     (keeps.commands, subst (LeadsTo s past keeps.commands) (some_one (sym keeps.stands ∙ is)) keeps.leads)
-
--- a process that has opened nothing is over
-pub over_unopened : (s : Setup) (past more : List Tenure) (asked : List (List ℕ)) (replies : List Outcome) (old next : History) (since : ℕ)
-    → IsKept s past old → since ≡ old.now → replies ≡ [] → more ≡ past ++ tenure_of asked replies ∷ []
-    → ((left : List ℕ) → next.leaves left → old.left_since since left) → IsKept s more next
-over_unopened s past more asked replies old next since kept begins none is left found leaves =
-    subst (λ (ts : List Tenure). Keeps s ts found) (sym (is ∙ ap (λ (os : List Outcome). past ++ tenure_of asked os ∷ []) none))
-    (idle asked (kept found (old.only_now found (subst (λ (n : ℕ). old.left_since n found) begins (left found leaves)))))

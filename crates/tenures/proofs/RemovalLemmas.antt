@@ -5,8 +5,9 @@ use Rattle.modprobe.specs.Setup.{Setup}
 use Rattle.held_table.specs.Held.{Held}
 use Rattle.held_lines.specs.Laws.{KeepsHeld}
 use Rattle.held_lines.specs.Outcomes.{held_line_outcome, after}
-use Rattle.tenures.specs.Kept.{KeepsHeldAlong, RemovesUnheld}
-use Rattle.tenures.proofs.ListLemmas.{after-append}
+use Rattle.durable_table.specs.Groups.{KeepsHeldAlong}
+use Rattle.durable_table.proofs.GroupLemmas.{after-append}
+use Rattle.tenures.specs.Kept.{RemovesUnheld}
 
 keeps_at : (s : Setup) (h : Held) (before later : List (List ℕ)) (command : List ℕ) → KeepsHeldAlong s h (before ++ command ∷ later)
     → KeepsHeld (after s h before).table (held_line_outcome s (after s h before) command).1.table

@@ -4,17 +4,11 @@ use Rattle.dep_index.specs.Table.{state_of, is_held, takes_references}
 use Rattle.line_journal.specs.Device.{History}
 use Rattle.modprobe.specs.Setup.{Setup}
 use Rattle.held_table.specs.Held.{Held}
-use Rattle.held_lines.specs.Laws.{KeepsHeld}
-use Rattle.held_lines.specs.Outcomes.{held_line_outcome, after}
+use Rattle.held_lines.specs.Outcomes.{after}
 use Rattle.durable_table.specs.Tables.{opening_of}
 use Rattle.durable_table.specs.Durable.{FileStands}
+use Rattle.durable_table.specs.Groups.{KeepsHeldAlong}
 use Rattle.tenures.specs.Tenures.{Tenure, IsOneList}
-
--- at each command, what anybody held before it is in the table after it
-abbrev pub KeepsHeldAlong : Setup → Held → List (List ℕ) → Type 0
-KeepsHeldAlong s h [] = Unit {0}
-KeepsHeldAlong s h (command ∷ commands) =
-    KeepsHeld h.table (held_line_outcome s h command).1.table × KeepsHeldAlong s (held_line_outcome s h command).1 commands
 
 -- this list is one list of commands for the tenures, and leads from an empty table to this one
 pub record LeadsTo (s : Setup) (tenures : List Tenure) (commands : List (List ℕ)) (h : Held) : Type 0 where

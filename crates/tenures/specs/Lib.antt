@@ -1,2 +1,3 @@
 pub mod Tenures
+pub mod Steps
 pub mod Kept

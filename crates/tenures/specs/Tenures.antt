@@ -1,41 +1,52 @@
 -- Tenures and their one list of commands: durable linearizability (Izraelevitz, Mendes, Scott, Linearizability of persistent memory
 -- objects under a full-system-crash failure model, DISC 2016), of processes that use a table one after another.
-use Rattle.std.specs.Prelude.{◌≡◌, ◌⊎◌, ℕ, ◌+◌, List, [], ◌∷◌, ◌++◌, length, take, map}
+use Rattle.std.specs.Prelude.{◌≡◌, ◌⊎◌, ◌≤◌, ℕ, List, [], ◌∷◌, ◌++◌, length, map}
 use Rattle.modprobe.specs.Setup.{Setup}
 use Rattle.modprobe.specs.Outcomes.{Outcome}
 use Rattle.held_table.specs.Held.{Held}
-use Rattle.held_lines.specs.Outcomes.{held_line_outcome, after}
+use Rattle.held_lines.specs.Outcomes.{after}
+use Rattle.durable_table.specs.Groups.{replies_of}
 
--- One process from lock to unlock: the commands that it was asked, and the replies that it began, to the first of them.
+-- One process from lock to unlock: the groups of commands that it was asked, one group after another, and the replies that it
+-- began, to the first of these commands.
 pub record Tenure : Type 0 where
-  pub asked : List (List ℕ)
+  pub asked : List (List (List ℕ))
   pub replies : List Outcome
 
 -- what each of them was asked
-abbrev pub asked_of : List Tenure → List (List (List ℕ))
+abbrev pub asked_of : List Tenure → List (List (List (List ℕ)))
 asked_of tenures = map (λ tenure. tenure.asked) tenures
 
--- the commands whose reply was begun
-abbrev pub answered : Tenure → List (List ℕ)
-answered tenure = take (length tenure.replies) tenure.asked
+-- the commands of groups, one by one
+abbrev pub one_by_one : List (List (List ℕ)) → List (List ℕ)
+one_by_one [] = []
+one_by_one (group ∷ groups) = group ++ one_by_one groups
 
--- the same, and the next one
-abbrev pub answered_and_next : Tenure → List (List ℕ)
-answered_and_next tenure = take (length tenure.replies + 1) tenure.asked
+-- the first of some groups; no commands, if there is none
+abbrev pub next_group : List (List (List ℕ)) → List (List ℕ)
+next_group [] = []
+next_group (group ∷ groups) = group
 
--- what the table answers to commands, one after another
-abbrev pub replies_to : Setup → Held → List (List ℕ) → List Outcome
-replies_to s h [] = []
-replies_to s h (command ∷ commands) = (held_line_outcome s h command).0 ∷ replies_to s (held_line_outcome s h command).1 commands
+-- the first of a list: none, some or all
+abbrev pub IsFirstOf : {X : Type 0} → List X → List X → Type 0
+IsFirstOf {X} first all = (rest : List X) × (all ≡ first ++ rest)
 
--- these commands of a tenure took effect: those whose reply was begun, each once, and of the others at most the next one
-abbrev pub TookEffect : Tenure → List (List ℕ) → Type 0
-TookEffect tenure own = (own ≡ answered tenure) ⊎ (own ≡ answered_and_next tenure)
+-- These commands of a tenure took effect: all those of its first groups, whose replies were all begun, and the first of the next
+-- group: none, some or all. If a reply to the next group was begun, all of it took effect.
+pub record TookEffect (tenure : Tenure) (own : List (List ℕ)) : Type 0 where
+  pub before : List (List (List ℕ))
+  pub left : List (List (List ℕ))
+  pub asked : tenure.asked ≡ before ++ left
+  pub part : List (List ℕ)
+  pub first : IsFirstOf part (next_group left)
+  pub is : own ≡ one_by_one before ++ part
+  pub answered : length (one_by_one before) ≤ length tenure.replies
+  pub whole : (length tenure.replies ≡ length (one_by_one before)) ⊎ (part ≡ next_group left)
 
--- One list of commands for all tenures, from this table on. It has the commands of each that took effect, tenure by tenure. Each reply that was
--- begun is the one of the table at the place where its command stands.
+-- One list of commands for all tenures, from this table on. It has the commands of each that took effect, tenure by tenure. The
+-- replies that a tenure began are the first of those that the table gives there to its commands.
 abbrev pub IsOneList : Setup → Held → List Tenure → List (List ℕ) → Type 0
 IsOneList s h [] commands = commands ≡ []
 IsOneList s h (tenure ∷ later) commands =
     (own rest : List (List ℕ)) × (commands ≡ own ++ rest) × TookEffect tenure own
-    × (tenure.replies ≡ replies_to s h (answered tenure)) × IsOneList s (after s h own) later rest
+    × IsFirstOf tenure.replies (replies_of s h own) × IsOneList s (after s h own) later rest

@@ -2,10 +2,14 @@
 #![tactic(auto)]
 
 pub mod laws;
+mod making;
 mod outside;
 mod process;
 mod processes;
+mod step;
 
+pub use making::Stopped;
 pub use outside::World;
-pub use process::{Ending, tenure};
+pub use process::tenure;
 pub use processes::run;
+pub use step::Step;

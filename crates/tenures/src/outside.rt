@@ -1,9 +1,10 @@
 //! What is round the processes that use a table.
 ghost use Rattle.std.specs.Prelude.{◌≡◌, ◌≤◌, [], ◌∷◌, ◌++◌, ℕ, List};
 ghost use Rattle.modprobe.specs.Outcomes.{Outcome};
-ghost use Rattle.line_journal.specs.Lines.{bytes_of};
 ghost use Rattle.tenures.specs.Tenures.{Tenure};
+ghost use Rattle.tenures.specs.Steps.{groups_of};
 
+use crate::step::Step;
 use held_lines::HeldReply;
 use line_journal::Device;
 
@@ -31,12 +32,12 @@ pub trait World<D: Device> {
         ensures replies { replies self.new ≡ replies self.old ++ reply.now.reply ∷ [] }
         ensures since { since self.new ≡ (D.history device.now).now };
 
-    /// The process, which was asked these lines, has ended. Or it was killed, or its machine crashed, at some moment after it
+    /// The process, which was asked these steps, has ended. Or it was killed, or its machine crashed, at some moment after it
     /// began its last reply. The next process finds the device that is returned: each file that a crash may leave of it is one that
     /// a crash may have left since then.
-    fn next(&mut self, device: D, asked: &[Vec<u8>]) -> D
+    fn next(&mut self, device: D, asked: &[Step]) -> D
         requires { since self.old ≤ (D.history device).now }
-        ensures past { past self.new ≡ past self.old ++ record { asked = bytes_of asked.now; replies = replies self.old } ∷ [] }
+        ensures past { past self.new ≡ past self.old ++ record { asked = groups_of asked.now; replies = replies self.old } ∷ [] }
         ensures replies { replies self.new ≡ [] }
         ensures since { since self.new ≡ (D.history result).now }
         ensures left { (file : List ℕ) → (D.history result).leaves file → (D.history device).left_since (since self.old) file };

@@ -1,99 +1,105 @@
 //! One process from lock to unlock.
-ghost use Rattle.std.specs.Prelude.{◌≡◌, ◌≤◌, [], ◌∷◌, ◌++◌, List, ℕ, length};
-ghost use Rattle.dep_index.specs.Catalogue.{modules_of};
+ghost use Rattle.std.specs.Prelude.{◌≡◌, ◌⊎◌, ◌≤◌, [], ◌∷◌, ◌++◌, List, ℕ, length, Some, IfOk, IfErr, OnOk};
 ghost use Rattle.modprobe.specs.Outcomes.{Outcome};
-ghost use Rattle.line_journal.specs.Lines.{bytes_of, AreLines};
-ghost use Rattle.held_lines.specs.Held.{holding};
-ghost use Rattle.durable_table.specs.Tables.{opening_of};
+ghost use Rattle.line_journal.specs.Device.{AlwaysLeaves};
+ghost use Rattle.line_journal.specs.Lines.{lines_of, StandsFor};
 ghost use Rattle.durable_table.specs.Durable.{Stands};
+ghost use Rattle.durable_table.specs.Tables.{table_of};
+ghost use Rattle.tenures.specs.Tenures.{one_by_one};
+ghost use Rattle.tenures.specs.Steps.{AreSteps, groups_of, held_of};
 ghost use Rattle.tenures.specs.Kept.{IsKept, IsKeptSince, LeadsTo};
 
+use crate::making::{Stopped, empty_table, make};
 use crate::outside::World;
+use crate::step::Step;
 use durable_table::{DurableTable, OpenedTable, open};
-use held_lines::Holders;
+use held_table::HeldTable;
 use line_journal::{Device, Repair};
 use modprobe::Setup;
 use std::alloc::Global;
 
-/// Why a process answers no further line.
-#[derive(Clone, Copy, Debug, PartialEq, Eq)]
-pub enum Ending {
-    /// All lines are answered.
-    Answered,
-    /// It was cut off.
-    CutOff,
-    /// The table was not opened, or a line got no reply.
-    Failed,
+/// The table that a journal stands for. If there is none, or out of memory, the device is handed back.
+fn open_table<'s, D: Device>(
+    alloc: Global,
+    setup: &'s Setup,
+    device: D,
+    repair: Repair,
+) -> Result<DurableTable<'s, HeldTable, D>, D>
+    ensures stands { IfOk result (λ t. Stands D.content D.history setup.now (held_of t.session.holders) t.journal) }
+    ensures found { IfOk result (λ t. table_of setup.now (D.content device) ≡ Some (held_of t.session.holders)) }
+    ensures setup { IfOk result (λ t. t.session.setup.now ≡ setup.now) }
+    ensures any_moment { IfOk result (λ t. AlwaysLeaves (D.history device) (D.history t.journal.device)
+        (λ file. StandsFor (lines_of (D.content device)) file ⊎ (D.history device).leaves file)) }
+    ensures refused { IfErr result (λ d. AlwaysLeaves (D.history device) (D.history d)
+        (λ file. StandsFor (lines_of (D.content device)) file ⊎ (D.history device).leaves file)) }
+{
+    let Ok(holders) = empty_table(alloc, setup) else {
+        return Err(device);
+    };
+    match open(alloc, setup, holders, device, repair) {
+        Ok(OpenedTable::Ready(table, _found)) => Ok(table),
+        Ok(OpenedTable::Foreign(device)) => Err(device),
+        Ok(OpenedTable::Changed(device, _number)) => Err(device),
+        Ok(OpenedTable::Damaged(device, _found)) => Err(device),
+        Err((_error, device)) => Err(device),
+    }
 }
 
-/// Makes what lines ask for, one after another, and begins the reply to each once `perform` has returned it.
-fn answer<'s, H: Holders, D: Device, W: World<D>>(
+/// Makes steps, one after another.
+fn answer<D: Device, W: World<D>>(
     alloc: Global,
-    table: &mut DurableTable<'s, H, D>,
-    lines: &[Vec<u8>],
+    setup: &Setup,
+    table: &mut DurableTable<'_, HeldTable, D>,
+    steps: &[Step],
     world: &mut W,
-) -> Ending
-    requires stands { Stands D.content D.history table.old.session.setup.now (holding (H.table table.old.session.holders) (H.names table.old.session.holders)) table.old.journal }
-    requires leads { (commands : List (List ℕ)) × LeadsTo table.old.session.setup.now (W.past world.old) commands (holding (H.table table.old.session.holders) (H.names table.old.session.holders)) }
-    requires lines { AreLines (bytes_of lines.now) }
+) -> Result<(), Stopped>
+    requires setup { table.old.session.setup.now ≡ setup.now }
+    requires stands { Stands D.content D.history table.old.session.setup.now (held_of table.old.session.holders) table.old.journal }
+    requires leads { (commands : List (List ℕ)) × LeadsTo table.old.session.setup.now (W.past world.old) commands (held_of table.old.session.holders) }
+    requires lines { AreSteps steps.now }
     requires none { W.replies world.old ≡ [] }
     requires since { W.since world.old ≤ (D.history table.old.journal.device).now }
     requires kept { IsKeptSince table.old.session.setup.now (W.past world.old) (D.history table.old.journal.device) (W.since world.old) }
     ensures past { W.past world.new ≡ W.past world.old }
     ensures since { W.since world.new ≤ (D.history table.new.journal.device).now }
-    ensures kept { IsKeptSince table.old.session.setup.now (W.past world.old ++ record { asked = bytes_of lines.now; replies = W.replies world.new } ∷ [])
+    ensures kept { IsKeptSince table.old.session.setup.now (W.past world.old ++ record { asked = groups_of steps.now; replies = W.replies world.new } ∷ [])
         (D.history table.new.journal.device) (W.since world.new) }
-    ensures answered { result ≡ Ending.Answered → length (W.replies world.new) ≡ length lines.now }
+    ensures answered { OnOk result (length (W.replies world.new) ≡ length (one_by_one (groups_of steps.now))) }
 {
-    for line in lines {
-        let Ok(reply) = table.perform(alloc, line) else {
-            return Ending::Failed;
-        };
-        if !world.is_alive() {
-            return Ending::CutOff;
-        }
-        world.begin_reply(table.device(), &reply);
+    for step in steps {
+        make(alloc, setup, table, step, world)?;
     }
-    Ending::Answered
+    Ok(())
 }
 
-/// One process over the table of a journal: it opens the file that stands there, and answers lines. What cuts it off is `world`'s.
+/// One process over the table of a journal: it opens the file that stands there, and makes steps. What cuts it off is `world`'s.
 ///
 /// If each file that a crash may leave keeps what the tenures before it did, each file that a crash may leave to the next
 /// process keeps also what this one did: `IsKept` says that the table is the one after one list of commands. In it each command
-/// whose reply was begun stands once, and of the others at most the next one.
-pub fn tenure<'s, H: Holders, D: Device, W: World<D>>(
+/// whose reply was begun stands once. The others that stand in it are commands of one group: of the group that was under way.
+pub fn tenure<D: Device, W: World<D>>(
     alloc: Global,
-    setup: &'s Setup,
-    holders: H,
+    setup: &Setup,
     device: D,
     repair: Repair,
-    lines: &[Vec<u8>],
+    steps: &[Step],
     world: &mut W,
-) -> (D, Ending)
-    requires over { H.catalogue holders ≡ modules_of setup.now.catalogue }
-    requires opening { holding (H.table holders) (H.names holders) ≡ opening_of setup.now }
-    requires lines { AreLines (bytes_of lines.now) }
+) -> (D, Result<(), Stopped>)
+    requires lines { AreSteps steps.now }
     requires none { W.replies world.old ≡ [] }
     requires since { W.since world.old ≡ (D.history device).now }
     requires kept { IsKept setup.now (W.past world.old) (D.history device) }
-    ensures past { (replies : List Outcome) × (W.past world.new ≡ W.past world.old ++ record { asked = bytes_of lines.now; replies = replies } ∷ [])
-        × (result.1 ≡ Ending.Answered → length replies ≡ length lines.now) }
+    ensures past { (replies : List Outcome) × (W.past world.new ≡ W.past world.old ++ record { asked = groups_of steps.now; replies = replies } ∷ [])
+        × (OnOk result.1 (length replies ≡ length (one_by_one (groups_of steps.now)))) }
     ensures kept { IsKept setup.now (W.past world.new) (D.history result.0) }
     ensures none { W.replies world.new ≡ [] }
     ensures since { W.since world.new ≡ (D.history result.0).now }
 {
-    let mut table = match open(alloc, setup, holders, device, repair) {
-        Ok(OpenedTable::Ready(table, _found)) => table,
-        Ok(OpenedTable::Foreign(device)) => return (world.next(device, lines), Ending::Failed),
-        Ok(OpenedTable::Changed(device, _number)) => {
-            return (world.next(device, lines), Ending::Failed);
+    match open_table(alloc, setup, device, repair) {
+        Ok(mut table) => {
+            let answered = answer(alloc, setup, &mut table, steps, world);
+            (world.next(table.into_device(), steps), answered)
         }
-        Ok(OpenedTable::Damaged(device, _found)) => {
-            return (world.next(device, lines), Ending::Failed);
-        }
-        Err((_error, device)) => return (world.next(device, lines), Ending::Failed),
-    };
-    let ending = answer(alloc, &mut table, lines, world);
-    (world.next(table.into_device(), lines), ending)
+        Err(device) => (world.next(device, steps), Err(Stopped::Failed)),
+    }
 }

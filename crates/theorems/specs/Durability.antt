@@ -9,7 +9,7 @@ use Rattle.tenures.specs.Tenures.{Tenure, IsOneList}
 use Rattle.tenures.specs.Kept.{RemovesUnheld}
 
 -- The file stands for the table after one list of the tenures' commands: each whose reply was begun once, in the order of the replies, which are
--- those of the table there; and of the others at most the last of a tenure. What takes a module away found no holder of it.
+-- those of the table there; and of the others only commands of one group of a tenure. What takes a module away found no holder of it.
 pub record IsDurablyLinearized (s : Setup) (tenures : List Tenure) (file : List ℕ) : Type 0 where
   pub commands : List (List ℕ)
   pub one : IsOneList s (opening_of s) tenures commands

@@ -1,41 +1,42 @@
 //! A table that processes use one after another.
 ghost use Rattle.std.specs.Prelude.{◌≡◌, [], All, List, ℕ, map};
-ghost use Rattle.line_journal.specs.Lines.{bytes_of, AreLines};
 ghost use Rattle.durable_table.specs.Tables.{opening_of};
 ghost use Rattle.durable_table.specs.Durable.{FileStands};
 ghost use Rattle.tenures.specs.Tenures.{asked_of};
+ghost use Rattle.tenures.specs.Steps.{AreSteps, groups_of};
 ghost use Rattle.theorems.specs.Durability.{IsDurablyLinearized};
 
 use line_journal::{Device, Repair};
 use modprobe::Setup;
 use std::alloc::Global;
-use tenures::World;
 use tenures::laws::removals_find_no_holder;
+use tenures::{Step, World};
 
-/// Processes use one table, one after another. Each is asked lines, and begins replies to the first of them. Each is ended,
-/// or cut off at whatever moment: it is killed, or its machine crashes. Then the table is that of one list of commands. In it each
-/// command whose reply was begun stands once, in the order of the replies. Of the others each stands at most once, and only the
-/// last one that a process was asked. Each reply is the one of the table at the place if its command stands. So no
-/// removal succeeds while any holder of any process, alive or dead, holds the module, whatever was killed when. This is durable
-/// linearizability (Izraelevitz, Mendes, Scott, DISC 2016).
+/// Processes use one table, one after another. Each is asked groups of lines, and begins replies to the first of these lines. It
+/// may also rewrite the journal between two groups. Each is ended, or cut off at whatever moment: it is killed, or its machine
+/// crashes. Then the table is that of one list of commands. In it each command whose reply was begun stands once, in the order of
+/// the replies. Of the others only commands of one group of a process stand there, each once: all of a group to which a reply was
+/// begun, or the first ones of the group that came next. Each reply is the one of the table at the place where its command stands.
+/// So no removal succeeds while any holder of any process, alive or dead, holds the module, whatever was killed when. This is
+/// durable linearizability (Izraelevitz, Mendes, Scott, DISC 2016).
 ///
 /// Premises: one process at a time has the table open (flock(2)). What was synced is on the disk (fsync(2)), and a rename is done
-/// whole or not at all (rename(2)): that is the contract of `Device`. A reply is begun after `perform` returned it. The
+/// whole or not at all (rename(2)): that is the contract of `Device`. A reply is begun after `perform_all` returned it. The
 /// journal was new before the first process, as `durable_table::create` leaves it.
 pub fn tenures_are_durably_linearizable<D: Device, W: World<D>>(
     alloc: Global,
     setup: &Setup,
     device: D,
     repair: Repair,
-    processes: &[Vec<Vec<u8>>],
+    processes: &[Vec<Step>],
     world: &mut W,
 ) -> D
-    requires lines { All (λ lines. AreLines (bytes_of lines.items)) processes.now }
+    requires lines { All (λ steps. AreSteps steps.items) processes.now }
     requires first { W.past world.old ≡ [] }
     requires none { W.replies world.old ≡ [] }
     requires since { W.since world.old ≡ (D.history device).now }
     requires new { (file : List ℕ) → (D.history device).leaves file → FileStands setup.now (opening_of setup.now) file }
-    ensures asked { asked_of (W.past world.new) ≡ map (λ lines. bytes_of lines.items) processes.now }
+    ensures asked { asked_of (W.past world.new) ≡ map (λ steps. groups_of steps.items) processes.now }
     ensures durable { (file : List ℕ) → (D.history result).leaves file → IsDurablyLinearized setup.now (W.past world.new) file }
 {
     removals_find_no_holder();

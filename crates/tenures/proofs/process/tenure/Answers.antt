@@ -1,15 +1,55 @@
-use Rattle.line_journal.specs.Lines.{bytes_of}
-use Rattle.tenures.proofs.MomentLemmas.{over_idle}
+use Rattle.std.proofs.Common.{arith, sym, ap, subst, ◌∙◌, ◌++◌, ◌∷◌, [], List, ℕ}
+use Rattle.modprobe.specs.Setup.{Setup}
+use Rattle.held_table.specs.Held.{Held}
+use Rattle.durable_table.specs.Durable.{Stands}
+use Rattle.tenures.specs.Tenures.{Tenure}
+use Rattle.tenures.specs.Steps.{groups_of, held_of}
+use Rattle.tenures.specs.Kept.{IsKeptSince, LeadsTo}
+use Rattle.tenures.proofs.KeptLemmas.{tenure_of}
+use Rattle.tenures.proofs.MomentLemmas.{opened, opened_leads, over_idle, over_answered}
 use Rattle.tenures.proofs.process.tenure.Goals as goal
+
+pub answer-answered-requires-clause-stands : goal.answer-answered-requires-clause-stands
+answer-answered-requires-clause-stands g c =
+    subst (λ (v : Setup). Stands g.D.Device.content g.D.Device.history v (held_of c.in-Ok.table.session.holders) c.in-Ok.table.journal) (sym c.in-Ok.ensures.setup) c.in-Ok.ensures.stands
+
+pub answer-answered-requires-clause-leads : goal.answer-answered-requires-clause-leads
+answer-answered-requires-clause-leads g c =
+    let h : Held = held_of c.in-Ok.table.session.holders in
+    let past = g.W.World.past c.args.world.now in
+    let file = g.D.Device.content c.args.device in
+    subst (λ (v : Setup). (commands : List (List ℕ)) × LeadsTo v past commands h) (sym c.in-Ok.ensures.setup)
+    (opened_leads c.args.setup.now past file h (c.requires.kept file (g.met.D.Device.kill_leaves c.args.device)) c.in-Ok.ensures.found)
+
+pub answer-answered-requires-clause-since : goal.answer-answered-requires-clause-since
+answer-answered-requires-clause-since g c = omega (arith, c.requires.since, c.in-Ok.ensures.any_moment.later)
+
+pub answer-answered-requires-clause-kept : goal.answer-answered-requires-clause-kept
+answer-answered-requires-clause-kept g c =
+    let past = g.W.World.past c.args.world.now in
+    let old = g.D.Device.history c.args.device in
+    let new = g.D.Device.history c.in-Ok.table.journal.device in
+    subst (λ (v : Setup). IsKeptSince v past new (g.W.World.since c.args.world.now)) (sym c.in-Ok.ensures.setup)
+    (subst (λ (n : ℕ). IsKeptSince c.args.setup.now past new n) (sym c.requires.since)
+    (opened c.args.setup.now past (g.D.Device.content c.args.device) old new (g.met.D.Device.kill_leaves c.args.device) c.requires.kept c.in-Ok.ensures.any_moment))
+
+pub returns-in-Ok-clause-past : goal.returns-in-Ok-clause-past
+returns-in-Ok-clause-past g c = (
+  g.W.World.replies c.answer-answered.new.world,
+  c.next.ensures.past ∙ ap (λ (ts : List Tenure). ts ++ tenure_of (groups_of c.args.steps.now) (g.W.World.replies c.answer-answered.new.world) ∷ []) c.answer-answered.ensures.past,
+  c.answer-answered.ensures.answered,
+)
+
+pub returns-in-Ok-clause-kept : goal.returns-in-Ok-clause-kept
+returns-in-Ok-clause-kept g c =
+    over_answered c.args.setup.now c.in-Ok.table.session.setup.now (g.W.World.past c.args.world.now) (g.W.World.past c.answer-answered.new.world) (g.W.World.past c.next.new.self)
+    (groups_of c.args.steps.now) (g.W.World.replies c.answer-answered.new.world) (g.D.Device.history c.answer-answered.new.table.journal.device) (g.D.Device.history c.next.result) (g.W.World.since c.answer-answered.new.world)
+    c.in-Ok.ensures.setup c.answer-answered.ensures.kept c.answer-answered.ensures.past c.next.ensures.past
+    (subst (λ (d : g.row.D.Denot). (left : List ℕ) → (g.D.Device.history c.next.result).leaves left → (g.D.Device.history d).left_since (g.W.World.since c.answer-answered.new.world) left)
+    c.into_device.ensures c.next.ensures.left)
 
 pub returns-in-Err-clause-kept : goal.returns-in-Err-clause-kept
 returns-in-Err-clause-kept g c =
-    over_idle c.args.setup.now (g.W.World.past c.args.world.now) (g.W.World.past c.next-in-Err.new.self) (bytes_of c.args.lines.now) (g.W.World.replies c.args.world.now)
+    over_idle c.args.setup.now (g.W.World.past c.args.world.now) (g.W.World.past c.next-in-Err.new.self) (groups_of c.args.steps.now) (g.W.World.replies c.args.world.now)
     (g.D.Device.content c.args.device) (g.D.Device.history c.args.device) (g.D.Device.history c.in-Err.device) (g.D.Device.history c.next-in-Err.result) (g.W.World.since c.args.world.now)
-    (g.met.D.Device.kill_leaves c.args.device) c.requires.kept c.in-Err.ensures.any_moment c.requires.since c.requires.none c.next-in-Err.ensures.past c.next-in-Err.ensures.left
-
-pub returns-in-Ok-Damaged-clause-kept : goal.returns-in-Ok-Damaged-clause-kept
-returns-in-Ok-Damaged-clause-kept g c =
-    over_idle c.args.setup.now (g.W.World.past c.args.world.now) (g.W.World.past c.next-in-Ok-Damaged.new.self) (bytes_of c.args.lines.now) (g.W.World.replies c.args.world.now)
-    (g.D.Device.content c.args.device) (g.D.Device.history c.args.device) (g.D.Device.history c.in-Ok-Damaged.device) (g.D.Device.history c.next-in-Ok-Damaged.result) (g.W.World.since c.args.world.now)
-    (g.met.D.Device.kill_leaves c.args.device) c.requires.kept (rw c.in-Ok-Damaged.field-0-is at c.in-Ok-Damaged.ensures.any_moment) c.requires.since c.requires.none c.next-in-Ok-Damaged.ensures.past c.next-in-Ok-Damaged.ensures.left
+    (g.met.D.Device.kill_leaves c.args.device) c.requires.kept c.in-Err.ensures.refused c.requires.since c.requires.none c.next-in-Err.ensures.past c.next-in-Err.ensures.left
