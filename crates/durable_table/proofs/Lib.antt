@@ -1,7 +1,6 @@
 mod CommandLemmas
 mod TableLemmas
 mod MomentLemmas
-mod GroupLemmas
 pub mod KeptLemmas
 pub mod GroupLemmas
 mod CompactLemmas
