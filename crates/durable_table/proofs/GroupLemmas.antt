@@ -17,6 +17,7 @@ use Rattle.held_table.specs.Held.{Held}
 use Rattle.held_lines.specs.declared.reply.HeldReply.{HeldReply}
 use Rattle.held_lines.specs.Laws.{KeepsHeld}
 use Rattle.held_lines.specs.Outcomes.{after, held_line_outcome}
+use Rattle.held_lines.specs.Reading.{is_reading}
 use Rattle.durable_table.specs.Seals.{seal, is_sealed}
 use Rattle.durable_table.specs.Commands.{commands_in, commands_of}
 use Rattle.durable_table.specs.Tables.{opening_of, table_in}
@@ -108,16 +109,20 @@ made_none s h = record {
   are_lines = All-nil IsLine;
   kept = record { all = refl; each = λ k. (0, omega arith, ap (after s h) (take_all k [] (omega arith))) };
   idle = λ none. refl;
+  asking = λ none. refl;
 }
 
 -- one line more was made
 pub made_more : (s : Setup) (h now new : Held) (lines : List (List ℕ)) (line : List ℕ) (replies : List HeldReply) (reply : HeldReply) (sealed more : List (List ℕ))
     → AreMade s h now lines replies sealed → IsLine line → reply.reply ≡ (held_line_outcome s now line).0 → new ≡ (held_line_outcome s now line).1
-    → KeepsHeld now.table new.table → (reply.changed ≡ false → new ≡ now) → more ≡ sealed ++ (if reply.changed then seal line ∷ [] else [])
+    → KeepsHeld now.table new.table → (reply.changed ≡ false → new ≡ now) → (is_reading line ≡ true → reply.changed ≡ false) → more ≡ sealed ++ (if reply.changed then seal line ∷ [] else [])
     → AreMade s h new (lines ++ line ∷ []) (replies ++ reply ∷ []) more
-made_more s h now new lines line replies reply sealed more made is_line says leaves keeps same is = by (cases_Bool reply.changed) where
+made_more s h now new lines line replies reply sealed more made is_line says leaves keeps same asks is = by (cases_Bool reply.changed) where
   Same : HeldReply → Type 0
   Same r = r.changed ≡ false
+
+  Reads : List ℕ → Type 0
+  Reads text = is_reading text ≡ true
 
   answered : map (λ r. r.reply) (replies ++ reply ∷ []) ≡ replies_of s h (lines ++ line ∷ [])
   answered =
@@ -145,6 +150,7 @@ made_more s h now new lines line replies reply sealed more made is_line says lea
         kept = subst (λ kept. LeavesAsMuch s h (lines ++ line ∷ []) kept)
             (sym (ap (map (drop 9)) sealed_too ∙ map-append (drop 9) sealed (seal line ∷ []) ∙ ap (λ l. map (drop 9) sealed ++ l ∷ []) (unsealed line)))
             (keep s h lines (map (drop 9) sealed) line made.kept);
+        asking = λ all. absurd (grind (arith, changed, asks (All-head Reads line [] (subst (All Reads) (drop_at lines (line ∷ []) (length lines) refl) (All-drop Reads (length lines) (lines ++ line ∷ []) all)))));
         idle = λ none. absurd (grind (arith, changed, All-head Same reply [] (subst (All Same) (drop_at replies (reply ∷ []) (length replies) refl) (All-drop Same (length replies) (replies ++ reply ∷ []) none))));
       }
   by (inr idle) =
@@ -157,6 +163,7 @@ made_more s h now new lines line replies reply sealed more made is_line says lea
         are_lines = subst AreLines (sym same_seals) made.are_lines;
         kept = subst (λ kept. LeavesAsMuch s h (lines ++ line ∷ []) (map (drop 9) kept)) (sym same_seals)
             (pass s h lines (map (drop 9) sealed) line made.kept (sym becomes ∙ same idle ∙ made.becomes));
+        asking = λ all. same_seals ∙ made.asking (subst (All Reads) (take_at lines (line ∷ []) (length lines) refl) (All-take Reads (length lines) (lines ++ line ∷ []) all));
         idle = λ none. same_seals ∙ made.idle (subst (All Same) (take_at replies (reply ∷ []) (length replies) refl) (All-take Same (length replies) (replies ++ reply ∷ []) none));
       }
 
@@ -170,15 +177,15 @@ one_more lines i line below is =
 pub made_next : (s : Setup) (h now new : Held) (lines : List (Vec ℕ Global)) (i : ℕ) (line : Vec ℕ Global) (text : List ℕ) (replies : List HeldReply) (reply : HeldReply) (sealed more : List (List ℕ))
     → i < length lines → line ≡ get_or lines i line → AreLines (bytes_of lines) → text ≡ line.items
     → AreMade s h now (bytes_of (take i lines)) replies sealed → reply.reply ≡ (held_line_outcome s now text).0 → new ≡ (held_line_outcome s now text).1
-    → KeepsHeld now.table new.table → (reply.changed ≡ false → new ≡ now) → more ≡ sealed ++ (if reply.changed then seal text ∷ [] else [])
+    → KeepsHeld now.table new.table → (reply.changed ≡ false → new ≡ now) → (is_reading text ≡ true → reply.changed ≡ false) → more ≡ sealed ++ (if reply.changed then seal text ∷ [] else [])
     → AreMade s h new (bytes_of (take (i + 1) lines)) (replies ++ reply ∷ []) more
-made_next s h now new lines i line text replies reply sealed more below is are text_is made says leaves keeps same sealed_is =
+made_next s h now new lines i line text replies reply sealed more below is are text_is made says leaves keeps same asks sealed_is =
     let at : get_or (bytes_of lines) i text ≡ text =
     get_or-map (λ (v : Vec ℕ Global). v.items) lines i line text below ∙ ap (λ (v : Vec ℕ Global). v.items) (sym is) ∙ sym text_is in
     let is_line : IsLine text = subst IsLine at (All-get_or IsLine (bytes_of lines) i text (omega (arith, below, length-map lines (λ (v : Vec ℕ Global). v.items))) are) in
     subst (λ made_lines. AreMade s h new made_lines (replies ++ reply ∷ []) more)
     (ap (λ t. bytes_of (take i lines) ++ t ∷ []) text_is ∙ sym (one_more lines i line below is))
-    (made_more s h now new (bytes_of (take i lines)) text replies reply sealed more made is_line says leaves keeps same sealed_is)
+    (made_more s h now new (bytes_of (take i lines)) text replies reply sealed more made is_line says leaves keeps same asks sealed_is)
 
 -- a crash at any moment of a group leaves the table after the first of its lines
 pub group_moments : {D : Type 0} (content : D → List ℕ) (history : D → History) (s : Setup) (h new : Held) (lines sealed written : List (List ℕ)) (replies : List HeldReply) (old : Journal D) (before now : History)

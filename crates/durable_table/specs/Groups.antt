@@ -8,6 +8,7 @@ use Rattle.held_lines.specs.declared.reply.HeldReply.{HeldReply}
 use Rattle.held_lines.specs.Laws.{KeepsHeld}
 use Rattle.modprobe.specs.Outcomes.{Outcome}
 use Rattle.held_lines.specs.Outcomes.{held_line_outcome, after}
+use Rattle.held_lines.specs.Reading.{is_reading}
 use Rattle.durable_table.specs.Seals.{is_sealed}
 use Rattle.durable_table.specs.Durable.{FileStands}
 
@@ -31,6 +32,10 @@ pub record LeavesAsMuch (s : Setup) (h : Held) (lines kept : List (List ℕ)) : 
   pub all : after s h kept ≡ after s h lines
   pub each : (k : ℕ) → (count : ℕ) × (count ≤ length lines) × (after s h (take k kept) ≡ after s h (take count lines))
 
+-- each of these lines asks, or is no command
+abbrev pub AreAsking : List (List ℕ) → Type 0
+AreAsking lines = All (λ line. is_reading line ≡ true) lines
+
 -- no reply tells a change
 abbrev pub AreIdle : List HeldReply → Type 0
 AreIdle replies = All (λ r. r.changed ≡ false) replies
@@ -44,3 +49,4 @@ pub record AreMade (s : Setup) (h new : Held) (lines : List (List ℕ)) (replies
   pub are_lines : AreLines sealed
   pub kept : LeavesAsMuch s h lines (map (drop 9) sealed)
   pub idle : AreIdle replies → sealed ≡ []
+  pub asking : AreAsking lines → sealed ≡ []

@@ -1,10 +1,11 @@
 //! The table, and the journal that stands for it.
-ghost use Rattle.std.specs.Prelude.{◌≡◌, ◌⊎◌, ◌<◌, false, IfOk, OnOk, IsErrOf};
+ghost use Rattle.std.specs.Prelude.{◌≡◌, ◌⊎◌, ◌<◌, true, false, IfOk, OnOk, IsErrOf};
 ghost use Rattle.line_journal.specs.Device.{AlwaysLeaves};
 ghost use Rattle.line_journal.specs.Lines.{IsLine};
 ghost use Rattle.held_lines.specs.Held.{holding};
 ghost use Rattle.held_lines.specs.Laws.{KeepsHeld};
 ghost use Rattle.held_lines.specs.Outcomes.{held_line_outcome};
+ghost use Rattle.held_lines.specs.Reading.{is_reading};
 ghost use Rattle.durable_table.specs.Durable.{Stands, BeforeOrAfter};
 
 use crate::seal::seal;
@@ -33,7 +34,8 @@ pub struct DurableTable<'s, H: Holders, D: Device> {
 
 impl<'s, H: Holders, D: Device> DurableTable<'s, H, D> {
     /// Makes what a line asks for. At `Ok` the reply is the one of the table, and the journal stands for the table after
-    /// the line, on the disk: each crash from then on leaves a journal that does. A line that changed nothing writes nothing.
+    /// the line, on the disk: each crash from then on leaves a journal that does. A line that changed nothing writes nothing,
+    /// and a line that asks changes nothing.
     ///
     /// A crash at any moment of the call leaves a journal of the table before the line, or of the one after it. Whatever the
     /// line is, no module that anybody held before it is removed. Out of memory, nothing was changed, and the table may be
@@ -47,6 +49,7 @@ impl<'s, H: Holders, D: Device> DurableTable<'s, H, D> {
             ≡ (held_line_outcome self.old.session.setup.now (holding (H.table self.old.session.holders) (H.names self.old.session.holders)) line.now).1) }
         ensures stands { OnOk result (Stands D.content D.history self.old.session.setup.now (holding (H.table self.new.session.holders) (H.names self.new.session.holders)) self.new.journal) }
         ensures idle { IfOk result (λ r. r.changed ≡ false → self.new.journal ≡ self.old.journal) }
+        ensures asking { OnOk result (is_reading line.now ≡ true → self.new.journal ≡ self.old.journal) }
         ensures same { IfOk result (λ r. r.changed ≡ false → holding (H.table self.new.session.holders) (H.names self.new.session.holders) ≡ holding (H.table self.old.session.holders) (H.names self.old.session.holders)) }
         ensures unchanged { IsErrOf result PerformError.OutOfMemory → (self.new.journal ≡ self.old.journal)
             × (holding (H.table self.new.session.holders) (H.names self.new.session.holders) ≡ holding (H.table self.old.session.holders) (H.names self.old.session.holders)) }
@@ -70,6 +73,13 @@ impl<'s, H: Holders, D: Device> DurableTable<'s, H, D> {
             Ok(()) => Ok(reply),
             Err(error) => Err(PerformError::Device(error)),
         }
+    }
+
+    /// The table with its holders, and the setup that it is over.
+    pub fn session(&self) -> &HeldSession<'s, H>
+        ensures { result.now ≡ self.now.session }
+    {
+        &self.session
     }
 
     /// The device that the journal is on.

@@ -1,13 +1,14 @@
 //! Lines that are there already, made as one group.
-ghost use Rattle.std.specs.Prelude.{◌≡◌, ◌⊎◌, ◌++◌, ◌∷◌, [], false, if◌then◌else◌, map, IfOk, OnOk, IsErrOf};
+ghost use Rattle.std.specs.Prelude.{◌≡◌, ◌⊎◌, ◌++◌, ◌∷◌, [], true, false, if◌then◌else◌, map, IfOk, OnOk, IsErrOf};
 ghost use Rattle.line_journal.specs.Device.{AlwaysLeaves};
 ghost use Rattle.line_journal.specs.Lines.{bytes_of, IsLine, AreLines};
 ghost use Rattle.held_lines.specs.Held.{holding};
 ghost use Rattle.held_lines.specs.Laws.{KeepsHeld};
 ghost use Rattle.held_lines.specs.Outcomes.{after, held_line_outcome};
+ghost use Rattle.held_lines.specs.Reading.{is_reading};
 ghost use Rattle.durable_table.specs.Seals.{seal};
 ghost use Rattle.durable_table.specs.Durable.{Stands};
-ghost use Rattle.durable_table.specs.Groups.{replies_of, KeepsHeldAlong, AfterFirstOf, AreIdle, AreMade};
+ghost use Rattle.durable_table.specs.Groups.{replies_of, KeepsHeldAlong, AfterFirstOf, AreIdle, AreMade, AreAsking};
 
 use crate::durable::{DurableTable, PerformError};
 use crate::seal::seal;
@@ -34,6 +35,7 @@ fn make<H: Holders>(
         ≡ (held_line_outcome session.old.setup.now (holding (H.table session.old.holders) (H.names session.old.holders)) line.now).1) }
     ensures held { OnOk result (KeepsHeld (H.table session.old.holders) (H.table session.new.holders)) }
     ensures same { IfOk result (λ r. r.changed ≡ false → holding (H.table session.new.holders) (H.names session.new.holders) ≡ holding (H.table session.old.holders) (H.names session.old.holders)) }
+    ensures asking { IfOk result (λ r. is_reading line.now ≡ true → r.changed ≡ false) }
     ensures sealed { IfOk result (λ r. bytes_of sealed.new.items ≡ bytes_of sealed.old.items ++ (if r.changed then seal line.now ∷ [] else [])) }
     ensures setup { session.new.setup ≡ session.old.setup }
 {
@@ -85,6 +87,7 @@ impl<'s, H: Holders, D: Device> DurableTable<'s, H, D> {
             ≡ after self.old.session.setup.now (holding (H.table self.old.session.holders) (H.names self.old.session.holders)) (bytes_of lines.now)) }
         ensures stands { OnOk result (Stands D.content D.history self.old.session.setup.now (holding (H.table self.new.session.holders) (H.names self.new.session.holders)) self.new.journal) }
         ensures idle { IfOk result (λ replies. AreIdle replies.items → self.new.journal ≡ self.old.journal) }
+        ensures asking { OnOk result (AreAsking (bytes_of lines.now) → self.new.journal ≡ self.old.journal) }
         ensures unchanged { IsErrOf result PerformError.OutOfMemory → self.new.journal ≡ self.old.journal }
         ensures held { IsErrOf result PerformError.OutOfMemory
             ⊎ KeepsHeldAlong self.old.session.setup.now (holding (H.table self.old.session.holders) (H.names self.old.session.holders)) (bytes_of lines.now) }

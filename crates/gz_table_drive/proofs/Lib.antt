@@ -1,3 +1,2 @@
 mod AnswerLemmas
 mod FeedLemmas
-mod ReadingLemmas

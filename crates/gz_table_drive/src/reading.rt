@@ -5,7 +5,7 @@ ghost use Rattle.line_journal.specs.Lines.{AreLines, bytes_of};
 ghost use Rattle.held_table.specs.Held.{Held};
 ghost use Rattle.durable_table.specs.Tables.{table_of};
 ghost use Rattle.gz_table_drive.specs.Answers.{HasAnswered};
-ghost use Rattle.gz_table_drive.specs.Reading.{asks, asks_by, is_reading};
+ghost use Rattle.held_lines.specs.Reading.{asks, asks_by, is_reading};
 
 use crate::answering::{Replies, answer_lines};
 use crate::fault::TableFault;

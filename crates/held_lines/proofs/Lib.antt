@@ -6,6 +6,7 @@ pub mod HoldLemmas
 pub mod HolderLemmas
 pub mod LawLemmas
 pub mod ListingLemmas
+pub mod ReadingLemmas
 pub mod RowLemmas
 pub mod SlotLemmas
 pub mod TakeLemmas

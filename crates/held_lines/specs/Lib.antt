@@ -4,6 +4,7 @@ pub mod Found
 pub mod Holds
 pub mod Listings
 pub mod Outcomes
+pub mod Reading
 pub mod Snapshots
 pub mod Laws
 pub mod ForProofs

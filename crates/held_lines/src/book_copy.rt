@@ -36,13 +36,15 @@ fn copy_order<M: Modules>(alloc: Global, table: &M) -> Result<Vec<usize>, AllocE
 
 /// Whether the two states are one.
 fn is_same(state: ModuleState, other: ModuleState) -> bool
-    ensures { result ≡ true → state ≡ other }
+    ensures is { result ≡ true → state ≡ other }
+    ensures all { state ≡ other → result ≡ true }
 {
     state == other
 }
 
 fn has_states<M: Modules>(states: &[ModuleState], table: &M) -> bool
-    ensures { result ≡ true → states.now ≡ (M.table table.now).book.states }
+    ensures is { result ≡ true → states.now ≡ (M.table table.now).book.states }
+    ensures all { states.now ≡ (M.table table.now).book.states → result ≡ true }
 {
     table.laws();
     if states.len() != table.slots() {
@@ -57,7 +59,8 @@ fn has_states<M: Modules>(states: &[ModuleState], table: &M) -> bool
 }
 
 fn has_order<M: Modules>(order: &[usize], table: &M) -> bool
-    ensures { result ≡ true → order.now ≡ (M.table table.now).book.order }
+    ensures is { result ≡ true → order.now ≡ (M.table table.now).book.order }
+    ensures all { order.now ≡ (M.table table.now).book.order → result ≡ true }
 {
     if order.len() != table.loaded() {
         return false;
@@ -82,7 +85,8 @@ impl BookCopy {
 
     /// Whether it is the table's book.
     pub(crate) fn is_of<M: Modules>(&self, table: &M) -> bool
-        ensures { result ≡ true → IsBookOf self.now (M.table table.now) }
+        ensures is { result ≡ true → IsBookOf self.now (M.table table.now) }
+        ensures all { IsBookOf self.now (M.table table.now) → result ≡ true }
     {
         has_states(&self.states, table) && has_order(&self.order, table)
     }

@@ -1,5 +1,5 @@
 //! Lines over a table with holders.
-ghost use Rattle.std.specs.Prelude.{◌≡◌, true, IfOk, OnOk, OnErr};
+ghost use Rattle.std.specs.Prelude.{◌≡◌, true, false, IfOk, OnOk, OnErr};
 ghost use Rattle.dep_index.specs.Catalogue.{modules_of};
 ghost use Rattle.held_lines.specs.Held.{holding};
 
@@ -31,6 +31,7 @@ impl<'s, H: Holders> HeldSession<'s, H> {
     ghost use Rattle.held_lines.specs.Outcomes.{asked_outcome, held_line_outcome};
     ghost use Rattle.held_lines.specs.ForProofs.{Answers, asked_from};
     ghost use Rattle.held_lines.specs.Laws.{KeepsHeld};
+    ghost use Rattle.held_lines.specs.Reading.{is_reading};
     ghost use Rattle.held_lines.specs.Snapshots.{texts_in, snapshot_of};
 
     /// Uses a table over the catalogue of a setup. It changes nothing.
@@ -73,12 +74,14 @@ impl<'s, H: Holders> HeldSession<'s, H> {
     }
 
     /// Makes what a line asks for, and answers its reply, by `held_line_outcome`. The table and its holders are those after
-    /// it. Whatever the line is, no module that anybody held before it is removed.
+    /// it. Whatever the line is, no module that anybody held before it is removed. A line that asks is not told to have
+    /// changed anything.
     ///
     /// Out of memory, all is as before: all memory is taken before the first change, or what was changed is undone.
     pub fn perform(&mut self, alloc: Global, line: &[u8]) -> Result<HeldReply, AllocError>
         ensures answers { IfOk result (λ r. Answers r (holding (H.table self.old.holders) (H.names self.old.holders)) (holding (H.table self.new.holders) (H.names self.new.holders))
             (held_line_outcome self.old.setup.now (holding (H.table self.old.holders) (H.names self.old.holders)) line.now)) }
+        ensures asking { IfOk result (λ r. is_reading line.now ≡ true → r.changed ≡ false) }
         ensures held { OnOk result (KeepsHeld (H.table self.old.holders) (H.table self.new.holders)) }
         ensures unchanged { OnErr result (holding (H.table self.new.holders) (H.names self.new.holders) ≡ holding (H.table self.old.holders) (H.names self.old.holders)) }
         ensures setup { self.new.setup ≡ self.old.setup }
@@ -94,6 +97,7 @@ impl<'s, H: Holders> HeldSession<'s, H> {
     fn answer_line(&mut self, alloc: Global, line: &[u8]) -> Result<HeldReply, AllocError>
         ensures answers { IfOk result (λ r. Answers r (holding (H.table self.old.holders) (H.names self.old.holders)) (holding (H.table self.new.holders) (H.names self.new.holders))
             (held_line_outcome self.old.setup.now (holding (H.table self.old.holders) (H.names self.old.holders)) line.now)) }
+        ensures asking { IfOk result (λ r. is_reading line.now ≡ true → r.changed ≡ false) }
         ensures unchanged { OnErr result (holding (H.table self.new.holders) (H.names self.new.holders) ≡ holding (H.table self.old.holders) (H.names self.old.holders)) }
         ensures setup { self.new.setup ≡ self.old.setup }
     {
@@ -115,6 +119,7 @@ impl<'s, H: Holders> HeldSession<'s, H> {
         requires { asked_from asked ≡ asked_of line.now }
         ensures answers { IfOk result (λ r. Answers r (holding (H.table self.old.holders) (H.names self.old.holders)) (holding (H.table self.new.holders) (H.names self.new.holders))
             (asked_outcome self.old.setup.now (holding (H.table self.old.holders) (H.names self.old.holders)) line.now (asked_from asked.entry))) }
+        ensures asking { IfOk result (λ r. is_reading line.now ≡ true → r.changed ≡ false) }
         ensures unchanged { OnErr result (holding (H.table self.new.holders) (H.names self.new.holders) ≡ holding (H.table self.old.holders) (H.names self.old.holders)) }
         ensures setup { self.new.setup ≡ self.old.setup }
     {

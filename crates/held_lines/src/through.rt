@@ -1,5 +1,5 @@
 //! What a session answers over the table: its lines, and halves of loads and removals.
-ghost use Rattle.std.specs.Prelude.{◌≡◌, IfOk, OnErr};
+ghost use Rattle.std.specs.Prelude.{◌≡◌, false, IfOk, OnErr};
 ghost use Rattle.dep_index.specs.Catalogue.{modules_of};
 ghost use Rattle.modprobe.specs.Session.{half_outcome, line_outcome};
 ghost use Rattle.held_lines.specs.Held.{holding};
@@ -26,6 +26,7 @@ pub(crate) fn as_session<H: Holders>(
     requires asked { asked_of line.now ≡ as_session }
     ensures answers { IfOk result (λ r. Answers r (holding (H.table holders.old) (H.names holders.old)) (holding (H.table holders.new) (H.names holders.new))
         (on_table (holding (H.table holders.old) (H.names holders.old)) (line_outcome setup.now (H.table holders.old) line.now))) }
+    ensures idle { IfOk result (λ r. (line_outcome setup.now (H.table holders.old) line.now).1 ≡ H.table holders.old → r.changed ≡ false) }
     ensures unchanged { OnErr result (holding (H.table holders.new) (H.names holders.new) ≡ holding (H.table holders.old) (H.names holders.old)) }
     ensures over { H.catalogue holders.new ≡ H.catalogue holders.old }
 {
@@ -47,6 +48,7 @@ pub(crate) fn make_half<H: Holders>(
     requires over { H.catalogue holders.old ≡ modules_of setup.now.catalogue }
     ensures answers { IfOk result (λ r. Answers r (holding (H.table holders.old) (H.names holders.old)) (holding (H.table holders.new) (H.names holders.new))
         (on_table (holding (H.table holders.old) (H.names holders.old)) (half_outcome setup.now name.now half (H.table holders.old)))) }
+    ensures idle { IfOk result (λ r. (half_outcome setup.now name.now half (H.table holders.old)).1 ≡ H.table holders.old → r.changed ≡ false) }
     ensures unchanged { OnErr result (holding (H.table holders.new) (H.names holders.new) ≡ holding (H.table holders.old) (H.names holders.old)) }
     ensures over { H.catalogue holders.new ≡ H.catalogue holders.old }
 {

@@ -1,10 +1,10 @@
-use Rattle.std.proofs.Common.{subst, not, rules}
+use Rattle.std.proofs.Common.{subst, sym, ap, ◌∙◌, not, rules}
 use Rattle.std.proofs.lemmas.Bool.{not-false}
 use Rattle.modprobe.specs.Session.{line_outcome}
 use Rattle.held_lines.specs.declared.reply.HeldReply.{HeldReply}
 use Rattle.held_lines.specs.Held.{holding}
 use Rattle.held_lines.specs.Outcomes.{on_table}
-use Rattle.held_lines.specs.ForProofs.{Answers}
+use Rattle.held_lines.specs.ForProofs.{Answers, IsBookOf}
 use Rattle.held_lines.proofs.RowLemmas.{line_rows}
 use Rattle.held_lines.proofs.ThroughLemmas.{answers_through}
 use Rattle.held_lines.proofs.through.as_session.Goals as goal
@@ -24,6 +24,13 @@ returns-clause-answers g c =
     (rw (c.new-session.ensures.setup, c.new-session.ensures.table) at made.becomes)
     (rw c.new-session.ensures.table at made.same_names)
     (line_rows s t c.args.line.now c.requires.asked) c.in_ok-before.ensures
-    (λ unchanged. rw c.table.ensures at (c.is_of-changed.ensures (not-false c.is_of-changed.result unchanged))) in
+    (λ unchanged. rw c.table.ensures at (c.is_of-changed.ensures.is (not-false c.is_of-changed.result unchanged))) in
     let P : g.row.H.Denot → Type 0 = λ u. Answers r (holding t names) (holding (g.H.Modules.table u) (g.H.Modules.names u)) (on_table (holding t names) meant) in
     subst P (search rules) done
+
+pub returns-clause-idle : goal.returns-clause-idle
+returns-clause-idle g c =
+    let t = g.H.Modules.table c.args.holders.now in
+    let becomes = rw (c.new-session.ensures.setup, c.new-session.ensures.table) at c.in_ok-reply.ensures.reply.becomes in
+    λ same.
+    ap not (c.is_of-changed.ensures.all (subst (IsBookOf c.in_ok-before.before) (sym (ap g.H.Modules.table c.table.ensures ∙ becomes ∙ same)) c.in_ok-before.ensures))

@@ -1,5 +1,5 @@
 -- A line that asks leaves all as it is.
-use Rattle.std.proofs.Common.{◌≡◌, refl, sym, ap, subst, ◌∙◌, ℕ, Bool, true, false, cond, ◌||◌, List, [], ◌∷◌, codes, Option, Some, None}
+use Rattle.std.proofs.Common.{◌≡◌, refl, sym, ap, subst, ◌∙◌, ℕ, Bool, true, false, cond, ◌||◌, List, [], ◌∷◌, codes, Option, Some, None, Result, Ok, Err, IfOk}
 use Rattle.std.specs.Bool.{⊤}
 use Rattle.std.specs.Str.{bytes_eq}
 use Rattle.std.proofs.lemmas.Slice.Eq.{bytes_eq-Decides}
@@ -12,10 +12,11 @@ use Rattle.modprobe.specs.Commands.{Action, query, Request, act, modinfo, plan, 
 use Rattle.modprobe.specs.Session.{command_outcome, named_outcome, line_outcome}
 use Rattle.held_table.specs.Names.{is_holder_name}
 use Rattle.held_table.specs.Held.{Held}
+use Rattle.held_lines.specs.declared.reply.HeldReply.{HeldReply}
 use Rattle.held_lines.specs.Held.{holding}
 use Rattle.held_lines.specs.Lines as asked
 use Rattle.held_lines.specs.Outcomes.{asked_outcome, held_line_outcome}
-use Rattle.gz_table_drive.specs.Reading.{asks, asks_by, is_reading}
+use Rattle.held_lines.specs.Reading.{asks, asks_by, is_reading}
 
 -- a request that changes nothing
 abbrev pub AsksBy : Request → Type 0
@@ -190,3 +191,77 @@ words_same s h line (first ∷ rest) are e = asked_same s h line first rest are 
 -- A line that asks leaves the table and its holders as they are.
 pub reads_only : (s : Setup) (h : Held) (line : List ℕ) → is_reading line ≡ true → (held_line_outcome s h line).1 ≡ h
 reads_only s h line e = or_else (is_comment line) (asks_by (words line)) e (comment_same s h line) (words_same s h line (words line) refl)
+
+-- The table of a session that is asked so stays as it is.
+pub session_reads : (s : Setup) (t : Table) (line : List ℕ) → asked.asked_of line ≡ asked.as_session → is_reading line ≡ true → (line_outcome s t line).1 ≡ t
+unfolding held_line_outcome
+session_reads s t line is e =
+    let h : Held = holding t [] in
+    ap (λ (w : Held). w.table) (sym (ap (λ (a : asked.Asked). (asked_outcome s h line a).1) is) ∙ reads_only s h line e)
+
+-- not what changes holders, or is half of a load or removal
+abbrev pub AsksAlone : asked.Asked → Type 0
+AsksAlone (asked.refer reference holder name) = ⊥
+AsksAlone (asked.half which name) = ⊥
+AsksAlone (asked.hold again holder names) = ⊥
+AsksAlone (asked.release holder names) = ⊥
+AsksAlone (asked.release_all holder) = ⊥
+AsksAlone _ = ⊤
+
+holders_alone : (a : asked.Asked) → AsksHolders a → AsksAlone a
+holders_alone asked.as_session a = tt
+holders_alone (asked.malformed first) a = tt
+holders_alone (asked.holders name) a = tt
+holders_alone (asked.held_by holder) a = tt
+holders_alone asked.held a = tt
+holders_alone (asked.refer reference holder name) a = a
+holders_alone (asked.half which name) a = a
+holders_alone (asked.hold again holder names) a = a
+holders_alone (asked.release holder names) a = a
+holders_alone (asked.release_all holder) a = a
+
+word_alone : (line first : List ℕ) (rest : List (List ℕ)) → words line ≡ first ∷ rest → AsksAlone (asked.by_first first rest) → AsksAlone (asked.asked_of line)
+word_alone line first rest are a = at (is_comment line) (words line) are where
+  at : (c : Bool) (ws : List (List ℕ)) → ws ≡ first ∷ rest → AsksAlone (cond c asked.as_session (asked.by_words ws))
+  at true ws e = tt
+  at false ws e = subst (λ found. AsksAlone (asked.by_words found)) (sym e) a
+
+first_alone : (line first : List ℕ) (rest : List (List ℕ)) → words line ≡ first ∷ rest → asks first ≡ true → AsksAlone (asked.asked_of line)
+first_alone line first rest are e =
+    or_else (bytes_eq first (codes "query")) _ e (λ t. word_alone line (codes "query") rest (is_word first (codes "query") line rest are t) tt) (λ e1.
+    or_else (bytes_eq first (codes "modinfo")) _ e1 (λ t. word_alone line (codes "modinfo") rest (is_word first (codes "modinfo") line rest are t) tt) (λ e2.
+    or_else (bytes_eq first (codes "lsmod")) _ e2 (λ t. word_alone line (codes "lsmod") rest (is_word first (codes "lsmod") line rest are t) tt) (λ e3.
+    or_else (bytes_eq first (codes "proc")) _ e3 (λ t. word_alone line (codes "proc") rest (is_word first (codes "proc") line rest are t) tt) (λ e4.
+    or_else (bytes_eq first (codes "plan")) _ e4 (λ t. word_alone line (codes "plan") rest (is_word first (codes "plan") line rest are t) tt) (λ e5.
+    or_else (bytes_eq first (codes "holders")) _ e5 (λ t. word_alone line (codes "holders") rest (is_word first (codes "holders") line rest are t)
+    (holders_alone (asked.with_holders (codes "holders") rest) (with_holders_asks (codes "holders") rest))) (λ e6.
+    word_alone line (codes "held") rest (is_word first (codes "held") line rest are e6)
+    (holders_alone (asked.with_held (codes "held") rest) (with_held_asks (codes "held") rest))))))))
+
+words_alone : (line : List ℕ) (ws : List (List ℕ)) → words line ≡ ws → asks_by ws ≡ true → AsksAlone (asked.asked_of line)
+words_alone line [] are e = at (is_comment line) (words line) are where
+  at : (c : Bool) (found : List (List ℕ)) → found ≡ [] → AsksAlone (cond c asked.as_session (asked.by_words found))
+  at true found is = tt
+  at false found is = subst (λ ws. AsksAlone (asked.by_words ws)) (sym is) tt
+words_alone line (first ∷ rest) are e = first_alone line first rest are e
+
+-- What such a line asks for.
+pub reads_alone : (line : List ℕ) (a : asked.Asked) → a ≡ asked.asked_of line → is_reading line ≡ true → AsksAlone a
+reads_alone line a is e = subst AsksAlone (sym is) (or_else (is_comment line) (asks_by (words line)) e comment (words_alone line (words line) refl)) where
+  comment : is_comment line ≡ true → AsksAlone (asked.asked_of line)
+  comment t = subst (λ c. AsksAlone (cond c asked.as_session (asked.by_words (words line)))) (sym t) tt
+
+pub comment_asked : (line : List ℕ) → is_comment line ≡ true → asked.asked_of line ≡ asked.as_session
+comment_asked line e = ap (λ c. cond c asked.as_session (asked.by_words (words line))) e
+
+-- A session's line that leaves the table as it is reports no change.
+pub session_asks : {E : Type 0} (r : Result HeldReply E) (s : Setup) (t : Table) (line : List ℕ) → asked.asked_of line ≡ asked.as_session
+    → IfOk r (λ reply. (line_outcome s t line).1 ≡ t → reply.changed ≡ false) → IfOk r (λ reply. is_reading line ≡ true → reply.changed ≡ false)
+session_asks (Ok reply) s t line is idle = λ reads. idle (session_reads s t line is reads)
+session_asks (Err error) s t line is idle = tt
+
+-- A line that asks for another thing does not ask.
+pub never_asks : {E : Type 0} (r : Result HeldReply E) (line : List ℕ) (a : asked.Asked) → a ≡ asked.asked_of line → (AsksAlone a → ⊥)
+    → IfOk r (λ reply. is_reading line ≡ true → reply.changed ≡ false)
+never_asks (Ok reply) line a is never = λ reads. absurd (never (reads_alone line a is reads))
+never_asks (Err error) line a is never = tt
