@@ -7,9 +7,10 @@ BAD = (
     *(b"alias", b"alias foo", b"alias  ", b"alias a[ b", b"alias a b]", b"blacklist", b"blacklist x["),
     *(b"options", b"options a", b"options a\t", b"options a] x=1", b"install", b"install x", b"install a ", b"remove"),
     *(b"softdep", b"softdep a", b"softdep x] pre: a", b"include x", b"config all", b"Alias a b", b"a b c", b"\xff\xfe"),
+    *(b"weakdep", b"weakdep a", b"weakdep a ", b"weakdep x] a", b"Weakdep a b"),
 )
 KINDS = b"alias alias alias alias options options options options softdep softdep softdep blacklist blacklist".split()
-KINDS += b"install remove bad comment".split()
+KINDS += b"install remove weakdep bad comment".split()
 # Words of the command line for a module.
 PARAMETERS = (
     *(b"NAME.x=1", b"NAME.flag", b'NAME.s="a b"', b'"NAME.s=a b"', b"NAME.", b"NAME.x.y=1", b".x=1", b"NAME=1", b'NAME.x="'),
@@ -52,6 +53,11 @@ class Writer:
             words += [self.pattern() if self.chance(0.2) else self.name() for _ in range(self.dice.randrange(4 if self.chance(odd) else 1, 5))]
         return b"".join(it + self.blank(odd / 3) for it in words).rstrip(b" " if self.chance(0.8) else b"")
 
+    def weak_items(self):
+        """Names, now and then with odd blanks."""
+        words = [self.pattern() if self.chance(0.2) else self.name() for _ in range(self.dice.randrange(1, 5))]
+        return b"".join(it + self.blank(0.05) for it in words).rstrip(b" " if self.chance(0.8) else b"")
+
     def options(self):
         return b" ".join(self.dice.choice(VALUES) for _ in range(self.dice.randrange(1, 4)))
 
@@ -71,6 +77,7 @@ class Writer:
             b"install": lambda: self.dice.choice(COMMANDS),
             b"remove": lambda: self.dice.choice(COMMANDS),
             b"softdep": self.soft_items,
+            b"weakdep": self.weak_items,
         }[kind]()
         more = self.dice.choice((b" ", b"  # why", b"\t", b" x y", b"\r")) if self.chance(0.08) else b""
         before = self.dice.choice((b" ", b"\t", b"  ")) if self.chance(0.05) else b""

@@ -1,18 +1,21 @@
-"""The faults of kmod 30 that gz-modprobe does not copy, and how they are recognised."""
+"""The faults of kmod that gz-modprobe does not copy, the one rule that it does not follow, and how they are recognised."""
 
 import re
 
-SOFTDEP = "soft items are read or shown wrong"
+SOFTDEP = "soft or weak items are read or shown wrong"
 ENDLESS = "a removal never ends"
 NOT_UTF8 = "a file of modprobe.d whose name is no UTF-8 is not read"
 WAIT = "a removal with --wait passes over what is in use"
 OVERWRITTEN = "MODPROBE_OPTIONS with several words in quotes is overwritten"
 CUT = "a name of an install or remove line is cut as that of a file"
+# (since kmod 31)
+PATH = "a name that begins with ./ is the path of a file, and here a name"
 BLANKS = b" \t\n\v\f\r"
 
 
-def logical_lines(text):
-    """Pairs of a line as it stands and as modprobe reads it: a backslash joins lines or is dropped, and one that ends the text is read as the byte 255."""
+def logical_lines(text, version):
+    """Pairs of a line as it stands and as modprobe reads it: a backslash joins lines or is dropped, and kmod 30 reads one that ends the text as the byte 255."""
+    end = b"\xff" if version < 34 else b""
     lines, raw, read, at = [], b"", b"", 0
     while at < len(text):
         letter = text[at : at + 1]
@@ -20,7 +23,7 @@ def logical_lines(text):
         at += 1
         if letter == b"\\":
             raw += text[at : at + 1]
-            read += text[at : at + 1].replace(b"\n", b"") if at < len(text) else b"\xff"
+            read += text[at : at + 1].replace(b"\n", b"") if at < len(text) else end
             at += 1
         elif letter == b"\n":
             lines.append((raw, read))
@@ -42,8 +45,11 @@ def items_of(rest):
 
 
 def mended_line(raw, read):
-    """A softdep line with single blanks and its marks in order, so that no fault of kmod can be met. Others as they are."""
+    """A softdep or weakdep line with single blanks and marks in order, so that no fault of kmod can be met. Others as they are."""
     read = read.split(b"\0")[0]
+    weak = re.fullmatch(rb"[ \t]*weakdep[ \t]+([^ \t]+)[ \t](.+)", read, re.S)
+    if weak is not None:
+        return b"weakdep " + b" ".join([weak[1], *(list(filter(None, re.split(b"[%b]+" % BLANKS, weak[2]))) or [b" "])]).replace(b"\\", b"\\\\") + b"\n"
     parts = re.fullmatch(rb"[ \t]*softdep[ \t]+([^ \t]+)[ \t](.+)", read, re.S)
     if parts is None:
         return raw
@@ -54,27 +60,27 @@ def mended_line(raw, read):
     return b"softdep " + b" ".join(words).replace(b"\\", b"\\\\") + b"\n"
 
 
-def mended(text):
-    return b"".join(mended_line(*it) for it in logical_lines(text))
+def mended(text, version):
+    return b"".join(mended_line(*it) for it in logical_lines(text, version))
 
 
 def is_configuration(path):
-    return path.endswith((b".conf", b".alias", b"/modules.softdep", b"/modprobe.d")) or path.startswith(b"/own")
+    return path.endswith((b".conf", b".alias", b"/modules.softdep", b"/modules.weakdep", b"/modprobe.d")) or path.startswith(b"/own")
 
 
-def with_right_softdeps(files):
+def with_right_softdeps(files, version):
     """The files that change when the faults of soft items are mended."""
     texts = {path: it for path, it in files.items() if is_configuration(path) and isinstance(it, bytes)}
-    return {path: mended(it) for path, it in texts.items() if mended(it) != it}
+    return {path: mended(it, version) for path, it in texts.items() if mended(it, version) != it}
 
 
-def without_odd_names(files):
+def without_odd_names(files, version):
     """The files that gz-modprobe can't open by their names, empty."""
     return {path: b"" for path, it in files.items() if it and isinstance(it, bytes) and not path.decode(errors="replace").encode() == path}
 
 
-def with_both(files):
-    return {**with_right_softdeps(files), **without_odd_names(files)}
+def with_both(files, version):
+    return {**with_right_softdeps(files, version), **without_odd_names(files, version)}
 
 
 # What kmod is asked over once more, and what is known where it then answers as gz-modprobe does.
@@ -86,17 +92,17 @@ def shown_right(output):
     return re.sub(rb"^(softdep [^ \n]+ pre: .*\S)(?<! )post: ", rb"\1 post: ", output, flags=re.M)
 
 
-def command_names(files):
+def command_names(files, version):
     """The names of install and remove lines, with _ for each - outside [..]."""
     texts = [it for path, it in files.items() if is_configuration(path) and isinstance(it, bytes)]
-    lines = [read for text in texts for _, read in logical_lines(text)]
+    lines = [read for text in texts for _, read in logical_lines(text, version)]
     named = [re.match(rb"[ \t]*(?:install|remove)[ \t]+([^ \t\n]+)", it) for it in lines]
     return {re.sub(rb"\[[^]]*\]|-", lambda it: b"_" if it[0] == b"-" else it[0], it[1]) for it in named if it}
 
 
-def with_cut_names(files, output):
+def with_cut_names(files, version, output):
     """Names as kmod has them that takes those of install and remove lines for names of files."""
-    names = command_names(files)
+    names = command_names(files, version)
     lines = [it.split(b".")[0].replace(b"-", b"_") if it in names else it for it in output.split(b"\n")]
     return b"\n".join(lines)
 
@@ -123,6 +129,11 @@ def without_variable(words, environment):
     text = environment.get(b"MODPROBE_OPTIONS", b"")
     before = words_of_variable(text)
     return [*before, *words] if len(before) > text.count(b" ") + 2 else None
+
+
+def has_path(words, version):
+    """Whether some word may be a name that this kmod takes for a path."""
+    return version > 30 and any(it.startswith(b"./") for it in words)
 
 
 def without_waiting(words):

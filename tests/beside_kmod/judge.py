@@ -15,9 +15,12 @@ from . import faults
 from .stage import OWN, Link, write_files
 
 # What kmod says to its own developers, where in its sources it says a thing, and what is said in other words.
-DEVELOPERS = re.compile(rb"^(?:modprobe|libkmod): (?:INFO|DEBUG|NOTICE)|^modprobe: ERROR: \.\./libkmod|^==\d+==WARNING")
-STATE = re.compile(rb"^modprobe: ERROR: \.\./libkmod/\S+ \w+\(\) unknown \S+/initstate: '[^']*'\n", re.M)
-SOURCES = re.compile(rb"^libkmod: ERROR \S+\.c:\d+ \w+: ")
+DEVELOPERS = re.compile(
+    rb"^(?:modprobe|libkmod): (?:INFO|DEBUG|NOTICE)|^modprobe: ERROR: \.\./libkmod|^==\d+==WARNING"
+    rb"|^modprobe: ERROR: (?:failed to lookup dependency|could not read integer from|kmod_module '.*' already exists) "
+)
+STATE = re.compile(rb"^modprobe: ERROR: (?:\.\./libkmod/\S+ \w+\(\) )?unknown \S+/initstate: '[^']*'\n", re.M)
+SOURCES = re.compile(rb"^libkmod: ERROR(?: \S+\.c:\d+|:) \w+: ")
 OWN_WORDS = re.compile(
     rb"deprecated and not parsed|starting with '(?:include|config)'|Ignoring bad option on kernel command line"
     rb"|gz-modprobe: NOTICE: |WARNING: there is no configuration |no UTF-8"
@@ -63,8 +66,8 @@ def files_below(root):
 class Judge:
     """Asks both programs over the world that stands in a stage, and counts."""
 
-    def __init__(self, stage, keep, with_messages, most):
-        self.stage, self.keep, self.with_messages, self.most = stage, keep, with_messages, most
+    def __init__(self, stage, version, keep, with_messages, most):
+        self.stage, self.version, self.keep, self.with_messages, self.most = stage, version, keep, with_messages, most
         self.same, self.differ, self.known = 0, 0, Counter()
         self.name, self.kept = None, None
 
@@ -84,7 +87,7 @@ class Judge:
         """Asks both. True where they agree, or differ by a named fault."""
         environment = environment or {}
         theirs = self.stage.ask("modprobe", words, environment)
-        ours = self.stage.ask("ours", words, environment)
+        ours = self.ours(words, environment)
         if self.agree(theirs, ours):
             self.same += 1
             return True
@@ -96,18 +99,24 @@ class Judge:
         self.show(theirs, ours, words, environment)
         return False
 
+    def ours(self, words, environment=()):
+        """How gz-modprobe answers as this version of kmod."""
+        return self.stage.ask("ours", [b"--as=%d" % self.version, *words], environment)
+
     def alike(self, words):
         """Whether both say the same; nothing is counted."""
-        return self.agree(self.stage.ask("modprobe", words), self.stage.ask("ours", words))
+        return self.agree(self.stage.ask("modprobe", words), self.ours(words))
 
     def agree(self, theirs, ours):
         alike = (theirs.status, theirs.output) == (ours.status, ours.output)
         return alike and (not self.with_messages or messages(theirs.errors) == messages(ours.errors))
 
     def fault(self, theirs, ours, words, environment):
-        """The named fault of kmod by which the answers differ, or None."""
+        """The named difference between the answers, or None."""
         if theirs.status < 0 and ours.status >= 0:
             return faults.ENDLESS
+        if faults.has_path(words, self.version):
+            return faults.PATH
         if plain := faults.without_variable(words, environment):
             words, environment = plain, {}
             if self.agree(self.stage.ask("modprobe", words), ours):
@@ -116,10 +125,10 @@ class Judge:
         if self.agree(self.stage.ask("modprobe", words, environment), ours):
             return faults.WAIT
         files = files_below(self.stage.root)
-        if self.agree(theirs, replace(ours, output=faults.with_cut_names(files, ours.output))):
+        if self.agree(theirs, replace(ours, output=faults.with_cut_names(files, self.version, ours.output))):
             return faults.CUT
         for fault, mend in faults.MENDS:
-            changed = mend(files)
+            changed = mend(files, self.version)
             self.write(changed)
             theirs = self.stage.ask("modprobe", words, environment)
             self.write({it: files[it] for it in changed})
@@ -145,13 +154,13 @@ class Judge:
         if self.differ > self.most:
             return
         variables = [f"{os.fsdecode(name)}={os.fsdecode(value)}" for name, value in environment.items()]
-        again = ["tests/kmod", "--world", str(self.folder()), *variables, *map(os.fsdecode, words)]
+        again = ["tests/kmod", f"--as={self.version}", "--world", str(self.folder()), *variables, *map(os.fsdecode, words)]
         again = " ".join(map(shlex.quote, again)).encode(errors="surrogateescape").decode("latin1")
         print(f"DIFFERENT, world {self.name}:\n  {again}\n--- kmod\n{shown(theirs)}\n--- ours\n{shown(ours)}", flush=True)
 
     def report(self):
         """Prints what was counted. The status: 1 where something differs."""
         for fault, count in sorted(self.known.items()):
-            print(f"fault of kmod: {fault}: {count}")
-        print(f"{self.same} the same, {sum(self.known.values())} faults of kmod, {self.differ} differ")
+            print(f"named difference: {fault}: {count}")
+        print(f"kmod {self.version}: {self.same} the same, {sum(self.known.values())} named differences, {self.differ} differ", flush=True)
         return 1 if self.differ else 0

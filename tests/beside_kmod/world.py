@@ -135,17 +135,25 @@ class Maker:
             names = self.some(FILES, 3) + (self.some(ODD_FILES, 2) if self.chance(0.3) else [])
             for name in names:
                 world.files[folder + b"/" + name] = self.file_of(writer, folder, name)
+        if self.chance(0.4):
+            world.files[world.folder + b"/modules.weakdep"] = self.weakdeps(writer)
         world.files[b"/own/one.conf"] = writer.text(6)
         world.files[b"/own.d/b.conf"] = writer.text(4)
         world.files[b"/own.d/a"] = writer.text(2)
         world.words += [concrete(dice, it) for it in writer.named] + [concrete(dice, spelled(dice, it)) for it in writer.named]
+
+    def weakdeps(self, writer):
+        """A text as depmod writes modules.weakdep, which kmod 30 has not, and now and then other lines."""
+        lines = [b"weakdep %b %b\n" % (self.dice.choice(self.known), writer.weak_items()) for _ in range(self.dice.randrange(4))]
+        return b"# Weak dependencies extracted from modules themselves.\n" + b"".join(lines) + (writer.text(2) if self.chance(0.1) else b"")
 
     def file_of(self, writer, folder, name):
         """Mostly a text. Else a link to nothing, to another file, or a folder in the place of a file."""
         odd = self.dice.random()
         if odd < 0.04:
             return Link(b"/dev/null")
-        if odd < 0.05:
+        # (gz-modprobe opens no file whose name is no UTF-8, and a link's target would have to be left out with it)
+        if odd < 0.05 and name.decode(errors="replace").encode() == name:
             return Link(self.dice.choice((b"/own/one.conf", b"missing", b"a.conf")))
         if odd < 0.06:
             return FOLDER

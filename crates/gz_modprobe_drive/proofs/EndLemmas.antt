@@ -8,8 +8,9 @@ use Rattle.modprobe_words.specs.declared.written.Written.TheVariants.{Whole, Clo
 use Rattle.modprobe_files.specs.declared.texts.ModuleTexts.{ModuleTexts}
 use Rattle.gz_modprobe_drive.specs.declared.texts.Machine.{Machine}
 use Rattle.gz_modprobe_drive.specs.Answered.{IsAnswerOf, is_whole, said_by, status_of, texts_of_folder}
-use Rattle.gz_modprobe_drive.specs.Texts.{AreRead, IsThis, Large, large_texts, or_empty, texts_with}
-use Rattle.gz_modprobe_drive.specs.Ends.{WasAnswered}
+use Rattle.gz_modprobe_drive.specs.Texts.{AreRead, IsThis, Large, conf_of, large_texts, or_empty, texts_with}
+use Rattle.gz_modprobe_drive.specs.Ends.{IsReadBy, WasAnswered}
+use Rattle.kmod_index.specs.Index.{Texts}
 
 one-is-not-zero : ◌≡◌ {A = ℕ} 1 0 → ⊥
 one-is-not-zero e = omega arith
@@ -38,14 +39,20 @@ own_texts modules large = record {
   symbols = own_text large.symbols;
 }
 
+-- the configuration is what the machine's texts say
+read-by : (machine : Machine) (whole : Texts) → IsReadBy machine.conf.now.kmod (said_by machine whole)
+unfolding said_by
+read-by machine whole = record { texts = machine.conf.now; version = refl; is = refl }
+
 -- an answer with the status 0 was an answer without a failure, and was written whole
 pub well-answered : (machine : Machine) (query : Query) (answer : Answer) (how : Written) (before after : Option (List ℕ)) (status : ℕ)
     → IsAnswerOf machine query answer → (how ≡ Whole → Appends before after answer.output)
-    → status ≡ status_of answer how → status ≡ 0 → WasAnswered query before after
+    → status ≡ status_of answer how → status ≡ 0 → WasAnswered machine.conf.now.kmod query before after
 well-answered machine query answer how before after status is grew told zero =
     let ends = both-well answer.failed (is_whole how) (sym told ∙ zero) in
     record {
       known = said_by machine (texts_of_folder machine);
+      read = read-by machine (texts_of_folder machine);
       answer = answer;
       is = is.is (texts_of_folder machine) (own_texts machine.modules.now (large_texts machine.later.now));
       well = ends.0;

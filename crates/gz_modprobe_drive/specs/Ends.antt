@@ -1,8 +1,10 @@
 -- How a run ends, by its words.
 use Rattle.std.specs.Prelude.{◌≡◌, ℕ, false, nat_lt, List, [], ◌++◌, length, Option, Some, None, unwrap_or}
 use Rattle.std.specs.Io.KnownBytes.{Appends}
+use Rattle.kmod_version.specs.declared.kmod.Kmod.{Kmod}
 use Rattle.kmod_query.specs.Answers.{Answer}
 use Rattle.kmod_query.specs.declared.query.Query.{Query}
+use Rattle.modprobe_files.specs.declared.texts.ConfTexts.{ConfTexts}
 use Rattle.modprobe_words.specs.Asked.{Asked, asked_by}
 use Rattle.modprobe_words.specs.Endings.{Ending, IsEnded, first_ending}
 use Rattle.modprobe_words.specs.Variable.{words_of}
@@ -10,14 +12,23 @@ use Rattle.modprobe_words.specs.Wishes.{wish_of}
 use Rattle.modprobe_words.specs.Words.{items}
 use Rattle.gz_modprobe_drive.specs.Answered.{IsAnswer, Known}
 use Rattle.gz_modprobe_drive.specs.Queries.{IsQueryOf}
+use Rattle.gz_modprobe_drive.specs.Texts.{conf_of}
 
 -- the words of a run: those of MODPROBE_OPTIONS, and then those of the command line (modprobe(8))
 abbrev pub given : Option (List ℕ) → List (List ℕ) → List (List ℕ)
 given options words = words_of (unwrap_or options []) ++ words
 
--- A query was answered well: standard output has grown by the answer to it of a machine, in which no name failed.
-pub record WasAnswered (query : Query) (before after : Option (List ℕ)) : Type 0 where
+-- the configuration of a machine is what texts say to this version of kmod
+pub record IsReadBy (kmod : Kmod) (known : Known) : Type 0 where
+  pub texts : ConfTexts
+  pub version : texts.kmod ≡ kmod
+  pub is : known.conf ≡ conf_of texts
+
+-- A query was answered well: standard output has grown by the answer to it of a machine, in which no name failed. The
+-- machine's configuration is as this version of kmod reads it.
+pub record WasAnswered (kmod : Kmod) (query : Query) (before after : Option (List ℕ)) : Type 0 where
   pub known : Known
+  pub read : IsReadBy kmod known
   pub answer : Answer
   pub is : IsAnswer known query answer
   pub well : answer.failed ≡ false
@@ -27,7 +38,7 @@ pub record WasAnswered (query : Query) (before after : Option (List ℕ)) : Type
 pub record WereAnswered (asked : Asked) (before after : Option (List ℕ)) : Type 0 where
   pub query : Query
   pub asks : IsQueryOf (wish_of asked.switches (nat_lt 0 (length asked.words))) asked.switches asked.words query
-  pub answered : WasAnswered query before after
+  pub answered : WasAnswered asked.kmod query before after
 
 -- words that ask for an end before a query end so; other ones end with 0 only if they were answered well
 abbrev pub IsEndBy : Option Ending → Asked → Option (List ℕ) → Option (List ℕ) → ℕ → Type 0

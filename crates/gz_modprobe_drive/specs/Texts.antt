@@ -1,6 +1,7 @@
 -- What the texts of a machine say.
 use Rattle.std.specs.Prelude.{◌≡◌, ℕ, ◌+◌, List, [], ◌∷◌, length, map, Option, Some, None, option_map, Vec}
 use Rattle.std.specs.Global.{Global}
+use Rattle.kmod_version.specs.declared.kmod.Kmod.{Kmod}
 use Rattle.kmod_conf.specs.CommandLine.{conf_with_command_line}
 use Rattle.kmod_conf.specs.Configuration.{Configuration, conf_with_text, no_lines}
 use Rattle.kmod_index.specs.Index.{Texts, indexes_of}
@@ -17,9 +18,9 @@ abbrev pub texts_in : List TextFile → List (List ℕ)
 texts_in files = map text_in files
 
 -- files after what is there, each with its number
-abbrev pub conf_from : ℕ → Configuration → List (List ℕ) → Configuration
-conf_from source conf [] = conf
-conf_from source conf (text ∷ texts) = conf_from (source + 1) (conf_with_text conf source text) texts
+abbrev pub conf_from : Kmod → ℕ → Configuration → List (List ℕ) → Configuration
+conf_from kmod source conf [] = conf
+conf_from kmod source conf (text ∷ texts) = conf_from kmod (source + 1) (conf_with_text kmod conf source text) texts
 
 -- the kernel's command line, if there is one, after what is there
 unfoldable pub with_command_line : Configuration → ℕ → Option (List ℕ) → Configuration
@@ -29,7 +30,7 @@ with_command_line conf source (Some text) = conf_with_command_line conf source t
 -- what the files say, and then the kernel's command line, after what is there
 unfoldable pub with_texts : Configuration → ConfTexts → Configuration
 with_texts conf texts =
-    with_command_line (conf_from 0 conf (texts_in texts.files.items)) (length texts.files.items)
+    with_command_line (conf_from texts.kmod 0 conf (texts_in texts.files.items)) (length texts.files.items)
     (option_map (λ text. text.items) texts.command_line)
 
 -- the configuration

@@ -70,7 +70,7 @@ fn answer_read<S: System, O: Write, E: Write>(
     requires conf { IsConfOf machine.now.conf.now conf.now }
     requires enough { IsEnough machine.now query.now }
     ensures status { IfOk result (λ status. status ≤ 1) }
-    ensures well { IfOk result (λ status. status ≡ 0 → WasAnswered query.now (O.contents output.old) (O.contents output.new)) }
+    ensures well { IfOk result (λ status. status ≡ 0 → WasAnswered machine.now.conf.now.kmod query.now (O.contents output.old) (O.contents output.new)) }
 {
     let answered = answer_machine(host.alloc(), machine, conf, query, output, messages)?;
     tell_answered(host, &answered, query, machine.directory, messages)
@@ -89,7 +89,7 @@ fn answer_by<S: System, O: Write, E: Write>(
     requires conf { IsConfOf machine.now.conf.now conf.now }
     requires unread { machine.now.later.now.alias ≡ None }
     ensures status { IfOk result (λ status. status ≤ 1) }
-    ensures well { IfOk result (λ status. status ≡ 0 → WasAnswered query.now (O.contents output.old) (O.contents output.new)) }
+    ensures well { IfOk result (λ status. status ≡ 0 → WasAnswered machine.now.conf.now.kmod query.now (O.contents output.old) (O.contents output.new)) }
 {
     let alloc = host.alloc();
     if is_answered_early(alloc, machine, conf, query, messages.explains)? {
@@ -117,7 +117,7 @@ fn answer_configured<S: System, O: Write, E: Write>(
 ) -> Result<u8, AllocError>
     requires { machine.now.later.now.alias ≡ None }
     ensures status { IfOk result (λ status. status ≤ 1) }
-    ensures well { IfOk result (λ status. status ≡ 0 → WasAnswered query.now (O.contents output.old) (O.contents output.new)) }
+    ensures well { IfOk result (λ status. status ≡ 0 → WasAnswered machine.now.conf.now.kmod query.now (O.contents output.old) (O.contents output.new)) }
 {
     let conf = conf_of(host.alloc(), machine.conf)?;
     tell_bad_lines(host.alloc(), machine.conf, &conf, messages)?;
@@ -135,7 +135,7 @@ fn answer_from<S: System, O: Write, E: Write>(
     messages: &mut Messages<'_, E>,
 ) -> Result<u8, AllocError>
     ensures status { IfOk result (λ status. status ≤ 1) }
-    ensures well { IfOk result (λ status. status ≡ 0 → WasAnswered query.now (O.contents output.old) (O.contents output.new)) }
+    ensures well { IfOk result (λ status. status ≡ 0 → WasAnswered conf.now.kmod query.now (O.contents output.old) (O.contents output.new)) }
 {
     let mut states = States::new(host.alloc());
     if asks_states(query.ask) {
@@ -159,16 +159,16 @@ fn answer_from<S: System, O: Write, E: Write>(
 /// Returns the status.
 fn answer_in<S: System, O: Write, E: Write>(
     host: &Host<'_, S>,
-    configurations: &[&[u8]],
+    asked: &Asked<'_>,
     directory: &[u8],
     query: &Query<'_>,
     output: &mut O,
     messages: &mut Messages<'_, E>,
 ) -> Result<u8, AllocError>
     ensures status { IfOk result (λ status. status ≤ 1) }
-    ensures well { IfOk result (λ status. status ≡ 0 → WasAnswered query.now (O.contents output.old) (O.contents output.new)) }
+    ensures well { IfOk result (λ status. status ≡ 0 → WasAnswered asked.now.kmod query.now (O.contents output.old) (O.contents output.new)) }
 {
-    let conf = read_configuration(host, directory, configurations, messages)?;
+    let conf = read_configuration(host, asked.kmod, directory, &asked.configurations, messages)?;
     let modules = read_modules(host, directory, messages)?;
     answer_from(host, &conf, &modules, directory, query, output, messages)
 }
@@ -182,20 +182,13 @@ pub(crate) fn answer_query<S: System, O: Write, E: Write>(
     messages: &mut Messages<'_, E>,
 ) -> Result<u8, AllocError>
     ensures status { IfOk result (λ status. status ≤ 1) }
-    ensures well { IfOk result (λ status. status ≡ 0 → WasAnswered query.now (O.contents output.old) (O.contents output.new)) }
+    ensures well { IfOk result (λ status. status ≡ 0 → WasAnswered asked.now.kmod query.now (O.contents output.old) (O.contents output.new)) }
 {
     if is_rootless(host, asked.root.unwrap_or(b""), messages)? {
         return Ok(1);
     }
     match directory(host, asked, messages)? {
-        Some(directory) => answer_in(
-            host,
-            &asked.configurations,
-            &directory,
-            query,
-            output,
-            messages,
-        ),
+        Some(directory) => answer_in(host, asked, &directory, query, output, messages),
         None => Ok(1),
     }
 }

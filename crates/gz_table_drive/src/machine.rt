@@ -5,6 +5,7 @@ ghost use Rattle.modprobe.specs.declared.section.Section.TheVariants as sections
 ghost use Rattle.modsh_drive.specs.Inputs.{section_text};
 ghost use Rattle.gz_table_drive.specs.Machine.{conf_section, machine_sections};
 
+use kmod_version::Kmod;
 use modprobe::Section;
 use modprobe_files::{
     ConfTexts, Disk, Host, TextFile, directory, is_rootless, read_configuration, read_later,
@@ -97,7 +98,7 @@ fn read_machine<R: Files + Env + AllocGlobal, E: Write>(
     Ok(Some(MachineTexts {
         dep: modules.dep,
         alias: later.alias.unwrap_or(Vec::new(host.alloc())),
-        configuration: read_configuration(host, &directory, &[], messages)?,
+        configuration: read_configuration(host, Kmod::Version30, &directory, &[], messages)?,
     }))
 }
 

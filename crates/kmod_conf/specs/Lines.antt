@@ -3,6 +3,8 @@ use Rattle.std.specs.Prelude.{ℕ, ◌+◌, nat_le, Bool, false, true, if◌then
 use Rattle.std.specs.List.{after_first, before_first}
 use Rattle.std.specs.Str.{bytes_eq}
 use Rattle.text_parts.specs.Text.{is_blank, words}
+use Rattle.kmod_version.specs.declared.kmod.Kmod.{Kmod}
+use Rattle.kmod_version.specs.Versions.{reads_end_as_byte}
 
 -- white space, as isspace(3) has it in the C locale
 abbrev pub is_space : ℕ → Bool
@@ -19,23 +21,29 @@ abbrev pub last_line : ℕ → ℕ → List ℕ → List Wrapped
 last_line first here [] = []
 last_line first here (byte ∷ front) = record { first = first; last = here; text = byte ∷ front } ∷ []
 
+-- a begun line at the end of the text, after a backslash or not
+abbrev pub with_end : Kmod → Bool → List ℕ → List ℕ
+with_end kmod is_escaped front = if is_escaped && reads_end_as_byte kmod then front ++ 255 ∷ [] else front
+
 -- The lines of a text after a begun one, whose first line has a number, from the number `here` of the line that is read.
 -- A backslash before a line's end joins two lines, and before another byte it is dropped; one that ends the text stands
--- for the byte 255.
-abbrev pub lines_from : ℕ → ℕ → List ℕ → Bool → List ℕ → List Wrapped
-lines_from first here front is_escaped [] = last_line first here (if is_escaped then front ++ 255 ∷ [] else front)
-lines_from first here front true (byte ∷ rest) =
-    if byte == 10 then lines_from first (here + 1) front false rest else lines_from first here (front ++ byte ∷ []) false rest
-lines_from first here front false (byte ∷ rest) =
-    if byte == 10 then record { first = first; last = here; text = front } ∷ lines_from (here + 1) (here + 1) [] false rest
-    else (if byte == 92 then lines_from first here front true rest else lines_from first here (front ++ byte ∷ []) false rest)
+-- for the byte 255, or for nothing.
+abbrev pub lines_from : Kmod → ℕ → ℕ → List ℕ → Bool → List ℕ → List Wrapped
+lines_from kmod first here front is_escaped [] = last_line first here (with_end kmod is_escaped front)
+lines_from kmod first here front true (byte ∷ rest) =
+    if byte == 10 then lines_from kmod first (here + 1) front false rest
+    else lines_from kmod first here (front ++ byte ∷ []) false rest
+lines_from kmod first here front false (byte ∷ rest) =
+    if byte == 10 then record { first = first; last = here; text = front } ∷ lines_from kmod (here + 1) (here + 1) [] false rest
+    else (if byte == 92 then lines_from kmod first here front true rest
+    else lines_from kmod first here (front ++ byte ∷ []) false rest)
 
 -- the lines of a text whose first line has a number
-abbrev pub lines_at : ℕ → List ℕ → List Wrapped
-lines_at number text = lines_from number number [] false text
+abbrev pub lines_at : Kmod → ℕ → List ℕ → List Wrapped
+lines_at kmod number text = lines_from kmod number number [] false text
 
-abbrev pub wrapped_lines : List ℕ → List Wrapped
-wrapped_lines text = lines_at 1 text
+abbrev pub wrapped_lines : Kmod → List ℕ → List Wrapped
+wrapped_lines kmod text = lines_at kmod 1 text
 
 -- what stands before the first NUL
 abbrev pub line_text : List ℕ → List ℕ
@@ -69,6 +77,10 @@ words_behind mark other within (w ∷ ws) =
     if bytes_eq w mark then words_behind mark other true ws
     else (if bytes_eq w other then words_behind mark other false ws
     else (if within then w ∷ words_behind mark other within ws else words_behind mark other within ws))
+
+-- the words of a weakdep line, between white space
+abbrev pub weak_words : List ℕ → List (List ℕ)
+weak_words text = words (map as_blank text)
 
 -- the words, between white space, after `pre:` and after `post:`
 abbrev pub soft_words : List ℕ → SoftWords

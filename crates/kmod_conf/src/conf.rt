@@ -5,11 +5,12 @@ ghost use Rattle.kmod_conf.specs.LookUps.{has_install_named, has_remove_named, i
 ghost use Rattle.kmod_conf.specs.LookUps.{options_of, remove_named, remove_of, softdep_of};
 
 use crate::entry::Entry;
-use crate::line::{NameLine, SoftdepLine, TextLine};
+use crate::line::{NameLine, SoftdepLine, TextLine, WeakdepLine};
 use crate::named_lines::NamedLines;
 use crate::pattern_lines::PatternLines;
 use crate::wrapped_lines::WrappedLines;
 use kmod_names::{AliasEntry, Place};
+use kmod_version::Kmod;
 use std::alloc::{AllocError, Global};
 use std::marker::Model;
 
@@ -22,6 +23,7 @@ pub struct Conf {
     installs: PatternLines<TextLine>,
     removes: PatternLines<TextLine>,
     softdeps: PatternLines<SoftdepLine>,
+    weakdeps: Vec<WeakdepLine>,
     bad: Vec<NameLine>,
 }
 
@@ -35,6 +37,7 @@ impl Drop for Conf {
             installs: _,
             removes: _,
             softdeps: _,
+            weakdeps: _,
             bad: _,
         } = self;
     }
@@ -52,6 +55,7 @@ impl Model for Conf {
       installs = c.installs;
       removes = c.removes;
       softdeps = c.softdeps;
+      weakdeps = c.weakdeps.items;
       bad = c.bad.items;
     } };
 }
@@ -68,6 +72,7 @@ impl Conf {
             installs: PatternLines::new(alloc),
             removes: PatternLines::new(alloc),
             softdeps: PatternLines::new(alloc),
+            weakdeps: Vec::new(alloc),
             bad: Vec::new(alloc),
         }
     }
@@ -82,6 +87,10 @@ impl Conf {
             Entry::Install(line) => self.installs.push(alloc, line),
             Entry::Remove(line) => self.removes.push(alloc, line),
             Entry::Softdep(line) => self.softdeps.push(alloc, line),
+            Entry::Weakdep(line) => {
+                self.weakdeps.push(line)?;
+                Ok(())
+            }
             Entry::Bad(line) => {
                 self.bad.push(line)?;
                 Ok(())
@@ -89,13 +98,19 @@ impl Conf {
         }
     }
 
-    /// Adds what the lines of a text of modprobe.d say (modprobe.d(5)), after what is there; `source` is kept in
-    /// their places. It fails only if memory runs out, and then some of the lines may be there.
+    /// Adds what the lines of a text of modprobe.d say (modprobe.d(5)) as this version of kmod reads them, after what is
+    /// there; `source` is kept in their places. It fails only if memory runs out, and then some of the lines may be there.
     #[tactic(auto, unfolding(crate::specs::Configuration::conf_with_text))]
-    pub fn add_text(&mut self, alloc: Global, source: usize, text: &[u8]) -> Result<(), AllocError>
-        ensures { OnOk result (self.new ≡ conf_with_text self.old source text.now) }
+    pub fn add_text(
+        &mut self,
+        alloc: Global,
+        kmod: Kmod,
+        source: usize,
+        text: &[u8],
+    ) -> Result<(), AllocError>
+        ensures { OnOk result (self.new ≡ conf_with_text kmod self.old source text.now) }
     {
-        let mut lines = WrappedLines::new(text);
+        let mut lines = WrappedLines::new(kmod, text);
         let mut line = Vec::new(alloc);
         'lines: while let Some(numbers) = lines.next_line(&mut line)? {
             let place = Place {
@@ -106,7 +121,7 @@ impl Conf {
                 source,
                 line: numbers.last,
             };
-            if let Some(entry) = Entry::read(alloc, &line, place, end)? {
+            if let Some(entry) = Entry::read(alloc, kmod, &line, place, end)? {
                 self.add_entry(alloc, entry)?;
             }
         }
@@ -148,6 +163,12 @@ impl Conf {
         ensures { result.now ≡ self.now.softdeps }
     {
         self.softdeps.lines()
+    }
+
+    pub fn weakdeps(&self) -> &[WeakdepLine]
+        ensures { result.now ≡ self.now.weakdeps }
+    {
+        &self.weakdeps
     }
 
     /// The bad lines, each with its first word, and the place of the last of the lines that are joined in it.

@@ -1,12 +1,13 @@
 //! What one line says.
 ghost use Rattle.std.specs.Prelude.{◌≡◌, map, IfOk};
-ghost use Rattle.kmod_conf.specs.Configuration.{alias_entry, blacklist_entry, known_entry, line_entry};
+ghost use Rattle.kmod_conf.specs.Configuration.{alias_entry, blacklist_entry, known_entry, line_entry, weakdep_entry};
 ghost use Rattle.kmod_conf.specs.Configuration.{name_of_word, options_entry, softdep_entry, text_line, untabbed};
 
 use crate::bytes::{cut_word, line_text};
-use crate::line::{NameLine, SoftdepLine, TextLine};
-use crate::softdep::SoftItems;
+use crate::line::{NameLine, SoftdepLine, TextLine, WeakdepLine};
+use crate::softdep::{SoftItems, WeakItems};
 use kmod_names::{AliasEntry, Place, Text, normal_alias};
+use kmod_version::Kmod;
 use std::alloc::{AllocError, Global};
 use text_parts::{is_comment, is_same};
 
@@ -19,6 +20,7 @@ pub(crate) enum Entry {
     Install(TextLine),
     Remove(TextLine),
     Softdep(SoftdepLine),
+    Weakdep(WeakdepLine),
     Bad(NameLine),
 }
 
@@ -118,14 +120,29 @@ fn read_softdep(alloc: Global, text: &[u8], place: Place) -> Result<Option<Entry
     })))
 }
 
+fn read_weakdep(alloc: Global, text: &[u8], place: Place) -> Result<Option<Entry>, AllocError>
+    ensures { IfOk result (λ entry. entry ≡ weakdep_entry place text.now) }
+{
+    let Some(line) = read_text_line(alloc, text, place)? else {
+        return Ok(None);
+    };
+    let items = WeakItems::read(alloc, line.text.as_bytes())?;
+    Ok(Some(Entry::Weakdep(WeakdepLine {
+        name: line.name,
+        items,
+        place: line.place,
+    })))
+}
+
 /// What a line with this first word and this text after it says, None if it is bad.
 fn read_known(
     alloc: Global,
+    kmod: Kmod,
     word: &[u8],
     text: &[u8],
     place: Place,
 ) -> Result<Option<Entry>, AllocError>
-    ensures { IfOk result (λ entry. entry ≡ known_entry place word.now text.now) }
+    ensures { IfOk result (λ entry. entry ≡ known_entry kmod place word.now text.now) }
 {
     if is_same(word, b"alias") {
         read_alias(alloc, text, place)
@@ -139,6 +156,8 @@ fn read_known(
         Ok(read_text_line(alloc, text, place)?.map(Entry::Remove))
     } else if is_same(word, b"softdep") {
         read_softdep(alloc, text, place)
+    } else if is_same(word, b"weakdep") && kmod.knows_weakdeps() {
+        read_weakdep(alloc, text, place)
     } else {
         Ok(None)
     }
@@ -148,11 +167,12 @@ impl Entry {
     /// What a line says, None if it is a comment or has no word. A bad line is reported by its end, as kmod does.
     pub(crate) fn read(
         alloc: Global,
+        kmod: Kmod,
         line: &[u8],
         place: Place,
         end: Place,
     ) -> Result<Option<Entry>, AllocError>
-        ensures { IfOk result (λ entry. entry ≡ line_entry place end line.now) }
+        ensures { IfOk result (λ entry. entry ≡ line_entry kmod place end line.now) }
     {
         let text = line_text(line);
         if is_comment(text) {
@@ -162,7 +182,7 @@ impl Entry {
         if word.is_empty() {
             return Ok(None);
         }
-        if let Some(entry) = read_known(alloc, word, rest, place)? {
+        if let Some(entry) = read_known(alloc, kmod, word, rest, place)? {
             return Ok(Some(entry));
         }
         let name = Text::new(alloc, word)?;

@@ -13,5 +13,5 @@ mod softdep;
 mod wrapped_lines;
 
 pub use conf::Conf;
-pub use line::{NameLine, SoftdepLine, TextLine};
-pub use softdep::SoftItems;
+pub use line::{NameLine, SoftdepLine, TextLine, WeakdepLine};
+pub use softdep::{SoftItems, WeakItems};

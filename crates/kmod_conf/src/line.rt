@@ -1,7 +1,7 @@
 //! What lines say, with their places.
 ghost use Rattle.std.specs.Prelude.{◌≡◌, ℕ, List};
 
-use crate::softdep::SoftItems;
+use crate::softdep::{SoftItems, WeakItems};
 use kmod_names::{AliasEntry, Place, Text};
 
 /// A name, as a blacklist line has it; or the first word of a bad line, and the place of its end.
@@ -24,6 +24,14 @@ pub struct TextLine {
 pub struct SoftdepLine {
     pub name: Text,
     pub items: SoftItems,
+    pub place: Place,
+}
+
+/// A name, and what may be used while it is loaded, in the order of the line.
+#[derive(Drop)]
+pub struct WeakdepLine {
+    pub name: Text,
+    pub items: WeakItems,
     pub place: Place,
 }
 

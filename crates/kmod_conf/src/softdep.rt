@@ -1,8 +1,8 @@
-//! The words of a softdep line.
+//! The words of softdep and weakdep lines.
 ghost use Rattle.std.specs.Prelude.{◌≡◌, if◌then◌else◌, IfOk, map, true, false, Some, None};
 ghost use Rattle.std.specs.Str.{bytes_eq};
 ghost use Rattle.text_parts.specs.Text.{texts_of};
-ghost use Rattle.kmod_conf.specs.Lines.{as_blank, soft_words, words_behind};
+ghost use Rattle.kmod_conf.specs.Lines.{as_blank, soft_words, weak_words, words_behind};
 
 use crate::bytes::is_space;
 use kmod_names::Text;
@@ -23,6 +23,20 @@ impl Model for SoftItems {
     ghost Value = { SoftWords };
 
     ghost view = { λ s. record { pre = s.pre.items; post = s.post.items } };
+}
+
+/// What a weakdep line names, as it stands: the words between white space.
+#[derive(Drop)]
+pub struct WeakItems {
+    words: Vec<Text>,
+}
+
+impl Model for WeakItems {
+    ghost use Rattle.std.specs.Prelude.{ℕ, List};
+
+    ghost Value = { List (List ℕ) };
+
+    ghost view = { λ w. w.words.items };
 }
 
 /// Whether the word is one of the two marks, and then whether words after it count.
@@ -69,6 +83,34 @@ fn with_blanks(alloc: Global, text: &[u8]) -> Result<Vec<u8>, AllocError>
     ensures { IfOk result (λ spaced. spaced.items ≡ map as_blank text.now) }
 {
     text.iter().map(|byte| as_blank(*byte)).collect(alloc)
+}
+
+/// Texts of these bytes.
+fn own_texts(alloc: Global, words: &[&[u8]]) -> Result<Vec<Text>, AllocError>
+    ensures { IfOk result (λ texts. texts.items ≡ texts_of words.now) }
+{
+    let mut texts = Vec::new(alloc);
+    for word in words {
+        texts.push(Text::new(alloc, word)?)?;
+    }
+    Ok(texts)
+}
+
+impl WeakItems {
+    pub(crate) fn read(alloc: Global, text: &[u8]) -> Result<WeakItems, AllocError>
+        ensures { IfOk result (λ items. items ≡ weak_words text.now) }
+    {
+        let spaced = with_blanks(alloc, text)?;
+        let words = own_texts(alloc, &words(alloc, &spaced)?)?;
+        Ok(WeakItems { words })
+    }
+
+    /// The words, in the order of the line.
+    pub fn words(&self) -> &[Text]
+        ensures { result.now ≡ self.now }
+    {
+        &self.words
+    }
 }
 
 impl SoftItems {

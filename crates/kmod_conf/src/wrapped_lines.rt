@@ -3,6 +3,7 @@ ghost use Rattle.std.specs.Prelude.{◌≡◌, ◌∷◌, [], IfOk, MatchOption}
 ghost use Rattle.kmod_conf.specs.Lines.{wrapped_lines};
 ghost use Rattle.kmod_conf.specs.Wrapping.{wrapped};
 
+use kmod_version::Kmod;
 use std::alloc::AllocError;
 use std::marker::Model;
 
@@ -16,6 +17,7 @@ pub(crate) struct Numbers {
 /// The lines of a text that are left.
 #[derive(Drop)]
 pub(crate) struct WrappedLines<'a> {
+    kmod: Kmod,
     rest: &'a [u8],
     number: usize,
 }
@@ -26,16 +28,17 @@ impl<'a> Model for WrappedLines<'a> {
 
     ghost Value = { List Wrapped };
 
-    ghost view = { λ w. lines_at w.number w.rest.now };
+    ghost view = { λ w. lines_at w.kmod w.number w.rest.now };
 
     ghost invariant = { λ w. w.number + length w.rest.now < 2 ^ 64 };
 }
 
 impl<'a> WrappedLines<'a> {
-    pub(crate) fn new(text: &'a [u8]) -> WrappedLines<'a>
-        ensures { result ≡ wrapped_lines text.now }
+    pub(crate) fn new(kmod: Kmod, text: &'a [u8]) -> WrappedLines<'a>
+        ensures { result ≡ wrapped_lines kmod text.now }
     {
         WrappedLines {
+            kmod,
             rest: text,
             number: 1,
         }
@@ -66,7 +69,7 @@ impl<'a> WrappedLines<'a> {
                 is_escaped = false;
             }
         }
-        if is_escaped {
+        if is_escaped && self.kmod.reads_end_as_byte() {
             line.push(255)?;
         }
         let last = self.number;

@@ -5,6 +5,7 @@ use Rattle.kmod_names.specs.declared.alias_table.AliasEntry.{AliasEntry}
 use Rattle.kmod_conf.specs.declared.line.NameLine.{NameLine}
 use Rattle.kmod_conf.specs.declared.line.SoftdepLine.{SoftdepLine}
 use Rattle.kmod_conf.specs.declared.line.TextLine.{TextLine}
+use Rattle.kmod_conf.specs.declared.line.WeakdepLine.{WeakdepLine}
 use Rattle.std.specs.BTreeMap.{insert_entry, is_at}
 use Rattle.std.specs.Map.{lookup, remove_entry}
 use Rattle.std.specs.Cmp.Lexicographic.{slice_cmp}
@@ -41,6 +42,13 @@ abbrev pub softdep_line : SoftdepLine → List ℕ
 softdep_line own =
     line (codes "softdep ") own.name (soft_items (marked (codes "pre:") own.items.pre) (marked (codes "post:") own.items.post))
 
+-- words with a blank between each two
+abbrev pub joined_words : List (List ℕ) → List ℕ
+joined_words words = fold joined [] words
+
+abbrev pub weakdep_line : WeakdepLine → List ℕ
+weakdep_line own = line (codes "weakdep ") own.name (joined_words own.items)
+
 -- the lines of the configuration, kind by kind
 abbrev pub shown_configuration : Configuration → List ℕ
 shown_configuration conf =
@@ -50,6 +58,7 @@ shown_configuration conf =
     ++ flat_map alias_line conf.aliases
     ++ flat_map (text_line (codes "options ")) conf.options
     ++ flat_map softdep_line conf.softdeps
+    ++ flat_map weakdep_line conf.weakdeps
 
 -- the lines of an index by their keys, each key with the text of its lines
 abbrev pub GroupList : Type 0

@@ -1,13 +1,13 @@
 //! What `--showconfig` tells.
 ghost use Rattle.std.specs.Prelude.{◌≡◌, ◌++◌, IfOk, OnOk};
 ghost use Rattle.std.specs.List.{flat_map};
-ghost use Rattle.kmod_query.specs.Shown.{alias_line, blacklist_line, marked};
+ghost use Rattle.kmod_query.specs.Shown.{alias_line, blacklist_line, joined_words, marked, weakdep_line};
 ghost use Rattle.kmod_query.specs.Shown.{shown, shown_configuration, softdep_line, spaced, text_line};
 
 use crate::groups::push_index;
 use crate::lines::{push_line, push_name};
 use crate::parameters::push_joined;
-use kmod_conf::{Conf, NameLine, SoftdepLine, TextLine};
+use kmod_conf::{Conf, NameLine, SoftdepLine, TextLine, WeakdepLine};
 use kmod_index::Index;
 use kmod_names::{AliasEntry, Text};
 use std::alloc::{AllocError, Global};
@@ -87,6 +87,27 @@ fn push_softdeps(alloc: Global, lines: &mut Vec<u8>, all: &[SoftdepLine]) -> Res
     Ok(())
 }
 
+/// Words with a blank between each two.
+fn joined_words(alloc: Global, words: &[Text]) -> Result<Vec<u8>, AllocError>
+    ensures { IfOk result (λ text. text.items ≡ joined_words words.now) }
+{
+    let mut text = Vec::new(alloc);
+    'words: for word in words {
+        push_joined(&mut text, word.as_bytes())?;
+    }
+    Ok(text)
+}
+
+fn push_weakdeps(alloc: Global, lines: &mut Vec<u8>, all: &[WeakdepLine]) -> Result<(), AllocError>
+    ensures { OnOk result (lines.new.items ≡ lines.old.items ++ flat_map weakdep_line all.now) }
+{
+    'all: for own in all {
+        let items = joined_words(alloc, own.items.words())?;
+        push_line(lines, b"weakdep ", own.name.as_bytes(), &items)?;
+    }
+    Ok(())
+}
+
 /// Adds the lines of the configuration, kind by kind.
 fn push_configuration(alloc: Global, lines: &mut Vec<u8>, conf: &Conf) -> Result<(), AllocError>
     ensures { OnOk result (lines.new.items ≡ lines.old.items ++ shown_configuration conf.now) }
@@ -96,7 +117,8 @@ fn push_configuration(alloc: Global, lines: &mut Vec<u8>, conf: &Conf) -> Result
     push_texts(lines, b"remove ", conf.removes())?;
     push_aliases(lines, conf.aliases())?;
     push_texts(lines, b"options ", conf.options())?;
-    push_softdeps(alloc, lines, conf.softdeps())
+    push_softdeps(alloc, lines, conf.softdeps())?;
+    push_weakdeps(alloc, lines, conf.weakdeps())
 }
 
 /// The configuration, the lines of modules.alias, and those of modules.symbols.

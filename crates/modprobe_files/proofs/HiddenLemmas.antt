@@ -8,6 +8,7 @@ use Rattle.std.proofs.lemmas.List.Elements.{filter-append}
 use Rattle.std.proofs.lemmas.List.Folds.{list_any-append}
 use Rattle.std.proofs.lemmas.List.Sums.{fold-append}
 use Rattle.std.proofs.lemmas.Slice.Eq.{bytes_eq-Decides}
+use Rattle.kmod_version.specs.declared.kmod.Kmod.{Kmod}
 use Rattle.modprobe_files.specs.Files.{File, Source, candidates, counted, counted_files, file_in, folder, has_name, in_order, is_before, is_named, is_read, with_file}
 
 -- ---- lists
@@ -83,41 +84,41 @@ hidden-file before after file h =
     same = ap (λ b. cond b (counted before) (in_order (counted before) file)) (all_added [] before file.name h)
 
 -- the files of a folder's names
-abbrev files_in : List ℕ → List (List ℕ) → List File
-files_in path names = map (file_in path) (filter is_read names)
+abbrev files_in : Kmod → List ℕ → List (List ℕ) → List File
+files_in kmod path names = map (file_in path) (filter (is_read kmod) names)
 
-files_in-append : (path : List ℕ) (names others : List (List ℕ)) → files_in path (names ++ others) ≡ files_in path names ++ files_in path others
-files_in-append path names others =
-    ap (map (file_in path)) (filter-append is_read names others) ∙ map-append (file_in path) (filter is_read names) (filter is_read others)
+files_in-append : (kmod : Kmod) (path : List ℕ) (names others : List (List ℕ)) → files_in kmod path (names ++ others) ≡ files_in kmod path names ++ files_in kmod path others
+files_in-append kmod path names others =
+    ap (map (file_in path)) (filter-append (is_read kmod) names others) ∙ map-append (file_in path) (filter (is_read kmod) names) (filter (is_read kmod) others)
 
 regroup : (before names some after : List File) → before ++ ((names ++ some) ++ after) ≡ (before ++ names) ++ (some ++ after)
 regroup before names some after = ap (λ l. before ++ l) (append_assoc names some after) ∙ sym (append_assoc before names (some ++ after))
 
 -- what counts of a folder between other sources, by the files that it adds
-counted-folder : (before after : List Source) (path : List ℕ) (names others : List (List ℕ))
-    → counted_files (before ++ folder path (names ++ others) ∷ after)
-    ≡ counted ((flat_map candidates before ++ files_in path names) ++ (files_in path others ++ flat_map candidates after))
-counted-folder before after path names others =
-    ap counted (flat_map-append candidates before (folder path (names ++ others) ∷ after))
-    ∙ ap (λ files. counted (flat_map candidates before ++ (files ++ flat_map candidates after))) (files_in-append path names others)
-    ∙ ap counted (regroup (flat_map candidates before) (files_in path names) (files_in path others) (flat_map candidates after))
+counted-folder : (kmod : Kmod) (before after : List Source) (path : List ℕ) (names others : List (List ℕ))
+    → counted_files kmod (before ++ folder path (names ++ others) ∷ after)
+    ≡ counted ((flat_map (candidates kmod) before ++ files_in kmod path names) ++ (files_in kmod path others ++ flat_map (candidates kmod) after))
+counted-folder kmod before after path names others =
+    ap counted (flat_map-append (candidates kmod) before (folder path (names ++ others) ∷ after))
+    ∙ ap (λ files. counted (flat_map (candidates kmod) before ++ (files ++ flat_map (candidates kmod) after))) (files_in-append kmod path names others)
+    ∙ ap counted (regroup (flat_map (candidates kmod) before) (files_in kmod path names) (files_in kmod path others) (flat_map (candidates kmod) after))
 
-pub hidden-name : (before after : List Source) (path name : List ℕ) (names others : List (List ℕ))
-    → has_name (flat_map candidates before) name ≡ true
-    → counted_files (before ++ folder path (names ++ name ∷ others) ∷ after) ≡ counted_files (before ++ folder path (names ++ others) ∷ after)
-hidden-name before after path name names others h =
-    counted-folder before after path names (name ∷ others) ∙ at (is_read name) ∙ sym (counted-folder before after path names others)
+pub hidden-name : (kmod : Kmod) (before after : List Source) (path name : List ℕ) (names others : List (List ℕ))
+    → has_name (flat_map (candidates kmod) before) name ≡ true
+    → counted_files kmod (before ++ folder path (names ++ name ∷ others) ∷ after) ≡ counted_files kmod (before ++ folder path (names ++ others) ∷ after)
+hidden-name kmod before after path name names others h =
+    counted-folder kmod before after path names (name ∷ others) ∙ at (is_read kmod name) ∙ sym (counted-folder kmod before after path names others)
   where
     earlier : List File
-    earlier = flat_map candidates before ++ files_in path names
+    earlier = flat_map (candidates kmod) before ++ files_in kmod path names
 
     is_there : has_name earlier name ≡ true
     is_there =
-        list_any-append (is_named name) (flat_map candidates before) (files_in path names)
-        ∙ ap (λ b. b || has_name (files_in path names) name) h
+        list_any-append (is_named name) (flat_map (candidates kmod) before) (files_in kmod path names)
+        ∙ ap (λ b. b || has_name (files_in kmod path names) name) h
 
     at : (b : Bool)
-        → counted (earlier ++ (map (file_in path) (cond b (name ∷ filter is_read others) (filter is_read others)) ++ flat_map candidates after))
-        ≡ counted (earlier ++ (files_in path others ++ flat_map candidates after))
-    at true = hidden-file earlier (files_in path others ++ flat_map candidates after) (file_in path name) is_there
+        → counted (earlier ++ (map (file_in path) (cond b (name ∷ filter (is_read kmod) others) (filter (is_read kmod) others)) ++ flat_map (candidates kmod) after))
+        ≡ counted (earlier ++ (files_in kmod path others ++ flat_map (candidates kmod) after))
+    at true = hidden-file earlier (files_in kmod path others ++ flat_map (candidates kmod) after) (file_in path name) is_there
     at false = refl

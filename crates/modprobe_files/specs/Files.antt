@@ -5,6 +5,8 @@ use Rattle.std.specs.Ordering.{is_lt, nat_cmp}
 use Rattle.std.specs.List.{flat_map, list_any, position_or_len, starts_with}
 use Rattle.std.specs.Str.{bytes_eq}
 use Rattle.program_frame.specs.Folders.{counts}
+use Rattle.kmod_version.specs.declared.kmod.Kmod.{Kmod}
+use Rattle.kmod_version.specs.Versions.{reads_alias_files}
 use Rattle.modprobe_files.specs.declared.files.File.{File as CodeFile}
 use Rattle.modprobe_files.specs.declared.files.Source.{Source as CodeSource}
 use Rattle.modprobe_files.specs.declared.files.Source.TheVariants as code_source
@@ -20,25 +22,30 @@ pub data Source : Type 0 where
   single : List ℕ → List ℕ → Source
   folder : List ℕ → List (List ℕ) → Source
 
+-- a file of a folder, as a source of its own
+abbrev pub single_in : List ℕ → List ℕ → Source
+single_in path name = single name (path ++ (47 ∷ name))
+
 -- where a source lies
 abbrev pub path_of : Source → List ℕ
 path_of (single name path) = path
 path_of (folder path names) = path
 
--- libkmod reads these too, of which modprobe.d(5) does not speak
+-- files of which modprobe.d(5) does not speak
 abbrev pub is_alias_file : List ℕ → Bool
 is_alias_file name =
     not (starts_with nat_eq name (codes ".")) && nat_lt 6 (length name) && bytes_eq (drop (length name - 6) name) (codes ".alias")
 
-abbrev pub is_read : List ℕ → Bool
-is_read name = counts name || is_alias_file name
+-- some kmod reads those too
+abbrev pub is_read : Kmod → List ℕ → Bool
+is_read kmod name = counts name || (reads_alias_files kmod && is_alias_file name)
 
 abbrev pub file_in : List ℕ → List ℕ → File
 file_in path name = record { name = name; path = path ++ (47 ∷ name) }
 
-abbrev pub candidates : Source → List File
-candidates (single name path) = record { name = name; path = path } ∷ []
-candidates (folder path names) = map (file_in path) (filter is_read names)
+abbrev pub candidates : Kmod → Source → List File
+candidates kmod (single name path) = record { name = name; path = path } ∷ []
+candidates kmod (folder path names) = map (file_in path) (filter (is_read kmod) names)
 
 abbrev pub is_named : List ℕ → File → Bool
 is_named name file = bytes_eq file.name name
@@ -63,8 +70,8 @@ abbrev pub counted : List File → List File
 counted files = fold with_file [] files
 
 -- the same of sources
-abbrev pub counted_files : List Source → List File
-counted_files sources = counted (flat_map candidates sources)
+abbrev pub counted_files : Kmod → List Source → List File
+counted_files kmod sources = counted (flat_map (candidates kmod) sources)
 
 -- how contracts see the code's
 abbrev pub file_of : CodeFile → File

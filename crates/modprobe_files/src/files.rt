@@ -5,6 +5,7 @@ ghost use Rattle.modprobe_words.specs.Variable.{bytes_of};
 ghost use Rattle.modprobe_files.specs.Files.{candidates, counted_files, file_in, file_of, files_of, folder, has_name, is_alias_file, is_before, is_read, source_of, sources_of, with_file};
 
 use crate::host::joined;
+use kmod_version::Kmod;
 use program_frame::counts;
 use std::alloc::{AllocError, Global};
 use text_parts::is_same;
@@ -26,7 +27,7 @@ pub enum Source {
 }
 
 /// Whether a name of a folder ends in `.alias`, has a byte before that, and is not hidden. modprobe.d(5) does not speak of
-/// such files, and libkmod reads them.
+/// such files.
 fn is_alias_file(name: &[u8]) -> bool
     ensures { result ≡ is_alias_file name.now }
 {
@@ -34,10 +35,10 @@ fn is_alias_file(name: &[u8]) -> bool
 }
 
 /// Whether a name of a folder is that of a file which is read.
-pub(crate) fn is_read(name: &[u8]) -> bool
-    ensures { result ≡ is_read name.now }
+pub(crate) fn is_read(kmod: Kmod, name: &[u8]) -> bool
+    ensures { result ≡ is_read kmod name.now }
 {
-    counts(name) || is_alias_file(name)
+    counts(name) || kmod.reads_alias_files() && is_alias_file(name)
 }
 
 /// Whether a name stands before another, by their bytes.
@@ -75,7 +76,7 @@ fn add_file(files: &mut Vec<File>, file: File) -> Result<(), AllocError>
 }
 
 /// The file of a name in a folder.
-pub(crate) fn file_in(alloc: Global, path: &[u8], name: &[u8]) -> Result<File, AllocError>
+fn file_in(alloc: Global, path: &[u8], name: &[u8]) -> Result<File, AllocError>
     ensures { IfOk result (λ file. file_of file ≡ file_in path.now name.now) }
 {
     Ok(File {
@@ -87,14 +88,15 @@ pub(crate) fn file_in(alloc: Global, path: &[u8], name: &[u8]) -> Result<File, A
 /// Adds the files of a folder.
 fn add_folder(
     alloc: Global,
+    kmod: Kmod,
     files: &mut Vec<File>,
     path: &[u8],
     names: &[Vec<u8>],
 ) -> Result<(), AllocError>
-    ensures { OnOk result (files_of files.new.items ≡ fold with_file (files_of files.old.items) (candidates (folder path.now (bytes_of names.now)))) }
+    ensures { OnOk result (files_of files.new.items ≡ fold with_file (files_of files.old.items) (candidates kmod (folder path.now (bytes_of names.now)))) }
 {
     for name in names {
-        if is_read(name) {
+        if is_read(kmod, name) {
             add_file(files, file_in(alloc, path, name)?)?;
         }
     }
@@ -102,8 +104,13 @@ fn add_folder(
 }
 
 /// Adds the files of a source.
-fn add_source(alloc: Global, files: &mut Vec<File>, source: &Source) -> Result<(), AllocError>
-    ensures { OnOk result (files_of files.new.items ≡ fold with_file (files_of files.old.items) (candidates (source_of source.now))) }
+fn add_source(
+    alloc: Global,
+    kmod: Kmod,
+    files: &mut Vec<File>,
+    source: &Source,
+) -> Result<(), AllocError>
+    ensures { OnOk result (files_of files.new.items ≡ fold with_file (files_of files.old.items) (candidates kmod (source_of source.now))) }
 {
     match source {
         Source::Single(name, path) => {
@@ -113,18 +120,18 @@ fn add_source(alloc: Global, files: &mut Vec<File>, source: &Source) -> Result<(
             };
             add_file(files, file)
         }
-        Source::Folder(path, names) => add_folder(alloc, files, path, names),
+        Source::Folder(path, names) => add_folder(alloc, kmod, files, path, names),
     }
 }
 
-/// The files that count, in the order in which they are read: of files of one name that of the first source, sorted by
-/// the bytes of names. It fails only out of memory.
-pub fn counted_files(alloc: Global, sources: &[Source]) -> Result<Vec<File>, AllocError>
-    ensures { IfOk result (λ files. files_of files.items ≡ counted_files (sources_of sources.now)) }
+/// The files that count for this version of kmod, in the order in which they are read: of files of one name that of the
+/// first source, sorted by the bytes of names. It fails only out of memory.
+pub fn counted_files(alloc: Global, kmod: Kmod, sources: &[Source]) -> Result<Vec<File>, AllocError>
+    ensures { IfOk result (λ files. files_of files.items ≡ counted_files kmod (sources_of sources.now)) }
 {
     let mut files = Vec::new(alloc);
     for source in sources {
-        add_source(alloc, &mut files, source)?;
+        add_source(alloc, kmod, &mut files, source)?;
     }
     Ok(files)
 }

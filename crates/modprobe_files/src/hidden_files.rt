@@ -2,7 +2,9 @@
 
 use crate::files::{File, Source, is_read};
 use crate::host::joined;
+use crate::sources::{LIB, USR_LIB};
 use crate::texts::HiddenFile;
+use kmod_version::Kmod;
 use std::alloc::{AllocError, Global};
 use text_parts::is_same;
 
@@ -27,13 +29,14 @@ fn add_file(
 
 fn add_folder(
     alloc: Global,
+    kmod: Kmod,
     hidden: &mut Vec<HiddenFile>,
     files: &[File],
     folder: &[u8],
     names: &[Vec<u8>],
 ) -> Result<(), AllocError> {
     for name in names {
-        if is_read(name) {
+        if is_read(kmod, name) {
             let path = joined(alloc, folder, b"/", name)?;
             add_file(alloc, hidden, files, name, &path)?;
         }
@@ -41,9 +44,27 @@ fn add_folder(
     Ok(())
 }
 
+/// Whether all of some names are among others.
+fn are_among(names: &[Vec<u8>], others: &[Vec<u8>]) -> bool {
+    names
+        .iter()
+        .all(|name| others.iter().any(|other| is_same(other, name)))
+}
+
+/// Whether a folder is taken for another one under a second path: /lib/modprobe.d with no name that /usr/lib/modprobe.d has
+/// not, as if /lib is a link to /usr/lib.
+fn is_second_path(sources: &[Source], folder: &[u8], names: &[Vec<u8>]) -> bool {
+    is_same(folder, LIB)
+        && sources.iter().any(|source| match source {
+            Source::Folder(path, others) => is_same(path, USR_LIB) && are_among(names, others),
+            Source::Single(_, _) => false,
+        })
+}
+
 /// The files of sources that are not among those that count. It fails only out of memory.
 pub(crate) fn hidden_files(
     alloc: Global,
+    kmod: Kmod,
     sources: &[Source],
     files: &[File],
 ) -> Result<Vec<HiddenFile>, AllocError> {
@@ -51,7 +72,10 @@ pub(crate) fn hidden_files(
     for source in sources {
         match source {
             Source::Single(name, path) => add_file(alloc, &mut hidden, files, name, path)?,
-            Source::Folder(path, names) => add_folder(alloc, &mut hidden, files, path, names)?,
+            Source::Folder(path, names) if is_second_path(sources, path, names) => {}
+            Source::Folder(path, names) => {
+                add_folder(alloc, kmod, &mut hidden, files, path, names)?;
+            }
         }
     }
     Ok(hidden)

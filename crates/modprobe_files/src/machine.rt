@@ -9,6 +9,7 @@ use crate::releases::release_there;
 use crate::sources::configuration_sources;
 use crate::system::System;
 use crate::texts::{COMMAND_LINE, ConfTexts, HiddenFile, LaterTexts, ModuleTexts, TextFile};
+use kmod_version::Kmod;
 use modprobe_words::{Asked, Level, Messages};
 use std::alloc::AllocError;
 use std::io::{ErrorKind, Write};
@@ -112,30 +113,35 @@ fn read_files<S: System, E: Write>(
 /// The files that count, and, if answers are explained, those that do not.
 fn chosen_files<S: System, E: Write>(
     host: &Host<'_, S>,
+    kmod: Kmod,
     directory: &[u8],
     paths: &[&[u8]],
     messages: &mut Messages<'_, E>,
 ) -> Result<(Vec<File>, Vec<HiddenFile>), AllocError> {
     let alloc = host.alloc();
-    let sources = configuration_sources(host, directory, paths, messages)?;
-    let files = counted_files(alloc, &sources)?;
+    let sources = configuration_sources(host, kmod, directory, paths, messages)?;
+    let files = counted_files(alloc, kmod, &sources)?;
     let hidden = if messages.explains {
-        hidden_files(alloc, &sources, &files)?
+        hidden_files(alloc, kmod, &sources, &files)?
     } else {
         Vec::new(alloc)
     };
     Ok((files, hidden))
 }
 
-/// The texts of the configuration: the files that count, and the kernel's command line.
+/// The texts of the configuration: the files that count for this version of kmod, and the kernel's command line.
 pub fn read_configuration<S: System, E: Write>(
     host: &Host<'_, S>,
+    kmod: Kmod,
     directory: &[u8],
     paths: &[&[u8]],
     messages: &mut Messages<'_, E>,
-) -> Result<ConfTexts, AllocError> {
-    let (files, hidden) = chosen_files(host, directory, paths, messages)?;
+) -> Result<ConfTexts, AllocError>
+    ensures { IfOk result (λ texts. texts.kmod ≡ kmod) }
+{
+    let (files, hidden) = chosen_files(host, kmod, directory, paths, messages)?;
     Ok(ConfTexts {
+        kmod,
         files: read_files(host, files, messages)?,
         command_line: text_of(host, COMMAND_LINE, messages)?,
         hidden,

@@ -1,30 +1,45 @@
 //! The files of the configuration, as they lie on the machine.
 ghost use Rattle.std.specs.Prelude.{◌≡◌, IfOk, IfSome};
 ghost use Rattle.text_parts.specs.Text.{texts_of};
-ghost use Rattle.modprobe_files.specs.Files.{path_of, source_of};
-ghost use Rattle.modprobe_files.specs.Folders.{paths_by_rank};
+ghost use Rattle.modprobe_files.specs.Files.{path_of, single_in, source_of, sources_of};
+ghost use Rattle.modprobe_files.specs.Folders.{own_sources, paths_by_rank};
 
 use crate::faults::reason;
-use crate::files::{File, Source, file_in, is_read};
+use crate::files::{Source, is_read};
 use crate::host::{Host, joined, last_name};
 use crate::system::{Kind, System};
+use kmod_version::Kmod;
 use modprobe_words::{Level, Messages};
-use std::alloc::AllocError;
+use std::alloc::{AllocError, Global};
 use std::io::{ErrorKind, Write};
 
+const ETC: &[u8] = b"/etc/modprobe.d";
+
+const RUN: &[u8] = b"/run/modprobe.d";
+
+const LOCAL: &[u8] = b"/usr/local/lib/modprobe.d";
+
+pub(crate) const USR_LIB: &[u8] = b"/usr/lib/modprobe.d";
+
+pub(crate) const LIB: &[u8] = b"/lib/modprobe.d";
+
 /// The folders of modprobe.d(5), by their rank.
-const FOLDERS: [&[u8]; 4] = [
-    b"/etc/modprobe.d",
-    b"/run/modprobe.d",
-    b"/usr/local/lib/modprobe.d",
-    b"/lib/modprobe.d",
-];
+const FOLDERS: [&[u8]; 4] = [ETC, RUN, LOCAL, LIB];
+
+/// The same, with the distribution's own.
+const FOLDERS_WITH_USR_LIB: [&[u8]; 5] = [ETC, RUN, LOCAL, USR_LIB, LIB];
 
 /// The paths of a configuration by their rank: those that were named, or the folders of modprobe.d(5).
-fn paths_by_rank<'a>(named: &'a [&'a [u8]]) -> &'a [&'a [u8]]
-    ensures { texts_of result.now ≡ paths_by_rank (texts_of named.entry.now) }
+fn paths_by_rank<'a>(kmod: Kmod, named: &'a [&'a [u8]]) -> &'a [&'a [u8]]
+    ensures { texts_of result.now ≡ paths_by_rank kmod (texts_of named.entry.now) }
 {
-    if named.is_empty() { &FOLDERS } else { named }
+    if !named.is_empty() {
+        named
+    } else if kmod.reads_usr_lib() {
+        &FOLDERS_WITH_USR_LIB
+    } else {
+        &FOLDERS
+    }
 }
 
 /// Whether a name of a folder is a folder itself, which is reported.
@@ -46,6 +61,7 @@ fn is_folder<S: System, E: Write>(
 /// The names of a folder that count and are no folders. A folder is reported.
 fn names_in<S: System, E: Write>(
     host: &Host<'_, S>,
+    kmod: Kmod,
     path: &[u8],
     messages: &mut Messages<'_, E>,
 ) -> Result<Vec<Vec<u8>>, AllocError> {
@@ -59,16 +75,38 @@ fn names_in<S: System, E: Write>(
     };
     let mut names = Vec::new(host.alloc());
     for name in all.into_iter() {
-        if is_read(&name) && !is_folder(host, path, &name, messages)? {
+        if is_read(kmod, &name) && !is_folder(host, path, &name, messages)? {
             names.push(name)?;
         }
     }
     Ok(names)
 }
 
+/// A file of a folder, as a source of its own.
+fn single_in(alloc: Global, path: &[u8], name: &[u8]) -> Result<Source, AllocError>
+    ensures { IfOk result (λ source. source_of source ≡ single_in path.now name.now) }
+{
+    let own = joined(alloc, path, b"/", name)?;
+    Ok(Source::Single(Vec::from_slice(alloc, name)?, own))
+}
+
+/// The files of the folder of modules that belong to the configuration: modules.softdep, and modules.weakdep if it is known.
+fn own_sources(alloc: Global, kmod: Kmod, directory: &[u8]) -> Result<Vec<Source>, AllocError>
+    ensures { IfOk result (λ sources. sources_of sources.items ≡ own_sources kmod directory.now) }
+{
+    let mut sources = Vec::new(alloc);
+    sources.push(single_in(alloc, directory, b"modules.softdep")?)?;
+    if !kmod.knows_weakdeps() {
+        return Ok(sources);
+    }
+    sources.push(single_in(alloc, directory, b"modules.weakdep")?)?;
+    Ok(sources)
+}
+
 /// The source of a path: a folder, a file, or nothing, which is reported of a path that was named.
 fn source_at<S: System, E: Write>(
     host: &Host<'_, S>,
+    kmod: Kmod,
     path: &[u8],
     is_named: bool,
     messages: &mut Messages<'_, E>,
@@ -85,7 +123,7 @@ fn source_at<S: System, E: Write>(
             return Ok(None);
         }
         Kind::Folder => {
-            let names = names_in(host, path, messages)?;
+            let names = names_in(host, kmod, path, messages)?;
             Source::Folder(Vec::from_slice(alloc, path)?, names)
         }
         Kind::File => {
@@ -96,20 +134,18 @@ fn source_at<S: System, E: Write>(
     Ok(Some(source))
 }
 
-/// The sources of the configuration by their rank: modules.softdep of the folder of modules, and these paths, or the
-/// folders of modprobe.d.
+/// The sources of the configuration by their rank: modules.softdep and modules.weakdep of the folder of modules, and these
+/// paths, or the folders of modprobe.d.
 pub(crate) fn configuration_sources<S: System, E: Write>(
     host: &Host<'_, S>,
+    kmod: Kmod,
     directory: &[u8],
     paths: &[&[u8]],
     messages: &mut Messages<'_, E>,
 ) -> Result<Vec<Source>, AllocError> {
-    let alloc = host.alloc();
-    let File { name, path } = file_in(alloc, directory, b"modules.softdep")?;
-    let mut sources = Vec::new(alloc);
-    sources.push(Source::Single(name, path))?;
-    for path in paths_by_rank(paths) {
-        if let Some(source) = source_at(host, *path, !paths.is_empty(), messages)? {
+    let mut sources = own_sources(host.alloc(), kmod, directory)?;
+    for path in paths_by_rank(kmod, paths) {
+        if let Some(source) = source_at(host, kmod, *path, !paths.is_empty(), messages)? {
             sources.push(source)?;
         }
     }

@@ -3,6 +3,7 @@ ghost use Rattle.std.specs.Prelude.{◌≡◌, IfOk};
 ghost use Rattle.text_parts.specs.Text.{texts_of};
 ghost use Rattle.modprobe_files.specs.Paths.{path_at, paths_of};
 
+use kmod_version::Kmod;
 use std::alloc::{AllocError, Global};
 
 /// Where the kernel keeps its command line.
@@ -24,6 +25,8 @@ pub struct HiddenFile {
 
 /// The texts of a configuration.
 pub struct ConfTexts {
+    /// The version of kmod for which they count, and that reads them.
+    pub kmod: Kmod,
     /// In the order in which they count.
     pub files: Vec<TextFile>,
     pub command_line: Option<Vec<u8>>,
@@ -35,6 +38,7 @@ pub struct ConfTexts {
 impl Drop for ConfTexts {
     fn drop(self) {
         let ConfTexts {
+            kmod: _,
             files: _,
             command_line: _,
             hidden: _,

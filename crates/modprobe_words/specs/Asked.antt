@@ -1,7 +1,10 @@
 -- What a command line asks for (modprobe(8)).
-use Rattle.std.specs.Prelude.{ℕ, ◌+◌, ◌-◌, ◌^◌, min, true, false, List, [], ◌∷◌, ◌++◌, fold, Option, Some, None, option_map}
+use Rattle.std.specs.Prelude.{ℕ, ◌+◌, ◌-◌, ◌^◌, min, true, false, List, [], ◌∷◌, ◌++◌, fold, Option, Some, None, option_map, unwrap_or}
 use Rattle.std.specs.Borrow.{Bor}
 use Rattle.text_parts.specs.Text.{texts_of}
+use Rattle.kmod_version.specs.declared.kmod.Kmod.{Kmod}
+use Rattle.kmod_version.specs.declared.kmod.Kmod.TheVariants.{Version34}
+use Rattle.kmod_version.specs.Versions.{kmod_of}
 use Rattle.modprobe_words.specs.declared.options.Switch.{Switch as SwitchOption}
 use Rattle.modprobe_words.specs.declared.options.Switch.TheVariants as switch
 use Rattle.modprobe_words.specs.declared.options.Valued.{Valued}
@@ -52,13 +55,14 @@ no_switch =
       verbosity = 4;
     }
 
--- options without values, each -C, the last -d, -S and --root, and the other words
+-- options without values, each -C, the last -d, -S, --root and --as, and the other words
 pub record Asked : Type 0 where
   pub switches : Switches
   pub configurations : List (List ℕ)
   pub directory : Option (List ℕ)
   pub release : Option (List ℕ)
   pub root : Option (List ℕ)
+  pub kmod : Kmod
   pub words : List (List ℕ)
 
 abbrev pub with_option : Asked → Valued → List ℕ → Asked
@@ -67,6 +71,7 @@ with_option a valued.Config text = record a { configurations = a.configurations 
 with_option a valued.Dirname text = record a { directory = Some text }
 with_option a valued.SetVersion text = record a { release = Some text }
 with_option a valued.Root text = record a { root = Some text }
+with_option a valued.As text = record a { kmod = unwrap_or (kmod_of text) a.kmod }
 
 abbrev pub with_item : Asked → Item → Asked
 with_item a (plain option) = record a { switches = with_switch a.switches option }
@@ -74,9 +79,18 @@ with_item a (with_value option text) = with_option a option text
 with_item a (operand word) = record a { words = a.words ++ word ∷ [] }
 with_item a (fault why) = a
 
+-- without --as the answers are those of kmod 34
 abbrev pub nothing_asked : Asked
 nothing_asked =
-    record { switches = no_switch; configurations = []; directory = None; release = None; root = None; words = [] }
+    record {
+      switches = no_switch;
+      configurations = [];
+      directory = None;
+      release = None;
+      root = None;
+      kmod = Version34;
+      words = [];
+    }
 
 -- what items ask for, one after another
 abbrev pub asked_by : List Item → Asked
@@ -94,5 +108,6 @@ asked_of a =
       directory = text_of a.directory;
       release = text_of a.release;
       root = text_of a.root;
+      kmod = a.kmod;
       words = texts_of a.words.items;
     }

@@ -1,6 +1,7 @@
 -- What ends a command line before a query is answered.
-use Rattle.std.specs.Prelude.{◌≡◌, ℕ, if◌then◌else◌, List, [], ◌∷◌, Option, Some, None}
+use Rattle.std.specs.Prelude.{◌≡◌, ℕ, if◌then◌else◌, List, [], ◌∷◌, Option, Some, None, is_some}
 use Rattle.std.specs.Io.KnownBytes.{Appends}
+use Rattle.kmod_version.specs.Versions.{kmod_of}
 use Rattle.modprobe_words.specs.declared.help.TheConstants.{HELP, VERSION}
 use Rattle.modprobe_words.specs.declared.options.Switch.TheVariants as switch
 use Rattle.modprobe_words.specs.declared.options.Valued.TheVariants as valued
@@ -9,11 +10,12 @@ use Rattle.modprobe_words.specs.declared.endings.Ending.TheVariants as code_endi
 use Rattle.modprobe_words.specs.Numbers.{is_number}
 use Rattle.modprobe_words.specs.Words.{Item, plain, with_value, operand, fault, Fault, fault_of}
 
--- the version or the help is asked for, `--wait` has no number, or the words are refused
+-- the version or the help is asked for, `--wait` has no number, `--as` no version that is known, or the words are refused
 pub data Ending : Type 0 where
   version : Ending
   help : Ending
   bad_wait : List ℕ → Ending
+  bad_kmod : List ℕ → Ending
   refused : Fault → Ending
 
 abbrev pub ending_of : Item → Option Ending
@@ -21,6 +23,7 @@ ending_of (plain switch.Version) = Some version
 ending_of (plain switch.Help) = Some help
 ending_of (plain _) = None
 ending_of (with_value valued.Wait text) = if is_number text then None else Some (bad_wait text)
+ending_of (with_value valued.As text) = if is_some (kmod_of text) then None else Some (bad_kmod text)
 ending_of (with_value _ text) = None
 ending_of (operand word) = None
 ending_of (fault why) = Some (refused why)
@@ -39,6 +42,7 @@ abbrev pub shown_by : Ending → Option (List ℕ)
 shown_by version = Some VERSION.now
 shown_by help = Some HELP.now
 shown_by (bad_wait text) = None
+shown_by (bad_kmod text) = None
 shown_by (refused why) = None
 
 -- the status if a text is to be shown is 0 only if it was written, and if there is none, it is 1
@@ -55,4 +59,5 @@ abbrev pub seen : CodeEnding → Ending
 seen code_ending.Version = version
 seen code_ending.Help = help
 seen (code_ending.BadWait text) = bad_wait text.now
+seen (code_ending.BadKmod text) = bad_kmod text.now
 seen (code_ending.Refused why) = refused (fault_of why)

@@ -1,5 +1,5 @@
--- The options of modprobe(8), and `--explain` and `--root`, which it has not.
-use Rattle.std.specs.Prelude.{ℕ, ◌+◌, ◌==◌, if◌then◌else◌, List, [], ◌∷◌, codes, Option, Some, None}
+-- The options of modprobe(8), and `--explain`, `--root` and `--as`, which it has not.
+use Rattle.std.specs.Prelude.{ℕ, Bool, true, false, ◌+◌, ◌==◌, if◌then◌else◌, List, [], ◌∷◌, codes, Option, Some, None}
 use Rattle.modprobe_words.specs.declared.options.Switch.{Switch}
 use Rattle.modprobe_words.specs.declared.options.Switch.TheVariants as switch
 use Rattle.modprobe_words.specs.declared.options.Valued.{Valued}
@@ -7,7 +7,7 @@ use Rattle.modprobe_words.specs.declared.options.Valued.TheVariants as valued
 use Rattle.modprobe_words.specs.declared.options.Meaning.{Meaning}
 use Rattle.modprobe_words.specs.declared.options.Meaning.TheVariants.{Plain, WithValue}
 use Rattle.modprobe_words.specs.declared.options.LongOption.{LongOption}
-use Rattle.modprobe_words.specs.declared.options.LongOption.TheVariants.{AllWord, RemoveWord, RemoveDependenciesWord, RemoveHoldersWord, WaitWord, ResolveAliasWord, FirstTimeWord, IgnoreInstallWord, IgnoreRemoveWord, UseBlacklistWord, ForceWord, ForceModversionWord, ForceVermagicWord, ShowDependsWord, ShowconfigWord, ShowConfigWord, ShowModversionsWord, DumpModversionsWord, ShowExportsWord, DryRunWord, ShowWord, ConfigWord, DirnameWord, SetVersionWord, SyslogWord, QuietWord, VerboseWord, VersionWord, HelpWord, ExplainWord, RootWord}
+use Rattle.modprobe_words.specs.declared.options.LongOption.TheVariants.{AllWord, RemoveWord, RemoveDependenciesWord, RemoveHoldersWord, WaitWord, ResolveAliasWord, FirstTimeWord, IgnoreInstallWord, IgnoreRemoveWord, UseBlacklistWord, ForceWord, ForceModversionWord, ForceVermagicWord, ShowDependsWord, ShowconfigWord, ShowConfigWord, ShowModversionsWord, DumpModversionsWord, ShowExportsWord, DryRunWord, ShowWord, ConfigWord, DirnameWord, SetVersionWord, SyslogWord, QuietWord, VerboseWord, VersionWord, HelpWord, ExplainWord, RootWord, AsWord}
 
 -- the option of a letter
 unfoldable pub meaning_of_letter : ℕ → Option Meaning
@@ -62,6 +62,7 @@ valued_number valued.Config = 1
 valued_number valued.Dirname = 2
 valued_number valued.SetVersion = 3
 valued_number valued.Root = 4
+valued_number valued.As = 5
 
 unfoldable pub kind_of : Meaning → ℕ
 kind_of (Plain switch) = switch_number switch
@@ -100,6 +101,7 @@ word_of VersionWord = codes "version"
 word_of HelpWord = codes "help"
 word_of ExplainWord = codes "explain"
 word_of RootWord = codes "root"
+word_of AsWord = codes "as"
 
 unfoldable pub meaning_of : LongOption → Meaning
 meaning_of AllWord = Plain switch.All
@@ -133,6 +135,7 @@ meaning_of VersionWord = Plain switch.Version
 meaning_of HelpWord = Plain switch.Help
 meaning_of ExplainWord = Plain switch.Explain
 meaning_of RootWord = WithValue valued.Root
+meaning_of AsWord = WithValue valued.As
 
 -- in the order of `modprobe --help`
 unfoldable pub long_options : List LongOption
@@ -143,4 +146,9 @@ long_options =
     ∷ ShowConfigWord ∷ ShowModversionsWord ∷ DumpModversionsWord ∷ ShowExportsWord ∷ DryRunWord
     ∷ ShowWord ∷ ConfigWord ∷ DirnameWord ∷ SetVersionWord ∷ SyslogWord
     ∷ QuietWord ∷ VerboseWord ∷ VersionWord ∷ HelpWord ∷ ExplainWord
-    ∷ RootWord ∷ []
+    ∷ RootWord ∷ AsWord ∷ []
+
+-- an option that may be cut; `--as` may not, so that `--a` is `--all`, as with modprobe
+abbrev pub may_be_cut : LongOption → Bool
+may_be_cut AsWord = false
+may_be_cut option = true

@@ -6,6 +6,7 @@ ghost use Rattle.modprobe_words.specs.Words.{item_of, items_of};
 use crate::items::Item;
 use crate::options::Valued;
 use crate::switches::Switches;
+use kmod_version::Kmod;
 use std::alloc::{AllocError, Global};
 
 /// What a command line asks for, if its words are not refused.
@@ -20,6 +21,8 @@ pub struct Asked<'a> {
     pub release: Option<&'a [u8]>,
     /// The last `--root`.
     pub root: Option<&'a [u8]>,
+    /// The last `--as`; kmod 34 without one.
+    pub kmod: Kmod,
     /// The words that are no options.
     pub words: Vec<&'a [u8]>,
 }
@@ -34,6 +37,7 @@ impl<'a> Asked<'a> {
             directory: None,
             release: None,
             root: None,
+            kmod: Kmod::Version34,
             words: Vec::new(alloc),
         }
     }
@@ -47,6 +51,7 @@ impl<'a> Asked<'a> {
             Item::WithValue(Valued::Dirname, text) => self.directory = Some(text),
             Item::WithValue(Valued::SetVersion, text) => self.release = Some(text),
             Item::WithValue(Valued::Root, text) => self.root = Some(text),
+            Item::WithValue(Valued::As, text) => self.kmod = Kmod::of(text).unwrap_or(self.kmod),
             Item::Operand(word) => self.words.push(word)?,
             Item::WithValue(Valued::Wait, _) | Item::Refused(_) => {}
         }

@@ -6,6 +6,7 @@ ghost use Rattle.modprobe_words.specs.Words.{item_of, items_of};
 use crate::items::{Fault, Item};
 use crate::numbers::is_number;
 use crate::options::{Switch, Valued};
+use kmod_version::Kmod;
 
 /// What ends a command line before a query is answered.
 #[derive(Clone, Copy)]
@@ -14,6 +15,8 @@ pub enum Ending<'a> {
     Help,
     /// `--wait` has this in place of a number.
     BadWait(&'a [u8]),
+    /// `--as` has this in place of a version that is known.
+    BadKmod(&'a [u8]),
     Refused(Fault<'a>),
 }
 
@@ -24,6 +27,9 @@ fn ending_of(item: Item<'_>) -> Option<Ending<'_>>
         Item::Plain(Switch::Version) => Some(Ending::Version),
         Item::Plain(Switch::Help) => Some(Ending::Help),
         Item::WithValue(Valued::Wait, text) if !is_number(text) => Some(Ending::BadWait(text)),
+        Item::WithValue(Valued::As, text) if Kmod::of(text).is_none() => {
+            Some(Ending::BadKmod(text))
+        }
         Item::Refused(fault) => Some(Ending::Refused(fault)),
         _ => None,
     }

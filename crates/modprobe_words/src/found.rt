@@ -26,11 +26,11 @@ fn exact(word: &[u8]) -> Option<LongOption>
         .find(|option| is_same(option.word(), word))
 }
 
-/// Whether the word is the beginning of the option's.
+/// Whether the word is a beginning of the option's that may stand for it.
 pub(crate) fn is_near(word: &[u8], option: LongOption) -> bool
     ensures { result ≡ is_near word.now option }
 {
-    option.word().starts_with(word)
+    option.may_be_cut() && option.word().starts_with(word)
 }
 
 #[tactic(auto, unfolding(crate::specs::Options::long_options))]

@@ -2,7 +2,7 @@
 
 /// What `--version` shows.
 pub(crate) const VERSION: &str = "gz-modprobe 0.1.0
-answers as modprobe of kmod version 30
+answers as modprobe of kmod version 34, or with --as 30 of 30
 ";
 
 /// What `--help` shows.
@@ -16,7 +16,7 @@ pub(crate) const HELP: &str = "Usage:
   gz-modprobe -R [options] -a modulename [modulename...]
   gz-modprobe -c [options]
 
-It answers what modprobe(8) of kmod 30 answers, and loads and removes nothing.
+It answers what modprobe(8) of kmod 34 answers, and loads and removes nothing.
 
 Queries:
   -n, --dry-run, --show       Say what would be done; with -v, by which lines
@@ -36,6 +36,7 @@ Options of queries:
   -d, --dirname=DIR           Look for lib/modules below DIR
   -S, --set-version=VERSION   The release in place of that of the machine
       --root=DIR              Read all files, of /etc, /sys and /proc too, below DIR
+      --as=VERSION            Answer as kmod 30 or as kmod 34; without it as 34
       --explain               Say on standard error which lines gave the answer
 
 General options:

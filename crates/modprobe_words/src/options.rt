@@ -1,6 +1,6 @@
-//! The options of modprobe(8), and two more: `--explain` and `--root`.
+//! The options of modprobe(8), and three more: `--explain`, `--root` and `--as`.
 ghost use Rattle.std.specs.Prelude.{◌≡◌};
-ghost use Rattle.modprobe_words.specs.Options.{kind_of, meaning_of_letter, meaning_of, word_of};
+ghost use Rattle.modprobe_words.specs.Options.{kind_of, may_be_cut, meaning_of_letter, meaning_of, word_of};
 
 /// An option without a value.
 #[derive(Clone, Copy)]
@@ -36,6 +36,7 @@ pub enum Valued {
     Dirname,
     SetVersion,
     Root,
+    As,
 }
 
 /// What an option stands for.
@@ -79,10 +80,11 @@ pub enum LongOption {
     HelpWord,
     ExplainWord,
     RootWord,
+    AsWord,
 }
 
 /// The options by words, in the order of `modprobe --help`, and then those that modprobe has not.
-pub(crate) const LONG_OPTIONS: [LongOption; 31] = [
+pub(crate) const LONG_OPTIONS: [LongOption; 32] = [
     LongOption::AllWord,
     LongOption::RemoveWord,
     LongOption::RemoveDependenciesWord,
@@ -114,6 +116,7 @@ pub(crate) const LONG_OPTIONS: [LongOption; 31] = [
     LongOption::HelpWord,
     LongOption::ExplainWord,
     LongOption::RootWord,
+    LongOption::AsWord,
 ];
 
 /// The option of a letter.
@@ -195,7 +198,15 @@ impl LongOption {
             LongOption::HelpWord => b"help",
             LongOption::ExplainWord => b"explain",
             LongOption::RootWord => b"root",
+            LongOption::AsWord => b"as",
         }
+    }
+
+    /// Whether a beginning of the word stands for it. `--as` is given whole, so that `--a` is `--all`, as with modprobe.
+    pub(crate) fn may_be_cut(self) -> bool
+        ensures { result ≡ may_be_cut self }
+    {
+        !matches!(self, LongOption::AsWord)
     }
 
     #[tactic(auto, unfolding(crate::specs::Options::meaning_of))]
@@ -237,6 +248,7 @@ impl LongOption {
             LongOption::HelpWord => Meaning::Plain(Switch::Help),
             LongOption::ExplainWord => Meaning::Plain(Switch::Explain),
             LongOption::RootWord => Meaning::WithValue(Valued::Root),
+            LongOption::AsWord => Meaning::WithValue(Valued::As),
         }
     }
 }

@@ -6,7 +6,7 @@ use Rattle.gz_modprobe_drive.proofs.configuration.add_files.Given as goal
 abbrev pub invariant-loop-file : goal.invariant-loop-file
 invariant-loop-file l = record {
   number : l.source + length l.rest ≡ length l.files;
-  conf : conf_from l.source l.conf (texts_in l.rest) ≡ conf_from 0 l.initial.conf (texts_in l.files);
+  conf : conf_from l.kmod l.source l.conf (texts_in l.rest) ≡ conf_from l.kmod 0 l.initial.conf (texts_in l.files);
 }
 
 abbrev pub decreases-loop-file : goal.decreases-loop-file

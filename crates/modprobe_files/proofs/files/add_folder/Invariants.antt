@@ -6,4 +6,4 @@ use Rattle.modprobe_files.proofs.files.add_folder.Given as goal
 abbrev pub invariant-loop-name : goal.invariant-loop-name
 invariant-loop-name l =
     files_of l.files.items
-    ≡ fold with_file (files_of l.initial.files.items) (candidates (folder l.path (bytes_of (take l.name-index l.names))))
+    ≡ fold with_file (files_of l.initial.files.items) (candidates l.kmod (folder l.path (bytes_of (take l.name-index l.names))))

@@ -10,11 +10,11 @@ loop-source-preserved c =
     let sources = c.args.sources.now in
     let source = c.source-item.result in
     let files = files_of c.loop-source.files.items in
-    let later : List File = flat_map candidates (sources_of (drop (suc i) sources)) in
+    let later : List File = flat_map (candidates c.args.kmod) (sources_of (drop (suc i) sources)) in
     let left : drop i sources ≡ source ∷ drop (suc i) sources =
     drop-cons sources i source c.loop-source-test.true ∙ ap (λ x. x ∷ drop (suc i) sources) (sym c.source-item.is) in
     rw add-one
     (ap (λ own. fold with_file own later) c.in_ok-add_source.ensures
-    ∙ sym (fold-append with_file files (candidates (source_of source)) later)
-    ∙ ap (λ own. fold with_file files (flat_map candidates (sources_of own))) (sym left)
+    ∙ sym (fold-append with_file files (candidates c.args.kmod (source_of source)) later)
+    ∙ ap (λ own. fold with_file files (flat_map (candidates c.args.kmod) (sources_of own))) (sym left)
     ∙ c.loop-source.invariant)

@@ -6,5 +6,5 @@ use Rattle.modprobe_files.proofs.files.counted_files.Given as goal
 -- what was added and what is left to add is all
 abbrev pub invariant-loop-source : goal.invariant-loop-source
 invariant-loop-source l =
-    fold with_file (files_of l.files.items) (flat_map candidates (sources_of (drop l.source-index l.sources)))
-    ≡ counted_files (sources_of l.sources)
+    fold with_file (files_of l.files.items) (flat_map (candidates l.kmod) (sources_of (drop l.source-index l.sources)))
+    ≡ counted_files l.kmod (sources_of l.sources)
