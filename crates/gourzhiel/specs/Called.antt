@@ -1,89 +1,71 @@
 -- How a managed call on the handle of a caller ended: the caller before, the number that is answered, the caller after.
-use Rattle.std.specs.Prelude.{◌≡◌, ◌⊎◌, ℕ, ◌<◌, ◌≤◌, ◌==◌, true, List, MatchOption, MatchBool}
+use Rattle.std.specs.Prelude.{◌≡◌, ℕ, ◌==◌, true, List, Result, MatchBool}
 use Rattle.dep_index.specs.declared.table.calls.Call.{Call}
-use Rattle.dep_index.specs.declared.table.calls.Call.TheVariants.{Get}
+use Rattle.dep_index.specs.declared.table.calls.Call.TheVariants.{BeginLoad}
 use Rattle.dep_index.specs.declared.table.calls.Reply.{Reply}
-use Rattle.dep_index.specs.Table.{Module, Table}
-use Rattle.root_row.specs.World.{slots}
-use Rattle.root_row.specs.declared.view.SeatName.TheVariants as name_is
-use Rattle.managed_table.specs.Callers.{CallerIs, IsFirst, GaveFurther, LeafMissed, BookMissed, LeafTurned}
-use Rattle.managed_table.specs.Tries.{GaveUp}
-use Rattle.managed_table.specs.Turns.{MadeOneCall, MadeNoCall}
+use Rattle.dep_index.specs.declared.table.refusals.GetError.{GetError}
+use Rattle.dep_index.specs.declared.table.refusals.BeginLoadError.{BeginLoadError}
+use Rattle.dep_index.specs.declared.table.states.ModuleState.{ModuleState}
+use Rattle.dep_index.specs.Refusals.{reply_of, get_refusal, begin_load_refusal}
+use Rattle.dep_index.specs.Table.{Module}
+use Rattle.managed_table.specs.declared.attempt.Attempt.{Attempt}
+use Rattle.managed_table.specs.Attempts.{LeafEnded, BookEnded, LeafDid, BookDid, LeafShows, BookShows, GetGivenUp, GetDid}
+use Rattle.managed_table.specs.Callers.{CallerIs, IsFirst, GaveFurther, LeafMissed, BookMissed}
 use Rattle.managed_table.specs.Shown.{HoldsSoOften, IsInState, HasLoaded, HasLoadedAt, HasNoneAt}
 use Rattle.managed_table.specs.Owned.{row_of, IsBeyond, IsWithin}
 use Rattle.gourzhiel.specs.Making.{NoneMade}
-use Rattle.gourzhiel.specs.Numbers.{reply_at, state_at, busy, out_of_range, out_of_memory}
+use Rattle.gourzhiel.specs.Numbers.{busy, out_of_range, out_of_memory}
+use Rattle.gourzhiel.specs.Endings.{IsNumberOf, IsNumberOfState, NeedTold}
 use Rattle.gourzhiel.specs.declared.handles.GzCaller.{GzCaller}
 
--- in one turn the worker's leaf made this call, which was answered so
-abbrev pub LeafMade : CallerIs → ℕ → Call → CallerIs → Reply → Type 0
-LeafMade before worker call after reply =
-    MadeOneCall (row_of before) worker (name_is.Leaf worker) call reply before.leaves.pass after.leaves.pass × (after.book ≡ before.book)
+-- a call of a leaf, whose refusals are these replies: it ended so, and the number says how
+abbrev pub LeafCallEnded : {E : Type 0} → (E → Reply) → CallerIs → ℕ → ℕ → ℕ → Call → ℕ → CallerIs → Type 0
+LeafCallEnded {E} refusal before worker slot tries call number after =
+    (ended : Attempt (Result (Unit {0}) E)) × IsNumberOf refusal ended number
+    × LeafEnded worker slot tries ⊥ (λ answer. LeafDid worker call before after (reply_of refusal answer)) before ended after
 
--- in one turn the book made this call, which was answered so
-abbrev pub BookMade : CallerIs → Call → CallerIs → Reply → Type 0
-BookMade before call after reply =
-    MadeOneCall (row_of before) 0 name_is.Book call reply before.book.pass after.book.pass × (after.leaves ≡ before.leaves)
-
--- one turn of the worker's leaf showed a table of which this holds, and no call was made
-abbrev pub LeafShown : CallerIs → ℕ → (Table → Type 0) → CallerIs → Type 0
-LeafShown before worker Shows after =
-    MadeNoCall (row_of before) worker Shows before.leaves.pass after.leaves.pass × (after.book ≡ before.book)
-
--- the same of the book
-abbrev pub BookShown : CallerIs → (Table → Type 0) → CallerIs → Type 0
-BookShown before Shows after =
-    MadeNoCall (row_of before) 0 Shows before.book.pass after.book.pass × (after.leaves ≡ before.leaves)
-
--- a call of a leaf: the worker or the slot is out of range, or the lock was found taken at each try, or it was made and answered so
-abbrev pub LeafCallEnded : CallerIs → ℕ → ℕ → ℕ → Call → ℕ → CallerIs → Type 0
-LeafCallEnded before worker slot tries call number after =
-    MatchBool (number == out_of_range) (IsBeyond before worker slot × (after ≡ before))
-    (IsWithin before worker slot × MatchBool (number == busy) (LeafMissed worker tries before after) (MatchOption (reply_at number 0) ⊥ (LeafMade before worker call after)))
-
--- a get that was busy: the lock was found taken at each try, or the leaf gave up after so many tries of the module's word, and made no call
-abbrev pub GetMissed : CallerIs → ℕ → ℕ → ℕ → CallerIs → Type 0
-GetMissed before worker slot tries after =
-    LeafMissed worker tries before after
-    ⊎ (LeafShown before worker (HoldsSoOften worker slot 0) after × LeafTurned worker (GaveUp tries slot) before after)
-
+-- a get, which may also be given up once it has the lock
 abbrev pub GetCallEnded : CallerIs → ℕ → ℕ → ℕ → ℕ → CallerIs → Type 0
 GetCallEnded before worker slot tries number after =
-    MatchBool (number == out_of_range) (IsBeyond before worker slot × (after ≡ before))
-    (IsWithin before worker slot × MatchBool (number == busy) (GetMissed before worker slot tries after)
-    (MatchOption (reply_at number 0) ⊥ (LeafMade before worker (Get worker slot) after)))
+    (ended : Attempt (Result (Unit {0}) GetError)) × IsNumberOf get_refusal ended number
+    × LeafEnded worker slot tries (GetGivenUp worker slot tries before after) (λ answer. GetDid worker slot tries before after (reply_of get_refusal answer)) before ended after
 
--- a call of the book; the need is the one that NeedNotLive names
-abbrev pub BookCallEnded : CallerIs → ℕ → ℕ → Call → ℕ → ℕ → CallerIs → Type 0
-BookCallEnded before slot tries call number need after =
-    MatchBool (number == out_of_range) ((slots (row_of before).world ≤ slot) × (after ≡ before))
-    ((slot < slots (row_of before).world) × MatchBool (number == busy) (BookMissed tries before after) (MatchOption (reply_at number need) ⊥ (BookMade before call after)))
+-- a call of the book
+abbrev pub BookCallEnded : {E : Type 0} → (E → Reply) → CallerIs → ℕ → ℕ → Call → ℕ → CallerIs → Type 0
+BookCallEnded {E} refusal before slot tries call number after =
+    (ended : Attempt (Result (Unit {0}) E)) × IsNumberOf refusal ended number
+    × BookEnded slot tries (λ answer. BookDid call before after (reply_of refusal answer)) before ended after
+
+-- the begin of a load, which also tells the need that is not live
+abbrev pub BeginLoadCallEnded : CallerIs → ℕ → ℕ → ℕ → ℕ → ℕ → CallerIs → Type 0
+BeginLoadCallEnded before slot tries was number need after =
+    (ended : Attempt (Result (Unit {0}) BeginLoadError)) × IsNumberOf begin_load_refusal ended number × NeedTold ended was need
+    × BookEnded slot tries (λ answer. BookDid (BeginLoad slot) before after (reply_of begin_load_refusal answer)) before ended after
 
 -- how often a worker holds a slot, or what was there
 abbrev pub HeldTold : CallerIs → ℕ → ℕ → ℕ → ℕ → ℕ → ℕ → CallerIs → Type 0
 HeldTold before worker slot tries was number count after =
     MatchBool (number == out_of_range) (IsBeyond before worker slot × (after ≡ before) × (count ≡ was))
     (IsWithin before worker slot × MatchBool (number == busy) (LeafMissed worker tries before after × (count ≡ was))
-    ((number ≡ 0) × LeafShown before worker (HoldsSoOften worker slot count) after))
+    ((number ≡ 0) × LeafShows worker (HoldsSoOften worker slot count) before after))
 
--- the number is that of the module's state
+-- the state of a module
 abbrev pub StateCallTold : CallerIs → ℕ → ℕ → ℕ → CallerIs → Type 0
 StateCallTold before slot tries number after =
-    MatchBool (number == out_of_range) ((slots (row_of before).world ≤ slot) × (after ≡ before))
-    ((slot < slots (row_of before).world) × MatchBool (number == busy) (BookMissed tries before after)
-    (MatchOption (state_at number) ⊥ (λ state. BookShown before (IsInState slot state) after)))
+    (ended : Attempt ModuleState) × IsNumberOfState ended number
+    × BookEnded slot tries (λ state. BookShows (IsInState slot state) before after) before ended after
 
 -- how many modules are loaded, or what was there
 abbrev pub LoadedTold : CallerIs → ℕ → ℕ → ℕ → ℕ → CallerIs → Type 0
 LoadedTold before tries was number count after =
-    MatchBool (number == busy) (BookMissed tries before after × (count ≡ was)) ((number ≡ 0) × BookShown before (HasLoaded count) after)
+    MatchBool (number == busy) (BookMissed tries before after × (count ≡ was)) ((number ≡ 0) × BookShows (HasLoaded count) before after)
 
 -- the slot of the loaded module at a place, or what was there
 abbrev pub PlaceCallTold : CallerIs → ℕ → ℕ → ℕ → ℕ → ℕ → CallerIs → Type 0
 PlaceCallTold before place tries was number slot after =
     MatchBool (number == busy) (BookMissed tries before after × (slot ≡ was))
-    (MatchBool (number == out_of_range) (BookShown before (HasNoneAt place) after × (slot ≡ was))
-    ((number ≡ 0) × BookShown before (HasLoadedAt place slot) after))
+    (MatchBool (number == out_of_range) (BookShows (HasNoneAt place) before after × (slot ≡ was))
+    ((number ≡ 0) × BookShows (HasLoadedAt place slot) before after))
 
 -- the first caller of a table over these modules, with so many workers, which has done nothing, and from which none came
 abbrev pub IsNewCaller : List Module → ℕ → CallerIs → Type 0

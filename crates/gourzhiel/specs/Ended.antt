@@ -1,9 +1,13 @@
 -- How a call on a handle ended: the handle before, the number that is answered, the handle after.
-use Rattle.std.specs.Prelude.{◌≡◌, ℕ, ◌<◌, ◌≤◌, ◌==◌, length, slice_index, Option, MatchOption, MatchBool}
+use Rattle.std.specs.Prelude.{◌≡◌, ℕ, ◌<◌, ◌≤◌, ◌==◌, length, slice_index, Result, Option, Some, None, MatchOption, MatchBool}
 use Rattle.dep_index.specs.declared.table.calls.Reply.{Reply}
+use Rattle.dep_index.specs.declared.table.refusals.BeginLoadError.{BeginLoadError}
+use Rattle.dep_index.specs.declared.table.states.ModuleState.{ModuleState}
+use Rattle.dep_index.specs.Refusals.{reply_of, begin_load_refusal}
 use Rattle.root_row.specs.declared.calls.LeafCall.{LeafCall}
 use Rattle.root_row.specs.declared.calls.LeafCall.TheVariants.{Get}
 use Rattle.root_row.specs.declared.calls.BookCall.{BookCall}
+use Rattle.root_row.specs.declared.calls.BookCall.TheVariants.{BeginLoad}
 use Rattle.root_row.specs.World.{slots}
 use Rattle.root_row.specs.Views.{state_in, count_of, book_of}
 use Rattle.root_row.specs.Seats.{Seated}
@@ -11,7 +15,9 @@ use Rattle.root_row.specs.Steps.{LeafAnswered, ReaderAnswered}
 use Rattle.root_row.specs.StepsMade.{SameView}
 use Rattle.root_row.specs.BookSteps.{BookAnswered}
 use Rattle.use_indicator.specs.Counted.{GivenUp}
-use Rattle.gourzhiel.specs.Numbers.{reply_at, state_at, busy, out_of_range}
+use Rattle.managed_table.specs.Attempted.{attempt_of}
+use Rattle.gourzhiel.specs.Numbers.{reply_at, busy, out_of_range}
+use Rattle.gourzhiel.specs.Endings.{IsNumberOf, IsNumberOfState, NeedTold}
 
 -- the slot is none of the table, and nothing changed
 abbrev pub IsOutside : Seated → ℕ → Seated → Type 0
@@ -24,13 +30,13 @@ pub record IsAnswered (Answers : Reply → Type 0) (before : Seated) (slot : ℕ
   pub row : after.row ≡ before.row
 
 -- the slot is out of range, or the call was answered
-abbrev pub IsEnded : (Reply → Type 0) → Seated → ℕ → ℕ → ℕ → Seated → Type 0
-IsEnded Answers before slot number need after =
-    MatchBool (number == out_of_range) (IsOutside before slot after) (IsAnswered Answers before slot (reply_at number need) after)
+abbrev pub IsEnded : (Reply → Type 0) → Seated → ℕ → ℕ → Seated → Type 0
+IsEnded Answers before slot number after =
+    MatchBool (number == out_of_range) (IsOutside before slot after) (IsAnswered Answers before slot (reply_at number 0) after)
 
 -- a leaf's call
 abbrev pub LeafEnded : Seated → ℕ → LeafCall → ℕ → Seated → Type 0
-LeafEnded before slot call number after = IsEnded (λ reply. LeafAnswered before.view slot call reply after.view) before slot number 0 after
+LeafEnded before slot call number after = IsEnded (λ reply. LeafAnswered before.view slot call reply after.view) before slot number after
 
 -- a get of so many tries was busy: the leaf holds no reference, all tries were made and missed, and the view stays
 pub record WasBusy (before : Seated) (slot tries : ℕ) (after : Seated) : Type 0 where
@@ -45,17 +51,30 @@ GetEnded before slot tries number after = MatchBool (number == busy) (WasBusy be
 
 -- a reader's query
 abbrev pub QueryEnded : Seated → ℕ → ℕ → Seated → Type 0
-QueryEnded before slot number after = IsEnded (λ reply. ReaderAnswered before.view slot reply after.view) before slot number 0 after
+QueryEnded before slot number after = IsEnded (λ reply. ReaderAnswered before.view slot reply after.view) before slot number after
 
--- a call of the book; the need is the one that NeedNotLive names
-abbrev pub BookEnded : Seated → ℕ → BookCall → ℕ → ℕ → Seated → Type 0
-BookEnded before slot call number need after = IsEnded (λ reply. BookAnswered before.view slot call reply after.view) before slot number need after
+-- a call of the book, whose refusals are these replies: the slot is out of range, or the call was answered; its row is the same
+abbrev pub BookDid : {E : Type 0} → (E → Reply) → Seated → ℕ → BookCall → Option (Result (Unit {0}) E) → Seated → Type 0
+BookDid refusal before slot call None after = IsOutside before slot after
+BookDid refusal before slot call (Some answer) after =
+    (slot < slots before.view.world) × BookAnswered before.view slot call (reply_of refusal answer) after.view × (after.row ≡ before.row)
 
--- the number is that of the module's state
+-- it ended so, and the number says how
+abbrev pub BookEnded : {E : Type 0} → (E → Reply) → Seated → ℕ → BookCall → ℕ → Seated → Type 0
+BookEnded {E} refusal before slot call number after =
+    (answer : Option (Result (Unit {0}) E)) × IsNumberOf refusal (attempt_of answer) number × BookDid refusal before slot call answer after
+
+-- the begin of a load, which also tells the need that is not live
+abbrev pub BeginLoadEnded : Seated → ℕ → ℕ → ℕ → ℕ → Seated → Type 0
+BeginLoadEnded before slot was number need after =
+    (answer : Option (Result (Unit {0}) BeginLoadError)) × IsNumberOf begin_load_refusal (attempt_of answer) number × NeedTold (attempt_of answer) was need
+    × BookDid begin_load_refusal before slot BeginLoad answer after
+
+-- the state of a module
 abbrev pub StateTold : Seated → ℕ → ℕ → Type 0
 StateTold book slot number =
-    MatchBool (number == out_of_range) (slots book.view.world ≤ slot)
-    ((slot < slots book.view.world) × MatchOption (state_at number) ⊥ (λ state. state ≡ state_in book.view slot))
+    (answer : Option ModuleState) × IsNumberOfState (attempt_of answer) number
+    × MatchOption answer (slots book.view.world ≤ slot) (λ state. (slot < slots book.view.world) × (state ≡ state_in book.view slot))
 
 -- the slot of the loaded module at a place, or what was there
 abbrev pub PlaceTold : Seated → ℕ → ℕ → ℕ → ℕ → Type 0

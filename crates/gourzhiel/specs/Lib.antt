@@ -1,4 +1,5 @@
 pub mod Numbers
+pub mod Endings
 pub mod Ended
 pub mod Held
 pub mod Lent

@@ -6,7 +6,7 @@ use Rattle.root_row.specs.Made.{AreNew, new_reader}
 use Rattle.root_row.specs.declared.view.SeatName.TheVariants as name_is
 use Rattle.managed_table.specs.Callers.{CallerIs, LeafMissed, BookMissed}
 use Rattle.managed_table.specs.Hearing.{Met}
-use Rattle.managed_table.specs.Owned.{row_of, AreAsBefore}
+use Rattle.managed_table.specs.Owned.{row_of}
 use Rattle.gourzhiel.specs.declared.handles.GzCaller.{GzCaller}
 use Rattle.gourzhiel.specs.declared.handles.GzTeller.{GzTeller}
 use Rattle.gourzhiel.specs.Numbers.{busy, out_of_range}
@@ -29,7 +29,7 @@ TellersMade modules workers number none caller no_tellers tellers =
 -- the worker is out of range, or its lock was found taken at each try, or its leaf and the teller heard of each other
 abbrev pub LeafMeetingEnded : CallerIs → ℕ → ℕ → Seated → ℕ → CallerIs → Seated → Type 0
 LeafMeetingEnded before worker tries teller number after teller' =
-    MatchBool (number == out_of_range) (((row_of before).world.workers ≤ worker) × AreAsBefore before after teller teller')
+    MatchBool (number == out_of_range) (((row_of before).world.workers ≤ worker) × (after ≡ before) × (teller' ≡ teller))
     ((worker < (row_of before).world.workers) × MatchBool (number == busy) (LeafMissed worker tries before after × (teller' ≡ teller))
     ((number ≡ 0) × Met (row_of before) worker (name_is.Leaf worker) before.leaves.pass after.leaves.pass teller.view teller'.view × (after.book ≡ before.book)))
 

@@ -26,6 +26,11 @@ reply_at number need =
     else (if number == 14 then Some No
     else None))))))))))))))
 
+-- the need that a reply names
+abbrev pub need_of : Reply → ℕ
+need_of (NeedNotLive need) = need
+need_of _ = 0
+
 -- the state of a number
 abbrev pub state_at : ℕ → Option ModuleState
 state_at number =

@@ -1,13 +1,11 @@
 //! The calls on the handle of a book.
-ghost use Rattle.std.specs.Prelude.{◌≡◌, ◌≢◌, true};
-ghost use Rattle.gourzhiel.specs.Ended.{BookEnded};
+ghost use Rattle.std.specs.Prelude.{◌≡◌, true};
+ghost use Rattle.dep_index.specs.Refusals.{begin_drain_refusal, begin_remove_refusal, end_load_refusal, end_remove_refusal};
+ghost use Rattle.gourzhiel.specs.Ended.{BeginLoadEnded, BookEnded};
 
+use crate::endings::{ended_number, tell_need};
 use crate::handles::GzBook;
-use crate::numbers::{
-    DONE, EXISTS, IN_USE, NEED_NOT_LIVE, NEEDED_BY, NO_ENTRY, NOT_LIVE, NOT_LOADING, NOT_UNLOADING,
-    OUT_OF_RANGE, PERMANENT, UNKNOWN_SYMBOL,
-};
-use dep_index::{BeginDrainError, BeginLoadError, BeginRemoveError, EndLoadError, EndRemoveError};
+use managed_table::attempted;
 use root_row::BookCall;
 
 /// Begins a load: the module is then loading, and the newest.
@@ -18,19 +16,11 @@ use root_row::BookCall;
 pub extern "C" fn gz_book_begin_load(book: &mut GzBook, slot: usize, need: &mut usize) -> u32
     requires full { book.old.full ≡ true }
     ensures full { book.new.full ≡ true }
-    ensures call { BookEnded book.old.held slot BookCall.BeginLoad result need.new book.new.held }
-    ensures need { result ≢ 6 → need.new ≡ need.old }
+    ensures call { BeginLoadEnded book.old.held slot need.old result need.new book.new.held }
 {
-    match book.lend().begin_load(slot) {
-        None => OUT_OF_RANGE,
-        Some(Err(BeginLoadError::Exists)) => EXISTS,
-        Some(Err(BeginLoadError::UnknownSymbol)) => UNKNOWN_SYMBOL,
-        Some(Err(BeginLoadError::NeedNotLive(found))) => {
-            *need = found;
-            NEED_NOT_LIVE
-        }
-        Some(Ok(())) => DONE,
-    }
+    let ended = attempted(book.lend().begin_load(slot));
+    tell_need(&ended, need);
+    ended_number(ended)
 }
 
 /// Ends a load: the module is then live if it went well, else absent.
@@ -40,13 +30,9 @@ pub extern "C" fn gz_book_begin_load(book: &mut GzBook, slot: usize, need: &mut 
 pub extern "C" fn gz_book_end_load(book: &mut GzBook, slot: usize, ok: bool) -> u32
     requires full { book.old.full ≡ true }
     ensures full { book.new.full ≡ true }
-    ensures call { BookEnded book.old.held slot (BookCall.EndLoad ok) result 0 book.new.held }
+    ensures call { BookEnded end_load_refusal book.old.held slot (BookCall.EndLoad ok) result book.new.held }
 {
-    match book.lend().end_load(slot, ok) {
-        None => OUT_OF_RANGE,
-        Some(Err(EndLoadError::NotLoading)) => NOT_LOADING,
-        Some(Ok(())) => DONE,
-    }
+    ended_number(attempted(book.lend().end_load(slot, ok)))
 }
 
 /// Begins a drain: no further get is let in, and the references stay.
@@ -57,16 +43,9 @@ pub extern "C" fn gz_book_end_load(book: &mut GzBook, slot: usize, ok: bool) -> 
 pub extern "C" fn gz_book_begin_drain(book: &mut GzBook, slot: usize) -> u32
     requires full { book.old.full ≡ true }
     ensures full { book.new.full ≡ true }
-    ensures call { BookEnded book.old.held slot BookCall.BeginDrain result 0 book.new.held }
+    ensures call { BookEnded begin_drain_refusal book.old.held slot BookCall.BeginDrain result book.new.held }
 {
-    match book.lend().begin_drain(slot) {
-        None => OUT_OF_RANGE,
-        Some(Err(BeginDrainError::NoEntry)) => NO_ENTRY,
-        Some(Err(BeginDrainError::NeededBy)) => NEEDED_BY,
-        Some(Err(BeginDrainError::NotLive)) => NOT_LIVE,
-        Some(Err(BeginDrainError::Permanent)) => PERMANENT,
-        Some(Ok(())) => DONE,
-    }
+    ended_number(attempted(book.lend().begin_drain(slot)))
 }
 
 /// Begins a removal of a module that nobody holds: from then on no get succeeds.
@@ -77,17 +56,9 @@ pub extern "C" fn gz_book_begin_drain(book: &mut GzBook, slot: usize) -> u32
 pub extern "C" fn gz_book_begin_remove(book: &mut GzBook, slot: usize) -> u32
     requires full { book.old.full ≡ true }
     ensures full { book.new.full ≡ true }
-    ensures call { BookEnded book.old.held slot BookCall.BeginRemove result 0 book.new.held }
+    ensures call { BookEnded begin_remove_refusal book.old.held slot BookCall.BeginRemove result book.new.held }
 {
-    match book.lend().begin_remove(slot) {
-        None => OUT_OF_RANGE,
-        Some(Err(BeginRemoveError::NoEntry)) => NO_ENTRY,
-        Some(Err(BeginRemoveError::NeededBy)) => NEEDED_BY,
-        Some(Err(BeginRemoveError::NotLive)) => NOT_LIVE,
-        Some(Err(BeginRemoveError::Permanent)) => PERMANENT,
-        Some(Err(BeginRemoveError::InUse)) => IN_USE,
-        Some(Ok(())) => DONE,
-    }
+    ended_number(attempted(book.lend().begin_remove(slot)))
 }
 
 /// Ends a removal, or a drain once no reference is left: the module is then absent.
@@ -98,14 +69,9 @@ pub extern "C" fn gz_book_begin_remove(book: &mut GzBook, slot: usize) -> u32
 pub extern "C" fn gz_book_end_remove(book: &mut GzBook, slot: usize) -> u32
     requires full { book.old.full ≡ true }
     ensures full { book.new.full ≡ true }
-    ensures call { BookEnded book.old.held slot BookCall.EndRemove result 0 book.new.held }
+    ensures call { BookEnded end_remove_refusal book.old.held slot BookCall.EndRemove result book.new.held }
 {
-    match book.lend().end_remove(slot) {
-        None => OUT_OF_RANGE,
-        Some(Err(EndRemoveError::NotUnloading)) => NOT_UNLOADING,
-        Some(Err(EndRemoveError::InUse)) => IN_USE,
-        Some(Ok(())) => DONE,
-    }
+    ended_number(attempted(book.lend().end_remove(slot)))
 }
 
 /// Frees a book. Its leaves and readers go on, and no module is loaded or removed any more.

@@ -3,9 +3,10 @@ ghost use Rattle.std.specs.Prelude.{◌≡◌, true, length};
 ghost use Rattle.root_row.specs.Views.{book_of};
 ghost use Rattle.gourzhiel.specs.Ended.{StateTold, PlaceTold};
 
+use crate::endings::ended_state_number;
 use crate::handles::GzBook;
-use crate::numbers::{ABSENT, DONE, DRAINING, LIVE, LOADING, OUT_OF_RANGE, UNLOADING};
-use dep_index::ModuleState;
+use crate::numbers::{DONE, OUT_OF_RANGE};
+use managed_table::attempted;
 
 /// The state of the module: ABSENT, LOADING, LIVE, DRAINING or UNLOADING.
 ///
@@ -16,14 +17,7 @@ pub extern "C" fn gz_book_state(book: &mut GzBook, slot: usize) -> u32
     ensures kept { (book.new.full ≡ true) × (book.new.held ≡ book.old.held) }
     ensures state { StateTold book.old.held slot result }
 {
-    match book.lend().state(slot) {
-        None => OUT_OF_RANGE,
-        Some(ModuleState::Absent) => ABSENT,
-        Some(ModuleState::Loading) => LOADING,
-        Some(ModuleState::Live) => LIVE,
-        Some(ModuleState::Draining) => DRAINING,
-        Some(ModuleState::Unloading) => UNLOADING,
-    }
+    ended_state_number(attempted(book.lend().state(slot)))
 }
 
 /// How many modules are loaded, in any state but absent.

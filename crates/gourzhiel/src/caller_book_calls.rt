@@ -1,16 +1,12 @@
 //! The managed calls of the book, on the handle of a caller. Each is BUSY if the lock was taken at each of so many tries.
-ghost use Rattle.std.specs.Prelude.{◌≡◌, ◌≢◌, true};
+ghost use Rattle.std.specs.Prelude.{◌≡◌, true};
+ghost use Rattle.dep_index.specs.Refusals.{begin_drain_refusal, begin_remove_refusal, end_load_refusal, end_remove_refusal};
 ghost use Rattle.managed_table.specs.Owned.{SameTable};
-ghost use Rattle.gourzhiel.specs.Called.{BookCallEnded};
+ghost use Rattle.gourzhiel.specs.Called.{BeginLoadCallEnded, BookCallEnded};
 
+use crate::endings::{ended_number, tell_need};
 use crate::handles::GzCaller;
-use crate::numbers::{
-    BUSY, DONE, EXISTS, IN_USE, NEED_NOT_LIVE, NEEDED_BY, NO_ENTRY, NOT_LIVE, NOT_LOADING,
-    NOT_UNLOADING, OUT_OF_RANGE, PERMANENT, UNKNOWN_SYMBOL,
-};
-use dep_index::{
-    BeginDrainError, BeginLoadError, BeginRemoveError, Call, EndLoadError, EndRemoveError,
-};
+use dep_index::Call;
 
 /// Begins a load, with the numbers of `gz_book_begin_load`.
 #[unsafe(no_mangle)]
@@ -22,20 +18,11 @@ pub extern "C" fn gz_caller_begin_load(
 ) -> u32
     requires full { caller.old.full ≡ true }
     ensures kept { (caller.new.full ≡ true) × SameTable caller.old.held caller.new.held }
-    ensures call { BookCallEnded caller.old.held slot tries (Call.BeginLoad slot) result need.new caller.new.held }
-    ensures need { result ≢ 6 → need.new ≡ need.old }
+    ensures call { BeginLoadCallEnded caller.old.held slot tries need.old result need.new caller.new.held }
 {
-    match caller.lend().begin_load(slot, tries) {
-        None => OUT_OF_RANGE,
-        Some(None) => BUSY,
-        Some(Some(Err(BeginLoadError::Exists))) => EXISTS,
-        Some(Some(Err(BeginLoadError::UnknownSymbol))) => UNKNOWN_SYMBOL,
-        Some(Some(Err(BeginLoadError::NeedNotLive(found)))) => {
-            *need = found;
-            NEED_NOT_LIVE
-        }
-        Some(Some(Ok(()))) => DONE,
-    }
+    let ended = caller.lend().begin_load(slot, tries);
+    tell_need(&ended, need);
+    ended_number(ended)
 }
 
 /// Ends a load, with the numbers of `gz_book_end_load`.
@@ -48,14 +35,9 @@ pub extern "C" fn gz_caller_end_load(
 ) -> u32
     requires full { caller.old.full ≡ true }
     ensures kept { (caller.new.full ≡ true) × SameTable caller.old.held caller.new.held }
-    ensures call { BookCallEnded caller.old.held slot tries (Call.EndLoad slot ok) result 0 caller.new.held }
+    ensures call { BookCallEnded end_load_refusal caller.old.held slot tries (Call.EndLoad slot ok) result caller.new.held }
 {
-    match caller.lend().end_load(slot, ok, tries) {
-        None => OUT_OF_RANGE,
-        Some(None) => BUSY,
-        Some(Some(Err(EndLoadError::NotLoading))) => NOT_LOADING,
-        Some(Some(Ok(()))) => DONE,
-    }
+    ended_number(caller.lend().end_load(slot, ok, tries))
 }
 
 /// Begins a drain, with the numbers of `gz_book_begin_drain`.
@@ -63,17 +45,9 @@ pub extern "C" fn gz_caller_end_load(
 pub extern "C" fn gz_caller_begin_drain(caller: &mut GzCaller, slot: usize, tries: u32) -> u32
     requires full { caller.old.full ≡ true }
     ensures kept { (caller.new.full ≡ true) × SameTable caller.old.held caller.new.held }
-    ensures call { BookCallEnded caller.old.held slot tries (Call.BeginDrain slot) result 0 caller.new.held }
+    ensures call { BookCallEnded begin_drain_refusal caller.old.held slot tries (Call.BeginDrain slot) result caller.new.held }
 {
-    match caller.lend().begin_drain(slot, tries) {
-        None => OUT_OF_RANGE,
-        Some(None) => BUSY,
-        Some(Some(Err(BeginDrainError::NoEntry))) => NO_ENTRY,
-        Some(Some(Err(BeginDrainError::NeededBy))) => NEEDED_BY,
-        Some(Some(Err(BeginDrainError::NotLive))) => NOT_LIVE,
-        Some(Some(Err(BeginDrainError::Permanent))) => PERMANENT,
-        Some(Some(Ok(()))) => DONE,
-    }
+    ended_number(caller.lend().begin_drain(slot, tries))
 }
 
 /// Begins a removal, with the numbers of `gz_book_begin_remove`.
@@ -81,18 +55,9 @@ pub extern "C" fn gz_caller_begin_drain(caller: &mut GzCaller, slot: usize, trie
 pub extern "C" fn gz_caller_begin_remove(caller: &mut GzCaller, slot: usize, tries: u32) -> u32
     requires full { caller.old.full ≡ true }
     ensures kept { (caller.new.full ≡ true) × SameTable caller.old.held caller.new.held }
-    ensures call { BookCallEnded caller.old.held slot tries (Call.BeginRemove slot) result 0 caller.new.held }
+    ensures call { BookCallEnded begin_remove_refusal caller.old.held slot tries (Call.BeginRemove slot) result caller.new.held }
 {
-    match caller.lend().begin_remove(slot, tries) {
-        None => OUT_OF_RANGE,
-        Some(None) => BUSY,
-        Some(Some(Err(BeginRemoveError::NoEntry))) => NO_ENTRY,
-        Some(Some(Err(BeginRemoveError::NeededBy))) => NEEDED_BY,
-        Some(Some(Err(BeginRemoveError::NotLive))) => NOT_LIVE,
-        Some(Some(Err(BeginRemoveError::Permanent))) => PERMANENT,
-        Some(Some(Err(BeginRemoveError::InUse))) => IN_USE,
-        Some(Some(Ok(()))) => DONE,
-    }
+    ended_number(caller.lend().begin_remove(slot, tries))
 }
 
 /// Ends a removal or a drain, with the numbers of `gz_book_end_remove`.
@@ -100,13 +65,7 @@ pub extern "C" fn gz_caller_begin_remove(caller: &mut GzCaller, slot: usize, tri
 pub extern "C" fn gz_caller_end_remove(caller: &mut GzCaller, slot: usize, tries: u32) -> u32
     requires full { caller.old.full ≡ true }
     ensures kept { (caller.new.full ≡ true) × SameTable caller.old.held caller.new.held }
-    ensures call { BookCallEnded caller.old.held slot tries (Call.EndRemove slot) result 0 caller.new.held }
+    ensures call { BookCallEnded end_remove_refusal caller.old.held slot tries (Call.EndRemove slot) result caller.new.held }
 {
-    match caller.lend().end_remove(slot, tries) {
-        None => OUT_OF_RANGE,
-        Some(None) => BUSY,
-        Some(Some(Err(EndRemoveError::NotUnloading))) => NOT_UNLOADING,
-        Some(Some(Err(EndRemoveError::InUse))) => IN_USE,
-        Some(Some(Ok(()))) => DONE,
-    }
+    ended_number(caller.lend().end_remove(slot, tries))
 }

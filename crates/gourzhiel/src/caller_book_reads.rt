@@ -3,9 +3,10 @@ ghost use Rattle.std.specs.Prelude.{◌≡◌, true};
 ghost use Rattle.managed_table.specs.Owned.{SameTable};
 ghost use Rattle.gourzhiel.specs.Called.{StateCallTold, LoadedTold, PlaceCallTold};
 
+use crate::endings::ended_state_number;
 use crate::handles::GzCaller;
-use crate::numbers::{ABSENT, BUSY, DONE, DRAINING, LIVE, LOADING, OUT_OF_RANGE, UNLOADING};
-use dep_index::ModuleState;
+use crate::numbers::{BUSY, DONE, OUT_OF_RANGE};
+use managed_table::Attempt;
 
 /// The state of the module: ABSENT, LOADING, LIVE, DRAINING or UNLOADING.
 ///
@@ -16,15 +17,7 @@ pub extern "C" fn gz_caller_state(caller: &mut GzCaller, slot: usize, tries: u32
     ensures kept { (caller.new.full ≡ true) × SameTable caller.old.held caller.new.held }
     ensures state { StateCallTold caller.old.held slot tries result caller.new.held }
 {
-    match caller.lend().state(slot, tries) {
-        None => OUT_OF_RANGE,
-        Some(None) => BUSY,
-        Some(Some(ModuleState::Absent)) => ABSENT,
-        Some(Some(ModuleState::Loading)) => LOADING,
-        Some(Some(ModuleState::Live)) => LIVE,
-        Some(Some(ModuleState::Draining)) => DRAINING,
-        Some(Some(ModuleState::Unloading)) => UNLOADING,
-    }
+    ended_state_number(caller.lend().state(slot, tries))
 }
 
 /// How many modules are loaded, in any state but absent.
@@ -37,8 +30,9 @@ pub extern "C" fn gz_caller_loaded(caller: &mut GzCaller, tries: u32, count: &mu
     ensures count { LoadedTold caller.old.held tries count.old result count.new caller.new.held }
 {
     match caller.lend().loaded(tries) {
-        None => BUSY,
-        Some(found) => {
+        Attempt::OutOfRange | Attempt::Missed => unreachable!(),
+        Attempt::LockBusy => BUSY,
+        Attempt::Answered(found) => {
             *count = found;
             DONE
         }
@@ -60,9 +54,9 @@ pub extern "C" fn gz_caller_loaded_at(
     ensures place { PlaceCallTold caller.old.held place tries slot.old result slot.new caller.new.held }
 {
     match caller.lend().loaded_at(place, tries) {
-        None => BUSY,
-        Some(None) => OUT_OF_RANGE,
-        Some(Some(found)) => {
+        Attempt::LockBusy | Attempt::Missed => BUSY,
+        Attempt::OutOfRange | Attempt::Answered(None) => OUT_OF_RANGE,
+        Attempt::Answered(Some(found)) => {
             *slot = found;
             DONE
         }

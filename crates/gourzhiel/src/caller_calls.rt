@@ -1,11 +1,14 @@
 //! The managed calls of leaves, on the handle of a caller.
 ghost use Rattle.std.specs.Prelude.{◌≡◌, true};
+ghost use Rattle.dep_index.specs.Refusals.{put_refusal};
 ghost use Rattle.managed_table.specs.Owned.{row_of, SameTable};
 ghost use Rattle.gourzhiel.specs.Called.{GetCallEnded, LeafCallEnded, HeldTold};
 
+use crate::endings::ended_number;
 use crate::handles::GzCaller;
-use crate::numbers::{BUSY, DONE, NOT_HELD, NOT_LIVE, OUT_OF_RANGE, TOO_MANY};
-use dep_index::{Call, GetError, PutError};
+use crate::numbers::{BUSY, DONE, OUT_OF_RANGE};
+use dep_index::Call;
+use managed_table::Attempt;
 
 /// How many workers the table has.
 #[unsafe(no_mangle)]
@@ -32,13 +35,7 @@ pub extern "C" fn gz_caller_get(
     ensures kept { (caller.new.full ≡ true) × SameTable caller.old.held caller.new.held }
     ensures call { GetCallEnded caller.old.held worker slot tries result caller.new.held }
 {
-    match caller.lend().get(worker, slot, tries) {
-        None => OUT_OF_RANGE,
-        Some(None) | Some(Some(None)) => BUSY,
-        Some(Some(Some(Err(GetError::NotLive)))) => NOT_LIVE,
-        Some(Some(Some(Err(GetError::TooMany)))) => TOO_MANY,
-        Some(Some(Some(Ok(())))) => DONE,
-    }
+    ended_number(caller.lend().get(worker, slot, tries))
 }
 
 /// Gives one reference of the worker back, in at most so many tries of its lock.
@@ -54,14 +51,9 @@ pub extern "C" fn gz_caller_put(
 ) -> u32
     requires full { caller.old.full ≡ true }
     ensures kept { (caller.new.full ≡ true) × SameTable caller.old.held caller.new.held }
-    ensures call { LeafCallEnded caller.old.held worker slot tries (Call.Put worker slot) result caller.new.held }
+    ensures call { LeafCallEnded put_refusal caller.old.held worker slot tries (Call.Put worker slot) result caller.new.held }
 {
-    match caller.lend().put(worker, slot, tries) {
-        None => OUT_OF_RANGE,
-        Some(None) => BUSY,
-        Some(Some(Err(PutError::NotHeld))) => NOT_HELD,
-        Some(Some(Ok(()))) => DONE,
-    }
+    ended_number(caller.lend().put(worker, slot, tries))
 }
 
 /// How often the worker holds the module. It is no call of the history.
@@ -81,9 +73,9 @@ pub extern "C" fn gz_caller_held(
     ensures count { HeldTold caller.old.held worker slot tries count.old result count.new caller.new.held }
 {
     match caller.lend().held(worker, slot, tries) {
-        None => OUT_OF_RANGE,
-        Some(None) => BUSY,
-        Some(Some(found)) => {
+        Attempt::OutOfRange => OUT_OF_RANGE,
+        Attempt::LockBusy | Attempt::Missed => BUSY,
+        Attempt::Answered(found) => {
             *count = found;
             DONE
         }

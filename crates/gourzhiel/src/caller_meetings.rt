@@ -6,6 +6,7 @@ ghost use Rattle.gourzhiel.specs.Meeting.{LeafMeetingEnded, BookMeetingEnded};
 
 use crate::handles::{GzCaller, GzTeller};
 use crate::numbers::{BUSY, DONE, OUT_OF_RANGE};
+use managed_table::Attempt;
 
 /// The worker's leaf and a teller of the same table hear of each other, in at most so many tries of the leaf's lock: both have
 /// then seen one list of calls. It is no call of the history.
@@ -25,9 +26,9 @@ pub extern "C" fn gz_caller_meet_leaf(
     ensures met { LeafMeetingEnded caller.old.held worker tries teller.old.held result caller.new.held teller.new.held }
 {
     match caller.lend().meet_leaf(worker, teller.lend(), tries) {
-        None => OUT_OF_RANGE,
-        Some(false) => BUSY,
-        Some(true) => DONE,
+        Attempt::OutOfRange => OUT_OF_RANGE,
+        Attempt::LockBusy | Attempt::Missed => BUSY,
+        Attempt::Answered(()) => DONE,
     }
 }
 
@@ -44,10 +45,10 @@ pub extern "C" fn gz_caller_meet_book(
     ensures teller_kept { (teller.new.full ≡ true) × IsOf (row_of caller.old.held) teller.new.held }
     ensures met { BookMeetingEnded caller.old.held tries teller.old.held result caller.new.held teller.new.held }
 {
-    if caller.lend().meet_book(teller.lend(), tries) {
-        DONE
-    } else {
-        BUSY
+    match caller.lend().meet_book(teller.lend(), tries) {
+        Attempt::OutOfRange | Attempt::Missed => unreachable!(),
+        Attempt::LockBusy => BUSY,
+        Attempt::Answered(()) => DONE,
     }
 }
 

@@ -8,6 +8,7 @@ mod caller_book_reads;
 mod caller_calls;
 mod caller_meetings;
 mod catalogue_calls;
+mod endings;
 mod handles;
 mod leaf_calls;
 mod making;

@@ -1,5 +1,5 @@
 -- A turn in which the value made one call, or none.
-use Rattle.std.proofs.Common.{◌≡◌, ℕ, [], ◌∷◌, ◌++◌, Option, Some, None, IfSome, IfNone, MatchOption, sym, ap, ◌∙◌, subst, append_assoc, append-nil}
+use Rattle.std.proofs.Common.{◌≡◌, ℕ, [], ◌∷◌, ◌++◌, sym, ap, ◌∙◌, subst, append_assoc, append-nil}
 use lib.ListN.{get_elem?}
 use Rattle.dep_index.specs.declared.table.calls.Call.{Call}
 use Rattle.dep_index.specs.declared.table.calls.Reply.{Reply}
@@ -102,50 +102,15 @@ module _ (row : RowIs) (slot : ℕ) (Did : Seated → Seated → Type 0) (old ne
       no_call book_fits row 0 Did old new t Shows book_fit.0 knows is
       (shows (table_after row.world (seen t.taken)) (subst (Agrees (table_after row.world (seen t.taken))) (ap part_in book_fit.1) (agrees book_fits row 0 Did old new t book_fit.0 knows)))
 
--- a turn in which a leaf was asked to try, and gave up
-pub turn_missed : {R : Type 0} (row : RowIs) (worker slot : ℕ) (old new : Pass) → old.row.value ≡ row → (Did : Option R → Seated → Seated → Type 0) (o : Option (Option R)) → IfSome o (λ r. MadeTurn leaf_fits shown worker (Did r) old new)
-    → ((x y : Seated) → Did None x y → KnowsTable x.view × (y.view ≡ x.view) × (count_of x.view slot ≡ 0))
-    → IfSome o (λ r. IfNone r (MadeNoCall row worker (HoldsSoOften worker slot 0) old new))
-turn_missed row worker slot old new same_row Did None t told = tt
-turn_missed row worker slot old new same_row Did (Some None) t told =
-    let h = told t.taken t.left t.did in leaf_shown row worker slot (Did None) old new same_row t 0 h.0 h.1 h.2
-turn_missed row worker slot old new same_row Did (Some (Some r)) t told = tt
-
--- what its steps show, if it gave up and if it was answered
-module _ {R : Type 0} (worker : ℕ) (old new : Pass) (Did : Option R → Seated → Seated → Type 0) where
-  pub turn_shows : (Shows : Seated → Seated → Type 0) (r : Option R) → MadeTurn leaf_fits shown worker (Did r) old new → ((x y : Seated) → Did r x y → Shows x y) → MadeTurn leaf_fits shown worker Shows old new
-  turn_shows Shows r t told = record {
-    missed = t.missed;
-    taken = t.taken;
-    left = t.left;
-    turned = t.turned;
-    fit = t.fit;
-    did = told t.taken t.left t.did;
-    follows = t.follows;
-  }
-
-  pub given_up : (Gave : Seated → Seated → Type 0) (o : Option (Option R)) → IfSome o (λ r. MadeTurn leaf_fits shown worker (Did r) old new)
-      → ((x y : Seated) → Did None x y → Gave x y) → IfSome o (λ r. IfNone r (MadeTurn leaf_fits shown worker Gave old new))
-  given_up Gave None t told = tt
-  given_up Gave (Some None) t told = turn_shows Gave None t told
-  given_up Gave (Some (Some r)) t told = tt
-
-  pub in_time : (Gives : R → Seated → Seated → Type 0) (o : Option (Option R)) → IfSome o (λ r. MadeTurn leaf_fits shown worker (Did r) old new)
-      → ((r : R) (x y : Seated) → Did (Some r) x y → Gives r x y) → IfSome o (λ r. IfSome r (λ a. MadeTurn leaf_fits shown worker (Gives a) old new))
-  in_time Gives None t told = tt
-  in_time Gives (Some None) t told = tt
-  in_time Gives (Some (Some r)) t told = turn_shows (Gives r) (Some r) t (told r)
-
--- the same if the lock may have been found taken at each try
-module _ {R : Type 0} (worker : ℕ) (old new : Pass) (Same : Type 0) (Did : Option R → Seated → Seated → Type 0) where
-  pub given_up_within : (Gave : Seated → Seated → Type 0) (o : Option (Option (Option R))) → IfSome o (λ p. MatchOption p Same (λ a. MadeTurn leaf_fits shown worker (Did a) old new))
-      → ((x y : Seated) → Did None x y → Gave x y) → IfSome o (λ p. IfSome p (λ a. IfNone a (MadeTurn leaf_fits shown worker Gave old new)))
-  given_up_within Gave None t told = tt
-  given_up_within Gave (Some None) t told = tt
-  given_up_within Gave (Some (Some a)) t told = given_up worker old new Did Gave (Some a) t told
-
-  pub in_time_within : (Gives : R → Seated → Seated → Type 0) (o : Option (Option (Option R))) → IfSome o (λ p. MatchOption p Same (λ a. MadeTurn leaf_fits shown worker (Did a) old new))
-      → ((r : R) (x y : Seated) → Did (Some r) x y → Gives r x y) → IfSome o (λ p. IfSome p (λ a. IfSome a (λ r. MadeTurn leaf_fits shown worker (Gives r) old new)))
-  in_time_within Gives None t told = tt
-  in_time_within Gives (Some None) t told = tt
-  in_time_within Gives (Some (Some a)) t told = in_time worker old new Did Gives (Some a) t told
+-- a turn of which more is known
+pub turn_shows : (fits : RowIs → ℕ → Seated → Type 0) (lock : ℕ) (Did Shows : Seated → Seated → Type 0) (old new : Pass) → MadeTurn fits shown lock Did old new
+    → ((x y : Seated) → Did x y → Shows x y) → MadeTurn fits shown lock Shows old new
+turn_shows fits lock Did Shows old new t told = record {
+  missed = t.missed;
+  taken = t.taken;
+  left = t.left;
+  turned = t.turned;
+  fit = t.fit;
+  did = told t.taken t.left t.did;
+  follows = t.follows;
+}

@@ -9,5 +9,6 @@ pub mod Turning
 pub mod Answered
 pub mod Fresh
 pub mod Trying
+pub mod Waiting
 pub mod InHand
 pub mod Telling

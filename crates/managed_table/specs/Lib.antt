@@ -9,4 +9,6 @@ pub mod Tries
 pub mod InHand
 pub mod Owned
 pub mod Hearing
+pub mod Attempts
+pub mod Attempted
 pub mod Calls

@@ -32,7 +32,3 @@ Has place found table = MatchOption found (HasNoneAt place table) (λ slot. HasL
 abbrev pub reader_in : Option Seated → Seated
 reader_in None = no_seat
 reader_in (Some reader) = reader
-
--- neither the caller nor the teller was changed
-abbrev pub AreAsBefore : CallerIs → CallerIs → Seated → Seated → Type 0
-AreAsBefore caller caller' teller teller' = (caller' ≡ caller) × (teller' ≡ teller)

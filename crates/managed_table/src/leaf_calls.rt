@@ -1,15 +1,16 @@
 //! The calls of leaves.
+use crate::attempt::{Attempt, attempted, missed_or_answered};
 use crate::caller::Caller;
 use crate::table::ManagedTable;
 use dep_index::{Call, GetError, PutError};
 use std::sync::Wait;
 
 impl ManagedTable {
-    ghost use Rattle.std.specs.Prelude.{◌≡◌, IfSome, IfNone, MatchOption};
+    ghost use Rattle.std.specs.Prelude.{◌≡◌, IfSome, MatchOption};
     ghost use Rattle.dep_index.specs.Refusals.{reply_of, get_refusal, put_refusal};
     ghost use Rattle.managed_table.specs.Shown.{HoldsSoOften};
-    ghost use Rattle.managed_table.specs.Callers.{IsCallerOf, IsInside, IsOutside, LeafMade, LeafShown, LeafTurned};
-    ghost use Rattle.managed_table.specs.Tries.{GaveUp, AnsweredWithin};
+    ghost use Rattle.managed_table.specs.Callers.{IsCallerOf, IsInside, IsOutside, LeafMade, LeafShown};
+    ghost use Rattle.managed_table.specs.Attempts.{Ended, GetGivenUp, GetDid};
 
     /// Takes one reference for the worker. It is None exactly if the worker or the slot is out of range.
     ///
@@ -41,8 +42,8 @@ impl ManagedTable {
         Some(self.end_by_long_get(rt, seat, worker, slot))
     }
 
-    /// As `get`, but the leaf tries at most this many times. The inner None: the worker holds no reference to the slot, each of
-    /// so many tries was missed, and no call was made in the turn.
+    /// As `get`, but the leaf tries at most this many times. `Missed`: the worker holds no reference to the slot, each of so many
+    /// tries was missed, and no call was made in the turn. It waits for the lock, so it is never `LockBusy`.
     pub fn try_get<R: Wait>(
         &self,
         rt: &R,
@@ -50,21 +51,17 @@ impl ManagedTable {
         worker: usize,
         slot: usize,
         tries: u32,
-    ) -> Option<Option<Result<(), GetError>>>
+    ) -> Attempt<Result<(), GetError>>
         requires own { IsCallerOf self.now caller.old }
         ensures own { IsCallerOf self.now caller.new }
-        ensures range { MatchOption result (IsOutside self.now worker slot × (caller.new ≡ caller.old)) (λ _. IsInside self.now worker slot) }
-        ensures call { IfSome result (λ r. IfSome r (λ a. LeafMade self.now worker (Call.Get worker slot) (reply_of get_refusal a) caller.old caller.new)) }
-        ensures missed { IfSome result (λ r. IfNone r (LeafShown self.now worker (HoldsSoOften worker slot 0) caller.old caller.new)) }
-        ensures given_up { IfSome result (λ r. IfNone r (LeafTurned worker (GaveUp tries slot) caller.old caller.new)) }
-        ensures in_time { IfSome result (λ r. IfSome r (λ a. LeafTurned worker (AnsweredWithin tries slot (reply_of get_refusal a)) caller.old caller.new)) }
-        ensures book { caller.new.book ≡ caller.old.book }
+        ensures call { Ended (IsOutside self.now worker slot) (IsInside self.now worker slot) ⊥ (GetGivenUp worker slot tries caller.old caller.new) (λ r. GetDid worker slot tries caller.old caller.new (reply_of get_refusal r)) caller.old result caller.new }
     {
         let row = &self.row;
-        self.leaf_turn(rt, caller, worker, slot, |leaf| {
+        let turned = self.leaf_turn(rt, caller, worker, slot, |leaf| {
             leaf.laws();
             leaf.try_get(row, slot, tries)
-        })
+        });
+        missed_or_answered(attempted(turned))
     }
 
     /// Gives one reference of the worker back.

@@ -1,6 +1,7 @@
 //! A row with its leaves and its book behind locks that know whose they are. Each managed call is one turn of a caller.
 #![tactic(auto)]
 
+mod attempt;
 mod book_calls;
 mod caller;
 mod calls;
@@ -21,6 +22,7 @@ mod teller;
 mod tries;
 pub mod view;
 
+pub use attempt::{Attempt, attempted};
 pub use caller::Caller;
 pub use own_caller::OwnCaller;
 pub use table::ManagedTable;

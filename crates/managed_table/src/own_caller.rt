@@ -1,4 +1,5 @@
 //! A caller that owns a share of its table.
+use crate::attempt::Attempt;
 use crate::caller::Caller;
 use crate::table::ManagedTable;
 use crate::teller::{Teller, tellers_of};
@@ -9,12 +10,7 @@ use std::sync::Arc;
 
 /// A caller with a share of a table that only such callers have, for threads that must not wait. Contracts see the caller.
 ///
-/// Its calls never wait, and so wake nobody. Each tries its lock at most `tries` times:
-///
-/// - The outer None: the worker or the slot is out of range.
-/// - The next None, which is the outer one of `loaded` and `loaded_at`: another caller had the lock at each try.
-///
-/// At both nothing is changed. The inner None of `loaded_at` is an answer, after one turn: no module stands at the place.
+/// Its calls never wait, and so wake nobody. Each tries its lock at most `tries` times, and an `Attempt` says how it ended.
 #[derive(Drop)]
 pub struct OwnCaller {
     pub(crate) caller: Caller,
@@ -33,19 +29,17 @@ impl Model for OwnCaller {
 }
 
 impl OwnCaller {
-    ghost use Rattle.std.specs.Prelude.{◌≡◌, ◌<◌, All, IfOk, IfErr, IfSome, IfNone, MatchOption};
+    ghost use Rattle.std.specs.Prelude.{◌≡◌, ◌<◌, All, IfOk, IfErr};
     ghost use Rattle.dep_index.specs.Catalogue.{modules_of};
     ghost use Rattle.dep_index.specs.Words.{closed};
     ghost use Rattle.dep_index.specs.Refusals.{reply_of, get_refusal, put_refusal};
     ghost use Rattle.root_row.specs.World.{slots};
     ghost use Rattle.root_row.specs.Made.{new_reader, AreNew};
     ghost use Rattle.root_row.specs.Seats.{IsOf};
-    ghost use Rattle.root_row.specs.declared.view.SeatName.TheVariants as name_is;
-    ghost use Rattle.managed_table.specs.Turns.{MadeOneCall, MadeNoCall};
     ghost use Rattle.managed_table.specs.Shown.{HoldsSoOften};
-    ghost use Rattle.managed_table.specs.Callers.{CallerIs, IsFirst, GaveFurther, LeafMissed, LeafTurned};
-    ghost use Rattle.managed_table.specs.Tries.{GaveUp, AnsweredWithin};
-    ghost use Rattle.managed_table.specs.Owned.{row_of, SameTable, IsBeyond, IsWithin};
+    ghost use Rattle.managed_table.specs.Callers.{CallerIs, IsFirst, GaveFurther};
+    ghost use Rattle.managed_table.specs.Owned.{row_of, SameTable};
+    ghost use Rattle.managed_table.specs.Attempts.{LeafEnded, GetGivenUp, GetDid, LeafDid, LeafShows};
 
     /// A table over a catalogue, and its first caller. Every module is Absent, and nothing is held.
     pub fn new(
@@ -113,37 +107,19 @@ impl OwnCaller {
         self.table.slots()
     }
 
-    /// Takes one reference for the worker. The innermost None: this caller had the lock, the worker holds no reference to the
-    /// module, and each of `tries` tries of the module's word was missed.
-    pub fn get(
-        &mut self,
-        worker: usize,
-        slot: usize,
-        tries: u32,
-    ) -> Option<Option<Option<Result<(), GetError>>>>
+    /// Takes one reference for the worker. `Missed`: this caller had the lock, the worker holds no reference to the module, and
+    /// each of `tries` tries of the module's word was missed.
+    pub fn get(&mut self, worker: usize, slot: usize, tries: u32) -> Attempt<Result<(), GetError>>
         ensures same { SameTable self.old self.new }
-        ensures range { MatchOption result (IsBeyond self.old worker slot × (self.new ≡ self.old)) (λ _. IsWithin self.old worker slot) }
-        ensures call { IfSome result (λ o. MatchOption o (LeafMissed worker tries self.old self.new) (λ a. IfSome a (λ r. MadeOneCall (row_of self.old) worker (name_is.Leaf worker) (Call.Get worker slot) (reply_of get_refusal r) self.old.leaves.pass self.new.leaves.pass))) }
-        ensures missed { IfSome result (λ o. IfSome o (λ a. IfNone a (MadeNoCall (row_of self.old) worker (HoldsSoOften worker slot 0) self.old.leaves.pass self.new.leaves.pass))) }
-        ensures given_up { IfSome result (λ o. IfSome o (λ a. IfNone a (LeafTurned worker (GaveUp tries slot) self.old self.new))) }
-        ensures in_time { IfSome result (λ o. IfSome o (λ a. IfSome a (λ r.
-            LeafTurned worker (AnsweredWithin tries slot (reply_of get_refusal r)) self.old self.new))) }
-        ensures book { self.new.book ≡ self.old.book }
+        ensures call { LeafEnded worker slot tries (GetGivenUp worker slot tries self.old self.new) (λ r. GetDid worker slot tries self.old self.new (reply_of get_refusal r)) self.old result self.new }
     {
         self.table.get_within(&mut self.caller, worker, slot, tries)
     }
 
     /// Gives one reference of the worker back.
-    pub fn put(
-        &mut self,
-        worker: usize,
-        slot: usize,
-        tries: u32,
-    ) -> Option<Option<Result<(), PutError>>>
+    pub fn put(&mut self, worker: usize, slot: usize, tries: u32) -> Attempt<Result<(), PutError>>
         ensures same { SameTable self.old self.new }
-        ensures range { MatchOption result (IsBeyond self.old worker slot × (self.new ≡ self.old)) (λ _. IsWithin self.old worker slot) }
-        ensures call { IfSome result (λ o. MatchOption o (LeafMissed worker tries self.old self.new) (λ r. MadeOneCall (row_of self.old) worker (name_is.Leaf worker) (Call.Put worker slot) (reply_of put_refusal r) self.old.leaves.pass self.new.leaves.pass)) }
-        ensures book { self.new.book ≡ self.old.book }
+        ensures call { LeafEnded worker slot tries ⊥ (λ r. LeafDid worker (Call.Put worker slot) self.old self.new (reply_of put_refusal r)) self.old result self.new }
     {
         let row = &self.table.row;
         self.table.try_leaf_turn(
@@ -156,11 +132,9 @@ impl OwnCaller {
     }
 
     /// How often the worker holds the module. The turn makes no call.
-    pub fn held(&mut self, worker: usize, slot: usize, tries: u32) -> Option<Option<u32>>
+    pub fn held(&mut self, worker: usize, slot: usize, tries: u32) -> Attempt<u32>
         ensures same { SameTable self.old self.new }
-        ensures range { MatchOption result (IsBeyond self.old worker slot × (self.new ≡ self.old)) (λ _. IsWithin self.old worker slot) }
-        ensures shown { IfSome result (λ o. MatchOption o (LeafMissed worker tries self.old self.new) (λ r. MadeNoCall (row_of self.old) worker (HoldsSoOften worker slot r) self.old.leaves.pass self.new.leaves.pass)) }
-        ensures book { self.new.book ≡ self.old.book }
+        ensures shown { LeafEnded worker slot tries ⊥ (λ count. LeafShows worker (HoldsSoOften worker slot count) self.old self.new) self.old result self.new }
     {
         self.table
             .try_leaf_turn(&mut self.caller, worker, slot, tries, |leaf| {

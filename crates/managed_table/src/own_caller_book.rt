@@ -1,4 +1,5 @@
 //! The calls of the book by a caller that owns a share of its table.
+use crate::attempt::Attempt;
 use crate::own_caller::OwnCaller;
 use dep_index::{
     BeginDrainError, BeginLoadError, BeginRemoveError, Call, EndLoadError, EndRemoveError,
@@ -6,34 +7,23 @@ use dep_index::{
 };
 
 impl OwnCaller {
-    ghost use Rattle.std.specs.Prelude.{◌≡◌, ◌<◌, ◌≤◌, IfSome, MatchOption};
     ghost use Rattle.dep_index.specs.Refusals.{reply_of, begin_load_refusal, end_load_refusal};
     ghost use Rattle.dep_index.specs.Refusals.{begin_drain_refusal, begin_remove_refusal, end_remove_refusal};
-    ghost use Rattle.root_row.specs.World.{slots};
-    ghost use Rattle.root_row.specs.declared.view.SeatName.TheVariants as name_is;
-    ghost use Rattle.managed_table.specs.Turns.{MadeOneCall, MadeNoCall};
     ghost use Rattle.managed_table.specs.Shown.{IsInState, HasLoaded};
-    ghost use Rattle.managed_table.specs.Callers.{BookMissed};
-    ghost use Rattle.managed_table.specs.Owned.{row_of, SameTable, Has};
+    ghost use Rattle.managed_table.specs.Owned.{SameTable, Has};
+    ghost use Rattle.managed_table.specs.Attempts.{BookEnded, LookEnded, BookDid, BookShows};
 
     /// Begins a load.
-    pub fn begin_load(
-        &mut self,
-        slot: usize,
-        tries: u32,
-    ) -> Option<Option<Result<(), BeginLoadError>>>
+    pub fn begin_load(&mut self, slot: usize, tries: u32) -> Attempt<Result<(), BeginLoadError>>
         ensures same { SameTable self.old self.new }
-        ensures range { MatchOption result ((slots (row_of self.old).world ≤ slot) × (self.new ≡ self.old)) (λ _. slot < slots (row_of self.old).world) }
-        ensures call { IfSome result (λ o. MatchOption o (BookMissed tries self.old self.new) (λ r. MadeOneCall (row_of self.old) 0 name_is.Book (Call.BeginLoad slot) (reply_of begin_load_refusal r) self.old.book.pass self.new.book.pass)) }
-        ensures leaves { self.new.leaves ≡ self.old.leaves }
+        ensures call { BookEnded slot tries (λ r. BookDid (Call.BeginLoad slot) self.old self.new (reply_of begin_load_refusal r)) self.old result self.new }
     {
-        if slot >= self.slots() {
-            return None;
-        }
         let row = &self.table.row;
-        Some(
-            self.table
-                .try_book_turn(&mut self.caller, tries, |book| book.begin_load(row, slot)),
+        self.table.try_slot_turn(
+            &mut self.caller,
+            slot,
+            tries,
+            |book| book.begin_load(row, slot),
         )
     }
 
@@ -43,99 +33,77 @@ impl OwnCaller {
         slot: usize,
         ok: bool,
         tries: u32,
-    ) -> Option<Option<Result<(), EndLoadError>>>
+    ) -> Attempt<Result<(), EndLoadError>>
         ensures same { SameTable self.old self.new }
-        ensures range { MatchOption result ((slots (row_of self.old).world ≤ slot) × (self.new ≡ self.old)) (λ _. slot < slots (row_of self.old).world) }
-        ensures call { IfSome result (λ o. MatchOption o (BookMissed tries self.old self.new) (λ r. MadeOneCall (row_of self.old) 0 name_is.Book (Call.EndLoad slot ok) (reply_of end_load_refusal r) self.old.book.pass self.new.book.pass)) }
-        ensures leaves { self.new.leaves ≡ self.old.leaves }
+        ensures call { BookEnded slot tries (λ r. BookDid (Call.EndLoad slot ok) self.old self.new (reply_of end_load_refusal r)) self.old result self.new }
     {
-        if slot >= self.slots() {
-            return None;
-        }
         let row = &self.table.row;
-        Some(self.table.try_book_turn(&mut self.caller, tries, |book| book.end_load(row, slot, ok)))
+        self.table.try_slot_turn(
+            &mut self.caller,
+            slot,
+            tries,
+            |book| book.end_load(row, slot, ok),
+        )
     }
 
     /// Begins a drain: no further get succeeds.
-    pub fn begin_drain(
-        &mut self,
-        slot: usize,
-        tries: u32,
-    ) -> Option<Option<Result<(), BeginDrainError>>>
+    pub fn begin_drain(&mut self, slot: usize, tries: u32) -> Attempt<Result<(), BeginDrainError>>
         ensures same { SameTable self.old self.new }
-        ensures range { MatchOption result ((slots (row_of self.old).world ≤ slot) × (self.new ≡ self.old)) (λ _. slot < slots (row_of self.old).world) }
-        ensures call { IfSome result (λ o. MatchOption o (BookMissed tries self.old self.new) (λ r. MadeOneCall (row_of self.old) 0 name_is.Book (Call.BeginDrain slot) (reply_of begin_drain_refusal r) self.old.book.pass self.new.book.pass)) }
-        ensures leaves { self.new.leaves ≡ self.old.leaves }
+        ensures call { BookEnded slot tries (λ r. BookDid (Call.BeginDrain slot) self.old self.new (reply_of begin_drain_refusal r)) self.old result self.new }
     {
-        if slot >= self.slots() {
-            return None;
-        }
         let row = &self.table.row;
-        Some(self.table.try_book_turn(&mut self.caller, tries, |book| book.begin_drain(row, slot)))
+        self.table.try_slot_turn(
+            &mut self.caller,
+            slot,
+            tries,
+            |book| book.begin_drain(row, slot),
+        )
     }
 
     /// Begins a removal.
-    pub fn begin_remove(
-        &mut self,
-        slot: usize,
-        tries: u32,
-    ) -> Option<Option<Result<(), BeginRemoveError>>>
+    pub fn begin_remove(&mut self, slot: usize, tries: u32) -> Attempt<Result<(), BeginRemoveError>>
         ensures same { SameTable self.old self.new }
-        ensures range { MatchOption result ((slots (row_of self.old).world ≤ slot) × (self.new ≡ self.old)) (λ _. slot < slots (row_of self.old).world) }
-        ensures call { IfSome result (λ o. MatchOption o (BookMissed tries self.old self.new) (λ r. MadeOneCall (row_of self.old) 0 name_is.Book (Call.BeginRemove slot) (reply_of begin_remove_refusal r) self.old.book.pass self.new.book.pass)) }
-        ensures leaves { self.new.leaves ≡ self.old.leaves }
+        ensures call { BookEnded slot tries (λ r. BookDid (Call.BeginRemove slot) self.old self.new (reply_of begin_remove_refusal r)) self.old result self.new }
     {
-        if slot >= self.slots() {
-            return None;
-        }
         let row = &self.table.row;
-        Some(self.table.try_book_turn(&mut self.caller, tries, |book| book.begin_remove(row, slot)))
+        self.table.try_slot_turn(
+            &mut self.caller,
+            slot,
+            tries,
+            |book| book.begin_remove(row, slot),
+        )
     }
 
     /// Ends a removal or a drain.
-    pub fn end_remove(
-        &mut self,
-        slot: usize,
-        tries: u32,
-    ) -> Option<Option<Result<(), EndRemoveError>>>
+    pub fn end_remove(&mut self, slot: usize, tries: u32) -> Attempt<Result<(), EndRemoveError>>
         ensures same { SameTable self.old self.new }
-        ensures range { MatchOption result ((slots (row_of self.old).world ≤ slot) × (self.new ≡ self.old)) (λ _. slot < slots (row_of self.old).world) }
-        ensures call { IfSome result (λ o. MatchOption o (BookMissed tries self.old self.new) (λ r. MadeOneCall (row_of self.old) 0 name_is.Book (Call.EndRemove slot) (reply_of end_remove_refusal r) self.old.book.pass self.new.book.pass)) }
-        ensures leaves { self.new.leaves ≡ self.old.leaves }
+        ensures call { BookEnded slot tries (λ r. BookDid (Call.EndRemove slot) self.old self.new (reply_of end_remove_refusal r)) self.old result self.new }
     {
-        if slot >= self.slots() {
-            return None;
-        }
         let row = &self.table.row;
-        Some(
-            self.table
-                .try_book_turn(&mut self.caller, tries, |book| book.end_remove(row, slot)),
+        self.table.try_slot_turn(
+            &mut self.caller,
+            slot,
+            tries,
+            |book| book.end_remove(row, slot),
         )
     }
 
     /// The state of the module. The turn makes no call.
-    pub fn state(&mut self, slot: usize, tries: u32) -> Option<Option<ModuleState>>
+    pub fn state(&mut self, slot: usize, tries: u32) -> Attempt<ModuleState>
         ensures same { SameTable self.old self.new }
-        ensures range { MatchOption result ((slots (row_of self.old).world ≤ slot) × (self.new ≡ self.old)) (λ _. slot < slots (row_of self.old).world) }
-        ensures shown { IfSome result (λ o. MatchOption o (BookMissed tries self.old self.new) (λ r. MadeNoCall (row_of self.old) 0 (IsInState slot r) self.old.book.pass self.new.book.pass)) }
-        ensures leaves { self.new.leaves ≡ self.old.leaves }
+        ensures shown { BookEnded slot tries (λ state. BookShows (IsInState slot state) self.old self.new) self.old result self.new }
     {
-        if slot >= self.slots() {
-            return None;
-        }
-        Some(
-            self.table.try_book_turn(&mut self.caller, tries, |book| {
+        self.table
+            .try_slot_turn(&mut self.caller, slot, tries, |book| {
                 book.laws();
                 book.state(slot)
-            }),
-        )
+            })
     }
 
-    /// How many modules are loaded, in any state. The turn makes no call. None: the lock was taken at each try.
-    pub fn loaded(&mut self, tries: u32) -> Option<usize>
+    /// How many modules are loaded, in any state. The turn makes no call.
+    pub fn loaded(&mut self, tries: u32) -> Attempt<usize>
         ensures same { SameTable self.old self.new }
-        ensures shown { MatchOption result (BookMissed tries self.old self.new) (λ r. MadeNoCall (row_of self.old) 0 (HasLoaded r) self.old.book.pass self.new.book.pass) }
-        ensures leaves { self.new.leaves ≡ self.old.leaves }
+        ensures shown { LookEnded tries (λ count. BookShows (HasLoaded count) self.old self.new) self.old result self.new }
     {
         self.table.try_book_turn(&mut self.caller, tries, |book| {
             book.laws();
@@ -143,12 +111,11 @@ impl OwnCaller {
         })
     }
 
-    /// The loaded module at this place, the oldest first. The turn makes no call. The outer None: the lock was taken at each
-    /// try. The inner None: no more modules are loaded.
-    pub fn loaded_at(&mut self, place: usize, tries: u32) -> Option<Option<usize>>
+    /// The loaded module at this place, the oldest first. The answer is None if no more modules are loaded. The turn makes no
+    /// call.
+    pub fn loaded_at(&mut self, place: usize, tries: u32) -> Attempt<Option<usize>>
         ensures same { SameTable self.old self.new }
-        ensures shown { MatchOption result (BookMissed tries self.old self.new) (λ o. MadeNoCall (row_of self.old) 0 (Has place o) self.old.book.pass self.new.book.pass) }
-        ensures leaves { self.new.leaves ≡ self.old.leaves }
+        ensures shown { LookEnded tries (λ found. BookShows (Has place found) self.old self.new) self.old result self.new }
     {
         self.table.try_book_turn(&mut self.caller, tries, |book| {
             book.laws();

@@ -1,28 +1,22 @@
 //! A caller that owns a share of its table, and a teller.
+use crate::attempt::Attempt;
 use crate::own_caller::OwnCaller;
 use crate::teller::Teller;
 
 impl OwnCaller {
-    ghost use Rattle.std.specs.Prelude.{◌≡◌, ◌<◌, ◌≤◌, IfSome, MatchOption, MatchBool};
     ghost use Rattle.root_row.specs.Seats.{IsOf};
-    ghost use Rattle.root_row.specs.declared.view.SeatName.TheVariants as name_is;
-    ghost use Rattle.managed_table.specs.Hearing.{Met};
-    ghost use Rattle.managed_table.specs.Callers.{LeafMissed, BookMissed};
-    ghost use Rattle.managed_table.specs.Owned.{row_of, SameTable, AreAsBefore};
+    ghost use Rattle.managed_table.specs.Owned.{row_of, SameTable};
+    ghost use Rattle.managed_table.specs.Attempts.{LeafMeets, BookMeets};
 
     /// The worker's leaf and a teller hear of each other, as by `ManagedTable::meet_leaf`. The turn makes no call.
-    ///
-    /// None: the worker is out of range. False: the lock was taken at each try. Nothing is changed then.
-    pub fn meet_leaf(&mut self, worker: usize, teller: &mut Teller, tries: u32) -> Option<bool>
+    pub fn meet_leaf(&mut self, worker: usize, teller: &mut Teller, tries: u32) -> Attempt<()>
         requires teller_own { IsOf (row_of self.old) teller.old }
         ensures same { SameTable self.old self.new }
         ensures teller_own { IsOf (row_of self.old) teller.new }
-        ensures range { MatchOption result (((row_of self.old).world.workers ≤ worker) × AreAsBefore self.old self.new teller.old teller.new) (λ _. worker < (row_of self.old).world.workers) }
-        ensures met { IfSome result (λ met. MatchBool met (Met (row_of self.old) worker (name_is.Leaf worker) self.old.leaves.pass self.new.leaves.pass teller.old.view teller.new.view) (LeafMissed worker tries self.old self.new × (teller.new ≡ teller.old))) }
-        ensures book { self.new.book ≡ self.old.book }
+        ensures met { LeafMeets worker tries teller.old teller.new self.old result self.new }
     {
         if worker >= self.workers() {
-            return None;
+            return Attempt::OutOfRange;
         }
         let Some(reader) = teller.reader.take() else {
             unreachable!()
@@ -31,22 +25,29 @@ impl OwnCaller {
             .table
             .try_meet_leaf(&mut self.caller, worker, reader, tries);
         teller.reader = Some(reader);
-        Some(met)
+        if met {
+            Attempt::Answered(())
+        } else {
+            Attempt::LockBusy
+        }
     }
 
-    /// The same of the book and a teller. False: the lock was taken at each try, and nothing is changed.
-    pub fn meet_book(&mut self, teller: &mut Teller, tries: u32) -> bool
+    /// The same of the book and a teller.
+    pub fn meet_book(&mut self, teller: &mut Teller, tries: u32) -> Attempt<()>
         requires teller_own { IsOf (row_of self.old) teller.old }
         ensures same { SameTable self.old self.new }
         ensures teller_own { IsOf (row_of self.old) teller.new }
-        ensures met { MatchBool result (Met (row_of self.old) 0 name_is.Book self.old.book.pass self.new.book.pass teller.old.view teller.new.view) (BookMissed tries self.old self.new × (teller.new ≡ teller.old)) }
-        ensures leaves { self.new.leaves ≡ self.old.leaves }
+        ensures met { BookMeets tries teller.old teller.new self.old result self.new }
     {
         let Some(reader) = teller.reader.take() else {
             unreachable!()
         };
         let (met, reader) = self.table.try_meet_book(&mut self.caller, reader, tries);
         teller.reader = Some(reader);
-        met
+        if met {
+            Attempt::Answered(())
+        } else {
+            Attempt::LockBusy
+        }
     }
 }

@@ -1,16 +1,15 @@
 //! Turns that are given up if the lock is taken.
-ghost use Rattle.std.specs.Prelude.{◌≡◌, ◌<◌, ◌≤◌, ◌⊎◌, [], IfSome, IfNone, MatchBool, MatchOption};
+ghost use Rattle.std.specs.Prelude.{◌≡◌, ◌<◌, [], MatchBool, MatchOption};
 ghost use Rattle.std.specs.Fn.{FnOnceReturnsAtMut};
 ghost use Rattle.dep_index.specs.Refusals.{reply_of, get_refusal};
 ghost use Rattle.root_row.specs.World.{slots};
-ghost use Rattle.root_row.specs.declared.view.SeatName.TheVariants as name_is;
 ghost use Rattle.managed_table.specs.Kept.{shown, leaf_fits, book_fits};
-ghost use Rattle.managed_table.specs.Turns.{HasTaken, IsSame, Misses, MadeTurn, MadeOneCall, MadeNoCall, alone, pass_of, with_misses, with_turns, turn_of, shown_in_hand};
+ghost use Rattle.managed_table.specs.Turns.{HasTaken, IsSame, Misses, MadeTurn, alone, pass_of, with_misses, with_turns, turn_of, shown_in_hand};
 ghost use Rattle.managed_table.specs.Passes.{IsFree, HasInHand, MayActOn};
-ghost use Rattle.managed_table.specs.Shown.{HoldsSoOften};
-ghost use Rattle.managed_table.specs.Callers.{IsCallerOf, LeafMissed, BookMissed, LeafTurned};
-ghost use Rattle.managed_table.specs.Tries.{GaveUp, AnsweredWithin};
+ghost use Rattle.managed_table.specs.Callers.{IsCallerOf, LeafTurned, BookTurned};
+ghost use Rattle.managed_table.specs.Attempts.{LeafEnded, BookEnded, LookEnded, GetGivenUp, GetDid};
 
+use crate::attempt::{Attempt, missed_or_answered};
 use crate::caller::Caller;
 use crate::keyed::Keyed;
 use crate::locks::{FREE, Locks, WORDS_APART};
@@ -18,7 +17,7 @@ use crate::plays::{Look, Release};
 use crate::table::ManagedTable;
 use crate::view::Passes;
 use atomic_table::Seat;
-use dep_index::{Call, GetError};
+use dep_index::GetError;
 use module_table::Book;
 use use_indicator::Leaf;
 
@@ -105,32 +104,27 @@ impl<T: Keyed + Drop> Locks<T> {
 }
 
 impl ManagedTable {
-    /// As `try_get`, but it never waits. The middle None: the lock was found taken at each try, and nothing else was done.
+    /// As `try_get`, but it never waits.
     pub(crate) fn get_within(
         &self,
         caller: &mut Caller,
         worker: usize,
         slot: usize,
         tries: u32,
-    ) -> Option<Option<Option<Result<(), GetError>>>>
+    ) -> Attempt<Result<(), GetError>>
         requires own { IsCallerOf self.now caller.old }
         ensures own { IsCallerOf self.now caller.new }
-        ensures range { MatchOption result (((self.now.row.world.workers ≤ worker) ⊎ (slots self.now.row.world ≤ slot)) × (caller.new ≡ caller.old)) (λ _. (worker < self.now.row.world.workers) × (slot < slots self.now.row.world)) }
-        ensures call { IfSome result (λ o. MatchOption o (LeafMissed worker tries caller.old caller.new) (λ a. IfSome a (λ r. MadeOneCall self.now.row worker (name_is.Leaf worker) (Call.Get worker slot) (reply_of get_refusal r) caller.old.leaves.pass caller.new.leaves.pass))) }
-        ensures missed { IfSome result (λ o. IfSome o (λ a. IfNone a (MadeNoCall self.now.row worker (HoldsSoOften worker slot 0) caller.old.leaves.pass caller.new.leaves.pass))) }
-        ensures given_up { IfSome result (λ o. IfSome o (λ a. IfNone a (LeafTurned worker (GaveUp tries slot) caller.old caller.new))) }
-        ensures in_time { IfSome result (λ o. IfSome o (λ a. IfSome a (λ r.
-            LeafTurned worker (AnsweredWithin tries slot (reply_of get_refusal r)) caller.old caller.new))) }
-        ensures book { caller.new.book ≡ caller.old.book }
+        ensures call { LeafEnded worker slot tries (GetGivenUp worker slot tries caller.old caller.new) (λ r. GetDid worker slot tries caller.old caller.new (reply_of get_refusal r)) caller.old result caller.new }
     {
         let row = &self.row;
-        self.try_leaf_turn(caller, worker, slot, tries, |leaf| {
+        let ended = self.try_leaf_turn(caller, worker, slot, tries, |leaf| {
             leaf.laws();
             leaf.try_get(row, slot, tries)
-        })
+        });
+        missed_or_answered(ended)
     }
 
-    // As leaf_turn, but the inner None: the lock was found taken at each of so many tries, and nothing else was done.
+    // As leaf_turn, but with so many tries of the lock.
     #[inline(always)]
     pub(crate) fn try_leaf_turn<A, F: FnOnce(&mut Leaf) -> A + Drop>(
         &self,
@@ -139,34 +133,57 @@ impl ManagedTable {
         slot: usize,
         tries: u32,
         act: F,
-    ) -> Option<Option<A>>
+    ) -> Attempt<A>
         requires own { IsCallerOf self.now caller.old }
         requires may { slot < slots self.now.row.world → MayActOn F.FnOnce leaf_fits shown self.now.row worker act }
         ensures own { IsCallerOf self.now caller.new }
-        ensures range { MatchOption result (((self.now.row.world.workers ≤ worker) ⊎ (slots self.now.row.world ≤ slot)) × (caller.new ≡ caller.old)) (λ _. (worker < self.now.row.world.workers) × (slot < slots self.now.row.world)) }
-        ensures turn { IfSome result (λ o. MatchOption o (LeafMissed worker tries caller.old caller.new) (λ r. MadeTurn leaf_fits shown worker (λ x y. FnOnceReturnsAtMut F.FnOnce act x r y) caller.old.leaves.pass caller.new.leaves.pass)) }
-        ensures book { caller.new.book ≡ caller.old.book }
+        ensures turn { LeafEnded worker slot tries ⊥ (λ r. LeafTurned worker (λ x y. FnOnceReturnsAtMut F.FnOnce act x r y) caller.old caller.new × (caller.new.book ≡ caller.old.book)) caller.old result caller.new }
     {
         if worker >= self.leaves.count() || slot >= self.row.slots() {
-            return None;
+            return Attempt::OutOfRange;
         }
-        Some(self.leaves.try_turn(&mut caller.leaves, worker, tries, act))
+        match self.leaves.try_turn(&mut caller.leaves, worker, tries, act) {
+            None => Attempt::LockBusy,
+            Some(answer) => Attempt::Answered(answer),
+        }
     }
 
-    // As book_turn, but None: the lock was found taken at each of so many tries, and nothing else was done.
+    // As book_turn, for a call of a slot, with so many tries of the lock.
+    #[inline(always)]
+    pub(crate) fn try_slot_turn<A, F: FnOnce(&mut Book) -> A + Drop>(
+        &self,
+        caller: &mut Caller,
+        slot: usize,
+        tries: u32,
+        act: F,
+    ) -> Attempt<A>
+        requires own { IsCallerOf self.now caller.old }
+        requires may { slot < slots self.now.row.world → MayActOn F.FnOnce book_fits shown self.now.row 0 act }
+        ensures own { IsCallerOf self.now caller.new }
+        ensures turn { BookEnded slot tries (λ r. BookTurned (λ x y. FnOnceReturnsAtMut F.FnOnce act x r y) caller.old caller.new × (caller.new.leaves ≡ caller.old.leaves)) caller.old result caller.new }
+    {
+        if slot >= self.slots() {
+            return Attempt::OutOfRange;
+        }
+        self.try_book_turn(caller, tries, act)
+    }
+
+    // As book_turn, with so many tries of the lock.
     #[inline(always)]
     pub(crate) fn try_book_turn<A, F: FnOnce(&mut Book) -> A + Drop>(
         &self,
         caller: &mut Caller,
         tries: u32,
         act: F,
-    ) -> Option<A>
+    ) -> Attempt<A>
         requires own { IsCallerOf self.now caller.old }
         requires may { MayActOn F.FnOnce book_fits shown self.now.row 0 act }
         ensures own { IsCallerOf self.now caller.new }
-        ensures turn { MatchOption result (BookMissed tries caller.old caller.new) (λ r. MadeTurn book_fits shown 0 (λ x y. FnOnceReturnsAtMut F.FnOnce act x r y) caller.old.book.pass caller.new.book.pass) }
-        ensures leaves { caller.new.leaves ≡ caller.old.leaves }
+        ensures turn { LookEnded tries (λ r. BookTurned (λ x y. FnOnceReturnsAtMut F.FnOnce act x r y) caller.old caller.new × (caller.new.leaves ≡ caller.old.leaves)) caller.old result caller.new }
     {
-        self.book.try_turn(&mut caller.book, 0, tries, act)
+        match self.book.try_turn(&mut caller.book, 0, tries, act) {
+            None => Attempt::LockBusy,
+            Some(answer) => Attempt::Answered(answer),
+        }
     }
 }

@@ -1,17 +1,11 @@
-use Rattle.std.proofs.Common.{rules, MatchOption, subst}
+use Rattle.std.proofs.Common.{rules}
 use Rattle.std.specs.Arc.{arc_value}
 use Rattle.dep_index.specs.Refusals.{reply_of, end_remove_refusal}
-use Rattle.root_row.specs.declared.view.SeatName.TheVariants as name_is
 use Rattle.root_row.specs.declared.calls.BookCall.TheVariants.{EndRemove}
-use Rattle.root_row.specs.BookSteps.{book_call}
-use Rattle.managed_table.specs.Turns.{MadeOneCall}
-use Rattle.managed_table.specs.Callers.{CallerIs, BookMissed}
-use Rattle.managed_table.specs.Owned.{row_of}
 use Rattle.managed_table.proofs.Trying.{book_tried}
 use Rattle.managed_table.proofs.own_caller.OwnCaller.end_remove.Goals as goal
 
 pub returns-clause-call : goal.returns-clause-call
 returns-clause-call c =
-    let after = c.try_book_turn.new.caller in
-    subst (λ (b : CallerIs). MatchOption c.try_book_turn.result (BookMissed c.args.tries b after) (λ r. MadeOneCall (row_of b) 0 name_is.Book (book_call EndRemove c.args.slot) (reply_of end_remove_refusal r) b.book.pass after.book.pass)) c.self.view_is
-    (book_tried (arc_value c.self.inside.table) c.self.inside.caller after c.self.invariant c.args.tries c.args.slot EndRemove (λ r. reply_of end_remove_refusal r) _ c.try_book_turn.result c.try_book_turn.ensures.turn (λ r x y h. search rules))
+    book_tried (arc_value c.self.inside.table) c.self.inside.caller _ c.try_slot_turn.new.caller c.self.view_is c.self.invariant _ c.try_slot_turn.result
+    c.args.slot c.args.tries EndRemove (λ r. reply_of end_remove_refusal r) c.try_slot_turn.ensures.turn (λ r x y h. search rules)
