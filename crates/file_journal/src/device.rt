@@ -45,7 +45,7 @@ impl From<FileFault> for OpenError {
     }
 }
 
-/// What failed, by the reason that a file was not opened.
+/// The fault of a journal that was not opened.
 fn fault_of(error: OpenError) -> FileFault {
     match error {
         OpenError::Failed(fault) => fault,

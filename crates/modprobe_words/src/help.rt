@@ -1,7 +1,7 @@
 //! The help text and the version.
 
 /// What `--version` shows.
-pub(crate) const VERSION: &str = "gz-modprobe 0.1.0
+pub(crate) const VERSION: &str = "gz-modprobe 0.2.0
 answers as modprobe of kmod version 34, or with --as 30 of 30
 ";
 

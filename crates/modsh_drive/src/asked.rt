@@ -6,7 +6,7 @@ use program_frame::flag;
 use std::alloc::{AllocError, Global};
 
 /// The version of the program.
-const VERSION: &str = "0.1.0";
+const VERSION: &str = "0.2.0";
 
 /// What stands at the end of the help text.
 const HELP: &str =

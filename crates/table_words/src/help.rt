@@ -1,7 +1,7 @@
 //! What `--help` and `--version` write.
 
 /// What `--version` writes.
-pub const VERSION: &[u8] = b"gz-table 0.1.0\n";
+pub const VERSION: &[u8] = b"gz-table 0.2.0\n";
 
 /// What `--help` writes.
 pub const HELP: &[u8] = b"A table of modules that many processes share and that outlives them.

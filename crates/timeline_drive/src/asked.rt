@@ -44,7 +44,7 @@ fn command<'a>(alloc: Global) -> Result<Command<'a>, AllocError> {
         file(alloc),
     ]?;
     Command::new(alloc, "timeline")
-        .version("0.1.0")
+        .version("0.2.0")
         .about("Draws a report of workload as an SVG")
         .after_help(EXAMPLE)
         .args(args)
