@@ -71,7 +71,7 @@ def tree_round(tree):
 
 
 def libkmod_figure(tree, room):
-    """What the C program beside this says, nothing where it cannot be built or run."""
+    """What the C program beside this says, nothing if it cannot be built or run."""
     program = room / "coldplug"
     build = [os.environ.get("CC", "cc"), "-O2", "-Wall", "-o", program, TOP / "bench/coldplug.c", "-lkmod"]
     if not program.exists() and subprocess.run(build, capture_output=True).returncode:

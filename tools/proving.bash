@@ -5,7 +5,7 @@ refuse() {
   exit 1
 }
 
-# Ends where PREFIX could not be made or written. It is asked first, since a proof takes long.
+# Ends if PREFIX could not be made or written. It is asked first, since a proof takes long.
 check_writable() {
   local place=$1 probe
   while [ ! -e "$place" ]; do place=$(dirname "$place"); done

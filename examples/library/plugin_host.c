@@ -36,7 +36,7 @@ struct worker {
     unsigned long calls, refused, sum;
 };
 
-/* Calls the plugin, where it is live. */
+/* Calls the plugin, if it is live. */
 static void use(struct worker *worker, size_t slot)
 {
     if (gz_get(&worker->leaf, slot) != GZ_DONE) {

@@ -83,7 +83,7 @@ def with_both(files, version):
     return {**with_right_softdeps(files, version), **without_odd_names(files, version)}
 
 
-# What kmod is asked over once more, and what is known where it then answers as gz-modprobe does.
+# What kmod is asked over once more, and what is known if it then answers as gz-modprobe does.
 MENDS = ((SOFTDEP, with_right_softdeps), (NOT_UTF8, without_odd_names), (NOT_UTF8, with_both))
 
 
@@ -125,7 +125,7 @@ def words_of_variable(text):
 
 
 def without_variable(words, environment):
-    """The words with those of MODPROBE_OPTIONS before them, where kmod has no room for so many and overwrites their text. Else None."""
+    """The words with those of MODPROBE_OPTIONS before them, if kmod has no room for so many and overwrites their text. Else None."""
     text = environment.get(b"MODPROBE_OPTIONS", b"")
     before = words_of_variable(text)
     return [*before, *words] if len(before) > text.count(b" ") + 2 else None

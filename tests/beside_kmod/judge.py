@@ -84,7 +84,7 @@ class Judge:
         self.name, self.kept = str(folder), folder
 
     def compare(self, words, environment=None):
-        """Asks both. True where they agree, or differ by a named fault."""
+        """Asks both. True if they agree, or differ by a named fault."""
         environment = environment or {}
         theirs = self.stage.ask("modprobe", words, environment)
         ours = self.ours(words, environment)
@@ -159,7 +159,7 @@ class Judge:
         print(f"DIFFERENT, world {self.name}:\n  {again}\n--- kmod\n{shown(theirs)}\n--- ours\n{shown(ours)}", flush=True)
 
     def report(self):
-        """Prints what was counted. The status: 1 where something differs."""
+        """Prints what was counted. The status: 1 if something differs."""
         for fault, count in sorted(self.known.items()):
             print(f"named difference: {fault}: {count}")
         print(f"kmod {self.version}: {self.same} the same, {sum(self.known.values())} named differences, {self.differ} differ", flush=True)

@@ -48,7 +48,7 @@ def configuration(root):
 
 
 def compare_all(judge, flags, names):
-    """Asks for many names at once, and for each alone where the answers differ."""
+    """Asks for many names at once, and for each alone if the answers differ."""
     for at in range(0, len(names), SEVERAL):
         part = names[at : at + SEVERAL]
         if judge.alike([*flags, b"-a", b"--", *part]):

@@ -42,7 +42,7 @@ class Pair:
 
 @dataclass
 class Edit:
-    """An edit, and the full paths of the functions that it changes. It has none where it changes anything else."""
+    """An edit, and the full paths of the functions that it changes. It has none if it changes anything else."""
 
     label: str
     pairs: list

@@ -74,7 +74,7 @@ def own_cause(name, report):
 
 
 def judged(edit, report, is_alone):
-    """Whether the edit is refused, and why. It is None where this round cannot tell."""
+    """Whether the edit is refused, and why. It is None if this round cannot tell."""
     missing = [name for name in edit.functions if name not in report.verdicts]
     if missing:
         return False, f"the prover prints nothing of {missing[0]}"

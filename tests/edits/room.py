@@ -24,7 +24,7 @@ class Room:
         self.running, self.is_stopped = set(), False
 
     def prove(self, crate, waits):
-        """Proves the crate after the libraries below it, over what its own out/ keeps where that still fits."""
+        """Proves the crate after the libraries below it, over what its own out/ keeps if that still fits."""
         for proof in waits:
             proof.result()
         copy = self.repository(crate, "proved")

@@ -1,4 +1,4 @@
-/* Each call once, and each number that it may answer. Says nothing where all is well. */
+/* Each call once, and each number that it may answer. Says nothing if all is well. */
 #include <gourzhiel.h>
 #include <stdio.h>
 #include <stdlib.h>

@@ -1,4 +1,4 @@
-/* Managed calls: each once, with each number that it may answer. Says nothing where all is well. */
+/* Managed calls: each once, with each number that it may answer. Says nothing if all is well. */
 #include <gourzhiel.h>
 #include <stdio.h>
 #include <stdlib.h>

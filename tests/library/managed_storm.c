@@ -87,7 +87,7 @@ static void load(struct loader *loader, size_t slot, bool ok)
     loader->loads++;
 }
 
-/* Removes the module at once, or by a drain where it is in use. */
+/* Removes the module at once, or by a drain if it is in use. */
 static void unload(struct loader *loader, size_t slot)
 {
     gz_number number = gz_call_begin_remove(&loader->caller, slot);

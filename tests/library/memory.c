@@ -1,4 +1,4 @@
-/* Refuses each allocation in turn, once alone and once with all later ones. Where the answer is GZ_OUT_OF_MEMORY no
+/* Refuses each allocation in turn, once alone and once with all later ones. If the answer is GZ_OUT_OF_MEMORY no
  * handle is filled and nothing is left allocated; else the call did without, and all is as ever. Calls of a table take no
  * memory: each is made while none is to be had.
  * To be linked with -Wl,--wrap=malloc,--wrap=realloc,--wrap=free. */

@@ -1,4 +1,4 @@
-/* Names, needs, users, loads and removals with needs, waits: by a book and by a caller. Says nothing where all is well. */
+/* Names, needs, users, loads and removals with needs, waits: by a book and by a caller. Says nothing if all is well. */
 #include <gourzhiel.h>
 #include <stdio.h>
 

@@ -83,7 +83,7 @@ class Tree:
         return [it for it in dict.fromkeys(module.open_symbols) if self.exporters.get(it, module.name) != module.name]
 
     def found(self, item: str) -> list[str]:
-        """The modules that a soft item stands for: the one of that name, else those with an alias that matches."""
+        """The modules that a soft dependency stands for: the one of that name, else those with an alias that matches."""
         word = normal(item)
         if word not in self.targets:
             self.targets[word] = self.look_up(word)
@@ -97,7 +97,7 @@ class Tree:
         return self.aliases.targets(word) or ([word] if named else self.builtin_aliases.targets(word))
 
     def soft_needs(self, module: Module, items: Iterable[str]) -> list[str]:
-        """The modules that soft items of a module stand for, each once and without the module itself."""
+        """The modules that soft dependencies of a module stand for, each once and without the module itself."""
         return [it for it in dict.fromkeys(name for item in items for name in self.found(item)) if it != module.name]
 
     def closure(self, names: Iterable[str]) -> list[Module]:
@@ -114,7 +114,7 @@ class Tree:
 
 
 def selected(tree: Tree, names: list[str], form: Format) -> list[Module]:
-    """The modules of these names and what they need; all modules where there are no names. A catalogue has to hold them."""
+    """The modules of these names and what they need; all modules if there are no names. A catalogue has to hold them."""
     found = tree.closure(map(normal, names)) if names else list(tree.modules.values())
     if len(found) > form.modules:
         advice = "name fewer" if names else "name those that are wanted"
@@ -137,7 +137,7 @@ def params_of(module: Module, form: Format, notes: Notes) -> Iterator[str]:
 
 
 def note_left_out(tree: Tree, module: Module, notes: Notes) -> None:
-    """Notes exports and soft items that a catalogue cannot hold."""
+    """Notes exports and soft dependencies that a catalogue cannot hold."""
     for symbol in module.exports:
         if tree.exporters[symbol] != module.name:
             notes.add("second exports of a symbol", f"{module.name}: {symbol}")
@@ -149,7 +149,7 @@ def note_left_out(tree: Tree, module: Module, notes: Notes) -> None:
 
 
 def lines_of(directive: str, words: Iterable[str]) -> Iterator[str]:
-    """A directive with its words, on as many lines as they fill; none where there are no words."""
+    """A directive with its words, on as many lines as they fill; none if there are no words."""
     line = directive
     for word in words:
         if line != directive and len(line) + 1 + len(word) > WIDTH:

@@ -177,7 +177,7 @@ class Elf:
 
 
 def at_most(count: int, limit: int, what: str) -> int:
-    """The count, where it is within the limit."""
+    """The count, if it is within the limit."""
     if count > limit:
         raise Unreadable(f"{count} {what}, and at most {limit} are read")
     return count

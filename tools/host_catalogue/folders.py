@@ -48,7 +48,7 @@ def lines_of(faults: list[Fault]) -> list[str]:
 
 
 def names_in(folder: Path) -> list[str]:
-    """The names in a folder, none where it cannot be read."""
+    """The names in a folder, none if it cannot be read."""
     try:
         return os.listdir(folder)
     except OSError:

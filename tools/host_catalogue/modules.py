@@ -54,7 +54,7 @@ def add_symbols(module: Module, elf: Elf) -> None:
             exports.append(symbol.name.removeprefix(EXPORT))
         else:
             functions.add(symbol.name)
-    # (where local symbols were stripped, the names are still there for the kernel)
+    # (if local symbols were stripped, the names are still there for the kernel)
     module.exports = list(dict.fromkeys(exports or elf.strings("__ksymtab_strings")))
     module.is_permanent = functions == {"init_module"}
 

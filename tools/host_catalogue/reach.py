@@ -1,4 +1,4 @@
-"""Which faults are a reason to refuse, where modules were named: those of files that the names reach."""
+"""Which faults are a reason to refuse, if modules were named: those of files that the names reach."""
 
 import re
 from collections.abc import Iterable, Iterator
@@ -23,7 +23,7 @@ def refuse_unknown(names: Iterable[str], reading: Reading) -> None:
 
 
 def needed_paths(folder: Path, modules: Iterable[Module]) -> Iterator[Path]:
-    """The files that modules need by modules.dep, where depmod(8) has written it."""
+    """The files that modules need by modules.dep, if depmod(8) has written it."""
     names = {it.name for it in modules}
     try:
         lines = re.finditer(r"([^:\n]+):(.*)", text_in(folder / "modules.dep"))

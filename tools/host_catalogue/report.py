@@ -40,7 +40,7 @@ class Notes:
 
 
 class Progress:
-    """How many files were read, where standard error is a terminal."""
+    """How many files were read, if standard error is a terminal."""
 
     def __init__(self, total: int):
         self.total = total
@@ -63,7 +63,7 @@ def escaped(text: str) -> str:
 
 
 def say(line: str) -> None:
-    """Writes a line to standard error, where there is one."""
+    """Writes a line to standard error, if there is one."""
     if sys.stderr is not None:
         with contextlib.suppress(OSError):
             print(f"{PROGRAM}: {escaped(line)}", file=sys.stderr)

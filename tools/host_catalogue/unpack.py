@@ -108,7 +108,7 @@ def parts_of_streams(first: Callable[[], Stream], file: BinaryIO) -> Iterator[by
 
 
 def parts_by_zstd(file: BinaryIO) -> Iterator[bytes]:
-    """What the command zstd unpacks. Where no more of it is wanted it ends, since nobody reads it."""
+    """What the command zstd unpacks. If no more of it is wanted it ends, since nobody reads it."""
     with subprocess.Popen(["zstd", "-dcq"], stdin=file, stdout=subprocess.PIPE, stderr=subprocess.DEVNULL) as zstd:
         yield from parts_of_file(zstd.stdout)
         if zstd.wait():

@@ -51,7 +51,7 @@ fn after_set(text: &[u8]) -> Option<&[u8]> {
     }
 }
 
-/// The mark of the longest run of single bytes, None where the text is no pattern.
+/// The mark of the longest run of single bytes, None if the text is no pattern.
 fn mark(text: &[u8]) -> Option<u64> {
     let mut rest = text;
     let (mut run, mut count) = (0u64, 0);
