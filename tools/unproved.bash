@@ -1,7 +1,8 @@
-# How tools/install --unproved builds programs. It sets room to a folder, and kit to the toolchain's.
+# How tools/install --unproved builds programs, and tools/libgourzhiel --unproved the library. They set room to a folder, and kit
+# to the toolchain's.
 
 # `rt try` builds a program without a proof, runs it and keeps nothing. So it gets a toolchain of links, in which clang
-# compiles the program's module to run fast, leaves it in the folder, and ends `rt try` there.
+# compiles the program's module to run fast, leaves it in the folder, as it was too, and ends `rt try` there.
 make_toolchain_that_keeps() {
   local folder=$1 tool
   mkdir -p "$folder/bin" "$folder/toolchain/bin"
@@ -28,17 +29,24 @@ for word; do
   set -- "\$@" "\$word"
 done
 "$kit/toolchain/bin/clang" "\$@" || exit
-[ \$kept = no ] || { /bin/cp module.o "$folder/module.o"; exit 1; }
+[ \$kept = no ] || { /bin/cp module.o module.bc "$folder"; exit 1; }
 SCRIPT
   chmod +x "$folder/toolchain/bin/clang"
+}
+
+# Compiles the program in a crate's folder. Its module is then in the folder that a toolchain was made in. What rt says goes
+# into a file.
+compile_unproved() {
+  local crate=$1 folder=$2 said=$3
+  make_toolchain_that_keeps "$folder"
+  (cd "$crate" && "$folder/bin/rt" try -- --help) >"$said" 2>&1 </dev/null || true
+  [ -e "$folder/module.o" ]
 }
 
 # Builds a program into a file. What rt says stays beside it.
 build_program_unproved() {
   local program=$1 file=$2 folder=$room/$1.kit
-  make_toolchain_that_keeps "$folder"
-  (cd "$top/crates/$program" && "$folder/bin/rt" try -- --help) >"$file.said" 2>&1 </dev/null || true
-  [ -e "$folder/module.o" ] || return 1
+  compile_unproved "$top/crates/$program" "$folder" "$file.said" || return
   "$kit/bin/rattle-link" --target x86_64-unknown-linux-gnu --toolchain "$kit/toolchain" -o "$file" \
     "$folder/module.o" "$kit/c/libos_c.a" "$kit/c/liblibc_c.a" >>"$file.said" 2>&1
 }
@@ -57,4 +65,31 @@ build_unproved() {
     wait "${running[$program]}" || failed=${failed:-$program}
   done
   [ -z "$failed" ] || { cat "$folder/$failed.said" >&2; refuse "$failed does not build: nothing was installed"; }
+}
+
+# Makes the crate gourzhiel a program, in a repository of links.
+make_library_a_program() {
+  local copy=$1 part
+  mkdir -p "$copy/crates"
+  sed 's/^gourzhiel staticlib:/gourzhiel:/' "$top/crates.txt" >"$copy/crates.txt"
+  ln -s "$top"/crates/* "$copy/crates"
+  rm "$copy/crates/gourzhiel" && mkdir "$copy/crates/gourzhiel"
+  for part in src specs proofs; do
+    [ ! -d "$top/crates/gourzhiel/$part" ] || cp -R "$top/crates/gourzhiel/$part" "$copy/crates/gourzhiel"
+  done
+  "$top/tools/unproved_library.py" program "$copy/crates/gourzhiel"
+}
+
+# Builds the crate gourzhiel into an archive. `rt try` builds programs, and in them what is called. So the crate gets a main
+# that calls each function for C. In the module that is made of it they are then seen from outside, and main is not.
+build_library_unproved() {
+  local archive=$1 copy=$room/copy folder=$room/library.kit
+  make_library_a_program "$copy"
+  compile_unproved "$copy/crates/gourzhiel" "$folder" "$room/said" ||
+    { cat "$room/said" >&2; refuse "gourzhiel does not build: nothing was installed"; }
+  local clang=("$kit/toolchain/bin/clang" --target=x86_64-unknown-linux-gnu --no-default-config -x ir)
+  "${clang[@]}" -S -emit-llvm -Xclang -disable-llvm-passes -o "$room/library.ll" "$folder/module.bc"
+  "$top/tools/unproved_library.py" module "$room/library.ll"
+  "${clang[@]}" -march=x86-64 -ffunction-sections -fdata-sections -O2 -fPIC -c -o "$room/library.o" "$room/library.ll"
+  ar rcs "$archive" "$room/library.o"
 }
