@@ -11,11 +11,11 @@ ask() {
 
 # A device says what it is: the card's modalias, as the kernel gives it to a device manager.
 ask -R pci:v000010ECd00008168sv00001458sd0000E000bc02sc00i00
-# Its modules in the order of loading. realtek is a soft item of r8169 (modules.softdep), and has an install line.
+# Its modules in the order of loading. realtek is a soft dependency of r8169 (modules.softdep), and has an install line.
 ask -D pci:v000010ECd00008168sv00001458sd0000E000bc02sc00i00
-# The configuration's name for it, with a parameter for this once. With -i its install line and its soft items are passed over.
+# The configuration's name for it, with a parameter for this once. With -i its install line and its soft dependencies are left out.
 ask -D -i eth0 use_dac=1
-# The disk's driver needs six modules. crct10dif is an alias of two modules, and a soft item of crc_t10dif.
+# The disk's driver needs six modules. crct10dif is an alias of two modules, and a soft dependency of crc_t10dif.
 ask -D nvme
 # A device doesn't load what is on the blacklist, and that is no error. A name does, but not with -b.
 ask -D pci:v00008086d000015BCsv000017AAsd0000225Dbc02sc00i00

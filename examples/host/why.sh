@@ -7,7 +7,7 @@ ask() {
     gz-modprobe -S 6.1.0-50-amd64 -d "$here" -C "$here/modprobe.d" --explain "$@" 2>&1 >/dev/null | sed "s|$here/||"
 }
 
-# The card's driver, its soft item, and what both need.
+# The card's driver, its soft dependency, and what both need.
 ask -D pci:v000010ECd00008168sv00001458sd0000E000bc02sc00i00
 # A device whose driver is on the blacklist.
 ask -D pci:v00008086d000015BCsv000017AAsd0000225Dbc02sc00i00
