@@ -31,7 +31,7 @@ static struct {
 
 static void pair_of_leaf(struct worker *worker)
 {
-    if (gz_get(&worker->leaf, 0) != GZ_DONE || gz_put(&worker->leaf, 0) != GZ_DONE)
+    if (gz_leaf_get_blocking(&worker->leaf, 0) != GZ_DONE || gz_leaf_put(&worker->leaf, 0) != GZ_DONE)
         abort();
 }
 
@@ -69,13 +69,13 @@ static void some_pairs(struct worker *worker)
 static void *work(void *argument)
 {
     struct worker *worker = argument;
-    if (worker->kind == HELD && gz_get(&worker->leaf, 0) != GZ_DONE)
+    if (worker->kind == HELD && gz_leaf_get_blocking(&worker->leaf, 0) != GZ_DONE)
         abort();
     while (!atomic_load(&shared.is_begun))
         ;
     while (!atomic_load_explicit(&shared.is_over, memory_order_relaxed))
         some_pairs(worker);
-    if (worker->kind == HELD && gz_put(&worker->leaf, 0) != GZ_DONE)
+    if (worker->kind == HELD && gz_leaf_put(&worker->leaf, 0) != GZ_DONE)
         abort();
     return NULL;
 }
@@ -137,8 +137,9 @@ int main(void)
     gz_book book = GZ_EMPTY;
     gz_leaf leaves[THREADS] = { GZ_EMPTY };
     size_t line, need;
-    if (gz_read(&catalogue, text, sizeof text - 1, &line) || gz_new(&catalogue, &book, leaves, THREADS, NULL, 0)
-        || gz_begin_load(&book, 0, &need) || gz_end_load(&book, 0, true))
+    if (gz_catalogue_read(text, sizeof text - 1, &catalogue, &line)
+        || gz_table_new(&catalogue, &book, leaves, THREADS, NULL, 0)
+        || gz_book_begin_load(&book, 0, &need) || gz_book_end_load(&book, 0, true))
         return puts("no table"), 1;
     for (int i = 0; i < THREADS; i++)
         workers[i].leaf = leaves[i];
@@ -146,8 +147,8 @@ int main(void)
     measure(workers, 2);
     measure(workers, 4);
     for (int i = 0; i < THREADS; i++)
-        gz_free_leaf(&workers[i].leaf);
-    gz_free_book(&book);
-    gz_free_catalogue(&catalogue);
+        gz_leaf_clear(&workers[i].leaf);
+    gz_book_clear(&book);
+    gz_catalogue_clear(&catalogue);
     return 0;
 }

@@ -39,13 +39,13 @@ struct worker {
 /* Calls the plugin, if it is live. */
 static void use(struct worker *worker, size_t slot)
 {
-    if (gz_get(&worker->leaf, slot) != GZ_DONE) {
+    if (gz_leaf_get_blocking(&worker->leaf, slot) != GZ_DONE) {
         worker->refused++;
         return;
     }
     struct plugin *plugin = atomic_load(&plugins[slot]);
     worker->sum += plugin->run(plugin, worker->calls++);
-    gz_put(&worker->leaf, slot);
+    gz_leaf_put(&worker->leaf, slot);
 }
 
 static void *work(void *argument)
@@ -60,7 +60,7 @@ static void *work(void *argument)
 static gz_number load(gz_book *book, size_t slot, const char *name)
 {
     size_t need;
-    gz_number number = gz_begin_load(book, slot, &need);
+    gz_number number = gz_book_begin_load(book, slot, &need);
     if (number != GZ_DONE)
         return number;
     struct plugin *plugin = malloc(sizeof *plugin);
@@ -68,27 +68,27 @@ static gz_number load(gz_book *book, size_t slot, const char *name)
         *plugin = (struct plugin){ name, slot ? mix : add, 7 };
         atomic_store(&plugins[slot], plugin);
     }
-    return gz_end_load(book, slot, plugin != NULL);
+    return gz_book_end_load(book, slot, plugin != NULL);
 }
 
 /* Removes a plugin, if nobody holds it at this moment. From then on no get succeeds, so its memory is freed. */
 static gz_number try_remove(gz_book *book, size_t slot)
 {
-    gz_number number = gz_begin_remove(book, slot);
+    gz_number number = gz_book_begin_remove(book, slot);
     if (number != GZ_DONE)
         return number;
     free(atomic_exchange(&plugins[slot], NULL));
-    return gz_end_remove(book, slot);
+    return gz_book_end_remove(book, slot);
 }
 
 /* Lets no further call in, waits until the last is over, and removes the plugin. Nothing loads it before its memory is
  * freed, since this thread alone has the book. */
 static gz_number drain(gz_book *book, size_t slot)
 {
-    gz_number number = gz_begin_drain(book, slot);
+    gz_number number = gz_book_begin_drain(book, slot);
     if (number != GZ_DONE)
         return number;
-    while ((number = gz_end_remove(book, slot)) == GZ_IN_USE)
+    while ((number = gz_book_end_remove(book, slot)) == GZ_IN_USE)
         ;
     free(atomic_exchange(&plugins[slot], NULL));
     return number;
@@ -108,7 +108,7 @@ static int round_of(gz_book *book, unsigned long *in_use)
     if ((number = load(book, 0, "stream")) || (number = load(book, 1, "codec")))
         return fails("load", number);
     nanosleep(&a_while, NULL);
-    if ((number = gz_begin_remove(book, 0)) != GZ_NEEDED_BY)
+    if ((number = gz_book_begin_remove(book, 0)) != GZ_NEEDED_BY)
         return fails("removal of a plugin that is needed", number);
     while ((number = try_remove(book, 1)) == GZ_IN_USE)
         if (++*in_use % 8 == 0)
@@ -122,10 +122,10 @@ int main(void)
     gz_book book = GZ_EMPTY;
     gz_leaf leaves[WORKERS] = { GZ_EMPTY };
     size_t line = 0;
-    gz_number number = gz_read(&catalogue, text, sizeof text - 1, &line);
+    gz_number number = gz_catalogue_read(text, sizeof text - 1, &catalogue, &line);
     if (number != GZ_DONE)
         return fprintf(stderr, "line %zu: %s\n", line, gz_strerror(number)), 1;
-    if ((number = gz_new(&catalogue, &book, leaves, WORKERS, NULL, 0)))
+    if ((number = gz_table_new(&catalogue, &book, leaves, WORKERS, NULL, 0)))
         return fails("no table", number);
     struct worker workers[WORKERS];
     pthread_t threads[WORKERS];
@@ -142,12 +142,12 @@ int main(void)
     for (int i = 0; i < WORKERS; i++) {
         pthread_join(threads[i], NULL);
         calls += workers[i].calls, refused += workers[i].refused;
-        gz_free_leaf(&workers[i].leaf);
+        gz_leaf_clear(&workers[i].leaf);
     }
     printf("%d rounds, %lu calls, %lu refused, %lu removals found it in use, %zu plugins left\n", ROUNDS, calls, refused,
-           in_use, gz_loaded(&book));
-    wrong |= gz_loaded(&book) != 0 || calls == 0;
-    gz_free_book(&book);
-    gz_free_catalogue(&catalogue);
+           in_use, gz_book_loaded(&book));
+    wrong |= gz_book_loaded(&book) != 0 || calls == 0;
+    gz_book_clear(&book);
+    gz_catalogue_clear(&catalogue);
     return wrong;
 }

@@ -31,7 +31,7 @@ static unsigned next(struct user *user)
 
 static void take(struct user *user, size_t worker, size_t slot)
 {
-    gz_number number = (gz_number)gz_caller_get(&user->caller, worker, slot, 4);
+    gz_number number = gz_caller_get(&user->caller, worker, slot, 4);
     if (number == GZ_DONE) {
         user->own[worker][slot]++;
         user->got++;
@@ -48,7 +48,7 @@ static void give(struct user *user, size_t worker, size_t slot)
 {
     user->wrong += !atomic_load(&touchable[slot]);
     user->own[worker][slot]--;
-    user->wrong += gz_call_put(&user->caller, worker, slot) != GZ_DONE;
+    user->wrong += gz_caller_put_blocking(&user->caller, worker, slot) != GZ_DONE;
 }
 
 static void *use(void *argument)
@@ -61,13 +61,14 @@ static void *use(void *argument)
             take(user, worker, slot);
         else if (user->own[worker][slot])
             give(user, worker, slot);
-        user->wrong += gz_call_held(&user->caller, worker, slot, &count) != GZ_DONE || count < user->own[worker][slot];
+        gz_number number = gz_caller_held_blocking(&user->caller, worker, slot, &count);
+        user->wrong += number != GZ_DONE || count < user->own[worker][slot];
     }
     for (size_t worker = 0; worker < WORKERS; worker++)
         for (size_t slot = 0; slot < SLOTS; slot++)
             while (user->own[worker][slot])
                 give(user, worker, slot);
-    gz_free_caller(&user->caller);
+    gz_caller_clear(&user->caller);
     return NULL;
 }
 
@@ -80,26 +81,26 @@ struct loader {
 static void load(struct loader *loader, size_t slot, bool ok)
 {
     size_t need;
-    loader->wrong += gz_call_begin_load(&loader->caller, slot, &need) != GZ_DONE;
+    loader->wrong += gz_caller_begin_load_blocking(&loader->caller, slot, &need) != GZ_DONE;
     if (ok)
         atomic_store(&touchable[slot], true);
-    loader->wrong += gz_call_end_load(&loader->caller, slot, ok) != GZ_DONE;
+    loader->wrong += gz_caller_end_load_blocking(&loader->caller, slot, ok) != GZ_DONE;
     loader->loads++;
 }
 
 /* Removes the module at once, or by a drain if it is in use. */
 static void unload(struct loader *loader, size_t slot)
 {
-    gz_number number = gz_call_begin_remove(&loader->caller, slot);
+    gz_number number = gz_caller_begin_remove_blocking(&loader->caller, slot);
     if (number == GZ_DONE) {
         atomic_store(&touchable[slot], false);
-        loader->wrong += gz_call_end_remove(&loader->caller, slot) != GZ_DONE;
+        loader->wrong += gz_caller_end_remove_blocking(&loader->caller, slot) != GZ_DONE;
         return;
     }
     loader->in_use++;
-    loader->wrong += number != GZ_IN_USE || gz_call_begin_drain(&loader->caller, slot) != GZ_DONE;
+    loader->wrong += number != GZ_IN_USE || gz_caller_begin_drain_blocking(&loader->caller, slot) != GZ_DONE;
     loader->drains++;
-    while ((number = gz_call_end_remove(&loader->caller, slot)) == GZ_IN_USE)
+    while ((number = gz_caller_end_remove_blocking(&loader->caller, slot)) == GZ_IN_USE)
         sched_yield();
     atomic_store(&touchable[slot], false);
     loader->wrong += number != GZ_DONE;
@@ -112,13 +113,13 @@ static void run(struct loader *loader)
         if (turn % 8 == 0)
             nanosleep(&a_while, NULL);
         size_t slot = turn % SLOTS;
-        if (gz_call_state(&loader->caller, slot) == GZ_LIVE)
+        if (gz_caller_state_blocking(&loader->caller, slot) == GZ_LIVE)
             unload(loader, slot);
         else
             load(loader, slot, turn % 7 != 0);
     }
     for (size_t slot = 0; slot < SLOTS; slot++)
-        if (gz_call_state(&loader->caller, slot) == GZ_LIVE)
+        if (gz_caller_state_blocking(&loader->caller, slot) == GZ_LIVE)
             unload(loader, slot);
 }
 
@@ -126,11 +127,11 @@ static void run(struct loader *loader)
 static unsigned long left(gz_caller *caller)
 {
     size_t loaded;
-    unsigned long wrong = gz_call_loaded(caller, &loaded) != GZ_DONE || loaded != 0;
+    unsigned long wrong = gz_caller_loaded_blocking(caller, &loaded) != GZ_DONE || loaded != 0;
     for (size_t worker = 0; worker < WORKERS; worker++)
         for (size_t slot = 0; slot < SLOTS; slot++) {
             uint32_t count;
-            wrong += gz_call_held(caller, worker, slot, &count) != GZ_DONE || count != 0;
+            wrong += gz_caller_held_blocking(caller, worker, slot, &count) != GZ_DONE || count != 0;
         }
     return wrong;
 }
@@ -142,12 +143,12 @@ int main(void)
     struct user users[USERS];
     pthread_t threads[USERS];
     size_t line;
-    if (gz_read(&catalogue, text, sizeof text - 1, &line) || gz_new_managed(&catalogue, WORKERS, &loader.caller))
+    if (gz_catalogue_read(text, sizeof text - 1, &catalogue, &line) || gz_managed_new(&catalogue, WORKERS, &loader.caller))
         return puts("no table"), 1;
-    gz_free_catalogue(&catalogue);
+    gz_catalogue_clear(&catalogue);
     for (unsigned i = 0; i < USERS; i++) {
         users[i] = (struct user){ .caller = GZ_EMPTY, .seed = i };
-        if (gz_new_caller(&loader.caller, &users[i].caller) || pthread_create(&threads[i], NULL, use, &users[i]))
+        if (gz_caller_new(&loader.caller, &users[i].caller) || pthread_create(&threads[i], NULL, use, &users[i]))
             return puts("no thread"), 1;
     }
     run(&loader);
@@ -158,7 +159,7 @@ int main(void)
         got += users[i].got, refused += users[i].refused, busy += users[i].busy, wrong += users[i].wrong;
     }
     wrong += left(&loader.caller);
-    gz_free_caller(&loader.caller);
+    gz_caller_clear(&loader.caller);
     printf("%lu loads, %lu in use, %lu drains; %lu got, %lu refused, %lu busy; %lu wrong\n", loader.loads, loader.in_use,
            loader.drains, got, refused, busy, wrong);
     return wrong != 0 || got == 0;

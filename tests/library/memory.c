@@ -54,7 +54,7 @@ static int fails(const char *what, long number)
 static gz_number read_text(gz_catalogue *catalogue)
 {
     size_t line;
-    return gz_read(catalogue, text, sizeof text - 1, &line);
+    return gz_catalogue_read(text, sizeof text - 1, catalogue, &line);
 }
 
 struct table {
@@ -65,16 +65,16 @@ struct table {
 
 static gz_number make(gz_catalogue *catalogue, struct table *table)
 {
-    return gz_new(catalogue, &table->book, table->leaves, LEAVES, table->readers, READERS);
+    return gz_table_new(catalogue, &table->book, table->leaves, LEAVES, table->readers, READERS);
 }
 
 static void free_table(struct table *table)
 {
     for (int i = 0; i < LEAVES; i++)
-        gz_free_leaf(&table->leaves[i]);
+        gz_leaf_clear(&table->leaves[i]);
     for (int i = 0; i < READERS; i++)
-        gz_free_reader(&table->readers[i]);
-    gz_free_book(&table->book);
+        gz_reader_clear(&table->readers[i]);
+    gz_book_clear(&table->book);
 }
 
 /* Whether all handles of the table are full, or all are empty. */
@@ -96,19 +96,19 @@ struct callers {
 
 static gz_number make_managed(gz_catalogue *catalogue, struct callers *callers)
 {
-    gz_number number = gz_new_managed(catalogue, LEAVES, &callers->first);
+    gz_number number = gz_managed_new(catalogue, LEAVES, &callers->first);
     if (number == GZ_DONE)
-        number = gz_new_caller(&callers->first, &callers->further);
-    return number ? number : gz_new_managed_with_tellers(catalogue, &callers->told, callers->tellers, LEAVES);
+        number = gz_caller_new(&callers->first, &callers->further);
+    return number ? number : gz_managed_new_with_tellers(catalogue, &callers->told, callers->tellers, LEAVES);
 }
 
 static void free_callers(struct callers *callers)
 {
-    gz_free_caller(&callers->first);
-    gz_free_caller(&callers->further);
-    gz_free_caller(&callers->told);
+    gz_caller_clear(&callers->first);
+    gz_caller_clear(&callers->further);
+    gz_caller_clear(&callers->told);
     for (int i = 0; i < LEAVES; i++)
-        gz_free_teller(&callers->tellers[i]);
+        gz_teller_clear(&callers->tellers[i]);
 }
 
 /* Reads and makes with some allocations refused, and frees what was made. */
@@ -134,7 +134,7 @@ static bool is_sound(long from, long to)
     refuse(-1, -1);
     free_callers(&callers);
     free_table(&table);
-    gz_free_catalogue(&catalogue);
+    gz_catalogue_clear(&catalogue);
     return is && blocks == 0 && (from >= 0 || number == GZ_DONE);
 }
 
@@ -143,14 +143,14 @@ static bool parts_take_none(struct table *table)
 {
     size_t need, slot;
     uint32_t count;
-    bool is = gz_begin_load(&table->book, 0, &need) == GZ_DONE && gz_end_load(&table->book, 0, true) == GZ_DONE;
-    is = is && gz_get(&table->leaves[1], 0) == GZ_DONE && gz_try_get(&table->leaves[1], 0, 1) == GZ_DONE;
-    is = is && gz_held(&table->leaves[1], 0, &count) == GZ_DONE && gz_in_use(&table->readers[0], 0) == GZ_YES;
-    is = is && gz_state(&table->book, 0) == GZ_LIVE && gz_loaded_at(&table->book, 0, &slot) == GZ_DONE;
-    is = is && gz_begin_remove(&table->book, 0) == GZ_IN_USE && gz_begin_drain(&table->book, 0) == GZ_DONE;
-    is = is && gz_put(&table->leaves[1], 0) == GZ_DONE && gz_end_remove(&table->book, 0) == GZ_IN_USE;
-    is = is && gz_put(&table->leaves[1], 0) == GZ_DONE && gz_end_remove(&table->book, 0) == GZ_DONE;
-    return is && gz_loaded(&table->book) == 0;
+    bool is = gz_book_begin_load(&table->book, 0, &need) == GZ_DONE && gz_book_end_load(&table->book, 0, true) == GZ_DONE;
+    is = is && gz_leaf_get_blocking(&table->leaves[1], 0) == GZ_DONE && gz_leaf_get(&table->leaves[1], 0, 1) == GZ_DONE;
+    is = is && gz_leaf_held(&table->leaves[1], 0, &count) == GZ_DONE && gz_reader_in_use(&table->readers[0], 0) == GZ_YES;
+    is = is && gz_book_state(&table->book, 0) == GZ_LIVE && gz_book_loaded_at(&table->book, 0, &slot) == GZ_DONE;
+    is = is && gz_book_begin_remove(&table->book, 0) == GZ_IN_USE && gz_book_begin_drain(&table->book, 0) == GZ_DONE;
+    is = is && gz_leaf_put(&table->leaves[1], 0) == GZ_DONE && gz_book_end_remove(&table->book, 0) == GZ_IN_USE;
+    is = is && gz_leaf_put(&table->leaves[1], 0) == GZ_DONE && gz_book_end_remove(&table->book, 0) == GZ_DONE;
+    return is && gz_book_loaded(&table->book) == 0;
 }
 
 /* The same of managed calls. */
@@ -158,25 +158,26 @@ static bool managed_calls_take_none(gz_caller *caller)
 {
     size_t need, slot;
     uint32_t count;
-    bool is = gz_call_begin_load(caller, 0, &need) == GZ_DONE && gz_call_end_load(caller, 0, true) == GZ_DONE;
-    is = is && gz_call_get(caller, 1, 0) == GZ_DONE && gz_call_held(caller, 1, 0, &count) == GZ_DONE;
-    is = is && gz_call_state(caller, 0) == GZ_LIVE && gz_call_loaded_at(caller, 0, &slot) == GZ_DONE;
-    is = is && gz_call_begin_remove(caller, 0) == GZ_IN_USE && gz_call_begin_drain(caller, 0) == GZ_DONE;
-    is = is && gz_call_put(caller, 1, 0) == GZ_DONE && gz_call_end_remove(caller, 0) == GZ_DONE;
-    return is && gz_call_loaded(caller, &slot) == GZ_DONE && slot == 0;
+    bool is = gz_caller_begin_load(caller, 0, 1, &need) == GZ_DONE && gz_caller_end_load(caller, 0, true, 1) == GZ_DONE;
+    is = is && gz_caller_get(caller, 1, 0, 1) == GZ_DONE && gz_caller_held(caller, 1, 0, 1, &count) == GZ_DONE;
+    is = is && gz_caller_state(caller, 0, 1) == GZ_LIVE && gz_caller_loaded_at(caller, 0, 1, &slot) == GZ_DONE;
+    is = is && gz_caller_begin_remove(caller, 0, 1) == GZ_IN_USE && gz_caller_begin_drain(caller, 0, 1) == GZ_DONE;
+    is = is && gz_caller_put(caller, 1, 0, 1) == GZ_DONE && gz_caller_end_remove(caller, 0, 1) == GZ_DONE;
+    return is && gz_caller_loaded(caller, 1, &slot) == GZ_DONE && slot == 0;
 }
 
 /* And of meetings. */
 static bool meetings_take_none(struct callers *callers)
 {
-    bool is = gz_call_meet_leaf(&callers->told, 1, &callers->tellers[0]) == GZ_DONE;
-    return is && gz_call_meet_book(&callers->told, &callers->tellers[0]) == GZ_DONE;
+    bool is = gz_caller_meet_leaf(&callers->told, 1, 1, &callers->tellers[0]) == GZ_DONE;
+    return is && gz_caller_meet_book(&callers->told, 1, &callers->tellers[0]) == GZ_DONE;
 }
 
 static bool calls_take_no_memory(struct table *table, struct callers *callers)
 {
     refuse(0, 1000);
-    bool is = parts_take_none(table) && managed_calls_take_none(&callers->further) && meetings_take_none(callers) && made == 0;
+    bool is = parts_take_none(table) && managed_calls_take_none(&callers->further) && meetings_take_none(callers);
+    is = is && made == 0;
     refuse(-1, -1);
     return is;
 }
@@ -196,7 +197,7 @@ int main(void)
         return fails("calls that take no memory", 0);
     free_callers(&callers);
     free_table(&table);
-    gz_free_catalogue(&catalogue);
+    gz_catalogue_clear(&catalogue);
     for (long number = 0; number < last; number++) {
         if (!is_sound(number, number + 1))
             return fails("one refused", number);

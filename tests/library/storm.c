@@ -31,7 +31,7 @@ static unsigned next(struct worker *worker)
 
 static void take(struct worker *worker, size_t slot)
 {
-    gz_number number = gz_try_get(&worker->leaf, slot, 4);
+    gz_number number = gz_leaf_get(&worker->leaf, slot, 4);
     if (number == GZ_DONE) {
         worker->held[slot]++;
         worker->got++;
@@ -49,10 +49,10 @@ static void give(struct worker *worker, size_t slot)
     gz_number wanted = worker->held[slot] ? GZ_DONE : GZ_NOT_HELD;
     if (worker->held[slot]) {
         worker->wrong += !atomic_load(&touchable[slot]);
-        worker->wrong += gz_in_use(&worker->reader, slot) != GZ_YES;
+        worker->wrong += gz_reader_in_use(&worker->reader, slot) != GZ_YES;
         worker->held[slot]--;
     }
-    worker->wrong += gz_put(&worker->leaf, slot) != wanted;
+    worker->wrong += gz_leaf_put(&worker->leaf, slot) != wanted;
 }
 
 static void *work(void *argument)
@@ -65,13 +65,13 @@ static void *work(void *argument)
             take(worker, slot);
         else
             give(worker, slot);
-        worker->wrong += gz_held(&worker->leaf, slot, &count) != GZ_DONE || count != worker->held[slot];
+        worker->wrong += gz_leaf_held(&worker->leaf, slot, &count) != GZ_DONE || count != worker->held[slot];
     }
     for (size_t slot = 0; slot < SLOTS; slot++)
         while (worker->held[slot])
             give(worker, slot);
-    gz_free_leaf(&worker->leaf);
-    gz_free_reader(&worker->reader);
+    gz_leaf_clear(&worker->leaf);
+    gz_reader_clear(&worker->reader);
     return NULL;
 }
 
@@ -84,26 +84,26 @@ struct loader {
 static void load(struct loader *loader, size_t slot, bool ok)
 {
     size_t need;
-    loader->wrong += gz_begin_load(&loader->book, slot, &need) != GZ_DONE;
+    loader->wrong += gz_book_begin_load(&loader->book, slot, &need) != GZ_DONE;
     if (ok)
         atomic_store(&touchable[slot], true);
-    loader->wrong += gz_end_load(&loader->book, slot, ok) != GZ_DONE;
+    loader->wrong += gz_book_end_load(&loader->book, slot, ok) != GZ_DONE;
     loader->loads++;
 }
 
 /* Removes the module at once, or by a drain if it is in use. */
 static void unload(struct loader *loader, size_t slot)
 {
-    gz_number number = gz_begin_remove(&loader->book, slot);
+    gz_number number = gz_book_begin_remove(&loader->book, slot);
     if (number == GZ_DONE) {
         atomic_store(&touchable[slot], false);
-        loader->wrong += gz_end_remove(&loader->book, slot) != GZ_DONE;
+        loader->wrong += gz_book_end_remove(&loader->book, slot) != GZ_DONE;
         return;
     }
     loader->in_use++;
-    loader->wrong += number != GZ_IN_USE || gz_begin_drain(&loader->book, slot) != GZ_DONE;
+    loader->wrong += number != GZ_IN_USE || gz_book_begin_drain(&loader->book, slot) != GZ_DONE;
     loader->drains++;
-    while ((number = gz_end_remove(&loader->book, slot)) == GZ_IN_USE)
+    while ((number = gz_book_end_remove(&loader->book, slot)) == GZ_IN_USE)
         ;
     atomic_store(&touchable[slot], false);
     loader->wrong += number != GZ_DONE;
@@ -116,15 +116,15 @@ static void run(struct loader *loader)
         if (turn % 8 == 0)
             nanosleep(&a_while, NULL);
         size_t slot = turn % SLOTS;
-        if (gz_state(&loader->book, slot) == GZ_LIVE)
+        if (gz_book_state(&loader->book, slot) == GZ_LIVE)
             unload(loader, slot);
         else
             load(loader, slot, turn % 7 != 0);
     }
     for (size_t slot = 0; slot < SLOTS; slot++)
-        if (gz_state(&loader->book, slot) == GZ_LIVE)
+        if (gz_book_state(&loader->book, slot) == GZ_LIVE)
             unload(loader, slot);
-    loader->wrong += gz_loaded(&loader->book) != 0;
+    loader->wrong += gz_book_loaded(&loader->book) != 0;
 }
 
 int main(void)
@@ -136,10 +136,10 @@ int main(void)
     struct worker workers[WORKERS];
     pthread_t threads[WORKERS];
     size_t line;
-    if (gz_read(&catalogue, text, sizeof text - 1, &line)
-        || gz_new(&catalogue, &loader.book, leaves, WORKERS, readers, WORKERS))
+    if (gz_catalogue_read(text, sizeof text - 1, &catalogue, &line)
+        || gz_table_new(&catalogue, &loader.book, leaves, WORKERS, readers, WORKERS))
         return puts("no table"), 1;
-    gz_free_catalogue(&catalogue);
+    gz_catalogue_clear(&catalogue);
     for (unsigned i = 0; i < WORKERS; i++) {
         workers[i] = (struct worker){ .leaf = leaves[i], .reader = readers[i], .seed = i };
         if (pthread_create(&threads[i], NULL, work, &workers[i]))
@@ -152,7 +152,7 @@ int main(void)
         pthread_join(threads[i], NULL);
         got += workers[i].got, refused += workers[i].refused, busy += workers[i].busy, wrong += workers[i].wrong;
     }
-    gz_free_book(&loader.book);
+    gz_book_clear(&loader.book);
     printf("%lu loads, %lu in use, %lu drains; %lu got, %lu refused, %lu busy; %lu wrong\n", loader.loads, loader.in_use,
            loader.drains, got, refused, busy, wrong);
     return wrong != 0 || got == 0;

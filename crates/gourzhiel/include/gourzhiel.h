@@ -5,13 +5,13 @@
  *
  *     gz_catalogue catalogue = GZ_EMPTY;   what modules there may be, read from a text
  *
- * A table is had in one of two ways. By gz_new its parts are in its callers' hands, and nothing takes a lock:
+ * A table is had in one of two ways. By gz_table_new its parts are in its callers' hands, and nothing takes a lock:
  *
  *     gz_book book = GZ_EMPTY;             loads, drains and removes: one to a table
  *     gz_leaf leaves[4] = { GZ_EMPTY };    take and give references: one to a thread
  *     gz_reader reader = GZ_EMPTY;         asks whether a module is held
  *
- * By gz_new_managed the library keeps the parts, each behind a lock of its own. Any thread calls for any worker, which is
+ * By gz_managed_new the library keeps the parts, each behind a lock of its own. Any thread calls for any worker, which is
  * a leaf by its number, and for the book:
  *
  *     gz_caller caller = GZ_EMPTY;         makes all calls: one to a thread
@@ -19,11 +19,11 @@
  *
  * What a caller owes. The library is proved against its contracts; nobody proves a caller. Otherwise the behaviour is
  * undefined:
- *   - A handle begins as GZ_EMPTY, and gz_read or a gz_new call fills it. Every other call wants full handles, and fills
- *     no full one. The gz_free_ calls also take an empty one.
+ *   - A handle begins as GZ_EMPTY, and gz_catalogue_read or a `_new` call fills it. Every other call wants full handles, and
+ *     fills no full one. A `_clear` also takes an empty one.
  *   - A handle is in one call at a time. Handles of one table may be in calls of several threads at once.
- *   - A handle is moved, not copied: after `b = a` only b is used. After gz_free_ it is empty. A catalogue is a handle too:
- *     threads that ask one lock it, or each reads one of its own.
+ *   - A handle is moved, not copied: after `b = a` only b is used. After a `_clear` it is empty, and after a `_free` it is
+ *     not used again. A catalogue is a handle too: threads that ask one lock it, or each reads one of its own.
  *   - A teller meets callers of its own table.
  *   - A hand-over of a handle to another thread is ordered by a lock, a thread's start or join, or a seq_cst atomic.
  *   - Lengths are true. Pointers are not NULL, but for that of an array of length 0, and lead to different places. What they
@@ -104,73 +104,39 @@ typedef struct gz_teller { void *at; } gz_teller;
 
 #define GZ_EMPTY { NULL }
 
-/* The longest name, and the room that gz_name wants for any: with its 0. */
+/* The longest name, and the room for any with a 0 behind it. */
 #define GZ_NAME_LENGTH 55
 #define GZ_NAME_ROOM 56
 
-/* The library's own calls. Each takes a handle's place, and those that free take the handle itself. The inline functions
- * below call them, and are what programs in C and C++ call. Slices are a pointer that is not NULL and a length; other
- * pointers are not NULL. */
-uint32_t gz_version(void);
-uint32_t gz_catalogue_read(const uint8_t *text, size_t length, gz_catalogue *catalogue, size_t *line);
-size_t gz_catalogue_len(gz_catalogue *catalogue);
-uint32_t gz_catalogue_slot(gz_catalogue *catalogue, const uint8_t *name, size_t length, size_t *slot);
-uint32_t gz_catalogue_need(gz_catalogue *catalogue, size_t slot, size_t place, size_t *need);
-uint32_t gz_catalogue_name(gz_catalogue *catalogue, size_t slot, uint8_t *buffer, size_t room, size_t *length);
-void gz_catalogue_free(gz_catalogue catalogue);
-uint32_t gz_table_new(gz_catalogue *catalogue, gz_book *book, gz_leaf *leaves, size_t leaf_count,
-                      gz_reader *readers, size_t reader_count);
-uint32_t gz_leaf_get(gz_leaf *leaf, size_t slot, uint32_t tries);
-uint32_t gz_leaf_put(gz_leaf *leaf, size_t slot);
-uint32_t gz_leaf_held(gz_leaf *leaf, size_t slot, uint32_t *count);
-void gz_leaf_free(gz_leaf leaf);
-uint32_t gz_reader_in_use(gz_reader *reader, size_t slot);
-void gz_reader_free(gz_reader reader);
-uint32_t gz_book_begin_load(gz_book *book, size_t slot, size_t *need);
-uint32_t gz_book_end_load(gz_book *book, size_t slot, bool ok);
-uint32_t gz_book_begin_drain(gz_book *book, size_t slot);
-uint32_t gz_book_begin_remove(gz_book *book, size_t slot);
-uint32_t gz_book_end_remove(gz_book *book, size_t slot);
-uint32_t gz_book_state(gz_book *book, size_t slot);
-size_t gz_book_loaded(gz_book *book);
-uint32_t gz_book_loaded_at(gz_book *book, size_t place, size_t *slot);
-void gz_book_free(gz_book book);
-uint32_t gz_managed_new(gz_catalogue *catalogue, size_t workers, gz_caller *caller);
-uint32_t gz_managed_new_with_tellers(gz_catalogue *catalogue, gz_caller *caller, gz_teller *tellers, size_t workers);
-uint32_t gz_caller_new(gz_caller *caller, gz_caller *further);
-size_t gz_caller_workers(gz_caller *caller);
-uint32_t gz_caller_get(gz_caller *caller, size_t worker, size_t slot, uint32_t tries);
-uint32_t gz_caller_put(gz_caller *caller, size_t worker, size_t slot, uint32_t tries);
-uint32_t gz_caller_held(gz_caller *caller, size_t worker, size_t slot, uint32_t tries, uint32_t *count);
-uint32_t gz_caller_begin_load(gz_caller *caller, size_t slot, uint32_t tries, size_t *need);
-uint32_t gz_caller_end_load(gz_caller *caller, size_t slot, bool ok, uint32_t tries);
-uint32_t gz_caller_begin_drain(gz_caller *caller, size_t slot, uint32_t tries);
-uint32_t gz_caller_begin_remove(gz_caller *caller, size_t slot, uint32_t tries);
-uint32_t gz_caller_end_remove(gz_caller *caller, size_t slot, uint32_t tries);
-uint32_t gz_caller_state(gz_caller *caller, size_t slot, uint32_t tries);
-uint32_t gz_caller_loaded(gz_caller *caller, uint32_t tries, size_t *count);
-uint32_t gz_caller_loaded_at(gz_caller *caller, size_t place, uint32_t tries, size_t *slot);
-uint32_t gz_caller_meet_leaf(gz_caller *caller, size_t worker, uint32_t tries, gz_teller *teller);
-uint32_t gz_caller_meet_book(gz_caller *caller, uint32_t tries, gz_teller *teller);
-void gz_caller_free(gz_caller caller);
-void gz_teller_free(gz_teller teller);
+/* Each call has one name, gz_OBJECT_VERB, which the shared library exports. What is `static inline` here adds something to
+ * calls: `_blocking` calls again at GZ_BUSY, `_clear` frees what is full and empties the handle. Macros of a call's name
+ * make that call, and tell the thread sanitizer, or put a place for NULL. The names of older headers stand in
+ * gourzhiel_deprecated.h. */
+typedef char gz_number_has_32_bits[sizeof(gz_number) == sizeof(uint32_t) ? 1 : -1];
 
-/* What calls order. What was written before gz_end_load is seen after a get that succeeds, and what was written before a
- * reference was given back is seen after a call that finds the module unused. Of two managed calls that took the lock of
+/* Places that are not NULL, for arrays of length 0: the library itself takes no NULL. */
+static inline const void *gz_text_at(const void *text) { return text ? text : ""; }
+static inline gz_leaf *gz_leaves_at(gz_leaf *at) { return at ? at : (gz_leaf *)(uintptr_t)sizeof *at; }
+static inline gz_reader *gz_readers_at(gz_reader *at) { return at ? at : (gz_reader *)(uintptr_t)sizeof *at; }
+static inline gz_teller *gz_tellers_at(gz_teller *at) { return at ? at : (gz_teller *)(uintptr_t)sizeof *at; }
+
+/* The version of the library. */
+uint32_t gz_version(void);
+
+/* What calls order. What was written before gz_book_end_load is seen after a get that succeeds, and what was written before
+ * a reference was given back is seen after a call that finds the module unused. Of two managed calls that took the lock of
  * one worker, or of the book, the later sees what was written before the earlier. Nothing more is promised. The thread
  * sanitizer does not see into the library, so it is told here, and more than that: that each call sees what was written
  * before any earlier one, of any table. So a race of threads that have only calls of the library between them may stay
  * unseen. */
 #ifdef GZ_THREAD_SANITIZER
 static inline void gz_before_call(void) { __tsan_release((void *)(uintptr_t)gz_version); }
-static inline gz_number gz_after_call(uint32_t number)
+static inline gz_number gz_after_call(gz_number number)
 {
     __tsan_acquire((void *)(uintptr_t)gz_version);
-    return (gz_number)number;
+    return number;
 }
 #define GZ_ORDERED(call) (gz_before_call(), gz_after_call(call))
-#else
-#define GZ_ORDERED(call) ((gz_number)(call))
 #endif
 
 /* ---- Catalogues ---- */
@@ -180,33 +146,33 @@ static inline gz_number gz_after_call(uint32_t number)
  * has all lines, among them `version N`.
  * GZ_BAD_LINE, GZ_DUPLICATE, GZ_TWICE_EXPORTED, GZ_TOO_MANY_MODULES: the first fault, its line in *line, from 1.
  * GZ_OUT_OF_MEMORY. The handle is full only after GZ_DONE. */
-static inline gz_number gz_read(gz_catalogue *catalogue, const char *text, size_t length, size_t *line)
-{
-    return (gz_number)gz_catalogue_read((const uint8_t *)(length ? text : ""), length, catalogue, line);
-}
+gz_number gz_catalogue_read(const void *text, size_t length, gz_catalogue *catalogue, size_t *line);
+#define gz_catalogue_read(text, length, catalogue, line) (gz_catalogue_read)(gz_text_at(text), length, catalogue, line)
 
 /* How many modules the catalogue has. Their slots are 0 and up, in the order of the text. */
-static inline size_t gz_slots(gz_catalogue *catalogue) { return gz_catalogue_len(catalogue); }
+size_t gz_catalogue_len(gz_catalogue *catalogue);
 
-/* The slot of a name that ends with 0, in *slot. In names - and _ are the same.
+/* The slot of a name of `length` bytes, in *slot. In names - and _ are the same.
  * GZ_UNKNOWN_NAME, GZ_OUT_OF_MEMORY: *slot is left as it is. */
-static inline gz_number gz_slot(gz_catalogue *catalogue, const char *name, size_t *slot)
-{
-    return (gz_number)gz_catalogue_slot(catalogue, (const uint8_t *)name, strlen(name), slot);
-}
+gz_number gz_catalogue_slot(gz_catalogue *catalogue, const void *name, size_t length, size_t *slot);
 
 /* The slot of a module that the module in `slot` needs, in *need: of its needs the one at `place`, from 0, in the order of
  * the text. GZ_OUT_OF_RANGE: it needs fewer, or the slot is none; *need is left as it is. */
-static inline gz_number gz_need(gz_catalogue *catalogue, size_t slot, size_t place, size_t *need)
-{
-    return (gz_number)gz_catalogue_need(catalogue, slot, place, need);
-}
+gz_number gz_catalogue_need(gz_catalogue *catalogue, size_t slot, size_t place, size_t *need);
+
+/* The name of the module in a slot, without a 0, at the front of a buffer of `room` bytes, and its length in *length.
+ * GZ_OUT_OF_RANGE. GZ_TOO_SHORT: *length is written, and the buffer is left as it is. GZ_NAME_LENGTH bytes are always
+ * enough. */
+gz_number gz_catalogue_name(gz_catalogue *catalogue, size_t slot, void *buffer, size_t room, size_t *length);
+
+/* Frees the catalogue of a full handle. Tables over it go on. */
+void gz_catalogue_free(gz_catalogue catalogue);
 
 /* Whether the module in `slot` needs the one in `other`. */
-static inline bool gz_needs(gz_catalogue *catalogue, size_t slot, size_t other)
+static inline bool gz_catalogue_needs(gz_catalogue *catalogue, size_t slot, size_t other)
 {
     size_t need = 0;
-    for (size_t place = 0; gz_need(catalogue, slot, place, &need) == GZ_DONE; place++)
+    for (size_t place = 0; gz_catalogue_need(catalogue, slot, place, &need) == GZ_DONE; place++)
         if (need == other)
             return true;
     return false;
@@ -214,17 +180,16 @@ static inline bool gz_needs(gz_catalogue *catalogue, size_t slot, size_t other)
 
 /* The name of the module in a slot, ended with 0, in a buffer of `room` bytes.
  * GZ_OUT_OF_RANGE. GZ_TOO_SHORT: GZ_NAME_ROOM bytes are always enough. The buffer is left as it is then. */
-static inline gz_number gz_name(gz_catalogue *catalogue, size_t slot, char *buffer, size_t room)
+static inline gz_number gz_catalogue_name_string(gz_catalogue *catalogue, size_t slot, char *buffer, size_t room)
 {
     size_t length = 0, most = room ? room - 1 : 0; /* no name is empty */
-    gz_number number = (gz_number)gz_catalogue_name(catalogue, slot, (uint8_t *)buffer, most, &length);
+    gz_number number = gz_catalogue_name(catalogue, slot, buffer, most, &length);
     if (number == GZ_DONE)
         buffer[length] = 0;
     return number;
 }
 
-/* Frees the catalogue, and empties the handle. Tables over it go on. */
-static inline void gz_free_catalogue(gz_catalogue *catalogue)
+static inline void gz_catalogue_clear(gz_catalogue *catalogue)
 {
     if (catalogue->at)
         gz_catalogue_free(*catalogue);
@@ -236,48 +201,48 @@ static inline void gz_free_catalogue(gz_catalogue *catalogue)
 /* A new table over a catalogue, in empty handles: its book, `leaf_count` leaves and `reader_count` readers. All modules
  * are absent. The catalogue may be freed, or serve for further tables.
  * GZ_OUT_OF_MEMORY, GZ_TOO_MANY_LEAVES: no handle is filled. */
-static inline gz_number gz_new(gz_catalogue *catalogue, gz_book *book, gz_leaf *leaves, size_t leaf_count, gz_reader *readers,
-                               size_t reader_count)
-{
-    gz_leaf no_leaf = GZ_EMPTY;
-    gz_reader no_reader = GZ_EMPTY;
-    return (gz_number)gz_table_new(catalogue, book, leaf_count ? leaves : &no_leaf, leaf_count,
-                                   reader_count ? readers : &no_reader, reader_count);
-}
+gz_number gz_table_new(gz_catalogue *catalogue, gz_book *book, gz_leaf *leaves, size_t leaf_count, gz_reader *readers,
+                       size_t reader_count);
+#define gz_table_new(catalogue, book, leaves, leaf_count, readers, reader_count) \
+    (gz_table_new)(catalogue, book, gz_leaves_at(leaves), leaf_count, gz_readers_at(readers), reader_count)
 
 /* ---- Leaves ---- */
 
 /* Takes one reference to the module, in at most `tries` tries. A leaf that holds the module already needs none.
  * GZ_NOT_LIVE, GZ_TOO_MANY, GZ_OUT_OF_RANGE. GZ_BUSY: no promise is made that a later call succeeds. */
-static inline gz_number gz_try_get(gz_leaf *leaf, size_t slot, uint32_t tries)
-{
-    return GZ_ORDERED(gz_leaf_get(leaf, slot, tries));
-}
+gz_number gz_leaf_get(gz_leaf *leaf, size_t slot, uint32_t tries);
+
+/* Gives one reference to the module back. GZ_NOT_HELD, GZ_OUT_OF_RANGE. */
+gz_number gz_leaf_put(gz_leaf *leaf, size_t slot);
+
+/* How often the leaf holds the module, in *count. GZ_OUT_OF_RANGE: *count is left as it is. */
+gz_number gz_leaf_held(gz_leaf *leaf, size_t slot, uint32_t *count);
+
+/* Frees the leaf of a full handle. Give its references back before: what it still holds stays in use. */
+void gz_leaf_free(gz_leaf leaf);
+
+#ifdef GZ_THREAD_SANITIZER
+#define gz_leaf_get(leaf, slot, tries) GZ_ORDERED((gz_leaf_get)(leaf, slot, tries))
+#define gz_leaf_put(leaf, slot) GZ_ORDERED((gz_leaf_put)(leaf, slot))
+#endif
+
+/* How many tries a blocking call makes before it lets others run, or calls again. */
+#define GZ_TRIES 64
 
 /* Takes one reference to the module, and tries as long as others are in its way.
  * GZ_NOT_LIVE, GZ_TOO_MANY, GZ_OUT_OF_RANGE. */
-static inline gz_number gz_get(gz_leaf *leaf, size_t slot)
+static inline gz_number gz_leaf_get_blocking(gz_leaf *leaf, size_t slot)
 {
     gz_number number;
     do {
-        number = gz_try_get(leaf, slot, 64);
+        number = gz_leaf_get(leaf, slot, GZ_TRIES);
         if (number == GZ_DONE)
             return GZ_DONE; /* the common case first, which callers test too */
     } while (number == GZ_BUSY);
     return number;
 }
 
-/* Gives one reference to the module back. GZ_NOT_HELD, GZ_OUT_OF_RANGE. */
-static inline gz_number gz_put(gz_leaf *leaf, size_t slot) { return GZ_ORDERED(gz_leaf_put(leaf, slot)); }
-
-/* How often the leaf holds the module, in *count. GZ_OUT_OF_RANGE: *count is left as it is. */
-static inline gz_number gz_held(gz_leaf *leaf, size_t slot, uint32_t *count)
-{
-    return (gz_number)gz_leaf_held(leaf, slot, count);
-}
-
-/* Frees the leaf, and empties the handle. Give its references back before: what it still holds stays in use. */
-static inline void gz_free_leaf(gz_leaf *leaf)
+static inline void gz_leaf_clear(gz_leaf *leaf)
 {
     if (leaf->at)
         gz_leaf_free(*leaf);
@@ -287,22 +252,25 @@ static inline void gz_free_leaf(gz_leaf *leaf)
 /* ---- Readers ---- */
 
 /* Whether any leaf holds the module: GZ_YES or GZ_NO. GZ_OUT_OF_RANGE. */
-static inline gz_number gz_in_use(gz_reader *reader, size_t slot)
-{
-    return GZ_ORDERED(gz_reader_in_use(reader, slot));
-}
+gz_number gz_reader_in_use(gz_reader *reader, size_t slot);
 
-/* Waits until no leaf holds the module, by sched_yield: GZ_NO. After gz_begin_drain it stays so. GZ_OUT_OF_RANGE. */
-static inline gz_number gz_wait_unused(gz_reader *reader, size_t slot)
+/* Frees the reader of a full handle. */
+void gz_reader_free(gz_reader reader);
+
+#ifdef GZ_THREAD_SANITIZER
+#define gz_reader_in_use(reader, slot) GZ_ORDERED((gz_reader_in_use)(reader, slot))
+#endif
+
+/* Waits until no leaf holds the module, by sched_yield: GZ_NO. After gz_book_begin_drain it stays so. GZ_OUT_OF_RANGE. */
+static inline gz_number gz_reader_wait_unused(gz_reader *reader, size_t slot)
 {
     gz_number number;
-    while ((number = gz_in_use(reader, slot)) == GZ_YES)
+    while ((number = gz_reader_in_use(reader, slot)) == GZ_YES)
         sched_yield();
     return number;
 }
 
-/* Frees the reader, and empties the handle. */
-static inline void gz_free_reader(gz_reader *reader)
+static inline void gz_reader_clear(gz_reader *reader)
 {
     if (reader->at)
         gz_reader_free(*reader);
@@ -313,76 +281,68 @@ static inline void gz_free_reader(gz_reader *reader)
 
 /* Begins a load: the module is then loading, and the newest. GZ_EXISTS, GZ_UNKNOWN_SYMBOL, GZ_OUT_OF_RANGE.
  * GZ_NEED_NOT_LIVE: the slot of a module that it needs is in *need, which is else left as it is. */
-static inline gz_number gz_begin_load(gz_book *book, size_t slot, size_t *need)
-{
-    return GZ_ORDERED(gz_book_begin_load(book, slot, need));
-}
+gz_number gz_book_begin_load(gz_book *book, size_t slot, size_t *need);
 
-/* Ends a load: the module is then live where it went well (ok), else absent. GZ_NOT_LOADING, GZ_OUT_OF_RANGE. */
-static inline gz_number gz_end_load(gz_book *book, size_t slot, bool ok)
-{
-    return GZ_ORDERED(gz_book_end_load(book, slot, ok));
-}
+/* Ends a load: the module is then live if it went well (ok), else absent. GZ_NOT_LOADING, GZ_OUT_OF_RANGE. */
+gz_number gz_book_end_load(gz_book *book, size_t slot, bool ok);
 
 /* Begins a drain: gets are refused from then on, also those of a leaf that holds the module, and references stay until
  * they are given back. A call that gets within a call has to take both references before the drain, or live with a refusal.
  * GZ_NO_ENTRY, GZ_NEEDED_BY, GZ_NOT_LIVE, GZ_PERMANENT, GZ_OUT_OF_RANGE. */
-static inline gz_number gz_begin_drain(gz_book *book, size_t slot)
-{
-    return GZ_ORDERED(gz_book_begin_drain(book, slot));
-}
+gz_number gz_book_begin_drain(gz_book *book, size_t slot);
 
 /* Begins a removal of a module that nobody holds: gets are refused from then on, so what the module has may be freed.
  * GZ_NO_ENTRY, GZ_NEEDED_BY, GZ_NOT_LIVE, GZ_PERMANENT, GZ_IN_USE, GZ_OUT_OF_RANGE. */
-static inline gz_number gz_begin_remove(gz_book *book, size_t slot)
-{
-    return GZ_ORDERED(gz_book_begin_remove(book, slot));
-}
+gz_number gz_book_begin_remove(gz_book *book, size_t slot);
 
 /* Ends a removal, or a drain once nobody holds the module: it is then absent, and may be loaded again.
  * GZ_NOT_UNLOADING, GZ_IN_USE, GZ_OUT_OF_RANGE. */
-static inline gz_number gz_end_remove(gz_book *book, size_t slot)
-{
-    return GZ_ORDERED(gz_book_end_remove(book, slot));
-}
+gz_number gz_book_end_remove(gz_book *book, size_t slot);
 
 /* The state of the module: GZ_ABSENT, GZ_LOADING, GZ_LIVE, GZ_DRAINING or GZ_UNLOADING. GZ_OUT_OF_RANGE. */
-static inline gz_number gz_state(gz_book *book, size_t slot) { return (gz_number)gz_book_state(book, slot); }
+gz_number gz_book_state(gz_book *book, size_t slot);
 
 /* How many modules are not absent. */
-static inline size_t gz_loaded(gz_book *book) { return gz_book_loaded(book); }
+size_t gz_book_loaded(gz_book *book);
 
 /* The slot of the loaded module at a place, the oldest first, in *slot.
  * GZ_OUT_OF_RANGE: fewer are loaded, and *slot is left as it is. */
-static inline gz_number gz_loaded_at(gz_book *book, size_t place, size_t *slot)
-{
-    return (gz_number)gz_book_loaded_at(book, place, slot);
-}
+gz_number gz_book_loaded_at(gz_book *book, size_t place, size_t *slot);
+
+/* Frees the book of a full handle. Leaves and readers go on; no module is loaded or removed any more. */
+void gz_book_free(gz_book book);
+
+#ifdef GZ_THREAD_SANITIZER
+#define gz_book_begin_load(book, slot, need) GZ_ORDERED((gz_book_begin_load)(book, slot, need))
+#define gz_book_end_load(book, slot, ok) GZ_ORDERED((gz_book_end_load)(book, slot, ok))
+#define gz_book_begin_drain(book, slot) GZ_ORDERED((gz_book_begin_drain)(book, slot))
+#define gz_book_begin_remove(book, slot) GZ_ORDERED((gz_book_begin_remove)(book, slot))
+#define gz_book_end_remove(book, slot) GZ_ORDERED((gz_book_end_remove)(book, slot))
+#endif
 
 /* Ends a drain once nobody holds the module, and waits for that by sched_yield. GZ_NOT_UNLOADING, GZ_OUT_OF_RANGE. */
-static inline gz_number gz_wait_removed(gz_book *book, size_t slot)
+static inline gz_number gz_book_wait_removed(gz_book *book, size_t slot)
 {
     gz_number number;
-    while ((number = gz_end_remove(book, slot)) == GZ_IN_USE)
+    while ((number = gz_book_end_remove(book, slot)) == GZ_IN_USE)
         sched_yield();
     return number;
 }
 
 /* The slot of a loaded module that needs the module, in *user: of those the one at `place`, from 0, the oldest first.
  * GZ_OUT_OF_RANGE: fewer are loaded that need it, and *user is left as it is. */
-static inline gz_number gz_user(gz_book *book, gz_catalogue *catalogue, size_t slot, size_t place, size_t *user)
+static inline gz_number gz_book_user(gz_book *book, gz_catalogue *catalogue, size_t slot, size_t place, size_t *user)
 {
     size_t loaded = 0;
-    for (size_t at = 0; gz_loaded_at(book, at, &loaded) == GZ_DONE; at++)
-        if (gz_needs(catalogue, loaded, slot) && place-- == 0) {
+    for (size_t at = 0; gz_book_loaded_at(book, at, &loaded) == GZ_DONE; at++)
+        if (gz_catalogue_needs(catalogue, loaded, slot) && place-- == 0) {
             *user = loaded;
             return GZ_DONE;
         }
     return GZ_OUT_OF_RANGE;
 }
 
-/* Frees the book, and empties the handle. Leaves and readers go on; no module is loaded or removed any more. */
-static inline void gz_free_book(gz_book *book)
+static inline void gz_book_clear(gz_book *book)
 {
     if (book->at)
         gz_book_free(*book);
@@ -435,5 +395,6 @@ static inline const char *gz_strerror(gz_number number)
 
 #include "gourzhiel_managed.h"
 #include "gourzhiel_needs.h"
+#include "gourzhiel_deprecated.h"
 
 #endif
