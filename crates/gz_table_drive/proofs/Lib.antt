@@ -1,2 +1,3 @@
 mod AnswerLemmas
+mod AskLemmas
 mod FeedLemmas

@@ -83,7 +83,7 @@ impl Replies {
     }
 
     /// Adds the replies to lines, one after another. Out of memory, the first of them are added.
-    fn add_all(&mut self, answered: &[HeldReply]) -> Result<(), AllocError>
+    pub(crate) fn add_all(&mut self, answered: &[HeldReply]) -> Result<(), AllocError>
         ensures ok { OnOk result (HasMore (map (λ r. r.reply) answered.now) self.old self.new) }
         ensures err { OnErr result ((count : ℕ) × (count ≤ length answered.now) × HasMore (map (λ r. r.reply) (take count answered.now)) self.old self.new) }
     {

@@ -7,6 +7,7 @@ mod create;
 mod endings;
 mod fault;
 mod input;
+mod kept;
 pub mod laws;
 mod machine;
 mod opening;

@@ -6,15 +6,16 @@ ghost use Rattle.held_lines.specs.Held.{holding};
 ghost use Rattle.dep_index.specs.Catalogue.{modules_of};
 ghost use Rattle.durable_table.specs.Tables.{opening_of, table_of};
 ghost use Rattle.durable_table.specs.Durable.{Stands};
+ghost use Rattle.durable_table.specs.Opened.{IsTableRead};
 
 use crate::answering::GROUP;
 use crate::fault::{TableFault, journal_fault, unwritten};
 use crate::setup::setup_of;
 use crate::shared::{CUT, SETUP, Shared};
-use durable_table::{DurableTable, OpenedTable, open};
+use durable_table::{DurableTable, OpenedTable, ReadTable, open, open_reading};
 use file_journal::FileDevice;
 use held_table::HeldTable;
-use line_journal::{Device, DeviceError, Found, Repair, look};
+use line_journal::{Device, DeviceError, Found, Repair, peek};
 use modprobe::Setup;
 use program_frame::PathFault;
 use std::alloc::{AllocError, Global};
@@ -108,12 +109,27 @@ pub(crate) fn open_table<'s, D: Device + Drop>(
     }
 }
 
+/// The table that a journal reads as, if it is whole and at rest.
+pub(crate) fn read_table<'s, D: Device + Drop>(
+    alloc: Global,
+    setup: &'s Setup,
+    device: D,
+) -> Result<ReadTable<'s, HeldTable, D>, OpenFault<D>>
+    ensures read { IfOk result (IsTableRead D.content setup.now (D.content device)) }
+{
+    let fresh = no_holders(alloc, setup)?;
+    match open_reading(alloc, setup, fresh, device) {
+        Ok(table) => Ok(table),
+        Err((error, device)) => Err(OpenFault::Device(error, device)),
+    }
+}
+
 /// What stands in a journal's file.
 pub(crate) fn found_in<R: Files + Drop>(
     alloc: Global,
     device: &mut FileDevice<R>,
 ) -> Result<Found, TableFault> {
-    match look(alloc, device) {
+    match peek(alloc, device) {
         Ok(found) => Ok(found),
         Err(DeviceError::OutOfMemory) => Err(TableFault::OutOfMemory),
         Err(DeviceError::Failed) => Err(journal_fault(device.fault())),

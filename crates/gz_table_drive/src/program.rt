@@ -9,15 +9,15 @@ use crate::check::check;
 use crate::create::create;
 use crate::fault::TableFault;
 use crate::input::{InputFault, InputLines, alone};
+use crate::kept::Kept;
 use crate::opening::setup;
 use crate::shared::Shared;
 use crate::teller::Teller;
 use crate::tenure::{answer_in_tenure, compact};
 use crate::told::tell_fault;
 use durable_table::Compacted;
-use file_journal::Syncs;
+use file_journal::{FileDevice, Syncs};
 use line_journal::is_line;
-use modprobe::Setup;
 use std::alloc::{AllocError, Global};
 use std::env::Env;
 use std::fs::File;
@@ -46,9 +46,9 @@ fn lines_behind(lines: &[Vec<u8>], count: usize) -> &[Vec<u8>]
 }
 
 /// Answers lines, in as many tenures as it takes, and writes their replies. Returns how they end together.
-fn answer_group<R: Files<File = File> + Clock + AllocGlobal, O: Write, E: Write>(
-    shared: &Shared<'_, R>,
-    setup: &Setup,
+fn answer_group<'s, 'r, R: Files<File = File> + Clock + AllocGlobal, O: Write, E: Write>(
+    shared: &Shared<'r, R>,
+    kept: &mut Kept<'s, FileDevice<&'r R>>,
     lines: &[Vec<u8>],
     output: &mut O,
     teller: &mut Teller<'_, E>,
@@ -58,7 +58,7 @@ fn answer_group<R: Files<File = File> + Clock + AllocGlobal, O: Write, E: Write>
     let (mut rest, mut ending) = (lines, Ending::Done);
     while !rest.is_empty() {
         let mut replies = Replies::new(shared.alloc());
-        let answered = answer_in_tenure(shared, setup, rest, &mut replies, teller);
+        let answered = answer_in_tenure(shared, kept, rest, &mut replies, teller);
         write_whole(&replies.text, output)?;
         ending = ending.behind(replies.ending());
         rest = lines_behind(rest, answered?);
@@ -92,19 +92,19 @@ fn answer_command<R: Files<File = File> + Clock + AllocGlobal, O: Write, E: Writ
     let setup = setup(shared)?;
     let lines = command_line(alloc, words, teller)?;
     let mut replies = Replies::new(alloc);
-    answer_in_tenure(shared, &setup, &lines, &mut replies, teller)?;
+    answer_in_tenure(shared, &mut Kept::new(&setup), &lines, &mut replies, teller)?;
     write_whole(&replies.text, output)?;
     Ok(replies.endings.first().copied().unwrap_or(Ending::Done))
 }
 
-/// Answers the lines of an input.
-fn answer_input<R: Files<File = File> + Clock + AllocGlobal, I: Read, O: Write, E: Write>(
-    shared: &Shared<'_, R>,
+/// Answers the lines of an input. The table is kept from one group of them to the next.
+fn answer_input<'s, 'r, R: Files<File = File> + Clock + AllocGlobal, I: Read, O: Write, E: Write>(
+    shared: &Shared<'r, R>,
+    kept: &mut Kept<'s, FileDevice<&'r R>>,
     input: &mut I,
     output: &mut O,
     teller: &mut Teller<'_, E>,
 ) -> Result<Ending, TableFault> {
-    let setup = setup(shared)?;
     let mut reader = InputLines::new(shared.alloc(), input);
     let mut ending = Ending::Done;
     for _ in 0..u64::MAX {
@@ -116,7 +116,7 @@ fn answer_input<R: Files<File = File> + Clock + AllocGlobal, I: Read, O: Write, 
         if lines.is_empty() {
             break;
         }
-        ending = ending.behind(answer_group(shared, &setup, &lines, output, teller)?);
+        ending = ending.behind(answer_group(shared, kept, &lines, output, teller)?);
     }
     teller.too_long(reader.too_long());
     Ok(ending)
@@ -133,7 +133,10 @@ fn perform<R: Files<File = File> + Env + Clock + AllocGlobal, I: Read, O: Write,
     match job {
         Job::Create(origin) => create(shared, origin, teller),
         Job::Command(words) => answer_command(shared, words, output, teller),
-        Job::Lines => answer_input(shared, input, output, teller),
+        Job::Lines => {
+            let setup = setup(shared)?;
+            answer_input(shared, &mut Kept::new(&setup), input, output, teller)
+        }
         Job::Check => {
             let text = check(shared)?.text(shared.alloc())?;
             write_whole(text.as_bytes(), output)?;

@@ -1,16 +1,20 @@
 //! Lines that change nothing, and their replies from a copy of the journal.
-ghost use Rattle.std.specs.Prelude.{◌≡◌, Some, take, ◌<◌, ◌≤◌, length, IfOk};
+ghost use Rattle.std.specs.Prelude.{◌≡◌, Some, true, take, ◌<◌, ◌≤◌, length, All, IfOk, OnOk};
 ghost use Rattle.text_parts.specs.Text.{texts_of};
 ghost use Rattle.line_journal.specs.Lines.{AreLines, bytes_of};
+ghost use Rattle.held_lines.specs.Held.{holding};
 ghost use Rattle.held_table.specs.Held.{Held};
+ghost use Rattle.durable_table.specs.Durable.{Reads};
 ghost use Rattle.durable_table.specs.Tables.{table_of};
 ghost use Rattle.gz_table_drive.specs.Answers.{HasAnswered};
 ghost use Rattle.held_lines.specs.Reading.{asks, asks_by, is_reading};
 
-use crate::answering::{Replies, answer_lines};
+use crate::answering::{GROUP, Replies, answer_lines};
 use crate::fault::TableFault;
 use crate::opening::{OpenFault, open_table};
-use line_journal::KillOnly;
+use durable_table::DurableTable;
+use held_table::HeldTable;
+use line_journal::{Device, KillOnly};
 use modprobe::Setup;
 use std::alloc::{AllocError, Global};
 use text_parts::{is_comment, is_same, words};
@@ -39,8 +43,10 @@ pub(crate) fn is_reading(alloc: Global, line: &[u8]) -> Result<bool, AllocError>
     Ok(words.first().is_none_or(|first| asks(*first)))
 }
 
-/// Whether all lines ask, or are no commands.
-pub(crate) fn are_reading(alloc: Global, lines: &[Vec<u8>]) -> Result<bool, AllocError> {
+/// Whether all lines ask, or are no commands. It fails only if memory runs out.
+pub(crate) fn are_reading(alloc: Global, lines: &[Vec<u8>]) -> Result<bool, AllocError>
+    ensures { IfOk result (λ all. all ≡ true → All (λ line. is_reading line ≡ true) (bytes_of lines.now)) }
+{
     for line in lines {
         if !is_reading(alloc, line)? {
             return Ok(false);
@@ -73,4 +79,27 @@ pub(crate) fn answer_copy(
         Ok(count) => Ok(count),
         Err(_) => Err(TableFault::OutOfMemory),
     }
+}
+
+/// Answers the first of some lines that ask, from a table that reads as its journal does. It still does so then. Nothing is
+/// written. How many is answered, a group at the most.
+pub(crate) fn ask_lines<D: Device + Drop>(
+    alloc: Global,
+    table: &mut DurableTable<'_, HeldTable, D>,
+    lines: &[Vec<u8>],
+    replies: &mut Replies,
+) -> Result<usize, TableFault>
+    requires lines { AreLines (bytes_of lines.now) }
+    requires asks { All (λ line. is_reading line ≡ true) (bytes_of lines.now) }
+    requires reads { Reads D.content table.old.session.setup.now (holding table.old.session.holders.held.table table.old.session.holders.held.names) table.old.journal }
+    ensures answered { IfOk result (λ count. HasAnswered table.old.session.setup.now (holding table.old.session.holders.held.table table.old.session.holders.held.names) (take count (bytes_of lines.now)) replies.old replies.new) }
+    ensures some { IfOk result (λ count. 0 < length lines.now → 0 < count) }
+    ensures within { IfOk result (λ count. count ≤ length lines.now) }
+    ensures reads { OnOk result (Reads D.content table.old.session.setup.now (holding table.new.session.holders.held.table table.new.session.holders.held.names) table.new.journal) }
+    ensures setup { table.new.session.setup ≡ table.old.session.setup }
+{
+    let count = lines.len().min(GROUP);
+    let answered = table.ask(alloc, &lines[..count])?;
+    replies.add_all(&answered)?;
+    Ok(count)
 }

@@ -1,17 +1,19 @@
 //! One tenure: what a process does from where it takes the lock to where it gives it back.
-ghost use Rattle.std.specs.Prelude.{◌≡◌, ◌<◌, ◌≤◌, length, IfOk};
+ghost use Rattle.std.specs.Prelude.{◌≡◌, ◌<◌, ◌≤◌, true, length, All, IfOk, IfSome, OnOk};
 ghost use Rattle.line_journal.specs.Lines.{AreLines, bytes_of};
 ghost use Rattle.held_lines.specs.Held.{holding};
-ghost use Rattle.durable_table.specs.Durable.{Stands};
+ghost use Rattle.durable_table.specs.Durable.{Stands, Reads};
+ghost use Rattle.held_lines.specs.Reading.{is_reading};
 
 use crate::answering::{AnswerError, Replies, answer_lines};
 use crate::fault::{TableFault, journal_fault};
-use crate::opening::{OpenFault, keep_torn, no_holders, open_table, read_file, setup};
-use crate::reading::{answer_copy, are_reading};
+use crate::kept::Kept;
+use crate::opening::{OpenFault, keep_torn, no_holders, open_table, read_file, read_table, setup};
+use crate::reading::{answer_copy, are_reading, ask_lines};
 use crate::shared::{JOURNAL, Shared};
 use crate::teller::Teller;
-use durable_table::{Compacted, DurableTable, PerformError};
-use file_journal::{FileDevice, LockKind};
+use durable_table::{Compacted, DurableTable, PerformError, ReadTable};
+use file_journal::{FileDevice, FolderLock, LockKind};
 use held_table::HeldTable;
 use line_journal::{Device, DeviceError};
 use modprobe::Setup;
@@ -21,22 +23,8 @@ use std::io::Write;
 use std::rt::Files;
 use std::time::Clock;
 
-/// Answers lines that change nothing. Nothing is written to the folder.
-fn answer_reading<R: Files<File = File> + Clock + AllocGlobal>(
-    shared: &Shared<'_, R>,
-    setup: &Setup,
-    lines: &[Vec<u8>],
-    replies: &mut Replies,
-) -> Result<usize, TableFault>
-    requires { AreLines (bytes_of lines.now) }
-    ensures some { IfOk result (λ count. 0 < length lines.now → 0 < count) }
-    ensures within { IfOk result (λ count. count ≤ length lines.now) }
-{
-    let lock = shared.lock(LockKind::Shared)?;
-    let bytes = read_file(shared, JOURNAL)?;
-    lock.release();
-    answer_copy(shared.alloc(), setup, bytes, lines, replies)
-}
+/// The table over the file of a journal.
+type FileTable<'s, R> = DurableTable<'s, HeldTable, FileDevice<R>>;
 
 /// Why the table of a journal's file was not opened.
 fn unopened<R: Files + Drop>(fault: OpenFault<FileDevice<R>>) -> TableFault {
@@ -49,6 +37,141 @@ fn unopened<R: Files + Drop>(fault: OpenFault<FileDevice<R>>) -> TableFault {
     }
 }
 
+/// The table that the journal reads as, under a shared lock. None, if it is not whole and at rest, or cannot be opened.
+fn reading_table<'s, 'r, R: Files<File = File> + Clock + AllocGlobal>(
+    shared: &Shared<'r, R>,
+    kept: &mut Kept<'s, FileDevice<&'r R>>,
+) -> Option<FileTable<'s, &'r R>>
+    ensures of_setup { IfSome result (λ t. t.session.setup.now ≡ kept.old.setup.now) }
+    ensures reads { IfSome result (λ t. Reads ⟦<FileDevice<&'r R> as Device>⟧.content kept.old.setup.now (holding t.session.holders.held.table t.session.holders.held.names) t.journal) }
+    ensures setup { kept.new.setup.now ≡ kept.old.setup.now }
+{
+    let (rt, alloc, folder) = (shared.rt, shared.alloc(), shared.folder);
+    let device = match kept.take(alloc) {
+        Ok(table) => return Some(table),
+        Err(Some(device)) => device,
+        Err(None) => FileDevice::open(rt, alloc, folder, JOURNAL, shared.syncs).ok()?,
+    };
+    match read_table(alloc, kept.setup(), device) {
+        Ok(ReadTable::Ready(table)) => Some(table),
+        _ => None,
+    }
+}
+
+/// Answers lines that ask from a copy of the journal, which need not be at rest.
+fn answer_unkept<R: Files<File = File> + Clock + AllocGlobal>(
+    shared: &Shared<'_, R>,
+    setup: &Setup,
+    lock: FolderLock,
+    lines: &[Vec<u8>],
+    replies: &mut Replies,
+) -> Result<usize, TableFault>
+    requires { AreLines (bytes_of lines.now) }
+    ensures some { IfOk result (λ count. 0 < length lines.now → 0 < count) }
+    ensures within { IfOk result (λ count. count ≤ length lines.now) }
+{
+    let bytes = read_file(shared, JOURNAL)?;
+    lock.release();
+    answer_copy(shared.alloc(), setup, bytes, lines, replies)
+}
+
+/// Answers lines that ask from a table that reads as its journal does, and keeps it.
+fn ask_table<'s, R: Files + Drop>(
+    alloc: Global,
+    kept: &mut Kept<'s, FileDevice<R>>,
+    mut table: FileTable<'s, R>,
+    lines: &[Vec<u8>],
+    replies: &mut Replies,
+) -> Result<usize, TableFault>
+    requires lines { AreLines (bytes_of lines.now) }
+    requires asks { All (λ line. is_reading line ≡ true) (bytes_of lines.now) }
+    requires of_setup { table.session.setup.now ≡ kept.old.setup.now }
+    requires reads { Reads ⟦<FileDevice<R> as Device>⟧.content kept.old.setup.now (holding table.session.holders.held.table table.session.holders.held.names) table.journal }
+    ensures some { IfOk result (λ count. 0 < length lines.now → 0 < count) }
+    ensures within { IfOk result (λ count. count ≤ length lines.now) }
+    ensures setup { kept.new.setup.now ≡ kept.old.setup.now }
+{
+    let count = ask_lines(alloc, &mut table, lines, replies)?;
+    kept.keep(table);
+    Ok(count)
+}
+
+/// Answers lines that ask. Nothing is written to the folder.
+fn answer_reading<'s, 'r, R: Files<File = File> + Clock + AllocGlobal>(
+    shared: &Shared<'r, R>,
+    kept: &mut Kept<'s, FileDevice<&'r R>>,
+    lines: &[Vec<u8>],
+    replies: &mut Replies,
+) -> Result<usize, TableFault>
+    requires lines { AreLines (bytes_of lines.now) }
+    requires asks { All (λ line. is_reading line ≡ true) (bytes_of lines.now) }
+    ensures some { IfOk result (λ count. 0 < length lines.now → 0 < count) }
+    ensures within { IfOk result (λ count. count ≤ length lines.now) }
+    ensures setup { kept.new.setup.now ≡ kept.old.setup.now }
+{
+    let lock = shared.lock(LockKind::Shared)?;
+    let Some(table) = reading_table(shared, kept) else {
+        return answer_unkept(shared, kept.setup(), lock, lines, replies);
+    };
+    lock.release();
+    ask_table(shared.alloc(), kept, table, lines, replies)
+}
+
+/// A table that reads as its journal does, once all of that is on the disk.
+fn settled<'s, D: Device + Drop>(
+    mut table: DurableTable<'s, HeldTable, D>,
+) -> Result<DurableTable<'s, HeldTable, D>, OpenFault<D>>
+    requires reads { Reads D.content table.session.setup.now (holding table.session.holders.held.table table.session.holders.held.names) table.journal }
+    ensures of_setup { IfOk result (λ t. t.session.setup.now ≡ table.entry.session.setup.now) }
+    ensures stands { IfOk result (λ t. Stands D.content D.history table.entry.session.setup.now (holding t.session.holders.held.table t.session.holders.held.names) t.journal) }
+{
+    match table.settle() {
+        Ok(()) => Ok(table),
+        Err(error) => Err(OpenFault::Device(error, table.into_device())),
+    }
+}
+
+/// Opens the table of a file that does not read as a journal at rest. What a crash left behind its lines is first kept.
+fn repaired<'s, 'r, R: Files<File = File> + Clock + AllocGlobal, E: Write>(
+    shared: &Shared<'r, R>,
+    setup: &'s Setup,
+    mut device: FileDevice<&'r R>,
+    teller: &mut Teller<'_, E>,
+) -> Result<FileTable<'s, &'r R>, TableFault>
+    ensures of_setup { IfOk result (λ t. t.session.setup.now ≡ setup.now) }
+    ensures stands { IfOk result (λ t. Stands ⟦<FileDevice<&'r R> as Device>⟧.content ⟦<FileDevice<&'r R> as Device>⟧.history setup.now (holding t.session.holders.held.table t.session.holders.held.names) t.journal) }
+{
+    let cut = keep_torn(shared, &mut device)?;
+    teller.cut(shared.folder, cut);
+    match open_table(shared.alloc(), setup, device) {
+        Ok(table) => Ok(table),
+        Err(fault) => Err(unopened(fault)),
+    }
+}
+
+/// The table of the folder, under the lock. The journal stands for it, on the disk.
+fn changing_table<'s, 'r, R: Files<File = File> + Clock + AllocGlobal, E: Write>(
+    shared: &Shared<'r, R>,
+    kept: &mut Kept<'s, FileDevice<&'r R>>,
+    teller: &mut Teller<'_, E>,
+) -> Result<FileTable<'s, &'r R>, TableFault>
+    ensures of_setup { IfOk result (λ t. t.session.setup.now ≡ kept.old.setup.now) }
+    ensures stands { IfOk result (λ t. Stands ⟦<FileDevice<&'r R> as Device>⟧.content ⟦<FileDevice<&'r R> as Device>⟧.history kept.old.setup.now (holding t.session.holders.held.table t.session.holders.held.names) t.journal) }
+    ensures setup { kept.new.setup.now ≡ kept.old.setup.now }
+{
+    let (rt, alloc, folder) = (shared.rt, shared.alloc(), shared.folder);
+    let device = match kept.take(alloc) {
+        Ok(table) => return settled(table).map_err(unopened),
+        Err(Some(device)) => device,
+        Err(None) => FileDevice::open(rt, alloc, folder, JOURNAL, shared.syncs)?,
+    };
+    match read_table(alloc, kept.setup(), device) {
+        Ok(ReadTable::Ready(table)) => settled(table).map_err(unopened),
+        Ok(ReadTable::Anew(device)) => repaired(shared, kept.setup(), device, teller),
+        Err(fault) => Err(unopened(fault)),
+    }
+}
+
 /// Writes the journal anew, as the lines that make its table.
 fn compact_table<D: Device + Drop>(
     alloc: Global,
@@ -57,6 +180,8 @@ fn compact_table<D: Device + Drop>(
 ) -> Result<Compacted, PerformError>
     requires stands { Stands D.content D.history setup.now (holding table.old.session.holders.held.table table.old.session.holders.held.names) table.old.journal }
     requires setup { table.old.session.setup.now ≡ setup.now }
+    ensures stands { OnOk result (Stands D.content D.history setup.now (holding table.new.session.holders.held.table table.new.session.holders.held.names) table.new.journal) }
+    ensures setup { table.new.session.setup.now ≡ setup.now }
 {
     match no_holders(alloc, setup) {
         Ok(fresh) => table.compact(alloc, fresh),
@@ -64,40 +189,45 @@ fn compact_table<D: Device + Drop>(
     }
 }
 
-/// Writes a journal that has become long anew. If that fails, it stands for the same table all the same.
+/// Writes a journal that has become long anew. If that fails, it stands for the same table all the same, but the table is
+/// to be opened anew.
 fn shorten<D: Device + Drop>(
     alloc: Global,
     setup: &Setup,
     table: &mut DurableTable<'_, HeldTable, D>,
-)
+) -> bool
     requires stands { Stands D.content D.history setup.now (holding table.old.session.holders.held.table table.old.session.holders.held.names) table.old.journal }
     requires setup { table.old.session.setup.now ≡ setup.now }
+    ensures stands { result ≡ true → Stands D.content D.history setup.now (holding table.new.session.holders.held.table table.new.session.holders.held.names) table.new.journal }
+    ensures setup { table.new.session.setup.now ≡ setup.now }
 {
-    if table.is_long(alloc) == Ok(true) {
-        let _ = compact_table(alloc, setup, table);
+    match table.is_long(alloc) {
+        Ok(true) => compact_table(alloc, setup, table).is_ok(),
+        _ => true,
     }
 }
 
-/// Answers lines over the table of a journal's file. What they change is on the disk then. A journal that has become long is
-/// written anew.
-fn answer_file<R: Files + Drop>(
+/// Answers lines over the table of a folder, and keeps it. What they change is on the disk then. A journal that has become
+/// long is written anew.
+fn answer_table<'s, R: Files + Drop>(
     alloc: Global,
-    setup: &Setup,
-    device: FileDevice<R>,
+    kept: &mut Kept<'s, FileDevice<R>>,
+    mut table: FileTable<'s, R>,
     lines: &[Vec<u8>],
     replies: &mut Replies,
 ) -> Result<usize, TableFault>
-    requires { AreLines (bytes_of lines.now) }
+    requires lines { AreLines (bytes_of lines.now) }
+    requires of_setup { table.session.setup.now ≡ kept.old.setup.now }
+    requires stands { Stands ⟦<FileDevice<R> as Device>⟧.content ⟦<FileDevice<R> as Device>⟧.history kept.old.setup.now (holding table.session.holders.held.table table.session.holders.held.names) table.journal }
     ensures some { IfOk result (λ count. 0 < length lines.now → 0 < count) }
     ensures within { IfOk result (λ count. count ≤ length lines.now) }
+    ensures setup { kept.new.setup.now ≡ kept.old.setup.now }
 {
-    let mut table = match open_table(alloc, setup, device) {
-        Ok(table) => table,
-        Err(fault) => return Err(unopened(fault)),
-    };
     match answer_lines(alloc, &mut table, lines, replies) {
         Ok(count) => {
-            shorten(alloc, setup, &mut table);
+            if shorten(alloc, kept.setup(), &mut table) {
+                kept.keep(table);
+            }
             Ok(count)
         }
         Err(AnswerError::Device(DeviceError::Failed)) => Err(journal_fault(table.device().fault())),
@@ -106,9 +236,9 @@ fn answer_file<R: Files + Drop>(
 }
 
 /// Answers lines. What they change is on the disk before the lock is given back.
-fn answer_changing<R: Files<File = File> + Clock + AllocGlobal, E: Write>(
-    shared: &Shared<'_, R>,
-    setup: &Setup,
+fn answer_changing<'s, 'r, R: Files<File = File> + Clock + AllocGlobal, E: Write>(
+    shared: &Shared<'r, R>,
+    kept: &mut Kept<'s, FileDevice<&'r R>>,
     lines: &[Vec<u8>],
     replies: &mut Replies,
     teller: &mut Teller<'_, E>,
@@ -116,21 +246,19 @@ fn answer_changing<R: Files<File = File> + Clock + AllocGlobal, E: Write>(
     requires { AreLines (bytes_of lines.now) }
     ensures some { IfOk result (λ count. 0 < length lines.now → 0 < count) }
     ensures within { IfOk result (λ count. count ≤ length lines.now) }
+    ensures setup { kept.new.setup.now ≡ kept.old.setup.now }
 {
-    let (rt, alloc, folder) = (shared.rt, shared.alloc(), shared.folder);
     let lock = shared.lock(LockKind::Exclusive)?;
-    let mut device = FileDevice::open(rt, alloc, folder, JOURNAL, shared.syncs)?;
-    let cut = keep_torn(shared, &mut device)?;
-    teller.cut(folder, cut);
-    let answered = answer_file(alloc, setup, device, lines, replies);
+    let table = changing_table(shared, kept, teller)?;
+    let answered = answer_table(shared.alloc(), kept, table, lines, replies);
     lock.release();
     answered
 }
 
 /// Answers the first of some lines, as `answer_lines` does. The lock is shared if all of them ask.
-pub(crate) fn answer_in_tenure<R: Files<File = File> + Clock + AllocGlobal, E: Write>(
-    shared: &Shared<'_, R>,
-    setup: &Setup,
+pub(crate) fn answer_in_tenure<'s, 'r, R: Files<File = File> + Clock + AllocGlobal, E: Write>(
+    shared: &Shared<'r, R>,
+    kept: &mut Kept<'s, FileDevice<&'r R>>,
     lines: &[Vec<u8>],
     replies: &mut Replies,
     teller: &mut Teller<'_, E>,
@@ -138,30 +266,12 @@ pub(crate) fn answer_in_tenure<R: Files<File = File> + Clock + AllocGlobal, E: W
     requires { AreLines (bytes_of lines.now) }
     ensures some { IfOk result (λ count. 0 < length lines.now → 0 < count) }
     ensures within { IfOk result (λ count. count ≤ length lines.now) }
+    ensures setup { kept.new.setup.now ≡ kept.old.setup.now }
 {
     if are_reading(shared.alloc(), lines)? {
-        answer_reading(shared, setup, lines, replies)
+        answer_reading(shared, kept, lines, replies)
     } else {
-        answer_changing(shared, setup, lines, replies, teller)
-    }
-}
-
-/// Writes the journal of a file anew.
-fn compact_file<R: Files + Drop>(
-    alloc: Global,
-    setup: &Setup,
-    device: FileDevice<R>,
-) -> Result<Compacted, TableFault> {
-    let mut table = match open_table(alloc, setup, device) {
-        Ok(table) => table,
-        Err(fault) => return Err(unopened(fault)),
-    };
-    match compact_table(alloc, setup, &mut table) {
-        Ok(compacted) => Ok(compacted),
-        Err(PerformError::Device(DeviceError::Failed)) => {
-            Err(journal_fault(table.device().fault()))
-        }
-        Err(_) => Err(TableFault::OutOfMemory),
+        answer_changing(shared, kept, lines, replies, teller)
     }
 }
 
@@ -170,13 +280,17 @@ pub(crate) fn compact<R: Files<File = File> + Clock + AllocGlobal, E: Write>(
     shared: &Shared<'_, R>,
     teller: &mut Teller<'_, E>,
 ) -> Result<Compacted, TableFault> {
-    let (rt, alloc, folder) = (shared.rt, shared.alloc(), shared.folder);
+    let alloc = shared.alloc();
     let setup = setup(shared)?;
     let lock = shared.lock(LockKind::Exclusive)?;
-    let mut device = FileDevice::open(rt, alloc, folder, JOURNAL, shared.syncs)?;
-    let cut = keep_torn(shared, &mut device)?;
-    teller.cut(folder, cut);
-    let compacted = compact_file(alloc, &setup, device);
+    let mut table = changing_table(shared, &mut Kept::new(&setup), teller)?;
+    let compacted = compact_table(alloc, &setup, &mut table);
     lock.release();
-    compacted
+    match compacted {
+        Ok(compacted) => Ok(compacted),
+        Err(PerformError::Device(DeviceError::Failed)) => {
+            Err(journal_fault(table.device().fault()))
+        }
+        Err(_) => Err(TableFault::OutOfMemory),
+    }
 }

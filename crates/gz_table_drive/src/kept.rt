@@ -1,0 +1,65 @@
+//! The table that a process keeps from one tenure to the next.
+ghost use Rattle.std.specs.Prelude.{◌≡◌, IfOk, IfSome};
+ghost use Rattle.std.proofs.Props.{props};
+ghost use Rattle.held_lines.specs.Held.{holding};
+ghost use Rattle.durable_table.specs.Durable.{Reads};
+
+use durable_table::{CaughtUp, DurableTable};
+use held_table::HeldTable;
+use line_journal::{Device, Renewable};
+use modprobe::Setup;
+use std::alloc::Global;
+
+/// A table that is kept, if there is one. It read as its journal did when it was put here.
+#[derive(Drop)]
+pub(crate) struct Kept<'s, D: Device + Drop> {
+    setup: &'s Setup,
+    table: Option<DurableTable<'s, HeldTable, D>>,
+    ghost of_setup: { IfSome table (λ t. t.session.setup.now ≡ setup.now) } by { Prim.hlevel props },
+    ghost reads: { IfSome table (λ t. Reads D.content setup.now (holding t.session.holders.held.table t.session.holders.held.names) t.journal) } by { Prim.hlevel props },
+}
+
+impl<'s, D: Renewable + Drop> Kept<'s, D> {
+    /// No table is kept yet.
+    pub(crate) fn new(setup: &'s Setup) -> Kept<'s, D>
+        ensures { result.setup.now ≡ setup.now }
+    {
+        Kept { setup, table: None }
+    }
+
+    /// What the table was made of.
+    pub(crate) fn setup(&self) -> &'s Setup
+        ensures { result.now ≡ self.now.setup.now }
+    {
+        self.setup
+    }
+
+    /// Takes the table, with all that others have made of its journal since. None is kept then. If it has to be opened anew,
+    /// its device is handed back, unless that failed.
+    pub(crate) fn take(
+        &mut self,
+        alloc: Global,
+    ) -> Result<DurableTable<'s, HeldTable, D>, Option<D>>
+        ensures of_setup { IfOk result (λ t. t.session.setup.now ≡ self.old.setup.now) }
+        ensures reads { IfOk result (λ t. Reads D.content self.old.setup.now (holding t.session.holders.held.table t.session.holders.held.names) t.journal) }
+        ensures setup { self.new.setup.now ≡ self.old.setup.now }
+    {
+        let Some(mut table) = self.table.take() else {
+            return Err(None);
+        };
+        match table.catch_up(alloc) {
+            Ok(CaughtUp::Ready) => Ok(table),
+            Ok(CaughtUp::Anew) => Err(Some(table.into_device())),
+            Err(_) => Err(None),
+        }
+    }
+
+    /// Keeps a table that reads as its journal does.
+    pub(crate) fn keep(&mut self, table: DurableTable<'s, HeldTable, D>)
+        requires of_setup { table.session.setup.now ≡ self.old.setup.now }
+        requires reads { Reads D.content self.old.setup.now (holding table.session.holders.held.table table.session.holders.held.names) table.journal }
+        ensures { self.new.setup.now ≡ self.old.setup.now }
+    {
+        self.table = Some(table);
+    }
+}
