@@ -19,14 +19,36 @@ use line_journal::{Device, DeviceError, Found, Repair, peek};
 use modprobe::Setup;
 use program_frame::PathFault;
 use std::alloc::{AllocError, Global};
-use std::fs::{self, File, OpenFile};
-use std::io::{self, Write};
+use std::fs::{File, OpenFile};
+use std::io::{self, ErrorKind, Read, Write};
+use std::mem::ManuallyDrop;
 use std::rt::Files;
 use std::time::Clock;
 use table_setup::Sealed;
 
+/// How many bytes of a file are read at a time.
+const PIECE: usize = 65_536;
+
 /// How many lines with open gates a crash leaves behind the journal's lines, at the most. More are damage.
 const TORN: usize = GROUP - 1;
+
+/// All bytes of the file of a path. Room for what it has is taken at once, and it is read in pieces, which takes less time than
+/// `read_to_end`.
+fn read_path<R: Files<File = File> + AllocGlobal>(rt: &R, path: &str) -> io::Result<Vec<u8>> {
+    let mut file = File::open(rt, path)?;
+    let room = usize::try_from(file.metadata()?.len()).unwrap_or(0);
+    let mut bytes = Vec::with_capacity(rt.alloc(), room)?;
+    let mut piece = vec![in rt.alloc(); 0; PIECE]?;
+    for _ in 0..u64::MAX {
+        match file.read(&mut piece) {
+            Ok(0) => break,
+            Ok(count) => bytes.extend_from_slice(&piece[..count])?,
+            Err(error) if error.kind() == ErrorKind::Interrupted => {}
+            Err(error) => return Err(error),
+        }
+    }
+    Ok(bytes)
+}
 
 /// All bytes of a file of the folder.
 pub(crate) fn read_file<R: Files<File = File> + Clock + AllocGlobal>(
@@ -34,7 +56,7 @@ pub(crate) fn read_file<R: Files<File = File> + Clock + AllocGlobal>(
     name: &'static str,
 ) -> Result<Vec<u8>, TableFault> {
     let path = shared.path(name)?;
-    match fs::read(shared.rt, &path) {
+    match read_path(shared.rt, &path) {
         Ok(bytes) => Ok(bytes),
         Err(error) => match PathFault::from(error) {
             PathFault::Memory => Err(TableFault::OutOfMemory),
@@ -55,12 +77,14 @@ pub(crate) fn setup_in(alloc: Global, bytes: &[u8]) -> Result<Setup, TableFault>
     }
 }
 
-/// What the table of the folder was made of.
+/// What the table of the folder was made of. It is kept until the process ends, which takes less time than to give back each
+/// part of it.
 pub(crate) fn setup<R: Files<File = File> + Clock + AllocGlobal>(
     shared: &Shared<'_, R>,
-) -> Result<Setup, TableFault> {
+) -> Result<ManuallyDrop<Setup>, TableFault> {
     let bytes = read_file(shared, SETUP)?;
-    setup_in(shared.alloc(), &bytes)
+    let setup = setup_in(shared.alloc(), &bytes)?;
+    Ok(ManuallyDrop::new(setup))
 }
 
 /// A table was not opened. The device is handed back.
