@@ -3,7 +3,7 @@ ghost use Rattle.std.specs.Prelude.{◌≡◌, ◌<◌, Ok, All, length, IfOk, I
 ghost use Rattle.text_parts.specs.Text.{texts_of};
 ghost use Rattle.held_lines.specs.Found.{add_targets, add_word, found_for, FailsAs, with_slot};
 
-use load_plan::{FindError, find};
+use load_plan::FindError;
 use modprobe::Setup;
 use std::alloc::{AllocError, AllocFailed, Global};
 use text_parts::Name;
@@ -71,14 +71,7 @@ fn add_word(
     ensures within { OnOk result (All (λ slot. slot < length setup.now.catalogue) slots.new.items) }
 {
     let name = Name::new(alloc, word)?;
-    let (catalogue, configuration) = (setup.catalogue(), setup.configuration());
-    match find(
-        alloc,
-        name.as_bytes(),
-        catalogue,
-        configuration,
-        setup.aliases(),
-    ) {
+    match setup.find(alloc, name.as_bytes()) {
         Ok(targets) => add_targets(alloc, setup, slots, &targets),
         Err(FindError::NotFound) => Err(FoundError::Unknown(name)),
         Err(FindError::Memory) => Err(FoundError::Memory),

@@ -11,3 +11,5 @@ pub mod OutcomeLemmas
 pub mod ChangeLemmas
 pub mod LoadLemmas
 pub mod SettlingLemmas
+pub mod AliasTextLemmas
+pub mod WholeLemmas

@@ -28,7 +28,7 @@ sections-line : (current : Option Section) (parts : Parts) (line : Line) (more :
 unfolding sections
 sections-line current parts line more turn is = ap (λ t. after_step t parts more (λ c p. sections c p more)) is
 
-sections-end : (current : Option Section) (parts : Parts) → sections current parts [] ≡ Ok (parts, [])
+pub sections-end : (current : Option Section) (parts : Parts) → sections current parts [] ≡ Ok (parts, [])
 unfolding sections
 sections-end current parts = refl
 
@@ -49,7 +49,7 @@ begins (Some old) (Some middle) (Some new) current parts line before gives is =
     before ∙ ap (sections current parts) gives ∙ sections-line current parts line (cut_lines new) begin is
 
 -- The sections stop at the line.
-stops : (old middle new : Option (List ℕ)) (current : Option Section) (parts : Parts) (line : Line) (why : Stopped)
+pub stops : (old middle new : Option (List ℕ)) (current : Option Section) (parts : Parts) (line : Line) (why : Stopped)
     → SectionsGoOn old middle current parts → GivesCut middle new line → step_of current parts line ≡ stop why → IfTold old (λ text. sections None no_parts (cut_lines text) ≡ Err why)
 stops None middle new current parts line why before gives is = tt
 stops (Some old) None new current parts line why before gives is = absurd before

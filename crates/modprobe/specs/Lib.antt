@@ -15,3 +15,5 @@ pub mod Run
 pub mod ForProofs
 pub mod Serve
 pub mod Sessions
+pub mod AliasText
+pub mod Whole

@@ -2,6 +2,8 @@
 #![tactic(auto)]
 
 mod action;
+mod alias_text;
+mod aliases;
 mod change;
 mod command;
 mod device;
@@ -23,7 +25,9 @@ mod settling;
 mod setup;
 mod unwatched;
 mod watch;
+mod whole;
 
+pub use aliases::AliasForm;
 pub use device::{Failed, FromRead, FromWrite, Sink, Source};
 pub use fault::{RunFault, ServeFault, SetupCode, SetupFault};
 pub use half::Half;
@@ -38,3 +42,4 @@ pub use session::Session;
 pub use setup::{Setup, read_setup_watched};
 pub use unwatched::{Unwatched, read_setup, run, serve};
 pub use watch::{Refused, Watch};
+pub use whole::read_whole_setup;

@@ -11,7 +11,7 @@ use crate::session::Session;
 use crate::setup::Setup;
 use dep_index::ModuleState;
 use dep_index::reads::{is_absent, is_live};
-use load_plan::{FindError, Item, PlanError, Planner, find};
+use load_plan::{FindError, Item, PlanError, Planner};
 use seq_table::Modules;
 use std::alloc::Global;
 use text_parts::Name;
@@ -38,14 +38,7 @@ impl Aim {
 fn targets_of(alloc: Global, setup: &Setup, name: Name) -> Result<Vec<Name>, PlanError>
     ensures { Answers (λ names. names.items) result (targets_of setup.now name) }
 {
-    let (catalogue, configuration) = (setup.catalogue(), setup.configuration());
-    match find(
-        alloc,
-        name.as_bytes(),
-        catalogue,
-        configuration,
-        setup.aliases(),
-    ) {
+    match setup.find(alloc, name.as_bytes()) {
         Ok(names) => Ok(names),
         Err(FindError::NotFound) => Err(PlanError::Unknown(name)),
         Err(FindError::Memory) => Err(PlanError::Memory),

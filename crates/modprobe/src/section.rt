@@ -21,9 +21,14 @@ pub enum Section {
     Session,
 }
 
-fn section_of(line: &[u8]) -> Option<Section>
+/// The section that a line begins.
+pub(crate) fn section_of(line: &[u8]) -> Option<Section>
     ensures { result ≡ section_of line.now }
 {
+    // Each of them begins so, and few other lines do.
+    if line.first() != Some(&b'%') {
+        return None;
+    }
     if line == b"%catalogue".as_slice() {
         Some(Section::Catalogue)
     } else if line == b"%dep".as_slice() {
@@ -39,7 +44,7 @@ fn section_of(line: &[u8]) -> Option<Section>
     }
 }
 
-fn is_session(section: Section) -> bool
+pub(crate) fn is_session(section: Section) -> bool
     ensures { result ≡ is_session section }
 {
     matches!(section, Section::Session)
@@ -92,7 +97,12 @@ impl Texts {
     }
 
     /// Adds a line, with its end as it stands.
-    fn push_line(&mut self, section: Section, line: &[u8], ending: &[u8]) -> Result<(), AllocError>
+    pub(crate) fn push_line(
+        &mut self,
+        section: Section,
+        line: &[u8],
+        ending: &[u8],
+    ) -> Result<(), AllocError>
         ensures { OnOk result (parts_of self.new ≡ add_bytes section (line.now ++ ending.now) (parts_of self.old)) }
     {
         self.push(section, line)?;

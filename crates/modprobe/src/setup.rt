@@ -1,22 +1,26 @@
 //! What a session knows besides its table.
-ghost use Rattle.std.specs.Prelude.{◌≡◌, ◌≤◌, Ok, false, IfOk, IfErr, OnOk};
+ghost use Rattle.std.specs.Prelude.{◌≡◌, ◌≢◌, ◌≤◌, [], Ok, false, IfOk, IfErr, IfSome, OnOk};
+ghost use Rattle.load_plan.specs.LookUp.{found};
+ghost use Rattle.load_plan.specs.declared.look_up.FindError.TheVariants.{NotFound};
 ghost use Rattle.modprobe.specs.Lines.{bytes_left, IfTold, IsPaid, StopsForTurns, SpendsTurns, HasTrueEnd, source_of, SameReader, line_of};
 ghost use Rattle.modprobe.specs.Setup.{name_at};
 ghost use Rattle.modprobe.specs.SetupInput.{setup_for, setup_of, GivesSetup, Refuses, SetupStops};
 ghost use Rattle.modprobe.specs.ForProofs.{BoundsNames, FitsNames, RefusesTexts, StopsNowhere, is_setup_read, is_turns_code, parts_of};
 
+use crate::aliases::{AliasForm, KeptAliases};
 use crate::device::Source;
 use crate::fault::{SetupCode, SetupFault};
 use crate::lines::Lines;
 use crate::reply::ERROR_ROOM;
 use crate::section::{Texts, read_texts};
 use crate::watch::Watch;
-use alias_match::{Aliases, read_aliases};
+use alias_match::Aliases;
 use dep_index::{Catalogue, DepIndex, read_catalogue, read_dep};
-use load_plan::Sources;
+use load_plan::{FindError, Sources};
 use modprobe_conf::{Conf, read_conf};
 use std::alloc::Global;
 use std::marker::Model;
+use text_parts::Name;
 
 /// The setup of a session: its catalogue, and what its texts of modules.dep(5), modules.alias and modprobe.d(5) say.
 #[derive(Drop)]
@@ -25,7 +29,7 @@ pub struct Setup {
     // the length of the longest name of the catalogue
     longest: usize,
     dependencies: DepIndex,
-    aliases: Aliases,
+    aliases: KeptAliases,
     configuration: Conf,
 }
 
@@ -61,11 +65,21 @@ impl Setup {
         }
     }
 
-    /// What modules.alias says.
-    pub fn aliases(&self) -> &Aliases
-        ensures { result.now ≡ self.now.aliases }
+    /// What modules.alias says, if it is kept in a table.
+    pub fn alias_table(&self) -> Option<&Aliases>
+        ensures { IfSome result (λ aliases. aliases.now ≡ self.now.aliases) }
     {
-        &self.aliases
+        self.aliases.table()
+    }
+
+    /// The modules of a name, as `find` of load_plan finds them. NotFound if there are none.
+    pub fn find(&self, alloc: Global, name: &[u8]) -> Result<Vec<Name>, FindError>
+        ensures found { IfOk result (λ names. names.items ≡ found self.now.catalogue self.now.configuration self.now.aliases.entries name.now) }
+        ensures some { IfOk result (λ names. names.items ≢ []) }
+        ensures none { IfErr result (λ e. e ≡ NotFound → found self.now.catalogue self.now.configuration self.now.aliases.entries name.now ≡ []) }
+    {
+        self.aliases
+            .find(alloc, name, &self.catalogue, &self.configuration)
     }
 
     /// What modprobe.d says.
@@ -106,8 +120,8 @@ fn longest_name(catalogue: &Catalogue) -> usize
     longest
 }
 
-/// The setup that the texts of the sections make.
-fn setup_for(alloc: Global, texts: &Texts) -> Result<Setup, SetupFault>
+/// The setup that the texts of the sections make, with the aliases in a form.
+pub(crate) fn setup_for(alloc: Global, texts: &Texts, form: AliasForm) -> Result<Setup, SetupFault>
     ensures setup { IfOk result (λ s. setup_for (parts_of texts.now) ≡ Ok s) }
     ensures refused { IfErr result (λ fault. RefusesTexts fault (parts_of texts.now)) }
     ensures read { is_setup_read result ≡ false }
@@ -119,7 +133,7 @@ fn setup_for(alloc: Global, texts: &Texts) -> Result<Setup, SetupFault>
         longest: longest_name(&catalogue),
         catalogue,
         dependencies: read_dep(alloc, &texts.dep)?,
-        aliases: read_aliases(alloc, &texts.alias)?,
+        aliases: KeptAliases::read(alloc, &texts.alias, form)?,
         configuration: read_conf(alloc, &texts.conf)?,
     })
 }
@@ -161,7 +175,7 @@ pub fn read_setup_watched<R: Source, T: Watch>(
     let mut texts = Texts::new(alloc);
     match read_texts(lines, &mut texts, watch) {
         Ok(()) => {
-            let setup = setup_for(alloc, &texts);
+            let setup = setup_for(alloc, &texts, AliasForm::Table);
             tell_setup(&setup, texts, watch);
             setup
         }

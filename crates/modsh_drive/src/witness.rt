@@ -71,9 +71,12 @@ impl<'a> Kept<'a> {
 
     /// Keeps the notes of lines that are about nothing.
     fn lint(&mut self, setup: &Setup) {
+        let Some(aliases) = setup.alias_table() else {
+            return;
+        };
         let known = Known {
             catalogue: setup.catalogue(),
-            aliases: setup.aliases(),
+            aliases,
             configuration: setup.configuration(),
         };
         match lint(self.alloc, &known, self.text(Section::Conf)) {

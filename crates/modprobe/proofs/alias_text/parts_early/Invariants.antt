@@ -1,0 +1,10 @@
+use Rattle.std.proofs.Common.{◌≡◌, length}
+use Rattle.modprobe.specs.AliasText.{parts_early}
+use Rattle.modprobe.proofs.alias_text.parts_early.Given as goal
+
+-- what was read is the same so far
+abbrev pub invariant-loop-byte : goal.invariant-loop-byte
+invariant-loop-byte l = parts_early l.pattern l.name ≡ parts_early l.rest l.others
+
+abbrev pub decreases-loop-byte : goal.decreases-loop-byte
+decreases-loop-byte l = length l.rest
