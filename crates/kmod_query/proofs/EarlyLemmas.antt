@@ -1,10 +1,11 @@
 -- An answer that is early does not depend on modules.alias and modules.symbols.
-use Rattle.std.proofs.Common.{◌≡◌, ℕ, zero, suc, ◌==◌, Bool, true, false, not, ◌&&◌, ◌||◌, cond, List, [], ◌∷◌, ◌++◌, fold, length, map, nat_lt, refl, sym, ◌∙◌, ap, Option, Some, None}
+use Rattle.std.proofs.Common.{◌≡◌, ℕ, zero, suc, ◌==◌, Bool, true, false, not, ◌&&◌, ◌||◌, cond, List, [], ◌∷◌, ◌++◌, fold, length, map, nat_lt, refl, sym, ◌∙◌, ap, Option, Some, None, is_none}
 use Rattle.std.proofs.lemmas.Bool.{lt-ltb}
 use Rattle.std.proofs.Math.Nat.{zero-lt-suc}
 use Rattle.std.specs.List.{flat_map, list_all, list_any}
 use Rattle.text_parts.specs.Text.{texts_of}
 use Rattle.kmod_query.specs.declared.answer.Failure.TheVariants.{NotFound}
+use Rattle.kmod_query.specs.declared.paths.AtPath.{AtPath}
 use Rattle.kmod_query.specs.declared.query.Ask.{Ask}
 use Rattle.kmod_query.specs.declared.query.Ask.TheVariants.{ShowDepends, DryRun, Resolve, Remove, ShowRemoval, ShowConfig}
 use Rattle.kmod_query.specs.declared.query.Query.{Query}
@@ -14,10 +15,11 @@ use Rattle.kmod_query.specs.AnswerOf.{answer_by_ask, answer_of}
 use Rattle.kmod_query.specs.Commands.{install_of}
 use Rattle.kmod_query.specs.Early.{has_words, is_early, is_early_by, is_early_first, is_early_word, is_found_early, loads, stands_alone}
 use Rattle.kmod_query.specs.Facts.{Facts}
-use Rattle.kmod_query.specs.Lines.{has_soft_items, is_built_in, line_by, option_text, own_parameters, parameter_text}
-use Rattle.kmod_query.specs.Loading.{already, answer_each, answer_found, answer_name, answer_names, answer_object, answer_one, is_barred, is_passed, is_resolve, line_unless_passed, load_lines, shows_lines}
+use Rattle.kmod_query.specs.Lines.{file_of, has_soft_items, is_built_in, line_by, option_text, own_parameters, parameter_text}
+use Rattle.kmod_query.specs.Loading.{already, answer_at, answer_each, answer_found, answer_name, answer_names, answer_object, answer_one, is_barred, is_passed, is_resolve, line_unless_passed, load_lines, shows_lines}
 use Rattle.kmod_query.specs.LookUp.{by_one_alias, by_patterns, exporting, found, found_or_none, itself, look_up_each, or_else}
 use Rattle.kmod_query.specs.Objects.{Object, by_name, is_same}
+use Rattle.kmod_query.specs.Paths.{own_of}
 use Rattle.kmod_query.specs.Probes.{Task, probe, fill, add, after_of, before_of, fill_tasks, first_tasks, run, step_limit}
 use Rattle.kmod_query.specs.Removal.{remove_names}
 use Rattle.kmod_query.specs.Shown.{shown}
@@ -112,7 +114,7 @@ line-later : (facts : Facts) (exporters aliased : Names) (query : Query) (parame
     → line_unless_passed (with_later facts exporters aliased) query parameters top object ≡ line_unless_passed facts query parameters top object
 line-later facts exporters aliased query parameters top object h =
     ap (λ soft. cond (is_passed facts query object) []
-    (line_by (cond ((query.ignore_commands && is_same object top) || soft) None (install_of facts object.name object.alias)) (facts.path object.name)
+    (line_by (cond ((query.ignore_commands && is_same object top) || soft) None (install_of facts object.name object.alias)) (file_of facts object)
     (is_built_in facts object) object.name (option_text facts object (own_parameters top object parameters))))
     (soft-none (with_later facts exporters aliased) object.name h ∙ sym (soft-none facts object.name h))
 
@@ -170,7 +172,12 @@ name-later facts exporters aliased query parameters word (Some name) h =
 
 word-later : (facts : Facts) (exporters aliased : Names) (query : Query) (parameters word : List ℕ) → is_early_word facts word ≡ true
     → answer_name (with_later facts exporters aliased) query parameters word ≡ answer_name facts query parameters word
-word-later facts exporters aliased query parameters word h = name-later facts exporters aliased query parameters word (facts.normal word) h
+word-later facts exporters aliased query parameters word h = next (facts.at_path word) h
+  where
+    next : (at : Option AtPath) → (is_none at && is_early_by facts (facts.normal word)) ≡ true
+        → answer_at at (with_later facts exporters aliased) query parameters word ≡ answer_at at facts query parameters word
+    next None h = name-later facts exporters aliased query parameters word (facts.normal word) h
+    next (Some at) h = absurd (cc)
 
 one-later : (facts : Facts) (exporters aliased : Names) (query : Query) (words : List (List ℕ)) → is_early_first facts words ≡ true
     → answer_one (with_later facts exporters aliased) query words ≡ answer_one facts query words
@@ -201,11 +208,13 @@ names-later facts exporters aliased query words h =
 -- ---- worlds
 
 facts-later : (one other : World) → one.conf.now ≡ other.conf.now → one.states.now ≡ other.states.now → one.directory.now ≡ other.directory.now
+    → one.paths.now ≡ other.paths.now → own_of one.own ≡ own_of other.own
     → one.index.now.dependencies ≡ other.index.now.dependencies → one.index.now.builtin_names ≡ other.index.now.builtin_names
     → one.index.now.builtin_aliases ≡ other.index.now.builtin_aliases
     → with_later (facts_of one) (facts_of other).exporters (facts_of other).aliased ≡ facts_of other
 unfolding facts_of
-facts-later one other conf states directory dependencies names aliases = rw (conf, states, directory, dependencies, names, aliases) refl
+facts-later one other conf states directory paths own dependencies names aliases =
+    rw (conf, states, directory, paths, own, dependencies, names, aliases) refl
 
 by-ask : (one other : World) (query : Query) (ask : Ask) → loads ask ≡ true
     → answer_names (facts_of one) query (texts_of query.words.now) ≡ answer_names (facts_of other) query (texts_of query.words.now)
@@ -219,26 +228,27 @@ by-ask one other query ShowConfig h same = absurd (cc)
 
 pub later-ignored : (one other : World) (query : Query) → is_early (facts_of one) query (texts_of query.words.now) ≡ true
     → one.conf.now ≡ other.conf.now → one.states.now ≡ other.states.now → one.directory.now ≡ other.directory.now
+    → one.paths.now ≡ other.paths.now → own_of one.own ≡ own_of other.own
     → one.index.now.dependencies ≡ other.index.now.dependencies → one.index.now.builtin_names ≡ other.index.now.builtin_names
     → one.index.now.builtin_aliases ≡ other.index.now.builtin_aliases → answer_of one query ≡ answer_of other query
-later-ignored one other query h conf states directory dependencies names aliases =
+later-ignored one other query h conf states directory paths own dependencies names aliases =
     by-ask one other query query.ask
     (both (loads query.ask) (cond query.all (list_all (is_early_word (facts_of one)) (texts_of query.words.now)) (is_early_first (facts_of one) (texts_of query.words.now))) h).0
     (sym (names-later (facts_of one) (facts_of other).exporters (facts_of other).aliased query (texts_of query.words.now) h)
-    ∙ ap (λ facts. answer_names facts query (texts_of query.words.now)) (facts-later one other conf states directory dependencies names aliases))
+    ∙ ap (λ facts. answer_names facts query (texts_of query.words.now)) (facts-later one other conf states directory paths own dependencies names aliases))
 
 -- what a world has decides its answers
 pub same-facts : (one other : World) → one.conf.now ≡ other.conf.now → one.index.now ≡ other.index.now → one.states.now ≡ other.states.now
-    → one.directory.now ≡ other.directory.now → facts_of one ≡ facts_of other
+    → one.directory.now ≡ other.directory.now → one.paths.now ≡ other.paths.now → own_of one.own ≡ own_of other.own → facts_of one ≡ facts_of other
 unfolding facts_of
-same-facts one other conf index states directory = rw (conf, index, states, directory) refl
+same-facts one other conf index states directory paths own = rw (conf, index, states, directory, paths, own) refl
 
 pub same-answer : (one other : World) (query : Query) → one.conf.now ≡ other.conf.now → one.index.now ≡ other.index.now → one.states.now ≡ other.states.now
-    → one.directory.now ≡ other.directory.now → answer_of one query ≡ answer_of other query
-same-answer one other query conf index states directory = next query.ask
+    → one.directory.now ≡ other.directory.now → one.paths.now ≡ other.paths.now → own_of one.own ≡ own_of other.own → answer_of one query ≡ answer_of other query
+same-answer one other query conf index states directory paths own = next query.ask
   where
     same : facts_of one ≡ facts_of other
-    same = same-facts one other conf index states directory
+    same = same-facts one other conf index states directory paths own
 
     next : (ask : Ask) → answer_by_ask ask one query ≡ answer_by_ask ask other query
     next ShowDepends = ap (λ facts. answer_names facts query (texts_of query.words.now)) same

@@ -1,20 +1,24 @@
 -- The laws of answers.
-use Rattle.std.proofs.Common.{◌≡◌, ℕ, zero, suc, ◌==◌, Bool, true, false, not, ◌&&◌, ◌||◌, cond, List, [], ◌∷◌, ◌++◌, fold, length, refl, sym, ◌∙◌, ap, append_assoc, append-nil, Option, is_some}
+use Rattle.std.proofs.Common.{◌≡◌, ℕ, zero, suc, ◌==◌, Bool, true, false, not, ◌&&◌, ◌||◌, cond, List, [], ◌∷◌, ◌++◌, fold, length, refl, sym, ◌∙◌, ap, append_assoc, append-nil, Option, Some, None, is_some}
 use Rattle.std.specs.List.{flat_map, list_any}
+use Rattle.kmod_names.specs.Names.{name_of_path}
 use Rattle.text_parts.specs.Text.{texts_of}
 use Rattle.kmod_query.specs.declared.answer.Failure.TheVariants.{AlreadyLoaded, NotFound}
+use Rattle.kmod_query.specs.declared.paths.AtPath.{AtPath}
+use Rattle.kmod_query.specs.declared.paths.AtPath.TheVariants.{File, Nothing}
 use Rattle.kmod_query.specs.declared.query.Ask.TheVariants.{ShowDepends}
 use Rattle.kmod_query.specs.declared.query.Query.{Query}
 use Rattle.kmod_query.specs.declared.states.ModuleStatus.{ModuleStatus}
 use Rattle.kmod_query.specs.declared.world.World.{World}
 use Rattle.kmod_query.specs.Answers.{Answer, and_also, and_then, failing, nothing, said}
 use Rattle.kmod_query.specs.AnswerOf.{answer_by_ask, answer_of}
-use Rattle.kmod_query.specs.Facts.{Facts}
+use Rattle.kmod_query.specs.Facts.{Facts, with_own}
 use Rattle.kmod_query.specs.Lines.{is_in_kernel, load_line}
-use Rattle.kmod_query.specs.Loading.{already, answer_each, answer_found, answer_name, answer_names, answer_object, answer_one, is_barred, is_passed, is_resolve, is_show_depends, line_unless_passed, load, load_lines, shows_lines}
+use Rattle.kmod_query.specs.Loading.{already, answer_at, answer_each, answer_found, answer_name, answer_names, answer_object, answer_one, is_barred, is_passed, is_resolve, is_show_depends, line_unless_passed, load, load_lines, shows_lines}
 use Rattle.kmod_query.specs.Lines.{parameter_text}
 use Rattle.kmod_query.specs.LookUp.{look_up}
-use Rattle.kmod_query.specs.Objects.{Object, has}
+use Rattle.kmod_query.specs.Objects.{Object, by_name, has}
+use Rattle.kmod_query.specs.Paths.{own_of}
 use Rattle.kmod_query.specs.Probes.{Task, probe, fill, add, fill_tasks, first_tasks, probe_list, probe_tasks, run, step_limit}
 use Rattle.kmod_query.specs.States.{status_in}
 use Rattle.kmod_query.specs.World.{facts_of}
@@ -41,14 +45,35 @@ fold-failed : (f : List ℕ → Answer) (a : Answer) (words : List (List ℕ)) �
 fold-failed f a [] = or-nothing a.failed
 fold-failed f a (word ∷ words) = fold-failed f (and_also a (f word)) words ∙ or-assoc a.failed (f word).failed (list_any (λ word. (f word).failed) words)
 
+pub flat_map-same : {A B : Type 0} (f g : A → List B) → ((x : A) → f x ≡ g x) → (xs : List A) → flat_map f xs ≡ flat_map g xs
+flat_map-same f g h [] = refl
+flat_map-same f g h (x ∷ xs) = ap (λ l. l ++ flat_map f xs) (h x) ∙ ap (λ l. g x ++ l) (flat_map-same f g h xs)
+
+any-same : {A : Type 0} (f g : A → Bool) → ((x : A) → f x ≡ g x) → (xs : List A) → list_any f xs ≡ list_any g xs
+any-same f g h [] = refl
+any-same f g h (x ∷ xs) = ap (λ b. b || list_any f xs) (h x) ∙ ap (λ b. g x || b) (any-same f g h xs)
+
+-- under --all each word is a name
+each-names : (facts : Facts) (query : Query) (words : List (List ℕ)) → query.all ≡ true → answer_names facts query words ≡ answer_each facts query words
+each-names facts query words h = ap (λ all. cond all (answer_each facts query words) (answer_one facts query words)) h
+
 pub lines-in_turn : (facts : Facts) (query : Query) (words : List (List ℕ)) → query.all ≡ true → (answer_names facts query words).output ≡ flat_map (λ word. (answer_names facts query (word ∷ [])).output) words
-lines-in_turn facts query words h = rw h (fold-output (answer_name facts query []) nothing words)
+lines-in_turn facts query words h =
+    ap (λ answer. answer.output) (each-names facts query words h)
+    ∙ fold-output (answer_name facts query []) nothing words
+    ∙ flat_map-same _ (λ word. (answer_names facts query (word ∷ [])).output) (λ word. ap (λ answer. answer.output) (sym (each-names facts query (word ∷ []) h))) words
 
 pub failures-in_turn : (facts : Facts) (query : Query) (words : List (List ℕ)) → query.all ≡ true → (answer_names facts query words).failures ≡ flat_map (λ word. (answer_names facts query (word ∷ [])).failures) words
-failures-in_turn facts query words h = rw h (fold-failures (answer_name facts query []) nothing words)
+failures-in_turn facts query words h =
+    ap (λ answer. answer.failures) (each-names facts query words h)
+    ∙ fold-failures (answer_name facts query []) nothing words
+    ∙ flat_map-same _ (λ word. (answer_names facts query (word ∷ [])).failures) (λ word. ap (λ answer. answer.failures) (sym (each-names facts query (word ∷ []) h))) words
 
 pub status-in_turn : (facts : Facts) (query : Query) (words : List (List ℕ)) → query.all ≡ true → (answer_names facts query words).failed ≡ list_any (λ word. (answer_names facts query (word ∷ [])).failed) words
-status-in_turn facts query words h = rw h (fold-failed (answer_name facts query []) nothing words)
+status-in_turn facts query words h =
+    ap (λ answer. answer.failed) (each-names facts query words h)
+    ∙ fold-failed (answer_name facts query []) nothing words
+    ∙ any-same _ (λ word. (answer_names facts query (word ∷ [])).failed) (λ word. ap (λ answer. answer.failed) (sym (each-names facts query (word ∷ []) h))) words
 
 -- ---- the blacklist
 
@@ -88,10 +113,6 @@ Status = List ℕ → Option ModuleStatus
 -- the same with other states
 abbrev with_states : Facts → Status → Facts
 with_states facts status = record facts { status = status }
-
-pub flat_map-same : {A : Type 0} (f g : A → List ℕ) → ((x : A) → f x ≡ g x) → (xs : List A) → flat_map f xs ≡ flat_map g xs
-flat_map-same f g h [] = refl
-flat_map-same f g h (x ∷ xs) = ap (λ l. l ++ flat_map f xs) (h x) ∙ ap (λ l. g x ++ l) (flat_map-same f g h xs)
 
 fold-same : {A B : Type 0} (f g : B → A → B) → ((b : B) (x : A) → f b x ≡ g b x) → (b : B) (xs : List A) → fold f b xs ≡ fold g b xs
 fold-same f g h b [] = refl
@@ -138,7 +159,12 @@ found-states facts status query parameters word found h =
     (fold-same _ (λ answer own. and_then answer (answer_object facts query parameters own)) (λ answer own. ap (and_then answer) (object-states facts status query parameters own h)) nothing found)
 
 name-states : (facts : Facts) (status : Status) (query : Query) (parameters word : List ℕ) → query.ask ≡ ShowDepends → answer_name (with_states facts status) query parameters word ≡ answer_name facts query parameters word
-name-states facts status query parameters word h = found-states facts status query parameters word (look_up facts word) h
+name-states facts status query parameters word h = next (facts.at_path word)
+  where
+    next : (at : Option AtPath) → answer_at at (with_states facts status) query parameters word ≡ answer_at at facts query parameters word
+    next None = found-states facts status query parameters word (look_up facts word) h
+    next (Some (File file)) = object-states (with_own facts (name_of_path word) file) status query parameters (by_name (name_of_path word)) h
+    next (Some (Nothing reason)) = refl
 
 one-states : (facts : Facts) (status : Status) (query : Query) (words : List (List ℕ)) → query.ask ≡ ShowDepends → answer_one (with_states facts status) query words ≡ answer_one facts query words
 one-states facts status query [] h = refl
@@ -153,13 +179,15 @@ names-states facts status query words h =
     ap (λ a. cond query.all a (answer_one (with_states facts status) query words)) (each-states facts status query words h)
     ∙ ap (λ a. cond query.all (answer_each facts query words) a) (one-states facts status query words h)
 
-facts-states : (one other : World) → one.conf.now ≡ other.conf.now → one.index.now ≡ other.index.now → one.directory.now ≡ other.directory.now → facts_of one ≡ with_states (facts_of other) (status_in one.states.now)
+facts-states : (one other : World) → one.conf.now ≡ other.conf.now → one.index.now ≡ other.index.now → one.directory.now ≡ other.directory.now
+    → one.paths.now ≡ other.paths.now → own_of one.own ≡ own_of other.own → facts_of one ≡ with_states (facts_of other) (status_in one.states.now)
 unfolding facts_of
-facts-states one other c i d = rw (c, i, d) refl
+facts-states one other c i d p o = rw (c, i, d, p, o) refl
 
-pub states-ignored : (one other : World) (query : Query) → query.ask ≡ ShowDepends → one.conf.now ≡ other.conf.now → one.index.now ≡ other.index.now → one.directory.now ≡ other.directory.now → answer_of one query ≡ answer_of other query
-states-ignored one other query h c i d =
+pub states-ignored : (one other : World) (query : Query) → query.ask ≡ ShowDepends → one.conf.now ≡ other.conf.now → one.index.now ≡ other.index.now → one.directory.now ≡ other.directory.now
+    → one.paths.now ≡ other.paths.now → own_of one.own ≡ own_of other.own → answer_of one query ≡ answer_of other query
+states-ignored one other query h c i d p o =
     ap (λ ask. answer_by_ask ask one query) h
-    ∙ ap (λ facts. answer_names facts query (texts_of query.words.now)) (facts-states one other c i d)
+    ∙ ap (λ facts. answer_names facts query (texts_of query.words.now)) (facts-states one other c i d p o)
     ∙ names-states (facts_of other) (status_in one.states.now) query (texts_of query.words.now) h
     ∙ sym (ap (λ ask. answer_by_ask ask other query) h)

@@ -2,8 +2,10 @@
 use Rattle.std.proofs.Common.{◌≡◌, ℕ, ◌==◌, Bool, true, false, cond, List, [], ◌∷◌, ◌++◌, fold, length, refl, sym, ◌∙◌, ap, Option, Some, None}
 use Rattle.std.specs.List.{list_all}
 use Rattle.text_parts.specs.Text.{texts_of}
-use Rattle.kmod_names.specs.Names.{normal_alias}
+use Rattle.kmod_names.specs.Names.{name_of_path, normal_alias}
 use Rattle.kmod_query.specs.declared.answer.Failure.TheVariants.{NotFound}
+use Rattle.kmod_query.specs.declared.paths.AtPath.{AtPath}
+use Rattle.kmod_query.specs.declared.paths.AtPath.TheVariants.{File, Nothing}
 use Rattle.kmod_query.specs.declared.query.Ask.{Ask}
 use Rattle.kmod_query.specs.declared.query.Ask.TheVariants.{ShowDepends, DryRun, Resolve, Remove, ShowRemoval, ShowConfig}
 use Rattle.kmod_query.specs.declared.query.Query.{Query}
@@ -11,11 +13,12 @@ use Rattle.kmod_query.specs.declared.world.World.{World}
 use Rattle.kmod_query.specs.Answers.{Answer, and_also, and_then, failing, nothing, said}
 use Rattle.kmod_query.specs.AnswerOf.{answer_by_ask, answer_of}
 use Rattle.kmod_query.specs.Early.{are_plain, is_plain_by, is_plain_first, is_plain_word, is_symbolless}
-use Rattle.kmod_query.specs.Facts.{Facts}
-use Rattle.kmod_query.specs.Loading.{answer_each, answer_found, answer_name, answer_names, answer_object, answer_one, is_resolve, load}
+use Rattle.kmod_query.specs.Facts.{Facts, with_own}
+use Rattle.kmod_query.specs.Loading.{answer_at, answer_each, answer_found, answer_name, answer_names, answer_object, answer_one, is_resolve, load}
 use Rattle.kmod_query.specs.Lines.{parameter_text}
 use Rattle.kmod_query.specs.LookUp.{by_alias, by_patterns, commanded, found, found_or_none, is_symbol, itself, or_else}
-use Rattle.kmod_query.specs.Objects.{Object}
+use Rattle.kmod_query.specs.Objects.{Object, by_name}
+use Rattle.kmod_query.specs.Paths.{own_of}
 use Rattle.kmod_query.specs.World.{facts_of}
 use Rattle.kmod_query.proofs.EarlyLemmas.{Names, both, of-not, with_later}
 
@@ -60,8 +63,12 @@ IsNormal facts = (word : List ℕ) → normal_alias word ≡ facts.normal word
 
 word-resolved : (facts : Facts) (exporters : Names) (query : Query) (parameters word : List ℕ) → IsNormal facts → is_resolve query.ask ≡ true → is_plain_word word ≡ true
     → answer_name (with_symbols facts exporters) query parameters word ≡ answer_name facts query parameters word
-word-resolved facts exporters query parameters word normal h plain =
-    name-resolved facts exporters query parameters word (facts.normal word) h (sym (ap is_plain_by (normal word)) ∙ plain)
+word-resolved facts exporters query parameters word normal h plain = next (facts.at_path word)
+  where
+    next : (at : Option AtPath) → answer_at at (with_symbols facts exporters) query parameters word ≡ answer_at at facts query parameters word
+    next None = name-resolved facts exporters query parameters word (facts.normal word) h (sym (ap is_plain_by (normal word)) ∙ plain)
+    next (Some (File file)) = object-resolved (with_own facts (name_of_path word) file) exporters query parameters (by_name (name_of_path word)) h
+    next (Some (Nothing reason)) = refl
 
 one-resolved : (facts : Facts) (exporters : Names) (query : Query) (words : List (List ℕ)) → IsNormal facts → is_resolve query.ask ≡ true → is_plain_first words ≡ true
     → answer_one (with_symbols facts exporters) query words ≡ answer_one facts query words
@@ -94,12 +101,13 @@ unfolding facts_of
 is-normal world word = refl
 
 facts-symbols : (one other : World) → one.conf.now ≡ other.conf.now → one.states.now ≡ other.states.now → one.directory.now ≡ other.directory.now
+    → one.paths.now ≡ other.paths.now → own_of one.own ≡ own_of other.own
     → one.index.now.dependencies ≡ other.index.now.dependencies → one.index.now.aliases ≡ other.index.now.aliases
     → one.index.now.builtin_names ≡ other.index.now.builtin_names → one.index.now.builtin_aliases ≡ other.index.now.builtin_aliases
     → with_symbols (facts_of one) (facts_of other).exporters ≡ facts_of other
 unfolding facts_of
-facts-symbols one other conf states directory dependencies aliases names builtin_aliases =
-    rw (conf, states, directory, dependencies, aliases, names, builtin_aliases) refl
+facts-symbols one other conf states directory paths own dependencies aliases names builtin_aliases =
+    rw (conf, states, directory, paths, own, dependencies, aliases, names, builtin_aliases) refl
 
 by-resolve : (one other : World) (query : Query) (ask : Ask) → is_resolve ask ≡ true
     → answer_names (facts_of one) query (texts_of query.words.now) ≡ answer_names (facts_of other) query (texts_of query.words.now)
@@ -113,11 +121,12 @@ by-resolve one other query ShowConfig h same = absurd (cc)
 
 pub symbols-ignored : (one other : World) (query : Query) → is_symbolless query (texts_of query.words.now) ≡ true
     → one.conf.now ≡ other.conf.now → one.states.now ≡ other.states.now → one.directory.now ≡ other.directory.now
+    → one.paths.now ≡ other.paths.now → own_of one.own ≡ own_of other.own
     → one.index.now.dependencies ≡ other.index.now.dependencies → one.index.now.aliases ≡ other.index.now.aliases
     → one.index.now.builtin_names ≡ other.index.now.builtin_names → one.index.now.builtin_aliases ≡ other.index.now.builtin_aliases
     → answer_of one query ≡ answer_of other query
-symbols-ignored one other query h conf states directory dependencies aliases names builtin_aliases =
+symbols-ignored one other query h conf states directory paths own dependencies aliases names builtin_aliases =
     let split = both (is_resolve query.ask) (are_plain query (texts_of query.words.now)) h in
     by-resolve one other query query.ask split.0
     (sym (names-resolved (facts_of one) (facts_of other).exporters query (texts_of query.words.now) (is-normal one) split.0 split.1)
-    ∙ ap (λ facts. answer_names facts query (texts_of query.words.now)) (facts-symbols one other conf states directory dependencies aliases names builtin_aliases))
+    ∙ ap (λ facts. answer_names facts query (texts_of query.words.now)) (facts-symbols one other conf states directory paths own dependencies aliases names builtin_aliases))

@@ -2,10 +2,11 @@
 use Rattle.std.specs.Prelude.{ℕ, Bool, not, if◌then◌else◌, ◌&&◌, List, Option, None, is_none}
 use Rattle.std.specs.Option.{option_or}
 use Rattle.kmod_query.specs.Facts.{Facts}
+use Rattle.kmod_query.specs.Paths.{own_file}
 
--- whether it came by its own name, and modules.dep does not have it
+-- whether it came by its own name, modules.dep does not have it, and no file stands for that of modules.dep
 abbrev pub is_unlisted : Facts → List ℕ → Option (List ℕ) → Bool
-is_unlisted facts name alias = is_none alias && not (facts.is_loadable name)
+is_unlisted facts name alias = is_none alias && not (facts.is_loadable name) && is_none (own_file facts.own name alias)
 
 -- A line of its very name, by which such a module is found, gives it that line's command: the install line, and only
 -- if there is none the remove line.

@@ -1,6 +1,6 @@
 -- When an answer does not depend on large texts. It is early, and depends on neither modules.alias nor modules.symbols, if
 -- each name that is asked for stands in an earlier list, and no module that is loaded for it has words in a softdep line.
-use Rattle.std.specs.Prelude.{ℕ, Bool, true, false, not, if◌then◌else◌, ◌&&◌, ◌||◌, nat_lt, length, List, [], ◌∷◌, Option, Some, None}
+use Rattle.std.specs.Prelude.{ℕ, Bool, true, false, not, if◌then◌else◌, ◌&&◌, ◌||◌, nat_lt, length, List, [], ◌∷◌, Option, Some, None, is_none}
 use Rattle.std.specs.List.{list_all, list_any}
 use Rattle.kmod_names.specs.Names.{normal_alias}
 use Rattle.kmod_query.specs.declared.query.Ask.{Ask}
@@ -30,9 +30,9 @@ abbrev pub is_early_by : Facts → Option (List ℕ) → Bool
 is_early_by facts None = true
 is_early_by facts (Some name) = is_early_name facts name
 
--- a word that is no name is looked up nowhere
+-- a word that is no name is looked up nowhere; of a path nothing is said
 abbrev pub is_early_word : Facts → List ℕ → Bool
-is_early_word facts word = is_early_by facts (facts.normal word)
+is_early_word facts word = is_none (facts.at_path word) && is_early_by facts (facts.normal word)
 
 abbrev pub is_early_first : Facts → List (List ℕ) → Bool
 is_early_first facts [] = true

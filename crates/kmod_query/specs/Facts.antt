@@ -1,5 +1,6 @@
 -- What a query asks of the machine: of the texts of a folder of modules and of a configuration, and of /sys/module.
-use Rattle.std.specs.Prelude.{ℕ, Bool, List, Option}
+use Rattle.std.specs.Prelude.{ℕ, Bool, List, Option, Some}
+use Rattle.kmod_query.specs.declared.paths.AtPath.{AtPath}
 use Rattle.kmod_query.specs.declared.states.ModuleStatus.{ModuleStatus}
 
 -- A name that is asked for is in normal form. Modules that lines and files name stand as they were read, and so do words of
@@ -39,3 +40,11 @@ pub record Facts : Type 0 where
   pub needs : List ℕ → List (List ℕ)
   -- what /sys/module says of a module
   pub status : List ℕ → Option ModuleStatus
+  -- what stands at a word, if it is the path of a module's file
+  pub at_path : List ℕ → Option AtPath
+  -- a module, and the file that stands for the one of modules.dep
+  pub own : Option (List ℕ × List ℕ)
+
+-- the same, with this file for a module
+abbrev pub with_own : Facts → List ℕ → List ℕ → Facts
+with_own facts name file = record facts { own = Some (name, file) }

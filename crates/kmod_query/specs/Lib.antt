@@ -1,5 +1,6 @@
 pub mod States
 pub mod Answers
+pub mod Paths
 pub mod Facts
 pub mod Objects
 pub mod LookUp

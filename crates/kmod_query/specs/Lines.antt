@@ -1,12 +1,14 @@
 -- The lines that load a module, with its options.
-use Rattle.std.specs.Prelude.{ℕ, Bool, true, false, not, if◌then◌else◌, ◌&&◌, ◌||◌, ◌==◌, ◌+◌, nat_lt, List, [], ◌∷◌, ◌++◌, length, take, drop, fold, codes, slice_index, Option, Some, None}
+use Rattle.std.specs.Prelude.{ℕ, Bool, true, false, not, if◌then◌else◌, ◌&&◌, ◌||◌, ◌==◌, ◌+◌, nat_lt, List, [], ◌∷◌, ◌++◌, length, take, drop, fold, codes, slice_index, Option, Some, None, is_none}
 use Rattle.std.specs.List.{list_any, position_or_len}
+use Rattle.std.specs.Option.{option_or}
 use Rattle.kmod_query.specs.declared.states.ModuleState.{ModuleState}
 use Rattle.kmod_query.specs.declared.states.ModuleState.TheVariants.{Live, Coming, Going, Other, Folder}
 use Rattle.kmod_query.specs.declared.states.ModuleStatus.{ModuleStatus}
 use Rattle.kmod_query.specs.Commands.{install_of}
 use Rattle.kmod_query.specs.Facts.{Facts}
 use Rattle.kmod_query.specs.Objects.{Object, is_same}
+use Rattle.kmod_query.specs.Paths.{own_file}
 use Rattle.kmod_query.specs.Probes.{before_of, after_of}
 
 -- a text after another, with a blank between them if the first is not empty
@@ -59,8 +61,17 @@ abbrev pub is_live : Option ModuleStatus → Bool
 is_live None = false
 is_live (Some status) = is_live_state status.state
 
+-- the file that stands for an object's of modules.dep
+abbrev pub own_file_of : Facts → Object → Option (List ℕ)
+own_file_of facts object = own_file facts.own object.name object.alias
+
+-- the file of an object
+abbrev pub file_of : Facts → Object → Option (List ℕ)
+file_of facts object = option_or (own_file_of facts object) (facts.path object.name)
+
+-- what has a file of its own is not built in
 abbrev pub is_built_in : Facts → Object → Bool
-is_built_in facts object = object.builtin || facts.is_builtin object.name
+is_built_in facts object = object.builtin || (is_none (own_file_of facts object) && facts.is_builtin object.name)
 
 -- whether the kernel has it now
 abbrev pub is_in_kernel : Facts → Object → Bool
@@ -93,5 +104,5 @@ own_parameters top object parameters = if is_same object top then parameters els
 -- the line of an object in the load of another
 abbrev pub load_line : Facts → Bool → List ℕ → Object → Object → List ℕ
 load_line facts bare parameters top object =
-    line_by (command_of facts bare top object) (facts.path object.name) (is_built_in facts object) object.name
+    line_by (command_of facts bare top object) (file_of facts object) (is_built_in facts object) object.name
     (option_text facts object (own_parameters top object parameters))

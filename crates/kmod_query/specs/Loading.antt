@@ -1,13 +1,16 @@
 -- What names are answered that are to be loaded or resolved.
-use Rattle.std.specs.Prelude.{ℕ, Bool, true, false, not, if◌then◌else◌, ◌&&◌, ◌||◌, ◌==◌, nat_lt, length, List, [], ◌∷◌, ◌++◌, fold, is_some}
+use Rattle.std.specs.Prelude.{ℕ, Bool, true, false, not, if◌then◌else◌, ◌&&◌, ◌||◌, ◌==◌, nat_lt, length, List, [], ◌∷◌, ◌++◌, fold, Option, Some, None, is_some}
 use Rattle.std.specs.List.{flat_map}
-use Rattle.kmod_query.specs.declared.answer.Failure.TheVariants.{AlreadyLoaded, NotFound}
+use Rattle.kmod_names.specs.Names.{name_of_path}
+use Rattle.kmod_query.specs.declared.answer.Failure.TheVariants.{AlreadyLoaded, NoFile, NotFound}
+use Rattle.kmod_query.specs.declared.paths.AtPath.{AtPath}
+use Rattle.kmod_query.specs.declared.paths.AtPath.TheVariants.{File, Nothing}
 use Rattle.kmod_query.specs.declared.query.Ask.{Ask}
 use Rattle.kmod_query.specs.declared.query.Ask.TheVariants.{ShowDepends, DryRun, Resolve, Remove, ShowRemoval, ShowConfig}
 use Rattle.kmod_query.specs.declared.query.Query.{Query}
 use Rattle.kmod_query.specs.Answers.{Answer, nothing, said, failing, and_then, and_also}
-use Rattle.kmod_query.specs.Facts.{Facts}
-use Rattle.kmod_query.specs.Objects.{Object}
+use Rattle.kmod_query.specs.Facts.{Facts, with_own}
+use Rattle.kmod_query.specs.Objects.{Object, by_name}
 use Rattle.kmod_query.specs.LookUp.{look_up}
 use Rattle.kmod_query.specs.Probes.{probe_list}
 use Rattle.kmod_query.specs.Lines.{is_in_kernel, load_line, parameter_text}
@@ -69,8 +72,19 @@ answer_found facts query parameters word found =
     if length found == 0 then failing (NotFound word)
     else fold (λ answer own. and_then answer (answer_object facts query parameters own)) nothing found
 
+-- A path is the module whose name its file gives it, with this file. No alias counts for it, and no built-in.
+abbrev pub answer_file : Facts → Query → List ℕ → List ℕ → List ℕ → Answer
+answer_file facts query parameters word file =
+    answer_object (with_own facts (name_of_path word) file) query parameters (by_name (name_of_path word))
+
+abbrev pub answer_at : Option AtPath → Facts → Query → List ℕ → List ℕ → Answer
+answer_at None facts query parameters word = answer_found facts query parameters word (look_up facts word)
+answer_at (Some (File file)) facts query parameters word = answer_file facts query parameters word file
+answer_at (Some (Nothing reason)) facts query parameters word = failing (NoFile word reason)
+
+-- a name is looked up, unless it is a path
 abbrev pub answer_name : Facts → Query → List ℕ → List ℕ → Answer
-answer_name facts query parameters word = answer_found facts query parameters word (look_up facts word)
+answer_name facts query parameters word = answer_at (facts.at_path word) facts query parameters word
 
 -- a name and its parameters, if words are not all names
 abbrev pub answer_one : Facts → Query → List (List ℕ) → Answer

@@ -11,6 +11,7 @@ use Rattle.kmod_index.specs.Lines.{Keyed, lines_of_key}
 use Rattle.kmod_index.specs.Tries.{in_order, matching_lines}
 use Rattle.kmod_query.specs.declared.world.World.{World}
 use Rattle.kmod_query.specs.Facts.{Facts}
+use Rattle.kmod_query.specs.Paths.{at_path_of, own_of}
 use Rattle.kmod_query.specs.States.{status_in}
 
 abbrev pub pair_of : AliasEntry → List ℕ × List ℕ
@@ -57,4 +58,6 @@ facts_of world =
       path = λ name. option_map (λ line. file_of world.directory.now line.path) (line_of world.index.now.dependencies name);
       needs = hard_needs world.index.now.dependencies;
       status = status_in world.states.now;
+      at_path = at_path_of world.paths.now;
+      own = own_of world.own;
     }

@@ -12,6 +12,8 @@ use std::marker::Model;
 pub enum Failure {
     /// `Module NAME not found in directory DIRECTORY`: the word as it was given.
     NotFound(Text),
+    /// `Failed to get module from path WORD: REASON`: the word as it was given, and why nothing stands there.
+    NoFile(Text, Text),
     /// `could not insert 'NAME': Module already in kernel`: the module.
     AlreadyLoaded(Text),
     /// `Module NAME not found.`: the word as it was given, under `Ask::Remove` and `Ask::ShowRemoval`.

@@ -5,15 +5,15 @@ ghost use Rattle.std.specs.Prelude.{◌≡◌, IfOk, option_copied, option_map};
 ghost use Rattle.kmod_query.specs.Commands.{install_of, is_unlisted, own_install, own_remove, remove_of};
 ghost use Rattle.kmod_query.specs.World.{facts_of, text_of};
 
-use crate::world::World;
+use crate::world::{World, own_file};
 use kmod_conf::TextLine;
 use std::alloc::{AllocError, Global};
 
-/// Whether a module came by its own name, and modules.dep does not have it.
+/// Whether a module came by its own name, modules.dep does not have it, and no file stands for that of modules.dep.
 fn is_unlisted(world: &World, name: &[u8], alias: Option<&[u8]>) -> bool
     ensures { result ≡ is_unlisted (facts_of world.now) name.now (option_map (λ own. own.now) alias.entry) }
 {
-    alias.is_none() && world.index.find(name).is_none()
+    alias.is_none() && world.index.find(name).is_none() && own_file(world, name, alias).is_none()
 }
 
 /// The install line by which a module was found.

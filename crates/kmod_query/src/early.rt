@@ -12,7 +12,7 @@ ghost use Rattle.kmod_query.specs.World.{facts_of};
 use crate::look_up::found;
 use crate::object::Object;
 use crate::query::{Ask, Query};
-use crate::world::{World, needs_of};
+use crate::world::{World, at_path, needs_of};
 use kmod_names::normal_alias;
 use std::alloc::{AllocError, Global};
 
@@ -88,6 +88,9 @@ fn is_early_name(alloc: Global, world: &World, name: &[u8]) -> Result<bool, Allo
 fn is_early_word(alloc: Global, world: &World, word: &[u8]) -> Result<bool, AllocError>
     ensures { IfOk result (λ is_early. is_early ≡ is_early_word (facts_of world.now) word.now) }
 {
+    if at_path(world, word).is_some() {
+        return Ok(false);
+    }
     match normal_alias(alloc, word)? {
         Some(name) => is_early_name(alloc, world, name.as_bytes()),
         None => Ok(true),
@@ -140,7 +143,7 @@ fn loads(ask: Ask) -> bool
 }
 
 /// Whether the answer to a query is seen to depend on neither modules.alias nor modules.symbols: each name that is asked for is
-/// an alias of the configuration or a module of modules.dep, and no softdep line has words for what is loaded. By
+/// an alias of the configuration or a module of modules.dep and no path, and no softdep line has words for what is loaded. By
 /// `later_texts_do_not_count` the answer is then the same whatever these two texts say. It fails only if memory runs out.
 pub fn is_early(alloc: Global, world: &World, query: &Query) -> Result<bool, AllocError>
     ensures { IfOk result (λ early. early ≡ is_early (facts_of world.now) query.now (texts_of query.now.words.now)) }

@@ -37,11 +37,7 @@ fn itself(alloc: Global, name: &[u8]) -> Result<Vec<Object>, AllocError>
     ensures { IfOk result (λ objects. objects_of objects.items ≡ by_name name.now ∷ []) }
 {
     let mut objects = Vec::new(alloc);
-    objects.push(Object {
-        name: Vec::from_slice(alloc, name)?,
-        alias: None,
-        builtin: false,
-    })?;
+    objects.push(Object::by_name(alloc, name)?)?;
     Ok(objects)
 }
 

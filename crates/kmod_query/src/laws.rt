@@ -9,6 +9,7 @@ ghost use Rattle.kmod_query.specs.Lines.{load_line};
 ghost use Rattle.kmod_query.specs.Loading.{answer_names, is_barred, load};
 ghost use Rattle.kmod_query.specs.Objects.{Object, by_name};
 ghost use Rattle.kmod_query.specs.Order.{StandInOrder, is_done};
+ghost use Rattle.kmod_query.specs.Paths.{own_of};
 ghost use Rattle.kmod_query.specs.Probes.{first_tasks, probe_list, step_limit};
 ghost use Rattle.kmod_query.specs.World.{facts_of};
 ghost use Rattle.kmod_query.specs.declared.query.Ask.TheVariants.{ShowDepends};
@@ -16,10 +17,11 @@ ghost use Rattle.kmod_query.specs.declared.query.Query.{Query};
 ghost use Rattle.kmod_query.specs.declared.world.World.{World};
 
 /// What `--show-depends` without `--remove` answers does not depend on the states of modules: worlds with the same
-/// configuration, the same texts and the same folder answer the same.
+/// configuration, the same texts, the same folder and the same files at paths answer the same.
 pub fn show_depends_ignores_states()
     ensures { (one other : World) (query : Query) → query.ask ≡ ShowDepends
         → one.conf.now ≡ other.conf.now → one.index.now ≡ other.index.now → one.directory.now ≡ other.directory.now
+        → one.paths.now ≡ other.paths.now → own_of one.own ≡ own_of other.own
         → answer_of one query ≡ answer_of other query }
 {}
 
@@ -62,11 +64,12 @@ pub fn hard_needs_come_first()
 {}
 
 /// An answer that is early is the same whatever modules.alias and modules.symbols say: worlds with the same configuration,
-/// states, folder, modules.dep and texts of built-in modules answer it the same.
+/// states, folder, files at paths, modules.dep and texts of built-in modules answer it the same.
 pub fn later_texts_do_not_count()
     ensures { (one other : World) (query : Query)
         → is_early (facts_of one) query (texts_of query.words.now) ≡ true
         → one.conf.now ≡ other.conf.now → one.states.now ≡ other.states.now → one.directory.now ≡ other.directory.now
+        → one.paths.now ≡ other.paths.now → own_of one.own ≡ own_of other.own
         → one.index.now.dependencies ≡ other.index.now.dependencies
         → one.index.now.builtin_names ≡ other.index.now.builtin_names
         → one.index.now.builtin_aliases ≡ other.index.now.builtin_aliases
@@ -74,11 +77,12 @@ pub fn later_texts_do_not_count()
 {}
 
 /// If names are resolved, and none of them is that of a symbol, the answer is the same whatever modules.symbols says: worlds
-/// with the same configuration, states, folder and other texts answer it the same.
+/// with the same configuration, states, folder, files at paths and other texts answer it the same.
 pub fn symbols_do_not_count()
     ensures { (one other : World) (query : Query)
         → is_symbolless query (texts_of query.words.now) ≡ true
         → one.conf.now ≡ other.conf.now → one.states.now ≡ other.states.now → one.directory.now ≡ other.directory.now
+        → one.paths.now ≡ other.paths.now → own_of one.own ≡ own_of other.own
         → one.index.now.dependencies ≡ other.index.now.dependencies
         → one.index.now.aliases ≡ other.index.now.aliases
         → one.index.now.builtin_names ≡ other.index.now.builtin_names

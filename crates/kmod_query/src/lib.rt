@@ -16,6 +16,7 @@ mod loading;
 mod look_up;
 mod object;
 mod parameters;
+mod paths;
 mod probes;
 mod query;
 mod removal;
@@ -41,6 +42,7 @@ pub use laws::{
 pub use loading::{is_barred, is_passed};
 pub use look_up::find_name;
 pub use object::Object;
+pub use paths::{AtPath, OwnFile, PathWord};
 pub use query::{Ask, Query};
 pub use removal_check::{Verdict, is_fatal, is_in_use, judge};
 pub use states::{ModuleState, ModuleStatus, States};

@@ -10,7 +10,7 @@ use crate::commands::{install_line, text_in};
 use crate::object::Object;
 use crate::parameters::push_joined;
 use crate::states::{ModuleState, ModuleStatus};
-use crate::world::{World, alias_bytes, is_builtin, path_of, status_of};
+use crate::world::{World, alias_bytes, is_builtin, own_file, path_of, status_of};
 use kmod_conf::TextLine;
 use std::alloc::{AllocError, Global};
 
@@ -45,7 +45,10 @@ fn option_text(
 pub(crate) fn is_built_in(world: &World, object: &Object) -> bool
     ensures { result ≡ is_built_in (facts_of world.now) (object_of object.now) }
 {
-    object.builtin || is_builtin(world, &object.name)
+    if object.builtin {
+        return true;
+    }
+    own_file(world, &object.name, alias_bytes(object)).is_none() && is_builtin(world, &object.name)
 }
 
 fn is_live(status: Option<ModuleStatus>) -> bool
@@ -178,7 +181,7 @@ pub(crate) fn load_line(
     ensures { IfOk result (λ text. text.items ≡ load_line (facts_of world.now) bare parameters.now (object_of top.now) (object_of object.now)) }
 {
     let command = command_of(alloc, world, bare, top, object, has_soft)?;
-    let path = path_of(alloc, world, &object.name)?;
+    let path = path_of(alloc, world, object)?;
     let options = option_text(
         alloc,
         world,

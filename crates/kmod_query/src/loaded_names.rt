@@ -1,9 +1,11 @@
 //! What names are answered that are to be loaded or resolved.
 ghost use Rattle.std.specs.Prelude.{◌≡◌, IfOk};
 ghost use Rattle.text_parts.specs.Text.{texts_of};
-ghost use Rattle.kmod_query.specs.Loading.{answer_each, answer_found, answer_name, answer_names, answer_one};
+ghost use Rattle.kmod_query.specs.Loading.{answer_each, answer_file, answer_found, answer_name, answer_names, answer_one};
+ghost use Rattle.kmod_query.specs.Answers.{failing};
 ghost use Rattle.kmod_query.specs.Objects.{objects_of};
 ghost use Rattle.kmod_query.specs.World.{facts_of};
+ghost use Rattle.kmod_query.specs.declared.answer.Failure.TheVariants.{NoFile};
 
 use crate::answer::{Answer, Failure};
 use crate::asked::Asked;
@@ -11,8 +13,10 @@ use crate::loading::answer_object;
 use crate::look_up::look_up;
 use crate::object::Object;
 use crate::parameters::parameter_text;
-use kmod_names::Text;
-use std::alloc::AllocError;
+use crate::paths::{AtPath, OwnFile};
+use crate::world::at_path;
+use kmod_names::{Text, name_of_path};
+use std::alloc::{AllocError, Global};
 
 /// The modules of a name one after another; the status is that of the last.
 fn answer_found(
@@ -36,11 +40,50 @@ fn answer_found(
     Ok(answer)
 }
 
+/// The module of a file, by the path that was given for a name.
+fn answer_file(
+    asked: &Asked,
+    parameters: &[u8],
+    word: &[u8],
+    file: &[u8],
+) -> Result<Answer, AllocError>
+    ensures { IfOk result (λ answer. answer ≡ answer_file (facts_of asked.now.world) asked.now.query parameters.now word.now file.now) }
+{
+    let alloc = asked.alloc;
+    let name = name_of_path(alloc, word)?;
+    let own = OwnFile {
+        name: name.as_bytes(),
+        file,
+    };
+    let asked = Asked {
+        alloc,
+        world: asked.world.with_own(own),
+        query: asked.query,
+    };
+    let object = Object::by_name(alloc, name.as_bytes())?;
+    answer_object(&asked, parameters, &object)
+}
+
+/// What is answered if nothing stands at a path.
+fn answer_no_file(alloc: Global, word: &[u8], reason: &[u8]) -> Result<Answer, AllocError>
+    ensures { IfOk result (λ answer. answer ≡ failing (NoFile word.now reason.now)) }
+{
+    let failure = Failure::NoFile(Text::new(alloc, word)?, Text::new(alloc, reason)?);
+    Answer::failing(alloc, failure)
+}
+
+/// A name is looked up, unless it is a path.
 fn answer_name(asked: &Asked, parameters: &[u8], word: &[u8]) -> Result<Answer, AllocError>
     ensures { IfOk result (λ answer. answer ≡ answer_name (facts_of asked.now.world) asked.now.query parameters.now word.now) }
 {
-    let found = look_up(asked.alloc, &asked.world, word)?;
-    answer_found(asked, parameters, word, &found)
+    match at_path(&asked.world, word) {
+        Some(AtPath::File(file)) => answer_file(asked, parameters, word, file.as_bytes()),
+        Some(AtPath::Nothing(reason)) => answer_no_file(asked.alloc, word, reason.as_bytes()),
+        None => {
+            let found = look_up(asked.alloc, &asked.world, word)?;
+            answer_found(asked, parameters, word, &found)
+        }
+    }
 }
 
 /// A name and its parameters.

@@ -1,6 +1,6 @@
 //! What a name stands for, and which of such things a load has met.
 ghost use Rattle.std.specs.Prelude.{◌≡◌, [], IfOk, OnOk, not};
-ghost use Rattle.kmod_query.specs.Objects.{alias_of, has, is_same, object_of, object_with, with_object};
+ghost use Rattle.kmod_query.specs.Objects.{alias_of, by_name, has, is_same, object_of, object_with, with_object};
 
 use indexmap::IndexSet;
 use std::alloc::{AllocError, Global};
@@ -28,6 +28,17 @@ fn copy_alias(alloc: Global, alias: &Option<Vec<u8>>) -> Result<Option<Vec<u8>>,
 }
 
 impl Object {
+    /// A module by its own name. It fails only if memory runs out.
+    pub fn by_name(alloc: Global, name: &[u8]) -> Result<Object, AllocError>
+        ensures { IfOk result (λ object. object_of object ≡ by_name name.now) }
+    {
+        Ok(Object {
+            name: Vec::from_slice(alloc, name)?,
+            alias: None,
+            builtin: false,
+        })
+    }
+
     /// Whether both are the same module, found in the same way.
     pub(crate) fn is_same(&self, other: &Object) -> bool
         ensures { result ≡ is_same (object_of self.now) (object_of other.now) }
