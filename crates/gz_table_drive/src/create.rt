@@ -9,6 +9,7 @@ use crate::shared::{JOURNAL, SETUP, Shared};
 use crate::teller::Teller;
 use file_journal::{Cause, FileDevice, FileFault, LockKind, OpenError, Syncs};
 use line_journal::DeviceError;
+use modprobe::AliasForm;
 use program_frame::is_folder;
 use std::env::Env;
 use std::fs::{self, File, OpenFile};
@@ -134,7 +135,7 @@ pub(crate) fn create<R: Files<File = File> + Env + Clock + AllocGlobal, E: Write
         return Err(TableFault::ThereAlready);
     }
     let text = sections_of(shared.rt, origin, teller)?;
-    if let Err(fault) = setup_of(shared.alloc(), &text) {
+    if let Err(fault) = setup_of(shared.alloc(), &text, AliasForm::Text) {
         return Err(teller.refused_sections(fault));
     }
     write_table(shared, &seal(text)?)?;

@@ -1,6 +1,7 @@
 //! The program of a table that processes share, over any words and streams.
 #![tactic(auto)]
 
+mod alias_form;
 mod answering;
 mod check;
 mod create;

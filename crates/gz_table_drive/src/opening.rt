@@ -8,6 +8,7 @@ ghost use Rattle.durable_table.specs.Tables.{opening_of, table_of};
 ghost use Rattle.durable_table.specs.Durable.{Stands};
 ghost use Rattle.durable_table.specs.Opened.{IsTableRead};
 
+use crate::alias_form::form_for;
 use crate::answering::GROUP;
 use crate::fault::{TableFault, journal_fault, unwritten};
 use crate::setup::setup_of;
@@ -16,7 +17,7 @@ use durable_table::{DurableTable, OpenedTable, ReadTable, open, open_reading};
 use file_journal::FileDevice;
 use held_table::HeldTable;
 use line_journal::{Device, DeviceError, Found, Repair, peek};
-use modprobe::Setup;
+use modprobe::{AliasForm, Setup};
 use program_frame::PathFault;
 use std::alloc::{AllocError, Global};
 use std::fs::{File, OpenFile};
@@ -66,25 +67,43 @@ pub(crate) fn read_file<R: Files<File = File> + Clock + AllocGlobal>(
     }
 }
 
-/// What the bytes of a setup say.
-pub(crate) fn setup_in(alloc: Global, bytes: &[u8]) -> Result<Setup, TableFault> {
+/// What the bytes of a setup say, with its aliases in a form.
+fn setup_in_form(alloc: Global, bytes: &[u8], form: AliasForm) -> Result<Setup, TableFault> {
     let Some(sealed) = Sealed::read(bytes) else {
         return Err(TableFault::CutSetup);
     };
-    match setup_of(alloc, sealed.text) {
+    match setup_of(alloc, sealed.text, form) {
         Ok(setup) => Ok(setup),
         Err(fault) => Err(TableFault::Sections(fault)),
     }
 }
 
-/// What the table of the folder was made of. It is kept until the process ends, which takes less time than to give back each
-/// part of it.
+/// What the bytes of a setup say, for many lines.
+pub(crate) fn setup_in(alloc: Global, bytes: &[u8]) -> Result<Setup, TableFault> {
+    setup_in_form(alloc, bytes, AliasForm::Table)
+}
+
+/// What the table of the folder was made of, for many lines. It is kept until the process ends, which takes less time than to
+/// give back each part of it.
 pub(crate) fn setup<R: Files<File = File> + Clock + AllocGlobal>(
     shared: &Shared<'_, R>,
 ) -> Result<ManuallyDrop<Setup>, TableFault> {
     let bytes = read_file(shared, SETUP)?;
     let setup = setup_in(shared.alloc(), &bytes)?;
     Ok(ManuallyDrop::new(setup))
+}
+
+/// What the table of the folder was made of, for a command of these words. It is kept until the process ends.
+pub(crate) fn setup_for_command<R: Files<File = File> + Clock + AllocGlobal>(
+    shared: &Shared<'_, R>,
+    words: &[&[u8]],
+) -> Result<ManuallyDrop<Setup>, TableFault> {
+    let bytes = read_file(shared, SETUP)?;
+    let setup = setup_in_form(shared.alloc(), &bytes, AliasForm::Text)?;
+    match form_for(shared, &setup, words)? {
+        AliasForm::Text => Ok(ManuallyDrop::new(setup)),
+        AliasForm::Table => Ok(ManuallyDrop::new(setup_in(shared.alloc(), &bytes)?)),
+    }
 }
 
 /// A table was not opened. The device is handed back.

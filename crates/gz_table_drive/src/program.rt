@@ -10,7 +10,7 @@ use crate::create::create;
 use crate::fault::TableFault;
 use crate::input::{InputFault, InputLines, alone};
 use crate::kept::Kept;
-use crate::opening::setup;
+use crate::opening::{setup, setup_for_command};
 use crate::shared::Shared;
 use crate::teller::Teller;
 use crate::tenure::{answer_in_tenure, compact};
@@ -89,7 +89,7 @@ fn answer_command<R: Files<File = File> + Clock + AllocGlobal, O: Write, E: Writ
     teller: &mut Teller<'_, E>,
 ) -> Result<Ending, TableFault> {
     let alloc = shared.alloc();
-    let setup = setup(shared)?;
+    let setup = setup_for_command(shared, words)?;
     let lines = command_line(alloc, words, teller)?;
     let mut replies = Replies::new(alloc);
     answer_in_tenure(shared, &mut Kept::new(&setup), &lines, &mut replies, teller)?;

@@ -2,9 +2,7 @@
 ghost use Rattle.std.specs.Prelude.{◌≡◌, [], Ok, IfOk};
 ghost use Rattle.modprobe.specs.SetupInput.{setup_of};
 
-use modprobe::{
-    Buffer, FromRead, LineFault, Lines, Setup, SetupCode, SetupFault, TURNS, read_setup,
-};
+use modprobe::{AliasForm, Setup, SetupCode, SetupFault, read_whole_setup};
 use std::alloc::{AllocError, Global};
 use std::fmt;
 
@@ -44,17 +42,12 @@ impl From<SetupFault> for SectionsFault {
 }
 
 /// What the sections say. No line of them begins a session.
-pub(crate) fn setup_of(alloc: Global, text: &[u8]) -> Result<Setup, SectionsFault>
+pub(crate) fn setup_of(alloc: Global, text: &[u8], form: AliasForm) -> Result<Setup, SectionsFault>
     ensures { IfOk result (λ setup. setup_of text.now ≡ Ok (setup, [])) }
 {
-    let mut source = FromRead::new(text);
-    let buffer = Buffer::new(alloc)?;
-    let mut lines = Lines::new(alloc, buffer, &mut source, TURNS);
-    let setup = read_setup(alloc, &mut lines)?;
-    match lines.next_line() {
-        Ok(false) => Ok(setup),
-        Ok(true) => Err(SectionsFault::Session),
-        Err(LineFault::Memory) => Err(SectionsFault::Memory),
-        Err(fault) => Err(SectionsFault::from(SetupFault::from(fault))),
+    let (setup, session) = read_whole_setup(alloc, text, form)?;
+    if !session.is_empty() {
+        return Err(SectionsFault::Session);
     }
+    Ok(setup)
 }
