@@ -23,7 +23,7 @@ pub after_more : (s : Setup) (h : Held) (lines more : List (List ℕ)) → after
 after_more s h [] more = refl
 after_more s h (line ∷ lines) more = after_more s (held_line_outcome s h line).1 lines more
 
-replies_more : (s : Setup) (h : Held) (lines more : List (List ℕ)) → replies_of s h (lines ++ more) ≡ replies_of s h lines ++ replies_of s (after s h lines) more
+pub replies_more : (s : Setup) (h : Held) (lines more : List (List ℕ)) → replies_of s h (lines ++ more) ≡ replies_of s h lines ++ replies_of s (after s h lines) more
 replies_more s h [] more = refl
 replies_more s h (line ∷ lines) more = ap (λ rest. (held_line_outcome s h line).0 ∷ rest) (replies_more s (held_line_outcome s h line).1 lines more)
 

@@ -1,3 +1,4 @@
+mod AdoptLemmas
 mod AnswerLemmas
 mod AskLemmas
 mod FeedLemmas

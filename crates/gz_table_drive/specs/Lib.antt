@@ -1,5 +1,6 @@
 pub mod Machine
 pub mod Endings
 pub mod Answers
+pub mod Adopting
 pub mod Faults
 pub mod Reading

@@ -1,6 +1,8 @@
 //! The program of a table that processes share, over any words and streams.
 #![tactic(auto)]
 
+mod adopt;
+mod adopting;
 mod alias_form;
 mod answering;
 mod check;
@@ -14,6 +16,8 @@ mod machine;
 mod opening;
 mod program;
 mod reading;
+mod regular;
+mod repair;
 mod sections;
 mod setup;
 mod shared;
@@ -21,5 +25,6 @@ mod teller;
 mod tenure;
 mod told;
 
+pub use adopting::{AdoptError, adopt_modules};
 pub use answering::{AnswerError, Replies, answer_lines};
 pub use program::drive;

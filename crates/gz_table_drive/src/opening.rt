@@ -180,7 +180,7 @@ pub(crate) fn found_in<R: Files + Drop>(
 }
 
 /// Adds what is to be cut off to the file that is kept of it, with a line feed behind it.
-fn keep_cut<R: Files<File = File> + Clock + AllocGlobal>(
+pub(crate) fn keep_cut<R: Files<File = File> + Clock + AllocGlobal>(
     shared: &Shared<'_, R>,
     path: &str,
     behind: &[u8],

@@ -4,6 +4,7 @@ ghost use Rattle.line_journal.specs.Lines.{AreLines, bytes_of};
 ghost use Rattle.table_words.specs.Endings.{number_of};
 ghost use Rattle.table_words.specs.declared.ending.Ending.{Ending as AnyEnding};
 
+use crate::adopt::adopt;
 use crate::answering::Replies;
 use crate::check::check;
 use crate::create::create;
@@ -11,6 +12,8 @@ use crate::fault::TableFault;
 use crate::input::{InputFault, InputLines, alone};
 use crate::kept::Kept;
 use crate::opening::{setup, setup_for_command};
+use crate::regular::refuse_others;
+use crate::repair::repair;
 use crate::shared::Shared;
 use crate::teller::Teller;
 use crate::tenure::{answer_in_tenure, compact};
@@ -122,6 +125,29 @@ fn answer_input<'s, 'r, R: Files<File = File> + Clock + AllocGlobal, I: Read, O:
     Ok(ending)
 }
 
+/// Brings the table to the modules that a file lists, and writes what is not done.
+fn answer_adopt<R: Files<File = File> + Clock + AllocGlobal, I: Read, O: Write, E: Write>(
+    shared: &Shared<'_, R>,
+    file: &[u8],
+    input: &mut I,
+    output: &mut O,
+    teller: &mut Teller<'_, E>,
+) -> Result<Ending, TableFault> {
+    let replies = adopt(shared, file, input, teller)?;
+    write_whole(&replies.text, output)?;
+    Ok(replies.ending())
+}
+
+/// Writes what stands in the folder.
+fn answer_check<R: Files<File = File> + Clock + AllocGlobal, O: Write>(
+    shared: &Shared<'_, R>,
+    output: &mut O,
+) -> Result<Ending, TableFault> {
+    let text = check(shared)?.text(shared.alloc())?;
+    write_whole(text.as_bytes(), output)?;
+    Ok(Ending::Done)
+}
+
 /// Does a job.
 fn perform<R: Files<File = File> + Env + Clock + AllocGlobal, I: Read, O: Write, E: Write>(
     shared: &Shared<'_, R>,
@@ -130,6 +156,7 @@ fn perform<R: Files<File = File> + Env + Clock + AllocGlobal, I: Read, O: Write,
     output: &mut O,
     teller: &mut Teller<'_, E>,
 ) -> Result<Ending, TableFault> {
+    refuse_others(shared, teller)?;
     match job {
         Job::Create(origin) => create(shared, origin, teller),
         Job::Command(words) => answer_command(shared, words, output, teller),
@@ -137,10 +164,11 @@ fn perform<R: Files<File = File> + Env + Clock + AllocGlobal, I: Read, O: Write,
             let setup = setup(shared)?;
             answer_input(shared, &mut Kept::new(&setup), input, output, teller)
         }
-        Job::Check => {
-            let text = check(shared)?.text(shared.alloc())?;
-            write_whole(text.as_bytes(), output)?;
-            Ok(Ending::Done)
+        Job::Adopt(file) => answer_adopt(shared, file, input, output, teller),
+        Job::Check => answer_check(shared, output),
+        Job::Repair => {
+            repair(shared, teller)?;
+            answer_check(shared, output)
         }
         Job::Compact => match compact(shared, teller)? {
             Compacted::Done => Ok(Ending::Done),

@@ -3,8 +3,10 @@
 use crate::fault::TableFault;
 use crate::setup::SectionsFault;
 use file_journal::{Cause, FileFault, LockError};
+use line_journal::Found;
 use program_frame::{PathFault, Shown};
 use std::io::{ErrorKind, Write};
+use table_adopt::KernelFault;
 use table_words::Ending;
 
 /// The stream for errors. If it fails, nobody is told.
@@ -60,6 +62,42 @@ impl<'e, E: Write> Teller<'e, E> {
         }
         let _ = writeln!(self.errors, "gz-table: cannot read {path}: {why}");
         TableFault::Told(Ending::Unasked)
+    }
+
+    /// A path that the words name is no regular file.
+    pub(crate) fn no_file(&mut self, path: &str) -> TableFault {
+        let _ = writeln!(
+            self.errors,
+            "gz-table: {path} is no regular file: name one, or give its lines on standard input, for -"
+        );
+        TableFault::Told(Ending::Unasked)
+    }
+
+    /// A file does not list a kernel's modules.
+    pub(crate) fn no_listing(&mut self, fault: KernelFault) -> TableFault {
+        let _ = writeln!(
+            self.errors,
+            "gz-table: these are no lines of /proc/modules: {fault}; nothing was done"
+        );
+        TableFault::Told(Ending::Unasked)
+    }
+
+    /// The folder has something else in the place of one of its files.
+    pub(crate) fn other_than_file(&mut self, folder: &str, name: &str) -> TableFault {
+        let _ = writeln!(
+            self.errors,
+            "gz-table: {folder}/{name} is no regular file, and nothing was done: restore it, or make the table in another folder"
+        );
+        TableFault::Told(Ending::Unasked)
+    }
+
+    /// What stood behind the journal's lines is cut off.
+    pub(crate) fn repaired(&mut self, folder: &str, cut: &Found) {
+        let (lines, bytes) = (cut.open_gates_behind(), cut.behind.len());
+        let _ = writeln!(
+            self.errors,
+            "gz-table: {folder}/journal: {bytes} bytes behind its lines are cut off and kept in {folder}/journal.cut; {lines} lines that counted are undone: see lsmod and held"
+        );
     }
 
     /// So many bytes behind the journal's lines are cut off.
@@ -155,7 +193,7 @@ impl<'e, E: Write> Teller<'e, E> {
             ),
             TableFault::Foreign => writeln!(
                 self.errors,
-                "gz-table: {folder}/journal is no journal of a table; restore it, or make the table in another folder"
+                "gz-table: {folder}/journal has another first line than `gourzhiel journal 1`: it was changed, or it is no journal; nothing was done: restore that line, or make the table in another folder"
             ),
             TableFault::Changed(line) => writeln!(
                 self.errors,
@@ -163,7 +201,7 @@ impl<'e, E: Write> Teller<'e, E> {
             ),
             TableFault::Damaged(lines) => writeln!(
                 self.errors,
-                "gz-table: {folder}/journal: a line was changed, and {lines} lines behind it would be lost; nothing was done: restore the line, or make the table in another folder"
+                "gz-table: {folder}/journal: a line was changed, and {lines} lines behind it would be lost; nothing was done: restore the line, or have check --repair keep them in journal.cut and go on without them"
             ),
             _ => Ok(()),
         };

@@ -24,10 +24,10 @@ use std::rt::Files;
 use std::time::Clock;
 
 /// The table over the file of a journal.
-type FileTable<'s, R> = DurableTable<'s, HeldTable, FileDevice<R>>;
+pub(crate) type FileTable<'s, R> = DurableTable<'s, HeldTable, FileDevice<R>>;
 
 /// Why the table of a journal's file was not opened.
-fn unopened<R: Files + Drop>(fault: OpenFault<FileDevice<R>>) -> TableFault {
+pub(crate) fn unopened<R: Files + Drop>(fault: OpenFault<FileDevice<R>>) -> TableFault {
     match fault {
         OpenFault::Foreign => TableFault::Foreign,
         OpenFault::Changed(line) => TableFault::Changed(line),
@@ -150,7 +150,7 @@ fn repaired<'s, 'r, R: Files<File = File> + Clock + AllocGlobal, E: Write>(
 }
 
 /// The table of the folder, under the lock. The journal stands for it, on the disk.
-fn changing_table<'s, 'r, R: Files<File = File> + Clock + AllocGlobal, E: Write>(
+pub(crate) fn changing_table<'s, 'r, R: Files<File = File> + Clock + AllocGlobal, E: Write>(
     shared: &Shared<'r, R>,
     kept: &mut Kept<'s, FileDevice<&'r R>>,
     teller: &mut Teller<'_, E>,

@@ -49,9 +49,17 @@ pub(crate) fn tell_fault<E: Write>(fault: Fault<'_>, errors: &mut E) {
             let advice = "a word of a command has no blank and no line's end, and is not empty";
             tell_word("bad word", word, advice, errors)
         }
+        Fault::BadHolder(word) => {
+            let advice = "a holder does not begin with -, and --again is an option of hold";
+            tell_word("bad holder", word, advice, errors)
+        }
         Fault::WantsValue(valued) => tell_value(valued, errors),
         Fault::NoFolder => tell_sentence(
             "no folder: name the table's folder, or set GZ_TABLE",
+            errors,
+        ),
+        Fault::NoFile => tell_sentence(
+            "no file: name one with lines of /proc/modules, or - for standard input",
             errors,
         ),
         Fault::NothingToCreate => {

@@ -10,3 +10,4 @@ mod step;
 
 pub use adoption::{Adoption, adopt};
 pub use kernel::{KernelFault, KernelModule, read_modules};
+pub use step::Step;

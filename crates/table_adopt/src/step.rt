@@ -5,9 +5,9 @@ ghost use Rattle.table_adopt.specs.Steps.{slot_of, first_word, last_word, line_o
 use dep_index::Catalogue;
 use std::alloc::{AllocError, Global};
 
-/// Half of a load or of a removal of the module of a slot.
+/// Half of a load or of a removal of the module of a slot. Each line of an adoption makes one.
 #[derive(Clone, Copy, Debug, PartialEq, Eq, Drop)]
-pub(crate) enum Step {
+pub enum Step {
     BeginLoad(usize),
     /// A load ends, well or not.
     EndLoad(usize, bool),

@@ -1,10 +1,10 @@
 -- What the words of a program ask for: options, the folder of the table, and a command with its words.
-use Rattle.std.specs.Prelude.{ℕ, Bool, true, false, not, ◌||◌, nat_lt, length, if◌then◌else◌, List, [], ◌∷◌, find, codes, Option, Some, None, Result, Ok, Err}
+use Rattle.std.specs.Prelude.{ℕ, Bool, true, false, not, ◌&&◌, ◌||◌, nat_lt, length, if◌then◌else◌, List, [], ◌∷◌, find, codes, Option, Some, None, Result, Ok, Err}
 use Rattle.std.specs.Option.{is_some}
 use Rattle.std.specs.Str.{bytes_eq}
 use Rattle.text_parts.specs.Text.{texts_of}
 use Rattle.table_words.specs.Lines.{is_line_word}
-use Rattle.table_words.specs.Options.{Front, Options, Stop, bad_word, extra_word, front, no_folder, no_options, nothing_to_create, refused, text_of, wants_host}
+use Rattle.table_words.specs.Options.{Front, Options, Stop, bad_holder, bad_word, extra_word, front, is_option, no_file, no_folder, no_options, nothing_to_create, refused, text_of, wants_host}
 use Rattle.table_words.specs.declared.asked.Asked as code_asked
 use Rattle.table_words.specs.declared.asked.Job as code_job
 use Rattle.table_words.specs.declared.asked.Job.TheVariants as code_job_is
@@ -16,14 +16,17 @@ pub data Origin : Type 0 where
   host : Option (List ℕ) → Option (List ℕ) → Origin
   sections : List (List ℕ) → Origin
 
--- a table is made; the words are one command; the lines of standard input are commands; the journal is written anew; it
--- is said what stands there
+-- a table is made; the words are one command; the lines of standard input are commands; the table is brought to a
+-- kernel's modules, as a file lists them; the journal is written anew; it is said what stands there; what is damaged is cut
+-- off
 pub data Job : Type 0 where
   create : Origin → Job
   command : List (List ℕ) → Job
   lines : Job
+  adopt : List ℕ → Job
   compact : Job
   check : Job
+  repair : Job
 
 -- a job on the table of a folder, how many seconds another process is waited for, and whether each change is on the disk
 -- before it is answered
@@ -57,10 +60,52 @@ origin_of_front (Err stop) = Err stop
 abbrev pub is_stray : List ℕ → Bool
 is_stray word = not (is_line_word word)
 
+-- the next word of a command that begins so is a holder
+abbrev pub names_holder : List ℕ → Bool
+names_holder first =
+    bytes_eq first (codes "get") || (bytes_eq first (codes "put") || (bytes_eq first (codes "hold") || (bytes_eq first (codes "release") || bytes_eq first (codes "held"))))
+
+-- `--again` of `hold`
+abbrev pub is_again : List ℕ → List ℕ → Bool
+is_again first word = bytes_eq first (codes "hold") && bytes_eq word (codes "--again")
+
+abbrev pub first_of : List (List ℕ) → Option (List ℕ)
+first_of [] = None
+first_of (word ∷ words) = Some word
+
+abbrev pub holder_behind : List ℕ → List (List ℕ) → Option (List ℕ)
+holder_behind first [] = None
+holder_behind first (word ∷ words) = if is_again first word then first_of words else Some word
+
+-- the word in the place of a holder, if the command has one
+abbrev pub holder_in : List (List ℕ) → Option (List ℕ)
+holder_in [] = None
+holder_in (first ∷ words) = if names_holder first then holder_behind first words else None
+
+-- the word, if it is an option
+abbrev pub if_option : Option (List ℕ) → Option (List ℕ)
+if_option None = None
+if_option (Some word) = if is_option word then Some word else None
+
+-- one command, unless an option stands in the place of a holder
+abbrev pub held_command : List (List ℕ) → Option (List ℕ) → Result Job Stop
+held_command words None = Ok (command words)
+held_command words (Some word) = Err (refused (bad_holder word))
+
 -- one command, if its words are words of a line
 abbrev pub command_of : List (List ℕ) → Option (List ℕ) → Result Job Stop
-command_of words None = Ok (command words)
+command_of words None = held_command words (if_option (holder_in words))
 command_of words (Some word) = Err (refused (bad_word word))
+
+-- a table is brought to what one file lists
+abbrev pub adopt_of : List (List ℕ) → Result Job Stop
+adopt_of [] = Err (refused no_file)
+adopt_of (file ∷ words) = alone (adopt file) words
+
+-- a check may repair
+abbrev pub check_of : List (List ℕ) → Result Job Stop
+check_of [] = Ok check
+check_of (word ∷ words) = if bytes_eq word (codes "--repair") then alone repair words else Err (refused (extra_word word))
 
 -- the job that these words are, behind options
 abbrev pub job_of : Options → List (List ℕ) → Result Job Stop
@@ -68,8 +113,9 @@ job_of options [] = Ok lines
 job_of options (word ∷ words) =
     if bytes_eq word (codes "create") then origin_of_front (front true options words)
     else (if bytes_eq word (codes "compact") then alone compact words
-    else (if bytes_eq word (codes "check") then alone check words
-    else command_of (word ∷ words) (find is_stray (word ∷ words))))
+    else (if bytes_eq word (codes "check") then check_of words
+    else (if bytes_eq word (codes "adopt") then adopt_of words
+    else command_of (word ∷ words) (find is_stray (word ∷ words)))))
 
 abbrev pub ask_job : List ℕ → Options → Result Job Stop → Result Asked Stop
 ask_job folder options (Ok job) = Ok (record { folder = folder; wait = options.wait; sync = options.sync; job = job })
@@ -103,8 +149,10 @@ abbrev pub job_view : code_job.Job → Job
 job_view (code_job_is.Create origin) = create (origin_of origin)
 job_view (code_job_is.Command words) = command (texts_of words.now)
 job_view code_job_is.Lines = lines
+job_view (code_job_is.Adopt file) = adopt file.now
 job_view code_job_is.Compact = compact
 job_view code_job_is.Check = check
+job_view code_job_is.Repair = repair
 
 abbrev pub asked_view : code_asked.Asked → Asked
 asked_view a = record { folder = a.folder.now; wait = a.wait; sync = a.sync; job = job_view a.job }

@@ -22,10 +22,12 @@ pub data Fault : Type 0 where
   wants_value : Valued → Fault
   bad_wait : List ℕ → Fault
   no_folder : Fault
+  no_file : Fault
   extra_word : List ℕ → Fault
   nothing_to_create : Fault
   wants_host : Fault
   bad_word : List ℕ → Fault
+  bad_holder : List ℕ → Fault
 
 -- why no work is asked
 pub data Stop : Type 0 where
@@ -133,10 +135,12 @@ fault_of (code_fault_is.UnknownOption word) = unknown_option word.now
 fault_of (code_fault_is.WantsValue valued) = wants_value valued
 fault_of (code_fault_is.BadWait value) = bad_wait value.now
 fault_of code_fault_is.NoFolder = no_folder
+fault_of code_fault_is.NoFile = no_file
 fault_of (code_fault_is.ExtraWord word) = extra_word word.now
 fault_of code_fault_is.NothingToCreate = nothing_to_create
 fault_of code_fault_is.WantsHost = wants_host
 fault_of (code_fault_is.BadWord word) = bad_word word.now
+fault_of (code_fault_is.BadHolder word) = bad_holder word.now
 
 abbrev pub stop_of : code_stop.Stop → Stop
 stop_of code_stop_is.Help = help

@@ -1,12 +1,12 @@
 //! What the words of a program ask for.
 ghost use Rattle.std.specs.Prelude.{◌≡◌, Ok, Err, IfOk, IfErr, find, option_map};
 ghost use Rattle.text_parts.specs.Text.{texts_of};
-ghost use Rattle.table_words.specs.Asked.{alone, asked, asked_in, asked_view, is_stray, job_of, job_view, origin_in};
+ghost use Rattle.table_words.specs.Asked.{adopt_of, alone, asked, asked_in, asked_view, check_of, command_of, first_of, holder_in, if_option, is_again, is_stray, job_of, job_view, names_holder, origin_in};
 ghost use Rattle.table_words.specs.Options.{front_of, options_of, stop_of, text_of};
 
 use crate::fault::{Fault, Stop};
 use crate::line::is_line_word;
-use crate::options::Options;
+use crate::options::{Options, is_option};
 use crate::step::{Read, read_front};
 use text_parts::is_same;
 
@@ -28,10 +28,14 @@ pub enum Job<'w, 'a> {
     Command(&'w [&'a [u8]]),
     /// The lines of standard input are commands.
     Lines,
+    /// The table is brought to a kernel's modules, as this file lists them; `-` is standard input.
+    Adopt(&'a [u8]),
     /// The journal is written anew.
     Compact,
     /// It is said what stands in the folder.
     Check,
+    /// What is damaged is kept beside the journal and cut off, and it is said what stands in the folder.
+    Repair,
 }
 
 /// A job on the table of a folder.
@@ -88,6 +92,98 @@ fn stray_word<'a>(words: &[&'a [u8]]) -> Option<&'a [u8]>
     None
 }
 
+/// Whether the next word of a command that begins so is a holder.
+fn names_holder(first: &[u8]) -> bool
+    ensures { result ≡ names_holder first.now }
+{
+    is_same(first, b"get")
+        || is_same(first, b"put")
+        || is_same(first, b"hold")
+        || is_same(first, b"release")
+        || is_same(first, b"held")
+}
+
+/// Whether the word is `--again` of `hold`.
+fn is_again(first: &[u8], word: &[u8]) -> bool
+    ensures { result ≡ is_again first.now word.now }
+{
+    is_same(first, b"hold") && is_same(word, b"--again")
+}
+
+/// The first of these words.
+fn first_of<'a>(words: &[&'a [u8]]) -> Option<&'a [u8]>
+    ensures { text_of result ≡ first_of (texts_of words.entry.now) }
+{
+    match words.first() {
+        Some(word) => Some(*word),
+        None => None,
+    }
+}
+
+/// The word in the place of a holder, if the command has one.
+fn holder_in<'a>(words: &[&'a [u8]]) -> Option<&'a [u8]>
+    ensures { text_of result ≡ holder_in (texts_of words.entry.now) }
+{
+    let Some((first, later)) = words.split_first() else {
+        return None;
+    };
+    if !names_holder(*first) {
+        return None;
+    }
+    match later.split_first() {
+        Some((word, rest)) if is_again(*first, *word) => first_of(rest),
+        Some((word, _)) => Some(*word),
+        None => None,
+    }
+}
+
+/// The option that stands in the place of a holder.
+fn option_for_holder<'a>(words: &[&'a [u8]]) -> Option<&'a [u8]>
+    ensures { text_of result ≡ if_option (holder_in (texts_of words.entry.now)) }
+{
+    match holder_in(words) {
+        Some(word) if is_option(word) => Some(word),
+        _ => None,
+    }
+}
+
+/// One command.
+fn command_of<'w, 'a>(words: &'w [&'a [u8]]) -> Result<Job<'w, 'a>, Stop<'a>>
+    ensures ok { IfOk result (λ found. command_of (texts_of words.entry.now) (find is_stray (texts_of words.entry.now)) ≡ Ok (job_view found)) }
+    ensures err { IfErr result (λ stop. command_of (texts_of words.entry.now) (find is_stray (texts_of words.entry.now)) ≡ Err (stop_of stop)) }
+{
+    if let Some(stray) = stray_word(words) {
+        return Err(Stop::Refused(Fault::BadWord(stray)));
+    }
+    match option_for_holder(words) {
+        Some(word) => Err(Stop::Refused(Fault::BadHolder(word))),
+        None => Ok(Job::Command(words)),
+    }
+}
+
+/// The job of `adopt` with these words behind it.
+fn adopt_of<'w, 'a>(words: &[&'a [u8]]) -> Result<Job<'w, 'a>, Stop<'a>>
+    ensures ok { IfOk result (λ found. adopt_of (texts_of words.entry.now) ≡ Ok (job_view found)) }
+    ensures err { IfErr result (λ stop. adopt_of (texts_of words.entry.now) ≡ Err (stop_of stop)) }
+{
+    match words.split_first() {
+        Some((file, later)) => alone(Job::Adopt(*file), later),
+        None => Err(Stop::Refused(Fault::NoFile)),
+    }
+}
+
+/// The job of `check` with these words behind it.
+fn check_of<'w, 'a>(words: &[&'a [u8]]) -> Result<Job<'w, 'a>, Stop<'a>>
+    ensures ok { IfOk result (λ found. check_of (texts_of words.entry.now) ≡ Ok (job_view found)) }
+    ensures err { IfErr result (λ stop. check_of (texts_of words.entry.now) ≡ Err (stop_of stop)) }
+{
+    match words.split_first() {
+        None => Ok(Job::Check),
+        Some((word, later)) if is_same(*word, b"--repair") => alone(Job::Repair, later),
+        Some((word, _)) => Err(Stop::Refused(Fault::ExtraWord(*word))),
+    }
+}
+
 /// The job that words are, behind options.
 fn job_of<'w, 'a>(options: Options<'a>, words: &'w [&'a [u8]]) -> Result<Job<'w, 'a>, Stop<'a>>
     ensures ok { IfOk result (λ found. job_of (options_of options.entry) (texts_of words.entry.now) ≡ Ok (job_view found)) }
@@ -104,12 +200,12 @@ fn job_of<'w, 'a>(options: Options<'a>, words: &'w [&'a [u8]]) -> Result<Job<'w,
         return alone(Job::Compact, later);
     }
     if is_same(*word, b"check") {
-        return alone(Job::Check, later);
+        return check_of(later);
     }
-    match stray_word(words) {
-        Some(stray) => Err(Stop::Refused(Fault::BadWord(stray))),
-        None => Ok(Job::Command(words)),
+    if is_same(*word, b"adopt") {
+        return adopt_of(later);
     }
+    command_of(words)
 }
 
 /// The job on the table of a folder.

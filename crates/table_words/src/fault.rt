@@ -13,6 +13,8 @@ pub enum Fault<'a> {
     BadWait(&'a [u8]),
     /// Neither a word nor the environment names a folder.
     NoFolder,
+    /// `adopt` names no file.
+    NoFile,
     /// A word stands behind a command that takes none.
     ExtraWord(&'a [u8]),
     /// `create` names neither a machine nor sections.
@@ -21,6 +23,8 @@ pub enum Fault<'a> {
     WantsHost,
     /// A word is empty, or has a blank or a line's end.
     BadWord(&'a [u8]),
+    /// A word that begins with `-` stands in the place of a holder.
+    BadHolder(&'a [u8]),
 }
 
 /// Why no work is asked.

@@ -11,7 +11,8 @@ usage: gz-table [OPTION ..] FOLDER create WORD ..       makes a table: catalogue
                                                         makes one of a machine's modules
        gz-table [OPTION ..] FOLDER COMMAND [WORD ..]    answers one command
        gz-table [OPTION ..] FOLDER                      answers the lines of standard input
-       gz-table [OPTION ..] FOLDER check                says what stands in the folder
+       gz-table [OPTION ..] FOLDER check [--repair]     says what stands in the folder; cuts damage off
+       gz-table [OPTION ..] FOLDER adopt FILE           brings the table to lines of /proc/modules (-: standard input)
        gz-table [OPTION ..] FOLDER compact              writes the journal anew
 
 With GZ_TABLE in the environment, its text is the FOLDER, and the first word is the command.

@@ -1,0 +1,46 @@
+use Rattle.std.proofs.Common.{arith, sym, ap, subst, ◌∙◌, ◌≤◌, take, drop, ◌-◌}
+use Rattle.line_journal.specs.Lines.{bytes_of}
+use Rattle.held_lines.specs.Held.{holding}
+use Rattle.held_lines.specs.Outcomes.{after}
+use Rattle.gz_table_drive.specs.Adopting.{HasRefused}
+use Rattle.gz_table_drive.proofs.AnswerLemmas.{after_more, moments_more, group_behind, group_lines, take_end}
+use Rattle.gz_table_drive.proofs.AdoptLemmas.{refused_more}
+use Rattle.gz_table_drive.proofs.adopting.perform_lines.Goals as goal
+
+pub perform_group-requires-clause-lines : goal.perform_group-requires-clause-lines
+perform_group-requires-clause-lines g c = group_lines c.args.lines.now c.loop-start.start c.min-end.result c.requires.lines
+
+pub returns-in_err-perform_group-clause-any_moment : goal.returns-in_err-perform_group-clause-any_moment
+returns-in_err-perform_group-clause-any_moment g c =
+    let s = c.args.table.now.session.setup.now in
+    let h = holding (g.H.Modules.table c.args.table.now.session.holders) (g.H.Modules.names c.args.table.now.session.holders) in
+    let lines = c.args.lines.now in
+    let start = c.loop-start.start in
+    let end = c.min-end.result in
+    let front = take start (bytes_of lines) in
+    let group = bytes_of (take (end - start) (drop start lines)) in
+    moments_more s h front group (bytes_of lines) _ _ _ (group_behind lines start end) c.loop-start.invariant.moments
+    (rw c.loop-start.invariant.becomes at (rw c.loop-start.invariant.setup at c.perform_group.ensures.any_moment))
+
+pub loop-start-preserved : goal.loop-start-preserved
+loop-start-preserved g c =
+    let s = c.args.table.now.session.setup.now in
+    let h = holding (g.H.Modules.table c.args.table.now.session.holders) (g.H.Modules.names c.args.table.now.session.holders) in
+    let lines = c.args.lines.now in
+    let start = c.loop-start.start in
+    let end = c.min-end.result in
+    let front = take start (bytes_of lines) in
+    let group = bytes_of (take (end - start) (drop start lines)) in
+    let inv = c.loop-start.invariant in
+    let le : start ≤ end = omega (arith, c.min-end.ensures, inv.within) in
+    let all = take_end lines start end le in
+    let made = c.in_ok-perform_group.ensures in
+    record {
+      within = omega (arith, c.min-end.ensures);
+      refused = subst (λ ls. HasRefused s h ls c.args.replies.now c.perform_group.new.replies) (sym all)
+          (refused_more s h front group c.args.replies.now c.loop-start.replies c.perform_group.new.replies inv.refused (rw inv.becomes at (rw inv.setup at made.refused)));
+      becomes = (rw inv.becomes at (rw inv.setup at made.becomes)) ∙ sym (after_more s h front group) ∙ ap (after s h) (sym all);
+      stands = rw inv.setup at made.stands;
+      moments = moments_more s h front group (bytes_of lines) _ _ _ (group_behind lines start end) inv.moments (rw inv.becomes at (rw inv.setup at c.perform_group.ensures.any_moment));
+      setup = made.setup ∙ inv.setup;
+    }

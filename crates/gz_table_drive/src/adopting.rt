@@ -1,0 +1,212 @@
+//! A table is brought to the modules that a kernel has.
+ghost use Rattle.std.specs.Prelude.{◌≡◌, ◌++◌, ◌∷◌, [], map, IfOk, OnOk, IsErrOf};
+ghost use Rattle.line_journal.specs.Device.{AlwaysLeaves};
+ghost use Rattle.line_journal.specs.Lines.{AreLines, bytes_of};
+ghost use Rattle.held_lines.specs.Held.{holding};
+ghost use Rattle.held_lines.specs.Laws.{KeepsHeld};
+ghost use Rattle.held_lines.specs.Outcomes.{after};
+ghost use Rattle.durable_table.specs.Durable.{Stands};
+ghost use Rattle.durable_table.specs.Groups.{AfterFirstOf};
+ghost use Rattle.table_adopt.specs.Reports.{report_of};
+ghost use Rattle.gz_table_drive.specs.Answers.{HasMore};
+ghost use Rattle.gz_table_drive.specs.Adopting.{adopting_lines, ending_of_report, refused_of, HasAdopted, HasRefused, HoldsTheSame};
+
+use crate::answering::{GROUP, Replies};
+use crate::endings::ending_of;
+use durable_table::{DurableTable, PerformError};
+use held_lines::{HeldReply, HeldSession, Holders};
+use line_journal::{Device, DeviceError, are_lines};
+use seq_table::Modules;
+use std::alloc::{AllocError, Global};
+use table_adopt::{Adoption, KernelModule, adopt};
+use table_words::Ending;
+use thiserror::Error;
+
+/// Why a table was not brought to a kernel's modules. Its journal stands for the table after the first of the lines.
+#[derive(Clone, Copy, Debug, PartialEq, Eq, Drop, Error)]
+pub enum AdoptError {
+    /// Out of memory.
+    #[error("out of memory")]
+    OutOfMemory,
+    /// A name of the catalogue is no part of a line. Nothing was done.
+    #[error("a name of the catalogue has a line feed")]
+    BadName,
+    /// The journal could not be written.
+    #[error("{0}")]
+    Device(DeviceError),
+}
+
+impl From<AllocError> for AdoptError {
+    ghost use Rattle.std.specs.Prelude.{◌≡◌};
+    ghost use Rattle.gz_table_drive.specs.declared.adopting.AdoptError.TheVariants.{OutOfMemory};
+
+    ghost from_gives = { λ _ error. error ≡ OutOfMemory };
+
+    fn from(_: AllocError) -> AdoptError {
+        AdoptError::OutOfMemory
+    }
+}
+
+impl From<PerformError> for AdoptError {
+    ghost use Rattle.std.specs.Prelude.{◌≢◌};
+    ghost use Rattle.gz_table_drive.specs.declared.adopting.AdoptError.TheVariants.{BadName};
+
+    ghost from_gives = { λ _ error. error ≢ BadName };
+
+    fn from(error: PerformError) -> AdoptError {
+        match error {
+            PerformError::OutOfMemory => AdoptError::OutOfMemory,
+            PerformError::Device(error) => AdoptError::Device(error),
+        }
+    }
+}
+
+/// How a run ends that reports this: as its first line.
+fn ending_of_report(report: &[u8]) -> Ending
+    ensures { result ≡ ending_of_report report.now }
+{
+    if report.is_empty() {
+        Ending::Done
+    } else if report.starts_with(b"error UNKNOWN ") {
+        Ending::Absent
+    } else {
+        Ending::InUse
+    }
+}
+
+/// Adds a reply, if it refuses.
+fn add_refused(answered: &HeldReply, replies: &mut Replies) -> Result<(), AllocError>
+    ensures { OnOk result (HasMore (refused_of (answered.now.reply ∷ [])) replies.old replies.new) }
+{
+    if answered.reply.refusal().is_some() {
+        replies.endings.push(ending_of(&answered.reply))?;
+        replies.text.extend_from_slice(answered.reply.text())?;
+    }
+    Ok(())
+}
+
+/// Adds those of the replies that refuse.
+fn add_all_refused(answered: &[HeldReply], replies: &mut Replies) -> Result<(), AllocError>
+    ensures { OnOk result (HasMore (refused_of (map (λ r. r.reply) answered.now)) replies.old replies.new) }
+{
+    for each in answered {
+        add_refused(each, replies)?;
+    }
+    Ok(())
+}
+
+/// Performs lines as one group, and adds the replies to those that are refused.
+fn perform_group<H: Holders, D: Device>(
+    alloc: Global,
+    table: &mut DurableTable<'_, H, D>,
+    group: &[Vec<u8>],
+    replies: &mut Replies,
+) -> Result<(), PerformError>
+    requires stands { Stands D.content D.history table.old.session.setup.now (holding (H.table table.old.session.holders) (H.names table.old.session.holders)) table.old.journal }
+    requires lines { AreLines (bytes_of group.now) }
+    ensures refused { OnOk result (HasRefused table.old.session.setup.now (holding (H.table table.old.session.holders) (H.names table.old.session.holders)) (bytes_of group.now) replies.old replies.new) }
+    ensures becomes { OnOk result (holding (H.table table.new.session.holders) (H.names table.new.session.holders)
+        ≡ after table.old.session.setup.now (holding (H.table table.old.session.holders) (H.names table.old.session.holders)) (bytes_of group.now)) }
+    ensures stands { OnOk result (Stands D.content D.history table.old.session.setup.now (holding (H.table table.new.session.holders) (H.names table.new.session.holders)) table.new.journal) }
+    ensures any_moment { AlwaysLeaves (D.history table.old.journal.device) (D.history table.new.journal.device)
+        (AfterFirstOf table.old.session.setup.now (holding (H.table table.old.session.holders) (H.names table.old.session.holders)) (bytes_of group.now)) }
+    ensures setup { table.new.session.setup ≡ table.old.session.setup }
+{
+    let answered = table.perform_all(alloc, group)?;
+    match add_all_refused(&answered, replies) {
+        Ok(()) => Ok(()),
+        Err(_) => Err(PerformError::OutOfMemory),
+    }
+}
+
+/// Performs lines, one after another in groups, and adds the replies to those that are refused.
+fn perform_lines<H: Holders, D: Device>(
+    alloc: Global,
+    table: &mut DurableTable<'_, H, D>,
+    lines: &[Vec<u8>],
+    replies: &mut Replies,
+) -> Result<(), PerformError>
+    requires stands { Stands D.content D.history table.old.session.setup.now (holding (H.table table.old.session.holders) (H.names table.old.session.holders)) table.old.journal }
+    requires lines { AreLines (bytes_of lines.now) }
+    ensures refused { OnOk result (HasRefused table.old.session.setup.now (holding (H.table table.old.session.holders) (H.names table.old.session.holders)) (bytes_of lines.now) replies.old replies.new) }
+    ensures becomes { OnOk result (holding (H.table table.new.session.holders) (H.names table.new.session.holders)
+        ≡ after table.old.session.setup.now (holding (H.table table.old.session.holders) (H.names table.old.session.holders)) (bytes_of lines.now)) }
+    ensures stands { OnOk result (Stands D.content D.history table.old.session.setup.now (holding (H.table table.new.session.holders) (H.names table.new.session.holders)) table.new.journal) }
+    ensures any_moment { AlwaysLeaves (D.history table.old.journal.device) (D.history table.new.journal.device)
+        (AfterFirstOf table.old.session.setup.now (holding (H.table table.old.session.holders) (H.names table.old.session.holders)) (bytes_of lines.now)) }
+    ensures setup { table.new.session.setup ≡ table.old.session.setup }
+{
+    let mut start = 0;
+    while start < lines.len() {
+        let end = lines.len().min(start + GROUP);
+        perform_group(alloc, table, &lines[start..end], replies)?;
+        start = end;
+    }
+    Ok(())
+}
+
+/// The lines that bring a table to these modules, and what is reported beside them.
+fn adoption_of<H: Holders>(
+    alloc: Global,
+    session: &HeldSession<'_, H>,
+    kernel: &[KernelModule],
+) -> Result<Adoption, AdoptError>
+    ensures lines { IfOk result (λ a. bytes_of a.lines.items ≡ adopting_lines session.now.setup.now (holding (H.table session.now.holders) (H.names session.now.holders)) kernel.now) }
+    ensures are_lines { IfOk result (λ a. AreLines (bytes_of a.lines.items)) }
+    ensures report { IfOk result (λ a. a.report.items ≡ report_of session.now.setup.now.catalogue (H.table session.now.holders) kernel.now) }
+{
+    let found = adopt(
+        alloc,
+        session.setup().catalogue(),
+        session.holders(),
+        kernel,
+    )?;
+    if !are_lines(&found.lines) {
+        return Err(AdoptError::BadName);
+    }
+    Ok(found)
+}
+
+/// Adds a report, and how it ends.
+fn add_report(report: &[u8], replies: &mut Replies) -> Result<(), AllocError>
+    ensures text { OnOk result (replies.new.text.items ≡ replies.old.text.items ++ report.now) }
+    ensures endings { OnOk result (replies.new.endings.items ≡ replies.old.endings.items ++ ending_of_report report.now ∷ []) }
+{
+    replies.endings.push(ending_of_report(report))?;
+    replies.text.extend_from_slice(report)?;
+    Ok(())
+}
+
+/// Brings a table to the modules of a kernel, the newest first, by the lines of `table_adopt::adopt`. What it reports is
+/// added, and the replies to the lines that are refused. At `Ok` the journal stands for the table after the lines, on the
+/// disk.
+///
+/// A crash at any moment, or an error, leaves the table after the first of the lines: none, some or all. Each holder holds
+/// what it held, and no module that anybody holds is made absent.
+pub fn adopt_modules<H: Holders, D: Device>(
+    alloc: Global,
+    table: &mut DurableTable<'_, H, D>,
+    kernel: &[KernelModule],
+    replies: &mut Replies,
+) -> Result<(), AdoptError>
+    requires { Stands D.content D.history table.old.session.setup.now (holding (H.table table.old.session.holders) (H.names table.old.session.holders)) table.old.journal }
+    ensures adopted { OnOk result (HasAdopted table.old.session.setup.now (holding (H.table table.old.session.holders) (H.names table.old.session.holders)) kernel.now replies.old replies.new) }
+    ensures becomes { OnOk result (holding (H.table table.new.session.holders) (H.names table.new.session.holders)
+        ≡ after table.old.session.setup.now (holding (H.table table.old.session.holders) (H.names table.old.session.holders))
+        (adopting_lines table.old.session.setup.now (holding (H.table table.old.session.holders) (H.names table.old.session.holders)) kernel.now)) }
+    ensures stands { OnOk result (Stands D.content D.history table.old.session.setup.now (holding (H.table table.new.session.holders) (H.names table.new.session.holders)) table.new.journal) }
+    ensures holders { OnOk result (HoldsTheSame (holding (H.table table.old.session.holders) (H.names table.old.session.holders)) (holding (H.table table.new.session.holders) (H.names table.new.session.holders))) }
+    ensures held { OnOk result (KeepsHeld (H.table table.old.session.holders) (H.table table.new.session.holders)) }
+    ensures unchanged { IsErrOf result AdoptError.BadName → table.new ≡ table.old }
+    ensures any_moment { AlwaysLeaves (D.history table.old.journal.device) (D.history table.new.journal.device)
+        (AfterFirstOf table.old.session.setup.now (holding (H.table table.old.session.holders) (H.names table.old.session.holders))
+        (adopting_lines table.old.session.setup.now (holding (H.table table.old.session.holders) (H.names table.old.session.holders)) kernel.now)) }
+    ensures setup { table.new.session.setup ≡ table.old.session.setup }
+{
+    table.session().holders().laws();
+    let found = adoption_of(alloc, table.session(), kernel)?;
+    add_report(&found.report, replies)?;
+    perform_lines(alloc, table, &found.lines, replies)?;
+    table.session().holders().laws();
+    Ok(())
+}

@@ -1,0 +1,130 @@
+//! What is damaged behind a journal's lines is cut off.
+ghost use Rattle.std.specs.Prelude.{◌≡◌, ◌≢◌, ◌⊎◌, [], ◌∷◌, Some, IfOk, IfSome, IfNone};
+ghost use Rattle.line_journal.specs.Device.{AlwaysLeaves};
+ghost use Rattle.line_journal.specs.Journal.{IsFound};
+ghost use Rattle.line_journal.specs.Lines.{lines_of, StandsFor};
+ghost use Rattle.held_lines.specs.Held.{holding};
+ghost use Rattle.durable_table.specs.Tables.{table_of};
+ghost use Rattle.durable_table.specs.Durable.{Stands};
+
+use crate::fault::{TableFault, unwritten};
+use crate::opening::{OpenFault, found_in, keep_cut, no_holders, read_file, setup};
+use crate::shared::{CUT, JOURNAL, Shared};
+use crate::teller::Teller;
+use crate::tenure::unopened;
+use durable_table::{DurableTable, OpenedTable, open};
+use file_journal::{FileDevice, LockKind};
+use held_table::HeldTable;
+use line_journal::{Device, Found, KillOnly, Repair};
+use modprobe::Setup;
+use std::alloc::Global;
+use std::fs::File;
+use std::io::Write;
+use std::rt::Files;
+use std::time::Clock;
+
+/// A table whose journal is at rest again, and what stood in the journal before.
+#[derive(Drop)]
+struct Repaired<'s, D: Device + Drop> {
+    table: DurableTable<'s, HeldTable, D>,
+    found: Found,
+}
+
+/// What was found in a journal, unless it is at rest: then nothing is to be cut off.
+fn damage_in(found: Found) -> Option<Found>
+    ensures same { IfSome result (λ damage. damage ≡ found) }
+    ensures damaged { IfSome result (λ damage. damage.behind.items ≢ 32 ∷ []) }
+    ensures sound { IfNone result (found.behind.items ≡ 32 ∷ []) }
+{
+    if found.is_at_rest() {
+        None
+    } else {
+        Some(found)
+    }
+}
+
+/// The table that the lines of a journal stand for. What stands behind them is cut off, however much it is.
+///
+/// A crash at any moment leaves the same lines, or what it might have left before.
+fn repair_table<'s, D: Device + Drop>(
+    alloc: Global,
+    setup: &'s Setup,
+    device: D,
+) -> Result<Repaired<'s, D>, OpenFault<D>>
+    ensures stands { IfOk result (λ r. Stands D.content D.history setup.now (holding r.table.session.holders.held.table r.table.session.holders.held.names) r.table.journal) }
+    ensures same { IfOk result (λ r. table_of setup.now (D.content device) ≡ Some (holding r.table.session.holders.held.table r.table.session.holders.held.names)) }
+    ensures found { IfOk result (λ r. IsFound (D.content device) r.found) }
+    ensures setup { IfOk result (λ r. r.table.session.setup.now ≡ setup.now) }
+    ensures any_moment { IfOk result (λ r. AlwaysLeaves (D.history device) (D.history r.table.journal.device)
+        (λ file. StandsFor (lines_of (D.content device)) file ⊎ (D.history device).leaves file)) }
+{
+    let holders = no_holders(alloc, setup)?;
+    match open(alloc, setup, holders, device, Repair::Cut) {
+        Ok(OpenedTable::Ready(table, found)) => Ok(Repaired { table, found }),
+        Ok(OpenedTable::Foreign(_)) => Err(OpenFault::Foreign),
+        Ok(OpenedTable::Changed(_, line)) => Err(OpenFault::Changed(line)),
+        Ok(OpenedTable::Damaged(_, found)) => Err(OpenFault::Damaged(found.open_gates_behind())),
+        Err((error, device)) => Err(OpenFault::Device(error, device)),
+    }
+}
+
+/// Refuses a journal of which no table can be made.
+fn try_copy<R: Files<File = File> + Clock + AllocGlobal>(
+    shared: &Shared<'_, R>,
+    setup: &Setup,
+) -> Result<(), TableFault> {
+    let alloc = shared.alloc();
+    let copy = KillOnly::new(alloc, read_file(shared, JOURNAL)?);
+    match repair_table(alloc, setup, copy) {
+        Ok(_) => Ok(()),
+        Err(OpenFault::Foreign) => Err(TableFault::Foreign),
+        Err(OpenFault::Changed(line)) => Err(TableFault::Changed(line)),
+        Err(_) => Err(TableFault::OutOfMemory),
+    }
+}
+
+/// Keeps what is about to be cut off.
+fn keep<R: Files<File = File> + Clock + AllocGlobal>(
+    shared: &Shared<'_, R>,
+    damage: &Found,
+) -> Result<(), TableFault> {
+    match keep_cut(shared, &shared.path(CUT)?, &damage.behind) {
+        Ok(()) => Ok(()),
+        Err(error) => Err(unwritten(CUT, &error)),
+    }
+}
+
+/// Cuts off what stands behind the lines of a journal, if anything does. It is kept in `journal.cut` first, and it is told how
+/// many lines it has.
+fn repair_journal<R: Files<File = File> + Clock + AllocGlobal, E: Write>(
+    shared: &Shared<'_, R>,
+    setup: &Setup,
+    teller: &mut Teller<'_, E>,
+) -> Result<(), TableFault> {
+    let (rt, alloc, folder) = (shared.rt, shared.alloc(), shared.folder);
+    try_copy(shared, setup)?;
+    let mut device = FileDevice::open(rt, alloc, folder, JOURNAL, shared.syncs)?;
+    let Some(damage) = damage_in(found_in(alloc, &mut device)?) else {
+        return Ok(());
+    };
+    keep(shared, &damage)?;
+    match repair_table(alloc, setup, device) {
+        Ok(repaired) => {
+            teller.repaired(folder, &repaired.found);
+            Ok(())
+        }
+        Err(fault) => Err(unopened(fault)),
+    }
+}
+
+/// Brings the journal of a folder back to the lines before what is damaged.
+pub(crate) fn repair<R: Files<File = File> + Clock + AllocGlobal, E: Write>(
+    shared: &Shared<'_, R>,
+    teller: &mut Teller<'_, E>,
+) -> Result<(), TableFault> {
+    let setup = setup(shared)?;
+    let lock = shared.lock(LockKind::Exclusive)?;
+    let repaired = repair_journal(shared, &setup, teller);
+    lock.release();
+    repaired
+}
