@@ -8,6 +8,7 @@ use crate::setup::setup_of;
 use crate::shared::{JOURNAL, SETUP, Shared};
 use crate::teller::Teller;
 use file_journal::{Cause, FileDevice, FileFault, LockKind, OpenError, Syncs};
+use kmod_version::Kmod;
 use line_journal::DeviceError;
 use modprobe::AliasForm;
 use program_frame::is_folder;
@@ -17,7 +18,18 @@ use std::io::{self, Write};
 use std::rt::Files;
 use std::time::Clock;
 use table_setup::seal;
-use table_words::{Ending, Origin};
+use table_words::{Ending, Machine, Origin};
+
+/// The version of kmod as which a machine's files are read: the newest, if none is named.
+fn kmod_of<E: Write>(machine: Machine<'_>, teller: &mut Teller<'_, E>) -> Result<Kmod, TableFault> {
+    let Some(number) = machine.kmod else {
+        return Ok(Kmod::Version34);
+    };
+    match Kmod::of(number) {
+        Some(kmod) => Ok(kmod),
+        None => Err(teller.say("bad --as", number, "give 30 or 34")),
+    }
+}
 
 /// The sections of a new table.
 fn sections_of<R: Files + Env + AllocGlobal, E: Write>(
@@ -27,8 +39,9 @@ fn sections_of<R: Files + Env + AllocGlobal, E: Write>(
 ) -> Result<Vec<u8>, TableFault> {
     match origin {
         Origin::Sections(words) => named_sections(rt, words, teller),
-        Origin::Host(release, root) => {
-            match sections_of_machine(rt, release, root, teller.errors())? {
+        Origin::Host(machine) => {
+            let kmod = kmod_of(machine, teller)?;
+            match sections_of_machine(rt, machine, kmod, teller.errors())? {
                 Some(text) => Ok(text),
                 None => Err(TableFault::Told(Ending::Unasked)),
             }

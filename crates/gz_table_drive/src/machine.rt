@@ -18,6 +18,7 @@ use std::env::Env;
 use std::io::Write;
 use std::rt::Files;
 use table_setup::host_catalogue;
+use table_words::Machine;
 
 /// The texts of a machine that a table is made of.
 #[derive(Drop)]
@@ -81,10 +82,11 @@ fn folder_of<R: Files + Env + AllocGlobal, E: Write>(
 /// Reads a machine's files. None if something is missing without which there is no table, which is reported.
 fn read_machine<R: Files + Env + AllocGlobal, E: Write>(
     host: &Host<'_, Disk<'_, R>>,
-    release: Option<&[u8]>,
+    machine: Machine<'_>,
+    kmod: Kmod,
     messages: &mut Messages<'_, E>,
 ) -> Result<Option<MachineTexts>, AllocError> {
-    let Some(directory) = folder_of(host, release, messages)? else {
+    let Some(directory) = folder_of(host, machine.release, messages)? else {
         return Ok(None);
     };
     let modules = read_modules(host, &directory, messages)?;
@@ -98,21 +100,20 @@ fn read_machine<R: Files + Env + AllocGlobal, E: Write>(
     Ok(Some(MachineTexts {
         dep: modules.dep,
         alias: later.alias.unwrap_or(Vec::new(host.alloc())),
-        configuration: read_configuration(host, Kmod::Version30, &directory, &[], messages)?,
+        configuration: read_configuration(host, kmod, &directory, &[], messages)?,
     }))
 }
 
-/// The sections of the machine below a root, of a release or of its running kernel. None if something is missing, which
-/// is reported.
+/// The sections of a machine, as this version of kmod reads its files. None if something is missing, which is reported.
 pub(crate) fn sections_of_machine<R: Files + Env + AllocGlobal, E: Write>(
     rt: &R,
-    release: Option<&[u8]>,
-    root: Option<&[u8]>,
+    machine: Machine<'_>,
+    kmod: Kmod,
     errors: &mut E,
 ) -> Result<Option<Vec<u8>>, AllocError> {
     let disk = Disk {
         rt,
-        root: root.unwrap_or(b""),
+        root: machine.root.unwrap_or(b""),
     };
     let host = Host { system: &disk };
     let mut messages = Messages {
@@ -124,7 +125,7 @@ pub(crate) fn sections_of_machine<R: Files + Env + AllocGlobal, E: Write>(
     if is_rootless(&host, disk.root, &mut messages)? {
         return Ok(None);
     }
-    let Some(texts) = read_machine(&host, release, &mut messages)? else {
+    let Some(texts) = read_machine(&host, machine, kmod, &mut messages)? else {
         return Ok(None);
     };
     let files = &texts.configuration.files;

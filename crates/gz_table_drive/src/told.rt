@@ -10,6 +10,7 @@ fn option_words(valued: Valued) -> &'static str {
         Valued::Wait => "--wait SECONDS",
         Valued::Release => "-S VERSION",
         Valued::Root => "--root DIR",
+        Valued::As => "--as VERSION",
     }
 }
 
@@ -65,6 +66,9 @@ pub(crate) fn tell_fault<E: Write>(fault: Fault<'_>, errors: &mut E) {
         Fault::NothingToCreate => {
             tell_sentence("nothing to create: name catalogue=PATH, or --host", errors)
         }
-        Fault::WantsHost => tell_sentence("-S and --root are options of create --host", errors),
+        Fault::WantsHost => tell_sentence(
+            "-S, --root and --as are options of create --host",
+            errors,
+        ),
     }
 }

@@ -8,12 +8,20 @@ use Rattle.table_words.specs.Options.{Front, Options, Stop, bad_holder, bad_word
 use Rattle.table_words.specs.declared.asked.Asked as code_asked
 use Rattle.table_words.specs.declared.asked.Job as code_job
 use Rattle.table_words.specs.declared.asked.Job.TheVariants as code_job_is
+use Rattle.table_words.specs.declared.asked.Machine as code_machine
 use Rattle.table_words.specs.declared.asked.Origin as code_origin
 use Rattle.table_words.specs.declared.asked.Origin.TheVariants as code_origin_is
 
--- what a table is made of: a machine's files, by a release and a root that may be named; or words that name sections
+-- a machine whose files a table is made of: its release, its root, and the version of kmod as which they are read, each if it
+-- is named
+pub record Machine : Type 0 where
+  pub release : Option (List ℕ)
+  pub root : Option (List ℕ)
+  pub kmod : Option (List ℕ)
+
+-- what a table is made of: a machine's files, or words that name sections
 pub data Origin : Type 0 where
-  host : Option (List ℕ) → Option (List ℕ) → Origin
+  host : Machine → Origin
   sections : List (List ℕ) → Origin
 
 -- a table is made; the words are one command; the lines of standard input are commands; the table is brought to a
@@ -41,14 +49,17 @@ abbrev pub alone : Job → List (List ℕ) → Result Job Stop
 alone job [] = Ok job
 alone job (word ∷ words) = Err (refused (extra_word word))
 
--- a release and a root are those of a machine
+-- a release, a root and a version of kmod are those of a machine
 abbrev pub asks_machine : Options → Bool
-asks_machine options = is_some options.release || is_some options.root
+asks_machine options = is_some options.release || (is_some options.root || is_some options.kmod)
+
+abbrev pub machine_in : Options → Machine
+machine_in options = record { release = options.release; root = options.root; kmod = options.kmod }
 
 -- what is made of a machine's files has no sections of its own, and something is to be made
 abbrev pub origin_in : Options → List (List ℕ) → Result Job Stop
 origin_in options words =
-    if options.host then alone (create (host options.release options.root)) words
+    if options.host then alone (create (host (machine_in options))) words
     else (if asks_machine options then Err (refused wants_host)
     else (if nat_lt 0 (length words) then Ok (create (sections words)) else Err (refused nothing_to_create)))
 
@@ -141,8 +152,11 @@ abbrev pub asked : Option (List ℕ) → List (List ℕ) → Result Asked Stop
 asked table words = asked_of_front table (front false no_options words)
 
 -- how contracts see the code's
+abbrev pub machine_of : code_machine.Machine → Machine
+machine_of m = record { release = text_of m.release; root = text_of m.root; kmod = text_of m.kmod }
+
 abbrev pub origin_of : code_origin.Origin → Origin
-origin_of (code_origin_is.Host release root) = host (text_of release) (text_of root)
+origin_of (code_origin_is.Host machine) = host (machine_of machine)
 origin_of (code_origin_is.Sections words) = sections (texts_of words.now)
 
 abbrev pub job_view : code_job.Job → Job

@@ -6,7 +6,7 @@ use Rattle.std.specs.Option.{option_map}
 use Rattle.std.specs.Str.{bytes_eq}
 use Rattle.text_parts.specs.Text.{number_within, texts_of}
 use Rattle.table_words.specs.declared.options.Valued.{Valued}
-use Rattle.table_words.specs.declared.options.Valued.TheVariants.{Wait, Release, Root}
+use Rattle.table_words.specs.declared.options.Valued.TheVariants.{Wait, Release, Root, As}
 use Rattle.table_words.specs.declared.options.Options as code_options
 use Rattle.table_words.specs.declared.fault.Fault as code_fault
 use Rattle.table_words.specs.declared.fault.Fault.TheVariants as code_fault_is
@@ -42,10 +42,11 @@ pub record Options : Type 0 where
   pub host : Bool
   pub release : Option (List ℕ)
   pub root : Option (List ℕ)
+  pub kmod : Option (List ℕ)
 
 -- if no option stands, another process is waited for 10 seconds
 abbrev pub no_options : Options
-no_options = record { wait = 10; sync = true; host = false; release = None; root = None }
+no_options = record { wait = 10; sync = true; host = false; release = None; root = None; kmod = None }
 
 -- what comes of a word: it is no option, or what all say with it and the option whose value is the next word, or the end
 pub data Next : Type 0 where
@@ -65,6 +66,7 @@ abbrev pub with_value : Options → Valued → List ℕ → Next
 with_value options Wait value = waits options value (number_within 4294967295 value)
 with_value options Release value = plain (record options { release = Some value })
 with_value options Root value = plain (record options { root = Some value })
+with_value options As value = plain (record options { kmod = Some value })
 
 abbrev pub is_either : List ℕ → List ℕ → List ℕ → Bool
 is_either word one other = if bytes_eq word one then true else bytes_eq word other
@@ -72,14 +74,25 @@ is_either word one other = if bytes_eq word one then true else bytes_eq word oth
 abbrev pub begins : List ℕ → List ℕ → Bool
 begins word front = starts_with nat_eq word front
 
+-- the option that names a version of kmod
+abbrev pub kmod_option : Options → List ℕ → Next
+kmod_option options word =
+    if bytes_eq word (codes "--as") then on options (Some As)
+    else (if begins word (codes "--as=") then with_value options As (drop 5 word)
+    else stopped (refused (unknown_option word)))
+
+-- the option that names a root, or a later one
+abbrev pub root_option : Options → List ℕ → Next
+root_option options word =
+    if bytes_eq word (codes "--root") then on options (Some Root)
+    else (if begins word (codes "--root=") then with_value options Root (drop 7 word) else kmod_option options word)
+
 -- an option that `create` alone has
 abbrev pub create_option : Options → List ℕ → Next
 create_option options word =
     if bytes_eq word (codes "--host") then plain (record options { host = true })
     else (if is_either word (codes "-S") (codes "--set-version") then on options (Some Release)
-    else (if bytes_eq word (codes "--root") then on options (Some Root)
-    else (if begins word (codes "--root=") then with_value options Root (drop 7 word)
-    else stopped (refused (unknown_option word)))))
+    else root_option options word)
 
 -- an option with a value, or one that `create` alone has
 abbrev pub later_option : Bool → Options → List ℕ → Next
@@ -148,7 +161,7 @@ stop_of code_stop_is.Version = version
 stop_of (code_stop_is.Refused fault) = refused (fault_of fault)
 
 abbrev pub options_of : code_options.Options → Options
-options_of o = record { wait = o.wait; sync = o.sync; host = o.host; release = text_of o.release; root = text_of o.root }
+options_of o = record { wait = o.wait; sync = o.sync; host = o.host; release = text_of o.release; root = text_of o.root; kmod = text_of o.kmod }
 
 abbrev pub next_of : code_step.Step → Next
 next_of code_step_is.Over = over

@@ -1,7 +1,7 @@
 //! What the words of a program ask for.
 ghost use Rattle.std.specs.Prelude.{◌≡◌, Ok, Err, IfOk, IfErr, find, option_map};
 ghost use Rattle.text_parts.specs.Text.{texts_of};
-ghost use Rattle.table_words.specs.Asked.{adopt_of, alone, asked, asked_in, asked_view, check_of, command_of, first_of, holder_in, if_option, is_again, is_stray, job_of, job_view, names_holder, origin_in};
+ghost use Rattle.table_words.specs.Asked.{adopt_of, alone, asked, asked_in, asked_view, check_of, command_of, first_of, holder_in, if_option, is_again, is_stray, job_of, job_view, machine_in, machine_of, names_holder, origin_in};
 ghost use Rattle.table_words.specs.Options.{front_of, options_of, stop_of, text_of};
 
 use crate::fault::{Fault, Stop};
@@ -10,11 +10,22 @@ use crate::options::{Options, is_option};
 use crate::step::{Read, read_front};
 use text_parts::is_same;
 
+/// A machine whose files a table is made of.
+#[derive(Clone, Copy, Debug)]
+pub struct Machine<'a> {
+    /// The release; without one that of the running kernel.
+    pub release: Option<&'a [u8]>,
+    /// The folder that is taken for `/`.
+    pub root: Option<&'a [u8]>,
+    /// The version of kmod as which its files are read.
+    pub kmod: Option<&'a [u8]>,
+}
+
 /// What a table is made of.
 #[derive(Clone, Copy, Debug)]
 pub enum Origin<'w, 'a> {
-    /// The files of a machine, of the release that is named or of the running kernel, below a root that is named or `/`.
-    Host(Option<&'a [u8]>, Option<&'a [u8]>),
+    /// The files of a machine.
+    Host(Machine<'a>),
     /// Words that name sections and their files.
     Sections(&'w [&'a [u8]]),
 }
@@ -60,18 +71,26 @@ fn alone<'w, 'a>(job: Job<'w, 'a>, words: &[&'a [u8]]) -> Result<Job<'w, 'a>, St
     }
 }
 
+/// The machine that options name.
+fn machine_in<'a>(options: &Options<'a>) -> Machine<'a>
+    ensures { machine_of result ≡ machine_in (options_of options.entry.now) }
+{
+    Machine {
+        release: options.release,
+        root: options.root,
+        kmod: options.kmod,
+    }
+}
+
 /// What is made, by options and the words behind them.
 fn origin_in<'w, 'a>(options: &Options<'a>, words: &'w [&'a [u8]]) -> Result<Job<'w, 'a>, Stop<'a>>
     ensures ok { IfOk result (λ job. origin_in (options_of options.entry.now) (texts_of words.entry.now) ≡ Ok (job_view job)) }
     ensures err { IfErr result (λ stop. origin_in (options_of options.entry.now) (texts_of words.entry.now) ≡ Err (stop_of stop)) }
 {
     if options.host {
-        return alone(
-            Job::Create(Origin::Host(options.release, options.root)),
-            words,
-        );
+        return alone(Job::Create(Origin::Host(machine_in(options))), words);
     }
-    if options.release.is_some() || options.root.is_some() {
+    if options.release.is_some() || options.root.is_some() || options.kmod.is_some() {
         return Err(Stop::Refused(Fault::WantsHost));
     }
     if words.is_empty() {

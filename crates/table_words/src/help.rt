@@ -7,7 +7,7 @@ pub const VERSION: &[u8] = b"gz-table 0.2.0\n";
 pub const HELP: &[u8] = b"A table of modules that many processes share and that outlives them.
 
 usage: gz-table [OPTION ..] FOLDER create WORD ..       makes a table: catalogue=PATH, dep=PATH, alias=PATH, conf=PATH
-       gz-table [OPTION ..] FOLDER create --host [-S VERSION] [--root DIR]
+       gz-table [OPTION ..] FOLDER create --host [-S VERSION] [--root DIR] [--as 30|34]
                                                         makes one of a machine's modules
        gz-table [OPTION ..] FOLDER COMMAND [WORD ..]    answers one command
        gz-table [OPTION ..] FOLDER                      answers the lines of standard input
@@ -29,8 +29,8 @@ Exit status, of several lines that of the first that was refused:
    2  not asked rightly, or there is no table
    3  the disk or a stream failed, or memory ran out
    4  another process holds the table
-  10  no such module (ENOENT)
-  11  held, or needed by another module (EWOULDBLOCK)
+  10  no such module (ENOENT, UNKNOWN)
+  11  held, or needed by another module (EWOULDBLOCK, LOST)
   12  not live, in progress, or permanent (NOTLIVE, NEEDNOTLIVE, EBUSY)
   13  there already (EEXIST)
   15  not held by this holder (NOTHELD)

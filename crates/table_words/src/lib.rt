@@ -10,7 +10,7 @@ mod line;
 mod options;
 mod step;
 
-pub use asked::{Asked, Job, Origin, read_words};
+pub use asked::{Asked, Job, Machine, Origin, read_words};
 pub use ending::Ending;
 pub use fault::{Fault, Stop};
 pub use help::{HELP, VERSION};

@@ -1,6 +1,6 @@
 //! The options before a command.
 ghost use Rattle.std.specs.Prelude.{◌≡◌};
-ghost use Rattle.table_words.specs.Options.{any_option, begins, create_option, is_either, is_option, later_option, next_of, no_options, options_of, refused, stopped, unknown_option, with_value};
+ghost use Rattle.table_words.specs.Options.{any_option, begins, create_option, is_either, is_option, kmod_option, later_option, next_of, no_options, options_of, refused, root_option, stopped, unknown_option, with_value};
 
 use crate::fault::{Fault, Stop};
 use crate::step::Step;
@@ -15,6 +15,8 @@ pub enum Valued {
     Release,
     /// `--root DIR`
     Root,
+    /// `--as VERSION`
+    As,
 }
 
 /// What options say.
@@ -27,6 +29,8 @@ pub(crate) struct Options<'a> {
     pub(crate) host: bool,
     pub(crate) release: Option<&'a [u8]>,
     pub(crate) root: Option<&'a [u8]>,
+    /// The version of kmod that is named.
+    pub(crate) kmod: Option<&'a [u8]>,
 }
 
 fn begins(word: &[u8], front: &[u8]) -> bool
@@ -66,6 +70,7 @@ impl<'a> Options<'a> {
             host: false,
             release: None,
             root: None,
+            kmod: None,
         }
     }
 
@@ -80,6 +85,10 @@ impl<'a> Options<'a> {
             },
             Valued::Root => Options {
                 root: Some(value),
+                ..self
+            },
+            Valued::As => Options {
+                kmod: Some(value),
                 ..self
             },
             Valued::Wait => match number_within(u32::MAX as u64, value) {
@@ -98,10 +107,32 @@ impl<'a> Options<'a> {
             Step::On(Options { host: true, ..self }, None)
         } else if is_either(word, b"-S", b"--set-version") {
             Step::On(self, Some(Valued::Release))
-        } else if is_same(word, b"--root") {
+        } else {
+            self.with_root_option(word)
+        }
+    }
+
+    /// With the option that names a root, or a later one.
+    fn with_root_option(self, word: &'a [u8]) -> Step<'a>
+        ensures { next_of result ≡ root_option (options_of self.entry) word.entry.now }
+    {
+        if is_same(word, b"--root") {
             Step::On(self, Some(Valued::Root))
         } else if begins(word, b"--root=") {
             self.with(Valued::Root, &word[7..])
+        } else {
+            self.with_kmod_option(word)
+        }
+    }
+
+    /// With the option that names a version of kmod.
+    fn with_kmod_option(self, word: &'a [u8]) -> Step<'a>
+        ensures { next_of result ≡ kmod_option (options_of self.entry) word.entry.now }
+    {
+        if is_same(word, b"--as") {
+            Step::On(self, Some(Valued::As))
+        } else if begins(word, b"--as=") {
+            self.with(Valued::As, &word[5..])
         } else {
             unknown(word)
         }
