@@ -7,20 +7,23 @@ use std::test::Fail;
 use std::{fs, process};
 
 /// A new folder of this name.
-fn folder(rt: &HostRuntime, name: &str) -> Result<String, Fail> {
+pub(crate) fn folder(rt: &HostRuntime, name: &str) -> Result<String, Fail> {
     let number = process::id(rt.process());
     let folder = format!(in rt.alloc(); "/tmp/file_journal.{number}.{name}")?;
     fs::create_dir(rt, folder.as_str())?;
     Ok(folder)
 }
 
-fn put<D: Device + Drop>(alloc: Global, device: D, line: &[u8]) -> Result<(), Fail> {
+/// Adds a line to the journal of a device.
+pub(crate) fn put<D: Device + Drop>(alloc: Global, device: D, line: &[u8]) -> Result<(), Fail> {
     match open(alloc, device, Repair::CutAtMost(0)) {
         Ok(Opened::Ready(mut journal, _)) if is_line(line) => Ok(journal.put(alloc, line)?),
-        _ => Err("no journal".into()),
+        Ok(_) => Err("no journal".into()),
+        Err((error, _)) => Err(error.into()),
     }
 }
 
+/// Rewrites the journal of a device as one line, and adds another.
 fn rewrite<D: Device + Drop>(
     alloc: Global,
     device: D,
@@ -33,7 +36,8 @@ fn rewrite<D: Device + Drop>(
             journal.rewrite(alloc, &lines)?;
             Ok(journal.put(alloc, next)?)
         }
-        _ => Err("no journal".into()),
+        Ok(_) => Err("no journal".into()),
+        Err((error, _)) => Err(error.into()),
     }
 }
 
@@ -64,6 +68,22 @@ fn a_journal_is_replaced(rt: HostRuntime) -> Result<(), Fail> {
     let path = format!(in alloc; "{folder}/journal")?;
     let bytes = fs::read(&rt, path.as_str())?;
     assert_eq!(rt; bytes.as_slice(), b"+held\n+next\n ".as_slice());
+    Ok(fs::remove_dir_all(&rt, folder.as_str())?)
+}
+
+#[test]
+fn a_torn_end_is_cut_off(rt: HostRuntime) -> Result<(), Fail> {
+    let alloc = rt.alloc();
+    let folder = folder(&rt, "torn")?;
+    let path = format!(in alloc; "{folder}/journal")?;
+    fs::write(&rt, path.as_str(), "+get web17 overlay\n rel")?;
+    let device = FileDevice::open(&rt, alloc, &folder, "journal", Syncs::Kept)?;
+    put(alloc, device, b"next")?;
+    let bytes = fs::read(&rt, path.as_str())?;
+    assert_eq!(rt;
+        bytes.as_slice(),
+        b"+get web17 overlay\n+next\n ".as_slice()
+    );
     Ok(fs::remove_dir_all(&rt, folder.as_str())?)
 }
 

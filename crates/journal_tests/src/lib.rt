@@ -8,4 +8,6 @@ mod damage;
 #[cfg(test)]
 mod files;
 #[cfg(test)]
+mod following;
+#[cfg(test)]
 mod lines;

@@ -2,7 +2,9 @@ ghost use Rattle.std.specs.Prelude.{IfOk, OnOk};
 ghost use Rattle.line_journal.specs.Journal.{IsReady};
 ghost use Rattle.line_journal.specs.KillOnly.{held_by, history_of};
 
-use line_journal::{Journal, KillOnly, Opened, Repair, are_lines, is_line, look, open, peek_from};
+use line_journal::{
+    Device, Journal, KillOnly, Opened, Repair, are_lines, is_line, look, open, peek, peek_from,
+};
 use std::alloc::Global;
 use std::test::Fail;
 
@@ -12,13 +14,19 @@ fn journal(alloc: Global, bytes: &[u8]) -> Result<Journal<KillOnly>, Fail>
     let file = KillOnly::new(alloc, bytes.to_vec(alloc)?);
     match open(alloc, file, Repair::Cut) {
         Ok(Opened::Ready(journal, _)) => Ok(journal),
-        _ => Err("no journal".into()),
+        Ok(Opened::Damaged(_, _)) => Err("no journal".into()),
+        Err((error, _)) => Err(error.into()),
     }
 }
 
-fn put(journal: &mut Journal<KillOnly>, alloc: Global, line: &[u8]) -> Result<(), Fail>
-    requires { IsReady held_by history_of journal.old }
-    ensures { OnOk result (IsReady held_by history_of journal.new) }
+/// Adds a line.
+pub(crate) fn put<D: Device>(
+    journal: &mut Journal<D>,
+    alloc: Global,
+    line: &[u8],
+) -> Result<(), Fail>
+    requires { IsReady D.content D.history journal.old }
+    ensures { OnOk result (IsReady D.content D.history journal.new) }
 {
     if !is_line(line) {
         return Err("no line".into());
@@ -65,6 +73,7 @@ fn a_journal_goes_on_from_what_was_found(rt: HostRuntime) -> Result<(), Fail> {
     let found = look(alloc, &mut file)?;
     assert_eq!(rt; found.lines.len(), 2);
     assert!(rt; found.is_at_rest());
+    assert_eq!(rt; peek(alloc, &mut file)?.lines.len(), 2);
     let again = peek_from(alloc, &mut file, 0)?;
     assert_eq!(rt; again.lines.len(), 2);
     assert_eq!(rt; again.end, 14);
