@@ -11,17 +11,17 @@ use Rattle.dep_index.specs.History.{Answer}
 use Rattle.root_row.specs.declared.view.SeatAnswer.{SeatAnswer}
 use Rattle.root_row.specs.declared.view.View.{View}
 use Rattle.root_row.specs.Seats.{RowIs}
-use Rattle.root_row.specs.Views.{seen_of}
-use Rattle.root_row.specs.History.{answer_of, answers_in, seat_answer, StartsWith}
+use Rattle.root_row.specs.Views.{name_of, part_of, seen_of}
+use Rattle.root_row.specs.History.{answer_of, answers_in, own_answers, seat_answer, StartsWith}
 use Rattle.managed_table.specs.Callers.{CallerIs}
 use Rattle.managed_table.specs.Turns.{turn}
 use Rattle.managed_table.proofs.Keeping.{starts_trans}
 use Rattle.theorems.specs.Managed.{seat_for, lock_of, elsewhere, turns_of, WasMadeOnce}
-use Rattle.theorems.specs.Told.{MadeNone, MadeAndTold, HeardAndMade, WereMadeInOrder, FindsItGone, MetAt}
+use Rattle.theorems.specs.Told.{MadeNone, AskedNothing, MadeAndTold, HeardAndMade, WereMadeInOrder, FindsItGone, MetAt}
 
 module _ (row : RowIs) (call : Call) (old new : CallerIs) (reader reader' : View) (met : MetAt row call old new reader reader') (other : elsewhere (seat_for call) new ≡ elsewhere (seat_for call) old) where
   made_none : MadeNone call old new
-  made_none = record { turn = turn (lock_of (seat_for call)) met.before met.after met.steps; turned = ap (λ p. p.turns) met.turned; childless = ap (λ p. p.further) met.turned; elsewhere = other; none = met.own }
+  made_none = record { turn = turn (lock_of (seat_for call)) met.before met.after met.steps; turned = ap (λ p. p.turns) met.turned; there = refl; childless = ap (λ p. p.further) met.turned; elsewhere = other; none = met.own }
 
   -- the call before the meeting is told
   pub made_and_told : (reply : Reply) (first : CallerIs) → WasMadeOnce row call reply first old → MadeAndTold row call reply first new reader reader'
@@ -47,6 +47,15 @@ module _ (row : RowIs) (call : Call) (old new : CallerIs) (reader reader' : View
         made = made;
         heard = starts_trans made.before met.after (seen_of reader) (made.follows place t there refl) met.tells;
       }
+
+-- a reader that met a seat has asked nothing
+pub met_asks_nothing : (row : RowIs) (call : Call) (old new : CallerIs) (reader reader' : View) → MetAt row call old new reader reader' → AskedNothing reader reader'
+met_asks_nothing row call old new reader reader' met =
+    (met.same_reader, ap (own_answers (name_of (part_of reader))) met.told ∙ met.reader_own)
+
+pub asks_nothing_twice : (first second third : View) → AskedNothing first second → AskedNothing second third → AskedNothing first third
+asks_nothing_twice first second third one other =
+    (other.0 ∙ one.0, subst (λ p. own_answers (name_of p) (seen_of third) ≡ own_answers (name_of p) (seen_of second)) one.0 other.1 ∙ one.1)
 
 pub in_order : (row : RowIs) (first : Call) (reply : Reply) (old new : CallerIs) (second : Call) (reply' : Reply) (old' new' : CallerIs) (reader reader' : View)
     → MadeAndTold row first reply old new reader reader' → HeardAndMade row second reply' old' new' reader' → WereMadeInOrder row first reply old new second reply' old' new'

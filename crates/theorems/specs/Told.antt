@@ -8,7 +8,7 @@ use Rattle.root_row.specs.declared.view.SeatAnswer.{SeatAnswer}
 use Rattle.root_row.specs.declared.view.View.{View}
 use Rattle.root_row.specs.Seats.{RowIs}
 use Rattle.root_row.specs.History.{seat_answer, answers_in, own_answers, StartsWith}
-use Rattle.root_row.specs.Views.{seen_of}
+use Rattle.root_row.specs.Views.{name_of, part_of, seen_of}
 use Rattle.managed_table.specs.Callers.{CallerIs}
 use Rattle.managed_table.specs.Hearing.{Met}
 use Rattle.managed_table.specs.declared.view.Turn.{Turn}
@@ -19,9 +19,15 @@ use Rattle.theorems.specs.Managed.{seat_for, lock_of, here, elsewhere, turns_of,
 pub record MadeNone (call : Call) (old new : CallerIs) : Type 0 where
   pub turn : Turn
   pub turned : turns_of call new ≡ turns_of call old ++ turn ∷ []
+  pub there : turn.lock ≡ lock_of (seat_for call)
   pub childless : (here (seat_for call) new).pass.further ≡ (here (seat_for call) old).pass.further
   pub elsewhere : elsewhere (seat_for call) new ≡ elsewhere (seat_for call) old
   pub none : own_answers (seat_for call) turn.after ≡ own_answers (seat_for call) turn.before
+
+-- it is the same reader, and it has asked nothing more
+abbrev pub AskedNothing : View → View → Type 0
+AskedNothing old new =
+    (part_of new ≡ part_of old) × (own_answers (name_of (part_of old)) (seen_of new) ≡ own_answers (name_of (part_of old)) (seen_of old))
 
 -- The call was made once. Then a reader was told: what it has seen begins with what it had seen, and with the history of the call
 pub record MadeAndTold (row : RowIs) (call : Call) (reply : Reply) (old new : CallerIs) (reader reader' : View) : Type 0 where

@@ -8,7 +8,7 @@ ghost use Rattle.root_row.specs.World.{slots};
 ghost use Rattle.root_row.specs.Seats.{IsOf};
 ghost use Rattle.managed_table.specs.Callers.{IsCallerOf};
 ghost use Rattle.theorems.specs.Managed.{WasMadeOnce, CanBeMade, LeftUnused};
-ghost use Rattle.theorems.specs.Told.{WereMadeInOrder, FindsItGone};
+ghost use Rattle.theorems.specs.Told.{WereMadeInOrder, FindsItGone, AskedNothing};
 
 use crate::told::calls_told_are_in_order;
 use dep_index::laws::legal_is_safe;
@@ -37,8 +37,8 @@ pub fn managed_drains_end_unused<R: Wait>(
 }
 
 /// A get that was told of the end of a drain, which was answered Ok, finds the module gone: it is answered NotLive, unless a load
-/// of the module ended well between the two. Whatever they are answered, both were made, in this order. The worker and the slot are in
-/// range.
+/// of the module ended well between the two. Whatever they are answered, both were made, in this order, and the reader has asked
+/// nothing. The worker and the slot are in range.
 pub fn gets_told_of_a_drain_find_it_gone<R: Wait>(
     rt: &R,
     table: &ManagedTable,
@@ -55,6 +55,7 @@ pub fn gets_told_of_a_drain_find_it_gone<R: Wait>(
     ensures remover_own { IsCallerOf table.now remover.new }
     ensures user_own { IsCallerOf table.now user.new }
     ensures reader_own { IsOf table.now.row result.2 }
+    ensures quiet { AskedNothing reader.view result.2.view }
     ensures in_order { WereMadeInOrder table.now.row (Call.EndRemove slot) result.0 remover.old remover.new (Call.Get worker slot) result.1 user.old user.new }
     ensures gone { FindsItGone table.now.row (Call.EndRemove slot) slot worker result.0 result.1 remover.old remover.new user.old user.new }
 {

@@ -6,7 +6,7 @@ ghost use Rattle.std.specs.Prelude.{◌≡◌};
 ghost use Rattle.root_row.specs.Seats.{IsOf};
 ghost use Rattle.managed_table.specs.Callers.{IsCallerOf};
 ghost use Rattle.theorems.specs.Managed.{WasMadeOnce, CanBeMade, seat_for, elsewhere};
-ghost use Rattle.theorems.specs.Told.{MadeAndTold, HeardAndMade, WereMadeInOrder, FindsItGone, MetAt};
+ghost use Rattle.theorems.specs.Told.{MadeAndTold, HeardAndMade, WereMadeInOrder, FindsItGone, MetAt, AskedNothing};
 
 use crate::managed::managed_calls_are_made_once;
 use dep_index::{Call, Reply};
@@ -15,7 +15,7 @@ use std::sync::Wait;
 use use_indicator::Reader;
 
 /// A managed call was made exactly once. Then, in one turn more, its caller told a reader: what the reader has seen begins with
-/// the history of the call.
+/// the history of the call. The reader has asked nothing.
 pub fn managed_calls_are_told<R: Wait>(
     rt: &R,
     table: &ManagedTable,
@@ -29,13 +29,15 @@ pub fn managed_calls_are_told<R: Wait>(
     ensures own { IsCallerOf table.now caller.new }
     ensures reader_own { IsOf table.now.row result.1 }
     ensures told { MadeAndTold table.now.row call result.0 caller.old caller.new reader.view result.1.view }
+    ensures quiet { AskedNothing reader.view result.1.view }
 {
     let reply = made(rt, table, caller, call);
     let told = meet_at(rt, table, caller, call, reader);
     (reply, told)
 }
 
-/// A managed call whose caller was told by a reader was made exactly once, after all that the reader had seen.
+/// A managed call whose caller was told by a reader was made exactly once, after all that the reader had seen. The reader has asked
+/// nothing.
 pub fn managed_calls_follow_what_was_told<R: Wait>(
     rt: &R,
     table: &ManagedTable,
@@ -49,6 +51,7 @@ pub fn managed_calls_follow_what_was_told<R: Wait>(
     ensures own { IsCallerOf table.now caller.new }
     ensures reader_own { IsOf table.now.row result.1 }
     ensures heard { HeardAndMade table.now.row call result.0 caller.old caller.new reader.view }
+    ensures quiet { AskedNothing reader.view result.1.view }
 {
     let heard = meet_at(rt, table, caller, call, reader);
     let answer = made(rt, table, caller, call);
@@ -56,7 +59,8 @@ pub fn managed_calls_follow_what_was_told<R: Wait>(
 }
 
 /// Order in real time, across locks. A call was made and its caller told a reader. The reader was handed to another caller, which
-/// heard of it at its own lock and then made a call. Then the history of the second call begins with that of the first.
+/// heard of it at its own lock and then made a call. Then the history of the second call begins with that of the first. The reader
+/// has asked nothing.
 pub fn calls_told_are_in_order<R: Wait>(
     rt: &R,
     table: &ManagedTable,
@@ -74,6 +78,7 @@ pub fn calls_told_are_in_order<R: Wait>(
     ensures first_own { IsCallerOf table.now first.new }
     ensures second_own { IsCallerOf table.now second.new }
     ensures reader_own { IsOf table.now.row result.2 }
+    ensures quiet { AskedNothing reader.view result.2.view }
     ensures in_order { WereMadeInOrder table.now.row call result.0 first.old first.new later result.1 second.old second.new }
 {
     let (reply, told) = managed_calls_are_told(rt, table, first, call, reader);
@@ -82,7 +87,7 @@ pub fn calls_told_are_in_order<R: Wait>(
 }
 
 /// A get that was told of a removal which was answered Ok finds the module gone: it is answered NotLive, unless a load of the
-/// module ended well between the two. Whatever they are answered, both were made, in this order.
+/// module ended well between the two. Whatever they are answered, both were made, in this order, and the reader has asked nothing.
 pub fn gets_told_of_a_removal_find_it_gone<R: Wait>(
     rt: &R,
     table: &ManagedTable,
@@ -99,6 +104,7 @@ pub fn gets_told_of_a_removal_find_it_gone<R: Wait>(
     ensures remover_own { IsCallerOf table.now remover.new }
     ensures user_own { IsCallerOf table.now user.new }
     ensures reader_own { IsOf table.now.row result.2 }
+    ensures quiet { AskedNothing reader.view result.2.view }
     ensures in_order { WereMadeInOrder table.now.row (Call.BeginRemove slot) result.0 remover.old remover.new (Call.Get worker slot) result.1 user.old user.new }
     ensures gone { FindsItGone table.now.row (Call.BeginRemove slot) slot worker result.0 result.1 remover.old remover.new user.old user.new }
 {
