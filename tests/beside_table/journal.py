@@ -4,6 +4,7 @@ import os
 import threading
 import time
 import zlib
+from contextlib import contextmanager
 
 from beside_table.model import Table
 
@@ -57,6 +58,7 @@ class Kept:
 
     def __init__(self, journal, room):
         self.journal, self.room, self.links, self.ended = journal, room, [], threading.Event()
+        self.looking, self.compacting = threading.Lock(), threading.Lock()
         self.thread = threading.Thread(target=self.watch)
 
     def watch(self):
@@ -65,10 +67,18 @@ class Kept:
             time.sleep(0.001)
 
     def look(self):
-        if not self.links or os.stat(self.journal).st_ino != os.stat(self.links[-1]).st_ino:
-            link = self.room / f"journal{len(self.links)}"
-            os.link(self.journal, link)
-            self.links.append(link)
+        with self.looking:
+            if not self.links or os.stat(self.journal).st_ino != os.stat(self.links[-1]).st_ino:
+                link = self.room / f"journal{len(self.links)}"
+                os.link(self.journal, link)
+                self.links.append(link)
+
+    @contextmanager
+    def one_at_a_time(self):
+        """Within it nobody else writes the journal anew, so that none is missed, however slowly it is watched."""
+        with self.compacting:
+            yield
+            self.look()
 
     def __enter__(self):
         self.look()
