@@ -10,7 +10,7 @@ use std::alloc::AllocError;
 use std::io::{self, ErrorKind, Write};
 
 /// Why a file was not read, in C's words if it has them.
-pub(crate) fn reason(error: &io::Error) -> &'static [u8] {
+pub fn reason(error: &io::Error) -> &'static [u8] {
     match error.kind() {
         ErrorKind::NotFound => b"No such file or directory",
         ErrorKind::PermissionDenied => b"Permission denied",

@@ -54,14 +54,15 @@ impl<S: System> Host<'_, S> {
         self.system.read(&place)
     }
 
-    fn kind_at(&self, path: &[u8]) -> io::Result<Kind> {
+    /// What a path leads to, through links, or why it leads to nothing.
+    pub fn look(&self, path: &[u8]) -> io::Result<Kind> {
         let place = self.place(path)?;
         self.system.kind(&place)
     }
 
     /// What a path leads to, through links.
     pub fn kind(&self, path: &[u8]) -> Result<Kind, AllocError> {
-        match self.kind_at(path) {
+        match self.look(path) {
             Ok(kind) => Ok(kind),
             Err(error) if error.kind() == ErrorKind::OutOfMemory => Err(AllocError),
             Err(_) => Ok(Kind::Nothing),

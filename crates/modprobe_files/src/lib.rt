@@ -16,11 +16,11 @@ mod walk;
 mod whole_files;
 
 pub use disk::Disk;
-pub use faults::{is_rootless, tell_folder, tell_unread};
+pub use faults::{is_rootless, reason, tell_folder, tell_unread};
 pub use files::{File, Source, counted_files};
 pub use host::{Host, joined};
 pub use laws::hidden_files_do_not_count;
-pub use machine::{directory, read_configuration, read_later, read_modules};
+pub use machine::{absolute_path, directory, read_configuration, read_later, read_modules};
 pub use system::{Entry, Kind, Place, System};
 pub use texts::{ConfTexts, HiddenFile, LaterTexts, ModuleTexts, TextFile};
 pub use walk::{Resolved, resolve};

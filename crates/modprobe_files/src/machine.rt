@@ -62,9 +62,9 @@ fn own_release<S: System, E: Write>(
     Ok(None)
 }
 
-/// The folder that holds lib/modules, as it is printed. A path that does not begin at the root stands below the current
-/// folder, which below another root is `/`.
-fn parent<S: System>(host: &Host<'_, S>, path: &[u8]) -> Result<Vec<u8>, AllocError> {
+/// A path as it is printed. One that does not begin at the root stands below the current folder, which below another root is
+/// `/`. The empty path stays empty.
+pub fn absolute_path<S: System>(host: &Host<'_, S>, path: &[u8]) -> Result<Vec<u8>, AllocError> {
     let alloc = host.alloc();
     if path.is_empty() || path.starts_with(b"/") {
         return Vec::from_slice(alloc, path);
@@ -83,7 +83,7 @@ pub fn directory<S: System, E: Write>(
     messages: &mut Messages<'_, E>,
 ) -> Result<Option<Vec<u8>>, AllocError> {
     let alloc = host.alloc();
-    let parent = parent(host, asked.directory.unwrap_or(b""))?;
+    let parent = absolute_path(host, asked.directory.unwrap_or(b""))?;
     let folder = joined(alloc, &parent, b"/lib/modules", b"")?;
     if let Some(release) = asked.release {
         return Ok(Some(joined(alloc, &folder, b"/", release)?));
