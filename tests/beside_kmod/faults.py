@@ -1,4 +1,4 @@
-"""The faults of kmod that gz-modprobe does not copy, the one rule that it does not follow, and how they are recognised."""
+"""The faults of kmod that gz-modprobe does not copy, and how they are recognised."""
 
 import re
 
@@ -9,7 +9,7 @@ WAIT = "a removal with --wait passes over what is in use"
 OVERWRITTEN = "MODPROBE_OPTIONS with several words in quotes is overwritten"
 CUT = "a name of an install or remove line is cut as that of a file"
 # (since kmod 31)
-PATH = "a name that begins with ./ is the path of a file, and here a name"
+OTHER_PATH = "what needs the module of a path that was given forgets all that it needs"
 BLANKS = b" \t\n\v\f\r"
 
 
@@ -131,9 +131,15 @@ def without_variable(words, environment):
     return [*before, *words] if len(before) > text.count(b" ") + 2 else None
 
 
-def has_path(words, version):
-    """Whether some word may be a name that this kmod takes for a path."""
-    return version > 30 and any(it.startswith(b"./") for it in words)
+def has_other_path(theirs):
+    """Whether kmod met a module of whose file another path was given."""
+    return b"already exists with different path" in theirs.errors
+
+
+def told(words):
+    """The words with enough -v at their end for each message to be shown."""
+    at = words.index(b"--") if b"--" in words else len(words)
+    return [*words[:at], b"-vvvvvvvv", *words[at:]]
 
 
 def without_waiting(words):

@@ -99,9 +99,9 @@ class Judge:
         self.show(theirs, ours, words, environment)
         return False
 
-    def ours(self, words, environment=()):
+    def ours(self, words, environment=(), folder=b"/"):
         """How gz-modprobe answers as this version of kmod."""
-        return self.stage.ask("ours", [b"--as=%d" % self.version, *words], environment)
+        return self.stage.ask("ours", [b"--as=%d" % self.version, *words], environment, folder)
 
     def alike(self, words):
         """Whether both say the same; nothing is counted."""
@@ -115,8 +115,8 @@ class Judge:
         """The named difference between the answers, or None."""
         if theirs.status < 0 and ours.status >= 0:
             return faults.ENDLESS
-        if faults.has_path(words, self.version):
-            return faults.PATH
+        if faults.has_other_path(self.stage.ask("modprobe", faults.told(words), environment)):
+            return faults.OTHER_PATH
         if plain := faults.without_variable(words, environment):
             words, environment = plain, {}
             if self.agree(self.stage.ask("modprobe", words), ours):

@@ -79,6 +79,7 @@ class Maker:
         self.write_builtins()
         self.write_configuration()
         self.write_machine()
+        self.write_paths()
         world.words += [b"nothing", b"", b"a/b", b"./a.ko", b"a]", b"a[", b"[a-c]", b"symbol:", b"symbol:no"]
         return world
 
@@ -99,6 +100,18 @@ class Maker:
             path = world.folder + b"/" + dice.choice(FOLDERS) + b"/" + file
             world.files[path] = lzma.compress(content) if file.endswith(b".xz") else content
             world.words += [spelled(dice, name)] * 3 + [b"symbol:" + exports[0]]
+
+    def write_paths(self):
+        """Files of modules elsewhere. Their paths, those of the folder's own files, and odd ones are words of queries."""
+        dice, world = self.dice, self.world
+        own = [path for path in world.files if path.startswith(world.folder) and b".ko" in path]
+        for name in self.some(self.known, 3):
+            file = b"/home/" + spelled(dice, name) + dice.choice((b".ko", b".ko.xz", b"", b".x.ko"))
+            world.files[file] = b""
+            own.append(file)
+        odd = [b"/own", b"/own.d/", b"./", b"/", b"/home/no.ko", b"/own/one.conf/x", b"./.", b"home/a.ko", b"../a.ko"]
+        words = self.some(own, 3) + self.some(odd, 1)
+        world.words += [b"." + it if it.startswith(b"/") and self.chance(0.4) else it for it in words]
 
     def signs(self, most):
         """Aliases of a module, and texts that they match become words of queries."""

@@ -8,28 +8,25 @@ use Rattle.kmod_index.specs.Dependencies.{dependencies_of}
 use Rattle.kmod_index.specs.Index.{Texts, indexes_of}
 use Rattle.kmod_index.specs.Indexes.{Indexes}
 use Rattle.kmod_query.specs.declared.query.Query.{Query}
-use Rattle.kmod_query.specs.declared.states.ModuleStatus.{ModuleStatus}
 use Rattle.kmod_query.specs.declared.world.World.{World}
 use Rattle.kmod_query.specs.AnswerOf.{answer_of}
 use Rattle.kmod_query.specs.Answers.{Answer}
 use Rattle.kmod_query.specs.Early.{is_early}
+use Rattle.kmod_query.specs.Paths.{own_of}
 use Rattle.kmod_query.specs.World.{facts_of}
 use Rattle.kmod_query.proofs.EarlyLemmas.{later-ignored, same-answer, same-facts}
 use Rattle.kmod_query.proofs.SymbolLemmas.{symbols-ignored}
 use Rattle.gz_modprobe_drive.specs.declared.texts.Machine.{Machine}
-use Rattle.gz_modprobe_drive.specs.Answered.{IsAnswerOf, IsEarly, IsEnough, IsEnoughBy, Known, known_of, said_by, texts_of_folder}
+use Rattle.gz_modprobe_drive.specs.Answered.{IsAnswerOf, IsEarly, IsEnough, IsEnoughBy, Known, known_by, known_of, said_by, texts_of_folder}
 use Rattle.gz_modprobe_drive.specs.Texts.{AreRead, Large, conf_of, large_texts, or_empty, texts_with}
-
--- what is known, by its parts
-abbrev pub known_by : Configuration → Indexes → List (List ℕ × ModuleStatus) → List ℕ → Known
-known_by conf index states directory = record { conf = conf; index = index; states = states; directory = directory }
 
 -- worlds that have the same are answered the same
 early_too : (known : Known) (query : Query) (own : World) → known_of own ≡ known → IsEarly known query → is_early (facts_of own) query (texts_of query.words.now) ≡ true
 early_too known query own has early =
     let both : known_of own ≡ known_of early.world = has ∙ sym early.has in
     ap (λ facts. is_early facts query (texts_of query.words.now))
-    (same-facts own early.world (ap (λ (k : Known). k.conf) both) (ap (λ (k : Known). k.index) both) (ap (λ (k : Known). k.states) both) (ap (λ (k : Known). k.directory) both))
+    (same-facts own early.world (ap (λ (k : Known). k.conf) both) (ap (λ (k : Known). k.index) both) (ap (λ (k : Known). k.states) both) (ap (λ (k : Known). k.directory) both)
+    (ap (λ (k : Known). k.paths) both) (ap (λ (k : Known). k.own) both))
     ∙ early.is
 
 -- the parts of what worlds have that do not depend on large texts
@@ -37,6 +34,8 @@ record SameBut (own world : World) : Type 0 where
   conf : own.conf.now ≡ world.conf.now
   states : own.states.now ≡ world.states.now
   directory : own.directory.now ≡ world.directory.now
+  paths : own.paths.now ≡ world.paths.now
+  file : own_of own.own ≡ own_of world.own
   dependencies : own.index.now.dependencies ≡ world.index.now.dependencies
   builtin_names : own.index.now.builtin_names ≡ world.index.now.builtin_names
   builtin_aliases : own.index.now.builtin_aliases ≡ world.index.now.builtin_aliases
@@ -48,6 +47,8 @@ same_but machine own world large whole has knows read = record {
   conf = ap (λ (k : Known). k.conf) has ∙ sym (ap (λ (k : Known). k.conf) knows);
   states = ap (λ (k : Known). k.states) has ∙ sym (ap (λ (k : Known). k.states) knows);
   directory = ap (λ (k : Known). k.directory) has ∙ sym (ap (λ (k : Known). k.directory) knows);
+  paths = ap (λ (k : Known). k.paths) has ∙ sym (ap (λ (k : Known). k.paths) knows);
+  file = ap (λ (k : Known). k.own) has ∙ sym (ap (λ (k : Known). k.own) knows);
   dependencies = ap (λ (k : Known). k.index.dependencies) has ∙ sym (ap dependencies_of read.dep) ∙ sym (ap (λ (k : Known). k.index.dependencies) knows);
   builtin_names = ap (λ (k : Known). k.index.builtin_names) has ∙ sym (ap builtin_names read.builtin) ∙ sym (ap (λ (k : Known). k.index.builtin_names) knows);
   builtin_aliases = ap (λ (k : Known). k.index.builtin_aliases) has ∙ sym (ap builtin_aliases read.builtin_modinfo) ∙ sym (ap (λ (k : Known). k.index.builtin_aliases) knows);
@@ -76,16 +77,16 @@ whole_same : (machine : Machine) (query : Query) (own world : World) (whole : Te
 whole_same machine query own world whole None symbols all has knows read enough =
     let same = same_but machine own world (record { alias = None; symbols = symbols }) whole has knows read in
     later-ignored own world query (early_too (said_by machine (texts_of_folder machine)) query own all enough)
-    same.conf same.states same.directory same.dependencies same.builtin_names same.builtin_aliases
+    same.conf same.states same.directory same.paths same.file same.dependencies same.builtin_names same.builtin_aliases
 whole_same machine query own world whole (Some alias) None all has knows read enough =
     let same = same_but machine own world (record { alias = Some alias; symbols = None }) whole has knows read in
     symbols-ignored own world query enough
-    same.conf same.states same.directory same.dependencies (same_aliases machine own world (record { alias = Some alias; symbols = None }) whole has knows read.alias)
+    same.conf same.states same.directory same.paths same.file same.dependencies (same_aliases machine own world (record { alias = Some alias; symbols = None }) whole has knows read.alias)
     same.builtin_names same.builtin_aliases
 whole_same machine query own world whole (Some alias) (Some symbols) all has knows read enough =
     let same = same_but machine own world (record { alias = Some alias; symbols = Some symbols }) whole has knows read in
     same-answer own world query same.conf (same_index machine own world (record { alias = Some alias; symbols = Some symbols }) whole has knows read read.alias read.symbols)
-    same.states same.directory
+    same.states same.directory same.paths same.file
 
 -- the same world with another index
 abbrev with_index : World → Indexes → World
@@ -106,6 +107,6 @@ answer_whole machine query answer own has is enough = record {
 }
 
 pub known_same : (machine : Machine) (conf : Configuration) (index : Indexes) → conf ≡ conf_of machine.conf.now → index ≡ indexes_of (texts_of_folder machine)
-    → known_by conf index machine.states.now machine.directory.now ≡ said_by machine (texts_of_folder machine)
+    → known_by conf index machine.states.now machine.directory.now machine.paths.now ≡ said_by machine (texts_of_folder machine)
 unfolding said_by
-known_same machine conf index is has = ap (λ c. known_by c index machine.states.now machine.directory.now) is ∙ ap (λ i. known_by (conf_of machine.conf.now) i machine.states.now machine.directory.now) has
+known_same machine conf index is has = ap (λ c. known_by c index machine.states.now machine.directory.now machine.paths.now) is ∙ ap (λ i. known_by (conf_of machine.conf.now) i machine.states.now machine.directory.now machine.paths.now) has

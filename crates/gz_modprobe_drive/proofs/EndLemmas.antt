@@ -8,8 +8,9 @@ use Rattle.modprobe_words.specs.declared.written.Written.TheVariants.{Whole, Clo
 use Rattle.modprobe_files.specs.declared.texts.ModuleTexts.{ModuleTexts}
 use Rattle.gz_modprobe_drive.specs.declared.texts.Machine.{Machine}
 use Rattle.gz_modprobe_drive.specs.Answered.{IsAnswerOf, is_whole, said_by, status_of, texts_of_folder}
-use Rattle.gz_modprobe_drive.specs.Texts.{AreRead, IsThis, Large, conf_of, large_texts, or_empty, texts_with}
+use Rattle.gz_modprobe_drive.specs.Texts.{AreRead, IsThis, Large, large_texts, or_empty, texts_with}
 use Rattle.gz_modprobe_drive.specs.Ends.{IsReadBy, WasAnswered}
+use Rattle.gz_modprobe_drive.specs.Paths.{paths_of, words_of as path_words}
 use Rattle.kmod_index.specs.Index.{Texts}
 
 one-is-not-zero : ◌≡◌ {A = ℕ} 1 0 → ⊥
@@ -44,15 +45,20 @@ read-by : (machine : Machine) (whole : Texts) → IsReadBy machine.conf.now.kmod
 unfolding said_by
 read-by machine whole = record { texts = machine.conf.now; version = refl; is = refl }
 
+known-paths : (machine : Machine) (whole : Texts) → path_words (said_by machine whole).paths ≡ path_words machine.paths.now
+unfolding said_by
+known-paths machine whole = refl
+
 -- an answer with the status 0 was an answer without a failure, and was written whole
 pub well-answered : (machine : Machine) (query : Query) (answer : Answer) (how : Written) (before after : Option (List ℕ)) (status : ℕ)
-    → IsAnswerOf machine query answer → (how ≡ Whole → Appends before after answer.output)
+    → path_words machine.paths.now ≡ paths_of machine.conf.now.kmod query → IsAnswerOf machine query answer → (how ≡ Whole → Appends before after answer.output)
     → status ≡ status_of answer how → status ≡ 0 → WasAnswered machine.conf.now.kmod query before after
-well-answered machine query answer how before after status is grew told zero =
+well-answered machine query answer how before after status paths is grew told zero =
     let ends = both-well answer.failed (is_whole how) (sym told ∙ zero) in
     record {
       known = said_by machine (texts_of_folder machine);
       read = read-by machine (texts_of_folder machine);
+      paths = known-paths machine (texts_of_folder machine) ∙ paths;
       answer = answer;
       is = is.is (texts_of_folder machine) (own_texts machine.modules.now (large_texts machine.later.now));
       well = ends.0;

@@ -4,29 +4,45 @@ use Rattle.text_parts.specs.Text.{texts_of}
 use Rattle.kmod_conf.specs.Configuration.{Configuration}
 use Rattle.kmod_index.specs.Index.{Texts, indexes_of}
 use Rattle.kmod_index.specs.Indexes.{Indexes}
+use Rattle.kmod_query.specs.declared.paths.PathWord.{PathWord}
 use Rattle.kmod_query.specs.declared.query.Query.{Query}
 use Rattle.kmod_query.specs.declared.states.ModuleStatus.{ModuleStatus}
 use Rattle.kmod_query.specs.declared.world.World.{World}
 use Rattle.kmod_query.specs.AnswerOf.{answer_of}
 use Rattle.kmod_query.specs.Answers.{Answer}
 use Rattle.kmod_query.specs.Early.{is_early, is_symbolless}
+use Rattle.kmod_query.specs.Paths.{own_of}
 use Rattle.kmod_query.specs.World.{facts_of}
 use Rattle.modprobe_words.specs.declared.written.Written.{Written}
 use Rattle.modprobe_words.specs.declared.written.Written.TheVariants as written
 use Rattle.gz_modprobe_drive.specs.declared.texts.Machine.{Machine}
 use Rattle.gz_modprobe_drive.specs.Texts.{AreRead, conf_of, folder_texts, large_texts}
 
--- what is known of a machine
+-- what is known of a machine; no module has a file of its own at first
 pub record Known : Type 0 where
   pub conf : Configuration
   pub index : Indexes
   pub states : List (List ℕ × ModuleStatus)
   pub directory : List ℕ
+  pub paths : List PathWord
+  pub own : Option (List ℕ × List ℕ)
+
+-- what is known, by its parts
+abbrev pub known_by : Configuration → Indexes → List (List ℕ × ModuleStatus) → List ℕ → List PathWord → Known
+known_by conf index states directory paths =
+    record { conf = conf; index = index; states = states; directory = directory; paths = paths; own = None }
 
 -- what a machine's states and texts say, if these are the texts of its folder of modules
 unfoldable pub said_by : Machine → Texts → Known
 said_by machine whole =
-    record { conf = conf_of machine.conf.now; index = indexes_of whole; states = machine.states.now; directory = machine.directory.now }
+    record {
+      conf = conf_of machine.conf.now;
+      index = indexes_of whole;
+      states = machine.states.now;
+      directory = machine.directory.now;
+      paths = machine.paths.now;
+      own = None;
+    }
 
 -- the texts of its folder of modules, as far as they were read
 abbrev pub texts_of_folder : Machine → Texts
@@ -35,7 +51,14 @@ texts_of_folder machine = folder_texts machine.modules.now machine.later.now
 -- what a world has
 abbrev pub known_of : World → Known
 known_of world =
-    record { conf = world.conf.now; index = world.index.now; states = world.states.now; directory = world.directory.now }
+    record {
+      conf = world.conf.now;
+      index = world.index.now;
+      states = world.states.now;
+      directory = world.directory.now;
+      paths = world.paths.now;
+      own = own_of world.own;
+    }
 
 -- an answer is that of kmod_query to a world that has what is known
 pub record IsAnswer (known : Known) (query : Query) (answer : Answer) : Type 0 where

@@ -11,6 +11,7 @@ use Rattle.modprobe_words.specs.Variable.{words_of}
 use Rattle.modprobe_words.specs.Wishes.{wish_of}
 use Rattle.modprobe_words.specs.Words.{items}
 use Rattle.gz_modprobe_drive.specs.Answered.{IsAnswer, Known}
+use Rattle.gz_modprobe_drive.specs.Paths.{paths_of, words_of as path_words}
 use Rattle.gz_modprobe_drive.specs.Queries.{IsQueryOf}
 use Rattle.gz_modprobe_drive.specs.Texts.{conf_of}
 
@@ -25,10 +26,11 @@ pub record IsReadBy (kmod : Kmod) (known : Known) : Type 0 where
   pub is : known.conf ≡ conf_of texts
 
 -- A query was answered well: standard output has grown by the answer to it of a machine, in which no name failed. The
--- machine's configuration is as this version of kmod reads it.
+-- machine's configuration is as this version of kmod reads it, and so are the words that are paths.
 pub record WasAnswered (kmod : Kmod) (query : Query) (before after : Option (List ℕ)) : Type 0 where
   pub known : Known
   pub read : IsReadBy kmod known
+  pub paths : path_words known.paths ≡ paths_of kmod query
   pub answer : Answer
   pub is : IsAnswer known query answer
   pub well : answer.failed ≡ false

@@ -8,7 +8,7 @@ ghost use Rattle.gz_modprobe_drive.specs.Texts.{IsConfOf};
 
 use crate::explained::explain;
 use crate::folder::index_of;
-use crate::texts::Machine;
+use crate::texts::{Machine, world_of};
 use kmod_conf::Conf;
 use kmod_query::{Answer, Query, World, answer_to};
 use modprobe_words::{Messages, Written, write_whole};
@@ -70,11 +70,12 @@ pub(crate) fn answer_machine<O: Write, E: Write>(
     ensures written { IfOk result (λ own. own.written ≡ Whole → Appends (O.contents output.old) (O.contents output.new) own.answer.output) }
 {
     let index = index_of(alloc, machine.modules, machine.later, query.words.len())?;
-    let world = World {
+    let world = world_of(
         conf,
-        index: &index,
-        states: machine.states,
-        directory: machine.directory,
-    };
+        &index,
+        machine.states,
+        machine.directory,
+        machine.paths,
+    );
     answer_world(alloc, machine, &world, query, output, messages)
 }

@@ -2,12 +2,14 @@
 ghost use Rattle.std.specs.Prelude.{◌≡◌, ◌≤◌, None, IfOk};
 ghost use Rattle.gz_modprobe_drive.specs.Answered.{IsEnough, status_of};
 ghost use Rattle.gz_modprobe_drive.specs.Ends.{WasAnswered};
+ghost use Rattle.gz_modprobe_drive.specs.Paths.{paths_of, words_of};
 ghost use Rattle.gz_modprobe_drive.specs.Texts.{IsConfOf};
 
 use crate::answered::{Answered, answer_machine};
 use crate::configuration::conf_of;
 use crate::early::{asks_symbols, is_answered_early};
 use crate::failures::tell_failures;
+use crate::paths::read_paths;
 use crate::queries::asks_states;
 use crate::sys::add_states;
 use crate::texts::Machine;
@@ -69,6 +71,7 @@ fn answer_read<S: System, O: Write, E: Write>(
 ) -> Result<u8, AllocError>
     requires conf { IsConfOf machine.now.conf.now conf.now }
     requires enough { IsEnough machine.now query.now }
+    requires paths { words_of machine.now.paths.now ≡ paths_of machine.now.conf.now.kmod query.now }
     ensures status { IfOk result (λ status. status ≤ 1) }
     ensures well { IfOk result (λ status. status ≡ 0 → WasAnswered machine.now.conf.now.kmod query.now (O.contents output.old) (O.contents output.new)) }
 {
@@ -88,6 +91,7 @@ fn answer_by<S: System, O: Write, E: Write>(
 ) -> Result<u8, AllocError>
     requires conf { IsConfOf machine.now.conf.now conf.now }
     requires unread { machine.now.later.now.alias ≡ None }
+    requires paths { words_of machine.now.paths.now ≡ paths_of machine.now.conf.now.kmod query.now }
     ensures status { IfOk result (λ status. status ≤ 1) }
     ensures well { IfOk result (λ status. status ≡ 0 → WasAnswered machine.now.conf.now.kmod query.now (O.contents output.old) (O.contents output.new)) }
 {
@@ -103,6 +107,7 @@ fn answer_by<S: System, O: Write, E: Write>(
         later: &later,
         states: machine.states,
         directory: machine.directory,
+        paths: machine.paths,
     };
     answer_read(host, &whole, conf, query, output, messages)
 }
@@ -115,7 +120,8 @@ fn answer_configured<S: System, O: Write, E: Write>(
     output: &mut O,
     messages: &mut Messages<'_, E>,
 ) -> Result<u8, AllocError>
-    requires { machine.now.later.now.alias ≡ None }
+    requires unread { machine.now.later.now.alias ≡ None }
+    requires paths { words_of machine.now.paths.now ≡ paths_of machine.now.conf.now.kmod query.now }
     ensures status { IfOk result (λ status. status ≤ 1) }
     ensures well { IfOk result (λ status. status ≡ 0 → WasAnswered machine.now.conf.now.kmod query.now (O.contents output.old) (O.contents output.new)) }
 {
@@ -124,7 +130,7 @@ fn answer_configured<S: System, O: Write, E: Write>(
     answer_by(host, machine, &conf, query, output, messages)
 }
 
-/// Reads the states that a query asks of, and answers it from texts and states. Returns the status.
+/// Reads the states and looks at the paths that a query asks of, and answers it. Returns the status.
 fn answer_from<S: System, O: Write, E: Write>(
     host: &Host<'_, S>,
     conf: &ConfTexts,
@@ -141,6 +147,7 @@ fn answer_from<S: System, O: Write, E: Write>(
     if asks_states(query.ask) {
         add_states(host, &mut states, messages)?;
     }
+    let paths = read_paths(host, conf.kmod, query)?;
     let unread = LaterTexts {
         alias: None,
         symbols: None,
@@ -151,6 +158,7 @@ fn answer_from<S: System, O: Write, E: Write>(
         later: &unread,
         states: &states,
         directory,
+        paths: &paths,
     };
     answer_configured(host, &machine, query, output, messages)
 }

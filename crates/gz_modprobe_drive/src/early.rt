@@ -6,10 +6,10 @@ ghost use Rattle.gz_modprobe_drive.specs.Answered.{IsEarly, said_by, texts_of_fo
 ghost use Rattle.gz_modprobe_drive.specs.Texts.{IsConfOf};
 
 use crate::folder::{FEW_NAMES, folder_texts};
-use crate::texts::Machine;
+use crate::texts::{Machine, world_of};
 use kmod_conf::Conf;
 use kmod_index::Index;
-use kmod_query::{Query, World, is_early, is_symbolless};
+use kmod_query::{Query, is_early, is_symbolless};
 use std::alloc::{AllocError, Global};
 
 /// Whether the answer to a query is seen to be the same whatever stands in modules.alias and modules.symbols. `conf` is what
@@ -30,12 +30,13 @@ pub(crate) fn is_answered_early(
         return Ok(false);
     }
     let index = Index::read(folder_texts(machine.modules, machine.later));
-    let world = World {
+    let world = world_of(
         conf,
-        index: &index,
-        states: machine.states,
-        directory: machine.directory,
-    };
+        &index,
+        machine.states,
+        machine.directory,
+        machine.paths,
+    );
     is_early(alloc, &world, query)
 }
 

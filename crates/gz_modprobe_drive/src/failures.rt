@@ -20,6 +20,11 @@ fn tell_failure<E: Write>(
         Level::Fatal
     };
     let (name, what, more): (&Text, &[u8], &[u8]) = match failure {
+        Failure::NoFile(word, reason) => {
+            let text = b"Failed to get module from path ";
+            messages.tell(level, text, word.as_bytes(), b": ", reason.as_bytes());
+            return;
+        }
         Failure::AlreadyLoaded(name) => {
             let text = b"': Module already in kernel";
             messages.tell(

@@ -8,6 +8,7 @@ mod early;
 mod explained;
 mod failures;
 mod folder;
+mod paths;
 mod program;
 mod queries;
 mod reasons;

@@ -1,6 +1,10 @@
 //! What is read of a machine.
+ghost use Rattle.std.specs.Prelude.{◌≡◌};
+ghost use Rattle.gz_modprobe_drive.specs.Answered.{known_by, known_of};
 
-use kmod_query::States;
+use kmod_conf::Conf;
+use kmod_index::Index;
+use kmod_query::{PathWord, States, World};
 use modprobe_files::{ConfTexts, LaterTexts, ModuleTexts};
 
 /// All that is read for a query.
@@ -12,4 +16,26 @@ pub(crate) struct Machine<'a> {
     pub(crate) states: &'a States,
     /// The folder of modules, as it is printed.
     pub(crate) directory: &'a [u8],
+    /// The words of the query that are paths, and what stands there.
+    pub(crate) paths: &'a [PathWord],
+}
+
+/// What queries are answered from, by its parts. No module has a file of its own.
+pub(crate) fn world_of<'a>(
+    conf: &'a Conf,
+    index: &'a Index<'a>,
+    states: &'a States,
+    directory: &'a [u8],
+    paths: &'a [PathWord],
+) -> World<'a>
+    ensures { known_of result ≡ known_by conf.now index.now states.now directory.now paths.now }
+{
+    World {
+        conf,
+        index,
+        states,
+        directory,
+        paths,
+        own: None,
+    }
 }

@@ -8,8 +8,12 @@ use crate::reasons::named_lines::NamedLines;
 use crate::reasons::sources::Sources;
 use crate::reasons::tasks::{Part, Task, Tasks};
 use crate::reasons::told::{Spot, Told};
-use kmod_query::{Ask, Asked, Object, Query, World, is_barred, is_fatal, is_passed};
+use kmod_names::name_of_path;
+use kmod_query::{
+    Ask, Asked, AtPath, Object, OwnFile, Query, World, is_barred, is_fatal, is_passed,
+};
 use std::alloc::{AllocError, Global};
+use text_parts::is_same;
 
 /// How many words of a query are names.
 fn name_count(query: &Query<'_>) -> usize {
@@ -23,9 +27,14 @@ fn name_count(query: &Query<'_>) -> usize {
 }
 
 impl Told<'_> {
-    /// Begins with a module that is to be loaded.
-    fn begin_load(&mut self, tasks: &mut Tasks, object: &Object) -> Result<(), AllocError> {
-        let (world, query) = (&self.known.asked.world, &self.known.asked.query);
+    /// Begins with a module that is to be loaded in a world.
+    fn begin_load(
+        &mut self,
+        tasks: &mut Tasks,
+        world: &World<'_>,
+        object: &Object,
+    ) -> Result<(), AllocError> {
+        let query = &self.known.asked.query;
         if is_passed(world, query, object) {
             self.tell_in_kernel(&object.name, b", so nothing is loaded");
             return Ok(());
@@ -48,7 +57,8 @@ impl Told<'_> {
     fn begin(&mut self, tasks: &mut Tasks, object: &Object) -> Result<bool, AllocError> {
         match self.known.asked.query.ask {
             Ask::ShowDepends | Ask::DryRun => {
-                self.begin_load(tasks, object)?;
+                let asked = self.known.asked;
+                self.begin_load(tasks, &asked.world, object)?;
                 Ok(false)
             }
             Ask::Remove | Ask::ShowRemoval => self.begin_removal(tasks, object, false),
@@ -87,6 +97,51 @@ impl Told<'_> {
         self.begin_each(tasks, objects)
     }
 
+    /// Tells the file of a path, and begins with its module.
+    fn begin_file(
+        &mut self,
+        tasks: &mut Tasks,
+        word: &[u8],
+        file: &[u8],
+    ) -> Result<(), AllocError> {
+        let name = name_of_path(self.alloc, word)?;
+        let name = name.as_bytes();
+        self.say(word, &[b"the file of ", name], Spot::Whole(file));
+        if matches!(self.known.asked.query.ask, Ask::Resolve) {
+            return Ok(());
+        }
+        tasks.add_file(self.alloc, name)?;
+        let world = self.known.asked.world.with_own(OwnFile { name, file });
+        let object = Object::by_name(self.alloc, name)?;
+        self.begin_load(tasks, &world, &object)
+    }
+
+    /// Tells what stands at a path, and begins with its module.
+    fn begin_path(
+        &mut self,
+        tasks: &mut Tasks,
+        word: &[u8],
+        at: &AtPath,
+    ) -> Result<(), AllocError> {
+        match at {
+            AtPath::File(file) => self.begin_file(tasks, word, file.as_bytes()),
+            AtPath::Nothing(reason) => {
+                self.say(word, &[b"a path: ", reason.as_bytes()], Spot::Nowhere);
+                Ok(())
+            }
+        }
+    }
+
+    /// Begins with a word of the command line: a path or a name. A removal has no paths.
+    fn tell_asked(&mut self, tasks: &mut Tasks, word: &[u8]) -> Result<(), AllocError> {
+        let asked = self.known.asked;
+        let paths = asked.world.paths;
+        match paths.iter().find(|own| is_same(own.word.as_bytes(), word)) {
+            Some(own) if !self.known.is_removal() => self.begin_path(tasks, word, &own.at),
+            _ => self.tell_name(tasks, word),
+        }
+    }
+
     /// Begins with a name. A removal is told to its end, which the refusal of a name may be.
     fn tell_name(&mut self, tasks: &mut Tasks, word: &[u8]) -> Result<(), AllocError> {
         let refused = self.begin_word(tasks, word)?;
@@ -106,7 +161,7 @@ impl Told<'_> {
             if tasks.has_ended() {
                 return Ok(());
             }
-            self.tell_name(tasks, word)?;
+            self.tell_asked(tasks, word)?;
         }
         self.tell_tasks(tasks)
     }

@@ -39,6 +39,8 @@ pub(crate) struct Tasks {
     merges: bool,
     /// The words of softdep lines that were told, each with whether it stands for a module.
     words: IndexMap<Vec<u8>, bool>,
+    /// The modules whose files were named by paths.
+    files: IndexSet<Vec<u8>>,
 }
 
 impl Tasks {
@@ -50,6 +52,7 @@ impl Tasks {
             ended: false,
             merges,
             words: IndexMap::new(alloc),
+            files: IndexSet::new(alloc),
         }
     }
 
@@ -120,6 +123,17 @@ impl Tasks {
     ) -> Result<(), AllocError> {
         self.words.insert(Vec::from_slice(alloc, word)?, found)?;
         Ok(())
+    }
+
+    /// Notes that the file of a module was named by its path.
+    pub(crate) fn add_file(&mut self, alloc: Global, name: &[u8]) -> Result<(), AllocError> {
+        self.files.insert(Vec::from_slice(alloc, name)?)?;
+        Ok(())
+    }
+
+    /// Whether the file of a module was named by its path.
+    pub(crate) fn has_file(&self, name: &[u8]) -> bool {
+        self.files.contains(name)
     }
 
     /// Notes that nothing more is to be told.

@@ -167,7 +167,13 @@ impl Told<'_> {
     }
 
     /// Tells what counts for a load of a module that the kernel does not have.
-    fn tell_line(&mut self, task: &Task, is_bare: bool, has_items: bool) -> Result<(), AllocError> {
+    fn tell_line(
+        &mut self,
+        task: &Task,
+        has_file: bool,
+        is_bare: bool,
+        has_items: bool,
+    ) -> Result<(), AllocError> {
         let (name, alias) = (task.name.as_slice(), task.alias.as_deref());
         let line = install_line(self.alloc, &self.known.asked.world, name, alias)?;
         let why: &[u8] = match (is_bare, has_items) {
@@ -175,7 +181,7 @@ impl Told<'_> {
             (false, true) => b", passed over since it has soft items",
             (false, false) => b"",
         };
-        let is_loaded = self.known.has_file(name) || (line.is_some() && !is_bare && !has_items);
+        let is_loaded = has_file || (line.is_some() && !is_bare && !has_items);
         if is_loaded {
             self.tell_options(name, alias)?;
         }
@@ -193,11 +199,14 @@ impl Told<'_> {
         let is_bare = self.known.asked.query.ignore_commands && matches!(task.part, Part::Named);
         let has_items = self.tell_softdep(tasks, name, is_bare)?;
         let is_dry = matches!(self.known.asked.query.ask, Ask::DryRun);
-        if is_dry && (self.known.is_built_in(name, task.builtin) || self.known.is_live(name)) {
+        let is_named = task.alias.is_none() && tasks.has_file(name);
+        let is_built_in = !is_named && self.known.is_built_in(name, task.builtin);
+        if is_dry && (is_built_in || self.known.is_live(name)) {
             self.tell_in_kernel(name, b"");
             return Ok(());
         }
-        self.tell_line(task, is_bare, has_items)
+        let has_file = is_named || self.known.has_file(name);
+        self.tell_line(task, has_file, is_bare, has_items)
     }
 
     /// Tells the lines of a module that count, and those of its name that do not.

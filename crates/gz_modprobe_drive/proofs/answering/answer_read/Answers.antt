@@ -5,5 +5,5 @@ use Rattle.gz_modprobe_drive.proofs.answering.answer_read.Goals as goal
 pub returns-clause-well : goal.returns-clause-well
 returns-clause-well g c =
     IfOk-weaker c.tell_answered.result _ _
-    (λ status told zero. well-answered c.args.machine.now c.args.query.now _ _ _ _ status c.in_ok-answered.ensures.answer c.in_ok-answered.ensures.written told zero)
+    (λ status told zero. well-answered c.args.machine.now c.args.query.now _ _ _ _ status c.requires.paths c.in_ok-answered.ensures.answer c.in_ok-answered.ensures.written told zero)
     c.tell_answered.ensures.told
