@@ -67,15 +67,16 @@ build_unproved() {
   [ -z "$failed" ] || { cat "$folder/$failed.said" >&2; refuse "$failed does not build: nothing was installed"; }
 }
 
-# Makes the crate gourzhiel a program, in a repository of links.
+# Makes the crate gourzhiel a program, in a copy of the crates without what rt keeps in out/.
 make_library_a_program() {
-  local copy=$1 part
-  mkdir -p "$copy/crates"
+  local copy=$1 crate part
+  mkdir "$copy"
   sed 's/^gourzhiel staticlib:/gourzhiel:/' "$top/crates.txt" >"$copy/crates.txt"
-  ln -s "$top"/crates/* "$copy/crates"
-  rm "$copy/crates/gourzhiel" && mkdir "$copy/crates/gourzhiel"
-  for part in src specs proofs; do
-    [ ! -d "$top/crates/gourzhiel/$part" ] || cp -R "$top/crates/gourzhiel/$part" "$copy/crates/gourzhiel"
+  for crate in "$top"/crates/*; do
+    mkdir -p "$copy/crates/${crate##*/}"
+    for part in src specs proofs; do
+      [ ! -d "$crate/$part" ] || cp -R "$crate/$part" "$copy/crates/${crate##*/}"
+    done
   done
   "$top/tools/unproved_library.py" program "$copy/crates/gourzhiel"
 }
