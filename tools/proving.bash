@@ -5,6 +5,32 @@ refuse() {
   exit 1
 }
 
+# Reads the words of a tool. It sets from to where what is installed comes from: a proof, a build without one (unproved), an
+# earlier run (built), or nothing, if it is to be removed. It sets wanted to PREFIX as it was given.
+read_words() {
+  from=proof
+  case "${1:-}" in
+  --help | -h) usage; exit ;;
+  --unproved | --built) from=${1#--}; shift ;;
+  --uninstall) from=nothing; shift ;;
+  esac
+  case "${1:-}" in '' | -*) usage >&2; exit 2 ;; esac
+  [ $# = 1 ] || { usage >&2; exit 2; }
+  wanted=$1
+}
+
+# Removes files below a folder, and the folders that are then empty, up to that one.
+remove_below() {
+  local prefix=$1 file
+  shift
+  [ -d "$prefix" ] || refuse "$prefix is not there"
+  for file; do
+    rm -f "$prefix/$file"
+    (cd "$prefix" && rmdir -p --ignore-fail-on-non-empty "$(dirname "$file")" 2>/dev/null) || true
+  done
+  echo "removed below $prefix"
+}
+
 # Ends if PREFIX could not be made or written. It is asked first, since a proof takes long.
 check_writable() {
   local place=$1 probe
