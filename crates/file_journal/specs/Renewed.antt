@@ -1,5 +1,5 @@
 -- What is believed of a file after others had it.
-use Rattle.std.specs.Prelude.{⊤, ◌≡◌, ◌≢◌, ℕ, List, ◌++◌, take, drop}
+use Rattle.std.specs.Prelude.{◌≡◌, ◌≢◌, ◌⊎◌, ℕ, List, ◌++◌, take, drop}
 use Rattle.line_journal.specs.Renewed.{IsRenewed}
 use Rattle.line_journal.specs.declared.renewable.Renewed.{Renewed}
 use Rattle.line_journal.specs.declared.renewable.Renewed.TheVariants.{Same, Longer, Other}
@@ -13,9 +13,9 @@ Believes kept old read new Same = (read ≡ drop kept old.bytes.items) × (new �
 Believes kept old read new Longer = (read ≢ drop kept old.bytes.items) × (new.bytes.items ≡ take kept old.bytes.items ++ read) × MayBeAnything (history_of new)
 Believes kept old read new Other = ⊥
 
--- it reads as it was believed, and that is believed still; or a crash may leave anything of it, as of a file that was opened
+-- what is believed of it: the same, if it is the same file; of another, as of one with other bytes, that a crash may leave anything
 abbrev pub IsKnown : Belief → Belief → Renewed → Type 0
-IsKnown old new Same = new ≡ old
+IsKnown old new Same = (new ≡ old) ⊎ MayBeAnything (history_of new)
 IsKnown old new Longer = (new.bytes.items ≢ old.bytes.items) × MayBeAnything (history_of new)
 IsKnown old new Other = MayBeAnything (history_of new)
 

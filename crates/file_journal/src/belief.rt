@@ -1,5 +1,6 @@
-ghost use Rattle.std.specs.Prelude.{◌≡◌, ◌+◌, ◌<◌, ◌≤◌, ◌^◌, ◌↔◌, length, take, drop, IsTrue, IfOk, OnOk};
+ghost use Rattle.std.specs.Prelude.{◌≡◌, ◌≢◌, ◌+◌, ◌<◌, ◌≤◌, ◌^◌, ◌↔◌, length, take, drop, IsTrue, IfOk, OnOk};
 ghost use Rattle.line_journal.specs.Device.{overwritten, Torn, Shortened, Unchanged, UnchangedOr, IsOnDisk, Goes};
+ghost use Rattle.line_journal.specs.Renewed.{IsRenewed};
 
 use crate::call::{Call, Noted, note};
 use crate::overwrite::overwrite;
@@ -16,7 +17,7 @@ pub struct Belief {
 
 impl Belief {
     ghost use Rattle.file_journal.specs.Belief.{history_of, MayBeAnything};
-    ghost use Rattle.file_journal.specs.Renewed.{Believes};
+    ghost use Rattle.file_journal.specs.Renewed.{Believes, IsRenewedTo};
 
     /// Of a file that was read, and of which nobody knows what a crash leaves.
     pub(crate) fn new(alloc: Global, bytes: Vec<u8>) -> Self
@@ -54,6 +55,32 @@ impl Belief {
         self.bytes.extend_from_slice(bytes)?;
         self.calls = Vec::new(alloc);
         Ok(Renewed::Longer)
+    }
+
+    /// What the bytes of a whole file are beside those that are believed.
+    fn compare(&self, kept: usize, bytes: &[u8]) -> Renewed
+        requires { kept ≤ length self.now.bytes.items }
+        ensures renewed { IsRenewed kept self.now.bytes.items bytes.now result }
+        ensures longer { result ≡ Renewed.Longer → bytes.now ≢ self.now.bytes.items }
+    {
+        if self.agrees(0, bytes) {
+            Renewed::Same
+        } else if bytes.starts_with(&self.bytes[..kept]) {
+            Renewed::Longer
+        } else {
+            Renewed::Other
+        }
+    }
+
+    /// Another file has the place of this one, and has these bytes.
+    pub(crate) fn exchange(&mut self, alloc: Global, kept: usize, bytes: Vec<u8>) -> Renewed
+        requires { kept ≤ length self.old.bytes.items }
+        ensures bytes { self.new.bytes ≡ bytes }
+        ensures renewed { IsRenewedTo kept self.old self.new result }
+    {
+        let renewed = self.compare(kept, &bytes);
+        *self = Belief::new(alloc, bytes);
+        renewed
     }
 
     /// The file is about to be written to.

@@ -130,8 +130,7 @@ impl<R: Files + Drop> FileDevice<R> {
         if !self.disk.is_there(kept)? {
             self.disk.reopen()?;
             let bytes = self.disk.read(self.alloc, 0, 0)?;
-            self.belief = Belief::new(self.alloc, bytes);
-            return Ok(Renewed::Other);
+            return Ok(self.belief.exchange(self.alloc, kept, bytes));
         }
         let expected = self.belief.bytes.len() - kept;
         let bytes = self.disk.read(self.alloc, kept, expected)?;
@@ -243,8 +242,8 @@ impl<R: Files + Drop> Renewable for FileDevice<R> {
     ghost use Rattle.file_journal.specs.Renewed.{IsRenewedTo};
 
     /// Reads the bytes behind the first `kept` ones, if the file that has the journal's path now is this one. If it is
-    /// another, later calls go to that one. Calls that failed before are forgotten. After an error each further call fails,
-    /// until one of this method is `Ok`.
+    /// another, that one is read and compared, and later calls go to it. Calls that failed before are forgotten. After an
+    /// error each further call fails, until one of this method is `Ok`.
     fn renew(&mut self, kept: usize) -> Result<Renewed, DeviceError>
         requires within { kept ≤ length self.old.belief.bytes.items }
         ensures renewed { IfOk result (IsRenewedTo kept self.old.belief self.new.belief) }

@@ -15,7 +15,8 @@ use std::alloc::Global;
 pub enum Followed {
     /// They added these lines, and it reads as one at rest.
     AtRest(Vec<Vec<u8>>),
-    /// It is another file, or something stands behind its lines that is no closed gate: open it anew.
+    /// It does not begin with the lines from before, or something stands behind its lines that is no closed gate: open it
+    /// anew.
     Anew,
 }
 

@@ -12,7 +12,7 @@ pub enum Renewed {
     Same,
     /// Its first bytes read as before. The others may be new.
     Longer,
-    /// It is another file, or reads otherwise.
+    /// Its first bytes do not read as before.
     Other,
 }
 
