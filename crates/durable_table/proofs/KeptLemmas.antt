@@ -1,6 +1,7 @@
 -- A table that is kept while others add to its journal.
-use Rattle.std.proofs.Common.{◌≡◌, ap, sym, ◌∙◌, subst, ℕ, ◌<◌, ◌^◌, true, List, [], ◌∷◌, ◌++◌, length, map, drop, Some}
+use Rattle.std.proofs.Common.{◌≡◌, arith, ap, sym, ◌∙◌, subst, ℕ, ◌<◌, ◌^◌, true, false, List, [], ◌∷◌, ◌++◌, length, map, drop, Some}
 use Rattle.std.specs.List.{list_all}
+use Rattle.std.proofs.lemmas.List.{append_cancel_left}
 use Rattle.line_journal.specs.Device.{History}
 use Rattle.line_journal.specs.Lines.{lines_of, bytes_of}
 use Rattle.line_journal.specs.Journal.{IsReady, IsFound}
@@ -13,7 +14,7 @@ use Rattle.held_table.specs.Held.{Held}
 use Rattle.held_lines.specs.Outcomes.{after}
 use Rattle.durable_table.specs.Seals.{is_sealed}
 use Rattle.durable_table.specs.Tables.{table_in, table_of}
-use Rattle.durable_table.specs.Durable.{Stands, Reads}
+use Rattle.durable_table.specs.Durable.{Stands, Reads, ContinuesSealed}
 use Rattle.durable_table.proofs.GroupLemmas.{table_in_all}
 
 -- sealed lines more are commands more
@@ -48,3 +49,9 @@ table_read content s h file found journal is shut fits same end makes =
           (subst (λ (f : List ℕ). ReadsAtRest f found.end) (sym same) (reads_at_rest file found.end is.ends (sym is.rest ∙ shut) fits));
       same = ap (table_of s) same ∙ ap (table_in s) (sym is.lines) ∙ makes;
     }
+
+-- with a line that is not sealed a journal does not continue
+pub not_sealed : (old new : List ℕ) (added : List (List ℕ)) → lines_of new ≡ lines_of old ++ added → list_all is_sealed added ≡ false → ContinuesSealed old new → ⊥
+not_sealed old new added more changed (others, continues, sealed) =
+    let same : others ≡ added = append_cancel_left (lines_of old) others added (sym continues.more ∙ more) in
+    grind (arith, changed, sym sealed ∙ ap (list_all is_sealed) same)

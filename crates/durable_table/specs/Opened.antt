@@ -1,8 +1,9 @@
 -- What `open` makes of a device.
-use Rattle.std.specs.Prelude.{◌≡◌, ℕ, List, true, false, Some, None, Result, Ok, Err}
+use Rattle.std.specs.Prelude.{◌≡◌, ◌⊎◌, ℕ, List, true, false, Some, None, Result, Ok, Err}
 use Rattle.line_journal.specs.Device.{History}
 use Rattle.line_journal.specs.Lines.{lines_of, behind}
 use Rattle.line_journal.specs.Journal.{MayCut, IsFound}
+use Rattle.line_journal.specs.Renewed.{ReadsAtRest}
 use Rattle.line_journal.specs.declared.device.DeviceError.{DeviceError}
 use Rattle.line_journal.specs.declared.recovery.Repair.{Repair}
 use Rattle.modprobe.specs.Setup.{Setup}
@@ -47,12 +48,16 @@ device_after (Ok (Changed device number)) = device
 device_after (Ok (Damaged device found)) = device
 device_after (Err (error, device)) = device
 
--- the table that the journal reads as, or the file as it was
+-- the file does not read as one at rest, or its lines stand for no table
+abbrev pub IsUnread : Setup → List ℕ → Type 0
+IsUnread s file = ((end : ℕ) → ReadsAtRest file end → ⊥) ⊎ (table_of s file ≡ None)
+
+-- the table that the journal reads as; or the file as it was, if there is none
 abbrev pub IsTableRead : {H D : Type 0} {g : Ghosts H} → (D → List ℕ) → Setup → List ℕ → ReadTable H D g → Type 0
 IsTableRead {g = g} content s file (read_table_as.Ready t) =
     Reads content s (holding (g.table t.session.holders) (g.names t.session.holders)) t.journal
     × (content t.journal.device ≡ file) × (t.session.setup.now ≡ s)
-IsTableRead content s file (read_table_as.Anew device) = content device ≡ file
+IsTableRead content s file (read_table_as.Anew device) = (content device ≡ file) × IsUnread s file
 
 -- the device that the answer of `open_reading` holds
 abbrev pub device_read : {H D : Type 0} {g : Ghosts H} → Result (ReadTable H D g) (DeviceError × D) → D

@@ -5,7 +5,7 @@ ghost use Rattle.line_journal.specs.Device.{Unchanged, Goes, TellsFaults};
 ghost use Rattle.line_journal.specs.Lines.{bytes_of, AreLines};
 ghost use Rattle.held_lines.specs.Held.{holding};
 ghost use Rattle.held_lines.specs.Outcomes.{after};
-ghost use Rattle.durable_table.specs.Durable.{Stands, Reads};
+ghost use Rattle.durable_table.specs.Durable.{Stands, Reads, ContinuesSealed};
 ghost use Rattle.durable_table.specs.Groups.{replies_of};
 
 use crate::durable::DurableTable;
@@ -32,6 +32,7 @@ impl<'s, H: Holders, D: Renewable> DurableTable<'s, H, D> {
     pub fn catch_up(&mut self, alloc: Global) -> Result<CaughtUp, DeviceError>
         requires reads { Reads D.content self.old.session.setup.now (holding (H.table self.old.session.holders) (H.names self.old.session.holders)) self.old.journal }
         ensures reads { result ≡ Ok CaughtUp.Ready → Reads D.content self.old.session.setup.now (holding (H.table self.new.session.holders) (H.names self.new.session.holders)) self.new.journal }
+        ensures anew { result ≡ Ok CaughtUp.Anew → ContinuesSealed (D.content self.old.journal.device) (D.content self.new.journal.device) → ⊥ }
         ensures setup { self.new.session.setup ≡ self.old.session.setup }
         ensures faults { TellsFaults (D.faults self.old.journal.device) (D.faults self.new.journal.device) result }
     {

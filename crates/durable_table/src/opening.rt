@@ -119,7 +119,7 @@ pub fn open<'s, H: Holders, D: Device>(
 pub enum ReadTable<'s, H: Holders, D: Device> {
     /// The table that the journal reads as.
     Ready(DurableTable<'s, H, D>),
-    /// The file does not read as a journal at rest. `open` says why, or repairs it.
+    /// The file does not read as a journal at rest, or its lines stand for no table. `open` says why, or repairs it.
     Anew(D),
 }
 

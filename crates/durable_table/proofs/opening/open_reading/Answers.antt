@@ -1,8 +1,9 @@
-use Rattle.std.proofs.Common.{◌≡◌, ◌∙◌, ◌∷◌, [], ℕ, List, Some, ap, subst, rules, Vec}
+use Rattle.std.proofs.Common.{◌≡◌, ◌∙◌, ◌∷◌, [], ℕ, List, Some, inl, ap, subst, arith, rules, Vec}
 use Rattle.std.specs.declared.alloc.Global.{Global}
 use Rattle.line_journal.specs.Lines.{bytes_of}
 use Rattle.held_table.specs.Held.{Held}
 use Rattle.held_lines.specs.Held.{holding}
+use Rattle.line_journal.proofs.FollowLemmas.{not_at_rest}
 use Rattle.durable_table.specs.Tables.{table_in}
 use Rattle.durable_table.proofs.KeptLemmas.{table_read}
 use Rattle.durable_table.proofs.opening.open_reading.Goals as goal
@@ -17,3 +18,8 @@ returns-in-Ok-Table-clause-read g c =
     let made : table_in s (bytes_of c.deref.result.now) ≡ Some h = search rules in
     let makes = subst (λ (l : List (Vec ℕ Global)). table_in s (bytes_of l) ≡ Some h) c.deref.ensures.value made in
     (table_read g.D.Device.content s h file c.in-Ok.found c.resume-journal.result c.in-Ok.ensures.found shut c.in-Ok.ensures.fits same c.resume-journal.ensures.end makes, same, search rules)
+
+pub returns-then-not-is_at_rest-clause-read : goal.returns-then-not-is_at_rest-clause-read
+returns-then-not-is_at_rest-clause-read g c =
+    let shut_not : c.in-Ok.found.behind.items ≡ 32 ∷ [] → ⊥ = λ shut. grind (arith, c.is_at_rest.ensures.1 shut) in
+    (c.in-Ok.ensures.content, inl (not_at_rest (g.D.Device.content c.args.device) c.in-Ok.found.behind.items c.in-Ok.ensures.found.rest shut_not))
