@@ -28,11 +28,25 @@ ask() {
     tell "${PIPESTATUS[0]}"
 }
 ask -D loop
+# A link to a folder is that folder, and -d need not begin at the root.
+ln -s "$PWD/machine/lib/modprobe.d" linked
+echo '> -d machine -C linked -D loop'
+gz-modprobe -d machine -S 6.1.0 -C linked -D loop 2>&1 | sed "s|$PWD/||"
+
+# As kmod 30 has it, a link to nothing hides the files of its name.
+printf 'options loop off=1\n' >linked/off.conf
+ln -s /dev/null/none conf.d/off.conf
+echo '> --as=30 -C conf.d -C linked -D loop'
+gz-modprobe --as=30 -d machine -S 6.1.0 -C conf.d -C linked -D loop 2>/dev/null | sed "s|$PWD/||"
+rm conf.d/off.conf
 
 # The words of the variable stand before those of the command line: the last release counts.
 export MODPROBE_OPTIONS='-S 6.2.0 -v'
 ask -D loop
 echo '> -D loop, with -S in the variable alone'
+gz-modprobe -d "$PWD/machine" -C conf.d/link.conf -D loop | sed "s|$PWD/||"
+echo '> -D loop, with a -d of 5,000 letters before -S in the variable'
+export MODPROBE_OPTIONS="-d $(printf '%05000d' 7) -S 6.2.0"
 gz-modprobe -d "$PWD/machine" -C conf.d/link.conf -D loop | sed "s|$PWD/||"
 export MODPROBE_OPTIONS='--no-such-option'
 ask -D loop
@@ -45,6 +59,13 @@ tell "${PIPESTATUS[0]}"
 echo '> -a -D of 2,000 words'
 gz-modprobe -d "$PWD/machine" -S 6.1.0 -C conf.d/link.conf -a -D $(yes loop | head -2000) | sort | uniq -c | sed "s|$PWD/||; s|^ *||"
 
+# The help and the version are no faults.
+for words in --help --version; do
+    echo "> $words"
+    gz-modprobe $words >said
+    tell $?
+    head -1 said | cut -d ' ' -f 1
+done
 # What cannot be written is no success, for an answer, the help and the version.
 for words in '-c -C conf.d/link.conf' --help --version; do
     echo "> $words >/dev/full"
@@ -54,6 +75,7 @@ done
 # A reader that has what it wants is no error to tell.
 yes 'options loop max_loop=8' | head -10000 >conf.d/many.conf
 echo '> -c | head -1'
-gz-modprobe -d "$PWD/machine" -S 6.1.0 -C conf.d/many.conf -c 2>&1 | head -1
+gz-modprobe -d "$PWD/machine" -S 6.1.0 -C conf.d/many.conf -c 2>said | head -1
 tell "${PIPESTATUS[0]}"
-rm -r machine conf.d
+cat said
+rm -r machine conf.d linked said

@@ -25,6 +25,8 @@ printf 'blacklist nouveau\n' >$image/opt/confs/nvidia.conf
 ask -D pci:v000010DEd00001180
 ask -D nouveau
 ask -D loop
+# The folder below /lib is the one below /usr/lib: no file there is said to be hidden.
+ask --explain -D loop
 
 # Above the root is the root, for a link and for -C, and a path that does not begin at the root begins there too.
 ln -s ../../../../../opt/confs/deep.conf $image/etc/modprobe.d/deep.conf
