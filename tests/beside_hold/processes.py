@@ -1,0 +1,163 @@
+"""Processes beside each other: holders that are processes, gz-hold killed alone, and a mend's turn."""
+
+import fcntl
+import os
+import shutil
+import signal
+import subprocess
+import threading
+import time
+from pathlib import Path
+
+# A command's name with what /proc/PID/stat has around it, and a byte that is no text.
+ODD_NAME = os.fsdecode(b"a) Z 1 (\n\xff")
+WAITERS = 6
+MENDS = 12
+
+
+def until(holds, seconds=20):
+    """Waits until it holds. False if it does not in time."""
+    end = time.monotonic() + seconds
+    while not holds():
+        if time.monotonic() > end:
+            return False
+        time.sleep(0.02)
+    return True
+
+
+def fields(process):
+    """The fields of /proc/PID/stat after the command's name."""
+    return Path(f"/proc/{process.pid}/stat").read_bytes().rpartition(b") ")[2].decode().split()
+
+
+def faults_of_holders(machine):
+    """A process holds by its number, whatever its command's name, and until it has ended."""
+    machine.anew()
+    faults = []
+    command = machine.room / ODD_NAME
+    shutil.copy(shutil.which("sleep"), command)
+    process = subprocess.Popen([command, "60"], stdin=subprocess.DEVNULL)
+    until(lambda: os.readlink(f"/proc/{process.pid}/exe") == str(command))
+    own = f"pid:{process.pid}"
+    named = f"{own}:{fields(process)[19]}"
+    gone = f"gz-hold: no living process has the number {process.pid}; gz-hold reap gives back what was held by one that is gone"
+
+    def tries(words, *wanted):
+        found = machine.hold(words)
+        if found != wanted:
+            faults.append(f"`{words}`: wanted {wanted}, found {found}")
+
+    tries(f"get {own} loop", "ok loop\n", 0, [])
+    tries("list", f"{named} loop 1\n", 0, [])
+    tries("reap", "", 0, [])
+    tries(f"put {own} loop", "ok\n", 0, [])
+    tries("list", "", 0, [])
+    tries(f"run {own} loop -- gz-hold list", f"{named} loop 1\n", 0, [])
+    tries(f"get {named} loop", "ok loop\n", 0, [])
+    # It has ended, and nobody has asked how.
+    process.kill()
+    until(lambda: fields(process)[0] == "Z")
+    tries(f"get {own} loop", "", 2, [gone])
+    tries("reap", f"{named} ok\n", 0, [])
+    process.wait()
+    tries("reap", "", 0, [])
+    tries("list", "", 0, [])
+    return faults
+
+
+def begin_upgrade(machine, words):
+    """An upgrade of overlay that runs beside."""
+    words = ["gz-hold", "upgrade", "overlay", *words]
+    how = {"stdin": subprocess.DEVNULL, "stdout": subprocess.DEVNULL, "stderr": subprocess.DEVNULL}
+    return subprocess.Popen(words, env=machine.surroundings, start_new_session=True, **how)
+
+
+def faults_of_command(machine):
+    """gz-hold alone is killed while an upgrade's command runs: until that has ended, nobody loads the module."""
+    machine.anew()
+    machine.hold("get one overlay")
+    machine.hold("put one")
+    begun, ended = machine.room / "begun", machine.room / "ended"
+    upgrade = begin_upgrade(machine, ["--", "sh", "-c", f"echo >{begun}; sleep 2; echo >{ended}"])
+    if not until(begun.exists):
+        return ["an upgrade has not begun"]
+    upgrade.kill()
+    upgrade.wait()
+    early, was_ended = machine.hold("get one overlay", wait=0), ended.exists()
+    late = machine.hold("get one overlay")
+    faults = []
+    if early[:2] != ("error NOTLIVE overlay\n", 4) and not was_ended:
+        faults.append(f"a get while an upgrade's command ran: {early}")
+    if late != ("ok overlay\n", 0, []) or not ended.exists():
+        faults.append(f"a get after an upgrade's command: {late}, and it had {'' if ended.exists() else 'not '}ended")
+    return faults + [f"after it, {it}" for it in [machine.hold("check")] if it != ("", 0, [])]
+
+
+def faults_of_wait(machine):
+    """gz-hold alone is killed while an upgrade waits: nothing is removed later."""
+    machine.anew()
+    machine.hold("get one overlay")
+    upgrade = begin_upgrade(machine, ["--wait", "30", "--", "touch", str(machine.room / "upgraded")])
+    time.sleep(1)
+    upgrade.kill()
+    upgrade.wait()
+    machine.hold("put one")
+    time.sleep(2.5)
+    if machine.there() != ["overlay"] or (machine.room / "upgraded").exists():
+        return ["an upgrade whose gz-hold was killed was done nevertheless"]
+    return []
+
+
+def faults_of_patience(machine):
+    """Another one is waited for as long as is said, and no longer."""
+    machine.anew()
+    machine.hold("get one loop")
+    faults = []
+    with open(machine.room / "table/hold/loop", "a") as lock:
+        fcntl.flock(lock, fcntl.LOCK_EX)
+        for wait in (0, 1):
+            begun = time.monotonic()
+            found = machine.hold("upgrade loop", wait=wait)
+            wanted = f"gz-hold: loop: another gz-hold has been at work for {wait} seconds; ask again, or set GZ_HOLD_WAIT"
+            if found != ("", 4, [wanted]) or not wait <= time.monotonic() - begun < wait + 10:
+                faults.append(f"a lock that another one has, for {wait} seconds: {found} after {time.monotonic() - begun:.1f}")
+    return faults
+
+
+def faults_of_turns(machine):
+    """While others load and remove, each mend has its turn, and leaves no difference."""
+    machine.anew()
+    ended, faults = threading.Event(), []
+
+    def work(worker):
+        name = ["overlay", "loop", "br_netfilter"][worker % 3]
+        while not ended.is_set():
+            machine.run("gz-hold", "get", f"h{worker}", name)
+            machine.run("gz-hold", "put", "--remove", f"h{worker}")
+
+    threads = [threading.Thread(target=work, args=(worker,)) for worker in range(WAITERS)]
+    for thread in threads:
+        thread.start()
+    found = [machine.hold("mend") for _ in range(MENDS)]
+    ended.set()
+    for thread in threads:
+        thread.join()
+    faults += [f"a mend while others were at work: {it}" for it in found if it != ("", 0, [])]
+    return faults
+
+
+def faults_of_mend_in_vain(machine):
+    """A mend that cannot have its turn says so."""
+    machine.anew()
+    machine.hold("get one loop")
+    with open(machine.room / "table/hold/.all", "a") as lock:
+        fcntl.flock(lock, fcntl.LOCK_SH)
+        found = machine.hold("mend", wait=1)
+    wanted = "gz-hold: other gz-hold have been at work for 1 seconds; ask again, or set GZ_HOLD_WAIT"
+    return [] if found == ("", 4, [wanted]) else [f"a mend in vain: {found}"]
+
+
+def faults_of_processes(machine):
+    """What is wrong, each as a line."""
+    parts = [faults_of_holders, faults_of_command, faults_of_wait, faults_of_patience, faults_of_turns, faults_of_mend_in_vain]
+    return [fault for part in parts for fault in part(machine)]

@@ -1,0 +1,78 @@
+"""Words that are refused: what gz-hold says, and that nothing is left behind."""
+
+from dataclasses import dataclass
+
+LONG = "x" * 300
+# What cannot stand in a line of words.
+WORDS = {"EMPTY": "", "BLANK": "two words", "CONTROL": "web\x01", "LINES": "web\n17", "LONG": LONG}
+
+
+@dataclass
+class Refused:
+    """A call of gz-hold: its words, its status, what it writes, and the lines that it says as errors after its own name."""
+
+    words: str
+    status: int
+    output: str
+    errors: list[str]
+
+
+def no_holder(process):
+    return [f"pid:{process} is no holder: a process is named pid:PID or pid:PID:START"]
+
+
+REFUSED = [
+    Refused("get EMPTY overlay", 2, "", ["an empty word is no holder"]),
+    Refused("get -x overlay", 2, "", ["-x is no holder: a holder does not begin with -"]),
+    Refused("get LONG overlay", 2, "", ["a holder has 255 bytes at most"]),
+    Refused("put LONG", 2, "", ["a holder has 255 bytes at most"]),
+    Refused("get CONTROL overlay", 2, "", ["a holder has no blanks and no control bytes"]),
+    Refused("get LINES overlay", 2, "", ["a holder has no blanks and no control bytes"]),
+    Refused("put BLANK", 2, "", ["a holder has no blanks and no control bytes"]),
+    Refused("get web17 EMPTY", 2, "", ["an empty word is no name"]),
+    Refused("get web17 overlay -x", 2, "", ["-x is no name: a name does not begin with -"]),
+    Refused("put web17 -x", 2, "", ["-x is no name: a name does not begin with -"]),
+    Refused("run web17 BLANK -- true", 2, "", ["two words is no name: a name has no blanks"]),
+    Refused("get pid: overlay", 2, "", no_holder("")),
+    Refused("get pid:abc overlay", 2, "", no_holder("abc")),
+    Refused("get pid:1:2:3 overlay", 2, "", no_holder("1:2:3")),
+    Refused("get pid:1: overlay", 2, "", no_holder("1:")),
+    Refused("put pid:007", 2, "", no_holder("007")),
+    Refused("get pid:999999999 overlay", 2, "", ["no living process has the number 999999999; gz-hold reap gives back what was held by one that is gone"]),
+    Refused("remove EMPTY", 2, "", ["an empty word is no name"]),
+    Refused("remove -x", 2, "", ["-x is no name: a name does not begin with -"]),
+    Refused("upgrade EMPTY", 2, "", ["an empty word is no name"]),
+    Refused("remove .", 10, "error ENOENT .\n", []),
+    Refused("remove .. nosuch", 10, "error ENOENT ..\nerror ENOENT nosuch\n", []),
+    Refused("remove LONG", 10, f"error ENOENT {LONG}\n", []),
+    Refused("upgrade ovrelay -- echo", 10, "error ENOENT ovrelay\n", []),
+    Refused("get web17 ovrelay", 10, "error ENOENT ovrelay\n", []),
+    # Once, though the holder asks for it again.
+    Refused("get web17 installed", 12, "error NOTLIVE installed\n", ["installed has an install line in modprobe.d: load it by modprobe(8), and run gz-hold mend"]),
+]
+
+
+def faults_of_words(machine):
+    """What differs, each as a line."""
+    machine.anew()
+    faults = []
+    for case in REFUSED:
+        found = machine.hold([WORDS.get(it, it) for it in case.words.split()])
+        wanted = (case.output, case.status, [f"gz-hold: {it}" for it in case.errors])
+        if found != wanted:
+            faults.append(f"`{case.words}`: wanted {wanted}, found {found}")
+    if machine.locks() or machine.hold("list")[0]:
+        faults.append(f"refused words left {machine.locks()} and {machine.hold('list')}")
+    return faults + faults_of_lists(machine)
+
+
+def faults_of_lists(machine):
+    """A text that is no list of the kernel's modules is not shown, and nothing is done by it."""
+    faults, list_of_kernel = [], machine.modules.read_text()
+    machine.modules.write_text("loop 16384 0 - Live 0x0000000000000000\nroot:x:0:0:of the machine:/root:/bin/sh and more\n")
+    for words in ("check", "mend", "get web17 overlay", "remove loop"):
+        found = machine.hold(words)
+        if found != ("", 2, [f"gz-hold: line 2 of {machine.modules} is none of /proc/modules, and nothing was done"]):
+            faults.append(f"`{words}` over another text: {found}")
+    machine.modules.write_text(list_of_kernel)
+    return faults
