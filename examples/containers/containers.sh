@@ -17,11 +17,17 @@ call() {
 call host start web17 sleep 60
 call host start web18 sleep 60
 call gz-hold list
+# What cannot be started holds nothing.
+call host start web18 sleep 60
+call host start web19 nosuch
 # A module that containers use is neither removed nor replaced.
 call gz-hold remove overlay
 call gz-hold upgrade overlay --wait 1 -- echo 'the new overlay is put in its place'
 call host stop web17
-# The other one dies, and nobody is told.
+# One that does not end when it is told to is killed a second later.
+call host start web19 sh -c 'trap "" TERM; while :; do sleep 1; done'
+GRACE=1 call host stop web19
+# The last one dies, and nobody is told.
 holder=$(cat containers/web18)
 holder=${holder#pid:}
 kill -KILL "${holder%:*}"
@@ -29,6 +35,7 @@ sleep 0.2
 call gz-hold remove overlay
 call host sweep
 call gz-hold list
+ls containers
 call gz-hold upgrade overlay -- echo 'the new overlay is put in its place'
 call gz-hold remove br_netfilter bridge
 call gz-hold check
