@@ -119,7 +119,9 @@ STEPS = [
     # A command is a program, whatever its name.
     Step("gz-hold run job overlay -- remove", "a command\n", 0, "llc stp bridge loop br_netfilter overlay"),
     Step("gz-hold upgrade br-netfilter -- remove", "a command\n", 0, "llc stp bridge loop overlay br_netfilter"),
-    Step("gz-hold upgrade br_netfilter --wait 08 -- nosuch", "", 1, "llc stp bridge loop overlay br_netfilter"),
+    Step("gz-hold upgrade br_netfilter --wait 08 -- sh -c false", "", 1, "llc stp bridge loop overlay br_netfilter"),
+    Step("gz-hold upgrade overlay -- nosuch", "", 127, "llc stp bridge loop overlay br_netfilter"),
+    Step("gz-hold run job overlay -- ./nosuch", "", 127, "llc stp bridge loop overlay br_netfilter"),
     Step("gz-hold check", "", 0, "llc stp bridge loop overlay br_netfilter"),
 ]
 # What the steps have a shell do, with the file that plays /proc/modules.
