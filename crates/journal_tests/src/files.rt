@@ -24,7 +24,7 @@ pub(crate) fn put<D: Device + Drop>(alloc: Global, device: D, line: &[u8]) -> Re
 }
 
 /// Rewrites the journal of a device as one line, and adds another.
-fn rewrite<D: Device + Drop>(
+pub(crate) fn rewrite<D: Device + Drop>(
     alloc: Global,
     device: D,
     line: &[u8],
@@ -113,7 +113,7 @@ fn what_another_wrote_is_read_anew(rt: HostRuntime) -> Result<(), Fail> {
     assert_eq!(rt; look(alloc, &mut device)?.lines.len(), 1);
     let other = FileDevice::open(&rt, alloc, &folder, "journal", Syncs::Kept)?;
     rewrite(alloc, other, b"get web17 snd_pcm", b"put web17 snd_pcm")?;
-    assert_eq!(rt; device.renew(0)?, Renewed::Other);
+    assert_eq!(rt; device.renew(0)?, Renewed::Longer);
     let lines = look(alloc, &mut device)?.lines;
     assert_eq!(rt; lines.len(), 2);
     assert_eq!(rt; lines[0].as_slice(), b"get web17 snd_pcm".as_slice());

@@ -3,7 +3,7 @@ ghost use Rattle.std.specs.Prelude.{IfOk, OnOk};
 ghost use Rattle.line_journal.specs.Journal.{IsReady};
 ghost use Rattle.line_journal.specs.Renewed.{IsRead};
 
-use crate::files::{folder, put as put_once};
+use crate::files::{folder, put as put_once, rewrite};
 use crate::lines::put;
 use file_journal::{FileDevice, Syncs};
 use line_journal::{Device, Followed, Journal, Opened, Renewable, Repair, look, open_found};
@@ -43,6 +43,7 @@ fn go_on<D: Renewable, R: Abort>(
     journal: &mut Journal<D>,
 ) -> Result<(), Fail>
     requires { IsReady D.content D.history journal.old }
+    ensures { OnOk result (IsRead D.content journal.new) }
 {
     let lines = added(journal, alloc)?;
     assert_eq!(rt; lines.len(), 1);
@@ -64,5 +65,8 @@ fn a_journal_follows_another_process(rt: HostRuntime) -> Result<(), Fail> {
     let other = FileDevice::open(&rt, alloc, &folder, "journal", Syncs::Kept)?;
     put_once(alloc, other, b"release web17")?;
     go_on(&rt, alloc, &mut journal)?;
+    let other = FileDevice::open(&rt, alloc, &folder, "journal", Syncs::Kept)?;
+    rewrite(alloc, other, b"get web17 snd_pcm", b"put web17 snd_pcm")?;
+    assert!(rt; matches!(journal.follow(alloc)?, Followed::Anew));
     Ok(fs::remove_dir_all(&rt, folder.as_str())?)
 }
