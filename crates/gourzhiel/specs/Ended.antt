@@ -15,7 +15,7 @@ use Rattle.root_row.specs.Steps.{LeafAnswered, ReaderAnswered}
 use Rattle.root_row.specs.StepsMade.{SameView}
 use Rattle.root_row.specs.BookSteps.{BookAnswered}
 use Rattle.use_indicator.specs.Counted.{GivenUp}
-use Rattle.managed_table.specs.Attempted.{attempt_of}
+use Rattle.managed_table.specs.Attempts.{attempt_of}
 use Rattle.gourzhiel.specs.Numbers.{reply_at, busy, out_of_range}
 use Rattle.gourzhiel.specs.Endings.{IsNumberOf, IsNumberOfState, NeedTold}
 

@@ -7,8 +7,7 @@ use Rattle.root_row.specs.Views.{count_of}
 use Rattle.root_row.specs.Steps.{LeafAnswered}
 use Rattle.managed_table.specs.Tries.{GaveUp, AnsweredWithin}
 use Rattle.managed_table.specs.Callers.{ManagedIs, CallerIs, IsCallerOf, IsInside, IsOutside, LeafTurned}
-use Rattle.managed_table.specs.Attempts.{Ended, GetGivenUp, GetDid, missed_or}
-use Rattle.managed_table.specs.Attempted.{attempt_of}
+use Rattle.managed_table.specs.Attempts.{Ended, GetGivenUp, GetDid, attempt_of, missed_or}
 use Rattle.managed_table.proofs.Trying.{given_up, got_so}
 
 module _ {R : Type 0} (table : ManagedIs) (before after : CallerIs) (own : IsCallerOf table before) (worker slot tries : ℕ) (Did : Option R → Seated → Seated → Type 0)

@@ -24,7 +24,12 @@ Ended Outside Inside Busy GivenUp Did before LockBusy after = Inside × Busy
 Ended Outside Inside Busy GivenUp Did before Missed after = Inside × GivenUp
 Ended Outside Inside Busy GivenUp Did before (Answered answer) after = Inside × Did answer
 
--- where no answer was given, the call was given up
+-- how a call ended that always gets its lock, or takes none: it was answered, or not made
+abbrev pub attempt_of : {R : Type 0} → Option R → Attempt R
+attempt_of None = OutOfRange
+attempt_of (Some answer) = Answered answer
+
+-- if no answer was given, the call was given up
 abbrev pub missed_or : {R : Type 0} → Attempt (Option R) → Attempt R
 missed_or OutOfRange = OutOfRange
 missed_or LockBusy = LockBusy

@@ -10,5 +10,4 @@ pub mod InHand
 pub mod Owned
 pub mod Hearing
 pub mod Attempts
-pub mod Attempted
 pub mod Calls

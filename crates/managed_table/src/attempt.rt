@@ -1,7 +1,6 @@
 //! How a call that never waits ended.
 ghost use Rattle.std.specs.Prelude.{◌≡◌};
-ghost use Rattle.managed_table.specs.Attempted.{attempt_of};
-ghost use Rattle.managed_table.specs.Attempts.{missed_or};
+ghost use Rattle.managed_table.specs.Attempts.{attempt_of, missed_or};
 
 /// How a call that never waits ended. `R` is what the call answers.
 ///

@@ -2,15 +2,12 @@
 use crate::caller::Caller;
 use crate::table::ManagedTable;
 use std::sync::Wait;
-use use_indicator::{Leaf, Reader};
+use use_indicator::Reader;
 
 impl ManagedTable {
     ghost use Rattle.std.specs.Prelude.{◌≡◌, ◌<◌, MatchBool};
-    ghost use Rattle.std.specs.Fn.{FnOnceReturnsAtMut};
     ghost use Rattle.root_row.specs.Seats.{IsOf};
-    ghost use Rattle.managed_table.specs.Kept.{shown, leaf_fits};
-    ghost use Rattle.managed_table.specs.Passes.{MayActOn};
-    ghost use Rattle.managed_table.specs.Callers.{IsCallerOf, LeafMissed, BookMissed, LeafTurned};
+    ghost use Rattle.managed_table.specs.Callers.{IsCallerOf, LeafMissed, BookMissed};
     ghost use Rattle.managed_table.specs.Hearing.{LeafMet, BookMet};
 
     /// The worker's leaf and a reader hear of each other: both have then seen one list of calls. It begins with what each had
@@ -34,7 +31,9 @@ impl ManagedTable {
         ensures book { caller.new.book ≡ caller.old.book }
     {
         let row = &self.row;
-        self.worker_turn(rt, caller, worker, |leaf| reader.hear_leaf(row, leaf))
+        let seat = &mut caller.leaves;
+        self.leaves
+            .turn(rt, seat, worker, |leaf| reader.hear_leaf(row, leaf))
     }
 
     /// The same of the book and the reader.
@@ -100,23 +99,5 @@ impl ManagedTable {
         let reader = self.book.lend(seat, 0, |book| book.hear(row, reader));
         self.book.let_go(seat, 0);
         (true, reader)
-    }
-
-    // One turn of the lock of the worker's leaf.
-    fn worker_turn<R: Wait, A, F: FnOnce(&mut Leaf) -> A>(
-        &self,
-        rt: &R,
-        caller: &mut Caller,
-        worker: usize,
-        act: F,
-    ) -> A
-        requires own { IsCallerOf self.now caller.old }
-        requires inside { worker < self.now.row.world.workers }
-        requires may { MayActOn F.FnOnce leaf_fits shown self.now.row worker act }
-        ensures own { IsCallerOf self.now caller.new }
-        ensures turn { LeafTurned worker (λ x y. FnOnceReturnsAtMut F.FnOnce act x result y) caller.old caller.new }
-        ensures book { caller.new.book ≡ caller.old.book }
-    {
-        self.leaves.turn(rt, &mut caller.leaves, worker, act)
     }
 }
