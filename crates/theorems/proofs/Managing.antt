@@ -11,22 +11,21 @@ use Rattle.dep_index.specs.History.{LegalIsSafe}
 use Rattle.root_row.specs.Seats.{RowIs}
 use Rattle.root_row.specs.History.{answer_of, answers_in, seat_answer}
 use Rattle.managed_table.specs.Callers.{ManagedIs, CallerIs}
-use Rattle.managed_table.specs.Calls as managed
 use Rattle.managed_table.specs.Calls.{CallMade}
 use Rattle.managed_table.specs.Turns.{turn, MadeOneCall}
-use Rattle.theorems.specs.Managed.{seat_for, lock_of, here, elsewhere, WasMadeOnce, CanBeMade, LeftUnused}
+use Rattle.theorems.specs.Managed.{seat_for, lock_of, here, elsewhere, WasMadeOnce, LeftUnused}
 
 pub was_made : (row : RowIs) (call : Call) (reply : Reply) (old new : CallerIs) → LegalIsSafe
     → MadeOneCall row (lock_of (seat_for call)) (seat_for call) call reply (here (seat_for call) old).pass (here (seat_for call) new).pass
     → elsewhere (seat_for call) new ≡ elsewhere (seat_for call) old → WasMadeOnce row call reply old new
 was_made row call reply old new law m other =
     let safe = law row.world.catalogue row.world.workers (answers_in m.after) m.legal in record {
+      missed = m.missed;
       before = m.before;
       others = m.between;
       after = m.after;
       steps = m.steps;
-      turned = ap (λ p. p.turns) m.turned;
-      childless = ap (λ p. p.further) m.turned;
+      turned = m.turned;
       elsewhere = other;
       ends = m.ends;
       own = m.own;
@@ -42,7 +41,7 @@ left_unused row call m old new law removal w =
     let ends : answers_in w.after ≡ before ++ record { call = call; reply = Done } ∷ [] = ap answers_in w.ends ∙ map-append answer_of (w.before ++ w.others) (seat_answer (seat_for call) call Done ∷ []) in
     let both = w.unheld before [] (record { call = call; reply = Done }) m ends removal refl in record {
       turn = turn (lock_of (seat_for call)) w.before w.after w.steps;
-      turned = w.turned;
+      turned = ap (λ p. p.turns) w.turned;
       before = before;
       ends = ends;
       unheld = both.0;
@@ -73,14 +72,3 @@ was_made_once table (EndRemove m) reply old new law made = was_made table.row (E
 pub if_made_once : (table : ManagedIs) (call : Call) (r : Option Reply) (old new : CallerIs) → LegalIsSafe → IfSome r (λ reply. CallMade table call reply old new) → IfSome r (λ reply. WasMadeOnce table.row call reply old new)
 if_made_once table call None old new law made = tt
 if_made_once table call (Some reply) old new law made = was_made_once table call reply old new law made
-
--- where a call can be made is said alike in both crates
-pub can_be_made : (table : ManagedIs) (call : Call) → (managed.CanBeMade table call → CanBeMade table.row.world call) × (CanBeMade table.row.world call → managed.CanBeMade table call)
-can_be_made table (Get w m) = (λ can. can, λ can. can)
-can_be_made table (Put w m) = (λ can. can, λ can. can)
-can_be_made table (InUse m) = (λ can. can, λ can. can)
-can_be_made table (BeginLoad m) = (λ can. can, λ can. can)
-can_be_made table (EndLoad m ok) = (λ can. can, λ can. can)
-can_be_made table (BeginDrain m) = (λ can. can, λ can. can)
-can_be_made table (BeginRemove m) = (λ can. can, λ can. can)
-can_be_made table (EndRemove m) = (λ can. can, λ can. can)

@@ -21,14 +21,14 @@ use Rattle.theorems.specs.Told.{MadeNone, AskedNothing, MadeAndTold, HeardAndMad
 
 module _ (row : RowIs) (call : Call) (old new : CallerIs) (reader reader' : View) (met : MetAt row call old new reader reader') (other : elsewhere (seat_for call) new ≡ elsewhere (seat_for call) old) where
   made_none : MadeNone call old new
-  made_none = record { turn = turn (lock_of (seat_for call)) met.before met.after met.steps; turned = ap (λ p. p.turns) met.turned; there = refl; childless = ap (λ p. p.further) met.turned; elsewhere = other; none = met.own }
+  made_none = record { missed = met.missed; turn = turn (lock_of (seat_for call)) met.before met.after met.steps; turned = met.turned; there = refl; elsewhere = other; none = met.own }
 
   -- the call before the meeting is told
   pub made_and_told : (reply : Reply) (first : CallerIs) → WasMadeOnce row call reply first old → MadeAndTold row call reply first new reader reader'
   made_and_told reply first made =
       let place = length (turns_of call first) in
       let t = turn (lock_of (seat_for call)) made.before made.after made.steps in
-      let there : get_elem? (turns_of call old) place ≡ some t = ap (λ l. get_elem? l place) made.turned ∙ at_last (turns_of call first) t place refl in record {
+      let there : get_elem? (turns_of call old) place ≡ some t = ap (λ p. get_elem? p.turns place) made.turned ∙ at_last (turns_of call first) t place refl in record {
         between = old;
         made = made;
         meeting = made_none;

@@ -1,5 +1,5 @@
 -- What one managed call was.
-use Rattle.std.specs.Prelude.{◌≡◌, ℕ, ◌<◌, List, [], ◌∷◌, ◌++◌}
+use Rattle.std.specs.Prelude.{◌≡◌, ℕ, List, [], ◌∷◌, ◌++◌}
 use mathlib.Core.Option as core
 use lib.ListN.{get_elem?}
 use Rattle.dep_index.specs.declared.table.calls.Call.{Call}
@@ -8,15 +8,15 @@ use Rattle.dep_index.specs.declared.table.calls.Reply.{Reply}
 use Rattle.dep_index.specs.declared.table.calls.Reply.TheVariants.{Done}
 use Rattle.dep_index.specs.Table.{pairs, users}
 use Rattle.dep_index.specs.History.{Answer, IsLegal}
-use Rattle.root_row.specs.declared.view.World.{World}
 use Rattle.root_row.specs.declared.view.SeatAnswer.{SeatAnswer}
 use Rattle.root_row.specs.declared.view.AtomicStep.{AtomicStep}
 use Rattle.root_row.specs.declared.view.SeatName.TheVariants.{Leaf, Book}
 use Rattle.root_row.specs.Seats.{RowIs}
-use Rattle.root_row.specs.World.{slots}
 use Rattle.root_row.specs.History.{SeatName, seat_answer, answers_in, own_answers, StartsWith}
 use Rattle.managed_table.specs.Callers.{CallerIs, PassIs}
+use Rattle.managed_table.specs.Turns.{turn, with_turns, with_misses}
 use Rattle.managed_table.specs.declared.view.Turn.{Turn}
+use Rattle.managed_table.specs.declared.view.Pass.{Pass}
 use Rattle.theorems.specs.Safety.{RemovesUnheld, GetsNoneAfter, table_at}
 
 -- which seat makes a call: the leaf of its worker, or the book
@@ -46,17 +46,21 @@ elsewhere other caller = caller.leaves
 abbrev pub turns_of : Call → CallerIs → List Turn
 turns_of call caller = (here (seat_for call) caller).pass.turns
 
--- The caller had one turn more, at the lock of the call's seat. It did nothing else, and no further caller came from it, by whom
--- another call could have been made. Before that turn the seat had seen this much; then others made these calls, and the seat made
--- this one, once, by these steps, which was answered so. All that is legal, so removals are safe in it, and it begins with what each
--- earlier turn of the caller at this lock had seen.
+-- what a caller has done at the call's lock, when it had found that lock taken so often more, and then had this turn
+abbrev pub past_turn : Call → CallerIs → ℕ → Turn → Pass
+past_turn call caller missed turn = with_turns (with_misses (here (seat_for call) caller).pass (lock_of (seat_for call)) missed) (turn ∷ [])
+
+-- The caller had one turn more, at the lock of the call's seat, which it had found taken so often. It did nothing else: so no further
+-- caller came from it, by whom another call could have been made. Before that turn the seat had seen this much; then others made
+-- these calls, and the seat made this one, once, by these steps, which was answered so. All that is legal, so removals are safe in
+-- it, and it begins with what each earlier turn of the caller at this lock had seen.
 pub record WasMadeOnce (row : RowIs) (call : Call) (reply : Reply) (old new : CallerIs) : Type 0 where
+  pub missed : ℕ
   pub before : List SeatAnswer
   pub others : List SeatAnswer
   pub after : List SeatAnswer
   pub steps : List AtomicStep
-  pub turned : turns_of call new ≡ turns_of call old ++ record { lock = lock_of (seat_for call); before = before; after = after; steps = steps } ∷ []
-  pub childless : (here (seat_for call) new).pass.further ≡ (here (seat_for call) old).pass.further
+  pub turned : (here (seat_for call) new).pass ≡ past_turn call old missed (turn (lock_of (seat_for call)) before after steps)
   pub elsewhere : elsewhere (seat_for call) new ≡ elsewhere (seat_for call) old
   pub ends : after ≡ (before ++ others) ++ seat_answer (seat_for call) call reply ∷ []
   pub own : own_answers (seat_for call) after ≡ own_answers (seat_for call) before ++ seat_answer (seat_for call) call reply ∷ []
@@ -64,17 +68,6 @@ pub record WasMadeOnce (row : RowIs) (call : Call) (reply : Reply) (old new : Ca
   pub legal : IsLegal row.world.catalogue row.world.workers (answers_in after)
   pub unheld : RemovesUnheld row.world.catalogue row.world.workers (answers_in after)
   pub none_after : GetsNoneAfter (answers_in after)
-
--- the call is no query, and its worker and its slot are in range
-abbrev pub CanBeMade : World → Call → Type 0
-CanBeMade world (Get w m) = (w < world.workers) × (m < slots world)
-CanBeMade world (Put w m) = (w < world.workers) × (m < slots world)
-CanBeMade world (InUse m) = ⊥
-CanBeMade world (BeginLoad m) = m < slots world
-CanBeMade world (EndLoad m ok) = m < slots world
-CanBeMade world (BeginDrain m) = m < slots world
-CanBeMade world (BeginRemove m) = m < slots world
-CanBeMade world (EndRemove m) = m < slots world
 
 -- The caller had one turn more, whose history ends with the removal of m. Before it no reference to m was held by any worker, and
 -- no module of the table needed it; and in each legal history that begins with it no get of m succeeds until m is loaded again.

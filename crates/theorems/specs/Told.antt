@@ -13,14 +13,15 @@ use Rattle.managed_table.specs.Callers.{CallerIs}
 use Rattle.managed_table.specs.Hearing.{Met}
 use Rattle.managed_table.specs.declared.view.Turn.{Turn}
 use Rattle.theorems.specs.Safety.{NotLoadedAgain}
-use Rattle.theorems.specs.Managed.{seat_for, lock_of, here, elsewhere, turns_of, WasMadeOnce}
+use Rattle.theorems.specs.Managed.{seat_for, lock_of, here, elsewhere, past_turn, WasMadeOnce}
 
--- The caller had one turn more at the lock of the call's seat, in which the seat made no call, and no further caller came from it
+-- The caller had one turn more, at the lock of the call's seat, which it had found taken so often, and did nothing else. The seat made
+-- no call in it
 pub record MadeNone (call : Call) (old new : CallerIs) : Type 0 where
+  pub missed : ℕ
   pub turn : Turn
-  pub turned : turns_of call new ≡ turns_of call old ++ turn ∷ []
+  pub turned : (here (seat_for call) new).pass ≡ past_turn call old missed turn
   pub there : turn.lock ≡ lock_of (seat_for call)
-  pub childless : (here (seat_for call) new).pass.further ≡ (here (seat_for call) old).pass.further
   pub elsewhere : elsewhere (seat_for call) new ≡ elsewhere (seat_for call) old
   pub none : own_answers (seat_for call) turn.after ≡ own_answers (seat_for call) turn.before
 

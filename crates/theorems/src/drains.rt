@@ -7,7 +7,8 @@ ghost use Rattle.dep_index.specs.Refusals.{reply_of, end_remove_refusal};
 ghost use Rattle.root_row.specs.World.{slots};
 ghost use Rattle.root_row.specs.Seats.{IsOf};
 ghost use Rattle.managed_table.specs.Callers.{IsCallerOf};
-ghost use Rattle.theorems.specs.Managed.{WasMadeOnce, CanBeMade, LeftUnused};
+ghost use Rattle.managed_table.specs.Calls.{CanBeMade};
+ghost use Rattle.theorems.specs.Managed.{WasMadeOnce, LeftUnused};
 ghost use Rattle.theorems.specs.Told.{WereMadeInOrder, FindsItGone, AskedNothing};
 
 use crate::told::calls_told_are_in_order;
@@ -51,7 +52,7 @@ pub fn gets_told_of_a_drain_find_it_gone<R: Wait>(
     requires remover_own { IsCallerOf table.now remover.old }
     requires user_own { IsCallerOf table.now user.old }
     requires reader_own { IsOf table.now.row reader }
-    requires inside { CanBeMade table.now.row.world (Call.Get worker slot) }
+    requires inside { CanBeMade table.now (Call.Get worker slot) }
     ensures remover_own { IsCallerOf table.now remover.new }
     ensures user_own { IsCallerOf table.now user.new }
     ensures reader_own { IsOf table.now.row result.2 }

@@ -3,7 +3,8 @@ ghost use Rattle.std.specs.Prelude.{◌≡◌, ◌<◌, ◌≤◌, ◌↔◌, Is
 ghost use Rattle.dep_index.specs.Refusals.{reply_of, begin_remove_refusal};
 ghost use Rattle.root_row.specs.World.{slots};
 ghost use Rattle.managed_table.specs.Callers.{IsCallerOf};
-ghost use Rattle.theorems.specs.Managed.{WasMadeOnce, CanBeMade, LeftUnused};
+ghost use Rattle.managed_table.specs.Calls.{CanBeMade};
+ghost use Rattle.theorems.specs.Managed.{WasMadeOnce, LeftUnused};
 
 use dep_index::laws::legal_is_safe;
 use dep_index::{BeginRemoveError, Call, Reply};
@@ -25,7 +26,7 @@ pub fn managed_calls_are_made_once<R: Wait>(
 ) -> Option<Reply>
     requires own { IsCallerOf table.now caller.old }
     ensures own { IsCallerOf table.now caller.new }
-    ensures made { IsSome result ↔ CanBeMade table.now.row.world call }
+    ensures made { IsSome result ↔ CanBeMade table.now call }
     ensures once { IfSome result (λ reply. WasMadeOnce table.now.row call reply caller.old caller.new) }
     ensures not_made { IfNone result (caller.new ≡ caller.old) }
 {

@@ -5,7 +5,8 @@
 ghost use Rattle.std.specs.Prelude.{◌≡◌};
 ghost use Rattle.root_row.specs.Seats.{IsOf};
 ghost use Rattle.managed_table.specs.Callers.{IsCallerOf};
-ghost use Rattle.theorems.specs.Managed.{WasMadeOnce, CanBeMade, seat_for, elsewhere};
+ghost use Rattle.managed_table.specs.Calls.{CanBeMade};
+ghost use Rattle.theorems.specs.Managed.{WasMadeOnce, seat_for, elsewhere};
 ghost use Rattle.theorems.specs.Told.{MadeAndTold, HeardAndMade, WereMadeInOrder, FindsItGone, MetAt, AskedNothing};
 
 use crate::managed::managed_calls_are_made_once;
@@ -25,7 +26,7 @@ pub fn managed_calls_are_told<R: Wait>(
 ) -> (Reply, Reader)
     requires own { IsCallerOf table.now caller.old }
     requires reader_own { IsOf table.now.row reader }
-    requires can { CanBeMade table.now.row.world call }
+    requires can { CanBeMade table.now call }
     ensures own { IsCallerOf table.now caller.new }
     ensures reader_own { IsOf table.now.row result.1 }
     ensures told { MadeAndTold table.now.row call result.0 caller.old caller.new reader.view result.1.view }
@@ -47,7 +48,7 @@ pub fn managed_calls_follow_what_was_told<R: Wait>(
 ) -> (Reply, Reader)
     requires own { IsCallerOf table.now caller.old }
     requires reader_own { IsOf table.now.row reader }
-    requires can { CanBeMade table.now.row.world call }
+    requires can { CanBeMade table.now call }
     ensures own { IsCallerOf table.now caller.new }
     ensures reader_own { IsOf table.now.row result.1 }
     ensures heard { HeardAndMade table.now.row call result.0 caller.old caller.new reader.view }
@@ -73,8 +74,8 @@ pub fn calls_told_are_in_order<R: Wait>(
     requires first_own { IsCallerOf table.now first.old }
     requires second_own { IsCallerOf table.now second.old }
     requires reader_own { IsOf table.now.row reader }
-    requires can { CanBeMade table.now.row.world call }
-    requires later_can { CanBeMade table.now.row.world later }
+    requires can { CanBeMade table.now call }
+    requires later_can { CanBeMade table.now later }
     ensures first_own { IsCallerOf table.now first.new }
     ensures second_own { IsCallerOf table.now second.new }
     ensures reader_own { IsOf table.now.row result.2 }
@@ -100,7 +101,7 @@ pub fn gets_told_of_a_removal_find_it_gone<R: Wait>(
     requires remover_own { IsCallerOf table.now remover.old }
     requires user_own { IsCallerOf table.now user.old }
     requires reader_own { IsOf table.now.row reader }
-    requires inside { CanBeMade table.now.row.world (Call.Get worker slot) }
+    requires inside { CanBeMade table.now (Call.Get worker slot) }
     ensures remover_own { IsCallerOf table.now remover.new }
     ensures user_own { IsCallerOf table.now user.new }
     ensures reader_own { IsOf table.now.row result.2 }
@@ -116,7 +117,7 @@ pub fn gets_told_of_a_removal_find_it_gone<R: Wait>(
 // A call in range is made.
 fn made<R: Wait>(rt: &R, table: &ManagedTable, caller: &mut Caller, call: Call) -> Reply
     requires own { IsCallerOf table.now caller.old }
-    requires can { CanBeMade table.now.row.world call }
+    requires can { CanBeMade table.now call }
     ensures own { IsCallerOf table.now caller.new }
     ensures once { WasMadeOnce table.now.row call result caller.old caller.new }
 {
@@ -136,7 +137,7 @@ fn meet_at<R: Wait>(
 ) -> Reader
     requires own { IsCallerOf table.now caller.old }
     requires reader_own { IsOf table.now.row reader }
-    requires can { CanBeMade table.now.row.world call }
+    requires can { CanBeMade table.now call }
     ensures own { IsCallerOf table.now caller.new }
     ensures reader_own { IsOf table.now.row result }
     ensures met { MetAt table.now.row call caller.old caller.new reader.view result.view }
