@@ -4,17 +4,16 @@ use Rattle.dep_index.specs.declared.table.calls.Reply.{Reply}
 use Rattle.dep_index.specs.declared.table.refusals.BeginLoadError.{BeginLoadError}
 use Rattle.dep_index.specs.declared.table.states.ModuleState.{ModuleState}
 use Rattle.dep_index.specs.Refusals.{reply_of, begin_load_refusal}
-use Rattle.root_row.specs.declared.calls.LeafCall.{LeafCall}
-use Rattle.root_row.specs.declared.calls.LeafCall.TheVariants.{Get}
+use Rattle.root_row.specs.declared.calls.LeafCall.TheVariants.{Get, Put}
 use Rattle.root_row.specs.declared.calls.BookCall.{BookCall}
 use Rattle.root_row.specs.declared.calls.BookCall.TheVariants.{BeginLoad}
 use Rattle.root_row.specs.World.{slots}
 use Rattle.root_row.specs.Views.{state_in, count_of, book_of}
 use Rattle.root_row.specs.Seats.{Seated}
 use Rattle.root_row.specs.Steps.{LeafAnswered, ReaderAnswered}
-use Rattle.root_row.specs.StepsMade.{SameView}
+use Rattle.root_row.specs.StepsMade.{SameView, OneLoad}
 use Rattle.root_row.specs.BookSteps.{BookAnswered}
-use Rattle.use_indicator.specs.Counted.{GivenUp}
+use Rattle.use_indicator.specs.Counted.{TrySteps, GivenUp, PutSteps}
 use Rattle.managed_table.specs.Attempts.{attempt_of}
 use Rattle.gourzhiel.specs.Numbers.{reply_at, busy, out_of_range}
 use Rattle.gourzhiel.specs.Endings.{IsNumberOf, IsNumberOfState, NeedTold}
@@ -34,9 +33,10 @@ abbrev pub IsEnded : (Reply → Type 0) → Seated → ℕ → ℕ → Seated �
 IsEnded Answers before slot number after =
     MatchBool (number == out_of_range) (IsOutside before slot after) (IsAnswered Answers before slot (reply_at number 0) after)
 
--- a leaf's call
-abbrev pub LeafEnded : Seated → ℕ → LeafCall → ℕ → Seated → Type 0
-LeafEnded before slot call number after = IsEnded (λ reply. LeafAnswered before.view slot call reply after.view) before slot number after
+-- a put, which makes the steps that a leaf's put makes
+abbrev pub PutEnded : Seated → ℕ → ℕ → Seated → Type 0
+PutEnded before slot number after =
+    IsEnded (λ reply. LeafAnswered before.view slot Put reply after.view × PutSteps slot (count_of before.view slot) before after) before slot number after
 
 -- a get of so many tries was busy: the leaf holds no reference, all tries were made and missed, and the view stays
 pub record WasBusy (before : Seated) (slot tries : ℕ) (after : Seated) : Type 0 where
@@ -45,13 +45,15 @@ pub record WasBusy (before : Seated) (slot tries : ℕ) (after : Seated) : Type 
   pub view : SameView before after
   pub missed : GivenUp tries slot before after
 
--- a get of so many tries: it was busy, or it ended
+-- a get of so many tries: it was busy, or it ended, within these tries; a leaf that holds the slot makes one load
 abbrev pub GetEnded : Seated → ℕ → ℕ → ℕ → Seated → Type 0
-GetEnded before slot tries number after = MatchBool (number == busy) (WasBusy before slot tries after) (LeafEnded before slot Get number after)
+GetEnded before slot tries number after =
+    MatchBool (number == busy) (WasBusy before slot tries after)
+    (IsEnded (λ reply. LeafAnswered before.view slot Get reply after.view × TrySteps tries slot (count_of before.view slot) reply before after) before slot number after)
 
--- a reader's query
+-- a reader's query, which makes one load
 abbrev pub QueryEnded : Seated → ℕ → ℕ → Seated → Type 0
-QueryEnded before slot number after = IsEnded (λ reply. ReaderAnswered before.view slot reply after.view) before slot number after
+QueryEnded before slot number after = IsEnded (λ reply. ReaderAnswered before.view slot reply after.view × OneLoad slot before after) before slot number after
 
 -- a call of the book, whose refusals are these replies: the slot is out of range, or the call was answered; its row is the same
 abbrev pub BookDid : {E : Type 0} → (E → Reply) → Seated → ℕ → BookCall → Option (Result (Unit {0}) E) → Seated → Type 0

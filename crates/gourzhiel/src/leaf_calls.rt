@@ -1,12 +1,11 @@
 //! The calls on the handle of a leaf.
 ghost use Rattle.std.specs.Prelude.{◌≡◌, true};
-ghost use Rattle.gourzhiel.specs.Ended.{GetEnded, LeafEnded, CountTold};
+ghost use Rattle.gourzhiel.specs.Ended.{GetEnded, PutEnded, CountTold};
 
 use crate::handles::GzLeaf;
 use crate::numbers::{BUSY, DONE, NOT_HELD, NOT_LIVE, OUT_OF_RANGE, TOO_MANY};
 use dep_index::{GetError, PutError};
 use module_table::OwnLeaf;
-use root_row::LeafCall;
 
 #[inline(always)]
 fn get(leaf: &mut OwnLeaf, slot: usize, tries: u32) -> u32
@@ -49,7 +48,7 @@ pub extern "C" fn gz_leaf_get(leaf: &mut GzLeaf, slot: usize, tries: u32) -> u32
 
 #[inline(always)]
 fn put(leaf: &mut OwnLeaf, slot: usize) -> u32
-    ensures { LeafEnded leaf.old slot LeafCall.Put result leaf.new }
+    ensures { PutEnded leaf.old slot result leaf.new }
 {
     match leaf.put(slot) {
         None => OUT_OF_RANGE,
@@ -61,7 +60,7 @@ fn put(leaf: &mut OwnLeaf, slot: usize) -> u32
 // As other_get.
 #[inline(never)]
 fn other_put(slot: usize, leaf: &mut OwnLeaf) -> u32
-    ensures { LeafEnded leaf.old slot LeafCall.Put result leaf.new }
+    ensures { PutEnded leaf.old slot result leaf.new }
 {
     put(leaf, slot)
 }
@@ -73,7 +72,7 @@ fn other_put(slot: usize, leaf: &mut OwnLeaf) -> u32
 pub extern "C" fn gz_leaf_put(leaf: &mut GzLeaf, slot: usize) -> u32
     requires full { leaf.old.full ≡ true }
     ensures full { leaf.new.full ≡ true }
-    ensures call { LeafEnded leaf.old.held slot LeafCall.Put result leaf.new.held }
+    ensures call { PutEnded leaf.old.held slot result leaf.new.held }
 {
     let leaf = leaf.lend();
     match leaf.held(slot) {
