@@ -2,3 +2,5 @@ mod AdoptLemmas
 mod AnswerLemmas
 mod AskLemmas
 mod FeedLemmas
+mod SetupLemmas
+mod TenureLemmas

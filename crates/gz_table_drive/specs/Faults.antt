@@ -14,12 +14,13 @@ ending_of_lock _ = Fault
 -- what is asked of no table, or of one that was changed, is not asked rightly
 abbrev pub ending_of_fault : TableFault → Ending
 ending_of_fault fault.NoTable = Unasked
+ending_of_fault fault.NoJournal = Unasked
 ending_of_fault fault.CutSetup = Unasked
 ending_of_fault fault.ChangedSetup = Unasked
 ending_of_fault (fault.Sections why) = Unasked
 ending_of_fault fault.Foreign = Unasked
 ending_of_fault (fault.Changed line) = Unasked
-ending_of_fault (fault.Damaged lines) = Unasked
+ending_of_fault (fault.Damaged damage) = Unasked
 ending_of_fault fault.ThereAlready = Exists
 ending_of_fault fault.UsedJournal = Exists
 ending_of_fault (fault.Lock error) = ending_of_lock error

@@ -4,3 +4,5 @@ pub mod Answers
 pub mod Adopting
 pub mod Faults
 pub mod Reading
+pub mod Setups
+pub mod Taken

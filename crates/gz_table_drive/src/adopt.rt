@@ -7,14 +7,15 @@ use crate::answering::Replies;
 use crate::fault::{TableFault, journal_fault};
 use crate::kept::Kept;
 use crate::opening::setup;
+use crate::regular::is_other_than_file;
 use crate::shared::Shared;
 use crate::teller::Teller;
 use crate::tenure::{FileTable, changing_table};
 use file_journal::{FileDevice, LockKind};
 use line_journal::{Device, DeviceError};
-use program_frame::{PathFault, read_path};
+use program_frame::{is_folder, read_path};
 use std::alloc::Global;
-use std::fs::{self, File};
+use std::fs::File;
 use std::io::{ErrorKind, Read, Write};
 use std::rt::Files;
 use std::str;
@@ -57,17 +58,14 @@ fn listing_of<'a, I: Read, E: Write>(
     }
 }
 
-/// All bytes of a regular file. Others are refused, since a read might wait for ever.
+/// All bytes of a regular file. Others are refused, since to read them might take for ever.
 fn read_regular<R: Files + AllocGlobal, E: Write>(
     rt: &R,
     path: &str,
     teller: &mut Teller<'_, E>,
 ) -> Result<Vec<u8>, TableFault> {
-    match fs::metadata(rt, path) {
-        Ok(known) if known.is_file() => {}
-        Ok(known) if known.is_dir() => return Err(teller.unread(path, PathFault::Folder)),
-        Ok(_) => return Err(teller.no_file(path)),
-        Err(error) => return Err(teller.unread(path, PathFault::from(error))),
+    if is_other_than_file(rt, path) && !is_folder(rt, path) {
+        return Err(teller.no_file(path));
     }
     match read_path(rt, path) {
         Ok(text) => Ok(text),

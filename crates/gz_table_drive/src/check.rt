@@ -4,9 +4,9 @@ ghost use Rattle.line_journal.specs.Lines.{IsLine};
 use crate::answering::Replies;
 use crate::fault::TableFault;
 use crate::input::alone;
-use crate::opening::{read_file, setup_in};
+use crate::opening::{read_file, setup};
 use crate::reading::answer_copy;
-use crate::shared::{CUT, JOURNAL, SETUP, Shared};
+use crate::shared::{CUT, JOURNAL, Shared};
 use file_journal::LockKind;
 use line_journal::{Found, KillOnly, look};
 use modprobe::Setup;
@@ -15,7 +15,6 @@ use std::alloc::{AllocError, Global};
 use std::fs::{self, File, OpenFile};
 use std::rt::Files;
 use std::time::Clock;
-use table_setup::Sealed;
 use text_parts::{is_same, whole_lines};
 
 /// What `check` counts.
@@ -88,11 +87,11 @@ pub(crate) fn check<R: Files<File = File> + Clock + AllocGlobal>(
     shared: &Shared<'_, R>,
 ) -> Result<Counts, TableFault> {
     let alloc = shared.alloc();
-    let setup_bytes = read_file(shared, SETUP)?;
-    let setup = setup_in(alloc, &setup_bytes)?;
-    if !Sealed::read(&setup_bytes).is_some_and(|sealed| sealed.is_sound()) {
+    let found = setup(shared)?;
+    if !found.is_sound() {
         return Err(TableFault::ChangedSetup);
     }
+    let setup = &found.setup;
     let lock = shared.lock(LockKind::Shared)?;
     let bytes = read_file(shared, JOURNAL)?;
     let cut = match fs::metadata(shared.rt, &shared.path(CUT)?) {
@@ -100,8 +99,8 @@ pub(crate) fn check<R: Files<File = File> + Clock + AllocGlobal>(
         Err(_) => 0,
     };
     lock.release();
-    let loaded = listing(alloc, &setup, &bytes, b"proc")?;
-    let held = listing(alloc, &setup, &bytes, b"held")?;
+    let loaded = listing(alloc, setup, &bytes, b"proc")?;
+    let held = listing(alloc, setup, &bytes, b"held")?;
     let found = found_in(alloc, &bytes)?;
     Ok(Counts {
         modules: setup.catalogue().len(),

@@ -3,11 +3,20 @@ ghost use Rattle.std.specs.Prelude.{◌≡◌};
 ghost use Rattle.gz_table_drive.specs.Faults.{ending_of_fault};
 
 use crate::setup::SectionsFault;
-use file_journal::{Cause, FileFault, LockError, OpenError};
+use file_journal::{Cause, FileFault, LockError, OpenError, Target};
 use program_frame::PathFault;
 use std::alloc::AllocError;
 use std::io::{self, ErrorKind};
 use table_words::Ending;
+
+/// Where a line of a journal lost its gate, and what stands behind it.
+#[derive(Clone, Copy, Debug)]
+pub(crate) struct Damage {
+    /// The number of that line, from 1.
+    pub(crate) line: usize,
+    /// How many lines with open gates stand behind it.
+    pub(crate) lost: usize,
+}
 
 /// Why a run did not do what was asked.
 #[derive(Clone, Copy, Debug, Drop)]
@@ -15,6 +24,8 @@ pub(crate) enum TableFault {
     OutOfMemory,
     /// The folder has no table.
     NoTable,
+    /// The folder has a setup, and no journal.
+    NoJournal,
     /// The folder has a table already.
     ThereAlready,
     /// The folder has a journal with commands, and no setup.
@@ -37,8 +48,8 @@ pub(crate) enum TableFault {
     Foreign,
     /// This line of the journal, from 1, has not the sum of its command.
     Changed(usize),
-    /// So many lines with open gates stand behind the journal's lines.
-    Damaged(usize),
+    /// A line of the journal lost its gate, and more lines with open gates stand behind it than a crash leaves.
+    Damaged(Damage),
     /// The folder was not made.
     NoFolder(ErrorKind),
     /// A file of the folder, of this name, was not written.
@@ -58,6 +69,7 @@ impl TableFault {
     {
         match self {
             TableFault::NoTable
+            | TableFault::NoJournal
             | TableFault::CutSetup
             | TableFault::ChangedSetup
             | TableFault::Sections(_)
@@ -91,6 +103,13 @@ impl From<OpenError> for TableFault {
     fn from(error: OpenError) -> TableFault {
         match error {
             OpenError::OutOfMemory => TableFault::OutOfMemory,
+            OpenError::Failed(
+                FileFault {
+                    target: Target::Journal,
+                    cause: Cause::NotThere,
+                    ..
+                },
+            ) => TableFault::NoJournal,
             OpenError::Failed(fault) => TableFault::File(fault),
         }
     }

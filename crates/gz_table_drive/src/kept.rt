@@ -1,9 +1,12 @@
 //! The table that a process keeps from one tenure to the next.
-ghost use Rattle.std.specs.Prelude.{◌≡◌, IfOk, IfSome};
+ghost use Rattle.std.specs.Prelude.{◌≡◌, IfSome};
 ghost use Rattle.std.proofs.Props.{props};
 ghost use Rattle.held_lines.specs.Held.{holding};
 ghost use Rattle.durable_table.specs.Durable.{Reads};
+ghost use Rattle.gz_table_drive.specs.Setups.{is_sound};
+ghost use Rattle.gz_table_drive.specs.Taken.{IsTaken};
 
+use crate::folder_setup::FolderSetup;
 use durable_table::{CaughtUp, DurableTable};
 use held_table::HeldTable;
 use line_journal::{Device, Renewable};
@@ -13,51 +16,77 @@ use std::alloc::Global;
 /// A table that is kept, if there is one. It read as its journal did when it was put here.
 #[derive(Drop)]
 pub(crate) struct Kept<'s, D: Device + Drop> {
-    setup: &'s Setup,
+    setup: &'s FolderSetup,
+    /// Whether the setup is sound, if that was tested.
+    sound: Option<bool>,
     table: Option<DurableTable<'s, HeldTable, D>>,
-    ghost of_setup: { IfSome table (λ t. t.session.setup.now ≡ setup.now) } by { Prim.hlevel props },
-    ghost reads: { IfSome table (λ t. Reads D.content setup.now (holding t.session.holders.held.table t.session.holders.held.names) t.journal) } by { Prim.hlevel props },
+    ghost tested: { IfSome sound (λ sound. sound ≡ is_sound setup.now) } by { Prim.hlevel props },
+    ghost of_setup: { IfSome table (λ t. t.session.setup.now ≡ setup.now.setup) } by { Prim.hlevel props },
+    ghost reads: { IfSome table (λ t. Reads D.content setup.now.setup (holding t.session.holders.held.table t.session.holders.held.names) t.journal) } by { Prim.hlevel props },
+}
+
+/// What there is of a table that is kept, once it is taken.
+#[derive(Drop)]
+pub(crate) enum Taken<'s, D: Device + Drop> {
+    /// The table, with all that others have made of its journal since.
+    Table(DurableTable<'s, HeldTable, D>),
+    /// The journal is another one, or is not at rest. The table is to be opened anew over its device.
+    Anew(D),
+    /// No table was kept, or it failed.
+    Missing,
 }
 
 impl<'s, D: Renewable + Drop> Kept<'s, D> {
     /// No table is kept yet.
-    pub(crate) fn new(setup: &'s Setup) -> Kept<'s, D>
+    pub(crate) fn new(setup: &'s FolderSetup) -> Kept<'s, D>
         ensures { result.setup.now ≡ setup.now }
     {
-        Kept { setup, table: None }
+        Kept {
+            setup,
+            sound: None,
+            table: None,
+        }
     }
 
-    /// What the table was made of.
+    /// What the setup says.
     pub(crate) fn setup(&self) -> &'s Setup
-        ensures { result.now ≡ self.now.setup.now }
+        ensures { result.now ≡ self.now.setup.now.setup }
     {
-        self.setup
+        &self.setup.setup
     }
 
-    /// Takes the table, with all that others have made of its journal since. None is kept then. If it has to be opened anew,
-    /// its device is handed back, unless that failed.
-    pub(crate) fn take(
-        &mut self,
-        alloc: Global,
-    ) -> Result<DurableTable<'s, HeldTable, D>, Option<D>>
-        ensures of_setup { IfOk result (λ t. t.session.setup.now ≡ self.old.setup.now) }
-        ensures reads { IfOk result (λ t. Reads D.content self.old.setup.now (holding t.session.holders.held.table t.session.holders.held.names) t.journal) }
+    /// Whether the setup is as it was written. That is tested once, since it takes a millisecond or more.
+    pub(crate) fn is_sound(&mut self) -> bool
+        ensures sound { result ≡ is_sound self.old.setup.now }
+        ensures setup { self.new.setup.now ≡ self.old.setup.now }
+    {
+        if let Some(sound) = self.sound {
+            return sound;
+        }
+        let sound = self.setup.is_sound();
+        self.sound = Some(sound);
+        sound
+    }
+
+    /// Takes the table. None is kept then.
+    pub(crate) fn take(&mut self, alloc: Global) -> Taken<'s, D>
+        ensures taken { IsTaken D.content self.old.setup.now.setup result }
         ensures setup { self.new.setup.now ≡ self.old.setup.now }
     {
         let Some(mut table) = self.table.take() else {
-            return Err(None);
+            return Taken::Missing;
         };
         match table.catch_up(alloc) {
-            Ok(CaughtUp::Ready) => Ok(table),
-            Ok(CaughtUp::Anew) => Err(Some(table.into_device())),
-            Err(_) => Err(None),
+            Ok(CaughtUp::Ready) => Taken::Table(table),
+            Ok(CaughtUp::Anew) => Taken::Anew(table.into_device()),
+            Err(_) => Taken::Missing,
         }
     }
 
     /// Keeps a table that reads as its journal does.
     pub(crate) fn keep(&mut self, table: DurableTable<'s, HeldTable, D>)
-        requires of_setup { table.session.setup.now ≡ self.old.setup.now }
-        requires reads { Reads D.content self.old.setup.now (holding table.session.holders.held.table table.session.holders.held.names) table.journal }
+        requires of_setup { table.session.setup.now ≡ self.old.setup.now.setup }
+        requires reads { Reads D.content self.old.setup.now.setup (holding table.session.holders.held.table table.session.holders.held.names) table.journal }
         ensures { self.new.setup.now ≡ self.old.setup.now }
     {
         self.table = Some(table);

@@ -1,18 +1,19 @@
 //! How a table is read from its folder.
-ghost use Rattle.std.specs.Prelude.{◌≡◌, ◌⊎◌, Some, IfOk};
+ghost use Rattle.std.specs.Prelude.{◌≡◌, ◌⊎◌, ◌+◌, ℕ, List, Some, IfOk, length};
 ghost use Rattle.line_journal.specs.Device.{AlwaysLeaves};
-ghost use Rattle.line_journal.specs.Lines.{lines_of, StandsFor};
+ghost use Rattle.line_journal.specs.Lines.{lines_of, open_gates, StandsFor};
 ghost use Rattle.held_lines.specs.Held.{holding};
 ghost use Rattle.dep_index.specs.Catalogue.{modules_of};
 ghost use Rattle.durable_table.specs.Tables.{opening_of, table_of};
 ghost use Rattle.durable_table.specs.Durable.{Stands};
 ghost use Rattle.durable_table.specs.Opened.{IsTableRead};
+ghost use Rattle.gz_table_drive.specs.Setups.{IsReadFrom};
 
 use crate::alias_form::form_for;
 use crate::answering::GROUP;
-use crate::fault::{TableFault, journal_fault, unwritten};
-use crate::setup::setup_of;
-use crate::shared::{CUT, SETUP, Shared};
+use crate::fault::{Damage, TableFault, journal_fault, unwritten};
+use crate::folder_setup::FolderSetup;
+use crate::shared::{CUT, JOURNAL, SETUP, Shared};
 use durable_table::{DurableTable, OpenedTable, ReadTable, open, open_reading};
 use file_journal::FileDevice;
 use held_table::HeldTable;
@@ -25,7 +26,6 @@ use std::io::{self, ErrorKind, Read, Write};
 use std::mem::ManuallyDrop;
 use std::rt::Files;
 use std::time::Clock;
-use table_setup::Sealed;
 
 /// How many bytes of a file are read at a time.
 const PIECE: usize = 65_536;
@@ -62,34 +62,21 @@ pub(crate) fn read_file<R: Files<File = File> + Clock + AllocGlobal>(
         Err(error) => match PathFault::from(error) {
             PathFault::Memory => Err(TableFault::OutOfMemory),
             PathFault::Missing if name == SETUP => Err(TableFault::NoTable),
+            PathFault::Missing if name == JOURNAL => Err(TableFault::NoJournal),
             why => Err(TableFault::Unread(name, why)),
         },
     }
-}
-
-/// What the bytes of a setup say, with its aliases in a form.
-fn setup_in_form(alloc: Global, bytes: &[u8], form: AliasForm) -> Result<Setup, TableFault> {
-    let Some(sealed) = Sealed::read(bytes) else {
-        return Err(TableFault::CutSetup);
-    };
-    match setup_of(alloc, sealed.text, form) {
-        Ok(setup) => Ok(setup),
-        Err(fault) => Err(TableFault::Sections(fault)),
-    }
-}
-
-/// What the bytes of a setup say, for many lines.
-pub(crate) fn setup_in(alloc: Global, bytes: &[u8]) -> Result<Setup, TableFault> {
-    setup_in_form(alloc, bytes, AliasForm::Table)
 }
 
 /// What the table of the folder was made of, for many lines. It is kept until the process ends, which takes less time than to
 /// give back each part of it.
 pub(crate) fn setup<R: Files<File = File> + Clock + AllocGlobal>(
     shared: &Shared<'_, R>,
-) -> Result<ManuallyDrop<Setup>, TableFault> {
+) -> Result<ManuallyDrop<FolderSetup>, TableFault>
+    ensures { IfOk result (λ found. (bytes : List ℕ) × IsReadFrom bytes found.value) }
+{
     let bytes = read_file(shared, SETUP)?;
-    let setup = setup_in(shared.alloc(), &bytes)?;
+    let setup = FolderSetup::read(shared.alloc(), bytes, AliasForm::Table)?;
     Ok(ManuallyDrop::new(setup))
 }
 
@@ -97,12 +84,26 @@ pub(crate) fn setup<R: Files<File = File> + Clock + AllocGlobal>(
 pub(crate) fn setup_for_command<R: Files<File = File> + Clock + AllocGlobal>(
     shared: &Shared<'_, R>,
     words: &[&[u8]],
-) -> Result<ManuallyDrop<Setup>, TableFault> {
+) -> Result<ManuallyDrop<FolderSetup>, TableFault>
+    ensures { IfOk result (λ found. (bytes : List ℕ) × IsReadFrom bytes found.value) }
+{
+    let alloc = shared.alloc();
     let bytes = read_file(shared, SETUP)?;
-    let setup = setup_in_form(shared.alloc(), &bytes, AliasForm::Text)?;
-    match form_for(shared, &setup, words)? {
-        AliasForm::Text => Ok(ManuallyDrop::new(setup)),
-        AliasForm::Table => Ok(ManuallyDrop::new(setup_in(shared.alloc(), &bytes)?)),
+    let found = FolderSetup::read(alloc, bytes, AliasForm::Text)?;
+    match form_for(shared, &found.setup, words)? {
+        AliasForm::Text => Ok(ManuallyDrop::new(found)),
+        AliasForm::Table => Ok(ManuallyDrop::new(found.in_form(alloc, AliasForm::Table)?)),
+    }
+}
+
+/// The damage that was found in a journal.
+pub(crate) fn damage_of(found: &Found) -> Damage
+    ensures line { result.line ≡ length found.now.lines.items + 1 }
+    ensures lost { result.lost ≡ open_gates found.now.behind.items }
+{
+    Damage {
+        line: found.lines.len() + 1,
+        lost: found.open_gates_behind(),
     }
 }
 
@@ -113,7 +114,7 @@ pub(crate) enum OpenFault<D> {
     OutOfMemory,
     Foreign,
     Changed(usize),
-    Damaged(usize),
+    Damaged(Damage),
 }
 
 impl<D> From<AllocError> for OpenFault<D> {
@@ -147,7 +148,7 @@ pub(crate) fn open_table<'s, D: Device + Drop>(
         Ok(OpenedTable::Ready(table, _)) => Ok(table),
         Ok(OpenedTable::Foreign(_)) => Err(OpenFault::Foreign),
         Ok(OpenedTable::Changed(_, line)) => Err(OpenFault::Changed(line)),
-        Ok(OpenedTable::Damaged(_, found)) => Err(OpenFault::Damaged(found.open_gates_behind())),
+        Ok(OpenedTable::Damaged(_, found)) => Err(OpenFault::Damaged(damage_of(&found))),
         Err((error, device)) => Err(OpenFault::Device(error, device)),
     }
 }

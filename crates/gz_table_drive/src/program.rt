@@ -7,6 +7,7 @@ ghost use Rattle.table_words.specs.declared.ending.Ending.{Ending as AnyEnding};
 use crate::adopt::adopt;
 use crate::answering::Replies;
 use crate::check::check;
+use crate::compaction::compact;
 use crate::create::create;
 use crate::fault::TableFault;
 use crate::input::{InputFault, InputLines, alone};
@@ -16,11 +17,12 @@ use crate::regular::refuse_others;
 use crate::repair::repair;
 use crate::shared::Shared;
 use crate::teller::Teller;
-use crate::tenure::{answer_in_tenure, compact};
+use crate::tenure::answer_in_tenure;
 use crate::told::tell_fault;
 use durable_table::Compacted;
 use file_journal::{FileDevice, Syncs};
 use line_journal::is_line;
+use memchr::memchr;
 use std::alloc::{AllocError, Global};
 use std::env::Env;
 use std::fs::File;
@@ -228,6 +230,17 @@ fn tell_text<O: Write, E: Write>(
     }
 }
 
+/// The word of a folder that stands in the place of a command, since GZ_TABLE names the folder. No command has a slash.
+fn second_folder<'a>(table: Option<&[u8]>, asked: &Asked<'_, 'a>) -> Option<&'a [u8]> {
+    let Job::Command([first, ..]) = asked.job else {
+        return None;
+    };
+    if table.is_none() || memchr(b'/', *first).is_none() {
+        return None;
+    }
+    Some(*first)
+}
+
 /// Runs the program on its words and the text of GZ_TABLE. Returns the status.
 pub fn drive<R: Files<File = File> + Env + Clock + AllocGlobal, I: Read, O: Write, E: Write>(
     rt: &R,
@@ -244,7 +257,13 @@ pub fn drive<R: Files<File = File> + Env + Clock + AllocGlobal, I: Read, O: Writ
         return teller.end("", 0, TableFault::OutOfMemory).number();
     };
     let ending = match read_words(table, &words) {
-        Ok(asked) => answer_asked(rt, &asked, input, output, &mut teller),
+        Ok(asked) => match second_folder(table, &asked) {
+            Some(word) => {
+                let advice = "GZ_TABLE is set and names the folder, so no word does";
+                teller.say("bad command", word, advice).ending()
+            }
+            None => answer_asked(rt, &asked, input, output, &mut teller),
+        },
         Err(Stop::Refused(fault)) => {
             tell_fault(fault, teller.errors());
             Ending::Unasked

@@ -1,12 +1,12 @@
 //! Lines that change nothing, and their replies from a copy of the journal.
-ghost use Rattle.std.specs.Prelude.{◌≡◌, Some, true, take, ◌<◌, ◌≤◌, length, All, IfOk, OnOk};
+ghost use Rattle.std.specs.Prelude.{◌≡◌, Some, true, take, ◌<◌, ◌≤◌, length, All, IfOk, OnOk, OnErr};
 ghost use Rattle.text_parts.specs.Text.{texts_of};
 ghost use Rattle.line_journal.specs.Lines.{AreLines, bytes_of};
 ghost use Rattle.held_lines.specs.Held.{holding};
 ghost use Rattle.held_table.specs.Held.{Held};
-ghost use Rattle.durable_table.specs.Durable.{Reads};
+ghost use Rattle.durable_table.specs.Durable.{Reads, Stands};
 ghost use Rattle.durable_table.specs.Tables.{table_of};
-ghost use Rattle.gz_table_drive.specs.Answers.{HasAnswered};
+ghost use Rattle.gz_table_drive.specs.Answers.{HasAnswered, HasAnsweredFirst, HasStopped};
 ghost use Rattle.held_lines.specs.Reading.{asks, asks_by, is_reading};
 
 use crate::answering::{GROUP, Replies, answer_lines};
@@ -55,6 +55,25 @@ pub(crate) fn are_reading(alloc: Global, lines: &[Vec<u8>]) -> Result<bool, Allo
     Ok(true)
 }
 
+/// The table that a journal's bytes stand for, over a copy of them in memory.
+pub(crate) fn copy_of<'s>(
+    alloc: Global,
+    setup: &'s Setup,
+    bytes: Vec<u8>,
+) -> Result<DurableTable<'s, HeldTable, KillOnly>, TableFault>
+    ensures stands { IfOk result (λ t. Stands ⟦<KillOnly as Device>⟧.content ⟦<KillOnly as Device>⟧.history setup.now (holding t.session.holders.held.table t.session.holders.held.names) t.journal) }
+    ensures same { IfOk result (λ t. table_of setup.now bytes.items ≡ Some (holding t.session.holders.held.table t.session.holders.held.names)) }
+    ensures setup { IfOk result (λ t. t.session.setup.now ≡ setup.now) }
+{
+    match open_table(alloc, setup, KillOnly::new(alloc, bytes)) {
+        Ok(table) => Ok(table),
+        Err(OpenFault::Foreign) => Err(TableFault::Foreign),
+        Err(OpenFault::Changed(line)) => Err(TableFault::Changed(line)),
+        Err(OpenFault::Damaged(damage)) => Err(TableFault::Damaged(damage)),
+        Err(_) => Err(TableFault::OutOfMemory),
+    }
+}
+
 /// Answers the first of some lines, as `answer_lines` does, from the table that a journal's bytes stand for.
 pub(crate) fn answer_copy(
     alloc: Global,
@@ -65,16 +84,11 @@ pub(crate) fn answer_copy(
 ) -> Result<usize, TableFault>
     requires { AreLines (bytes_of lines.now) }
     ensures answered { IfOk result (λ count. (h : Held) × (table_of setup.now bytes.items ≡ Some h) × HasAnswered setup.now h (take count (bytes_of lines.now)) replies.old replies.new) }
+    ensures stopped { OnErr result (HasStopped setup.now (bytes_of lines.now) replies.old replies.new) }
     ensures some { IfOk result (λ count. 0 < length lines.now → 0 < count) }
     ensures within { IfOk result (λ count. count ≤ length lines.now) }
 {
-    let mut table = match open_table(alloc, setup, KillOnly::new(alloc, bytes)) {
-        Ok(table) => table,
-        Err(OpenFault::Foreign) => return Err(TableFault::Foreign),
-        Err(OpenFault::Changed(line)) => return Err(TableFault::Changed(line)),
-        Err(OpenFault::Damaged(lines)) => return Err(TableFault::Damaged(lines)),
-        Err(_) => return Err(TableFault::OutOfMemory),
-    };
+    let mut table = copy_of(alloc, setup, bytes)?;
     match answer_lines(alloc, &mut table, lines, replies) {
         Ok(count) => Ok(count),
         Err(_) => Err(TableFault::OutOfMemory),
@@ -93,6 +107,7 @@ pub(crate) fn ask_lines<D: Device + Drop>(
     requires asks { All (λ line. is_reading line ≡ true) (bytes_of lines.now) }
     requires reads { Reads D.content table.old.session.setup.now (holding table.old.session.holders.held.table table.old.session.holders.held.names) table.old.journal }
     ensures answered { IfOk result (λ count. HasAnswered table.old.session.setup.now (holding table.old.session.holders.held.table table.old.session.holders.held.names) (take count (bytes_of lines.now)) replies.old replies.new) }
+    ensures stopped { OnErr result (HasAnsweredFirst table.old.session.setup.now (holding table.old.session.holders.held.table table.old.session.holders.held.names) (bytes_of lines.now) replies.old replies.new) }
     ensures some { IfOk result (λ count. 0 < length lines.now → 0 < count) }
     ensures within { IfOk result (λ count. count ≤ length lines.now) }
     ensures reads { OnOk result (Reads D.content table.old.session.setup.now (holding table.new.session.holders.held.table table.new.session.holders.held.names) table.new.journal) }

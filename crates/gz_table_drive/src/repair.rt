@@ -8,7 +8,7 @@ ghost use Rattle.durable_table.specs.Tables.{table_of};
 ghost use Rattle.durable_table.specs.Durable.{Stands};
 
 use crate::fault::{TableFault, unwritten};
-use crate::opening::{OpenFault, found_in, keep_cut, no_holders, read_file, setup};
+use crate::opening::{OpenFault, damage_of, found_in, keep_cut, no_holders, read_file, setup};
 use crate::shared::{CUT, JOURNAL, Shared};
 use crate::teller::Teller;
 use crate::tenure::unopened;
@@ -63,7 +63,7 @@ fn repair_table<'s, D: Device + Drop>(
         Ok(OpenedTable::Ready(table, found)) => Ok(Repaired { table, found }),
         Ok(OpenedTable::Foreign(_)) => Err(OpenFault::Foreign),
         Ok(OpenedTable::Changed(_, line)) => Err(OpenFault::Changed(line)),
-        Ok(OpenedTable::Damaged(_, found)) => Err(OpenFault::Damaged(found.open_gates_behind())),
+        Ok(OpenedTable::Damaged(_, found)) => Err(OpenFault::Damaged(damage_of(&found))),
         Err((error, device)) => Err(OpenFault::Device(error, device)),
     }
 }
@@ -124,7 +124,7 @@ pub(crate) fn repair<R: Files<File = File> + Clock + AllocGlobal, E: Write>(
 ) -> Result<(), TableFault> {
     let setup = setup(shared)?;
     let lock = shared.lock(LockKind::Exclusive)?;
-    let repaired = repair_journal(shared, &setup, teller);
+    let repaired = repair_journal(shared, &setup.setup, teller);
     lock.release();
     repaired
 }

@@ -1,6 +1,6 @@
 //! Where people are told why a run ends, and how it ends then.
 
-use crate::fault::TableFault;
+use crate::fault::{Damage, TableFault};
 use crate::setup::SectionsFault;
 use file_journal::{Cause, FileFault, LockError};
 use line_journal::Found;
@@ -18,7 +18,8 @@ pub(crate) struct Teller<'e, E> {
 /// What may be done about a cause.
 fn advice_on(cause: Cause) -> &'static str {
     match cause {
-        Cause::NotAllowed | Cause::ReadOnly => "; run it as one who may write to the folder",
+        Cause::NotAllowed => "; run it as one who may write to the folder",
+        Cause::ReadOnly => "; mount it for writing, or make the table in another folder",
         Cause::Full => "; free some room and ask again: what was answered is kept",
         Cause::NotThere => "; restore it, or make the table in another folder",
         Cause::ReadsOtherwise => "; another program writes to it: check says what stands there",
@@ -175,6 +176,10 @@ impl<'e, E: Write> Teller<'e, E> {
                 self.errors,
                 "gz-table: there is no table in {folder}: make one with create --host; if GZ_TABLE is set, it names the folder, and no word does"
             ),
+            TableFault::NoJournal => writeln!(
+                self.errors,
+                "gz-table: {folder}/journal is missing, and nothing was done: restore it, or make the table in another folder"
+            ),
             TableFault::ThereAlready => writeln!(
                 self.errors,
                 "gz-table: {folder} has a table already: name another folder, or remove its files first"
@@ -199,9 +204,9 @@ impl<'e, E: Write> Teller<'e, E> {
                 self.errors,
                 "gz-table: {folder}/journal, line {line}: it was changed, since its sum is another; nothing was done: restore the line, or make the table in another folder"
             ),
-            TableFault::Damaged(lines) => writeln!(
+            TableFault::Damaged(Damage { line, lost }) => writeln!(
                 self.errors,
-                "gz-table: {folder}/journal: a line was changed, and {lines} lines behind it would be lost; nothing was done: restore the line, or have check --repair keep them in journal.cut and go on without them"
+                "gz-table: {folder}/journal, line {line}: its first byte was changed, and {lost} lines behind it would be lost; nothing was done: restore the byte, or have check --repair keep them in journal.cut and go on without them"
             ),
             _ => Ok(()),
         };

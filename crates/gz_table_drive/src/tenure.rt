@@ -1,18 +1,20 @@
 //! One tenure: what a process does from where it takes the lock to where it gives it back.
-ghost use Rattle.std.specs.Prelude.{◌≡◌, ◌<◌, ◌≤◌, true, length, All, IfOk, IfSome, OnOk};
+ghost use Rattle.std.specs.Prelude.{◌≡◌, ◌<◌, ◌≤◌, true, length, take, All, IfOk, IfSome, OnErr};
 ghost use Rattle.line_journal.specs.Lines.{AreLines, bytes_of};
 ghost use Rattle.held_lines.specs.Held.{holding};
 ghost use Rattle.durable_table.specs.Durable.{Stands, Reads};
 ghost use Rattle.held_lines.specs.Reading.{is_reading};
+ghost use Rattle.gz_table_drive.specs.Answers.{HasAnswered, HasAnsweredFirst, HasAnsweredOver, HasStopped};
 
 use crate::answering::{AnswerError, Replies, answer_lines};
+use crate::compaction::shorten;
 use crate::fault::{TableFault, journal_fault};
-use crate::kept::Kept;
-use crate::opening::{OpenFault, keep_torn, no_holders, open_table, read_file, read_table, setup};
-use crate::reading::{answer_copy, are_reading, ask_lines};
+use crate::kept::{Kept, Taken};
+use crate::opening::{OpenFault, keep_torn, open_table, read_file, read_table};
+use crate::reading::{answer_copy, are_reading, ask_lines, copy_of};
 use crate::shared::{JOURNAL, Shared};
 use crate::teller::Teller;
-use durable_table::{Compacted, DurableTable, PerformError, ReadTable};
+use durable_table::{DurableTable, ReadTable};
 use file_journal::{FileDevice, FolderLock, LockKind};
 use held_table::HeldTable;
 use line_journal::{Device, DeviceError};
@@ -31,7 +33,7 @@ pub(crate) fn unopened<R: Files + Drop>(fault: OpenFault<FileDevice<R>>) -> Tabl
     match fault {
         OpenFault::Foreign => TableFault::Foreign,
         OpenFault::Changed(line) => TableFault::Changed(line),
-        OpenFault::Damaged(lines) => TableFault::Damaged(lines),
+        OpenFault::Damaged(damage) => TableFault::Damaged(damage),
         OpenFault::Device(DeviceError::Failed, device) => journal_fault(device.fault()),
         _ => TableFault::OutOfMemory,
     }
@@ -42,15 +44,15 @@ fn reading_table<'s, 'r, R: Files<File = File> + Clock + AllocGlobal>(
     shared: &Shared<'r, R>,
     kept: &mut Kept<'s, FileDevice<&'r R>>,
 ) -> Option<FileTable<'s, &'r R>>
-    ensures of_setup { IfSome result (λ t. t.session.setup.now ≡ kept.old.setup.now) }
-    ensures reads { IfSome result (λ t. Reads ⟦<FileDevice<&'r R> as Device>⟧.content kept.old.setup.now (holding t.session.holders.held.table t.session.holders.held.names) t.journal) }
+    ensures of_setup { IfSome result (λ t. t.session.setup.now ≡ kept.old.setup.now.setup) }
+    ensures reads { IfSome result (λ t. Reads ⟦<FileDevice<&'r R> as Device>⟧.content kept.old.setup.now.setup (holding t.session.holders.held.table t.session.holders.held.names) t.journal) }
     ensures setup { kept.new.setup.now ≡ kept.old.setup.now }
 {
     let (rt, alloc, folder) = (shared.rt, shared.alloc(), shared.folder);
     let device = match kept.take(alloc) {
-        Ok(table) => return Some(table),
-        Err(Some(device)) => device,
-        Err(None) => FileDevice::open(rt, alloc, folder, JOURNAL, shared.syncs).ok()?,
+        Taken::Table(table) => return Some(table),
+        Taken::Anew(device) => device,
+        Taken::Missing => FileDevice::open(rt, alloc, folder, JOURNAL, shared.syncs).ok()?,
     };
     match read_table(alloc, kept.setup(), device) {
         Ok(ReadTable::Ready(table)) => Some(table),
@@ -67,6 +69,8 @@ fn answer_unkept<R: Files<File = File> + Clock + AllocGlobal>(
     replies: &mut Replies,
 ) -> Result<usize, TableFault>
     requires { AreLines (bytes_of lines.now) }
+    ensures answered { IfOk result (λ count. HasAnsweredOver setup.now (take count (bytes_of lines.now)) replies.old replies.new) }
+    ensures stopped { OnErr result (HasStopped setup.now (bytes_of lines.now) replies.old replies.new) }
     ensures some { IfOk result (λ count. 0 < length lines.now → 0 < count) }
     ensures within { IfOk result (λ count. count ≤ length lines.now) }
 {
@@ -85,8 +89,10 @@ fn ask_table<'s, R: Files + Drop>(
 ) -> Result<usize, TableFault>
     requires lines { AreLines (bytes_of lines.now) }
     requires asks { All (λ line. is_reading line ≡ true) (bytes_of lines.now) }
-    requires of_setup { table.session.setup.now ≡ kept.old.setup.now }
-    requires reads { Reads ⟦<FileDevice<R> as Device>⟧.content kept.old.setup.now (holding table.session.holders.held.table table.session.holders.held.names) table.journal }
+    requires of_setup { table.session.setup.now ≡ kept.old.setup.now.setup }
+    requires reads { Reads ⟦<FileDevice<R> as Device>⟧.content kept.old.setup.now.setup (holding table.session.holders.held.table table.session.holders.held.names) table.journal }
+    ensures answered { IfOk result (λ count. HasAnswered kept.old.setup.now.setup (holding table.entry.session.holders.held.table table.entry.session.holders.held.names) (take count (bytes_of lines.now)) replies.old replies.new) }
+    ensures stopped { OnErr result (HasAnsweredFirst kept.old.setup.now.setup (holding table.entry.session.holders.held.table table.entry.session.holders.held.names) (bytes_of lines.now) replies.old replies.new) }
     ensures some { IfOk result (λ count. 0 < length lines.now → 0 < count) }
     ensures within { IfOk result (λ count. count ≤ length lines.now) }
     ensures setup { kept.new.setup.now ≡ kept.old.setup.now }
@@ -105,6 +111,8 @@ fn answer_reading<'s, 'r, R: Files<File = File> + Clock + AllocGlobal>(
 ) -> Result<usize, TableFault>
     requires lines { AreLines (bytes_of lines.now) }
     requires asks { All (λ line. is_reading line ≡ true) (bytes_of lines.now) }
+    ensures answered { IfOk result (λ count. HasAnsweredOver kept.old.setup.now.setup (take count (bytes_of lines.now)) replies.old replies.new) }
+    ensures stopped { OnErr result (HasStopped kept.old.setup.now.setup (bytes_of lines.now) replies.old replies.new) }
     ensures some { IfOk result (λ count. 0 < length lines.now → 0 < count) }
     ensures within { IfOk result (λ count. count ≤ length lines.now) }
     ensures setup { kept.new.setup.now ≡ kept.old.setup.now }
@@ -131,7 +139,8 @@ fn settled<'s, D: Device + Drop>(
     }
 }
 
-/// Opens the table of a file that does not read as a journal at rest. What a crash left behind its lines is first kept.
+/// Opens the table of a file that does not read as a journal at rest. What a crash left behind its lines is first kept. If no
+/// table can be made of it, which is tried on a copy, nothing is written.
 fn repaired<'s, 'r, R: Files<File = File> + Clock + AllocGlobal, E: Write>(
     shared: &Shared<'r, R>,
     setup: &'s Setup,
@@ -141,6 +150,7 @@ fn repaired<'s, 'r, R: Files<File = File> + Clock + AllocGlobal, E: Write>(
     ensures of_setup { IfOk result (λ t. t.session.setup.now ≡ setup.now) }
     ensures stands { IfOk result (λ t. Stands ⟦<FileDevice<&'r R> as Device>⟧.content ⟦<FileDevice<&'r R> as Device>⟧.history setup.now (holding t.session.holders.held.table t.session.holders.held.names) t.journal) }
 {
+    copy_of(shared.alloc(), setup, read_file(shared, JOURNAL)?)?;
     let cut = keep_torn(shared, &mut device)?;
     teller.cut(shared.folder, cut);
     match open_table(shared.alloc(), setup, device) {
@@ -155,55 +165,20 @@ pub(crate) fn changing_table<'s, 'r, R: Files<File = File> + Clock + AllocGlobal
     kept: &mut Kept<'s, FileDevice<&'r R>>,
     teller: &mut Teller<'_, E>,
 ) -> Result<FileTable<'s, &'r R>, TableFault>
-    ensures of_setup { IfOk result (λ t. t.session.setup.now ≡ kept.old.setup.now) }
-    ensures stands { IfOk result (λ t. Stands ⟦<FileDevice<&'r R> as Device>⟧.content ⟦<FileDevice<&'r R> as Device>⟧.history kept.old.setup.now (holding t.session.holders.held.table t.session.holders.held.names) t.journal) }
+    ensures of_setup { IfOk result (λ t. t.session.setup.now ≡ kept.old.setup.now.setup) }
+    ensures stands { IfOk result (λ t. Stands ⟦<FileDevice<&'r R> as Device>⟧.content ⟦<FileDevice<&'r R> as Device>⟧.history kept.old.setup.now.setup (holding t.session.holders.held.table t.session.holders.held.names) t.journal) }
     ensures setup { kept.new.setup.now ≡ kept.old.setup.now }
 {
     let (rt, alloc, folder) = (shared.rt, shared.alloc(), shared.folder);
     let device = match kept.take(alloc) {
-        Ok(table) => return settled(table).map_err(unopened),
-        Err(Some(device)) => device,
-        Err(None) => FileDevice::open(rt, alloc, folder, JOURNAL, shared.syncs)?,
+        Taken::Table(table) => return settled(table).map_err(unopened),
+        Taken::Anew(device) => device,
+        Taken::Missing => FileDevice::open(rt, alloc, folder, JOURNAL, shared.syncs)?,
     };
     match read_table(alloc, kept.setup(), device) {
         Ok(ReadTable::Ready(table)) => settled(table).map_err(unopened),
         Ok(ReadTable::Anew(device)) => repaired(shared, kept.setup(), device, teller),
         Err(fault) => Err(unopened(fault)),
-    }
-}
-
-/// Writes the journal anew, as the lines that make its table.
-fn compact_table<D: Device + Drop>(
-    alloc: Global,
-    setup: &Setup,
-    table: &mut DurableTable<'_, HeldTable, D>,
-) -> Result<Compacted, PerformError>
-    requires stands { Stands D.content D.history setup.now (holding table.old.session.holders.held.table table.old.session.holders.held.names) table.old.journal }
-    requires setup { table.old.session.setup.now ≡ setup.now }
-    ensures stands { OnOk result (Stands D.content D.history setup.now (holding table.new.session.holders.held.table table.new.session.holders.held.names) table.new.journal) }
-    ensures setup { table.new.session.setup.now ≡ setup.now }
-{
-    match no_holders(alloc, setup) {
-        Ok(fresh) => table.compact(alloc, fresh),
-        Err(_) => Err(PerformError::OutOfMemory),
-    }
-}
-
-/// Writes a journal that has become long anew. If that fails, it stands for the same table all the same, but the table is
-/// to be opened anew.
-fn shorten<D: Device + Drop>(
-    alloc: Global,
-    setup: &Setup,
-    table: &mut DurableTable<'_, HeldTable, D>,
-) -> bool
-    requires stands { Stands D.content D.history setup.now (holding table.old.session.holders.held.table table.old.session.holders.held.names) table.old.journal }
-    requires setup { table.old.session.setup.now ≡ setup.now }
-    ensures stands { result ≡ true → Stands D.content D.history setup.now (holding table.new.session.holders.held.table table.new.session.holders.held.names) table.new.journal }
-    ensures setup { table.new.session.setup.now ≡ setup.now }
-{
-    match table.is_long(alloc) {
-        Ok(true) => compact_table(alloc, setup, table).is_ok(),
-        _ => true,
     }
 }
 
@@ -217,15 +192,17 @@ fn answer_table<'s, R: Files + Drop>(
     replies: &mut Replies,
 ) -> Result<usize, TableFault>
     requires lines { AreLines (bytes_of lines.now) }
-    requires of_setup { table.session.setup.now ≡ kept.old.setup.now }
-    requires stands { Stands ⟦<FileDevice<R> as Device>⟧.content ⟦<FileDevice<R> as Device>⟧.history kept.old.setup.now (holding table.session.holders.held.table table.session.holders.held.names) table.journal }
+    requires of_setup { table.session.setup.now ≡ kept.old.setup.now.setup }
+    requires stands { Stands ⟦<FileDevice<R> as Device>⟧.content ⟦<FileDevice<R> as Device>⟧.history kept.old.setup.now.setup (holding table.session.holders.held.table table.session.holders.held.names) table.journal }
+    ensures answered { IfOk result (λ count. HasAnswered kept.old.setup.now.setup (holding table.entry.session.holders.held.table table.entry.session.holders.held.names) (take count (bytes_of lines.now)) replies.old replies.new) }
+    ensures stopped { OnErr result (HasAnsweredFirst kept.old.setup.now.setup (holding table.entry.session.holders.held.table table.entry.session.holders.held.names) (bytes_of lines.now) replies.old replies.new) }
     ensures some { IfOk result (λ count. 0 < length lines.now → 0 < count) }
     ensures within { IfOk result (λ count. count ≤ length lines.now) }
     ensures setup { kept.new.setup.now ≡ kept.old.setup.now }
 {
     match answer_lines(alloc, &mut table, lines, replies) {
         Ok(count) => {
-            if shorten(alloc, kept.setup(), &mut table) {
+            if shorten(alloc, kept, &mut table) {
                 kept.keep(table);
             }
             Ok(count)
@@ -244,6 +221,8 @@ fn answer_changing<'s, 'r, R: Files<File = File> + Clock + AllocGlobal, E: Write
     teller: &mut Teller<'_, E>,
 ) -> Result<usize, TableFault>
     requires { AreLines (bytes_of lines.now) }
+    ensures answered { IfOk result (λ count. HasAnsweredOver kept.old.setup.now.setup (take count (bytes_of lines.now)) replies.old replies.new) }
+    ensures stopped { OnErr result (HasStopped kept.old.setup.now.setup (bytes_of lines.now) replies.old replies.new) }
     ensures some { IfOk result (λ count. 0 < length lines.now → 0 < count) }
     ensures within { IfOk result (λ count. count ≤ length lines.now) }
     ensures setup { kept.new.setup.now ≡ kept.old.setup.now }
@@ -264,6 +243,8 @@ pub(crate) fn answer_in_tenure<'s, 'r, R: Files<File = File> + Clock + AllocGlob
     teller: &mut Teller<'_, E>,
 ) -> Result<usize, TableFault>
     requires { AreLines (bytes_of lines.now) }
+    ensures answered { IfOk result (λ count. HasAnsweredOver kept.old.setup.now.setup (take count (bytes_of lines.now)) replies.old replies.new) }
+    ensures stopped { OnErr result (HasStopped kept.old.setup.now.setup (bytes_of lines.now) replies.old replies.new) }
     ensures some { IfOk result (λ count. 0 < length lines.now → 0 < count) }
     ensures within { IfOk result (λ count. count ≤ length lines.now) }
     ensures setup { kept.new.setup.now ≡ kept.old.setup.now }
@@ -272,25 +253,5 @@ pub(crate) fn answer_in_tenure<'s, 'r, R: Files<File = File> + Clock + AllocGlob
         answer_reading(shared, kept, lines, replies)
     } else {
         answer_changing(shared, kept, lines, replies, teller)
-    }
-}
-
-/// Writes the journal of a folder anew, as the lines that make its table.
-pub(crate) fn compact<R: Files<File = File> + Clock + AllocGlobal, E: Write>(
-    shared: &Shared<'_, R>,
-    teller: &mut Teller<'_, E>,
-) -> Result<Compacted, TableFault> {
-    let alloc = shared.alloc();
-    let setup = setup(shared)?;
-    let lock = shared.lock(LockKind::Exclusive)?;
-    let mut table = changing_table(shared, &mut Kept::new(&setup), teller)?;
-    let compacted = compact_table(alloc, &setup, &mut table);
-    lock.release();
-    match compacted {
-        Ok(compacted) => Ok(compacted),
-        Err(PerformError::Device(DeviceError::Failed)) => {
-            Err(journal_fault(table.device().fault()))
-        }
-        Err(_) => Err(TableFault::OutOfMemory),
     }
 }

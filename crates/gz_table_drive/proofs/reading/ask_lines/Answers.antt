@@ -1,5 +1,8 @@
 use Rattle.held_lines.specs.Held.{holding}
+use Rattle.line_journal.specs.Lines.{bytes_of}
+use Rattle.gz_table_drive.proofs.AnswerLemmas.{on_err}
 use Rattle.gz_table_drive.proofs.AskLemmas.{lines_first, reads_still, asked}
+use Rattle.gz_table_drive.proofs.TenureLemmas.{asked_first, none_first}
 use Rattle.gz_table_drive.proofs.reading.ask_lines.Goals as goal
 
 pub ask-requires : goal.ask-requires
@@ -19,3 +22,17 @@ returns-clause-reads g c =
     reads_still g.D.Device.content c.args.table.now.session.setup.now (holding held.table held.names) (holding now.table now.names)
     c.min-count.result c.args.lines.now c.args.table.now.journal c.ask.new.self.journal
     c.requires.reads c.requires.asks c.in_ok-answered.ensures.becomes c.ask.ensures.journal
+
+pub returns-in_err-answered-clause-stopped : goal.returns-in_err-answered-clause-stopped
+returns-in_err-answered-clause-stopped g c =
+    let held = c.args.table.now.session.holders.held in
+    on_err c.from_residual.result (none_first c.args.table.now.session.setup.now (holding held.table held.names) (bytes_of c.args.lines.now) c.args.replies.now)
+
+pub returns-in_err-add_all-clause-stopped : goal.returns-in_err-add_all-clause-stopped
+returns-in_err-add_all-clause-stopped g c =
+    let held = c.args.table.now.session.holders.held in
+    let stopped = c.in_err-add_all.ensures.err in
+    on_err c.from_residual-in_err-add_all.result
+    (asked_first c.args.table.now.session.setup.now (holding held.table held.names) c.min-count.result c.args.lines.now stopped.0
+    c.in_ok-answered.answered.items c.deref.result.now c.args.replies.now c.add_all.new.self
+    c.deref.ensures.value c.in_ok-answered.ensures.replies stopped.1 stopped.2)

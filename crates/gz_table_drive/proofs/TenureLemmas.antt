@@ -1,0 +1,77 @@
+-- What a tenure answered, of a table that some journal stands for.
+use Rattle.std.proofs.Common.{arith, ◌≡◌, refl, sym, ap, subst, ◌∙◌, inl, inr, ℕ, ◌+◌, ◌≤◌, List, ◌++◌, length, map, take, drop, Vec, Result, Ok, Err, IfOk, OnErr}
+use Rattle.std.specs.declared.alloc.Global.{Global}
+use Rattle.std.proofs.lemmas.List.{take-append-le, take-append-drop, take-map, length-append, length-map}
+use Rattle.line_journal.specs.Lines.{bytes_of}
+use Rattle.modprobe.specs.Setup.{Setup}
+use Rattle.held_table.specs.Held.{Held}
+use Rattle.held_lines.specs.declared.reply.HeldReply.{HeldReply}
+use Rattle.line_journal.specs.Device.{History}
+use Rattle.line_journal.specs.declared.journal.Journal.{Journal}
+use Rattle.durable_table.specs.Durable.{FileStands, Reads, Stands}
+use Rattle.durable_table.specs.Groups.{replies_of}
+use Rattle.gz_table_drive.specs.declared.answering.Replies.{Replies}
+use Rattle.gz_table_drive.specs.Answers.{HasMore, HasAnswered, HasAnsweredFirst, HasAnsweredOver, HasStopped}
+use Rattle.gz_table_drive.proofs.AnswerLemmas.{none_more, replies_first, length_replies}
+
+pub answered_over : (s : Setup) (h : Held) (file : List ℕ) (lines : List (List ℕ)) (old new : Replies)
+    → FileStands s h file → HasAnswered s h lines old new → HasAnsweredOver s lines old new
+answered_over s h file lines old new stands answered = record { file = file; held = h; stands = stands; answered = answered }
+
+pub stopped_over : (s : Setup) (h : Held) (file : List ℕ) (lines : List (List ℕ)) (old new : Replies)
+    → FileStands s h file → HasAnsweredFirst s h lines old new → HasStopped s lines old new
+stopped_over s h file lines old new stands (count, within, answered) =
+    inr (count, within, answered_over s h file (take count lines) old new stands answered)
+
+-- no line was answered
+pub none_first : (s : Setup) (h : Held) (lines : List (List ℕ)) (replies : Replies) → HasAnsweredFirst s h lines replies replies
+none_first s h lines replies = (0, omega arith, none_more replies replies refl refl)
+
+-- what a call answered over a table that a journal stands for
+pub over_ok : {E : Type 0} (s : Setup) (h : Held) (file : List ℕ) (lines : List (List ℕ)) (old new : Replies) (result : Result ℕ E) → FileStands s h file
+    → IfOk result (λ count. HasAnswered s h (take count lines) old new) → IfOk result (λ count. HasAnsweredOver s (take count lines) old new)
+over_ok s h file lines old new (Ok count) stands answered = answered_over s h file (take count lines) old new stands answered
+over_ok s h file lines old new (Err error) stands answered = tt
+
+pub over_err : {E : Type 0} (s : Setup) (h : Held) (file : List ℕ) (lines : List (List ℕ)) (old new : Replies) (result : Result ℕ E) → FileStands s h file
+    → OnErr result (HasAnsweredFirst s h lines old new) → OnErr result (HasStopped s lines old new)
+over_err s h file lines old new (Ok count) stands stopped = tt
+over_err s h file lines old new (Err error) stands stopped = stopped_over s h file lines old new stands stopped
+
+-- the journal of a table reads so
+pub reads_ok : {E D : Type 0} {content : D → List ℕ} {journal : Journal D} (s : Setup) (h : Held) (lines : List (List ℕ)) (old new : Replies) (result : Result ℕ E) → Reads content s h journal
+    → IfOk result (λ count. HasAnswered s h (take count lines) old new) → IfOk result (λ count. HasAnsweredOver s (take count lines) old new)
+reads_ok {content = content} {journal = journal} s h lines old new result reads = over_ok s h (content journal.device) lines old new result reads.same
+
+pub reads_err : {E D : Type 0} {content : D → List ℕ} {journal : Journal D} (s : Setup) (h : Held) (lines : List (List ℕ)) (old new : Replies) (result : Result ℕ E) → Reads content s h journal
+    → OnErr result (HasAnsweredFirst s h lines old new) → OnErr result (HasStopped s lines old new)
+reads_err {content = content} {journal = journal} s h lines old new result reads = over_err s h (content journal.device) lines old new result reads.same
+
+-- the journal of a table stands for it on the disk
+pub stands_ok : {E D : Type 0} {content : D → List ℕ} {history : D → History} {journal : Journal D} (s : Setup) (h : Held) (lines : List (List ℕ)) (old new : Replies) (result : Result ℕ E)
+    → Stands content history s h journal → IfOk result (λ count. HasAnswered s h (take count lines) old new) → IfOk result (λ count. HasAnsweredOver s (take count lines) old new)
+stands_ok {content = content} {journal = journal} s h lines old new result stands = over_ok s h (content journal.device) lines old new result stands.same
+
+pub stands_err : {E D : Type 0} {content : D → List ℕ} {history : D → History} {journal : Journal D} (s : Setup) (h : Held) (lines : List (List ℕ)) (old new : Replies) (result : Result ℕ E)
+    → Stands content history s h journal → OnErr result (HasAnsweredFirst s h lines old new) → OnErr result (HasStopped s lines old new)
+stands_err {content = content} {journal = journal} s h lines old new result stands = over_err s h (content journal.device) lines old new result stands.same
+
+-- the replies to the first lines, of which not all are there
+pub asked_first : (s : Setup) (h : Held) (count : ℕ) (lines : List (Vec ℕ Global)) (there : ℕ) (made answered : List HeldReply) (old new : Replies)
+    → answered ≡ made → map (λ r. r.reply) made ≡ replies_of s h (bytes_of (take count lines)) → there ≤ length answered
+    → HasMore (map (λ r. r.reply) (take there answered)) old new → HasAnsweredFirst s h (bytes_of lines) old new
+asked_first s h count lines there made answered old new same are below has =
+    let all : List (List ℕ) = bytes_of lines in
+    let group = take count all in
+    let rest = drop count all in
+    let replies : map (λ (r : HeldReply). r.reply) answered ≡ replies_of s h group =
+    ap (map (λ (r : HeldReply). r.reply)) same ∙ are ∙ ap (replies_of s h) (sym (take-map (λ (v : Vec ℕ Global). v.items) count lines)) in
+    let within : there ≤ length group = omega (arith, below, ap length replies, length_replies s h group, length-map answered (λ (r : HeldReply). r.reply)) in
+    let split : group ++ rest ≡ all = take-append-drop count all in
+    let first : take there group ≡ take there all = sym (take-append-le there group rest within) ∙ ap (take there) split in
+    let long : length group + length rest ≡ length all = sym (length-append group rest) ∙ ap length split in (
+      there,
+      omega (arith, within, long),
+      subst (λ outcomes. HasMore outcomes old new)
+          (sym (take-map (λ (r : HeldReply). r.reply) there answered) ∙ ap (take there) replies ∙ replies_first s h there group ∙ ap (replies_of s h) first) has,
+    )
