@@ -1,14 +1,15 @@
-//! A table over a small catalogue, and its journal in memory.
+//! A table over a small catalogue, and its journal.
 ghost use Rattle.std.specs.Prelude.{◌≡◌, IfOk, OnOk};
 ghost use Rattle.dep_index.specs.Catalogue.{modules_of};
 ghost use Rattle.line_journal.specs.KillOnly.{held_by, history_of};
-ghost use Rattle.held_lines.specs.Held.{holding};
 ghost use Rattle.durable_table.specs.Durable.{Stands};
 ghost use Rattle.durable_table.specs.Tables.{opening_of};
+ghost use Rattle.tenures.specs.Steps.{held_of};
 
 use durable_table::{Compacted, DurableTable, OpenedTable, create, open};
+use held_lines::HeldReply;
 use held_table::HeldTable;
-use line_journal::{KillOnly, Repair, are_lines, is_line};
+use line_journal::{Device, KillOnly, Repair, are_lines, is_line};
 use modprobe::{Buffer, FromRead, Lines, Setup, read_setup};
 use std::alloc::Global;
 use std::test::Fail;
@@ -28,42 +29,40 @@ module loop
 pub(crate) fn setup(alloc: Global) -> Result<Setup, Fail> {
     let mut reader = FromRead::new(SECTIONS);
     let mut lines = Lines::new(alloc, Buffer::new(alloc)?, &mut reader, 9);
-    match read_setup(alloc, &mut lines) {
-        Ok(setup) => Ok(setup),
-        Err(_) => Err("no setup".into()),
-    }
+    Ok(read_setup(alloc, &mut lines)?)
 }
 
 /// A table of holders of which none is there.
-fn fresh(alloc: Global, setup: &Setup) -> Result<HeldTable, Fail>
+pub(crate) fn fresh(alloc: Global, setup: &Setup) -> Result<HeldTable, Fail>
     ensures over { IfOk result (λ made. made.catalogue ≡ modules_of setup.now.catalogue) }
-    ensures opening { IfOk result (λ made. holding made.held.table made.held.names ≡ opening_of setup.now) }
+    ensures opening { IfOk result (λ made. held_of made ≡ opening_of setup.now) }
 {
     Ok(HeldTable::new(alloc, setup.catalogue().slots(alloc)?)?)
 }
 
 /// The table that a journal stands for.
-pub(crate) fn opened<'s>(
+pub(crate) fn opened<'s, D: Device + Drop>(
     alloc: Global,
     setup: &'s Setup,
-    file: KillOnly,
-) -> Result<DurableTable<'s, HeldTable, KillOnly>, Fail>
-    ensures stands { IfOk result (λ made. Stands held_by history_of setup.now (holding made.session.holders.held.table made.session.holders.held.names) made.journal) }
+    device: D,
+) -> Result<DurableTable<'s, HeldTable, D>, Fail>
+    ensures stands { IfOk result (λ made. Stands D.content D.history setup.now (held_of made.session.holders) made.journal) }
     ensures setup { IfOk result (λ made. made.session.setup.now ≡ setup.now) }
 {
     let holders = fresh(alloc, setup)?;
-    match open(alloc, setup, holders, file, Repair::CutAtMost(0)) {
+    match open(alloc, setup, holders, device, Repair::CutAtMost(0)) {
         Ok(OpenedTable::Ready(table, _)) => Ok(table),
-        _ => Err("no table".into()),
+        Ok(_) => Err("no table".into()),
+        Err((error, _)) => Err(error.into()),
     }
 }
 
-/// A table in which nothing is loaded, and its new journal.
+/// A table in which nothing is loaded, and its new journal in memory.
 pub(crate) fn new_table<'s>(
     alloc: Global,
     setup: &'s Setup,
 ) -> Result<DurableTable<'s, HeldTable, KillOnly>, Fail>
-    ensures stands { IfOk result (λ made. Stands held_by history_of setup.now (holding made.session.holders.held.table made.session.holders.held.names) made.journal) }
+    ensures stands { IfOk result (λ made. Stands held_by history_of setup.now (held_of made.session.holders) made.journal) }
     ensures setup { IfOk result (λ made. made.session.setup.now ≡ setup.now) }
 {
     let mut file = KillOnly::new(alloc, Vec::new(alloc));
@@ -83,61 +82,62 @@ pub(crate) fn lines_of(alloc: Global, text: &[u8]) -> Result<Vec<Vec<u8>>, Fail>
 }
 
 /// The text of the reply to a line.
-pub(crate) fn answer(
-    table: &mut DurableTable<'_, HeldTable, KillOnly>,
+pub(crate) fn answer<D: Device>(
+    table: &mut DurableTable<'_, HeldTable, D>,
     alloc: Global,
     line: &[u8],
 ) -> Result<String, Fail>
-    requires { Stands held_by history_of table.old.session.setup.now (holding table.old.session.holders.held.table table.old.session.holders.held.names) table.old.journal }
-    ensures stands { OnOk result (Stands held_by history_of table.new.session.setup.now (holding table.new.session.holders.held.table table.new.session.holders.held.names) table.new.journal) }
+    requires { Stands D.content D.history table.old.session.setup.now (held_of table.old.session.holders) table.old.journal }
+    ensures stands { OnOk result (Stands D.content D.history table.new.session.setup.now (held_of table.new.session.holders) table.new.journal) }
     ensures setup { table.new.session.setup ≡ table.old.session.setup }
 {
     if !is_line(line) {
         return Err("no line".into());
     }
-    match table.perform(alloc, line) {
-        Ok(reply) => Ok(String::from_utf8_lossy(alloc, reply.reply.text())?),
-        Err(_) => Err("no reply".into()),
-    }
+    let reply = table.perform(alloc, line)?;
+    Ok(String::from_utf8_lossy(alloc, reply.reply.text())?)
 }
 
-/// The texts of the replies to lines, one after another.
-pub(crate) fn answers(
-    table: &mut DurableTable<'_, HeldTable, KillOnly>,
-    alloc: Global,
-    lines: &[Vec<u8>],
-) -> Result<String, Fail>
-    requires { Stands held_by history_of table.old.session.setup.now (holding table.old.session.holders.held.table table.old.session.holders.held.names) table.old.journal }
-    ensures stands { OnOk result (Stands held_by history_of table.new.session.setup.now (holding table.new.session.holders.held.table table.new.session.holders.held.names) table.new.journal) }
-    ensures setup { table.new.session.setup ≡ table.old.session.setup }
-{
-    if !are_lines(lines) {
-        return Err("no lines".into());
-    }
-    let Ok(replies) = table.perform_all(alloc, lines) else {
-        return Err("no replies".into());
-    };
+/// The texts of replies, one after another.
+pub(crate) fn text_of(alloc: Global, replies: &[HeldReply]) -> Result<String, Fail> {
     let mut text = Vec::new(alloc);
-    for reply in &replies {
+    for reply in replies {
         text.extend_from_slice(reply.reply.text())?;
     }
     Ok(String::from_utf8_lossy(alloc, &text)?)
 }
 
+/// The texts of the replies to lines, one after another.
+pub(crate) fn answers<D: Device>(
+    table: &mut DurableTable<'_, HeldTable, D>,
+    alloc: Global,
+    lines: &[Vec<u8>],
+) -> Result<String, Fail>
+    requires { Stands D.content D.history table.old.session.setup.now (held_of table.old.session.holders) table.old.journal }
+    ensures stands { OnOk result (Stands D.content D.history table.new.session.setup.now (held_of table.new.session.holders) table.new.journal) }
+    ensures setup { table.new.session.setup ≡ table.old.session.setup }
+{
+    if !are_lines(lines) {
+        return Err("no lines".into());
+    }
+    let replies = table.perform_all(alloc, lines)?;
+    text_of(alloc, &replies)
+}
+
 /// The journal is compacted.
-pub(crate) fn compacted(
-    table: &mut DurableTable<'_, HeldTable, KillOnly>,
+pub(crate) fn compacted<D: Device>(
+    table: &mut DurableTable<'_, HeldTable, D>,
     alloc: Global,
     setup: &Setup,
 ) -> Result<(), Fail>
-    requires stands { Stands held_by history_of table.old.session.setup.now (holding table.old.session.holders.held.table table.old.session.holders.held.names) table.old.journal }
+    requires stands { Stands D.content D.history table.old.session.setup.now (held_of table.old.session.holders) table.old.journal }
     requires setup { table.old.session.setup.now ≡ setup.now }
-    ensures stands { OnOk result (Stands held_by history_of table.new.session.setup.now (holding table.new.session.holders.held.table table.new.session.holders.held.names) table.new.journal) }
+    ensures stands { OnOk result (Stands D.content D.history table.new.session.setup.now (held_of table.new.session.holders) table.new.journal) }
     ensures setup { table.new.session.setup ≡ table.old.session.setup }
 {
     let holders = fresh(alloc, setup)?;
-    match table.compact(alloc, holders) {
-        Ok(Compacted::Done) => Ok(()),
-        _ => Err("not compacted".into()),
+    match table.compact(alloc, holders)? {
+        Compacted::Done => Ok(()),
+        Compacted::Kept => Err("not compacted".into()),
     }
 }
