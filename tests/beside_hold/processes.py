@@ -108,6 +108,15 @@ def faults_of_wait(machine):
     return []
 
 
+def faults_of_plain_flock(machine):
+    """A flock that does not wait, as that of busybox, serves too."""
+    plain = machine.room / "path/flock"
+    machine.script(plain, f'case $1 in -w) exit 1 ;; --help) exit ;; *) exec {shutil.which("flock")} "$@" ;; esac')
+    faults = faults_of_patience(machine)
+    plain.unlink()
+    return [f"with a flock that does not wait, {it}" for it in faults]
+
+
 def faults_of_patience(machine):
     """Another one is waited for as long as is said, and no longer."""
     machine.anew()
@@ -121,7 +130,10 @@ def faults_of_patience(machine):
             wanted = f"gz-hold: loop: another gz-hold has been at work for {wait} seconds; ask again, or set GZ_HOLD_WAIT"
             if found != ("", 4, [wanted]) or not wait <= time.monotonic() - begun < wait + 10:
                 faults.append(f"a lock that another one has, for {wait} seconds: {found} after {time.monotonic() - begun:.1f}")
-    return faults
+        threading.Timer(1, fcntl.flock, (lock, fcntl.LOCK_UN)).start()
+        late = machine.hold("upgrade loop --wait 0", wait=20)
+    wanted = ("error EWOULDBLOCK loop\n", 11, [])
+    return faults + [f"a lock that is given back: {it}" for it in [late] if it != wanted]
 
 
 def faults_of_turns(machine):
@@ -159,5 +171,5 @@ def faults_of_mend_in_vain(machine):
 
 def faults_of_processes(machine):
     """What is wrong, each as a line."""
-    parts = [faults_of_holders, faults_of_command, faults_of_wait, faults_of_patience, faults_of_turns, faults_of_mend_in_vain]
+    parts = [faults_of_holders, faults_of_command, faults_of_wait, faults_of_patience, faults_of_plain_flock, faults_of_turns, faults_of_mend_in_vain]
     return [fault for part in parts for fault in part(machine)]
