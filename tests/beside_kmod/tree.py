@@ -8,7 +8,7 @@ from .judge import files_below
 from .world import CONFIGURED, concrete_text
 
 FLAGS = ([b"-D"], [b"-D", b"-b"], [b"-n", b"-v", b"-i"], [b"-R", b"-q"])
-SEVERAL = 40
+SEVERAL = 1000
 
 
 def normal(path):
