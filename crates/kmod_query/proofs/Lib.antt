@@ -4,7 +4,7 @@ pub mod SoftLemmas
 pub mod ProbeLemmas
 pub mod TextLemmas
 pub mod RemovalLemmas
-pub mod GroupLemmas
+pub mod KeyOrderLemmas
 pub mod WayLemmas
 pub mod LawLemmas
 pub mod ReasonLemmas

@@ -13,6 +13,7 @@ pub mod Removal
 pub mod Verdicts
 pub mod Removals
 pub mod Shown
+pub mod KeyOrder
 pub mod World
 pub mod AnswerOf
 pub mod Reasons

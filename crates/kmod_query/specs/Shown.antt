@@ -1,17 +1,11 @@
 -- What --showconfig tells: the lines of the configuration, kind by kind, and the lines of the indexes.
-use Rattle.std.specs.Prelude.{ℕ, if◌then◌else◌, ◌==◌, List, [], ◌∷◌, ◌++◌, length, fold, codes}
+use Rattle.std.specs.Prelude.{ℕ, Bool, true, false, if◌then◌else◌, ◌==◌, nat_lt, List, [], ◌∷◌, ◌++◌, length, fold, codes}
 use Rattle.std.specs.List.{flat_map}
 use Rattle.kmod_names.specs.declared.alias_table.AliasEntry.{AliasEntry}
 use Rattle.kmod_conf.specs.declared.line.NameLine.{NameLine}
 use Rattle.kmod_conf.specs.declared.line.SoftdepLine.{SoftdepLine}
 use Rattle.kmod_conf.specs.declared.line.TextLine.{TextLine}
 use Rattle.kmod_conf.specs.declared.line.WeakdepLine.{WeakdepLine}
-use Rattle.std.specs.BTreeMap.{insert_entry, is_at}
-use Rattle.std.specs.Map.{lookup, remove_entry}
-use Rattle.std.specs.Cmp.Lexicographic.{slice_cmp}
-use Rattle.std.specs.Ordering.{nat_cmp}
-use Rattle.std.specs.Option.{unwrap_or}
-use Rattle.std.specs.declared.cmp.Ordering.{Ordering}
 use Rattle.kmod_index.specs.Indexes.{Indexes}
 use Rattle.kmod_index.specs.Lines.{Keyed}
 use Rattle.kmod_conf.specs.Configuration.{Configuration}
@@ -60,31 +54,26 @@ shown_configuration conf =
     ++ flat_map softdep_line conf.softdeps
     ++ flat_map weakdep_line conf.weakdeps
 
--- the lines of an index by their keys, each key with the text of its lines
-abbrev pub GroupList : Type 0
-GroupList = List (List ℕ × List ℕ)
+-- whether a key comes before another, by their bytes
+abbrev pub is_before : List ℕ → List ℕ → Bool
+is_before key [] = false
+is_before [] (other ∷ others) = true
+is_before (byte ∷ key) (other ∷ others) = if byte == other then is_before key others else nat_lt byte other
 
-abbrev pub by_bytes : List ℕ → List ℕ → Ordering
-by_bytes a b = slice_cmp nat_cmp a b
+-- a line put before the first one whose key its own key comes before
+abbrev pub put_line : List Keyed → Keyed → List Keyed
+put_line [] own = own ∷ []
+put_line (line ∷ lines) own = if is_before own.key line.key then own ∷ line ∷ lines else line ∷ put_line lines own
 
-abbrev pub text_of_key : GroupList → List ℕ → List ℕ
-text_of_key groups key = unwrap_or (lookup (is_at (by_bytes key)) groups) []
+-- lines by the bytes of their keys; those of one key keep their order
+abbrev pub by_key : List Keyed → List Keyed
+by_key lines = fold put_line [] lines
 
-abbrev pub without_key : GroupList → List ℕ → GroupList
-without_key groups key = remove_entry (is_at (by_bytes key)) groups
-
--- the keys are in the order of their bytes
-abbrev pub with_text : GroupList → List ℕ → List ℕ → GroupList
-with_text groups key text = insert_entry by_bytes groups key text
-
--- a line more, after those of its key
-abbrev pub with_index_line : GroupList → Keyed → GroupList
-with_index_line groups own =
-    with_text (without_key groups own.key) own.key
-    (text_of_key groups own.key ++ line (codes "alias ") own.key own.name)
+abbrev pub index_line : Keyed → List ℕ
+index_line own = line (codes "alias ") own.key own.name
 
 abbrev pub shown_index : List Keyed → List ℕ
-shown_index lines = flat_map (λ group. group.1) (fold with_index_line [] lines)
+shown_index lines = flat_map index_line (by_key lines)
 
 abbrev pub heading : List ℕ
 heading = codes "\n# End of configuration files. Dumping indexes now:\n\n"

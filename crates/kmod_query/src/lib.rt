@@ -8,7 +8,7 @@ mod commands;
 mod early;
 mod finding;
 mod fronts;
-mod groups;
+mod key_order;
 mod laws;
 mod lines;
 mod loaded_names;

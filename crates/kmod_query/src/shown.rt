@@ -4,7 +4,7 @@ ghost use Rattle.std.specs.List.{flat_map};
 ghost use Rattle.kmod_query.specs.Shown.{alias_line, blacklist_line, joined_words, marked, weakdep_line};
 ghost use Rattle.kmod_query.specs.Shown.{shown, shown_configuration, softdep_line, spaced, text_line};
 
-use crate::groups::push_index;
+use crate::key_order::push_index;
 use crate::lines::{push_line, push_name};
 use crate::parameters::push_joined;
 use kmod_conf::{Conf, NameLine, SoftdepLine, TextLine, WeakdepLine};

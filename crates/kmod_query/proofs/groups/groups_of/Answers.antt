@@ -1,6 +1,0 @@
-use Rattle.std.proofs.Common.{arith}
-use Rattle.std.proofs.lemmas.Grind.{common_steps}
-use Rattle.kmod_query.proofs.groups.groups_of.Goals as goal
-
-pub all-preserved : goal.all-preserved
-all-preserved c = grind (arith, common_steps)
