@@ -1,11 +1,13 @@
 -- An answer that is early does not depend on modules.alias and modules.symbols.
-use Rattle.std.proofs.Common.{◌≡◌, ℕ, zero, suc, ◌==◌, Bool, true, false, not, ◌&&◌, ◌||◌, cond, List, [], ◌∷◌, ◌++◌, fold, length, map, nat_lt, refl, sym, ◌∙◌, ap, Option, Some, None, is_none}
+use Rattle.std.proofs.Common.{◌≡◌, ℕ, zero, suc, ◌==◌, Bool, true, false, not, ◌&&◌, ◌||◌, cond, List, [], ◌∷◌, ◌++◌, fold, length, map, nat_lt, refl, sym, ◌∙◌, ap, Option, Some, None}
 use Rattle.std.proofs.lemmas.Bool.{lt-ltb}
 use Rattle.std.proofs.Math.Nat.{zero-lt-suc}
 use Rattle.std.specs.List.{flat_map, list_all, list_any}
 use Rattle.text_parts.specs.Text.{texts_of}
 use Rattle.kmod_query.specs.declared.answer.Failure.TheVariants.{NotFound}
+use Rattle.kmod_names.specs.Names.{name_of_path}
 use Rattle.kmod_query.specs.declared.paths.AtPath.{AtPath}
+use Rattle.kmod_query.specs.declared.paths.AtPath.TheVariants.{File, Nothing}
 use Rattle.kmod_query.specs.declared.query.Ask.{Ask}
 use Rattle.kmod_query.specs.declared.query.Ask.TheVariants.{ShowDepends, DryRun, Resolve, Remove, ShowRemoval, ShowConfig}
 use Rattle.kmod_query.specs.declared.query.Query.{Query}
@@ -13,8 +15,8 @@ use Rattle.kmod_query.specs.declared.world.World.{World}
 use Rattle.kmod_query.specs.Answers.{Answer, and_also, and_then, failing, nothing, said}
 use Rattle.kmod_query.specs.AnswerOf.{answer_by_ask, answer_of}
 use Rattle.kmod_query.specs.Commands.{install_of}
-use Rattle.kmod_query.specs.Early.{has_words, is_early, is_early_by, is_early_first, is_early_word, is_found_early, loads, stands_alone}
-use Rattle.kmod_query.specs.Facts.{Facts}
+use Rattle.kmod_query.specs.Early.{has_words, is_early, is_early_at, is_early_by, is_early_first, is_early_word, is_found_early, loads, stands_alone}
+use Rattle.kmod_query.specs.Facts.{Facts, with_own}
 use Rattle.kmod_query.specs.Lines.{file_of, has_soft_items, is_built_in, line_by, option_text, own_parameters, parameter_text}
 use Rattle.kmod_query.specs.Loading.{already, answer_at, answer_each, answer_found, answer_name, answer_names, answer_object, answer_one, is_barred, is_passed, is_resolve, line_unless_passed, load_lines, shows_lines}
 use Rattle.kmod_query.specs.LookUp.{by_one_alias, by_patterns, exporting, found, found_or_none, itself, look_up_each, or_else}
@@ -174,10 +176,11 @@ word-later : (facts : Facts) (exporters aliased : Names) (query : Query) (parame
     → answer_name (with_later facts exporters aliased) query parameters word ≡ answer_name facts query parameters word
 word-later facts exporters aliased query parameters word h = next (facts.at_path word) h
   where
-    next : (at : Option AtPath) → (is_none at && is_early_by facts (facts.normal word)) ≡ true
+    next : (at : Option AtPath) → is_early_at at facts word ≡ true
         → answer_at at (with_later facts exporters aliased) query parameters word ≡ answer_at at facts query parameters word
     next None h = name-later facts exporters aliased query parameters word (facts.normal word) h
-    next (Some at) h = absurd (cc)
+    next (Some (File file)) h = object-later (with_own facts (name_of_path word) file) exporters aliased query parameters (by_name (name_of_path word)) h
+    next (Some (Nothing reason)) h = refl
 
 one-later : (facts : Facts) (exporters aliased : Names) (query : Query) (words : List (List ℕ)) → is_early_first facts words ≡ true
     → answer_one (with_later facts exporters aliased) query words ≡ answer_one facts query words

@@ -1,15 +1,18 @@
 -- When an answer does not depend on large texts. It is early, and depends on neither modules.alias nor modules.symbols, if
--- each name that is asked for stands in an earlier list, and no module that is loaded for it has words in a softdep line.
-use Rattle.std.specs.Prelude.{ℕ, Bool, true, false, not, if◌then◌else◌, ◌&&◌, ◌||◌, nat_lt, length, List, [], ◌∷◌, Option, Some, None, is_none}
+-- each name that is asked for stands in an earlier list or is a path, and no module that is loaded for it has words in a
+-- softdep line.
+use Rattle.std.specs.Prelude.{ℕ, Bool, true, false, not, if◌then◌else◌, ◌&&◌, ◌||◌, nat_lt, length, List, [], ◌∷◌, Option, Some, None}
 use Rattle.std.specs.List.{list_all, list_any}
-use Rattle.kmod_names.specs.Names.{normal_alias}
+use Rattle.kmod_names.specs.Names.{name_of_path, normal_alias}
+use Rattle.kmod_query.specs.declared.paths.AtPath.{AtPath}
+use Rattle.kmod_query.specs.declared.paths.AtPath.TheVariants.{File, Nothing}
 use Rattle.kmod_query.specs.declared.query.Ask.{Ask}
 use Rattle.kmod_query.specs.declared.query.Ask.TheVariants.{ShowDepends, DryRun, Resolve, Remove, ShowRemoval, ShowConfig}
 use Rattle.kmod_query.specs.declared.query.Query.{Query}
 use Rattle.kmod_query.specs.Facts.{Facts}
 use Rattle.kmod_query.specs.Loading.{is_resolve}
 use Rattle.kmod_query.specs.LookUp.{found, is_symbol}
-use Rattle.kmod_query.specs.Objects.{Object}
+use Rattle.kmod_query.specs.Objects.{Object, by_name}
 
 -- whether a name is an alias of the configuration or a module of modules.dep
 abbrev pub is_found_early : Facts → List ℕ → Bool
@@ -30,9 +33,14 @@ abbrev pub is_early_by : Facts → Option (List ℕ) → Bool
 is_early_by facts None = true
 is_early_by facts (Some name) = is_early_name facts name
 
--- a word that is no name is looked up nowhere; of a path nothing is said
+-- A word that is no name is looked up nowhere. Nor is a path: it is the module that its file gives a name to.
+abbrev pub is_early_at : Option AtPath → Facts → List ℕ → Bool
+is_early_at None facts word = is_early_by facts (facts.normal word)
+is_early_at (Some (File file)) facts word = stands_alone facts (by_name (name_of_path word))
+is_early_at (Some (Nothing reason)) facts word = true
+
 abbrev pub is_early_word : Facts → List ℕ → Bool
-is_early_word facts word = is_none (facts.at_path word) && is_early_by facts (facts.normal word)
+is_early_word facts word = is_early_at (facts.at_path word) facts word
 
 abbrev pub is_early_first : Facts → List (List ℕ) → Bool
 is_early_first facts [] = true

@@ -4,16 +4,18 @@
 ghost use Rattle.std.specs.Prelude.{◌≡◌, ◌&&◌, IfOk};
 ghost use Rattle.std.specs.List.{list_all, list_any};
 ghost use Rattle.text_parts.specs.Text.{texts_of};
-ghost use Rattle.kmod_query.specs.Early.{has_words, is_early, is_early_first, is_early_name, is_early_word, is_found_early, loads, stands_alone};
+ghost use Rattle.kmod_names.specs.Names.{name_of_path, normal_alias};
+ghost use Rattle.kmod_query.specs.Early.{has_words, is_early, is_early_by, is_early_first, is_early_name, is_early_word, is_found_early, loads, stands_alone};
 ghost use Rattle.kmod_query.specs.Early.{are_plain, is_plain_first, is_plain_word, is_symbolless};
-ghost use Rattle.kmod_query.specs.Objects.{names_of, object_of, objects_of};
+ghost use Rattle.kmod_query.specs.Objects.{by_name, names_of, object_of, objects_of};
 ghost use Rattle.kmod_query.specs.World.{facts_of};
 
 use crate::look_up::found;
 use crate::object::Object;
+use crate::paths::AtPath;
 use crate::query::{Ask, Query};
 use crate::world::{World, at_path, needs_of};
-use kmod_names::normal_alias;
+use kmod_names::{name_of_path, normal_alias};
 use std::alloc::{AllocError, Global};
 
 /// Whether a name is an alias of the configuration or a module of modules.dep.
@@ -85,15 +87,32 @@ fn is_early_name(alloc: Global, world: &World, name: &[u8]) -> Result<bool, Allo
     stand_alone(alloc, world, &objects)
 }
 
-fn is_early_word(alloc: Global, world: &World, word: &[u8]) -> Result<bool, AllocError>
-    ensures { IfOk result (λ is_early. is_early ≡ is_early_word (facts_of world.now) word.now) }
+/// Whether no softdep line has words for the module of a file or for what it needs, by the path of the file.
+fn is_early_file(alloc: Global, world: &World, word: &[u8]) -> Result<bool, AllocError>
+    ensures { IfOk result (λ is_early. is_early ≡ stands_alone (facts_of world.now) (by_name (name_of_path word.now))) }
 {
-    if at_path(world, word).is_some() {
-        return Ok(false);
-    }
+    let name = name_of_path(alloc, word)?;
+    let object = Object::by_name(alloc, name.as_bytes())?;
+    stands_alone(alloc, world, &object)
+}
+
+/// Whether a word that is no path is early.
+fn is_early_text(alloc: Global, world: &World, word: &[u8]) -> Result<bool, AllocError>
+    ensures { IfOk result (λ is_early. is_early ≡ is_early_by (facts_of world.now) (normal_alias word.now)) }
+{
     match normal_alias(alloc, word)? {
         Some(name) => is_early_name(alloc, world, name.as_bytes()),
         None => Ok(true),
+    }
+}
+
+fn is_early_word(alloc: Global, world: &World, word: &[u8]) -> Result<bool, AllocError>
+    ensures { IfOk result (λ is_early. is_early ≡ is_early_word (facts_of world.now) word.now) }
+{
+    match at_path(world, word) {
+        Some(AtPath::File(_)) => is_early_file(alloc, world, word),
+        Some(AtPath::Nothing(_)) => Ok(true),
+        None => is_early_text(alloc, world, word),
     }
 }
 
@@ -143,7 +162,7 @@ fn loads(ask: Ask) -> bool
 }
 
 /// Whether the answer to a query is seen to depend on neither modules.alias nor modules.symbols: each name that is asked for is
-/// an alias of the configuration or a module of modules.dep and no path, and no softdep line has words for what is loaded. By
+/// an alias of the configuration, a module of modules.dep or a path, and no softdep line has words for what is loaded. By
 /// `later_texts_do_not_count` the answer is then the same whatever these two texts say. It fails only if memory runs out.
 pub fn is_early(alloc: Global, world: &World, query: &Query) -> Result<bool, AllocError>
     ensures { IfOk result (λ early. early ≡ is_early (facts_of world.now) query.now (texts_of query.now.words.now)) }
