@@ -75,12 +75,12 @@ abbrev pub stack_of : Facts → List CodeTask → List Task
 stack_of facts tasks = flat_map (task_of facts) (reverse tasks)
 
 -- nothing was met, and nothing is to be done
-abbrev pub IsStart : Course → Type 0
-IsStart course =
+abbrev pub IsStart : Facts → Course → Type 0
+IsStart facts course =
     record {
       met : course.met ≡ [];
-      soft : (facts : Facts) → AreSoftLists facts course.soft;
-      fronts : (facts : Facts) → AreFronts facts [] course.fronts;
+      soft : AreSoftLists facts course.soft;
+      fronts : AreFronts facts [] course.fronts;
       stack : course.stack.items ≡ [];
       list : course.list.items ≡ [];
       left : course.left ≡ 18446744073709551615;

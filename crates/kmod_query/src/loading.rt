@@ -1,5 +1,5 @@
 //! What is answered of an object that is to be loaded or resolved.
-ghost use Rattle.std.specs.Prelude.{◌≡◌, IfOk};
+ghost use Rattle.std.specs.Prelude.{◌≡◌, IfOk, OnOk};
 ghost use Rattle.std.specs.List.{flat_map};
 ghost use Rattle.kmod_query.specs.Lines.{has_soft_items};
 ghost use Rattle.kmod_query.specs.Loading.{already, answer_object};
@@ -19,6 +19,7 @@ use crate::soft_lists::SoftLists;
 use crate::world::{World, is_blacklisted};
 use kmod_names::Text;
 use std::alloc::{AllocError, Global};
+use std::mem::swap;
 
 fn is_show_depends(ask: Ask) -> bool
     ensures { result ≡ is_show_depends ask }
@@ -80,7 +81,8 @@ fn lines_of(
     soft: &mut SoftLists,
 ) -> Result<Vec<u8>, AllocError>
     requires { AreSoftLists (facts_of asked.now.world) soft.old }
-    ensures { IfOk result (λ text. text.items ≡ flat_map (line_unless_passed (facts_of asked.now.world) asked.now.query parameters.now (object_of top.now)) (objects_of list.now)) }
+    ensures soft { OnOk result (AreSoftLists (facts_of asked.now.world) soft.new) }
+    ensures lines { IfOk result (λ text. text.items ≡ flat_map (line_unless_passed (facts_of asked.now.world) asked.now.query parameters.now (object_of top.now)) (objects_of list.now)) }
 {
     let mut lines = Vec::new(asked.alloc);
     'objects: for object in list {
@@ -98,8 +100,9 @@ fn lines_by(
     top: &Object,
     course: &mut Course,
 ) -> Result<Vec<u8>, AllocError>
-    requires { IsStart course.old }
-    ensures { IfOk result (λ text. text.items ≡ load_lines (facts_of asked.now.world) asked.now.query parameters.now (object_of top.now)) }
+    requires { IsStart (facts_of asked.now.world) course.old }
+    ensures soft { OnOk result (AreSoftLists (facts_of asked.now.world) course.new.soft) }
+    ensures lines { IfOk result (λ text. text.items ≡ load_lines (facts_of asked.now.world) asked.now.query parameters.now (object_of top.now)) }
 {
     probe_list(
         asked.alloc,
@@ -111,12 +114,22 @@ fn lines_by(
     lines_of(asked, parameters, top, &course.list, &mut course.soft)
 }
 
-/// The lines that load an object.
-fn load_lines(asked: &Asked, parameters: &[u8], top: &Object) -> Result<Vec<u8>, AllocError>
-    ensures { IfOk result (λ text. text.items ≡ load_lines (facts_of asked.now.world) asked.now.query parameters.now (object_of top.now)) }
+/// The lines that load an object. What is found of soft items is kept for other objects.
+fn load_lines(
+    asked: &Asked,
+    parameters: &[u8],
+    top: &Object,
+    soft: &mut SoftLists,
+) -> Result<Vec<u8>, AllocError>
+    requires { AreSoftLists (facts_of asked.now.world) soft.old }
+    ensures soft { OnOk result (AreSoftLists (facts_of asked.now.world) soft.new) }
+    ensures lines { IfOk result (λ text. text.items ≡ load_lines (facts_of asked.now.world) asked.now.query parameters.now (object_of top.now)) }
 {
     let mut course = start(asked.alloc);
-    lines_by(asked, parameters, top, &mut course)
+    swap(&mut course.soft, soft);
+    let lines = lines_by(asked, parameters, top, &mut course)?;
+    swap(&mut course.soft, soft);
+    Ok(lines)
 }
 
 /// What is answered if the kernel has the object.
@@ -133,8 +146,15 @@ fn already(alloc: Global, query: &Query, object: &Object) -> Result<Answer, Allo
 }
 
 /// What is answered of one object that is to be loaded.
-fn load(asked: &Asked, parameters: &[u8], top: &Object) -> Result<Answer, AllocError>
-    ensures { IfOk result (λ answer. answer ≡ load (facts_of asked.now.world) asked.now.query parameters.now (object_of top.now)) }
+fn load(
+    asked: &Asked,
+    parameters: &[u8],
+    top: &Object,
+    soft: &mut SoftLists,
+) -> Result<Answer, AllocError>
+    requires { AreSoftLists (facts_of asked.now.world) soft.old }
+    ensures soft { OnOk result (AreSoftLists (facts_of asked.now.world) soft.new) }
+    ensures answer { IfOk result (λ answer. answer ≡ load (facts_of asked.now.world) asked.now.query parameters.now (object_of top.now)) }
 {
     if is_passed(&asked.world, &asked.query, top) {
         return already(asked.alloc, &asked.query, top);
@@ -142,20 +162,24 @@ fn load(asked: &Asked, parameters: &[u8], top: &Object) -> Result<Answer, AllocE
     if is_barred(&asked.world, &asked.query, top) || !shows_lines(&asked.query) {
         return Ok(Answer::nothing(asked.alloc));
     }
-    let lines = load_lines(asked, parameters, top)?;
+    let lines = load_lines(asked, parameters, top, soft)?;
     Ok(Answer::said(asked.alloc, lines))
 }
 
+/// What is answered of an object. What is found of soft items is kept for other objects.
 pub(crate) fn answer_object(
     asked: &Asked,
     parameters: &[u8],
     object: &Object,
+    soft: &mut SoftLists,
 ) -> Result<Answer, AllocError>
-    ensures { IfOk result (λ answer. answer ≡ answer_object (facts_of asked.now.world) asked.now.query parameters.now (object_of object.now)) }
+    requires { AreSoftLists (facts_of asked.now.world) soft.old }
+    ensures soft { OnOk result (AreSoftLists (facts_of asked.now.world) soft.new) }
+    ensures answer { IfOk result (λ answer. answer ≡ answer_object (facts_of asked.now.world) asked.now.query parameters.now (object_of object.now)) }
 {
     if matches!(asked.query.ask, Ask::Resolve) {
         let line = name_line(asked.alloc, b"", &object.name)?;
         return Ok(Answer::said(asked.alloc, line));
     }
-    load(asked, parameters, object)
+    load(asked, parameters, object, soft)
 }

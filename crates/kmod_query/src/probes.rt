@@ -193,7 +193,7 @@ fn make(alloc: Global, world: &World, task: Task, course: &mut Course) -> Result
 
 /// Nothing was met, and nothing is to be done.
 pub(crate) fn start(alloc: Global) -> Course
-    ensures { IsStart result }
+    ensures { (facts : Facts) → IsStart facts result }
 {
     Course {
         met: Met::new(alloc),
@@ -213,7 +213,7 @@ fn begin(
     object: &Object,
     course: &mut Course,
 ) -> Result<(), AllocError>
-    requires { IsStart course.old }
+    requires { IsStart (facts_of world.now) course.old }
     ensures { OnOk result (Stands (facts_of world.now) [] course.new (probe_list (facts_of world.now) bare (object_of object.now))) }
 {
     course.met.insert(alloc, object)?;
@@ -243,7 +243,7 @@ pub(crate) fn probe_list(
     object: &Object,
     course: &mut Course,
 ) -> Result<(), AllocError>
-    requires { IsStart course.old }
+    requires { IsStart (facts_of world.now) course.old }
     ensures list { OnOk result (objects_of course.new.list.items ≡ probe_list (facts_of world.now) bare (object_of object.now)) }
     ensures soft { OnOk result (AreSoftLists (facts_of world.now) course.new.soft) }
 {

@@ -6,8 +6,8 @@ use Rattle.kmod_query.proofs.TextLemmas.{flat_map-all}
 use Rattle.std.proofs.lemmas.Grind.{common_steps}
 use Rattle.kmod_query.proofs.loading.lines_of.Goals as goal
 
-pub returns : goal.returns
-returns c =
+pub returns-clause-lines : goal.returns-clause-lines
+returns-clause-lines c =
     let over : length c.args.list.now ≤ c.objects.object-index = omega arith in
     c.objects.invariant.lines ∙ flat_map-all object_of (line_unless_passed (facts_of c.args.asked.now.world) c.args.asked.now.query c.args.parameters.now (object_of c.args.top.now)) c.objects.object-index c.args.list.now over
 

@@ -12,8 +12,8 @@ returns c =
     let course = c.args.course.now in
     OnOk-map c.push_probe.result
     (λ pushed. record {
-      soft = c.requires.soft facts;
-      fronts = fronts-more facts [] c.insert.new.self top course.fronts (c.in_ok-insert.ensures.met ∙ ap (λ l. with_object l top) c.requires.met) (c.requires.fronts facts);
+      soft = c.requires.soft;
+      fronts = fronts-more facts [] c.insert.new.self top course.fronts (c.in_ok-insert.ensures.met ∙ ap (λ l. with_object l top) c.requires.met) c.requires.fronts;
       gives = begun facts c.args.bare top (object_of c.in_ok-own.own) course.met c.insert.new.self course.stack.items c.push_probe.new.stack.items course.list.items course.left
           c.requires.met c.in_ok-insert.ensures.met c.requires.stack c.requires.list c.in_ok-own.ensures c.requires.left pushed;
     })
