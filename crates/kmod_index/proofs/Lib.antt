@@ -6,3 +6,4 @@ pub mod ModinfoLemmas
 pub mod BaseLemmas
 pub mod FrontLemmas
 pub mod ScanLemmas
+pub mod KeyLemmas

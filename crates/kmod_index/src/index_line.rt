@@ -8,6 +8,7 @@ ghost use Rattle.kmod_index.specs.Lines.{alias_parts, keyed_of_line};
 
 use crate::parts::at_last;
 use kmod_names::{Text, normal_alias};
+use memchr::memchr3;
 use std::alloc::{AllocError, Global};
 use std::marker::Model;
 
@@ -34,6 +35,16 @@ pub(crate) fn alias_parts(line: &[u8]) -> Option<(&[u8], &[u8])>
         (λ parts. alias_parts line.entry.now ≡ Some (parts.0.now, parts.1.now)) }
 {
     at_last(b' ', line.strip_prefix(b"alias ")?)
+}
+
+/// The normal form of a key. Most keys have no byte that may have another form.
+fn normal_key(alloc: Global, key: &[u8]) -> Result<Option<Text>, AllocError>
+    ensures { IfOk result (λ normal. normal ≡ normal_alias key.now) }
+{
+    match memchr3(b'-', b'[', b']', key) {
+        None => Ok(Some(Text::new(alloc, key)?)),
+        Some(_) => normal_alias(alloc, key),
+    }
 }
 
 impl IndexLine {
@@ -76,7 +87,7 @@ impl IndexLine {
     ) -> Result<Option<IndexLine>, AllocError>
         ensures { IfOk result (λ read. read ≡ with_key (keyed key.now name.now number) (normal_alias key.now)) }
     {
-        let Some(key) = normal_alias(alloc, key)? else {
+        let Some(key) = normal_key(alloc, key)? else {
             return Ok(None);
         };
         Ok(Some(IndexLine {
