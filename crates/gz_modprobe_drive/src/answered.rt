@@ -69,7 +69,7 @@ pub(crate) fn answer_machine<O: Write, E: Write>(
     ensures answer { IfOk result (λ own. IsAnswerOf machine.now query.now own.answer) }
     ensures written { IfOk result (λ own. own.written ≡ Whole → Appends (O.contents output.old) (O.contents output.new) own.answer.output) }
 {
-    let index = index_of(alloc, machine.modules, machine.later, query.words.len())?;
+    let index = index_of(alloc, machine.modules, machine.later, query.words)?;
     let world = world_of(
         conf,
         &index,

@@ -34,19 +34,19 @@ pub(crate) fn folder_texts<'a>(texts: &'a ModuleTexts, later: &'a LaterTexts) ->
     }
 }
 
-/// What the texts of a folder of modules say, for a query of so many names. One that was not read is taken for empty. It
-/// fails only if memory runs out.
+/// What the texts of a folder of modules say, for a query of these names. One that was not read is taken for empty. It fails
+/// only if memory runs out.
 pub fn index_of<'a>(
     alloc: Global,
     texts: &'a ModuleTexts,
     later: &'a LaterTexts,
-    names: usize,
+    names: &[&[u8]],
 ) -> Result<Index<'a>, AllocError>
     ensures { IfOk result (λ index. index ≡ index_of texts.entry.now later.entry.now) }
 {
     let indexed = folder_texts(texts, later);
-    if names > FEW_NAMES {
-        Index::with_tables(alloc, indexed)
+    if names.len() > FEW_NAMES {
+        Index::with_tables(alloc, indexed, names)
     } else {
         Ok(Index::read(indexed))
     }

@@ -18,19 +18,24 @@ keyed key name number = record { key = key; name = name; number = number }
 abbrev pub key_of : Keyed → List ℕ
 key_of line = line.key
 
--- what tables have of the texts of a folder
+-- what tables have of the texts of a folder; of modules.alias and modules.symbols there may be no table
 pub record Tabled : Type 0 where
   pub dependencies : List Dependencies
-  pub aliases : List Keyed
-  pub symbols : List Keyed
+  pub aliases : Option (List Keyed)
+  pub symbols : Option (List Keyed)
   pub builtin_names : List (List ℕ)
   pub builtin_aliases : List Keyed
+
+-- there is no table, or it has these lines
+abbrev pub IsTableOf : List Keyed → Option (List Keyed) → Type 0
+IsTableOf lines None = Unit {0}
+IsTableOf lines (Some own) = own ≡ lines
 
 -- tables have what the texts say
 pub record TabledOf (tables : Tabled) (indexes : Indexes) : Type 0 where
   pub dependencies : tables.dependencies ≡ indexes.dependencies
-  pub aliases : tables.aliases ≡ indexes.aliases
-  pub symbols : tables.symbols ≡ indexes.symbols
+  pub aliases : IsTableOf indexes.aliases tables.aliases
+  pub symbols : IsTableOf indexes.symbols tables.symbols
   pub builtin_names : tables.builtin_names ≡ indexes.builtin_names
   pub builtin_aliases : tables.builtin_aliases ≡ indexes.builtin_aliases
 

@@ -1,7 +1,7 @@
 //! All that the texts of a folder of modules say.
 #![tactic(auto, unfolding(crate::specs::Index::indexes_of))]
 
-ghost use Rattle.std.specs.Prelude.{◌≡◌, IfOk};
+ghost use Rattle.std.specs.Prelude.{◌≡◌, IfOk, IfSome};
 ghost use Rattle.kmod_index.specs.Builtins.{is_among};
 ghost use Rattle.kmod_index.specs.Dependencies.{hard_needs, line_of};
 ghost use Rattle.kmod_index.specs.ForProofs.{AreTables};
@@ -10,12 +10,14 @@ ghost use Rattle.kmod_index.specs.Lines.{lines_of_key};
 ghost use Rattle.kmod_index.specs.Tries.{in_order, matching_lines};
 
 use crate::alias_scan::{alias_lines, matching_aliases};
+use crate::aliases::Aliases;
 use crate::builtins::is_builtin_in;
 use crate::dep_line::DepLine;
 use crate::dep_scan::{dep_lines, find_line};
-use crate::index_line::IndexLine;
+use crate::index_line::{IndexLine, copied};
 use crate::modinfo::matching_builtins;
 use crate::symbol_scan::{symbol_lines, symbols_of_key};
+use crate::symbols::Symbols;
 use crate::tables::Tables;
 use kmod_names::Text;
 use std::alloc::{AllocError, Global};
@@ -76,12 +78,37 @@ impl<'a> Index<'a> {
         }
     }
 
-    /// What the texts say, in tables: many look-ups are faster so. It fails only if memory runs out.
-    pub fn with_tables(alloc: Global, texts: IndexTexts<'a>) -> Result<Index<'a>, AllocError>
+    /// What the texts say, in tables: the look-up of many names is faster so. modules.alias has a table if one of these names is
+    /// not in modules.dep, and modules.symbols if one is that of a symbol. It fails only if memory runs out.
+    pub fn with_tables(
+        alloc: Global,
+        texts: IndexTexts<'a>,
+        names: &[&[u8]],
+    ) -> Result<Index<'a>, AllocError>
         ensures { IfOk result (λ index. index ≡ indexes_of (texts_in texts.entry)) }
     {
-        let tables = Some(Tables::read(alloc, &texts)?);
+        let tables = Some(Tables::read(alloc, &texts, names)?);
         Ok(Index { texts, tables })
+    }
+
+    /// The table of modules.alias, if there is one.
+    fn alias_table(&self) -> Option<&Aliases>
+        ensures { IfSome result (λ table. table.now ≡ self.now.aliases) }
+    {
+        match &self.tables {
+            Some(tables) => tables.aliases(),
+            None => None,
+        }
+    }
+
+    /// The table of modules.symbols, if there is one.
+    fn symbol_table(&self) -> Option<&Symbols>
+        ensures { IfSome result (λ table. table.now ≡ self.now.symbols) }
+    {
+        match &self.tables {
+            Some(tables) => tables.symbols(),
+            None => None,
+        }
     }
 
     /// The first line of modules.dep of the module of this name, None if it has none. Names have `_` for each `-`.
@@ -123,8 +150,8 @@ impl<'a> Index<'a> {
     pub fn matching_aliases(&self, alloc: Global, name: &[u8]) -> Result<Vec<IndexLine>, AllocError>
         ensures { IfOk result (λ found. found.items ≡ matching_lines self.now.aliases name.now) }
     {
-        match &self.tables {
-            Some(tables) => tables.matching_aliases(alloc, name),
+        match self.alias_table() {
+            Some(table) => copied(alloc, &table.matching(alloc, name)?),
             None => matching_aliases(alloc, self.texts.alias, name),
         }
     }
@@ -140,8 +167,8 @@ impl<'a> Index<'a> {
     pub fn symbols_of_key(&self, alloc: Global, key: &[u8]) -> Result<Vec<IndexLine>, AllocError>
         ensures { IfOk result (λ found. found.items ≡ lines_of_key self.now.symbols key.now) }
     {
-        match &self.tables {
-            Some(tables) => tables.symbols_of_key(alloc, key),
+        match self.symbol_table() {
+            Some(table) => copied(alloc, &table.of_key(alloc, key)?),
             None => symbols_of_key(alloc, self.texts.symbols, key),
         }
     }
