@@ -37,7 +37,7 @@ pub length_replies : (s : Setup) (h : Held) (lines : List (List ℕ)) → length
 length_replies s h [] = refl
 length_replies s h (line ∷ lines) = ap suc (length_replies s (held_line_outcome s h line).1 lines)
 
-texts_more : (first more : List Outcome) → flat_map text_of (first ++ more) ≡ flat_map text_of first ++ flat_map text_of more
+pub texts_more : (first more : List Outcome) → flat_map text_of (first ++ more) ≡ flat_map text_of first ++ flat_map text_of more
 texts_more [] more = refl
 texts_more (reply ∷ first) more =
     ap (λ rest. text_of reply ++ rest) (texts_more first more) ∙ sym (append_assoc (text_of reply) (flat_map text_of first) (flat_map text_of more))

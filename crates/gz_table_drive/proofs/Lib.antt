@@ -4,3 +4,4 @@ mod AskLemmas
 mod FeedLemmas
 mod SetupLemmas
 mod TenureLemmas
+mod WrittenLemmas

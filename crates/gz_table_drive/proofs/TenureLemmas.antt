@@ -1,5 +1,5 @@
 -- What a tenure answered, of a table that some journal stands for.
-use Rattle.std.proofs.Common.{arith, ◌≡◌, refl, sym, ap, subst, ◌∙◌, inl, inr, ℕ, ◌+◌, ◌≤◌, List, ◌++◌, length, map, take, drop, Vec, Result, Ok, Err, IfOk, OnErr}
+use Rattle.std.proofs.Common.{arith, ◌≡◌, refl, sym, ap, subst, ◌∙◌, inr, ℕ, ◌+◌, ◌≤◌, List, ◌++◌, length, map, take, drop, Vec, Result, Ok, Err, IfOk, OnErr}
 use Rattle.std.specs.declared.alloc.Global.{Global}
 use Rattle.std.proofs.lemmas.List.{take-append-le, take-append-drop, take-map, length-append, length-map}
 use Rattle.line_journal.specs.Lines.{bytes_of}

@@ -6,3 +6,4 @@ pub mod Faults
 pub mod Reading
 pub mod Setups
 pub mod Taken
+pub mod Written

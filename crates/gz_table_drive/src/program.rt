@@ -1,8 +1,12 @@
 //! The program over any words and streams.
-ghost use Rattle.std.specs.Prelude.{◌≡◌, ◌+◌, ◌≤◌, length, IfOk};
+ghost use Rattle.std.specs.Prelude.{◌≡◌, ◌+◌, ◌≤◌, [], ◌∷◌, drop, length, IfOk, OnOk};
+ghost use Rattle.std.specs.Io.KnownBytes.{Appends};
+ghost use Rattle.text_parts.specs.Text.{texts_of};
 ghost use Rattle.line_journal.specs.Lines.{AreLines, bytes_of};
 ghost use Rattle.table_words.specs.Endings.{number_of};
+ghost use Rattle.table_words.specs.Lines.{line_of};
 ghost use Rattle.table_words.specs.declared.ending.Ending.{Ending as AnyEnding};
+ghost use Rattle.gz_table_drive.specs.Written.{first_ending, AreWritten, IsWritten};
 
 use crate::adopt::adopt;
 use crate::answering::Replies;
@@ -33,7 +37,9 @@ use std::time::Clock;
 use table_words::{Asked, Ending, HELP, Job, Stop, VERSION, line_of, read_words};
 
 /// Writes a text, and waits until the stream has it.
-fn write_whole<O: Write>(text: &[u8], output: &mut O) -> Result<(), TableFault> {
+fn write_whole<O: Write>(text: &[u8], output: &mut O) -> Result<(), TableFault>
+    ensures { OnOk result (Appends (O.contents output.old) (O.contents output.new) text.now) }
+{
     if output.write_all(text).is_err() || output.flush().is_err() {
         return Err(TableFault::Output);
     }
@@ -46,6 +52,7 @@ fn lines_behind(lines: &[Vec<u8>], count: usize) -> &[Vec<u8>]
     requires lines { AreLines (bytes_of lines.now) }
     ensures lines { AreLines (bytes_of result.now) }
     ensures fewer { length result.now + count ≡ length lines.entry.now }
+    ensures rest { result.now ≡ drop count lines.entry.now }
 {
     &lines[count..]
 }
@@ -59,6 +66,8 @@ fn answer_group<'s, 'r, R: Files<File = File> + Clock + AllocGlobal, O: Write, E
     teller: &mut Teller<'_, E>,
 ) -> Result<Ending, TableFault>
     requires { AreLines (bytes_of lines.now) }
+    ensures written { IfOk result (AreWritten kept.old.setup.now.setup (bytes_of lines.now) (O.contents output.old) (O.contents output.new)) }
+    ensures setup { kept.new.setup.now ≡ kept.old.setup.now }
 {
     let (mut rest, mut ending) = (lines, Ending::Done);
     while !rest.is_empty() {
@@ -77,7 +86,8 @@ fn command_line<E: Write>(
     words: &[&[u8]],
     teller: &mut Teller<'_, E>,
 ) -> Result<Vec<Vec<u8>>, TableFault>
-    ensures { IfOk result (λ lines. AreLines (bytes_of lines.items)) }
+    ensures lines { IfOk result (λ lines. AreLines (bytes_of lines.items)) }
+    ensures one { IfOk result (λ lines. bytes_of lines.items ≡ line_of (texts_of words.now) ∷ []) }
 {
     let line = line_of(alloc, words)?;
     if !is_line(&line) {
@@ -86,20 +96,32 @@ fn command_line<E: Write>(
     Ok(alone(alloc, line)?)
 }
 
+/// How the first line ended that was answered.
+fn first_ending(replies: &Replies) -> Ending
+    ensures { result ≡ first_ending replies.now.endings.items }
+{
+    match replies.endings.first() {
+        Some(ending) => *ending,
+        None => Ending::Done,
+    }
+}
+
 /// Answers one line, and writes its reply.
 fn answer_command<R: Files<File = File> + Clock + AllocGlobal, O: Write, E: Write>(
     shared: &Shared<'_, R>,
     words: &[&[u8]],
     output: &mut O,
     teller: &mut Teller<'_, E>,
-) -> Result<Ending, TableFault> {
+) -> Result<Ending, TableFault>
+    ensures { IfOk result (IsWritten (line_of (texts_of words.now)) (O.contents output.old) (O.contents output.new)) }
+{
     let alloc = shared.alloc();
     let setup = setup_for_command(shared, words)?;
     let lines = command_line(alloc, words, teller)?;
     let mut replies = Replies::new(alloc);
     answer_in_tenure(shared, &mut Kept::new(&setup), &lines, &mut replies, teller)?;
     write_whole(&replies.text, output)?;
-    Ok(replies.endings.first().copied().unwrap_or(Ending::Done))
+    Ok(first_ending(&replies))
 }
 
 /// Answers the lines of an input. The table is kept from one group of them to the next.

@@ -1,0 +1,26 @@
+use Rattle.std.proofs.Common.{arith, ◌≡◌, ◌<◌, [], ◌∷◌, ap, subst, ◌∙◌, length, take, Vec, ℕ}
+use Rattle.std.specs.declared.alloc.Global.{Global}
+use Rattle.std.specs.Io.KnownBytes.{Appends}
+use Rattle.std.proofs.lemmas.List.{length-map}
+use Rattle.text_parts.specs.Text.{texts_of}
+use Rattle.line_journal.specs.Lines.{bytes_of}
+use Rattle.table_words.specs.Lines.{line_of}
+use Rattle.gz_table_drive.specs.Answers.{HasAnsweredOver}
+use Rattle.gz_table_drive.specs.declared.folder_setup.FolderSetup.{FolderSetup}
+use Rattle.gz_table_drive.proofs.WrittenLemmas.{alone_answered, line_written}
+use Rattle.gz_table_drive.proofs.program.answer_command.Goals as goal
+
+pub returns : goal.returns
+returns g c =
+    let line = line_of (texts_of c.args.words.now) in
+    let lines = c.deref-2.result.now in
+    let count = c.in_ok-answer_in_tenure.field-0 in
+    let one : bytes_of lines ≡ line ∷ [] = ap bytes_of c.deref-2.ensures.value ∙ c.in_ok-lines.ensures.one in
+    let some : 0 < count = c.in_ok-answer_in_tenure.ensures.some (omega (arith, ap length one, length-map lines (λ (v : Vec ℕ Global). v.items))) in
+    line_written c.in_ok-setup.ensures.0 c.in_ok-setup.setup.value line (take count (bytes_of lines)) (g.O.Write.contents c.args.output.now) (g.O.Write.contents c.write_whole.new.output)
+    c.new-replies.result c.answer_in_tenure.new.replies c.first_ending.result c.in_ok-setup.ensures.1 (alone_answered line (bytes_of lines) count one some)
+    c.new-replies.ensures.text c.new-replies.ensures.endings
+    (subst (λ (f : FolderSetup). HasAnsweredOver f.setup (take count (bytes_of lines)) c.new-replies.result c.answer_in_tenure.new.replies)
+    (c.new.ensures ∙ c.deref.ensures) c.in_ok-answer_in_tenure.ensures.answered)
+    (subst (Appends (g.O.Write.contents c.args.output.now) (g.O.Write.contents c.write_whole.new.output)) c.deref-3.ensures.value c.in_ok-write_whole.ensures)
+    c.first_ending.ensures

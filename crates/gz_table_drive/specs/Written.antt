@@ -1,0 +1,47 @@
+-- What is written of lines that are answered, in one tenure or in several.
+use Rattle.std.specs.Prelude.{⊤, ◌≡◌, ℕ, List, [], ◌∷◌, map, Option}
+use Rattle.std.specs.List.{flat_map}
+use Rattle.std.specs.Io.KnownBytes.{Appends}
+use Rattle.modprobe.specs.Setup.{Setup}
+use Rattle.modprobe.specs.Outcomes.{Outcome, text_of}
+use Rattle.held_lines.specs.Outcomes.{held_line_outcome, after}
+use Rattle.durable_table.specs.Tables.{opening_of}
+use Rattle.table_words.specs.Endings.{ending_of_lines}
+use Rattle.table_words.specs.declared.ending.Ending.{Ending}
+use Rattle.table_words.specs.declared.ending.Ending.TheVariants.{Done}
+use Rattle.gz_table_drive.specs.Endings.{ending_of_outcome}
+use Rattle.gz_table_drive.specs.Setups.{IsReadFrom}
+use Rattle.gz_table_drive.specs.declared.folder_setup.FolderSetup.{FolderSetup}
+
+-- how the first of some lines ended
+abbrev pub first_ending : List Ending → Ending
+first_ending [] = Done
+first_ending (ending ∷ endings) = ending
+
+-- what a line is answered by the table after some commands
+abbrev pub IsAnswerTo : Setup → List ℕ → Outcome → Type 0
+IsAnswerTo s line reply = (commands : List (List ℕ)) × (reply ≡ (held_line_outcome s (after s (opening_of s) commands) line).0)
+
+-- each line is answered so, and nothing else is
+abbrev pub AreAnswersTo : Setup → List (List ℕ) → List Outcome → Type 0
+AreAnswersTo s [] [] = ⊤
+AreAnswersTo s [] (reply ∷ replies) = ⊥
+AreAnswersTo s (line ∷ lines) [] = ⊥
+AreAnswersTo s (line ∷ lines) (reply ∷ replies) = IsAnswerTo s line reply × AreAnswersTo s lines replies
+
+-- The reply to a line is written, as the setup of some file has it, and the line ends as its reply does.
+pub record IsWritten (line : List ℕ) (old new : Option (List ℕ)) (ending : Ending) : Type 0 where
+  pub file : List ℕ
+  pub found : FolderSetup
+  pub read : IsReadFrom file found
+  pub reply : Outcome
+  pub answer : IsAnswerTo found.setup line reply
+  pub text : Appends old new (text_of reply)
+  pub ends : ending ≡ ending_of_outcome reply
+
+-- The replies to lines are written, one after another, and the lines end together as the first of them that was refused.
+pub record AreWritten (s : Setup) (lines : List (List ℕ)) (old new : Option (List ℕ)) (ending : Ending) : Type 0 where
+  pub replies : List Outcome
+  pub answers : AreAnswersTo s lines replies
+  pub text : Appends old new (flat_map text_of replies)
+  pub ends : ending ≡ ending_of_lines (map ending_of_outcome replies)
