@@ -1,18 +1,21 @@
 """Managed calls from Python threads, by ctypes: managed.py [libgourzhiel.so]
 
-Each thread has a caller, and calls for whichever worker it is told. No thread owns a worker. At last a teller carries the
-order of a removal to a get, which finds the module gone.
+Each thread has a caller, and calls for whichever worker it is told. No thread owns a worker. One thread loads a plugin and
+unloads it for real: only once nobody holds it, and before the table says that it is absent. At last a teller carries the order
+of a removal to a get, which finds the module gone.
 """
 
 import ctypes
-import os
 import sys
 from concurrent.futures import ThreadPoolExecutor
-from ctypes import POINTER, Structure, byref, c_bool, c_char_p, c_size_t, c_uint32, c_void_p
+from ctypes import CFUNCTYPE, POINTER, Structure, byref, c_bool, c_char_p, c_int, c_size_t, c_uint32, c_uint64, c_void_p
 
-TEXT = b"module snd\n"
-SND, WORKERS, THREADS, JOBS, TRIES = 0, 2, 4, 400, 64
-(DONE, NOT_LIVE, IN_USE, ABSENT, BUSY) = (0, 1, 11, 16, 32)
+TEXT = b"module snd\nexports snd_card_new\nmodule snd-pcm\nneeds snd_card_new\n"
+SND, PCM, WORKERS, THREADS, JOBS = 0, 1, 2, 4, 400
+SHORT, LONG = 20, 5000  # milliseconds
+(DONE, NOT_LIVE, NEEDED_BY, ABSENT, TIMED_OUT, WORK_FAILED) = (0, 1, 9, 16, 40, 41)
+
+Work = CFUNCTYPE(c_bool, c_void_p, c_size_t)
 
 
 class Handle(Structure):
@@ -26,22 +29,27 @@ def declared(path):
     gz = ctypes.CDLL(path)
     size, number, handle = c_size_t, c_uint32, POINTER(Handle)
     for name, result, *arguments in (
+        ("strerror", c_char_p, number),
         ("catalogue_read", number, c_char_p, size, handle, POINTER(size)),
-        ("catalogue_free", None, Handle),
+        ("catalogue_clear", None, handle),
         ("managed_new_with_tellers", number, handle, handle, handle, size),
         ("caller_new", number, handle, handle),
-        ("caller_get", number, handle, size, size, number),
-        ("caller_put", number, handle, size, size, number),
-        ("caller_held", number, handle, size, size, number, POINTER(number)),
-        ("caller_begin_load", number, handle, size, number, POINTER(size)),
-        ("caller_end_load", number, handle, size, c_bool, number),
-        ("caller_begin_remove", number, handle, size, number),
-        ("caller_end_remove", number, handle, size, number),
-        ("caller_state", number, handle, size, number),
-        ("caller_meet_leaf", number, handle, size, number, handle),
-        ("caller_meet_book", number, handle, number, handle),
-        ("teller_free", None, Handle),
-        ("caller_free", None, Handle),
+        ("caller_get_blocking", number, handle, size, size),
+        ("caller_put_blocking", number, handle, size, size),
+        ("caller_references", number, handle, size, POINTER(c_uint64)),
+        ("caller_load", number, handle, size, Work, c_void_p),
+        ("caller_load_with_needs_for", number, handle, handle, size, Work, c_void_p, POINTER(size), c_int),
+        ("caller_remove_with_needs", number, handle, handle, size, Work, c_void_p),
+        ("caller_begin_drain_blocking", number, handle, size),
+        ("caller_begin_remove_blocking", number, handle, size),
+        ("caller_end_remove_blocking", number, handle, size),
+        ("caller_wait_unheld", number, handle, size, c_int),
+        ("caller_wait_removed_for", number, handle, size, c_int),
+        ("caller_state_blocking", number, handle, size),
+        ("caller_meet_leaf_blocking", number, handle, size, handle),
+        ("caller_meet_book_blocking", number, handle, handle),
+        ("teller_clear", None, handle),
+        ("caller_clear", None, handle),
     ):
         call = getattr(gz, f"gz_{name}")
         call.restype, call.argtypes = result, arguments
@@ -49,89 +57,119 @@ def declared(path):
 
 
 class Caller:
-    """One thread's caller. A call that finds the lock taken lets another thread run, and is made again."""
+    """One thread's caller."""
 
     def __init__(self, gz, handle):
         self.gz, self.handle = gz, handle
 
     def call(self, name, *arguments):
-        call = getattr(self.gz, f"gz_caller_{name}")
-        while (number := call(byref(self.handle), *arguments)) == BUSY:
-            os.sched_yield()
+        return getattr(self.gz, f"gz_caller_{name}")(byref(self.handle), *arguments)
+
+    def expect(self, wanted, name, *arguments):
+        """Makes a call, and ends the program if it answers none of the wanted numbers."""
+        number = self.call(name, *arguments)
+        if number not in wanted:
+            sys.exit(f"{name} answered {number}: {self.gz.gz_strerror(number).decode()}")
         return number
 
     def further(self):
         handle = Handle()
-        expect("a further caller", self.gz.gz_caller_new(byref(self.handle), byref(handle)), DONE)
+        self.expect([DONE], "new", byref(handle))
         return Caller(self.gz, handle)
 
-    def free(self):
-        self.gz.gz_caller_free(self.handle)
+
+class Plugins:
+    """What the modules have: whether each is there."""
+
+    def __init__(self):
+        self.there = [False, False]
+        self.load = Work(lambda _, slot: self.set(slot, True))
+        self.unload = Work(lambda _, slot: self.set(slot, False))
+        self.stay = Work(lambda _, slot: False)
+
+    def set(self, slot, there):
+        self.there[slot] = there
+        return True
 
 
-def expect(what, number, *wanted):
-    if number not in wanted:
-        sys.exit(f"{what} answered {number}, and not one of {wanted}")
-    return number
-
-
-def use(caller, worker):
+def use(caller, worker, plugins):
     """Takes the module for a worker and gives it back, many times. How often it was had."""
     had = 0
     for _ in range(JOBS):
-        if expect("get", caller.call("get", worker, SND, TRIES), DONE, NOT_LIVE) == DONE:
-            expect("put", caller.call("put", worker, SND, TRIES), DONE)
+        if caller.expect([DONE, NOT_LIVE], "get_blocking", worker, SND) == DONE:
+            if not plugins.there[SND]:
+                sys.exit("the plugin went while it was held")
+            caller.expect([DONE], "put_blocking", worker, SND)
             had += 1
     return had
 
 
-def load(caller):
-    need = c_size_t()
-    expect("load", caller.call("begin_load", SND, TRIES, byref(need)), DONE)
-    expect("its end", caller.call("end_load", SND, True, TRIES), DONE)
+def unload(caller, plugins):
+    """Unloads the plugin for real: after its last user, and before it may be loaded again."""
+    caller.expect([DONE], "begin_drain_blocking", SND)
+    caller.expect([DONE], "wait_unheld", SND, LONG)
+    plugins.set(SND, False)
+    caller.expect([DONE], "end_remove_blocking", SND)
 
 
-def remove(caller):
-    """Removes the module once nobody holds it."""
-    while expect("removal", caller.call("begin_remove", SND, TRIES), DONE, IN_USE) == IN_USE:
-        os.sched_yield()
-    expect("its end", caller.call("end_remove", SND, TRIES), DONE)
+def limits(caller, plugins):
+    """A wait for a worker that holds the module ends in time, and the module drains on. Nobody else loads now, so that the plugin
+    may go after its module."""
+    caller.expect([DONE], "get_blocking", 1, SND)
+    caller.expect([DONE], "begin_drain_blocking", SND)
+    caller.expect([TIMED_OUT], "wait_unheld", SND, SHORT)
+    caller.expect([DONE], "put_blocking", 1, SND)
+    caller.expect([DONE], "wait_removed_for", SND, LONG)
+    plugins.set(SND, False)
+
+
+def with_needs(caller, catalogue, plugins):
+    """Loads two modules, and removes them: first with a plugin that stays, whose removal is ended later."""
+    at = c_size_t()
+    caller.expect([DONE], "load_with_needs_for", byref(catalogue), PCM, plugins.load, None, byref(at), LONG)
+    caller.expect([NEEDED_BY], "begin_remove_blocking", SND)
+    caller.expect([WORK_FAILED], "remove_with_needs", byref(catalogue), PCM, plugins.stay, None)
+    plugins.set(PCM, False)
+    caller.expect([DONE], "end_remove_blocking", PCM)
+    caller.expect([DONE], "remove_with_needs", byref(catalogue), SND, plugins.unload, None)
 
 
 def tell(remover, user, teller):
     """The user's next get for worker 0 comes after what the remover did: it was told of it."""
-    expect("the book's meeting", remover.call("meet_book", TRIES, byref(teller)), DONE)
-    expect("the worker's meeting", user.call("meet_leaf", 0, TRIES, byref(teller)), DONE)
-    expect("get after the removal", user.call("get", 0, SND, TRIES), NOT_LIVE)
+    remover.expect([DONE], "meet_book_blocking", byref(teller))
+    user.expect([DONE], "meet_leaf_blocking", 0, byref(teller))
+    user.expect([NOT_LIVE], "get_blocking", 0, SND)
 
 
 def main():
     gz = declared(sys.argv[1] if len(sys.argv) > 1 else "libgourzhiel.so")
-    catalogue, first, line, tellers = Handle(), Handle(), c_size_t(), (Handle * WORKERS)()
-    expect("read", gz.gz_catalogue_read(TEXT, len(TEXT), byref(catalogue), byref(line)), DONE)
-    expect("new", gz.gz_managed_new_with_tellers(byref(catalogue), byref(first), tellers, WORKERS), DONE)
-    gz.gz_catalogue_free(catalogue)
-    loader = Caller(gz, first)
-    load(loader)
+    catalogue, first, line, tellers, sum_of = Handle(), Handle(), c_size_t(), (Handle * WORKERS)(), c_uint64()
+    if gz.gz_catalogue_read(TEXT, len(TEXT), byref(catalogue), byref(line)) != DONE:
+        sys.exit(f"no catalogue: line {line.value}")
+    if gz.gz_managed_new_with_tellers(byref(catalogue), byref(first), tellers, WORKERS) != DONE:
+        sys.exit("no table")
+    loader, plugins = Caller(gz, first), Plugins()
+    loader.expect([DONE], "load", SND, plugins.load, None)
     callers = [loader.further() for _ in range(THREADS)]
     with ThreadPoolExecutor(THREADS) as pool:
-        users = [pool.submit(use, caller, number % WORKERS) for number, caller in enumerate(callers)]
+        users = [pool.submit(use, caller, number % WORKERS, plugins) for number, caller in enumerate(callers)]
         for _ in range(20):
-            remove(loader)
-            load(loader)
+            unload(loader, plugins)
+            loader.expect([DONE], "load", SND, plugins.load, None)
         had = sum(user.result() for user in users)
-    for worker in range(WORKERS):
-        count = c_uint32()
-        expect("held", loader.call("held", worker, SND, TRIES, byref(count)), DONE)
-        expect("references left", count.value, 0)
-    remove(loader)
-    expect("state", loader.call("state", SND, TRIES), ABSENT)
+    loader.expect([DONE], "references", SND, byref(sum_of))
+    if sum_of.value:
+        sys.exit(f"{sum_of.value} references are left")
+    limits(loader, plugins)
+    with_needs(loader, catalogue, plugins)
+    loader.expect([ABSENT], "state_blocking", SND)
     tell(loader, callers[0], tellers[0])
     print(f"{THREADS} threads had the module {had} times for {WORKERS} workers, and none is left")
     for teller in tellers:
-        gz.gz_teller_free(teller)
+        gz.gz_teller_clear(byref(teller))
     for caller in [*callers, loader]:
-        caller.free()
+        caller.call("clear")
+    gz.gz_catalogue_clear(byref(catalogue))
 
 
 if __name__ == "__main__":

@@ -1,20 +1,23 @@
 //! Managed calls from stock Rust: `rustc -O managed.rs -L PREFIX/lib -l static=gourzhiel`.
-//! Threads of a pool take and give a module for any worker, while the main thread loads and removes it. At last a teller
-//! carries the order of the last removal to a get, which finds the module gone.
+//! Threads of a pool take and give a module for any worker, while the main thread loads it and unloads it for real: only once
+//! nobody holds it, and before the table says that it is absent. At last a teller carries the order of the last removal to a
+//! get, which finds the module gone.
 
+use std::ffi::{c_char, c_int, c_void, CStr};
 use std::sync::atomic::{AtomicBool, Ordering::SeqCst};
 use std::{ptr, thread};
 
 const DONE: u32 = 0;
 const NOT_LIVE: u32 = 1;
-const IN_USE: u32 = 11;
-const BUSY: u32 = 32;
-const TRIES: u32 = 64;
+const TIMED_OUT: u32 = 40;
+const WORK_FAILED: u32 = 41;
 const TEXT: &[u8] = b"module snd\n";
 const SND: usize = 0;
 const WORKERS: usize = 2;
 const THREADS: usize = 4;
 const ROUNDS: usize = 500;
+const SHORT: c_int = 20; // milliseconds
+const LONG: c_int = 5000;
 
 /// The handle of a catalogue, empty or full.
 #[repr(C)]
@@ -34,26 +37,67 @@ struct TellerHandle {
     at: *mut u8,
 }
 
+/// What is done for a module between the two halves of its load or removal.
+type Work = extern "C" fn(data: *mut c_void, slot: usize) -> bool;
+
 extern "C" {
+    fn gz_strerror(number: u32) -> *const c_char;
     fn gz_catalogue_read(text: *const u8, length: usize, catalogue: &mut Catalogue, line: &mut usize) -> u32;
-    fn gz_catalogue_free(catalogue: Catalogue);
+    fn gz_catalogue_clear(catalogue: &mut Catalogue);
     fn gz_managed_new_with_tellers(
         catalogue: &mut Catalogue,
         caller: &mut CallerHandle,
         tellers: *mut TellerHandle,
         workers: usize,
     ) -> u32;
-    fn gz_caller_meet_leaf(caller: &mut CallerHandle, worker: usize, tries: u32, teller: &mut TellerHandle) -> u32;
-    fn gz_caller_meet_book(caller: &mut CallerHandle, tries: u32, teller: &mut TellerHandle) -> u32;
-    fn gz_teller_free(teller: TellerHandle);
+    fn gz_caller_meet_leaf_blocking(caller: &mut CallerHandle, worker: usize, teller: &mut TellerHandle) -> u32;
+    fn gz_caller_meet_book_blocking(caller: &mut CallerHandle, teller: &mut TellerHandle) -> u32;
+    fn gz_teller_clear(teller: &mut TellerHandle);
     fn gz_caller_new(caller: &mut CallerHandle, further: &mut CallerHandle) -> u32;
-    fn gz_caller_get(caller: &mut CallerHandle, worker: usize, slot: usize, tries: u32) -> u32;
-    fn gz_caller_put(caller: &mut CallerHandle, worker: usize, slot: usize, tries: u32) -> u32;
-    fn gz_caller_begin_load(caller: &mut CallerHandle, slot: usize, tries: u32, need: &mut usize) -> u32;
-    fn gz_caller_end_load(caller: &mut CallerHandle, slot: usize, ok: bool, tries: u32) -> u32;
-    fn gz_caller_begin_remove(caller: &mut CallerHandle, slot: usize, tries: u32) -> u32;
-    fn gz_caller_end_remove(caller: &mut CallerHandle, slot: usize, tries: u32) -> u32;
-    fn gz_caller_free(caller: CallerHandle);
+    fn gz_caller_get_blocking(caller: &mut CallerHandle, worker: usize, slot: usize) -> u32;
+    fn gz_caller_put_blocking(caller: &mut CallerHandle, worker: usize, slot: usize) -> u32;
+    fn gz_caller_references(caller: &mut CallerHandle, slot: usize, sum: &mut u64) -> u32;
+    fn gz_caller_load(caller: &mut CallerHandle, slot: usize, work: Work, data: *mut c_void) -> u32;
+    fn gz_caller_load_with_needs_for(
+        caller: &mut CallerHandle,
+        catalogue: &mut Catalogue,
+        slot: usize,
+        work: Work,
+        data: *mut c_void,
+        at: &mut usize,
+        milliseconds: c_int,
+    ) -> u32;
+    fn gz_caller_remove_with_needs(
+        caller: &mut CallerHandle,
+        catalogue: &mut Catalogue,
+        slot: usize,
+        work: Work,
+        data: *mut c_void,
+    ) -> u32;
+    fn gz_caller_begin_drain_blocking(caller: &mut CallerHandle, slot: usize) -> u32;
+    fn gz_caller_wait_unheld(caller: &mut CallerHandle, slot: usize, milliseconds: c_int) -> u32;
+    fn gz_caller_wait_removed_for(caller: &mut CallerHandle, slot: usize, milliseconds: c_int) -> u32;
+    fn gz_caller_end_remove_blocking(caller: &mut CallerHandle, slot: usize) -> u32;
+    fn gz_caller_clear(caller: &mut CallerHandle);
+}
+
+/// Whether the plugin of the module is there.
+static IS_THERE: AtomicBool = AtomicBool::new(false);
+
+extern "C" fn load_plugin(_: *mut c_void, _: usize) -> bool {
+    !IS_THERE.swap(true, SeqCst)
+}
+
+extern "C" fn keep_plugin(_: *mut c_void, _: usize) -> bool {
+    false
+}
+
+/// Whether a call was done. What else it answered is said.
+fn is_done(number: u32) -> bool {
+    if number != DONE {
+        println!("{}", unsafe { CStr::from_ptr(gz_strerror(number)) }.to_string_lossy());
+    }
+    number == DONE
 }
 
 /// A caller of a managed table. A thread has one of its own, and frees it by its drop.
@@ -71,91 +115,74 @@ unsafe impl Send for Caller {}
 unsafe impl Send for Teller {}
 
 impl Caller {
-    /// A new table over the text, its first caller, and a teller for each worker.
-    fn over(text: &[u8]) -> (Caller, Vec<Teller>) {
-        let mut catalogue = Catalogue { at: ptr::null_mut() };
+    /// A new table over a catalogue, its first caller, and a teller for each worker.
+    fn over(catalogue: &mut Catalogue) -> (Caller, Vec<Teller>) {
         let mut handle = CallerHandle { at: ptr::null_mut() };
         let mut tellers: Vec<_> = (0..WORKERS).map(|_| TellerHandle { at: ptr::null_mut() }).collect();
-        let mut line = 0;
-        unsafe {
-            assert_eq!(gz_catalogue_read(text.as_ptr(), text.len(), &mut catalogue, &mut line), DONE);
-            let made = gz_managed_new_with_tellers(&mut catalogue, &mut handle, tellers.as_mut_ptr(), WORKERS);
-            assert_eq!(made, DONE);
-            gz_catalogue_free(catalogue);
-        }
+        let made = unsafe { gz_managed_new_with_tellers(catalogue, &mut handle, tellers.as_mut_ptr(), WORKERS) };
+        assert!(is_done(made));
         (Caller { handle }, tellers.into_iter().map(|handle| Teller { handle }).collect())
     }
 
     fn further(&mut self) -> Caller {
         let mut handle = CallerHandle { at: ptr::null_mut() };
-        assert_eq!(unsafe { gz_caller_new(&mut self.handle, &mut handle) }, DONE);
+        assert!(is_done(unsafe { gz_caller_new(&mut self.handle, &mut handle) }));
         Caller { handle }
     }
 
-    /// Makes a call again while the lock is taken, and lets another thread run between.
-    fn wait_for(&mut self, call: impl Fn(&mut CallerHandle) -> u32) -> u32 {
-        loop {
-            match call(&mut self.handle) {
-                BUSY => thread::yield_now(),
-                number => return number,
-            }
-        }
-    }
-
     fn get(&mut self, worker: usize) -> u32 {
-        self.wait_for(|handle| unsafe { gz_caller_get(handle, worker, SND, TRIES) })
+        unsafe { gz_caller_get_blocking(&mut self.handle, worker, SND) }
     }
 
-    fn put(&mut self, worker: usize) -> u32 {
-        self.wait_for(|handle| unsafe { gz_caller_put(handle, worker, SND, TRIES) })
+    fn put(&mut self, worker: usize) {
+        assert!(is_done(unsafe { gz_caller_put_blocking(&mut self.handle, worker, SND) }));
+    }
+
+    fn references(&mut self) -> u64 {
+        let mut sum = 0;
+        assert!(is_done(unsafe { gz_caller_references(&mut self.handle, SND, &mut sum) }));
+        sum
     }
 
     /// Tells of what was done at the book's lock.
     fn meet_book(&mut self, teller: &mut Teller) {
-        let place = ptr::addr_of_mut!(teller.handle);
-        assert_eq!(self.wait_for(|handle| unsafe { gz_caller_meet_book(handle, TRIES, &mut *place) }), DONE);
+        assert!(is_done(unsafe { gz_caller_meet_book_blocking(&mut self.handle, &mut teller.handle) }));
     }
 
     /// Tells of what was done at a worker's lock, and hears of what the teller knows.
     fn meet_leaf(&mut self, worker: usize, teller: &mut Teller) {
-        let place = ptr::addr_of_mut!(teller.handle);
-        assert_eq!(self.wait_for(|handle| unsafe { gz_caller_meet_leaf(handle, worker, TRIES, &mut *place) }), DONE);
+        assert!(is_done(unsafe { gz_caller_meet_leaf_blocking(&mut self.handle, worker, &mut teller.handle) }));
     }
 
     fn load(&mut self) {
-        let begun = self.wait_for(|handle| unsafe { gz_caller_begin_load(handle, SND, TRIES, &mut 0) });
-        assert_eq!(begun, DONE);
-        let ended = self.wait_for(|handle| unsafe { gz_caller_end_load(handle, SND, true, TRIES) });
-        assert_eq!(ended, DONE);
+        assert!(is_done(unsafe { gz_caller_load(&mut self.handle, SND, load_plugin, ptr::null_mut()) }));
     }
 
-    /// Removes the module once nobody holds it. Counts how often somebody did.
-    fn remove(&mut self) -> usize {
-        let mut in_use = 0;
-        loop {
-            match self.wait_for(|handle| unsafe { gz_caller_begin_remove(handle, SND, TRIES) }) {
-                DONE => break,
-                IN_USE => in_use += 1,
-                other => panic!("removal answered {other}"),
-            }
-        }
-        let ended = self.wait_for(|handle| unsafe { gz_caller_end_remove(handle, SND, TRIES) });
-        assert_eq!(ended, DONE);
-        in_use
+    fn drain(&mut self) {
+        assert!(is_done(unsafe { gz_caller_begin_drain_blocking(&mut self.handle, SND) }));
+    }
+
+    /// Waits until nobody holds the module, which drains on.
+    fn wait_unheld(&mut self, milliseconds: c_int) -> u32 {
+        unsafe { gz_caller_wait_unheld(&mut self.handle, SND, milliseconds) }
+    }
+
+    /// Unloads the plugin of a module that leaves and that nobody holds, and then ends the removal.
+    fn unload_plugin(&mut self) {
+        IS_THERE.store(false, SeqCst);
+        assert!(is_done(unsafe { gz_caller_end_remove_blocking(&mut self.handle, SND) }));
     }
 }
 
 impl Drop for Caller {
     fn drop(&mut self) {
-        let handle = std::mem::replace(&mut self.handle, CallerHandle { at: ptr::null_mut() });
-        unsafe { gz_caller_free(handle) };
+        unsafe { gz_caller_clear(&mut self.handle) };
     }
 }
 
 impl Drop for Teller {
     fn drop(&mut self) {
-        let handle = std::mem::replace(&mut self.handle, TellerHandle { at: ptr::null_mut() });
-        unsafe { gz_teller_free(handle) };
+        unsafe { gz_teller_clear(&mut self.handle) };
     }
 }
 
@@ -169,7 +196,8 @@ fn work(mut caller: Caller, is_over: &AtomicBool) -> usize {
         match caller.get(worker) {
             DONE => {
                 got += 1;
-                assert_eq!(caller.put(worker), DONE);
+                assert!(IS_THERE.load(SeqCst), "the plugin went while it was held");
+                caller.put(worker);
             }
             NOT_LIVE => {}
             other => panic!("get answered {other}"),
@@ -178,25 +206,55 @@ fn work(mut caller: Caller, is_over: &AtomicBool) -> usize {
     got
 }
 
+/// A wait for a worker that holds the module ends in time, and the module drains on. Nobody else loads, so that the plugin may
+/// go after its module.
+fn keep_limits(caller: &mut Caller) {
+    caller.load();
+    assert_eq!(caller.get(1), DONE);
+    caller.drain();
+    assert_eq!(caller.wait_unheld(SHORT), TIMED_OUT);
+    caller.put(1);
+    assert!(is_done(unsafe { gz_caller_wait_removed_for(&mut caller.handle, SND, LONG) }));
+    IS_THERE.store(false, SeqCst);
+}
+
+/// Loads the module with what it needs, and removes it, first with a plugin that stays.
+fn load_and_remove(caller: &mut Caller, catalogue: &mut Catalogue) {
+    let (mut at, none) = (0, ptr::null_mut());
+    let handle = &mut caller.handle;
+    let loaded = unsafe { gz_caller_load_with_needs_for(handle, catalogue, SND, load_plugin, none, &mut at, LONG) };
+    assert!(is_done(loaded));
+    let removed = unsafe { gz_caller_remove_with_needs(handle, catalogue, SND, keep_plugin, none) };
+    assert_eq!(removed, WORK_FAILED);
+    caller.unload_plugin();
+}
+
 fn main() {
-    let (mut loader, mut tellers) = Caller::over(TEXT);
+    let (mut catalogue, mut line) = (Catalogue { at: ptr::null_mut() }, 0);
+    assert!(is_done(unsafe { gz_catalogue_read(TEXT.as_ptr(), TEXT.len(), &mut catalogue, &mut line) }));
+    let (mut loader, mut tellers) = Caller::over(&mut catalogue);
     let callers: Vec<Caller> = (0..THREADS).map(|_| loader.further()).collect();
     let is_over = AtomicBool::new(false);
     thread::scope(|scope| {
         let start = |caller| scope.spawn(|| work(caller, &is_over));
         let threads: Vec<_> = callers.into_iter().map(start).collect();
-        let mut in_use = 0;
         for _ in 0..ROUNDS {
             loader.load();
             thread::yield_now();
-            in_use += loader.remove();
+            loader.drain();
+            assert_eq!(loader.wait_unheld(LONG), DONE);
+            loader.unload_plugin();
         }
         is_over.store(true, SeqCst);
         let got: usize = threads.into_iter().map(|thread| thread.join().unwrap()).sum();
-        println!("{ROUNDS} loads and removals, {in_use} found it in use, {got} gets");
+        assert_eq!(loader.references(), 0);
+        println!("{ROUNDS} loads and removals, {got} gets, and no reference is left");
     });
+    keep_limits(&mut loader);
+    load_and_remove(&mut loader, &mut catalogue);
     let mut user = loader.further();
     loader.meet_book(&mut tellers[0]);
     user.meet_leaf(0, &mut tellers[0]);
     assert_eq!(user.get(0), NOT_LIVE);
+    unsafe { gz_catalogue_clear(&mut catalogue) };
 }

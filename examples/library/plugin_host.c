@@ -56,6 +56,13 @@ static void *work(void *argument)
     return NULL;
 }
 
+/* The thread that loads and removes. */
+struct host {
+    gz_book book;
+    gz_reader reader;
+    unsigned long in_use;
+};
+
 /* Loads a plugin: its memory is there before the first get succeeds. */
 static gz_number load(gz_book *book, size_t slot, const char *name)
 {
@@ -81,17 +88,16 @@ static gz_number try_remove(gz_book *book, size_t slot)
     return gz_book_end_remove(book, slot);
 }
 
-/* Lets no further call in, waits until the last is over, and removes the plugin. Nothing loads it before its memory is
- * freed, since this thread alone has the book. */
-static gz_number drain(gz_book *book, size_t slot)
+/* Lets no further call in, waits until the last is over, frees the plugin's memory, and only then ends the removal: until
+ * then nobody loads or gets the plugin. */
+static gz_number drain(struct host *host, size_t slot)
 {
-    gz_number number = gz_book_begin_drain(book, slot);
+    gz_number number = gz_book_begin_drain(&host->book, slot);
     if (number != GZ_DONE)
         return number;
-    while ((number = gz_book_end_remove(book, slot)) == GZ_IN_USE)
-        ;
+    gz_reader_wait_unused(&host->reader, slot);
     free(atomic_exchange(&plugins[slot], NULL));
-    return number;
+    return gz_book_end_remove(&host->book, slot);
 }
 
 static int fails(const char *what, gz_number number)
@@ -101,31 +107,31 @@ static int fails(const char *what, gz_number number)
 }
 
 /* One round: both plugins come, are used for a while, and go. */
-static int round_of(gz_book *book, unsigned long *in_use)
+static int round_of(struct host *host)
 {
     struct timespec a_while = { 0, 100000 };
     gz_number number;
-    if ((number = load(book, 0, "stream")) || (number = load(book, 1, "codec")))
+    if ((number = load(&host->book, 0, "stream")) || (number = load(&host->book, 1, "codec")))
         return fails("load", number);
     nanosleep(&a_while, NULL);
-    if ((number = gz_book_begin_remove(book, 0)) != GZ_NEEDED_BY)
+    if ((number = gz_book_begin_remove(&host->book, 0)) != GZ_NEEDED_BY)
         return fails("removal of a plugin that is needed", number);
-    while ((number = try_remove(book, 1)) == GZ_IN_USE)
-        if (++*in_use % 8 == 0)
-            return drain(book, 1) || drain(book, 0);
-    return number ? fails("removal", number) : (int)drain(book, 0);
+    while ((number = try_remove(&host->book, 1)) == GZ_IN_USE)
+        if (++host->in_use % 8 == 0)
+            return drain(host, 1) || drain(host, 0);
+    return number ? fails("removal", number) : (int)drain(host, 0);
 }
 
 int main(void)
 {
     gz_catalogue catalogue = GZ_EMPTY;
-    gz_book book = GZ_EMPTY;
+    struct host host = { .book = GZ_EMPTY, .reader = GZ_EMPTY };
     gz_leaf leaves[WORKERS] = { GZ_EMPTY };
     size_t line = 0;
     gz_number number = gz_catalogue_read(text, sizeof text - 1, &catalogue, &line);
     if (number != GZ_DONE)
         return fprintf(stderr, "line %zu: %s\n", line, gz_strerror(number)), 1;
-    if ((number = gz_table_new(&catalogue, &book, leaves, WORKERS, NULL, 0)))
+    if ((number = gz_table_new(&catalogue, &host.book, leaves, WORKERS, &host.reader, 1)))
         return fails("no table", number);
     struct worker workers[WORKERS];
     pthread_t threads[WORKERS];
@@ -135,9 +141,9 @@ int main(void)
             return 1;
     }
     int wrong = 0;
-    unsigned long in_use = 0, calls = 0, refused = 0;
+    unsigned long calls = 0, refused = 0;
     for (int i = 0; i < ROUNDS && !wrong; i++)
-        wrong = round_of(&book, &in_use);
+        wrong = round_of(&host);
     atomic_store(&is_over, true);
     for (int i = 0; i < WORKERS; i++) {
         pthread_join(threads[i], NULL);
@@ -145,9 +151,10 @@ int main(void)
         gz_leaf_clear(&workers[i].leaf);
     }
     printf("%d rounds, %lu calls, %lu refused, %lu removals found it in use, %zu plugins left\n", ROUNDS, calls, refused,
-           in_use, gz_book_loaded(&book));
-    wrong |= gz_book_loaded(&book) != 0 || calls == 0;
-    gz_book_clear(&book);
+           host.in_use, gz_book_loaded(&host.book));
+    wrong |= gz_book_loaded(&host.book) != 0 || calls == 0;
+    gz_reader_clear(&host.reader);
+    gz_book_clear(&host.book);
     gz_catalogue_clear(&catalogue);
     return wrong;
 }

@@ -1,6 +1,6 @@
 /* Refuses each allocation in turn, once alone and once with all later ones. If the answer is GZ_OUT_OF_MEMORY no
- * handle is filled and nothing is left allocated; else the call did without, and all is as ever. Calls of a table take no
- * memory: each is made while none is to be had.
+ * handle is filled and nothing is left allocated; else the call did without, and all is as ever. Calls of a table and waits
+ * take no memory: each is made while none is to be had.
  * To be linked with -Wl,--wrap=malloc,--wrap=realloc,--wrap=free. */
 #include <gourzhiel.h>
 #include <stdio.h>
@@ -166,6 +166,34 @@ static bool managed_calls_take_none(gz_caller *caller)
     return is && gz_caller_loaded(caller, 1, &slot) == GZ_DONE && slot == 0;
 }
 
+static bool goes_well(void *data, size_t slot)
+{
+    (void)data;
+    return slot == 0;
+}
+
+/* And of a load with its work, and of waits. */
+static bool waits_take_none(gz_caller *caller)
+{
+    bool is = gz_caller_load(caller, 0, goes_well, NULL) == GZ_DONE && gz_caller_get_blocking(caller, 1, 0) == GZ_DONE;
+    is = is && gz_caller_begin_drain_blocking(caller, 0) == GZ_DONE && gz_caller_wait_unheld(caller, 0, 1) == GZ_TIMED_OUT;
+    is = is && gz_caller_put_blocking(caller, 1, 0) == GZ_DONE && gz_caller_wait_unheld(caller, 0, 1) == GZ_DONE;
+    return is && gz_caller_wait_removed_for(caller, 0, 1) == GZ_DONE;
+}
+
+/* A load or a removal with needs takes some. If there is none, nothing is done. */
+static bool needs_take_some(gz_caller *caller, gz_catalogue *catalogue)
+{
+    size_t at;
+    bool is = gz_caller_load(caller, 0, goes_well, NULL) == GZ_DONE;
+    is = is && gz_caller_remove_with_needs(caller, catalogue, 0, goes_well, NULL) == GZ_OUT_OF_MEMORY;
+    is = is && gz_caller_state_blocking(caller, 0) == GZ_LIVE && gz_caller_begin_remove_blocking(caller, 0) == GZ_DONE;
+    is = is && gz_caller_end_remove_blocking(caller, 0) == GZ_DONE;
+    is = is && gz_caller_load_with_needs(caller, catalogue, 0, goes_well, NULL, &at) == GZ_OUT_OF_MEMORY;
+    is = is && gz_caller_load_with_needs_for(caller, catalogue, 0, goes_well, NULL, &at, -1) == GZ_OUT_OF_MEMORY;
+    return is && gz_caller_state_blocking(caller, 0) == GZ_ABSENT;
+}
+
 /* And of meetings. */
 static bool meetings_take_none(struct callers *callers)
 {
@@ -173,11 +201,12 @@ static bool meetings_take_none(struct callers *callers)
     return is && gz_caller_meet_book(&callers->told, 1, &callers->tellers[0]) == GZ_DONE;
 }
 
-static bool calls_take_no_memory(struct table *table, struct callers *callers)
+static bool calls_take_no_memory(gz_catalogue *catalogue, struct table *table, struct callers *callers)
 {
     refuse(0, 1000);
     bool is = parts_take_none(table) && managed_calls_take_none(&callers->further) && meetings_take_none(callers);
-    is = is && made == 0;
+    is = is && waits_take_none(&callers->further) && made == 0;
+    is = is && needs_take_some(&callers->further, catalogue) && made == 3;
     refuse(-1, -1);
     return is;
 }
@@ -193,7 +222,7 @@ int main(void)
     if (read_text(&catalogue) || make(&catalogue, &table) || make_managed(&catalogue, &callers))
         return fails("all allowed", 0);
     long last = made;
-    if (!calls_take_no_memory(&table, &callers))
+    if (!calls_take_no_memory(&catalogue, &table, &callers))
         return fails("calls that take no memory", 0);
     free_callers(&callers);
     free_table(&table);

@@ -107,11 +107,15 @@ static void by_book(gz_catalogue *catalogue)
     CHECK(gz_book_begin_drain(&book, TIMER), GZ_DONE);
     CHECK(gz_leaf_get_blocking(&leaf, TIMER), GZ_NOT_LIVE);
     CHECK(gz_reader_in_use(&reader, TIMER), GZ_YES);
+    CHECK(gz_reader_wait_unused_for(&reader, TIMER, 1), GZ_TIMED_OUT);
+    CHECK(gz_book_wait_removed_for(&book, TIMER, 1), GZ_TIMED_OUT);
+    CHECK(gz_book_state(&book, TIMER), GZ_DRAINING);
     CHECK(gz_leaf_put(&leaf, TIMER), GZ_DONE);
     CHECK(gz_reader_wait_unused(&reader, TIMER), GZ_NO);
     CHECK(gz_book_wait_removed(&book, TIMER), GZ_DONE);
     CHECK(gz_book_wait_removed(&book, TIMER), GZ_NOT_UNLOADING);
     CHECK(gz_reader_wait_unused(&reader, OUTSIDE), GZ_OUT_OF_RANGE);
+    CHECK(gz_book_wait_removed_for(&book, OUTSIDE, 0), GZ_OUT_OF_RANGE);
     CHECK(gz_book_loaded(&book), 0);
     gz_reader_clear(&reader);
     gz_leaf_clear(&leaf);
@@ -157,6 +161,96 @@ static void by_caller(gz_catalogue *catalogue)
     gz_caller_clear(&caller);
 }
 
+/* A removal whose work fails stops there: what was removed before is absent, and the rest is as it was. */
+static void failed_removals(gz_catalogue *catalogue)
+{
+    gz_caller caller = GZ_EMPTY;
+    struct log log = { { 0 }, 0, OUTSIDE };
+    size_t at = 99;
+    CHECK(gz_managed_new(catalogue, 1, &caller), GZ_DONE);
+    CHECK(gz_caller_load_with_needs(&caller, catalogue, AUDIO, note, &log, &at), GZ_DONE);
+    log.count = 0;
+    log.bad = PCM;
+    CHECK(gz_caller_remove_with_needs(&caller, catalogue, AUDIO, note, &log), GZ_WORK_FAILED);
+    CHECK_LOG(log, AUDIO, PCM);
+    CHECK(gz_caller_state_blocking(&caller, AUDIO), GZ_ABSENT);
+    CHECK(gz_caller_state_blocking(&caller, PCM), GZ_UNLOADING);
+    CHECK(gz_caller_state_blocking(&caller, CORE), GZ_LIVE);
+    CHECK(gz_caller_get_blocking(&caller, 0, PCM), GZ_NOT_LIVE);
+    CHECK(gz_caller_wait_unheld(&caller, PCM, 0), GZ_DONE);
+    CHECK(gz_caller_end_remove_blocking(&caller, PCM), GZ_DONE);
+    log.bad = TIMER;
+    CHECK(gz_caller_remove_with_needs(&caller, catalogue, TIMER, note, &log), GZ_WORK_FAILED);
+    CHECK_LOG(log, TIMER);
+    CHECK(gz_caller_state_blocking(&caller, TIMER), GZ_UNLOADING);
+    CHECK(strcmp(gz_strerror(GZ_WORK_FAILED), "the work failed"), 0);
+    gz_caller_clear(&caller);
+}
+
+/* Each wait, with each number that it may answer while nobody acts beside it. */
+static void waits(gz_catalogue *catalogue)
+{
+    gz_caller caller = GZ_EMPTY;
+    struct log log = { { 0 }, 0, TIMER };
+    CHECK(gz_managed_new(catalogue, 3, &caller), GZ_DONE);
+    CHECK(gz_caller_load(&caller, TIMER, note, &log), GZ_NOT_LIVE);
+    CHECK(gz_caller_state_blocking(&caller, TIMER), GZ_ABSENT);
+    CHECK(gz_caller_wait_unheld(&caller, TIMER, -1), GZ_NOT_UNLOADING);
+    CHECK(gz_caller_load(&caller, CORE, note, &log), GZ_DONE);
+    CHECK(gz_caller_load(&caller, CORE, note, &log), GZ_EXISTS);
+    CHECK(gz_caller_load(&caller, PCM, note, &log), GZ_NEED_NOT_LIVE);
+    CHECK(gz_caller_load(&caller, LOST, note, &log), GZ_UNKNOWN_SYMBOL);
+    CHECK(gz_caller_load(&caller, OUTSIDE, note, &log), GZ_OUT_OF_RANGE);
+    CHECK_LOG(log, TIMER, CORE);
+    CHECK(gz_caller_wait_unheld(&caller, CORE, -1), GZ_NOT_UNLOADING);
+    CHECK(gz_caller_wait_unheld(&caller, OUTSIDE, -1), GZ_OUT_OF_RANGE);
+    CHECK(gz_caller_get_blocking(&caller, 1, CORE), GZ_DONE);
+    CHECK(gz_caller_begin_drain_blocking(&caller, CORE), GZ_DONE);
+    CHECK(gz_caller_wait_unheld(&caller, CORE, 0), GZ_TIMED_OUT);
+    CHECK(gz_caller_wait_unheld(&caller, CORE, 1), GZ_TIMED_OUT);
+    CHECK(gz_caller_wait_removed_for(&caller, CORE, 1), GZ_TIMED_OUT);
+    CHECK(gz_caller_put_blocking(&caller, 1, CORE), GZ_DONE);
+    CHECK(gz_caller_wait_unheld(&caller, CORE, 0), GZ_DONE);
+    CHECK(gz_caller_state_blocking(&caller, CORE), GZ_DRAINING);
+    CHECK(gz_caller_get_blocking(&caller, 1, CORE), GZ_NOT_LIVE);
+    CHECK(gz_caller_wait_removed_for(&caller, CORE, 0), GZ_DONE);
+    CHECK(gz_caller_wait_removed_for(&caller, CORE, 0), GZ_NOT_UNLOADING);
+    CHECK(gz_caller_wait_removed_for(&caller, OUTSIDE, 0), GZ_OUT_OF_RANGE);
+    CHECK(strcmp(gz_strerror(GZ_TIMED_OUT), "the time is over"), 0);
+    gz_caller_clear(&caller);
+}
+
+/* A load with a limit, beside loads and removals that do not end. */
+static void loads_with_a_limit(gz_catalogue *catalogue)
+{
+    gz_caller caller = GZ_EMPTY;
+    struct log log = { { 0 }, 0, OUTSIDE };
+    size_t at = 99, need = 99;
+    CHECK(gz_managed_new(catalogue, 1, &caller), GZ_DONE);
+    CHECK(gz_caller_begin_load_blocking(&caller, CORE, &need), GZ_DONE);
+    CHECK(gz_caller_load_with_needs(&caller, catalogue, AUDIO, note, &log, &at), GZ_EXISTS);
+    CHECK(at, CORE);
+    CHECK(gz_caller_load_with_needs_for(&caller, catalogue, AUDIO, note, &log, &at, 1), GZ_TIMED_OUT);
+    CHECK(at, CORE);
+    CHECK(log.count, 0);
+    CHECK(gz_caller_end_load_blocking(&caller, CORE, true), GZ_DONE);
+    CHECK(gz_caller_load_with_needs_for(&caller, catalogue, AUDIO, note, &log, &at, 0), GZ_DONE);
+    CHECK_LOG(log, TIMER, PCM, AUDIO);
+    CHECK(gz_caller_load_with_needs_for(&caller, catalogue, AUDIO, note, &log, &at, 0), GZ_DONE);
+    CHECK(gz_caller_load_with_needs_for(&caller, catalogue, A, note, &log, &at, -1), GZ_NEED_NOT_LIVE);
+    CHECK(gz_caller_load_with_needs_for(&caller, catalogue, LOST, note, &log, &at, -1), GZ_UNKNOWN_SYMBOL);
+    CHECK(gz_caller_load_with_needs_for(&caller, catalogue, OUTSIDE, note, &log, &at, -1), GZ_OUT_OF_RANGE);
+    CHECK(log.count, 0);
+    CHECK(gz_caller_begin_remove_blocking(&caller, AUDIO), GZ_DONE);
+    CHECK(gz_caller_load_with_needs_for(&caller, catalogue, AUDIO, note, &log, &at, 1), GZ_TIMED_OUT);
+    CHECK(at, AUDIO);
+    log.bad = AUDIO;
+    CHECK(gz_caller_end_remove_blocking(&caller, AUDIO), GZ_DONE);
+    CHECK(gz_caller_load_with_needs_for(&caller, catalogue, AUDIO, note, &log, &at, 0), GZ_NOT_LIVE);
+    CHECK_LOG(log, AUDIO);
+    gz_caller_clear(&caller);
+}
+
 int main(void)
 {
     gz_catalogue catalogue = GZ_EMPTY;
@@ -166,6 +260,9 @@ int main(void)
     names(&catalogue);
     by_book(&catalogue);
     by_caller(&catalogue);
+    failed_removals(&catalogue);
+    waits(&catalogue);
+    loads_with_a_limit(&catalogue);
     gz_catalogue_clear(&catalogue);
     return wrong;
 }

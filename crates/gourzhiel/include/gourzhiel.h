@@ -17,6 +17,12 @@
  *     gz_caller caller = GZ_EMPTY;         makes all calls: one to a thread
  *     gz_teller teller = GZ_EMPTY;         carries what was seen at one lock to the next
  *
+ * What a module has, as memory or a shared object, is unloaded between the last put and the end of the removal: see
+ * gz_caller_wait_removed.
+ *
+ * A table is of one process. A child of fork has a copy of its own, and neither sees what the other calls: a get in the child
+ * keeps no module of the parent.
+ *
  * What a caller owes. The library is proved against its contracts; nobody proves a caller. Otherwise the behaviour is
  * undefined:
  *   - A handle begins as GZ_EMPTY, and gz_catalogue_read or a `_new` call fills it. Every other call wants full handles, and
@@ -91,7 +97,9 @@ typedef enum gz_number {
     GZ_OUT_OF_RANGE = 33,   /* the worker, the slot or the place is none of the table */
     GZ_UNKNOWN_NAME = 34,   /* no module has the name */
     GZ_TOO_SHORT = 35,      /* the buffer is shorter than the name */
-    GZ_TOO_MANY_LEAVES = 36 /* a table has fewer than 2^32 leaves */
+    GZ_TOO_MANY_LEAVES = 36, /* a table has fewer than 2^32 leaves */
+    GZ_TIMED_OUT = 40,      /* of what waits: the limit of time is over */
+    GZ_WORK_FAILED = 41     /* of a removal with needs: the program's work said no */
 } gz_number;
 
 /* Handles. Only the library reads what `at` points to. */
@@ -108,10 +116,14 @@ typedef struct gz_teller { void *at; } gz_teller;
 #define GZ_NAME_LENGTH 55
 #define GZ_NAME_ROOM 56
 
-/* Each call has one name, gz_OBJECT_VERB, which the shared library exports. What is `static inline` here adds something to
- * calls: `_blocking` calls again at GZ_BUSY, `_clear` frees what is full and empties the handle. Macros of a call's name
- * make that call, and tell the thread sanitizer, or put a place for NULL. The names of older headers stand in
+/* Each call has one name, gz_OBJECT_VERB, which the shared library exports. What is GZ_INLINE here adds something to
+ * calls: `_blocking` calls again at GZ_BUSY, `_wait_` pauses between calls, `_clear` frees what is full and empties the
+ * handle. The library exports these too, for other languages: its gourzhiel.c defines GZ_INLINE as nothing. Macros of a
+ * call's name make that call, and tell the thread sanitizer, or put a place for NULL. The names of older headers stand in
  * gourzhiel_deprecated.h. */
+#ifndef GZ_INLINE
+#define GZ_INLINE static inline
+#endif
 typedef char gz_number_has_32_bits[sizeof(gz_number) == sizeof(uint32_t) ? 1 : -1];
 
 /* Places that are not NULL, for arrays of length 0: the library itself takes no NULL. */
@@ -138,6 +150,25 @@ static inline gz_number gz_after_call(gz_number number)
 }
 #define GZ_ORDERED(call) (gz_before_call(), gz_after_call(call))
 #endif
+
+/* ---- Waits ---- */
+
+/* What waits until others put or load has a limit in milliseconds, and answers GZ_TIMED_OUT once it is over: within 20
+ * milliseconds, if the system lets the thread run. A negative limit is for ever. With 0 it looks once.
+ *
+ * A wait begins as GZ_WAIT(milliseconds). Its limit counts from its first pause on. */
+typedef struct gz_wait {
+    int milliseconds; /* the limit */
+    uint32_t pauses;  /* how many were made */
+    int64_t end;      /* when the limit is over, by CLOCK_MONOTONIC in nanoseconds; after the first pause */
+} gz_wait;
+
+#define GZ_WAIT(milliseconds) { milliseconds, 0, 0 }
+
+/* Makes a pause, and answers true. The first sixteen let another thread run, by sched_yield. Then the thread sleeps 50
+ * microseconds, and each time twice as long, up to 5 milliseconds, but not beyond the limit: so a long wait takes under
+ * 1 % of a processor. False: the limit is over, and no pause was made. */
+bool gz_wait_pause(gz_wait *wait);
 
 /* ---- Catalogues ---- */
 
@@ -169,7 +200,7 @@ gz_number gz_catalogue_name(gz_catalogue *catalogue, size_t slot, void *buffer, 
 void gz_catalogue_free(gz_catalogue catalogue);
 
 /* Whether the module in `slot` needs the one in `other`. */
-static inline bool gz_catalogue_needs(gz_catalogue *catalogue, size_t slot, size_t other)
+GZ_INLINE bool gz_catalogue_needs(gz_catalogue *catalogue, size_t slot, size_t other)
 {
     size_t need = 0;
     for (size_t place = 0; gz_catalogue_need(catalogue, slot, place, &need) == GZ_DONE; place++)
@@ -180,7 +211,7 @@ static inline bool gz_catalogue_needs(gz_catalogue *catalogue, size_t slot, size
 
 /* The name of the module in a slot, ended with 0, in a buffer of `room` bytes.
  * GZ_OUT_OF_RANGE. GZ_TOO_SHORT: GZ_NAME_ROOM bytes are always enough. The buffer is left as it is then. */
-static inline gz_number gz_catalogue_name_string(gz_catalogue *catalogue, size_t slot, char *buffer, size_t room)
+GZ_INLINE gz_number gz_catalogue_name_string(gz_catalogue *catalogue, size_t slot, char *buffer, size_t room)
 {
     size_t length = 0, most = room ? room - 1 : 0; /* no name is empty */
     gz_number number = gz_catalogue_name(catalogue, slot, buffer, most, &length);
@@ -189,7 +220,7 @@ static inline gz_number gz_catalogue_name_string(gz_catalogue *catalogue, size_t
     return number;
 }
 
-static inline void gz_catalogue_clear(gz_catalogue *catalogue)
+GZ_INLINE void gz_catalogue_clear(gz_catalogue *catalogue)
 {
     if (catalogue->at)
         gz_catalogue_free(*catalogue);
@@ -231,7 +262,7 @@ void gz_leaf_free(gz_leaf leaf);
 
 /* Takes one reference to the module, and tries as long as others are in its way.
  * GZ_NOT_LIVE, GZ_TOO_MANY, GZ_OUT_OF_RANGE. */
-static inline gz_number gz_leaf_get_blocking(gz_leaf *leaf, size_t slot)
+GZ_INLINE gz_number gz_leaf_get_blocking(gz_leaf *leaf, size_t slot)
 {
     gz_number number;
     do {
@@ -242,7 +273,7 @@ static inline gz_number gz_leaf_get_blocking(gz_leaf *leaf, size_t slot)
     return number;
 }
 
-static inline void gz_leaf_clear(gz_leaf *leaf)
+GZ_INLINE void gz_leaf_clear(gz_leaf *leaf)
 {
     if (leaf->at)
         gz_leaf_free(*leaf);
@@ -261,16 +292,25 @@ void gz_reader_free(gz_reader reader);
 #define gz_reader_in_use(reader, slot) GZ_ORDERED((gz_reader_in_use)(reader, slot))
 #endif
 
-/* Waits until no leaf holds the module, by sched_yield: GZ_NO. After gz_book_begin_drain it stays so. GZ_OUT_OF_RANGE. */
-static inline gz_number gz_reader_wait_unused(gz_reader *reader, size_t slot)
+/* Waits until no leaf holds the module, at most so many milliseconds: GZ_NO. After gz_book_begin_drain it stays so, and what
+ * the module has may be unloaded before gz_book_end_remove. GZ_OUT_OF_RANGE, GZ_TIMED_OUT. */
+GZ_INLINE gz_number gz_reader_wait_unused_for(gz_reader *reader, size_t slot, int milliseconds)
 {
+    gz_wait wait = GZ_WAIT(milliseconds);
     gz_number number;
     while ((number = gz_reader_in_use(reader, slot)) == GZ_YES)
-        sched_yield();
+        if (!gz_wait_pause(&wait))
+            return GZ_TIMED_OUT;
     return number;
 }
 
-static inline void gz_reader_clear(gz_reader *reader)
+/* The same for ever. */
+GZ_INLINE gz_number gz_reader_wait_unused(gz_reader *reader, size_t slot)
+{
+    return gz_reader_wait_unused_for(reader, slot, -1);
+}
+
+GZ_INLINE void gz_reader_clear(gz_reader *reader)
 {
     if (reader->at)
         gz_reader_free(*reader);
@@ -320,18 +360,27 @@ void gz_book_free(gz_book book);
 #define gz_book_end_remove(book, slot) GZ_ORDERED((gz_book_end_remove)(book, slot))
 #endif
 
-/* Ends a drain once nobody holds the module, and waits for that by sched_yield. GZ_NOT_UNLOADING, GZ_OUT_OF_RANGE. */
-static inline gz_number gz_book_wait_removed(gz_book *book, size_t slot)
+/* Ends a drain once nobody holds the module, and waits for that at most so many milliseconds. Who has something to unload
+ * calls gz_reader_wait_unused_for instead. GZ_NOT_UNLOADING, GZ_OUT_OF_RANGE. GZ_TIMED_OUT: it still drains. */
+GZ_INLINE gz_number gz_book_wait_removed_for(gz_book *book, size_t slot, int milliseconds)
 {
+    gz_wait wait = GZ_WAIT(milliseconds);
     gz_number number;
     while ((number = gz_book_end_remove(book, slot)) == GZ_IN_USE)
-        sched_yield();
+        if (!gz_wait_pause(&wait))
+            return GZ_TIMED_OUT;
     return number;
+}
+
+/* The same for ever. */
+GZ_INLINE gz_number gz_book_wait_removed(gz_book *book, size_t slot)
+{
+    return gz_book_wait_removed_for(book, slot, -1);
 }
 
 /* The slot of a loaded module that needs the module, in *user: of those the one at `place`, from 0, the oldest first.
  * GZ_OUT_OF_RANGE: fewer are loaded that need it, and *user is left as it is. */
-static inline gz_number gz_book_user(gz_book *book, gz_catalogue *catalogue, size_t slot, size_t place, size_t *user)
+GZ_INLINE gz_number gz_book_user(gz_book *book, gz_catalogue *catalogue, size_t slot, size_t place, size_t *user)
 {
     size_t loaded = 0;
     for (size_t at = 0; gz_book_loaded_at(book, at, &loaded) == GZ_DONE; at++)
@@ -342,7 +391,7 @@ static inline gz_number gz_book_user(gz_book *book, gz_catalogue *catalogue, siz
     return GZ_OUT_OF_RANGE;
 }
 
-static inline void gz_book_clear(gz_book *book)
+GZ_INLINE void gz_book_clear(gz_book *book)
 {
     if (book->at)
         gz_book_free(*book);
@@ -352,7 +401,7 @@ static inline void gz_book_clear(gz_book *book)
 /* ---- Numbers ---- */
 
 /* What a number says, for people. It is never NULL, and is not to be freed. */
-static inline const char *gz_strerror(gz_number number)
+GZ_INLINE const char *gz_strerror(gz_number number)
 {
     switch (number) {
     case GZ_DONE: return "done";
@@ -385,6 +434,8 @@ static inline const char *gz_strerror(gz_number number)
     case GZ_UNKNOWN_NAME: return "unknown name";
     case GZ_TOO_SHORT: return "the buffer is too short";
     case GZ_TOO_MANY_LEAVES: return "too many leaves";
+    case GZ_TIMED_OUT: return "the time is over";
+    case GZ_WORK_FAILED: return "the work failed";
     }
     return "unknown number";
 }

@@ -11,7 +11,8 @@ extern "C" {
 /* ---- Managed tables ---- */
 
 /* A new table whose parts the library keeps, over a catalogue, with `workers` workers, and its first caller in an empty
- * handle. All modules are absent, and no worker holds one. GZ_OUT_OF_MEMORY, GZ_TOO_MANY_LEAVES: no handle is filled. */
+ * handle. All modules are absent, and no worker holds one. A worker takes some 720 bytes, and 2 more for each module.
+ * GZ_OUT_OF_MEMORY, GZ_TOO_MANY_LEAVES: no handle is filled. */
 gz_number gz_managed_new(gz_catalogue *catalogue, size_t workers, gz_caller *caller);
 
 /* The same, with a teller for each worker, in `workers` empty handles. */
@@ -93,67 +94,67 @@ void gz_teller_free(gz_teller teller);
         sched_yield(); \
     return number
 
-static inline gz_number gz_caller_get_blocking(gz_caller *caller, size_t worker, size_t slot)
+GZ_INLINE gz_number gz_caller_get_blocking(gz_caller *caller, size_t worker, size_t slot)
 {
     GZ_UNTIL_ANSWERED(gz_caller_get(caller, worker, slot, GZ_TRIES));
 }
 
-static inline gz_number gz_caller_put_blocking(gz_caller *caller, size_t worker, size_t slot)
+GZ_INLINE gz_number gz_caller_put_blocking(gz_caller *caller, size_t worker, size_t slot)
 {
     GZ_UNTIL_ANSWERED(gz_caller_put(caller, worker, slot, GZ_TRIES));
 }
 
-static inline gz_number gz_caller_held_blocking(gz_caller *caller, size_t worker, size_t slot, uint32_t *count)
+GZ_INLINE gz_number gz_caller_held_blocking(gz_caller *caller, size_t worker, size_t slot, uint32_t *count)
 {
     GZ_UNTIL_ANSWERED(gz_caller_held(caller, worker, slot, GZ_TRIES, count));
 }
 
-static inline gz_number gz_caller_begin_load_blocking(gz_caller *caller, size_t slot, size_t *need)
+GZ_INLINE gz_number gz_caller_begin_load_blocking(gz_caller *caller, size_t slot, size_t *need)
 {
     GZ_UNTIL_ANSWERED(gz_caller_begin_load(caller, slot, GZ_TRIES, need));
 }
 
-static inline gz_number gz_caller_end_load_blocking(gz_caller *caller, size_t slot, bool ok)
+GZ_INLINE gz_number gz_caller_end_load_blocking(gz_caller *caller, size_t slot, bool ok)
 {
     GZ_UNTIL_ANSWERED(gz_caller_end_load(caller, slot, ok, GZ_TRIES));
 }
 
-static inline gz_number gz_caller_begin_drain_blocking(gz_caller *caller, size_t slot)
+GZ_INLINE gz_number gz_caller_begin_drain_blocking(gz_caller *caller, size_t slot)
 {
     GZ_UNTIL_ANSWERED(gz_caller_begin_drain(caller, slot, GZ_TRIES));
 }
 
-static inline gz_number gz_caller_begin_remove_blocking(gz_caller *caller, size_t slot)
+GZ_INLINE gz_number gz_caller_begin_remove_blocking(gz_caller *caller, size_t slot)
 {
     GZ_UNTIL_ANSWERED(gz_caller_begin_remove(caller, slot, GZ_TRIES));
 }
 
-static inline gz_number gz_caller_end_remove_blocking(gz_caller *caller, size_t slot)
+GZ_INLINE gz_number gz_caller_end_remove_blocking(gz_caller *caller, size_t slot)
 {
     GZ_UNTIL_ANSWERED(gz_caller_end_remove(caller, slot, GZ_TRIES));
 }
 
-static inline gz_number gz_caller_state_blocking(gz_caller *caller, size_t slot)
+GZ_INLINE gz_number gz_caller_state_blocking(gz_caller *caller, size_t slot)
 {
     GZ_UNTIL_ANSWERED(gz_caller_state(caller, slot, GZ_TRIES));
 }
 
-static inline gz_number gz_caller_loaded_blocking(gz_caller *caller, size_t *count)
+GZ_INLINE gz_number gz_caller_loaded_blocking(gz_caller *caller, size_t *count)
 {
     GZ_UNTIL_ANSWERED(gz_caller_loaded(caller, GZ_TRIES, count));
 }
 
-static inline gz_number gz_caller_loaded_at_blocking(gz_caller *caller, size_t place, size_t *slot)
+GZ_INLINE gz_number gz_caller_loaded_at_blocking(gz_caller *caller, size_t place, size_t *slot)
 {
     GZ_UNTIL_ANSWERED(gz_caller_loaded_at(caller, place, GZ_TRIES, slot));
 }
 
-static inline gz_number gz_caller_meet_leaf_blocking(gz_caller *caller, size_t worker, gz_teller *teller)
+GZ_INLINE gz_number gz_caller_meet_leaf_blocking(gz_caller *caller, size_t worker, gz_teller *teller)
 {
     GZ_UNTIL_ANSWERED(gz_caller_meet_leaf(caller, worker, GZ_TRIES, teller));
 }
 
-static inline gz_number gz_caller_meet_book_blocking(gz_caller *caller, gz_teller *teller)
+GZ_INLINE gz_number gz_caller_meet_book_blocking(gz_caller *caller, gz_teller *teller)
 {
     GZ_UNTIL_ANSWERED(gz_caller_meet_book(caller, GZ_TRIES, teller));
 }
@@ -165,7 +166,7 @@ static inline gz_number gz_caller_meet_book_blocking(gz_caller *caller, gz_telle
 /* The references of all workers to the module, in *sum: each worker's count is asked in a turn of its own, one after
  * another, so that while others get and put the sum need not be that of any moment. It waits for each lock.
  * GZ_OUT_OF_RANGE: *sum is left. */
-static inline gz_number gz_caller_references(gz_caller *caller, size_t slot, uint64_t *sum)
+GZ_INLINE gz_number gz_caller_references(gz_caller *caller, size_t slot, uint64_t *sum)
 {
     uint64_t found = 0;
     uint32_t count = 0;
@@ -181,19 +182,64 @@ static inline gz_number gz_caller_references(gz_caller *caller, size_t slot, uin
     return number;
 }
 
-/* Ends a drain once nobody holds the module, and waits for that by sched_yield, with no lock taken between.
- * GZ_NOT_UNLOADING, GZ_OUT_OF_RANGE. */
-static inline gz_number gz_caller_wait_removed(gz_caller *caller, size_t slot)
+/* The first worker from `worker` on that holds the module; if none does, the number of workers. */
+static inline size_t gz_caller_holder(gz_caller *caller, size_t worker, size_t slot)
 {
+    uint32_t count = 0;
+    while (gz_caller_held_blocking(caller, worker, slot, &count) == GZ_DONE && count == 0)
+        worker++;
+    return worker;
+}
+
+/* Waits until nobody holds a module that drains, at most so many milliseconds, with no lock taken between. It still drains
+ * then, so nobody gets it: unload what it has, and then call gz_caller_end_remove. While this waits no other thread ends the
+ * drain. A module that unloads is held by nobody: GZ_DONE.
+ * GZ_NOT_UNLOADING, GZ_OUT_OF_RANGE. GZ_TIMED_OUT: it still drains, and somebody holds it. */
+GZ_INLINE gz_number gz_caller_wait_unheld(gz_caller *caller, size_t slot, int milliseconds)
+{
+    gz_wait wait = GZ_WAIT(milliseconds);
+    size_t worker = 0; /* those before it hold nothing, and get nothing while the module drains */
+    bool is_unheld = false;
+    gz_number state;
+    while ((state = gz_caller_state_blocking(caller, slot)) == GZ_DRAINING && !is_unheld) {
+        worker = gz_caller_holder(caller, worker, slot);
+        is_unheld = worker == gz_caller_workers(caller);
+        if (!is_unheld && !gz_wait_pause(&wait))
+            return GZ_TIMED_OUT;
+    }
+    if (state == GZ_DRAINING || state == GZ_UNLOADING)
+        return GZ_DONE;
+    return state == GZ_OUT_OF_RANGE ? GZ_OUT_OF_RANGE : GZ_NOT_UNLOADING;
+}
+
+/* Ends a drain once nobody holds the module, and waits for that at most so many milliseconds, with no lock taken between.
+ * It is for modules that have nothing to unload, or that no other thread loads. Otherwise there is a race:
+ *
+ *     this thread    gz_caller_wait_removed: the module is absent
+ *     another        gz_caller_begin_load, gz_caller_end_load: it is live, with the object that is still there
+ *     a worker       gz_caller_get: it uses the object
+ *     this thread    dlclose: the object goes while the worker uses it
+ *
+ * GZ_NOT_UNLOADING, GZ_OUT_OF_RANGE. GZ_TIMED_OUT: it still drains. */
+GZ_INLINE gz_number gz_caller_wait_removed_for(gz_caller *caller, size_t slot, int milliseconds)
+{
+    gz_wait wait = GZ_WAIT(milliseconds);
     gz_number number;
     while ((number = gz_caller_end_remove_blocking(caller, slot)) == GZ_IN_USE)
-        sched_yield();
+        if (!gz_wait_pause(&wait))
+            return GZ_TIMED_OUT;
     return number;
+}
+
+/* The same for ever. */
+GZ_INLINE gz_number gz_caller_wait_removed(gz_caller *caller, size_t slot)
+{
+    return gz_caller_wait_removed_for(caller, slot, -1);
 }
 
 /* The slot of a loaded module that needs the module, as gz_book_user. It waits for each lock. The catalogue is this thread's
  * own, or locked. */
-static inline gz_number gz_caller_user(gz_caller *caller, gz_catalogue *catalogue, size_t slot, size_t place, size_t *user)
+GZ_INLINE gz_number gz_caller_user(gz_caller *caller, gz_catalogue *catalogue, size_t slot, size_t place, size_t *user)
 {
     size_t loaded = 0;
     for (size_t at = 0; gz_caller_loaded_at_blocking(caller, at, &loaded) == GZ_DONE; at++)
@@ -204,14 +250,14 @@ static inline gz_number gz_caller_user(gz_caller *caller, gz_catalogue *catalogu
     return GZ_OUT_OF_RANGE;
 }
 
-static inline void gz_caller_clear(gz_caller *caller)
+GZ_INLINE void gz_caller_clear(gz_caller *caller)
 {
     if (caller->at)
         gz_caller_free(*caller);
     caller->at = NULL;
 }
 
-static inline void gz_teller_clear(gz_teller *teller)
+GZ_INLINE void gz_teller_clear(gz_teller *teller)
 {
     if (teller->at)
         gz_teller_free(*teller);
