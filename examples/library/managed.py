@@ -1,8 +1,8 @@
 """Managed calls from Python threads, by ctypes: managed.py [libgourzhiel.so]
 
 Each thread has a caller, and calls for whichever worker it is told. No thread owns a worker. One thread loads a plugin and
-unloads it for real: only once nobody holds it, and before the table says that it is absent. At last a teller carries the order
-of a removal to a get, which finds the module gone.
+unloads it for real: only once nobody holds it, and before the table says that it is absent. At last a teller carries the
+order of a removal to a get, which finds the module gone.
 """
 
 import ctypes
@@ -113,8 +113,8 @@ def unload(caller, plugins):
 
 
 def limits(caller, plugins):
-    """A wait for a worker that holds the module ends in time, and the module drains on. Nobody else loads now, so that the plugin
-    may go after its module."""
+    """A wait for a worker that holds the module ends in time, and the module drains on. Nobody else loads now, so that the
+    plugin may go after its module."""
     caller.expect([DONE], "get_blocking", 1, SND)
     caller.expect([DONE], "begin_drain_blocking", SND)
     caller.expect([TIMED_OUT], "wait_unheld", SND, SHORT)

@@ -1,7 +1,7 @@
 //! Managed calls from stock Rust: `rustc -O managed.rs -L PREFIX/lib -l static=gourzhiel`.
-//! Threads of a pool take and give a module for any worker, while the main thread loads it and unloads it for real: only once
-//! nobody holds it, and before the table says that it is absent. At last a teller carries the order of the last removal to a
-//! get, which finds the module gone.
+//! Threads of a pool take and give a module for any worker, while the main thread loads it and unloads it for real: only
+//! once nobody holds it, and before the table says that it is absent. At last a teller carries the order of the last removal
+//! to a get, which finds the module gone.
 
 use std::ffi::{c_char, c_int, c_void, CStr};
 use std::sync::atomic::{AtomicBool, Ordering::SeqCst};
@@ -206,8 +206,8 @@ fn work(mut caller: Caller, is_over: &AtomicBool) -> usize {
     got
 }
 
-/// A wait for a worker that holds the module ends in time, and the module drains on. Nobody else loads, so that the plugin may
-/// go after its module.
+/// A wait for a worker that holds the module ends in time, and the module drains on. Nobody else loads, so that the plugin
+/// may go after its module.
 fn keep_limits(caller: &mut Caller) {
     caller.load();
     assert_eq!(caller.get(1), DONE);

@@ -20,8 +20,8 @@
  * What a module has, as memory or a shared object, is unloaded between the last put and the end of the removal: see
  * gz_caller_wait_removed.
  *
- * A table is of one process. A child of fork has a copy of its own, and neither sees what the other calls: a get in the child
- * keeps no module of the parent.
+ * A table is of one process. A child of fork has a copy of its own, and neither sees what the other calls: a get in the
+ * child keeps no module of the parent.
  *
  * What a caller owes. The library is proved against its contracts; nobody proves a caller. Otherwise the behaviour is
  * undefined:

@@ -139,9 +139,9 @@ GZ_INLINE gz_number gz_caller_load_with_needs(gz_caller *caller, gz_catalogue *c
     return gz_side_load(side, gz_catalogue_len(catalogue), slot, work, data, at, NULL);
 }
 
-/* The same, but a module that is live already is GZ_DONE too, and `work` is not called for it. If another thread loads, drains
- * or removes the module, or one that it needs, this waits until that one is live or absent, and goes on. The limit of so many
- * milliseconds counts from the first pause on. GZ_TIMED_OUT: it is over, and *at is neither live nor absent. */
+/* The same, but a module that is live already is GZ_DONE too, and `work` is not called for it. If another thread loads,
+ * drains or removes the module, or one that it needs, this waits until that one is live or absent, and goes on. The limit of
+ * so many milliseconds counts from the first pause on. GZ_TIMED_OUT: it is over, and *at is neither live nor absent. */
 GZ_INLINE gz_number gz_caller_load_with_needs_for(gz_caller *caller, gz_catalogue *catalogue, size_t slot, gz_work *work,
                                                   void *data, size_t *at, int milliseconds)
 {
