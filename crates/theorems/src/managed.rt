@@ -11,11 +11,11 @@ use dep_index::{BeginRemoveError, Call, Reply};
 use managed_table::{Caller, ManagedTable};
 use std::sync::Wait;
 
-/// Each managed call that returns was made exactly once: its caller had one turn more, and in it the worker's leaf or the book
-/// made this one call. The caller did nothing else, and no further caller came from it: callers come from callers alone, so no other
-/// call was made behind it. The call was answered as the one-thread table answers it in a legal history, which begins with all that
-/// this caller had seen there, and in which removals are safe. It is not made exactly if the worker or the slot is out of range,
-/// or if it is a query, which takes no lock. Nothing is then done. It may not return.
+/// Each managed call that is answered was made exactly once: its caller had one turn more, and in it the worker's leaf or the book
+/// made this one call. The caller did nothing else, and no further caller came from it: each but the first comes from a caller, so no
+/// other call was made behind it. The call was answered as the one-thread table answers it in a legal history, which begins with all
+/// that this caller had seen there, and in which removals are safe. None comes exactly if the worker or the slot is out of range, or
+/// if it is a query, which takes no lock. Nothing is then done. It may not return.
 ///
 /// Premises: the caller is of this table; the steps on all words are in one order (sequentially consistent atomics).
 pub fn managed_calls_are_made_once<R: Wait>(
