@@ -33,7 +33,7 @@ use Rattle.table_adopt.specs.declared.kernel.KernelModule.{KernelModule}
 use Rattle.table_adopt.specs.Steps.{line_of}
 use Rattle.table_adopt.specs.Plans.{steps_for}
 use Rattle.table_adopt.specs.Reports.{report_of}
-use Rattle.gz_table_drive.specs.Endings.{ending_of_outcome}
+use Rattle.table_folder.specs.Endings.{ending_of_outcome}
 use Rattle.gz_table_drive.specs.Answers.{HasMore}
 use Rattle.gz_table_drive.specs.Adopting.{adopting_lines, ending_of_report, is_refusal, refused_of, AdoptingKeepsHeld, HasAdopted, HasRefused, HoldsTheSame}
 use Rattle.gz_table_drive.specs.declared.answering.Replies.{Replies}

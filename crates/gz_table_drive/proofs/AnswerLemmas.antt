@@ -16,7 +16,7 @@ use Rattle.held_lines.specs.Outcomes.{held_line_outcome, after}
 use Rattle.durable_table.specs.Durable.{FileStands}
 use Rattle.durable_table.specs.Groups.{replies_of, AfterFirstOf}
 use Rattle.gz_table_drive.specs.declared.answering.Replies.{Replies}
-use Rattle.gz_table_drive.specs.Endings.{ending_of_outcome}
+use Rattle.table_folder.specs.Endings.{ending_of_outcome}
 use Rattle.gz_table_drive.specs.Answers.{HasMore, HasAnswered, StandsAfter, StoppedWithin}
 
 pub after_more : (s : Setup) (h : Held) (lines more : List (List ℕ)) → after s h (lines ++ more) ≡ after s (after s h lines) more

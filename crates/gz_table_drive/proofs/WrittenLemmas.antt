@@ -19,11 +19,11 @@ use Rattle.table_words.specs.Endings.{behind, ending_of_lines, is_refusal}
 use Rattle.table_words.specs.declared.ending.Ending.{Ending}
 use Rattle.table_words.specs.declared.ending.Ending.TheVariants.{Done}
 use Rattle.gz_table_drive.specs.declared.answering.Replies.{Replies}
-use Rattle.gz_table_drive.specs.Endings.{ending_of_outcome}
+use Rattle.table_folder.specs.Endings.{ending_of_outcome}
 use Rattle.gz_table_drive.specs.Answers.{HasAnsweredOver}
-use Rattle.gz_table_drive.specs.Setups.{IsReadFrom}
+use Rattle.table_folder.specs.Setups.{IsReadFrom}
 use Rattle.gz_table_drive.specs.Written.{first_ending, AreAnswersTo, AreWritten, IsWritten}
-use Rattle.gz_table_drive.specs.declared.folder_setup.FolderSetup.{FolderSetup}
+use Rattle.table_folder.specs.declared.folder_setup.FolderSetup.{FolderSetup}
 use Rattle.gz_table_drive.proofs.AnswerLemmas.{after_more, texts_more}
 
 -- the table that a journal stands for is the one after some commands

@@ -15,7 +15,7 @@ use Rattle.table_adopt.specs.Plans.{steps_for}
 use Rattle.table_adopt.specs.Reports.{report_of}
 use Rattle.table_words.specs.declared.ending.Ending.{Ending}
 use Rattle.table_words.specs.declared.ending.Ending.TheVariants as ending
-use Rattle.gz_table_drive.specs.Endings.{ending_of_outcome}
+use Rattle.table_folder.specs.Endings.{ending_of_outcome}
 use Rattle.gz_table_drive.specs.Answers.{HasMore}
 use Rattle.gz_table_drive.specs.declared.answering.Replies.{Replies}
 

@@ -7,7 +7,7 @@ use Rattle.held_table.specs.Held.{Held}
 use Rattle.held_lines.specs.Outcomes.{after}
 use Rattle.durable_table.specs.Durable.{FileStands}
 use Rattle.durable_table.specs.Groups.{replies_of}
-use Rattle.gz_table_drive.specs.Endings.{ending_of_outcome}
+use Rattle.table_folder.specs.Endings.{ending_of_outcome}
 use Rattle.gz_table_drive.specs.declared.answering.Replies.{Replies}
 
 -- these replies more, and how their lines ended

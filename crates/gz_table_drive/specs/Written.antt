@@ -9,9 +9,9 @@ use Rattle.durable_table.specs.Tables.{opening_of}
 use Rattle.table_words.specs.Endings.{ending_of_lines}
 use Rattle.table_words.specs.declared.ending.Ending.{Ending}
 use Rattle.table_words.specs.declared.ending.Ending.TheVariants.{Done}
-use Rattle.gz_table_drive.specs.Endings.{ending_of_outcome}
-use Rattle.gz_table_drive.specs.Setups.{IsReadFrom}
-use Rattle.gz_table_drive.specs.declared.folder_setup.FolderSetup.{FolderSetup}
+use Rattle.table_folder.specs.Endings.{ending_of_outcome}
+use Rattle.table_folder.specs.Setups.{IsReadFrom}
+use Rattle.table_folder.specs.declared.folder_setup.FolderSetup.{FolderSetup}
 
 -- how the first of some lines ended
 abbrev pub first_ending : List Ending → Ending

@@ -12,13 +12,13 @@ ghost use Rattle.gz_table_drive.specs.Answers.{HasMore};
 ghost use Rattle.gz_table_drive.specs.Adopting.{adopting_lines, ending_of_report, refused_of, HasAdopted, HasRefused, HoldsTheSame};
 
 use crate::answering::{GROUP, Replies};
-use crate::endings::ending_of;
 use durable_table::{DurableTable, PerformError};
 use held_lines::{HeldReply, HeldSession, Holders};
 use line_journal::{Device, DeviceError, are_lines};
 use seq_table::Modules;
 use std::alloc::{AllocError, Global};
 use table_adopt::{Adoption, KernelModule, adopt};
+use table_folder::ending_of;
 use table_words::Ending;
 use thiserror::Error;
 

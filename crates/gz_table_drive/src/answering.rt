@@ -9,12 +9,12 @@ ghost use Rattle.durable_table.specs.Groups.{AfterFirstOf};
 ghost use Rattle.gz_table_drive.specs.Answers.{HasMore, HasAnswered, StoppedWithin};
 ghost use Rattle.table_words.specs.Endings.{ending_of_lines};
 
-use crate::endings::ending_of;
 use durable_table::{DurableTable, PerformError};
 use held_lines::{HeldReply, Holders};
 use line_journal::{Device, DeviceError};
 use modprobe::Reply;
 use std::alloc::{AllocError, Global};
+use table_folder::ending_of;
 use table_words::Ending;
 use thiserror::Error;
 

@@ -2,19 +2,16 @@
 ghost use Rattle.line_journal.specs.Lines.{IsLine};
 
 use crate::answering::Replies;
-use crate::fault::TableFault;
-use crate::input::alone;
-use crate::opening::{read_file, setup};
 use crate::reading::answer_copy;
-use crate::shared::{CUT, JOURNAL, Shared};
 use file_journal::LockKind;
 use line_journal::{Found, KillOnly, look};
 use modprobe::Setup;
 use program_frame::first_word;
 use std::alloc::{AllocError, Global};
-use std::fs::{self, File, OpenFile};
+use std::fs::File;
 use std::rt::Files;
 use std::time::Clock;
+use table_folder::{Shared, TableFault, alone, cut_length, read_journal, read_setup};
 use text_parts::{is_same, whole_lines};
 
 /// What `check` counts.
@@ -87,17 +84,14 @@ pub(crate) fn check<R: Files<File = File> + Clock + AllocGlobal>(
     shared: &Shared<'_, R>,
 ) -> Result<Counts, TableFault> {
     let alloc = shared.alloc();
-    let found = setup(shared)?;
+    let found = read_setup(shared)?;
     if !found.is_sound() {
         return Err(TableFault::ChangedSetup);
     }
     let setup = &found.setup;
     let lock = shared.lock(LockKind::Shared)?;
-    let bytes = read_file(shared, JOURNAL)?;
-    let cut = match fs::metadata(shared.rt, &shared.path(CUT)?) {
-        Ok(known) => known.len(),
-        Err(_) => 0,
-    };
+    let bytes = read_journal(shared)?;
+    let cut = cut_length(shared)?;
     lock.release();
     let loaded = listing(alloc, setup, &bytes, b"proc")?;
     let held = listing(alloc, setup, &bytes, b"held")?;

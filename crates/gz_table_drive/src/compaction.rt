@@ -5,13 +5,10 @@ ghost use Rattle.line_journal.specs.Journal.{lines_in};
 ghost use Rattle.held_lines.specs.Held.{holding};
 ghost use Rattle.durable_table.specs.Durable.{Stands, FileStands};
 ghost use Rattle.durable_table.specs.Compacting.{compacted};
-ghost use Rattle.gz_table_drive.specs.Setups.{is_sound};
+ghost use Rattle.table_folder.specs.Setups.{is_sound};
 
-use crate::fault::{TableFault, journal_fault};
 use crate::kept::Kept;
-use crate::opening::{no_holders, setup};
-use crate::shared::Shared;
-use crate::teller::Teller;
+use crate::opening::no_holders;
 use crate::tenure::changing_table;
 use durable_table::{Compacted, DurableTable, PerformError};
 use file_journal::LockKind;
@@ -22,6 +19,7 @@ use std::fs::File;
 use std::io::Write;
 use std::rt::Files;
 use std::time::Clock;
+use table_folder::{Shared, TableFault, Teller, journal_fault, read_setup};
 
 /// Why a journal was not written anew.
 #[derive(Clone, Copy, Debug, PartialEq, Eq)]
@@ -97,7 +95,7 @@ pub(crate) fn compact<R: Files<File = File> + Clock + AllocGlobal, E: Write>(
     teller: &mut Teller<'_, E>,
 ) -> Result<Compacted, TableFault> {
     let alloc = shared.alloc();
-    let setup = setup(shared)?;
+    let setup = read_setup(shared)?;
     let mut kept = Kept::new(&setup);
     if !kept.is_sound() {
         return Err(TableFault::ChangedSetup);

@@ -3,15 +3,15 @@ ghost use Rattle.std.specs.Prelude.{◌≡◌, IfSome};
 ghost use Rattle.std.proofs.Props.{props};
 ghost use Rattle.held_lines.specs.Held.{holding};
 ghost use Rattle.durable_table.specs.Durable.{Reads};
-ghost use Rattle.gz_table_drive.specs.Setups.{is_sound};
+ghost use Rattle.table_folder.specs.Setups.{is_sound};
 ghost use Rattle.gz_table_drive.specs.Taken.{IsTaken};
 
-use crate::folder_setup::FolderSetup;
 use durable_table::{CaughtUp, DurableTable};
 use held_table::HeldTable;
 use line_journal::{Device, Renewable};
 use modprobe::Setup;
 use std::alloc::Global;
+use table_folder::FolderSetup;
 
 /// A table that is kept, if there is one. It read as its journal did when it was put here.
 #[derive(Drop)]

@@ -13,16 +13,9 @@ use crate::answering::Replies;
 use crate::check::check;
 use crate::compaction::compact;
 use crate::create::create;
-use crate::fault::TableFault;
-use crate::input::{InputFault, InputLines, alone};
 use crate::kept::Kept;
-use crate::opening::{setup, setup_for_command};
-use crate::regular::refuse_others;
 use crate::repair::repair;
-use crate::shared::Shared;
-use crate::teller::Teller;
 use crate::tenure::answer_in_tenure;
-use crate::told::tell_fault;
 use durable_table::Compacted;
 use file_journal::{FileDevice, Syncs};
 use line_journal::is_line;
@@ -34,6 +27,10 @@ use std::io::{Read, Write};
 use std::rt::Files;
 use std::str;
 use std::time::Clock;
+use table_folder::{
+    InputFault, InputLines, Shared, TableFault, Teller, alone, read_setup, read_setup_for_command,
+    refuse_others, tell_fault,
+};
 use table_words::{Asked, Ending, HELP, Job, Stop, VERSION, line_of, read_words};
 
 /// Writes a text, and waits until the stream has it.
@@ -116,7 +113,7 @@ fn answer_command<R: Files<File = File> + Clock + AllocGlobal, O: Write, E: Writ
     ensures { IfOk result (IsWritten (line_of (texts_of words.now)) (O.contents output.old) (O.contents output.new)) }
 {
     let alloc = shared.alloc();
-    let setup = setup_for_command(shared, words)?;
+    let setup = read_setup_for_command(shared, words)?;
     let lines = command_line(alloc, words, teller)?;
     let mut replies = Replies::new(alloc);
     answer_in_tenure(shared, &mut Kept::new(&setup), &lines, &mut replies, teller)?;
@@ -185,7 +182,7 @@ fn perform<R: Files<File = File> + Env + Clock + AllocGlobal, I: Read, O: Write,
         Job::Create(origin) => create(shared, origin, teller),
         Job::Command(words) => answer_command(shared, words, output, teller),
         Job::Lines => {
-            let setup = setup(shared)?;
+            let setup = read_setup(shared)?;
             answer_input(shared, &mut Kept::new(&setup), input, output, teller)
         }
         Job::Adopt(file) => answer_adopt(shared, file, input, output, teller),

@@ -10,13 +10,13 @@ ghost use Rattle.gz_table_drive.specs.Answers.{HasAnswered, HasAnsweredFirst, Ha
 ghost use Rattle.held_lines.specs.Reading.{asks, asks_by, is_reading};
 
 use crate::answering::{GROUP, Replies, answer_lines};
-use crate::fault::TableFault;
 use crate::opening::{OpenFault, open_table};
 use durable_table::DurableTable;
 use held_table::HeldTable;
 use line_journal::{Device, KillOnly};
 use modprobe::Setup;
 use std::alloc::{AllocError, Global};
+use table_folder::TableFault;
 use text_parts::{is_comment, is_same, words};
 
 /// Whether this is the first word of a command that asks.

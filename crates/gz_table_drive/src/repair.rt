@@ -7,13 +7,10 @@ ghost use Rattle.held_lines.specs.Held.{holding};
 ghost use Rattle.durable_table.specs.Tables.{table_of};
 ghost use Rattle.durable_table.specs.Durable.{Stands};
 
-use crate::fault::{TableFault, unwritten};
-use crate::opening::{OpenFault, damage_of, found_in, keep_cut, no_holders, read_file, setup};
-use crate::shared::{CUT, JOURNAL, Shared};
-use crate::teller::Teller;
+use crate::opening::{OpenFault, no_holders};
 use crate::tenure::unopened;
 use durable_table::{DurableTable, OpenedTable, open};
-use file_journal::{FileDevice, LockKind};
+use file_journal::LockKind;
 use held_table::HeldTable;
 use line_journal::{Device, Found, KillOnly, Repair};
 use modprobe::Setup;
@@ -22,6 +19,10 @@ use std::fs::File;
 use std::io::Write;
 use std::rt::Files;
 use std::time::Clock;
+use table_folder::{
+    Shared, TableFault, Teller, damage_of, found_in, keep_cut, open_journal, read_journal,
+    read_setup,
+};
 
 /// A table whose journal is at rest again, and what stood in the journal before.
 #[derive(Drop)]
@@ -74,23 +75,12 @@ fn try_copy<R: Files<File = File> + Clock + AllocGlobal>(
     setup: &Setup,
 ) -> Result<(), TableFault> {
     let alloc = shared.alloc();
-    let copy = KillOnly::new(alloc, read_file(shared, JOURNAL)?);
+    let copy = KillOnly::new(alloc, read_journal(shared)?);
     match repair_table(alloc, setup, copy) {
         Ok(_) => Ok(()),
         Err(OpenFault::Foreign) => Err(TableFault::Foreign),
         Err(OpenFault::Changed(line)) => Err(TableFault::Changed(line)),
         Err(_) => Err(TableFault::OutOfMemory),
-    }
-}
-
-/// Keeps what is about to be cut off.
-fn keep<R: Files<File = File> + Clock + AllocGlobal>(
-    shared: &Shared<'_, R>,
-    damage: &Found,
-) -> Result<(), TableFault> {
-    match keep_cut(shared, &shared.path(CUT)?, &damage.behind) {
-        Ok(()) => Ok(()),
-        Err(error) => Err(unwritten(CUT, &error)),
     }
 }
 
@@ -101,16 +91,16 @@ fn repair_journal<R: Files<File = File> + Clock + AllocGlobal, E: Write>(
     setup: &Setup,
     teller: &mut Teller<'_, E>,
 ) -> Result<(), TableFault> {
-    let (rt, alloc, folder) = (shared.rt, shared.alloc(), shared.folder);
+    let alloc = shared.alloc();
     try_copy(shared, setup)?;
-    let mut device = FileDevice::open(rt, alloc, folder, JOURNAL, shared.syncs)?;
+    let mut device = open_journal(shared)?;
     let Some(damage) = damage_in(found_in(alloc, &mut device)?) else {
         return Ok(());
     };
-    keep(shared, &damage)?;
+    keep_cut(shared, &damage.behind)?;
     match repair_table(alloc, setup, device) {
         Ok(repaired) => {
-            teller.repaired(folder, &repaired.found);
+            teller.repaired(shared.folder, &repaired.found);
             Ok(())
         }
         Err(fault) => Err(unopened(fault)),
@@ -122,7 +112,7 @@ pub(crate) fn repair<R: Files<File = File> + Clock + AllocGlobal, E: Write>(
     shared: &Shared<'_, R>,
     teller: &mut Teller<'_, E>,
 ) -> Result<(), TableFault> {
-    let setup = setup(shared)?;
+    let setup = read_setup(shared)?;
     let lock = shared.lock(LockKind::Exclusive)?;
     let repaired = repair_journal(shared, &setup.setup, teller);
     lock.release();

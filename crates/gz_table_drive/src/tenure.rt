@@ -8,12 +8,9 @@ ghost use Rattle.gz_table_drive.specs.Answers.{HasAnswered, HasAnsweredFirst, Ha
 
 use crate::answering::{AnswerError, Replies, answer_lines};
 use crate::compaction::shorten;
-use crate::fault::{TableFault, journal_fault};
 use crate::kept::{Kept, Taken};
-use crate::opening::{OpenFault, keep_torn, open_table, read_file, read_table};
+use crate::opening::{OpenFault, keep_torn, open_table, read_table};
 use crate::reading::{answer_copy, are_reading, ask_lines, copy_of};
-use crate::shared::{JOURNAL, Shared};
-use crate::teller::Teller;
 use durable_table::{DurableTable, ReadTable};
 use file_journal::{FileDevice, FolderLock, LockKind};
 use held_table::HeldTable;
@@ -24,6 +21,7 @@ use std::fs::File;
 use std::io::Write;
 use std::rt::Files;
 use std::time::Clock;
+use table_folder::{Shared, TableFault, Teller, journal_fault, open_journal, read_journal};
 
 /// The table over the file of a journal.
 pub(crate) type FileTable<'s, R> = DurableTable<'s, HeldTable, FileDevice<R>>;
@@ -48,11 +46,11 @@ fn reading_table<'s, 'r, R: Files<File = File> + Clock + AllocGlobal>(
     ensures reads { IfSome result (λ t. Reads ⟦<FileDevice<&'r R> as Device>⟧.content kept.old.setup.now.setup (holding t.session.holders.held.table t.session.holders.held.names) t.journal) }
     ensures setup { kept.new.setup.now ≡ kept.old.setup.now }
 {
-    let (rt, alloc, folder) = (shared.rt, shared.alloc(), shared.folder);
+    let alloc = shared.alloc();
     let device = match kept.take(alloc) {
         Taken::Table(table) => return Some(table),
         Taken::Anew(device) => device,
-        Taken::Missing => FileDevice::open(rt, alloc, folder, JOURNAL, shared.syncs).ok()?,
+        Taken::Missing => open_journal(shared).ok()?,
     };
     match read_table(alloc, kept.setup(), device) {
         Ok(ReadTable::Ready(table)) => Some(table),
@@ -74,7 +72,7 @@ fn answer_unkept<R: Files<File = File> + Clock + AllocGlobal>(
     ensures some { IfOk result (λ count. 0 < length lines.now → 0 < count) }
     ensures within { IfOk result (λ count. count ≤ length lines.now) }
 {
-    let bytes = read_file(shared, JOURNAL)?;
+    let bytes = read_journal(shared)?;
     lock.release();
     answer_copy(shared.alloc(), setup, bytes, lines, replies)
 }
@@ -150,7 +148,7 @@ fn repaired<'s, 'r, R: Files<File = File> + Clock + AllocGlobal, E: Write>(
     ensures of_setup { IfOk result (λ t. t.session.setup.now ≡ setup.now) }
     ensures stands { IfOk result (λ t. Stands ⟦<FileDevice<&'r R> as Device>⟧.content ⟦<FileDevice<&'r R> as Device>⟧.history setup.now (holding t.session.holders.held.table t.session.holders.held.names) t.journal) }
 {
-    copy_of(shared.alloc(), setup, read_file(shared, JOURNAL)?)?;
+    copy_of(shared.alloc(), setup, read_journal(shared)?)?;
     let cut = keep_torn(shared, &mut device)?;
     teller.cut(shared.folder, cut);
     match open_table(shared.alloc(), setup, device) {
@@ -169,11 +167,11 @@ pub(crate) fn changing_table<'s, 'r, R: Files<File = File> + Clock + AllocGlobal
     ensures stands { IfOk result (λ t. Stands ⟦<FileDevice<&'r R> as Device>⟧.content ⟦<FileDevice<&'r R> as Device>⟧.history kept.old.setup.now.setup (holding t.session.holders.held.table t.session.holders.held.names) t.journal) }
     ensures setup { kept.new.setup.now ≡ kept.old.setup.now }
 {
-    let (rt, alloc, folder) = (shared.rt, shared.alloc(), shared.folder);
+    let alloc = shared.alloc();
     let device = match kept.take(alloc) {
         Taken::Table(table) => return settled(table).map_err(unopened),
         Taken::Anew(device) => device,
-        Taken::Missing => FileDevice::open(rt, alloc, folder, JOURNAL, shared.syncs)?,
+        Taken::Missing => open_journal(shared)?,
     };
     match read_table(alloc, kept.setup(), device) {
         Ok(ReadTable::Ready(table)) => settled(table).map_err(unopened),

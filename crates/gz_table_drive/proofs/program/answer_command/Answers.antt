@@ -6,7 +6,7 @@ use Rattle.text_parts.specs.Text.{texts_of}
 use Rattle.line_journal.specs.Lines.{bytes_of}
 use Rattle.table_words.specs.Lines.{line_of}
 use Rattle.gz_table_drive.specs.Answers.{HasAnsweredOver}
-use Rattle.gz_table_drive.specs.declared.folder_setup.FolderSetup.{FolderSetup}
+use Rattle.table_folder.specs.declared.folder_setup.FolderSetup.{FolderSetup}
 use Rattle.gz_table_drive.proofs.WrittenLemmas.{alone_answered, line_written}
 use Rattle.gz_table_drive.proofs.program.answer_command.Goals as goal
 

@@ -3,7 +3,7 @@ use Rattle.std.specs.Io.KnownBytes.{Appends}
 use Rattle.line_journal.specs.Lines.{bytes_of}
 use Rattle.table_words.specs.Endings.{behind}
 use Rattle.gz_table_drive.specs.Answers.{HasAnsweredOver}
-use Rattle.gz_table_drive.specs.declared.folder_setup.FolderSetup.{FolderSetup}
+use Rattle.table_folder.specs.declared.folder_setup.FolderSetup.{FolderSetup}
 use Rattle.gz_table_drive.proofs.WrittenLemmas.{Turns, turn_more}
 use Rattle.gz_table_drive.proofs.program.answer_group.Goals as goal
 

@@ -2,7 +2,7 @@ use Rattle.std.proofs.Common.{ap, subst, ◌∙◌, take, IfOk, OnErr}
 use Rattle.line_journal.specs.Lines.{bytes_of}
 use Rattle.held_lines.specs.Held.{holding}
 use Rattle.gz_table_drive.specs.Answers.{HasAnswered, HasAnsweredFirst, HasStopped}
-use Rattle.gz_table_drive.specs.declared.folder_setup.FolderSetup.{FolderSetup}
+use Rattle.table_folder.specs.declared.folder_setup.FolderSetup.{FolderSetup}
 use Rattle.gz_table_drive.proofs.TenureLemmas.{reads_err, reads_ok}
 use Rattle.gz_table_drive.proofs.tenure.answer_reading.Goals as goal
 

@@ -1,5 +1,0 @@
-use Rattle.line_journal.specs.Lines.{IsLine}
-use Rattle.gz_table_drive.proofs.input.InputLines.read_piece.Given as goal
-
-abbrev pub invariant-loop : goal.invariant-loop
-invariant-loop g l = IsLine l.self.begun.items

@@ -1,0 +1,2 @@
+mod FeedLemmas
+mod SetupLemmas

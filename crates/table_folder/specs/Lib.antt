@@ -1,0 +1,5 @@
+pub mod Endings
+pub mod Faults
+pub mod Listings
+pub mod Machine
+pub mod Setups

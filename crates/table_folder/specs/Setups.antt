@@ -1,0 +1,23 @@
+-- The setup of a folder, and whether it was changed since it was written.
+use Rattle.std.specs.Prelude.{◌≡◌, ◌==◌, ℕ, Bool, List, [], Ok}
+use Rattle.table_setup.specs.Sealed.{IsSealed, sealed as sealed_text}
+use Rattle.table_setup.specs.Sums.{adler32}
+use Rattle.modprobe.specs.Setup.{Setup}
+use Rattle.modprobe.specs.SetupInput.{setup_of}
+use Rattle.table_folder.specs.declared.folder_setup.FolderSetup.{FolderSetup}
+
+-- The bytes of the file are a text, and a last line with its length and a sum. The text says this.
+pub record IsReadFrom (bytes : List ℕ) (found : FolderSetup) : Type 0 where
+  pub sealed : IsSealed bytes found.text.items found.sum
+  pub says : setup_of found.text.items ≡ Ok (found.setup, [])
+
+-- the text has the sum that its last line says
+abbrev pub is_sound : FolderSetup → Bool
+is_sound found = adler32 found.text.items == found.sum
+
+-- The bytes of a setup that is to be written: a text that says something, and a last line with its length and its sum.
+pub record IsNewSetup (bytes : List ℕ) : Type 0 where
+  pub text : List ℕ
+  pub setup : Setup
+  pub says : setup_of text ≡ Ok (setup, [])
+  pub whole : bytes ≡ sealed_text text

@@ -1,0 +1,152 @@
+//! Why a run did not do what was asked.
+ghost use Rattle.std.specs.Prelude.{◌≡◌};
+ghost use Rattle.table_folder.specs.Faults.{ending_of_fault, fault_of_file};
+
+use crate::setup::SectionsFault;
+use file_journal::{Cause, FileFault, LockError, OpenError, Target};
+use program_frame::PathFault;
+use std::alloc::AllocError;
+use std::io::{self, ErrorKind};
+use table_words::Ending;
+
+/// Where a line of a journal lost its gate, and what stands behind it.
+#[derive(Clone, Copy, Debug)]
+pub struct Damage {
+    /// The number of that line, from 1.
+    pub line: usize,
+    /// How many lines with open gates stand behind it.
+    pub lost: usize,
+}
+
+/// Why a run did not do what was asked.
+#[derive(Clone, Copy, Debug, Drop)]
+pub enum TableFault {
+    OutOfMemory,
+    /// The folder has no table.
+    NoTable,
+    /// The folder has a setup, and no journal.
+    NoJournal,
+    /// The folder has a table already.
+    ThereAlready,
+    /// The folder has a journal with commands, and no setup.
+    UsedJournal,
+    /// The setup does not end with a last line of its length.
+    CutSetup,
+    /// The setup has another sum than its last line says.
+    ChangedSetup,
+    /// The sections of the setup say what they may not.
+    Sections(SectionsFault),
+    /// A file of the folder, of this name, was not read.
+    Unread(&'static str, PathFault),
+    /// The lock was not taken.
+    Lock(LockError),
+    /// The journal was not opened, read or written.
+    File(FileFault),
+    /// The journal failed, and nobody knows why.
+    Journal,
+    /// The journal does not begin with the first line of one.
+    Foreign,
+    /// This line of the journal, from 1, has not the sum of its command.
+    Changed(usize),
+    /// A line of the journal lost its gate, and more lines with open gates stand behind it than a crash leaves.
+    Damaged(Damage),
+    /// The folder was not made.
+    NoFolder(ErrorKind),
+    /// A file of the folder, of this name, was not written.
+    Unwritten(&'static str, ErrorKind),
+    /// Standard input was not read.
+    Input,
+    /// Standard output was not written.
+    Output,
+    /// People were told already, and the run ends so.
+    Told(Ending),
+}
+
+impl TableFault {
+    /// How a run ends with this fault.
+    pub fn ending(self) -> Ending
+        ensures { result ≡ ending_of_fault self }
+    {
+        match self {
+            TableFault::NoTable
+            | TableFault::NoJournal
+            | TableFault::CutSetup
+            | TableFault::ChangedSetup
+            | TableFault::Sections(_)
+            | TableFault::Foreign
+            | TableFault::Changed(_)
+            | TableFault::Damaged(_) => Ending::Unasked,
+            TableFault::ThereAlready | TableFault::UsedJournal => Ending::Exists,
+            TableFault::Lock(LockError::Held) => Ending::Locked,
+            TableFault::Told(ending) => ending,
+            _ => Ending::Fault,
+        }
+    }
+}
+
+impl From<AllocError> for TableFault {
+    ghost use Rattle.table_folder.specs.declared.fault.TableFault.TheVariants.{OutOfMemory};
+
+    ghost from_gives = { λ _ fault. fault ≡ OutOfMemory };
+
+    fn from(_: AllocError) -> TableFault {
+        TableFault::OutOfMemory
+    }
+}
+
+impl From<LockError> for TableFault {
+    ghost use Rattle.table_folder.specs.Faults.{fault_of_lock};
+
+    ghost from_gives = { λ error fault. fault ≡ fault_of_lock error };
+
+    fn from(error: LockError) -> TableFault {
+        match error {
+            LockError::OutOfMemory => TableFault::OutOfMemory,
+            _ => TableFault::Lock(error),
+        }
+    }
+}
+
+impl From<OpenError> for TableFault {
+    ghost use Rattle.table_folder.specs.Faults.{fault_of_open};
+
+    ghost from_gives = { λ error fault. fault ≡ fault_of_open error };
+
+    fn from(error: OpenError) -> TableFault {
+        match error {
+            OpenError::OutOfMemory => TableFault::OutOfMemory,
+            OpenError::Failed(
+                FileFault {
+                    target: Target::Journal,
+                    cause: Cause::NotThere,
+                    ..
+                },
+            ) => TableFault::NoJournal,
+            OpenError::Failed(fault) => TableFault::File(fault),
+        }
+    }
+}
+
+/// A file of the folder was not written.
+pub(crate) fn unwritten(name: &'static str, error: &io::Error) -> TableFault {
+    match error.kind() {
+        ErrorKind::OutOfMemory => TableFault::OutOfMemory,
+        kind => TableFault::Unwritten(name, kind),
+    }
+}
+
+/// The fault of a run whose journal failed, by the fault of its file, if that is known.
+pub fn journal_fault(fault: Option<FileFault>) -> TableFault
+    ensures { result ≡ fault_of_file fault }
+{
+    match fault {
+        Some(
+            FileFault {
+                cause: Cause::OutOfMemory,
+                ..
+            },
+        ) => TableFault::OutOfMemory,
+        Some(fault) => TableFault::File(fault),
+        None => TableFault::Journal,
+    }
+}

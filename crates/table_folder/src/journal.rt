@@ -1,0 +1,80 @@
+//! The file of a folder's journal, and what stands in it.
+ghost use Rattle.std.specs.Prelude.{◌≡◌, ◌+◌, None, IfOk, length};
+ghost use Rattle.file_journal.specs.Belief.{history_of, MayBeAnything};
+ghost use Rattle.line_journal.specs.Journal.{IsFound};
+ghost use Rattle.line_journal.specs.Lines.{open_gates};
+
+use crate::fault::{Damage, TableFault, journal_fault};
+use crate::shared::{JOURNAL, Shared};
+use file_journal::{Cause, FileDevice, FileFault, OpenError};
+use line_journal::{Device, DeviceError, Found, peek};
+use std::alloc::Global;
+use std::fs::File;
+use std::rt::Files;
+use std::time::Clock;
+
+/// Opens the file of the folder's journal, which has to be there, and reads it. Nothing is known of what a crash leaves of it.
+pub fn open_journal<'r, R: Files<File = File> + Clock + AllocGlobal>(
+    shared: &Shared<'r, R>,
+) -> Result<FileDevice<&'r R>, OpenError>
+    ensures unknown { IfOk result (λ device. MayBeAnything (history_of device.belief)) }
+    ensures no_fault { IfOk result (λ device. device.fault ≡ None) }
+{
+    FileDevice::open(
+        shared.rt,
+        shared.alloc(),
+        shared.folder,
+        JOURNAL,
+        shared.syncs,
+    )
+}
+
+/// The file of a new table's journal: an empty one, or, if there is a journal, that one as it is. A `create` may have left it
+/// that did not come to its end.
+pub fn make_journal<'r, R: Files<File = File> + Clock + AllocGlobal>(
+    shared: &Shared<'r, R>,
+) -> Result<FileDevice<&'r R>, OpenError>
+    ensures unknown { IfOk result (λ device. MayBeAnything (history_of device.belief)) }
+    ensures no_fault { IfOk result (λ device. device.fault ≡ None) }
+{
+    let (rt, alloc, folder) = (shared.rt, shared.alloc(), shared.folder);
+    match FileDevice::create(rt, alloc, folder, JOURNAL, shared.syncs) {
+        Err(
+            OpenError::Failed(
+                FileFault {
+                    cause: Cause::AlreadyThere,
+                    ..
+                },
+            ),
+        ) => open_journal(shared),
+        created => created,
+    }
+}
+
+/// What stands in the file of a journal. Nothing is written, and nothing is waited for. At an error the file was not read, and
+/// the fault says why.
+pub fn found_in<R: Files + Drop>(
+    alloc: Global,
+    device: &mut FileDevice<R>,
+) -> Result<Found, TableFault>
+    ensures found { IfOk result (IsFound (⟦<FileDevice<R> as Device>⟧.content device.old)) }
+    ensures content { ⟦<FileDevice<R> as Device>⟧.content device.new ≡ ⟦<FileDevice<R> as Device>⟧.content device.old }
+{
+    match peek(alloc, device) {
+        Ok(found) => Ok(found),
+        Err(DeviceError::OutOfMemory) => Err(TableFault::OutOfMemory),
+        Err(DeviceError::Failed) => Err(journal_fault(device.fault())),
+    }
+}
+
+/// The damage of a journal in which this was found: the line behind its lines, from 1, and how many lines with open gates
+/// stand there.
+pub fn damage_of(found: &Found) -> Damage
+    ensures line { result.line ≡ length found.now.lines.items + 1 }
+    ensures lost { result.lost ≡ open_gates found.now.behind.items }
+{
+    Damage {
+        line: found.lines.len() + 1,
+        lost: found.open_gates_behind(),
+    }
+}

@@ -1,0 +1,35 @@
+//! The folder of a table that processes share: what stands in it, what is read beside it, and what people are told of it.
+#![tactic(auto)]
+
+mod alias_form;
+mod cut;
+mod endings;
+mod fault;
+mod folder_setup;
+mod input;
+mod journal;
+mod listing;
+mod machine;
+mod making;
+mod reading;
+mod regular;
+mod sections;
+mod setup;
+mod shared;
+mod teller;
+mod told;
+
+pub use cut::{cut_length, keep_cut};
+pub use endings::ending_of;
+pub use fault::{Damage, TableFault, journal_fault};
+pub use folder_setup::FolderSetup;
+pub use input::{InputFault, InputLines, alone};
+pub use journal::{damage_of, found_in, make_journal, open_journal};
+pub use listing::{Listing, listing_of, modules_of};
+pub use making::{make_folder, new_setup, write_setup};
+pub use reading::{read_journal, read_setup, read_setup_for_command};
+pub use regular::refuse_others;
+pub use setup::SectionsFault;
+pub use shared::Shared;
+pub use teller::Teller;
+pub use told::tell_fault;

@@ -1,0 +1,92 @@
+//! How the files of a folder are read.
+ghost use Rattle.std.specs.Prelude.{ℕ, List, IfOk};
+ghost use Rattle.table_folder.specs.Setups.{IsReadFrom};
+
+use crate::alias_form::form_for;
+use crate::fault::TableFault;
+use crate::folder_setup::FolderSetup;
+use crate::shared::{JOURNAL, SETUP, Shared};
+use modprobe::AliasForm;
+use program_frame::PathFault;
+use std::fs::{File, OpenFile};
+use std::io::{self, ErrorKind, Read};
+use std::mem::ManuallyDrop;
+use std::rt::Files;
+use std::time::Clock;
+
+/// How many bytes of a file are read at a time.
+const PIECE: usize = 65_536;
+
+/// All bytes of the file of a path. Room for what it has is taken at once, and it is read in pieces, which takes less time than
+/// `read_to_end`.
+fn read_path<R: Files<File = File> + AllocGlobal>(rt: &R, path: &str) -> io::Result<Vec<u8>> {
+    let mut file = File::open(rt, path)?;
+    let room = usize::try_from(file.metadata()?.len()).unwrap_or(0);
+    let mut bytes = Vec::with_capacity(rt.alloc(), room)?;
+    let mut piece = vec![in rt.alloc(); 0; PIECE]?;
+    for _ in 0..u64::MAX {
+        match file.read(&mut piece) {
+            Ok(0) => break,
+            Ok(count) => bytes.extend_from_slice(&piece[..count])?,
+            Err(error) if error.kind() == ErrorKind::Interrupted => {}
+            Err(error) => return Err(error),
+        }
+    }
+    Ok(bytes)
+}
+
+/// All bytes of a file of the folder.
+fn read_file<R: Files<File = File> + Clock + AllocGlobal>(
+    shared: &Shared<'_, R>,
+    name: &'static str,
+) -> Result<Vec<u8>, TableFault> {
+    let path = shared.path(name)?;
+    match read_path(shared.rt, &path) {
+        Ok(bytes) => Ok(bytes),
+        Err(error) => match PathFault::from(error) {
+            PathFault::Memory => Err(TableFault::OutOfMemory),
+            PathFault::Missing if name == SETUP => Err(TableFault::NoTable),
+            PathFault::Missing if name == JOURNAL => Err(TableFault::NoJournal),
+            why => Err(TableFault::Unread(name, why)),
+        },
+    }
+}
+
+/// All bytes of the folder's journal. `NoJournal` if there is none, and `Unread` with the cause if it cannot be read.
+pub fn read_journal<R: Files<File = File> + Clock + AllocGlobal>(
+    shared: &Shared<'_, R>,
+) -> Result<Vec<u8>, TableFault> {
+    read_file(shared, JOURNAL)
+}
+
+/// What the table of the folder was made of, for many lines. It is kept until the process ends, which takes less time than to
+/// give back each part of it.
+///
+/// `NoTable` if the folder has no setup, `CutSetup` if it does not end with a last line of its length, `Sections` if its text
+/// is no setup, and `Unread` with the cause if it cannot be read. Its sum is not tested.
+pub fn read_setup<R: Files<File = File> + Clock + AllocGlobal>(
+    shared: &Shared<'_, R>,
+) -> Result<ManuallyDrop<FolderSetup>, TableFault>
+    ensures { IfOk result (λ found. (bytes : List ℕ) × IsReadFrom bytes found.value) }
+{
+    let bytes = read_file(shared, SETUP)?;
+    let setup = FolderSetup::read(shared.alloc(), bytes, AliasForm::Table)?;
+    Ok(ManuallyDrop::new(setup))
+}
+
+/// What the table of the folder was made of, for a command of these words: as `read_setup`, but its aliases may be kept as
+/// text, if few names are to be looked up among them.
+pub fn read_setup_for_command<R: Files<File = File> + Clock + AllocGlobal>(
+    shared: &Shared<'_, R>,
+    words: &[&[u8]],
+) -> Result<ManuallyDrop<FolderSetup>, TableFault>
+    ensures { IfOk result (λ found. (bytes : List ℕ) × IsReadFrom bytes found.value) }
+{
+    let alloc = shared.alloc();
+    let bytes = read_file(shared, SETUP)?;
+    let found = FolderSetup::read(alloc, bytes, AliasForm::Text)?;
+    match form_for(shared, &found.setup, words)? {
+        AliasForm::Text => Ok(ManuallyDrop::new(found)),
+        AliasForm::Table => Ok(ManuallyDrop::new(found.in_form(alloc, AliasForm::Table)?)),
+    }
+}

@@ -1,0 +1,49 @@
+//! The folder of a table, and how a run uses it.
+
+use file_journal::{FolderLock, LockError, LockKind, Syncs};
+use std::alloc::{AllocError, Global};
+use std::fs::{self, File};
+use std::rt::Files;
+use std::time::Clock;
+
+/// What the table was made of.
+pub(crate) const SETUP: &str = "setup";
+
+/// What happened since.
+pub(crate) const JOURNAL: &str = "journal";
+
+/// What was cut off behind the journal's lines.
+pub(crate) const CUT: &str = "journal.cut";
+
+/// A table's folder, as one process uses it.
+#[derive(Clone, Copy)]
+pub struct Shared<'a, R> {
+    pub rt: &'a R,
+    pub folder: &'a str,
+    /// How many seconds another process is waited for.
+    pub wait: u32,
+    pub syncs: Syncs,
+}
+
+impl<R: Files<File = File> + Clock + AllocGlobal> Shared<'_, R> {
+    /// What memory is taken from.
+    pub fn alloc(&self) -> Global {
+        self.rt.alloc()
+    }
+
+    /// The path of a file in the folder.
+    pub(crate) fn path(&self, name: &str) -> Result<String, AllocError> {
+        let folder = self.folder;
+        format!(in self.rt.alloc(); "{folder}/{name}")
+    }
+
+    /// Whether the folder has a setup: it is written last, so there is a table then. Fails only out of memory.
+    pub fn has_setup(&self) -> Result<bool, AllocError> {
+        Ok(fs::metadata(self.rt, &self.path(SETUP)?).is_ok())
+    }
+
+    /// Takes the lock of the folder (flock(2)). Another process that has it is waited for, `wait` seconds at the most.
+    pub fn lock(&self, kind: LockKind) -> Result<FolderLock, LockError> {
+        FolderLock::acquire(self.rt, self.rt.alloc(), self.folder, kind, self.wait)
+    }
+}

@@ -1,0 +1,262 @@
+//! Where people are told why a run ends, and how it ends then.
+ghost use Rattle.std.specs.Prelude.{◌≡◌};
+ghost use Rattle.table_words.specs.declared.ending.Ending.TheVariants as ending;
+ghost use Rattle.table_folder.specs.declared.fault.TableFault.TheVariants.{Told};
+ghost use Rattle.table_folder.specs.Faults.{ending_of_fault};
+
+use crate::fault::{Damage, TableFault};
+use crate::setup::SectionsFault;
+use file_journal::{Cause, FileFault, LockError};
+use line_journal::Found;
+use program_frame::{PathFault, Shown};
+use std::io::{ErrorKind, Write};
+use table_adopt::KernelFault;
+use table_words::Ending;
+
+/// The stream for errors. If it fails, nobody is told.
+#[derive(Drop)]
+pub struct Teller<'e, E> {
+    errors: &'e mut E,
+}
+
+/// What may be done about a cause.
+fn advice_on(cause: Cause) -> &'static str {
+    match cause {
+        Cause::NotAllowed => "; run it as one who may write to the folder",
+        Cause::ReadOnly => "; mount it for writing, or make the table in another folder",
+        Cause::Full => "; free some room and ask again: what was answered is kept",
+        Cause::NotThere => "; restore it, or make the table in another folder",
+        Cause::ReadsOtherwise => "; another program writes to it: check says what stands there",
+        _ => "",
+    }
+}
+
+/// Why something was not written, and what may be done.
+fn unwritten_for(kind: ErrorKind) -> &'static str {
+    match kind {
+        ErrorKind::NotFound => "a folder above it is missing; make that first",
+        ErrorKind::NotADirectory | ErrorKind::AlreadyExists => "it is no folder; name another",
+        ErrorKind::PermissionDenied => "permission denied; run it as one who may write there",
+        ErrorKind::ReadOnlyFilesystem => "the file system is read-only; name a folder elsewhere",
+        ErrorKind::StorageFull | ErrorKind::QuotaExceeded => "the disk is full; free some room",
+        _ => "the disk failed",
+    }
+}
+
+impl<'e, E: Write> Teller<'e, E> {
+    /// Tells people on this stream.
+    pub fn new(errors: &'e mut E) -> Teller<'e, E> {
+        Teller { errors }
+    }
+
+    /// The stream itself.
+    pub fn errors(&mut self) -> &mut E {
+        self.errors
+    }
+
+    /// What is said of some bytes that the words have.
+    pub fn say(&mut self, what: &str, bytes: &[u8], advice: &str) -> TableFault
+        ensures { result ≡ Told ending.Unasked }
+    {
+        let bytes = Shown(bytes);
+        let _ = writeln!(self.errors, "gz-table: {what} {bytes}: {advice}");
+        TableFault::Told(Ending::Unasked)
+    }
+
+    /// A path that the words name is not read.
+    pub(crate) fn unread(&mut self, path: &str, why: PathFault) -> TableFault {
+        if why == PathFault::Memory {
+            return TableFault::OutOfMemory;
+        }
+        let _ = writeln!(self.errors, "gz-table: cannot read {path}: {why}");
+        TableFault::Told(Ending::Unasked)
+    }
+
+    /// A path that the words name is no regular file.
+    pub(crate) fn no_file(&mut self, path: &str) -> TableFault {
+        let _ = writeln!(
+            self.errors,
+            "gz-table: {path} is no regular file: name one, or give its lines on standard input, for -"
+        );
+        TableFault::Told(Ending::Unasked)
+    }
+
+    /// A file does not list a kernel's modules.
+    pub(crate) fn no_listing(&mut self, fault: KernelFault) -> TableFault {
+        let _ = writeln!(
+            self.errors,
+            "gz-table: these are no lines of /proc/modules: {fault}; nothing was done"
+        );
+        TableFault::Told(Ending::Unasked)
+    }
+
+    /// The folder has something else in the place of one of its files.
+    pub(crate) fn other_than_file(&mut self, folder: &str, name: &str) -> TableFault {
+        let _ = writeln!(
+            self.errors,
+            "gz-table: {folder}/{name} is no regular file, and nothing was done: restore it, or make the table in another folder"
+        );
+        TableFault::Told(Ending::Unasked)
+    }
+
+    /// What stood behind the journal's lines is cut off.
+    pub fn repaired(&mut self, folder: &str, cut: &Found) {
+        let (lines, bytes) = (cut.open_gates_behind(), cut.behind.len());
+        let _ = writeln!(
+            self.errors,
+            "gz-table: {folder}/journal: {bytes} bytes behind its lines are cut off and kept in {folder}/journal.cut; {lines} lines that counted are undone: see lsmod and held"
+        );
+    }
+
+    /// So many bytes behind the journal's lines are cut off.
+    pub fn cut(&mut self, folder: &str, bytes: usize) {
+        if bytes > 0 {
+            let _ = writeln!(
+                self.errors,
+                "gz-table: {folder}/journal: a crash left {bytes} bytes behind its lines, which are cut off and kept in {folder}/journal.cut"
+            );
+        }
+    }
+
+    /// The journal is not written anew, and is as it was.
+    pub fn kept(&mut self, folder: &str) -> TableFault
+        ensures { result ≡ Told ending.Fault }
+    {
+        let _ = writeln!(
+            self.errors,
+            "gz-table: {folder}/journal is as it was: no shorter lines were found that make its table; go on with it"
+        );
+        TableFault::Told(Ending::Fault)
+    }
+
+    /// So many lines were too long.
+    pub fn too_long(&mut self, lines: u64) {
+        if lines > 0 {
+            let _ = writeln!(
+                self.errors,
+                "gz-table: {lines} lines have more than 65,535 bytes, and were refused: write shorter ones"
+            );
+        }
+    }
+
+    /// The sections of a new table are refused.
+    pub(crate) fn refused_sections(&mut self, fault: SectionsFault) -> TableFault {
+        match fault {
+            SectionsFault::Memory => return TableFault::OutOfMemory,
+            SectionsFault::Setup(fault) => {
+                let _ = writeln!(
+                    self.errors,
+                    "gz-table: the sections are refused: {fault}; modsh --lint says more of them"
+                );
+            }
+            SectionsFault::Session => {
+                let _ = writeln!(
+                    self.errors,
+                    "gz-table: the sections are refused: a line %session stands among them"
+                );
+            }
+        }
+        TableFault::Told(Ending::Unasked)
+    }
+
+    fn tell_lock(&mut self, folder: &str, wait: u32, error: LockError) {
+        let _ = match error {
+            LockError::Held => writeln!(
+                self.errors,
+                "gz-table: {folder}: another process has held the table for {wait} seconds; ask again, or wait longer with --wait"
+            ),
+            LockError::Failed(fault) => {
+                let advice = advice_on(fault.cause);
+                writeln!(self.errors, "gz-table: {folder}: {fault}{advice}")
+            }
+            LockError::OutOfMemory => writeln!(self.errors, "gz-table: out of memory"),
+        };
+    }
+
+    fn tell_file(&mut self, folder: &str, fault: FileFault) {
+        let advice = advice_on(fault.cause);
+        let _ = writeln!(self.errors, "gz-table: {folder}: {fault}{advice}");
+    }
+
+    /// What is wrong with the files of a folder, and what to do.
+    fn tell_folder(&mut self, folder: &str, fault: &TableFault) {
+        let _ = match fault {
+            TableFault::NoTable => writeln!(
+                self.errors,
+                "gz-table: there is no table in {folder}: make one with create --host; if GZ_TABLE is set, it names the folder, and no word does"
+            ),
+            TableFault::NoJournal => writeln!(
+                self.errors,
+                "gz-table: {folder}/journal is missing, and nothing was done: restore it, or make the table in another folder"
+            ),
+            TableFault::ThereAlready => writeln!(
+                self.errors,
+                "gz-table: {folder} has a table already: name another folder, or remove its files first"
+            ),
+            TableFault::UsedJournal => writeln!(
+                self.errors,
+                "gz-table: {folder}/journal has commands, but there is no setup, and nothing was done: restore {folder}/setup, or name another folder"
+            ),
+            TableFault::CutSetup => writeln!(
+                self.errors,
+                "gz-table: {folder}/setup was cut or changed; restore it, or make the table in another folder"
+            ),
+            TableFault::ChangedSetup => writeln!(
+                self.errors,
+                "gz-table: {folder}/setup was changed: its text has another sum than its last line says; restore it, or make the table in another folder"
+            ),
+            TableFault::Foreign => writeln!(
+                self.errors,
+                "gz-table: {folder}/journal has another first line than `gourzhiel journal 1`: it was changed, or it is no journal; nothing was done: restore that line, or make the table in another folder"
+            ),
+            TableFault::Changed(line) => writeln!(
+                self.errors,
+                "gz-table: {folder}/journal, line {line}: it was changed, since its sum is another; nothing was done: restore the line, or make the table in another folder"
+            ),
+            TableFault::Damaged(Damage { line, lost }) => writeln!(
+                self.errors,
+                "gz-table: {folder}/journal, line {line}: its first byte was changed, and {lost} lines behind it would be lost; nothing was done: restore the byte, or have check --repair keep them in journal.cut and go on without them"
+            ),
+            _ => Ok(()),
+        };
+    }
+
+    /// Tells a fault, and answers how the run ends.
+    pub fn end(&mut self, folder: &str, wait: u32, fault: TableFault) -> Ending
+        ensures { result ≡ ending_of_fault fault }
+    {
+        let _ = match fault {
+            TableFault::OutOfMemory => writeln!(self.errors, "gz-table: out of memory"),
+            TableFault::Sections(why) => writeln!(
+                self.errors,
+                "gz-table: {folder}/setup is refused: {why}; restore it, or make the table in another folder"
+            ),
+            TableFault::Unread(name, why) => {
+                writeln!(self.errors, "gz-table: cannot read {folder}/{name}: {why}")
+            }
+            TableFault::NoFolder(kind) => {
+                let why = unwritten_for(kind);
+                writeln!(
+                    self.errors,
+                    "gz-table: cannot make the folder {folder}: {why}"
+                )
+            }
+            TableFault::Unwritten(name, kind) => {
+                let why = unwritten_for(kind);
+                writeln!(self.errors, "gz-table: cannot write {folder}/{name}: {why}")
+            }
+            TableFault::Journal => writeln!(self.errors, "gz-table: {folder}/journal failed"),
+            TableFault::Input => writeln!(self.errors, "gz-table: standard input was not read"),
+            TableFault::Output => {
+                writeln!(self.errors, "gz-table: standard output was not written")
+            }
+            _ => Ok(()),
+        };
+        match fault {
+            TableFault::Lock(error) => self.tell_lock(folder, wait, error),
+            TableFault::File(fault) => self.tell_file(folder, fault),
+            _ => self.tell_folder(folder, &fault),
+        }
+        fault.ending()
+    }
+}
