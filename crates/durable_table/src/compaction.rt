@@ -1,7 +1,8 @@
 //! A journal is rewritten as the lines that make its table.
-ghost use Rattle.std.specs.Prelude.{◌≡◌, ◌+◌, nat_lt, Ok, length, map, IfOk, IfSome, OnOk, IsErrOf};
+ghost use Rattle.std.specs.Prelude.{◌≡◌, ◌+◌, ◌<◌, nat_lt, Ok, length, map, IfOk, IfSome, OnOk, IsErrOf};
 ghost use Rattle.dep_index.specs.Catalogue.{modules_of};
 ghost use Rattle.line_journal.specs.Device.{AlwaysLeaves};
+ghost use Rattle.line_journal.specs.declared.device.DeviceError.TheVariants.{Failed};
 ghost use Rattle.line_journal.specs.Journal.{lines_in};
 ghost use Rattle.line_journal.specs.Lines.{bytes_of, open_text};
 ghost use Rattle.held_lines.specs.Held.{holding};
@@ -96,6 +97,7 @@ impl<'s, H: Holders, D: Device> DurableTable<'s, H, D> {
         ensures unchanged { IsErrOf result PerformError.OutOfMemory → self.new.journal ≡ self.old.journal }
         ensures any_moment { AlwaysLeaves (D.history self.old.journal.device) (D.history self.new.journal.device)
             (FileStands self.old.session.setup.now (holding (H.table self.old.session.holders) (H.names self.old.session.holders))) }
+        ensures faults { IsErrOf result (PerformError.Device Failed) → D.faults self.old.journal.device < D.faults self.new.journal.device }
         ensures session { self.new.session ≡ self.old.session }
     {
         let Ok(found) = remake(alloc, &self.session, fresh) else {

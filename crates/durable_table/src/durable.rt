@@ -34,8 +34,8 @@ pub struct DurableTable<'s, H: Holders, D: Device> {
 
 impl<'s, H: Holders, D: Device> DurableTable<'s, H, D> {
     /// Makes what a line asks for. At `Ok` the reply is the one of the table, and the journal stands for the table after
-    /// the line, on the disk: each crash from then on leaves a journal that does. A line that changed nothing writes nothing,
-    /// and a line that asks changes nothing.
+    /// the line, on the disk: each crash from then on leaves a journal that does. A line whose reply reports no change writes
+    /// nothing, and a line that asks reports none.
     ///
     /// A crash at any moment of the call leaves a journal of the table before the line, or of the one after it. Whatever the
     /// line is, no module that anybody held before it is removed. Out of memory, nothing was changed, and the table may be

@@ -1,6 +1,7 @@
 //! Lines that are there already, made as one group.
-ghost use Rattle.std.specs.Prelude.{◌≡◌, ◌⊎◌, ◌++◌, ◌∷◌, [], true, false, if◌then◌else◌, map, IfOk, OnOk, IsErrOf};
+ghost use Rattle.std.specs.Prelude.{◌≡◌, ◌⊎◌, ◌<◌, ◌++◌, ◌∷◌, [], true, false, if◌then◌else◌, map, IfOk, OnOk, IsErrOf};
 ghost use Rattle.line_journal.specs.Device.{AlwaysLeaves};
+ghost use Rattle.line_journal.specs.declared.device.DeviceError.TheVariants.{Failed};
 ghost use Rattle.line_journal.specs.Lines.{bytes_of, IsLine, AreLines};
 ghost use Rattle.held_lines.specs.Held.{holding};
 ghost use Rattle.held_lines.specs.Laws.{KeepsHeld};
@@ -68,7 +69,7 @@ pub(crate) fn make_each<H: Holders>(
 impl<'s, H: Holders, D: Device> DurableTable<'s, H, D> {
     /// Makes what lines ask for, one after another, as one group: the disk is waited for as often as for one line. At `Ok` the
     /// replies are those of the table, in order, and the journal stands for the table after all of them, on the disk: each
-    /// crash from then on leaves a journal that does. Lines that changed nothing are not written.
+    /// crash from then on leaves a journal that does. If no reply reports a change, nothing is written.
     ///
     /// A crash at any moment of the call leaves a journal of the table after the first of the lines: none, some or all. It
     /// leaves open gates behind the lines that count, at most one less than the group has lines: `open` needs a `Repair` for
@@ -93,6 +94,7 @@ impl<'s, H: Holders, D: Device> DurableTable<'s, H, D> {
             ⊎ KeepsHeldAlong self.old.session.setup.now (holding (H.table self.old.session.holders) (H.names self.old.session.holders)) (bytes_of lines.now) }
         ensures any_moment { AlwaysLeaves (D.history self.old.journal.device) (D.history self.new.journal.device)
             (AfterFirstOf self.old.session.setup.now (holding (H.table self.old.session.holders) (H.names self.old.session.holders)) (bytes_of lines.now)) }
+        ensures faults { IsErrOf result (PerformError.Device Failed) → D.faults self.old.journal.device < D.faults self.new.journal.device }
         ensures setup { self.new.session.setup ≡ self.old.session.setup }
     {
         let Ok(Group { replies, sealed }) = make_each(alloc, &mut self.session, lines) else {
