@@ -1,4 +1,4 @@
-# What scripts rest on: the status, the variable MODPROBE_OPTIONS, words of any length, and which files count. It needs bash, and gz-modprobe on the path.
+# What scripts rest on: the status, the variable MODPROBE_OPTIONS, words of any length, and which files count. It needs bash, setpriv(1) if root runs it, and gz-modprobe on the path.
 mkdir -p machine/lib/modules/6.1.0 machine/lib/modules/6.2.0 machine/etc/modprobe.d/folder.conf machine/lib/modprobe.d conf.d
 printf 'kernel/loop.ko:\n' | tee machine/lib/modules/6.1.0/modules.dep >machine/lib/modules/6.2.0/modules.dep
 touch machine/lib/modules/6.{1,2}.0/modules.{alias,symbols,builtin,builtin.modinfo}
@@ -33,12 +33,24 @@ ln -s "$PWD/machine/lib/modprobe.d" linked
 echo '> -d machine -C linked -D loop'
 gz-modprobe -d machine -S 6.1.0 -C linked -D loop 2>&1 | sed "s|$PWD/||"
 
-# As kmod 30 has it, a link to nothing hides the files of its name.
+# A link to nothing, or to itself, hides the files of its name for kmod 30. kmod 34 tells it, and leaves it out.
 printf 'options loop off=1\n' >linked/off.conf
-ln -s /dev/null/none conf.d/off.conf
-echo '> --as=30 -C conf.d -C linked -D loop'
-gz-modprobe --as=30 -d machine -S 6.1.0 -C conf.d -C linked -D loop 2>/dev/null | sed "s|$PWD/||"
-rm conf.d/off.conf
+printf 'options loop round=1\n' >linked/round.conf
+mkdir links.d
+ln -s none links.d/off.conf
+ln -s round.conf links.d/round.conf
+for kmod in 30 34; do
+    echo "> --as=$kmod -C links.d -C linked -D loop"
+    gz-modprobe --as=$kmod -d machine -S 6.1.0 -C links.d -C linked -D loop 2>&1 | sed "s|$PWD/||" | sort
+done
+rm linked/off.conf linked/round.conf
+
+# A folder that cannot be listed is told, and counts as empty. Root can list each, unless it gives up what lets it.
+mkdir -m 0 closed.d
+bound=()
+[ "$(id -u)" != 0 ] || bound=(setpriv --bounding-set=-dac_override,-dac_read_search)
+echo '> -C closed.d -C conf.d/link.conf -D loop'
+"${bound[@]}" gz-modprobe -d machine -S 6.1.0 -C closed.d -C conf.d/link.conf -D loop 2>&1 | sed "s|$PWD/||"
 
 # The words of the variable stand before those of the command line: the last release counts.
 export MODPROBE_OPTIONS='-S 6.2.0 -v'
@@ -72,10 +84,13 @@ for words in '-c -C conf.d/link.conf' --help --version; do
     gz-modprobe -d "$PWD/machine" -S 6.1.0 $words 2>&1 >/dev/full
     tell $?
 done
+echo '> -c -C conf.d/link.conf, with standard output closed'
+gz-modprobe -d "$PWD/machine" -S 6.1.0 -c -C conf.d/link.conf 2>&1 >&-
+tell $?
 # A reader that has what it wants is no error to tell.
 yes 'options loop max_loop=8' | head -10000 >conf.d/many.conf
 echo '> -c | head -1'
 gz-modprobe -d "$PWD/machine" -S 6.1.0 -C conf.d/many.conf -c 2>said | head -1
 tell "${PIPESTATUS[0]}"
 cat said
-rm -r machine conf.d linked said
+rm -r machine conf.d links.d closed.d linked said

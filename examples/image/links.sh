@@ -39,7 +39,7 @@ ask -C opt/./confs//nvidia.conf -D nouveau
 printf 'options wmi outside=1\n' >outside/host.conf
 ln -s "$PWD/outside/host.conf" $image/etc/modprobe.d/host.conf
 ln -s ../../../outside/host.conf $image/etc/modprobe.d/up.conf
-ask -D wmi
+ask -D wmi | sort
 ask -C ../outside/host.conf -D wmi
 
 # A loop is an error, and so is a chain of more than 40 links; 40 are followed.
@@ -54,6 +54,7 @@ ask -c | grep '^options wmi'
 # Behind a file is nothing.
 ask -C /opt/confs/wmi.real/more -D wmi
 
+rm $image/etc/modprobe.d/host.conf $image/etc/modprobe.d/up.conf
 # Of several releases one has to be named, and a wrong one is told those that are there.
 mkdir -p $image/usr/lib/modules/6.12.0
 ask -D wmi

@@ -25,6 +25,10 @@ reads_alias_files kmod = nat_lt (number_of kmod) 33
 abbrev pub reads_usr_lib : Kmod → Bool
 reads_usr_lib kmod = nat_le 32 (number_of kmod)
 
+-- up to kmod 33 a dangling link of a folder of the configuration counts as a file (symlink(7))
+abbrev pub counts_dangling_links : Kmod → Bool
+counts_dangling_links kmod = nat_le (number_of kmod) 33
+
 -- up to kmod 33 the end of a text after a backslash is read as the byte 255
 abbrev pub reads_end_as_byte : Kmod → Bool
 reads_end_as_byte kmod = nat_lt (number_of kmod) 34

@@ -1,6 +1,6 @@
 //! The versions of kmod whose answers are known.
 ghost use Rattle.std.specs.Prelude.{◌≡◌};
-ghost use Rattle.kmod_version.specs.Versions.{kmod_of, knows_weakdeps, number_of, reads_alias_files, reads_end_as_byte, reads_usr_lib, takes_paths};
+ghost use Rattle.kmod_version.specs.Versions.{counts_dangling_links, kmod_of, knows_weakdeps, number_of, reads_alias_files, reads_end_as_byte, reads_usr_lib, takes_paths};
 
 use text_parts::is_same;
 
@@ -55,6 +55,14 @@ impl Kmod {
         ensures { result ≡ reads_usr_lib self }
     {
         self.number() >= 32
+    }
+
+    /// Whether a symbolic link of a folder of the configuration counts as a file even if it leads to nothing: it then hides
+    /// files of its name in later folders.
+    pub fn counts_dangling_links(self) -> bool
+        ensures { result ≡ counts_dangling_links self }
+    {
+        self.number() <= 33
     }
 
     /// Whether a backslash that ends a text of the configuration stands for the byte 255. Else it says nothing.

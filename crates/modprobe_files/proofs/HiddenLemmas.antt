@@ -1,5 +1,5 @@
 -- A file that stands behind one of its name has no influence.
-use Rattle.std.proofs.Common.{◌≡◌, ℕ, Bool, true, false, true≢false, cond, ◌||◌, List, [], ◌∷◌, ◌++◌, map, fold, take, drop, refl, sym, ◌∙◌, ap, append_assoc, take-append-drop}
+use Rattle.std.proofs.Common.{◌≡◌, ℕ, Bool, true, false, true≢false, cond, ◌&&◌, ◌||◌, List, [], ◌∷◌, ◌++◌, map, fold, take, drop, refl, sym, ◌∙◌, ap, append_assoc, take-append-drop}
 use Rattle.std.specs.Prelude.{filter, insert}
 use Rattle.std.specs.List.{flat_map, list_any, position_or_len}
 use Rattle.std.proofs.lemmas.Grind.{flat_map-append}
@@ -9,7 +9,7 @@ use Rattle.std.proofs.lemmas.List.Folds.{list_any-append}
 use Rattle.std.proofs.lemmas.List.Sums.{fold-append}
 use Rattle.std.proofs.lemmas.Slice.Eq.{bytes_eq-Decides}
 use Rattle.kmod_version.specs.declared.kmod.Kmod.{Kmod}
-use Rattle.modprobe_files.specs.Files.{File, Source, candidates, counted, counted_files, file_in, folder, has_name, in_order, is_before, is_named, is_read, with_file}
+use Rattle.modprobe_files.specs.Files.{File, Name, Source, candidates, counted, counted_files, file_in, folder, has_name, in_order, is_before, is_counted, is_file, is_named, is_read, with_file}
 
 -- ---- lists
 
@@ -84,18 +84,18 @@ hidden-file before after file h =
     same = ap (λ b. cond b (counted before) (in_order (counted before) file)) (all_added [] before file.name h)
 
 -- the files of a folder's names
-abbrev files_in : Kmod → List ℕ → List (List ℕ) → List File
-files_in kmod path names = map (file_in path) (filter (is_read kmod) names)
+abbrev files_in : Kmod → List ℕ → List Name → List File
+files_in kmod path names = map (file_in path) (filter (is_counted kmod) names)
 
-files_in-append : (kmod : Kmod) (path : List ℕ) (names others : List (List ℕ)) → files_in kmod path (names ++ others) ≡ files_in kmod path names ++ files_in kmod path others
+files_in-append : (kmod : Kmod) (path : List ℕ) (names others : List Name) → files_in kmod path (names ++ others) ≡ files_in kmod path names ++ files_in kmod path others
 files_in-append kmod path names others =
-    ap (map (file_in path)) (filter-append (is_read kmod) names others) ∙ map-append (file_in path) (filter (is_read kmod) names) (filter (is_read kmod) others)
+    ap (map (file_in path)) (filter-append (is_counted kmod) names others) ∙ map-append (file_in path) (filter (is_counted kmod) names) (filter (is_counted kmod) others)
 
 regroup : (before names some after : List File) → before ++ ((names ++ some) ++ after) ≡ (before ++ names) ++ (some ++ after)
 regroup before names some after = ap (λ l. before ++ l) (append_assoc names some after) ∙ sym (append_assoc before names (some ++ after))
 
 -- what counts of a folder between other sources, by the files that it adds
-counted-folder : (kmod : Kmod) (before after : List Source) (path : List ℕ) (names others : List (List ℕ))
+counted-folder : (kmod : Kmod) (before after : List Source) (path : List ℕ) (names others : List Name)
     → counted_files kmod (before ++ folder path (names ++ others) ∷ after)
     ≡ counted ((flat_map (candidates kmod) before ++ files_in kmod path names) ++ (files_in kmod path others ++ flat_map (candidates kmod) after))
 counted-folder kmod before after path names others =
@@ -103,22 +103,40 @@ counted-folder kmod before after path names others =
     ∙ ap (λ files. counted (flat_map (candidates kmod) before ++ (files ++ flat_map (candidates kmod) after))) (files_in-append kmod path names others)
     ∙ ap counted (regroup (flat_map (candidates kmod) before) (files_in kmod path names) (files_in kmod path others) (flat_map (candidates kmod) after))
 
-pub hidden-name : (kmod : Kmod) (before after : List Source) (path name : List ℕ) (names others : List (List ℕ))
-    → has_name (flat_map (candidates kmod) before) name ≡ true
+pub hidden-name : (kmod : Kmod) (before after : List Source) (path : List ℕ) (name : Name) (names others : List Name)
+    → has_name (flat_map (candidates kmod) before) name.text ≡ true
     → counted_files kmod (before ++ folder path (names ++ name ∷ others) ∷ after) ≡ counted_files kmod (before ++ folder path (names ++ others) ∷ after)
 hidden-name kmod before after path name names others h =
-    counted-folder kmod before after path names (name ∷ others) ∙ at (is_read kmod name) ∙ sym (counted-folder kmod before after path names others)
+    counted-folder kmod before after path names (name ∷ others) ∙ at (is_counted kmod name) ∙ sym (counted-folder kmod before after path names others)
   where
     earlier : List File
     earlier = flat_map (candidates kmod) before ++ files_in kmod path names
 
-    is_there : has_name earlier name ≡ true
+    is_there : has_name earlier name.text ≡ true
     is_there =
-        list_any-append (is_named name) (flat_map (candidates kmod) before) (files_in kmod path names)
-        ∙ ap (λ b. b || has_name (files_in kmod path names) name) h
+        list_any-append (is_named name.text) (flat_map (candidates kmod) before) (files_in kmod path names)
+        ∙ ap (λ b. b || has_name (files_in kmod path names) name.text) h
 
     at : (b : Bool)
-        → counted (earlier ++ (map (file_in path) (cond b (name ∷ filter (is_read kmod) others) (filter (is_read kmod) others)) ++ flat_map (candidates kmod) after))
+        → counted (earlier ++ (map (file_in path) (cond b (name ∷ filter (is_counted kmod) others) (filter (is_counted kmod) others)) ++ flat_map (candidates kmod) after))
         ≡ counted (earlier ++ (files_in kmod path others ++ flat_map (candidates kmod) after))
     at true = hidden-file earlier (files_in kmod path others ++ flat_map (candidates kmod) after) (file_in path name) is_there
     at false = refl
+
+-- a name of a folder that is none of a file has no influence
+pub no-file : (kmod : Kmod) (before after : List Source) (path : List ℕ) (name : Name) (names others : List Name)
+    → is_file kmod name.leads_to ≡ false
+    → counted_files kmod (before ++ folder path (names ++ name ∷ others) ∷ after) ≡ counted_files kmod (before ++ folder path (names ++ others) ∷ after)
+no-file kmod before after path name names others h =
+    counted-folder kmod before after path names (name ∷ others)
+    ∙ ap (λ left. counted ((flat_map (candidates kmod) before ++ files_in kmod path names) ++ (map (file_in path) left ++ flat_map (candidates kmod) after))) passed
+    ∙ sym (counted-folder kmod before after path names others)
+  where
+    and-last : (a : Bool) → (a && false) ≡ false
+    and-last true = refl
+    and-last false = refl
+
+    passed : filter (is_counted kmod) (name ∷ others) ≡ filter (is_counted kmod) others
+    passed =
+        ap (λ b. cond b (name ∷ filter (is_counted kmod) others) (filter (is_counted kmod) others))
+        (ap (λ b. is_read kmod name.text && b) h ∙ and-last (is_read kmod name.text))

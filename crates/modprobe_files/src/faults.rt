@@ -22,6 +22,11 @@ pub fn reason(error: &io::Error) -> &'static [u8] {
     }
 }
 
+/// Whether a path was not asked of the system at all, since it is no UTF-8.
+pub(crate) fn is_no_text(error: &io::Error) -> bool {
+    error.kind() == ErrorKind::InvalidFilename && error.raw_os_error().is_none()
+}
+
 /// Tells that a file was not read. Out of memory is no such fault.
 pub fn tell_unread<E: Write>(
     path: &[u8],

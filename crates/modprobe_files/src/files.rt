@@ -1,10 +1,10 @@
 //! Which files of a configuration count.
 ghost use Rattle.std.specs.Prelude.{◌≡◌, ◌≤◌, length, IfOk, OnOk, fold};
 ghost use Rattle.std.specs.List.{position_or_len};
-ghost use Rattle.modprobe_words.specs.Variable.{bytes_of};
-ghost use Rattle.modprobe_files.specs.Files.{candidates, counted_files, file_in, file_of, files_of, folder, has_name, is_alias_file, is_before, is_read, source_of, sources_of, with_file};
+ghost use Rattle.modprobe_files.specs.Files.{candidates, counted_files, file_in, file_of, files_of, folder, has_name, is_alias_file, is_before, is_counted, is_file, is_read, name_of, names_of, source_of, sources_of, with_file};
 
 use crate::host::joined;
+use crate::system::Kind;
 use kmod_version::Kmod;
 use program_frame::counts;
 use std::alloc::{AllocError, Global};
@@ -17,13 +17,20 @@ pub struct File {
     pub path: Vec<u8>,
 }
 
+/// A name of a folder, and what it leads to, through links.
+#[derive(Drop)]
+pub struct Name {
+    pub text: Vec<u8>,
+    pub leads_to: Kind,
+}
+
 /// Where files of a configuration are.
 #[derive(Drop)]
 pub enum Source {
     /// A file of its own, by its name and its path.
     Single(Vec<u8>, Vec<u8>),
-    /// The path of a folder, and the names of all in it that is no folder.
-    Folder(Vec<u8>, Vec<Vec<u8>>),
+    /// The path of a folder, and names in it: all of files that are read.
+    Folder(Vec<u8>, Vec<Name>),
 }
 
 /// Whether a name of a folder ends in `.alias`, has a byte before that, and is not hidden. modprobe.d(5) does not speak of
@@ -39,6 +46,24 @@ pub(crate) fn is_read(kmod: Kmod, name: &[u8]) -> bool
     ensures { result ≡ is_read kmod name.now }
 {
     counts(name) || kmod.reads_alias_files() && is_alias_file(name)
+}
+
+/// Whether what a name leads to is a file: a folder is none, and nothing at all counts as one for some kmod.
+fn is_file(kmod: Kmod, leads_to: Kind) -> bool
+    ensures { result ≡ is_file kmod leads_to }
+{
+    match leads_to {
+        Kind::Nothing => kmod.counts_dangling_links(),
+        Kind::Folder => false,
+        Kind::File => true,
+    }
+}
+
+/// Whether a name of a folder counts, if none before it is the same.
+pub(crate) fn is_counted(kmod: Kmod, name: &Name) -> bool
+    ensures { result ≡ is_counted kmod (name_of name.now) }
+{
+    is_read(kmod, &name.text) && is_file(kmod, name.leads_to)
 }
 
 /// Whether a name stands before another, by their bytes.
@@ -76,12 +101,12 @@ fn add_file(files: &mut Vec<File>, file: File) -> Result<(), AllocError>
 }
 
 /// The file of a name in a folder.
-fn file_in(alloc: Global, path: &[u8], name: &[u8]) -> Result<File, AllocError>
-    ensures { IfOk result (λ file. file_of file ≡ file_in path.now name.now) }
+fn file_in(alloc: Global, path: &[u8], name: &Name) -> Result<File, AllocError>
+    ensures { IfOk result (λ file. file_of file ≡ file_in path.now (name_of name.now)) }
 {
     Ok(File {
-        name: Vec::from_slice(alloc, name)?,
-        path: joined(alloc, path, b"/", name)?,
+        name: Vec::from_slice(alloc, &name.text)?,
+        path: joined(alloc, path, b"/", &name.text)?,
     })
 }
 
@@ -91,12 +116,12 @@ fn add_folder(
     kmod: Kmod,
     files: &mut Vec<File>,
     path: &[u8],
-    names: &[Vec<u8>],
+    names: &[Name],
 ) -> Result<(), AllocError>
-    ensures { OnOk result (files_of files.new.items ≡ fold with_file (files_of files.old.items) (candidates kmod (folder path.now (bytes_of names.now)))) }
+    ensures { OnOk result (files_of files.new.items ≡ fold with_file (files_of files.old.items) (candidates kmod (folder path.now (names_of names.now)))) }
 {
     for name in names {
-        if is_read(kmod, name) {
+        if is_counted(kmod, name) {
             add_file(files, file_in(alloc, path, name)?)?;
         }
     }

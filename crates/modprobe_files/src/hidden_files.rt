@@ -1,6 +1,6 @@
 //! Files of a configuration that do not count, since others of their names come first.
 
-use crate::files::{File, Source, is_read};
+use crate::files::{File, Name, Source, is_counted};
 use crate::host::joined;
 use crate::sources::{LIB, USR_LIB};
 use crate::texts::HiddenFile;
@@ -33,27 +33,25 @@ fn add_folder(
     hidden: &mut Vec<HiddenFile>,
     files: &[File],
     folder: &[u8],
-    names: &[Vec<u8>],
+    names: &[Name],
 ) -> Result<(), AllocError> {
     for name in names {
-        if is_read(kmod, name) {
-            let path = joined(alloc, folder, b"/", name)?;
-            add_file(alloc, hidden, files, name, &path)?;
+        if is_counted(kmod, name) {
+            let path = joined(alloc, folder, b"/", &name.text)?;
+            add_file(alloc, hidden, files, &name.text, &path)?;
         }
     }
     Ok(())
 }
 
 /// Whether all of some names are among others.
-fn are_among(names: &[Vec<u8>], others: &[Vec<u8>]) -> bool {
-    names
-        .iter()
-        .all(|name| others.iter().any(|other| is_same(other, name)))
+fn are_among(names: &[Name], others: &[Name]) -> bool {
+    names.iter().all(|name| others.iter().any(|other| is_same(&other.text, &name.text)))
 }
 
 /// Whether a folder is taken for another one under a second path: /lib/modprobe.d with no name that /usr/lib/modprobe.d has
 /// not, as if /lib is a link to /usr/lib.
-fn is_second_path(sources: &[Source], folder: &[u8], names: &[Vec<u8>]) -> bool {
+fn is_second_path(sources: &[Source], folder: &[u8], names: &[Name]) -> bool {
     is_same(folder, LIB)
         && sources.iter().any(|source| match source {
             Source::Folder(path, others) => is_same(path, USR_LIB) && are_among(names, others),

@@ -17,7 +17,7 @@ mod whole_files;
 
 pub use disk::Disk;
 pub use faults::{is_rootless, reason, tell_folder, tell_unread};
-pub use files::{File, Source, counted_files};
+pub use files::{File, Name, Source, counted_files};
 pub use host::{Host, joined};
 pub use laws::hidden_files_do_not_count;
 pub use machine::{absolute_path, directory, read_configuration, read_later, read_modules};

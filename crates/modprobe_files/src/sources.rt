@@ -4,8 +4,8 @@ ghost use Rattle.text_parts.specs.Text.{texts_of};
 ghost use Rattle.modprobe_files.specs.Files.{path_of, single_in, source_of, sources_of};
 ghost use Rattle.modprobe_files.specs.Folders.{own_sources, paths_by_rank};
 
-use crate::faults::reason;
-use crate::files::{Source, is_read};
+use crate::faults::{is_no_text, reason};
+use crate::files::{Name, Source, is_read};
 use crate::host::{Host, joined, last_name};
 use crate::system::{Kind, System};
 use kmod_version::Kmod;
@@ -42,29 +42,39 @@ fn paths_by_rank<'a>(kmod: Kmod, named: &'a [&'a [u8]]) -> &'a [&'a [u8]]
     }
 }
 
-/// Whether a name of a folder is a folder itself, which is reported.
-fn is_folder<S: System, E: Write>(
+/// What stands at the path of a name of a folder. A folder is reported, and nothing if no file counts there then.
+fn kind_at<S: System, E: Write>(
     host: &Host<'_, S>,
+    kmod: Kmod,
     path: &[u8],
-    name: &[u8],
     messages: &mut Messages<'_, E>,
-) -> Result<bool, AllocError> {
-    let own = joined(host.alloc(), path, b"/", name)?;
-    let is_folder = matches!(host.kind(&own)?, Kind::Folder);
-    if is_folder {
-        let text = b"Directories inside directories are not supported: ";
-        messages.tell_always(Level::Error, text, &own, b"", b"");
+) -> Result<Kind, AllocError> {
+    match host.look(path) {
+        Ok(Kind::Folder) => {
+            let text = b"Directories inside directories are not supported: ";
+            messages.tell_always(Level::Error, text, path, b"", b"");
+            Ok(Kind::Folder)
+        }
+        Ok(kind) => Ok(kind),
+        Err(error) if error.kind() == ErrorKind::OutOfMemory => Err(AllocError),
+        Err(error) if is_no_text(&error) => Ok(Kind::File),
+        Err(_) => {
+            if !kmod.counts_dangling_links() {
+                let text = b"Cannot stat directory entry: ";
+                messages.tell_always(Level::Error, text, path, b"", b"");
+            }
+            Ok(Kind::Nothing)
+        }
     }
-    Ok(is_folder)
 }
 
-/// The names of a folder that count and are no folders. A folder is reported.
+/// The names of a folder that are read, and what they lead to.
 fn names_in<S: System, E: Write>(
     host: &Host<'_, S>,
     kmod: Kmod,
     path: &[u8],
     messages: &mut Messages<'_, E>,
-) -> Result<Vec<Vec<u8>>, AllocError> {
+) -> Result<Vec<Name>, AllocError> {
     let all = match host.names(path) {
         Ok(all) => all,
         Err(error) if error.kind() == ErrorKind::OutOfMemory => return Err(AllocError),
@@ -74,9 +84,11 @@ fn names_in<S: System, E: Write>(
         }
     };
     let mut names = Vec::new(host.alloc());
-    for name in all.into_iter() {
-        if is_read(kmod, &name) && !is_folder(host, path, &name, messages)? {
-            names.push(name)?;
+    for text in all.into_iter() {
+        if is_read(kmod, &text) {
+            let own = joined(host.alloc(), path, b"/", &text)?;
+            let leads_to = kind_at(host, kmod, &own, messages)?;
+            names.push(Name { text, leads_to })?;
         }
     }
     Ok(names)
