@@ -11,5 +11,7 @@ ask() {
 ask -D pci:v000010ECd00008168sv00001458sd0000E000bc02sc00i00
 # A device whose driver is on the blacklist.
 ask -D pci:v00008086d000015BCsv000017AAsd0000225Dbc02sc00i00
+# That driver by its name, which the blacklist does not stop.
+ask -D e1000e
 # A name with a slip.
 ask -D mvme

@@ -1,5 +1,6 @@
 pub mod Answered
 pub mod Ends
+pub mod Exemptions
 pub mod Paths
 pub mod Queries
 pub mod Sys

@@ -1,5 +1,6 @@
 //! Why kmod answers as it does: which line of which file says so.
 
+mod exemptions;
 mod explaining;
 mod heads;
 mod idle_lines;

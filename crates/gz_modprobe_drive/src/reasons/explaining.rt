@@ -43,8 +43,7 @@ impl Told<'_> {
             self.tell_blacklist(&object.name, b", so it is not loaded");
             return Ok(());
         }
-        let why = b", which does not hold for its own name without -b";
-        self.tell_blacklist(&object.name, why);
+        self.tell_exempt_object(tasks, world, object)?;
         let part = if query.ignore_commands {
             Part::Named
         } else {
@@ -55,14 +54,18 @@ impl Told<'_> {
 
     /// Begins with a module that a name stands for. Returns whether it is refused.
     fn begin(&mut self, tasks: &mut Tasks, object: &Object) -> Result<bool, AllocError> {
-        match self.known.asked.query.ask {
+        let asked = self.known.asked;
+        match asked.query.ask {
             Ask::ShowDepends | Ask::DryRun => {
-                let asked = self.known.asked;
                 self.begin_load(tasks, &asked.world, object)?;
                 Ok(false)
             }
+            Ask::Resolve => {
+                self.tell_exempt_object(tasks, &asked.world, object)?;
+                Ok(false)
+            }
             Ask::Remove | Ask::ShowRemoval => self.begin_removal(tasks, object, false),
-            Ask::Resolve | Ask::ShowConfig => Ok(false),
+            Ask::ShowConfig => Ok(false),
         }
     }
 

@@ -1,5 +1,6 @@
 //! What is to be told of modules, each once.
 
+use crate::reasons::exemptions::Exemption;
 use indexmap::{IndexMap, IndexSet};
 use kmod_query::Object;
 use std::alloc::{AllocError, Global};
@@ -27,6 +28,13 @@ pub(crate) struct Task {
     pub(crate) part: Part,
 }
 
+/// A module whose blacklist lines do not hold, for one reason.
+#[derive(Clone, PartialEq, Eq, Hash, Drop)]
+struct Exempt {
+    name: Vec<u8>,
+    exemption: Exemption,
+}
+
 /// Tasks in the order in which they came.
 #[derive(Drop)]
 pub(crate) struct Tasks {
@@ -41,6 +49,8 @@ pub(crate) struct Tasks {
     words: IndexMap<Vec<u8>, bool>,
     /// The modules whose files were named by paths.
     files: IndexSet<Vec<u8>>,
+    /// The modules of which it was told why blacklist lines do not hold.
+    exempt: IndexSet<Exempt>,
 }
 
 impl Tasks {
@@ -53,6 +63,7 @@ impl Tasks {
             merges,
             words: IndexMap::new(alloc),
             files: IndexSet::new(alloc),
+            exempt: IndexSet::new(alloc),
         }
     }
 
@@ -123,6 +134,18 @@ impl Tasks {
     ) -> Result<(), AllocError> {
         self.words.insert(Vec::from_slice(alloc, word)?, found)?;
         Ok(())
+    }
+
+    /// Notes that blacklist lines of a module do not hold for a reason. Returns whether that is new.
+    pub(crate) fn add_exempt(
+        &mut self,
+        alloc: Global,
+        name: &[u8],
+        exemption: Exemption,
+    ) -> Result<bool, AllocError> {
+        let name = Vec::from_slice(alloc, name)?;
+        let is_new = self.exempt.insert(Exempt { name, exemption })?;
+        Ok(is_new)
     }
 
     /// Notes that the file of a module was named by its path.

@@ -1,5 +1,6 @@
 //! What is reported of a module: the lines that count for it, and those that do not.
 
+use crate::reasons::exemptions::Exemption;
 use crate::reasons::heads::Heads;
 use crate::reasons::tasks::{Part, Task, Tasks};
 use crate::reasons::told::{Spot, Told};
@@ -57,6 +58,7 @@ impl Told<'_> {
             if self.known.is_removal() {
                 self.tell_need_state(need.as_bytes())?;
             } else {
+                self.tell_exempt(tasks, need.as_bytes(), Exemption::Needed)?;
                 tasks.add_name(self.alloc, need.as_bytes(), Part::Own)?;
             }
         }
@@ -105,6 +107,7 @@ impl Told<'_> {
             if self.known.is_removal() {
                 self.follow_removal(tasks, object)?;
             } else {
+                self.tell_exempt(tasks, &object.name, Exemption::SoftDependency)?;
                 tasks.add_load(self.alloc, object, Part::Own)?;
             }
         }
@@ -175,6 +178,7 @@ impl Told<'_> {
         has_items: bool,
     ) -> Result<(), AllocError> {
         let (name, alias) = (task.name.as_slice(), task.alias.as_deref());
+        self.tell_misspelt(name)?;
         let line = install_line(self.alloc, &self.known.asked.world, name, alias)?;
         let why: &[u8] = match (is_bare, has_items) {
             (true, _) => b", passed over by -i",

@@ -105,7 +105,9 @@ impl Told<'_> {
         };
         let finding = find_name(self.alloc, &self.known.asked.world, name.as_bytes())?;
         self.tell_finding(word, name.as_bytes(), &finding);
-        Ok(Some(finding.objects(self.alloc, name.as_bytes())?))
+        let objects = finding.objects(self.alloc, name.as_bytes())?;
+        self.tell_blacklisted_alias(name.as_bytes(), &objects);
+        Ok(Some(objects))
     }
 
     /// Tells at most `NEAR_NAMES` modules whose names are `name` or near it.
