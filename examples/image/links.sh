@@ -35,11 +35,13 @@ ask -D wmi
 ask -C /../../../opt/confs -D wmi
 ask -C opt/./confs//nvidia.conf -D nouveau
 
-# What lies outside is never read: the name of a file here, through the host's root or through the folder above.
+# What lies outside is never read: the name of a file here, through the host's root or through the folder above. These links
+# are said to lead to nothing.
 printf 'options wmi outside=1\n' >outside/host.conf
 ln -s "$PWD/outside/host.conf" $image/etc/modprobe.d/host.conf
 ln -s ../../../outside/host.conf $image/etc/modprobe.d/up.conf
 ask -D wmi | sort
+ask --explain -D loop | sort
 ask -C ../outside/host.conf -D wmi
 
 # A loop is an error, and so is a chain of more than 40 links; 40 are followed.

@@ -1,8 +1,10 @@
 pub mod Answered
 pub mod Ends
+pub mod Evidence
 pub mod Exemptions
 pub mod Paths
 pub mod Queries
 pub mod Sys
 pub mod Texts
 pub mod Told
+pub mod Unread

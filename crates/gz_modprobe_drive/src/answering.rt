@@ -8,6 +8,7 @@ ghost use Rattle.gz_modprobe_drive.specs.Texts.{IsConfOf};
 use crate::answered::{Answered, answer_machine};
 use crate::configuration::conf_of;
 use crate::early::{asks_symbols, is_answered_early};
+use crate::evidence::Evidence;
 use crate::failures::tell_failures;
 use crate::paths::read_paths;
 use crate::queries::asks_states;
@@ -108,6 +109,7 @@ fn answer_by<S: System, O: Write, E: Write>(
         states: machine.states,
         directory: machine.directory,
         paths: machine.paths,
+        evidence: machine.evidence,
     };
     answer_read(host, &whole, conf, query, output, messages)
 }
@@ -130,12 +132,14 @@ fn answer_configured<S: System, O: Write, E: Write>(
     answer_by(host, machine, &conf, query, output, messages)
 }
 
-/// Reads the states and looks at the paths that a query asks of, and answers it. Returns the status.
+/// Reads the states and looks at the paths that a query asks of, and answers it. `named` are the paths of the configuration
+/// that the command line has. Returns the status.
 fn answer_from<S: System, O: Write, E: Write>(
     host: &Host<'_, S>,
     conf: &ConfTexts,
     modules: &ModuleTexts,
     directory: &[u8],
+    named: &[&[u8]],
     query: &Query<'_>,
     output: &mut O,
     messages: &mut Messages<'_, E>,
@@ -147,6 +151,8 @@ fn answer_from<S: System, O: Write, E: Write>(
     if asks_states(query.ask) {
         add_states(host, &mut states, messages)?;
     }
+    let explains = messages.explains;
+    let evidence = Evidence::read(host, conf.kmod, named, query, &states, explains)?;
     let paths = read_paths(host, conf.kmod, query)?;
     let unread = LaterTexts {
         alias: None,
@@ -159,6 +165,7 @@ fn answer_from<S: System, O: Write, E: Write>(
         states: &states,
         directory,
         paths: &paths,
+        evidence: &evidence,
     };
     answer_configured(host, &machine, query, output, messages)
 }
@@ -176,9 +183,12 @@ fn answer_in<S: System, O: Write, E: Write>(
     ensures status { IfOk result (λ status. status ≤ 1) }
     ensures well { IfOk result (λ status. status ≡ 0 → WasAnswered asked.now.kmod query.now (O.contents output.old) (O.contents output.new)) }
 {
-    let conf = read_configuration(host, asked.kmod, directory, &asked.configurations, messages)?;
+    let named = asked.configurations.as_slice();
+    let conf = read_configuration(host, asked.kmod, directory, named, messages)?;
     let modules = read_modules(host, directory, messages)?;
-    answer_from(host, &conf, &modules, directory, query, output, messages)
+    answer_from(
+        host, &conf, &modules, directory, named, query, output, messages,
+    )
 }
 
 /// Reads what a query asks of, and answers it. Returns the status.

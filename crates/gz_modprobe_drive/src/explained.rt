@@ -18,6 +18,8 @@ fn explained(
     let sources = Sources {
         paths: &paths,
         hidden: &machine.conf.hidden,
+        unread: &machine.evidence.unread,
+        holders: &machine.evidence.holders,
         builtin: &machine.modules.builtin,
     };
     explanation(alloc, &sources, world, query)

@@ -12,7 +12,7 @@ use std::alloc::AllocError;
 use std::io::{ErrorKind, Write};
 use text_parts::{is_same, number_within};
 
-const MODULES: &[u8] = b"/sys/module";
+pub(crate) const MODULES: &[u8] = b"/sys/module";
 
 /// The state that a text of `initstate` tells.
 fn state_of(text: &[u8]) -> ModuleState

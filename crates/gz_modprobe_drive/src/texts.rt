@@ -2,6 +2,7 @@
 ghost use Rattle.std.specs.Prelude.{◌≡◌};
 ghost use Rattle.gz_modprobe_drive.specs.Answered.{known_by, known_of};
 
+use crate::evidence::Evidence;
 use kmod_conf::Conf;
 use kmod_index::Index;
 use kmod_query::{PathWord, States, World};
@@ -18,6 +19,7 @@ pub(crate) struct Machine<'a> {
     pub(crate) directory: &'a [u8],
     /// The words of the query that are paths, and what stands there.
     pub(crate) paths: &'a [PathWord],
+    pub(crate) evidence: &'a Evidence,
 }
 
 /// What queries are answered from, by its parts. No module has a file of its own.

@@ -200,6 +200,7 @@ impl Told<'_> {
             self.tell_idle()?;
         }
         self.say_hidden();
+        self.say_unread();
         Ok(())
     }
 }

@@ -1,5 +1,7 @@
 //! What an explanation is told of files.
 
+use crate::holders::Holders;
+use crate::unread::UnreadFile;
 use modprobe_files::HiddenFile;
 
 /// Where a world was read from.
@@ -7,8 +9,12 @@ use modprobe_files::HiddenFile;
 pub struct Sources<'a> {
     /// The paths of the texts of the configuration, by the numbers that places of its lines have.
     pub paths: &'a [&'a [u8]],
-    /// The files of the configuration that were not read, in the order in which they are told.
+    /// The files of the configuration that others of their names keep from being read, in the order in which they are told.
     pub hidden: &'a [HiddenFile],
+    /// The files beside the configuration that are not read, in the order in which they are told.
+    pub unread: &'a [UnreadFile],
+    /// Who holds modules.
+    pub holders: &'a [Holders],
     /// The text of modules.builtin, whose lines the index does not number.
     pub builtin: &'a [u8],
 }

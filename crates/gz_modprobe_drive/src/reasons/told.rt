@@ -6,6 +6,7 @@ ghost use Rattle.gz_modprobe_drive.specs.Told.{is_shown};
 use crate::reasons::heads::Heads;
 use crate::reasons::known::Known;
 use crate::reasons::shown::Shown;
+use crate::unread::Unread;
 use kmod_names::Place;
 use std::alloc::{AllocError, Global};
 
@@ -23,6 +24,17 @@ pub(crate) enum Spot<'a> {
     Whole(&'a [u8]),
     /// It stands in no file.
     Nowhere,
+}
+
+/// Why a file is not read, after `not read, `.
+fn why_unread(reason: Unread) -> &'static [u8] {
+    match reason {
+        Unread::Dotted => b"since its name begins with a dot",
+        Unread::OtherEnding => b"since its name does not end in .conf",
+        Unread::Folder => b"since it is a folder within a folder",
+        Unread::LeadsNowhere => b"since it is a link that leads to nothing",
+        Unread::Outside => b"since it lies in no folder modprobe.d",
+    }
 }
 
 /// Lines about what is known, one after another.
@@ -106,6 +118,14 @@ impl<'a> Told<'a> {
         for file in self.known.sources.hidden {
             let what = b"not read, since a file of its name comes first";
             self.say(&file.path, &[what], Spot::Whole(&file.by));
+        }
+    }
+
+    /// Tells the files beside the configuration that are not read.
+    pub(crate) fn say_unread(&mut self) {
+        for file in self.known.sources.unread {
+            let what: [&[u8]; 2] = [b"not read, ", why_unread(file.reason)];
+            self.say(&file.path, &what, Spot::Nowhere);
         }
     }
 }

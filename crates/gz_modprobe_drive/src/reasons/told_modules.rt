@@ -5,13 +5,12 @@ use crate::reasons::heads::Heads;
 use crate::reasons::tasks::{Part, Task, Tasks};
 use crate::reasons::told::{Spot, Told};
 use crate::reasons::told_words::DEPENDENCIES;
+use crate::sys::MODULES;
 use kmod_conf::TextLine;
 use kmod_names::{Place, Text};
 use kmod_query::{Ask, Object, install_line};
 use std::alloc::AllocError;
 use text_parts::is_same;
-
-const MODULES: &[u8] = b"/sys/module";
 
 /// What is reported of a line that an earlier one of its kind keeps from counting.
 pub(crate) const LATER: &[u8] = b" line does not count, since another comes first";

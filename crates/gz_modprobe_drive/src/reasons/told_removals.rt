@@ -1,18 +1,49 @@
 //! What is reported of a module that is to be removed.
+ghost use Rattle.std.specs.Prelude.{◌≡◌};
+ghost use Rattle.gz_modprobe_drive.specs.Evidence.{users_beside};
 
 use crate::reasons::tasks::{Part, Tasks};
 use crate::reasons::told::{Spot, Told};
 use kmod_query::{ModuleStatus, Object, Verdict, is_fatal, is_in_use, judge, remove_line};
 use std::alloc::AllocError;
+use text_parts::is_same;
+
+/// How many users of a module are no modules.
+fn users_beside(users: u64, holders: usize) -> u64
+    ensures { result ≡ users_beside users holders }
+{
+    users.saturating_sub(holders as u64)
+}
 
 impl Told<'_> {
-    /// Tells how many use a module, unless none does.
+    /// Tells which modules hold a module, and how many of its users are none.
+    fn tell_holders(&mut self, name: &[u8], users: u64) -> Result<(), AllocError> {
+        let all = self.known.sources.holders;
+        let Some(holders) = all.iter().find(|own| is_same(&own.module, name)) else {
+            return Ok(());
+        };
+        let spot = Spot::Whole(&holders.folder);
+        for holder in &holders.names {
+            let what: [&[u8]; 2] = [b"held by ", holder];
+            self.say(name, &what, spot);
+        }
+        let others = users_beside(users, holders.names.len());
+        if others > 0 {
+            let number = format!(in self.alloc; "{others}")?;
+            let text = b"its count of users that are no modules is ";
+            self.say(name, &[text, number.as_bytes()], spot);
+        }
+        Ok(())
+    }
+
+    /// Tells how many use a module and which modules they are, unless none does.
     fn tell_users(&mut self, name: &[u8], status: ModuleStatus) -> Result<(), AllocError> {
         match status.users {
             Some(0) => {}
             Some(users) => {
                 let number = format!(in self.alloc; "{users}")?;
                 self.tell_state(name, b"its count of users is ", number.as_bytes());
+                return self.tell_holders(name, users);
             }
             None => self.tell_state(name, b"its count of users is not known", b""),
         }

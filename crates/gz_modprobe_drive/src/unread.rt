@@ -1,0 +1,161 @@
+//! Files beside the configuration that are not read, and why.
+ghost use Rattle.std.specs.Prelude.{◌≡◌};
+ghost use Rattle.text_parts.specs.Text.{texts_of};
+ghost use Rattle.modprobe_files.specs.Files.{is_read};
+ghost use Rattle.modprobe_files.specs.Folders.{paths_by_rank};
+ghost use Rattle.gz_modprobe_drive.specs.Unread.{unread_by, unread_name};
+
+use crate::listing::names_of;
+use kmod_version::Kmod;
+use modprobe_files::{Host, Kind, System, joined};
+use std::alloc::AllocError;
+use text_parts::is_same;
+
+const LIB: &[u8] = b"/lib/modprobe.d";
+
+/// The folders of modprobe.d(5), by their rank.
+const FOLDERS: [&[u8]; 5] = [
+    b"/etc/modprobe.d",
+    b"/run/modprobe.d",
+    b"/usr/local/lib/modprobe.d",
+    b"/usr/lib/modprobe.d",
+    LIB,
+];
+
+/// The same, without the distribution's own.
+const OLD_FOLDERS: [&[u8]; 4] = [
+    b"/etc/modprobe.d",
+    b"/run/modprobe.d",
+    b"/usr/local/lib/modprobe.d",
+    LIB,
+];
+
+/// What old kernels' tools read in place of the folders.
+const OUTSIDE: &[u8] = b"/etc/modprobe.conf";
+
+/// Why a file is not read (modprobe.d(5)).
+#[derive(Clone, Copy)]
+pub enum Unread {
+    /// Its name begins with a dot.
+    Dotted,
+    /// Its name ends otherwise than those that are read.
+    OtherEnding,
+    /// It is a folder within a folder.
+    Folder,
+    /// It is a link that leads to nothing, or to what cannot be seen.
+    LeadsNowhere,
+    /// It lies in no folder of the configuration.
+    Outside,
+}
+
+/// A file that is not read.
+#[derive(Drop)]
+pub struct UnreadFile {
+    pub path: Vec<u8>,
+    pub reason: Unread,
+}
+
+/// The paths of the configuration by their rank: those that were named, or the folders of modprobe.d(5).
+fn paths_by_rank<'a>(kmod: Kmod, named: &'a [&'a [u8]]) -> &'a [&'a [u8]]
+    ensures { texts_of result.now ≡ paths_by_rank kmod (texts_of named.entry.now) }
+{
+    if !named.is_empty() {
+        named
+    } else if kmod.reads_usr_lib() {
+        &FOLDERS
+    } else {
+        &OLD_FOLDERS
+    }
+}
+
+/// Whether a name of a folder is that of a file which is read.
+fn is_read(kmod: Kmod, name: &[u8]) -> bool
+    ensures { result ≡ is_read kmod name.now }
+{
+    if name.starts_with(b".") {
+        return false;
+    }
+    let is_conf = name.len() > 5 && is_same(&name[name.len() - 5..], b".conf");
+    let is_alias = name.len() > 6 && is_same(&name[name.len() - 6..], b".alias");
+    is_conf || kmod.reads_alias_files() && is_alias
+}
+
+/// Why a name is not that of a file which is read.
+fn unread_name(name: &[u8]) -> Unread
+    ensures { result ≡ unread_name name.now }
+{
+    if name.starts_with(b".") {
+        Unread::Dotted
+    } else {
+        Unread::OtherEnding
+    }
+}
+
+/// Why a name of a folder is not read, by what it leads to. None if it is a file that is read, or that gives way to another
+/// of its name.
+fn unread_by(kmod: Kmod, name: &[u8], kind: Kind) -> Option<Unread>
+    ensures { result ≡ unread_by kmod name.now kind }
+{
+    match kind {
+        Kind::Folder => Some(Unread::Folder),
+        Kind::Nothing if is_read(kmod, name) => Some(Unread::LeadsNowhere),
+        Kind::File if is_read(kmod, name) => None,
+        Kind::Nothing | Kind::File => Some(unread_name(name)),
+    }
+}
+
+/// Adds the names of a folder that are not read.
+fn add_names<S: System>(
+    host: &Host<'_, S>,
+    kmod: Kmod,
+    folder: &[u8],
+    names: &[Vec<u8>],
+    unread: &mut Vec<UnreadFile>,
+) -> Result<(), AllocError> {
+    for name in names {
+        let path = joined(host.alloc(), folder, b"/", name)?;
+        let kind = host.kind(&path)?;
+        if let Some(reason) = unread_by(kmod, name, kind) {
+            unread.push(UnreadFile { path, reason })?;
+        }
+    }
+    Ok(())
+}
+
+/// Adds /etc/modprobe.conf, if it is there.
+fn add_outside<S: System>(
+    host: &Host<'_, S>,
+    unread: &mut Vec<UnreadFile>,
+) -> Result<(), AllocError> {
+    if matches!(host.kind(OUTSIDE)?, Kind::Nothing) {
+        return Ok(());
+    }
+    let path = Vec::from_slice(host.alloc(), OUTSIDE)?;
+    let reason = Unread::Outside;
+    unread.push(UnreadFile { path, reason })?;
+    Ok(())
+}
+
+/// The files of these folders, or of those of modprobe.d(5) if none is named, that are not read, in the order of the folders
+/// and of the bytes of names. /lib/modprobe.d is skipped if it has just the names of the folder before it, as if /lib is a
+/// link to /usr/lib. It fails only if memory runs out.
+pub(crate) fn unread_files<S: System>(
+    host: &Host<'_, S>,
+    kmod: Kmod,
+    named: &[&[u8]],
+) -> Result<Vec<UnreadFile>, AllocError> {
+    let alloc = host.alloc();
+    let mut unread = Vec::new(alloc);
+    let mut before: Vec<Vec<u8>> = Vec::new(alloc);
+    for folder in paths_by_rank(kmod, named) {
+        let names = names_of(host, *folder)?.unwrap_or(Vec::new(alloc));
+        if !is_same(*folder, LIB) || names != before {
+            add_names(host, kmod, *folder, &names, &mut unread)?;
+        }
+        before = names;
+    }
+    if named.is_empty() {
+        add_outside(host, &mut unread)?;
+    }
+    Ok(unread)
+}
