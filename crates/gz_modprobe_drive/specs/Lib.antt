@@ -2,6 +2,7 @@ pub mod Answered
 pub mod Ends
 pub mod Evidence
 pub mod Exemptions
+pub mod NearNames
 pub mod Paths
 pub mod Queries
 pub mod Sys

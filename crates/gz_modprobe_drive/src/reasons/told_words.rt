@@ -1,12 +1,11 @@
 //! What is reported of a word of a command line or of a softdep line.
 
-use crate::reasons::near_names::is_near;
+use crate::reasons::near_names::{NEAREST_FIRST, Nearness, nearness_of};
 use crate::reasons::told::{Spot, Told};
-use kmod_index::IndexLine;
+use kmod_index::{DepLine, IndexLine};
 use kmod_names::{AliasEntry, name_of_path, normal_alias};
 use kmod_query::{Finding, Object, find_name};
 use std::alloc::AllocError;
-use text_parts::is_same;
 
 pub(crate) const DEPENDENCIES: &[u8] = b"modules.dep";
 
@@ -110,18 +109,35 @@ impl Told<'_> {
         Ok(Some(objects))
     }
 
-    /// Tells at most `NEAR_NAMES` modules whose names are `name` or near it.
-    fn tell_near_names(&mut self, word: &[u8], name: &[u8]) -> Result<(), AllocError> {
-        let asked = self.known.asked;
-        let mut left = NEAR_NAMES;
-        for line in &asked.world.index.dep_lines(self.alloc)? {
+    /// Tells at most so many modules whose names are so near to `name`. Returns how many more may be told.
+    fn tell_as_near(
+        &mut self,
+        word: &[u8],
+        name: &[u8],
+        lines: &[DepLine<'_>],
+        nearness: Nearness,
+        most: usize,
+    ) -> Result<usize, AllocError> {
+        let mut left = most;
+        for line in lines {
             let own = line.name(self.alloc)?;
             let own = own.as_bytes();
-            if left > 0 && (is_same(own, name) || is_near(own, name)) {
+            if left > 0 && nearness_of(self.alloc, own, name)? == Some(nearness) {
                 let spot = Spot::Line(DEPENDENCIES, line.number());
                 self.say(word, &[b"there is ", own], spot);
                 left -= 1;
             }
+        }
+        Ok(left)
+    }
+
+    /// Tells at most `NEAR_NAMES` modules whose names are `name` or near it, the nearest first.
+    fn tell_near_names(&mut self, word: &[u8], name: &[u8]) -> Result<(), AllocError> {
+        let asked = self.known.asked;
+        let lines = asked.world.index.dep_lines(self.alloc)?;
+        let mut left = NEAR_NAMES;
+        for nearness in NEAREST_FIRST.iter() {
+            left = self.tell_as_near(word, name, &lines, *nearness, left)?;
         }
         Ok(())
     }
