@@ -2,6 +2,8 @@ pub mod Answered
 pub mod Ends
 pub mod Evidence
 pub mod Exemptions
+pub mod KernelList
+pub mod LineEnds
 pub mod NearNames
 pub mod Paths
 pub mod Queries

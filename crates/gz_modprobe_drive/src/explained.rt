@@ -17,6 +17,8 @@ fn explained(
     let paths = machine.conf.paths(alloc)?;
     let sources = Sources {
         paths: &paths,
+        files: &machine.conf.files,
+        command_line: machine.conf.command_line.as_deref().unwrap_or(b""),
         hidden: &machine.conf.hidden,
         unread: &machine.evidence.unread,
         holders: &machine.evidence.holders,

@@ -10,6 +10,8 @@ mod explained;
 mod failures;
 mod folder;
 mod holders;
+mod kernel_list;
+mod line_ends;
 mod listing;
 mod paths;
 mod program;

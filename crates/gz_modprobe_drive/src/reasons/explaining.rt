@@ -3,6 +3,7 @@ ghost use Rattle.std.specs.Prelude.{◌≡◌, IfOk, true};
 ghost use Rattle.std.specs.List.{list_all};
 ghost use Rattle.gz_modprobe_drive.specs.Told.{is_shown};
 
+use crate::kernel_list::kernel_list;
 use crate::reasons::known::Known;
 use crate::reasons::named_lines::NamedLines;
 use crate::reasons::sources::Sources;
@@ -13,7 +14,7 @@ use kmod_query::{
     Ask, Asked, AtPath, Object, OwnFile, Query, World, is_barred, is_fatal, is_passed,
 };
 use std::alloc::{AllocError, Global};
-use text_parts::is_same;
+use text_parts::{is_same, words};
 
 /// How many words of a query are names.
 fn name_count(query: &Query<'_>) -> usize {
@@ -201,7 +202,16 @@ impl Told<'_> {
         }
         self.say_hidden();
         self.say_unread();
+        self.say_line_ends();
         Ok(())
+    }
+}
+
+/// A text without a line feed at its end.
+fn without_end(text: &[u8]) -> &[u8] {
+    match text.split_last() {
+        Some((b'\n', front)) => front,
+        _ => text,
     }
 }
 
@@ -216,10 +226,12 @@ fn explained<'a>(
     ensures { IfOk result (λ lines. list_all is_shown lines.items ≡ true) }
 {
     named.add(alloc, asked.world.conf, sources.builtin)?;
+    let given = words(alloc, without_end(sources.command_line))?;
     let known = Known {
         asked,
         named,
         sources,
+        refused: kernel_list(&given),
     };
     let mut told = Told::new(alloc, &known);
     told.tell_all()?;

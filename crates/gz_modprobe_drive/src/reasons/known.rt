@@ -11,6 +11,8 @@ pub(crate) struct Known<'a> {
     pub(crate) asked: &'a Asked<'a>,
     pub(crate) named: &'a NamedLines<'a>,
     pub(crate) sources: &'a Sources<'a>,
+    /// The names of `module_blacklist=`, with commas between them.
+    pub(crate) refused: &'a [u8],
 }
 
 impl Known<'_> {

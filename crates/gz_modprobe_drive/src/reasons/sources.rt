@@ -2,13 +2,17 @@
 
 use crate::holders::Holders;
 use crate::unread::UnreadFile;
-use modprobe_files::HiddenFile;
+use modprobe_files::{HiddenFile, TextFile};
 
 /// Where a world was read from.
 #[derive(Clone, Copy)]
 pub struct Sources<'a> {
     /// The paths of the texts of the configuration, by the numbers that places of its lines have.
     pub paths: &'a [&'a [u8]],
+    /// The files of the configuration.
+    pub files: &'a [TextFile],
+    /// The text of the kernel's command line; empty if there is none.
+    pub command_line: &'a [u8],
     /// The files of the configuration that others of their names keep from being read, in the order in which they are told.
     pub hidden: &'a [HiddenFile],
     /// The files beside the configuration that are not read, in the order in which they are told.

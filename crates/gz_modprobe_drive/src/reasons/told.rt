@@ -3,6 +3,7 @@ ghost use Rattle.std.specs.Prelude.{◌≡◌, IfOk, true};
 ghost use Rattle.std.specs.List.{list_all};
 ghost use Rattle.gz_modprobe_drive.specs.Told.{is_shown};
 
+use crate::line_ends::first_cr_line;
 use crate::reasons::heads::Heads;
 use crate::reasons::known::Known;
 use crate::reasons::shown::Shown;
@@ -118,6 +119,16 @@ impl<'a> Told<'a> {
         for file in self.known.sources.hidden {
             let what = b"not read, since a file of its name comes first";
             self.say(&file.path, &[what], Spot::Whole(&file.by));
+        }
+    }
+
+    /// Tells the files of the configuration whose lines end with a carriage return.
+    pub(crate) fn say_line_ends(&mut self) {
+        for file in self.known.sources.files {
+            if let Some(number) = first_cr_line(&file.text) {
+                let what = b"a CR ends its lines, and counts as part of their last words";
+                self.say(&file.path, &[what], Spot::Line(&file.path, number));
+            }
         }
     }
 

@@ -1,5 +1,6 @@
 //! What is reported of a module: the lines that count for it, and those that do not.
 
+use crate::kernel_list::is_allowed;
 use crate::reasons::exemptions::Exemption;
 use crate::reasons::heads::Heads;
 use crate::reasons::tasks::{Part, Task, Tasks};
@@ -11,6 +12,8 @@ use kmod_names::{Place, Text};
 use kmod_query::{Ask, Object, install_line};
 use std::alloc::AllocError;
 use text_parts::is_same;
+
+const COMMAND_LINE: &[u8] = b"/proc/cmdline";
 
 /// What is reported of a line that an earlier one of its kind keeps from counting.
 pub(crate) const LATER: &[u8] = b" line does not count, since another comes first";
@@ -34,6 +37,24 @@ impl Told<'_> {
     pub(crate) fn tell_blacklist(&mut self, name: &[u8], why: &[u8]) {
         let named = self.known.named;
         self.say_of_each(name, &[b"blacklisted", why], &named.blacklist, name, None);
+    }
+
+    /// Tells that the kernel's command line keeps the kernel from loading a module.
+    fn tell_refused(&mut self, name: &[u8]) {
+        if !is_allowed(self.known.refused, name) {
+            let what = b"in module_blacklist=, so the kernel refuses it";
+            self.say(name, &[what], Spot::Line(COMMAND_LINE, 1));
+        }
+    }
+
+    /// Tells that no module has a name, by which an alias may be switched off.
+    fn tell_no_module(&mut self, name: &[u8]) {
+        let more: &[u8] = if is_same(name, b"off") {
+            b", so its alias is switched off"
+        } else {
+            b""
+        };
+        self.say(name, &[b"no module has this name", more], Spot::Nowhere);
     }
 
     /// Tells what a module needs, and answers it.
@@ -178,6 +199,9 @@ impl Told<'_> {
     ) -> Result<(), AllocError> {
         let (name, alias) = (task.name.as_slice(), task.alias.as_deref());
         self.tell_misspelt(name)?;
+        if has_file {
+            self.tell_refused(name);
+        }
         let line = install_line(self.alloc, &self.known.asked.world, name, alias)?;
         let why: &[u8] = match (is_bare, has_items) {
             (true, _) => b", passed over by -i",
@@ -191,7 +215,7 @@ impl Told<'_> {
         let named = self.known.named;
         self.tell_commands(name, b"install", line, &named.installs, why);
         if !is_loaded && !self.known.is_built_in(name, task.builtin) {
-            self.say(name, &[b"no module has this name"], Spot::Nowhere);
+            self.tell_no_module(name);
         }
         Ok(())
     }
