@@ -1,7 +1,8 @@
 -- A name stands for the modules of the list that answers it.
-use Rattle.std.proofs.Common.{◌≡◌, ℕ, Bool, true, false, cond, List, [], ◌∷◌, length, map, nat_lt, refl, sym, ◌∙◌, ap}
+use Rattle.std.proofs.Common.{◌≡◌, ℕ, Bool, true, false, true≢false, ◌||◌, cond, List, [], ◌∷◌, length, map, nat_lt, refl, sym, ◌∙◌, ap}
 use Rattle.std.proofs.lemmas.Bool.{lt-ltb}
 use Rattle.std.proofs.Math.Nat.{zero-lt-suc}
+use Rattle.kmod_query.specs.Early.{is_found_early}
 use Rattle.kmod_query.specs.Facts.{Facts}
 use Rattle.kmod_query.specs.LookUp.{by_alias, by_one_alias, by_symbol, exporting, found, is_symbol, itself, loadable, or_else}
 use Rattle.kmod_query.specs.LookUp as look
@@ -70,3 +71,13 @@ found_by-reason world name (by.Aliased lines) = refl
 found_by-reason world name by.BuiltIn = refl
 found_by-reason world name (by.AliasedBuiltIn lines) = refl
 found_by-reason world name by.Nothing = refl
+
+-- what neither of the first two lists has is answered by a later one
+pub late-reason : (facts : Facts) (name : List ℕ) → is_found_early facts name ≡ false → reason_of facts name ≡ exported_reason facts name
+late-reason facts name h = next (nat_lt 0 (length (facts.configured name))) (facts.is_loadable name) h
+  where
+    next : (has loads : Bool) → (has || loads) ≡ false
+        → cond has (configured (facts.configured name)) (cond loads (in_modules_dep (facts.path name)) (exported_reason facts name)) ≡ exported_reason facts name
+    next true loads h = absurd (true≢false h)
+    next false true h = absurd (true≢false h)
+    next false false h = refl

@@ -15,6 +15,7 @@ pub mod Removals
 pub mod Shown
 pub mod KeyOrder
 pub mod World
+pub mod Listed
 pub mod AnswerOf
 pub mod Reasons
 pub mod Order

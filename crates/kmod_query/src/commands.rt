@@ -1,7 +1,7 @@
 //! The lines of a module that have its commands.
 #![tactic(auto, unfolding(crate::specs::World::facts_of))]
 
-ghost use Rattle.std.specs.Prelude.{◌≡◌, IfOk, option_copied, option_map};
+ghost use Rattle.std.specs.Prelude.{◌≡◌, ◌&&◌, IfOk, is_none, option_copied, option_map};
 ghost use Rattle.kmod_query.specs.Commands.{install_of, is_unlisted, own_install, own_remove, remove_of};
 ghost use Rattle.kmod_query.specs.World.{facts_of, text_of};
 
@@ -16,25 +16,30 @@ fn is_unlisted(world: &World, name: &[u8], alias: Option<&[u8]>) -> bool
     alias.is_none() && world.index.find(name).is_none() && own_file(world, name, alias).is_none()
 }
 
-/// The install line by which a module was found.
+/// The install line by which a module was found. Few names have one, so modules.dep is asked last.
 fn own_install<'a>(world: &World<'a>, name: &[u8], alias: Option<&[u8]>) -> Option<&'a TextLine>
     ensures { option_map text_of (option_copied result) ≡ own_install (facts_of world.now) name.now (option_map (λ own. own.now) alias.entry) }
 {
-    if is_unlisted(world, name, alias) {
-        world.conf.install_named(name)
-    } else {
-        None
+    match world.conf.install_named(name) {
+        Some(line) if is_unlisted(world, name, alias) => Some(line),
+        _ => None,
     }
+}
+
+/// Whether a remove line of just its name is that by which a module was found.
+fn is_own_remove(world: &World, name: &[u8], alias: Option<&[u8]>) -> bool
+    ensures { result ≡ (is_unlisted (facts_of world.now) name.now (option_map (λ own. own.now) alias.entry) && is_none ((facts_of world.now).install_named name.now)) }
+{
+    is_unlisted(world, name, alias) && world.conf.install_named(name).is_none()
 }
 
 /// The remove line by which a module was found, if no install line has its name.
 fn own_remove<'a>(world: &World<'a>, name: &[u8], alias: Option<&[u8]>) -> Option<&'a TextLine>
     ensures { option_map text_of (option_copied result) ≡ own_remove (facts_of world.now) name.now (option_map (λ own. own.now) alias.entry) }
 {
-    if is_unlisted(world, name, alias) && world.conf.install_named(name).is_none() {
-        world.conf.remove_named(name)
-    } else {
-        None
+    match world.conf.remove_named(name) {
+        Some(line) if is_own_remove(world, name, alias) => Some(line),
+        _ => None,
     }
 }
 

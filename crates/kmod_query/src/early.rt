@@ -5,29 +5,18 @@ ghost use Rattle.std.specs.Prelude.{◌≡◌, ◌&&◌, IfOk};
 ghost use Rattle.std.specs.List.{list_all, list_any};
 ghost use Rattle.text_parts.specs.Text.{texts_of};
 ghost use Rattle.kmod_names.specs.Names.{name_of_path, normal_alias};
-ghost use Rattle.kmod_query.specs.Early.{has_words, is_early, is_early_by, is_early_first, is_early_name, is_early_word, is_found_early, loads, stands_alone};
+ghost use Rattle.kmod_query.specs.Early.{has_words, is_early, is_early_by, is_early_first, is_early_name, is_early_word, loads, stands_alone};
 ghost use Rattle.kmod_query.specs.Early.{are_plain, is_plain_first, is_plain_word, is_symbolless};
 ghost use Rattle.kmod_query.specs.Objects.{by_name, names_of, object_of, objects_of};
 ghost use Rattle.kmod_query.specs.World.{facts_of};
 
-use crate::look_up::found;
+use crate::look_up::early_list;
 use crate::object::Object;
 use crate::paths::AtPath;
 use crate::query::{Ask, Query};
 use crate::world::{World, at_path, needs_of};
 use kmod_names::{name_of_path, normal_alias};
 use std::alloc::{AllocError, Global};
-
-/// Whether a name is an alias of the configuration or a module of modules.dep.
-fn is_found_early(alloc: Global, world: &World, name: &[u8]) -> Result<bool, AllocError>
-    ensures { IfOk result (λ is_found. is_found ≡ is_found_early (facts_of world.now) name.now) }
-{
-    let entries = world.conf.matching_aliases(alloc, name)?;
-    if entries.len() > 0 {
-        return Ok(true);
-    }
-    Ok(world.index.find(name).is_some())
-}
 
 /// Whether a softdep line has words before or after a module.
 fn has_words(alloc: Global, world: &World, name: &[u8]) -> Result<bool, AllocError>
@@ -80,10 +69,10 @@ fn stand_alone(alloc: Global, world: &World, objects: &[Object]) -> Result<bool,
 fn is_early_name(alloc: Global, world: &World, name: &[u8]) -> Result<bool, AllocError>
     ensures { IfOk result (λ is_early. is_early ≡ is_early_name (facts_of world.now) name.now) }
 {
-    if !is_found_early(alloc, world, name)? {
+    let Some(finding) = early_list(alloc, world, name)? else {
         return Ok(false);
-    }
-    let objects = found(alloc, world, name)?;
+    };
+    let objects = finding.objects(alloc, name)?;
     stand_alone(alloc, world, &objects)
 }
 

@@ -3,14 +3,15 @@ ghost use Rattle.std.specs.Prelude.{◌≡◌, ◌++◌, ◌∷◌, [], ℕ, Boo
 ghost use Rattle.std.specs.List.{flat_map, list_any};
 ghost use Rattle.text_parts.specs.Text.{texts_of};
 ghost use Rattle.kmod_query.specs.AnswerOf.{answer_of};
-ghost use Rattle.kmod_query.specs.Early.{is_early, is_symbolless};
+ghost use Rattle.kmod_query.specs.Early.{is_early, is_symbolless, loads};
 ghost use Rattle.kmod_query.specs.Facts.{Facts};
-ghost use Rattle.kmod_query.specs.Lines.{load_line};
+ghost use Rattle.kmod_query.specs.Lines.{is_live, load_line};
 ghost use Rattle.kmod_query.specs.Loading.{answer_names, is_barred, load};
 ghost use Rattle.kmod_query.specs.Objects.{Object, by_name};
 ghost use Rattle.kmod_query.specs.Order.{StandInOrder, is_done};
 ghost use Rattle.kmod_query.specs.Paths.{own_of};
 ghost use Rattle.kmod_query.specs.Probes.{first_tasks, probe_list, step_limit};
+ghost use Rattle.kmod_query.specs.States.{status_in};
 ghost use Rattle.kmod_query.specs.World.{facts_of};
 ghost use Rattle.kmod_query.specs.declared.query.Ask.TheVariants.{ShowDepends};
 ghost use Rattle.kmod_query.specs.declared.query.Query.{Query};
@@ -22,6 +23,16 @@ pub fn show_depends_ignores_states()
     ensures { (one other : World) (query : Query) → query.ask ≡ ShowDepends
         → one.conf.now ≡ other.conf.now → one.index.now ≡ other.index.now → one.directory.now ≡ other.directory.now
         → one.paths.now ≡ other.paths.now → own_of one.own ≡ own_of other.own
+        → answer_of one query ≡ answer_of other query }
+{}
+
+/// Of the states of modules a load or a look-up asks only which are live: worlds with the same configuration, texts, folder,
+/// files at paths and live modules answer the same.
+pub fn only_live_modules_count()
+    ensures { (one other : World) (query : Query) → loads query.ask ≡ true
+        → one.conf.now ≡ other.conf.now → one.index.now ≡ other.index.now → one.directory.now ≡ other.directory.now
+        → one.paths.now ≡ other.paths.now → own_of one.own ≡ own_of other.own
+        → ((name : List ℕ) → is_live (status_in one.states.now name) ≡ is_live (status_in other.states.now name))
         → answer_of one query ≡ answer_of other query }
 {}
 

@@ -11,6 +11,7 @@ mod fronts;
 mod key_order;
 mod laws;
 mod lines;
+mod listed;
 mod loaded_names;
 mod loading;
 mod look_up;
@@ -37,7 +38,8 @@ pub use early::{is_early, is_symbolless};
 pub use finding::Finding;
 pub use laws::{
     blacklisted_modules_are_not_loaded, hard_needs_come_first, later_texts_do_not_count,
-    names_are_answered_in_turn, show_depends_ignores_states, symbols_do_not_count,
+    names_are_answered_in_turn, only_live_modules_count, show_depends_ignores_states,
+    symbols_do_not_count,
 };
 pub use loading::{is_barred, is_passed};
 pub use look_up::find_name;

@@ -3,10 +3,12 @@ ghost use Rattle.std.specs.Prelude.{◌≡◌, ◌++◌, ◌∷◌, [], fold, ma
 ghost use Rattle.kmod_query.specs.Facts.{Facts};
 ghost use Rattle.kmod_query.specs.Lines.{command_of, has_soft_items, is_built_in, is_commandless, is_in_kernel, is_live};
 ghost use Rattle.kmod_query.specs.Lines.{joined, line, line_by, load_line, option_text, own_parameters};
+ghost use Rattle.kmod_query.specs.Listed.{AreListed};
 ghost use Rattle.kmod_query.specs.Objects.{alias_of, object_of};
 ghost use Rattle.kmod_query.specs.World.{facts_of, text_of};
 
 use crate::commands::{install_line, text_in};
+use crate::listed::Listed;
 use crate::object::Object;
 use crate::parameters::push_joined;
 use crate::states::{ModuleState, ModuleStatus};
@@ -134,23 +136,24 @@ pub(crate) fn name_line(alloc: Global, front: &[u8], name: &[u8]) -> Result<Vec<
     Ok(text)
 }
 
-/// The line by the command, the file, and whether it is built in; empty if there is nothing to say.
+/// The line by the command and the file. Without these it is that of a built-in, or empty.
 fn line_by(
     alloc: Global,
+    world: &World,
+    object: &Object,
     command: Option<&[u8]>,
     path: Option<Vec<u8>>,
-    builtin: bool,
-    name: &[u8],
     options: &[u8],
 ) -> Result<Vec<u8>, AllocError>
-    ensures { IfOk result (λ text. text.items ≡ line_by (option_copied command.entry) (alias_of path) builtin name.now options.now) }
+    ensures { IfOk result (λ text. text.items ≡ line_by (option_copied command.entry) (alias_of path)
+        (is_built_in (facts_of world.now) (object_of object.now)) (object_of object.now).name options.now) }
 {
     match (command, path) {
         (Some(command), _) => line(alloc, b"install ", command, options),
         (None, Some(path)) => line(alloc, b"insmod ", &path, options),
         (None, None) => {
-            if builtin {
-                return name_line(alloc, b"builtin ", name);
+            if is_built_in(world, object) {
+                return name_line(alloc, b"builtin ", &object.name);
             }
             Ok(Vec::new(alloc))
         }
@@ -168,26 +171,27 @@ fn own_parameters<'a>(top: &Object, object: &Object, parameters: &'a [u8]) -> &'
 }
 
 /// The line of an object in the load of another; `has_soft` says whether it has soft items.
-pub(crate) fn load_line(
+pub(crate) fn load_line<'a>(
     alloc: Global,
-    world: &World,
+    world: &World<'a>,
+    listed: &Listed<'a>,
     bare: bool,
     parameters: &[u8],
     top: &Object,
     object: &Object,
     has_soft: bool,
 ) -> Result<Vec<u8>, AllocError>
-    requires { has_soft ≡ has_soft_items (facts_of world.now) (object_of object.now).name }
+    requires soft { has_soft ≡ has_soft_items (facts_of world.now) (object_of object.now).name }
+    requires listed { AreListed world.now.index.now.dependencies listed.now }
     ensures { IfOk result (λ text. text.items ≡ load_line (facts_of world.now) bare parameters.now (object_of top.now) (object_of object.now)) }
 {
     let command = command_of(alloc, world, bare, top, object, has_soft)?;
-    let path = path_of(alloc, world, object)?;
+    let path = path_of(alloc, world, listed, object)?;
     let options = option_text(
         alloc,
         world,
         object,
         own_parameters(top, object, parameters),
     )?;
-    let builtin = is_built_in(world, object);
-    line_by(alloc, command, path, builtin, &object.name, &options)
+    line_by(alloc, world, object, command, path, &options)
 }

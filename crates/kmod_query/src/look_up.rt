@@ -1,7 +1,8 @@
 //! Which list has a name, and which modules it stands for.
 #![tactic(auto, unfolding(crate::specs::World::facts_of))]
 
-ghost use Rattle.std.specs.Prelude.{◌≡◌, map, IfOk};
+ghost use Rattle.std.specs.Prelude.{◌≡◌, map, IfOk, IfSome, is_some};
+ghost use Rattle.kmod_query.specs.Early.{is_found_early};
 ghost use Rattle.kmod_query.specs.LookUp.{found, look_up, look_up_each};
 ghost use Rattle.kmod_query.specs.Objects.{objects_of};
 ghost use Rattle.kmod_query.specs.Probes.{after_of, before_of};
@@ -66,18 +67,33 @@ fn exported_list<'a>(
     aliased_list(alloc, world, name)
 }
 
+/// The first of the configuration's aliases and modules.dep that has a name; None if neither has it.
+pub(crate) fn early_list<'a>(
+    alloc: Global,
+    world: &World<'a>,
+    name: &[u8],
+) -> Result<Option<Finding<'a>>, AllocError>
+    ensures early { IfOk result (λ own. is_some own ≡ is_found_early (facts_of world.now) name.now) }
+    ensures list { IfOk result (λ own. IfSome own (λ finding. said_by world.now finding ≡ reason_of (facts_of world.now) name.now)) }
+{
+    let entries = world.conf.matching_aliases(alloc, name)?;
+    if entries.len() > 0 {
+        return Ok(Some(Finding::Configured(entries)));
+    }
+    match world.index.find(name) {
+        Some(line) => Ok(Some(Finding::Module(line))),
+        None => Ok(None),
+    }
+}
+
 /// The first list that has a name.
 fn first_list<'a>(alloc: Global, world: &World<'a>, name: &[u8]) -> Result<Finding<'a>, AllocError>
     ensures { IfOk result (λ finding. said_by world.now finding ≡ reason_of (facts_of world.now) name.now) }
 {
-    let entries = world.conf.matching_aliases(alloc, name)?;
-    if entries.len() > 0 {
-        return Ok(Finding::Configured(entries));
+    match early_list(alloc, world, name)? {
+        Some(finding) => Ok(finding),
+        None => exported_list(alloc, world, name),
     }
-    if let Some(line) = world.index.find(name) {
-        return Ok(Finding::Module(line));
-    }
-    exported_list(alloc, world, name)
 }
 
 /// The first list that has a name in normal form, in the order in which `answer_to` looks it up (modprobe(8)). The name

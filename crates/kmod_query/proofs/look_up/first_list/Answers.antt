@@ -1,16 +1,11 @@
-use Rattle.std.proofs.Common.{arith}
-use Rattle.std.proofs.lemmas.Grind.{common_steps}
+use Rattle.std.proofs.Common.{◌∙◌, ap, sym, is_some}
 use Rattle.kmod_query.specs.World.{facts_of}
+use Rattle.kmod_query.proofs.ReasonLemmas.{late-reason}
+use Rattle.kmod_query.proofs.TextLemmas.{IfOk-map}
 use Rattle.kmod_query.proofs.look_up.first_list.Goals as goal
 
-pub returns-then-len-gt0 : goal.returns-then-len-gt0
-unfolding facts_of
-returns-then-len-gt0 c = grind (arith, common_steps)
-
-pub returns-in-Some : goal.returns-in-Some
-unfolding facts_of
-returns-in-Some c = grind (arith, common_steps)
-
-pub returns : goal.returns
-unfolding facts_of
-returns c = grind (arith, common_steps)
+pub returns-in-None : goal.returns-in-None
+returns-in-None c =
+    IfOk-map c.exported_list.result
+    (λ finding e. e ∙ sym (late-reason (facts_of c.args.world.now) c.args.name.now (sym c.in_ok-finding.ensures.early ∙ ap is_some c.in-None.is)))
+    c.exported_list.ensures
