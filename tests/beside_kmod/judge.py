@@ -146,7 +146,7 @@ class Judge:
         """Where this world is kept; it is written there at its first difference."""
         if self.kept is None:
             self.keep = self.keep or Path(tempfile.mkdtemp(prefix="kmod-differences-"))
-            self.kept = self.keep / re.sub(r"\W+", "-", self.name)
+            self.kept = self.keep / re.sub(r"\W+", "-", f"{self.version} {self.name}")
             write_files(self.kept, files_below(self.stage.root))
         return self.kept
 
