@@ -43,8 +43,9 @@ pub fn sessions_are_functions_of_their_input<R: Source, W: Sink>(
 }
 
 /// However a session stops before the end of its input, what was written is a beginning of the output that belongs to the
-/// input. So no fault has it write anything else, and if the input has no setup nothing is written. One that does not stop has
-/// read all, and written all of it.
+/// input. So no fault has it write anything else, and if the input has no setup nothing is written. It stops for the reason
+/// that it returns: the input has such a fault, or that stream has failed. One that does not stop has read all, and written
+/// all of it.
 ///
 /// Premises: those of the sentence above.
 pub fn stopped_sessions_wrote_a_beginning<R: Source, W: Sink>(
@@ -61,6 +62,10 @@ pub fn stopped_sessions_wrote_a_beginning<R: Source, W: Sink>(
     ensures output { OnOk result (IfTold (R.remaining reader.old) (λ input.
         (bytes : List ℕ) × (output workers input ≡ Some bytes) × Appends (W.contents writer.old) (W.contents writer.new) bytes)) }
     ensures all_read { OnOk result (IsAtEnd (R.remaining reader.new)) }
+    ensures stands { IfErr result (λ fault. ServeStands workers fault (R.remaining reader.old) (R.remaining reader.new)
+        (W.contents writer.old) (W.contents writer.new)) }
+    ensures read { R.has_failed reader.new ≡ failed_reading result }
+    ensures write { W.has_failed writer.new ≡ failed_writing result }
 {
     sessions_are_functions_of_their_input(alloc, workers, reader, writer)
 }
