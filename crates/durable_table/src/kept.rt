@@ -33,6 +33,7 @@ impl<'s, H: Holders, D: Renewable> DurableTable<'s, H, D> {
         requires reads { Reads D.content self.old.session.setup.now (holding (H.table self.old.session.holders) (H.names self.old.session.holders)) self.old.journal }
         ensures reads { result ≡ Ok CaughtUp.Ready → Reads D.content self.old.session.setup.now (holding (H.table self.new.session.holders) (H.names self.new.session.holders)) self.new.journal }
         ensures anew { result ≡ Ok CaughtUp.Anew → ContinuesSealed (D.content self.old.journal.device) (D.content self.new.journal.device) → ⊥ }
+        ensures writes { D.writes self.new.journal.device ≡ D.writes self.old.journal.device }
         ensures setup { self.new.session.setup ≡ self.old.session.setup }
         ensures faults { TellsFaults (D.faults self.old.journal.device) (D.faults self.new.journal.device) result }
     {

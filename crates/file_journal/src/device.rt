@@ -67,6 +67,8 @@ pub struct FileDevice<R: Files + Drop> {
     faults: u64,
     /// Why the first of them failed.
     fault: Option<FileFault>,
+    /// How many calls have written, cut or replaced, or were to; 2^64 - 1 at most.
+    writes: u64,
 }
 
 impl<R: Files + Drop> FileDevice<R> {
@@ -118,6 +120,7 @@ impl<R: Files + Drop> FileDevice<R> {
             belief: Belief::new(alloc, bytes),
             faults: 0,
             fault: None,
+            writes: 0,
         }
     }
 
@@ -126,6 +129,7 @@ impl<R: Files + Drop> FileDevice<R> {
         requires { kept ≤ length self.old.belief.bytes.items }
         ensures renewed { IfOk result (IsRenewedTo kept self.old.belief self.new.belief) }
         ensures faults { self.new.faults ≡ self.old.faults }
+        ensures writes { self.new.writes ≡ self.old.writes }
     {
         if !self.disk.is_there(kept)? {
             self.disk.reopen()?;
@@ -147,6 +151,7 @@ impl<R: Files + Drop> FileDevice<R> {
     /// Notes that a call failed.
     fn fail(&mut self, fault: FileFault) -> DeviceError
         ensures belief { self.new.belief ≡ self.old.belief }
+        ensures writes { self.new.writes ≡ self.old.writes }
         ensures later { self.old.faults ≤ self.new.faults }
         ensures failed { result ≡ Failed → self.old.faults < self.new.faults }
         ensures fails { self.new.fault ≢ None }
@@ -164,6 +169,7 @@ impl<R: Files + Drop> FileDevice<R> {
     /// After a call that failed each further one fails.
     fn refuse_failed(&mut self) -> Result<(), DeviceError>
         ensures belief { self.new.belief ≡ self.old.belief }
+        ensures writes { self.new.writes ≡ self.old.writes }
         ensures ok { OnOk result (self.new.faults ≡ self.old.faults) }
         ensures later { self.old.faults ≤ self.new.faults }
         ensures failed { IsErrOf result Failed → self.old.faults < self.new.faults }
@@ -181,6 +187,8 @@ impl<R: Files + Drop> Device for FileDevice<R> {
     ghost history = { λ file. history_of file.belief };
 
     ghost faults = { λ file. file.faults };
+
+    ghost writes = { λ file. file.writes };
 
     ghost kill_leaves = { λ file. inl refl };
 
@@ -201,6 +209,7 @@ impl<R: Files + Drop> Device for FileDevice<R> {
 
     fn write_at(&mut self, place: usize, bytes: &[u8]) -> Result<(), DeviceError> {
         self.refuse_failed()?;
+        self.writes = self.writes.saturating_add(1);
         self.belief.write(place, bytes)?;
         match self.disk.write(place, bytes) {
             Ok(()) => Ok(()),
@@ -210,6 +219,7 @@ impl<R: Files + Drop> Device for FileDevice<R> {
 
     fn cut(&mut self, size: usize) -> Result<(), DeviceError> {
         self.refuse_failed()?;
+        self.writes = self.writes.saturating_add(1);
         self.belief.cut(size)?;
         match self.disk.cut(size) {
             Ok(()) => Ok(()),
@@ -228,6 +238,7 @@ impl<R: Files + Drop> Device for FileDevice<R> {
     fn replace(&mut self, bytes: &[u8]) -> Result<(), DeviceError> {
         self.refuse_failed()?;
         let next = bytes.to_vec(self.alloc)?;
+        self.writes = self.writes.saturating_add(1);
         match self.disk.replace(bytes) {
             Ok(()) => Ok(self.belief.replace(next)?),
             Err(fault) => {
@@ -249,6 +260,7 @@ impl<R: Files + Drop> Renewable for FileDevice<R> {
         ensures renewed { IfOk result (IsRenewedTo kept self.old.belief self.new.belief) }
         ensures works { OnOk result (self.new.fault ≡ None) }
         ensures fails { OnErr result (self.new.fault ≢ None) }
+        ensures writes { self.new.writes ≡ self.old.writes }
         ensures faults { TellsFaults self.old.faults self.new.faults result }
     {
         match self.read_anew(kept) {

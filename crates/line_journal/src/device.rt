@@ -51,12 +51,16 @@ pub trait Device {
     /// How many calls have failed.
     ghost faults: { Self → ℕ };
 
+    /// How many calls have written, cut or replaced, or were to. No other call changes it.
+    ghost writes: { Self → ℕ };
+
     /// The bytes from `place` on.
     fn read_from(&mut self, alloc: Global, place: usize) -> Result<Vec<u8>, DeviceError>
         requires { place ≤ length (content self.old) }
         ensures bytes { IfOk result (λ bytes. bytes.items ≡ drop place (content self.old)) }
         ensures fits { OnOk result (length (content self.old) < 2 ^ 64) }
         ensures content { content self.new ≡ content self.old }
+        ensures writes { writes self.new ≡ writes self.old }
         ensures crash { Goes Unchanged (history self.old) (history self.new) }
         ensures faults { TellsFaults (faults self.old) (faults self.new) result };
 
@@ -79,6 +83,7 @@ pub trait Device {
     fn sync(&mut self) -> Result<(), DeviceError>
         ensures on_disk { OnOk result (IsOnDisk (content self.old) (history self.new)) }
         ensures content { content self.new ≡ content self.old }
+        ensures writes { writes self.new ≡ writes self.old }
         ensures crash { Goes Unchanged (history self.old) (history self.new) }
         ensures faults { TellsFaults (faults self.old) (faults self.new) result };
 

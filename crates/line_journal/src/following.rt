@@ -26,6 +26,7 @@ impl<D: Renewable> Journal<D> {
     pub fn follow(&mut self, alloc: Global) -> Result<Followed, DeviceError>
         requires read { IsRead D.content self.old }
         ensures followed { IfOk result (IsFollowed D.content self.old self.new) }
+        ensures writes { D.writes self.new.device ≡ D.writes self.old.device }
         ensures faults { TellsFaults (D.faults self.old.device) (D.faults self.new.device) result }
     {
         match self.device.renew(self.end)? {
@@ -40,6 +41,7 @@ impl<D: Renewable> Journal<D> {
         requires within { self.old.end ≤ length (D.content self.old.device) }
         requires whole { IsWhole (take self.old.end (D.content self.old.device)) }
         ensures added { IfOk result (IsAdded D.content self.old self.new) }
+        ensures writes { D.writes self.new.device ≡ D.writes self.old.device }
         ensures faults { TellsFaults (D.faults self.old.device) (D.faults self.new.device) result }
     {
         let found = peek_from(alloc, &mut self.device, self.end)?;

@@ -2,6 +2,7 @@ ghost use Rattle.std.specs.Prelude.{◌≡◌, [], ◌∷◌, ◌++◌, ◌≤�
 ghost use Rattle.line_journal.specs.Device.{overwritten};
 ghost use Rattle.std.proofs.Common.{refl};
 ghost use Rattle.line_journal.specs.Past.{kill_history};
+ghost use Rattle.line_journal.specs.KillOnly.{writes_of};
 
 use crate::{Device, DeviceError};
 use std::alloc::{AllocError, Global};
@@ -67,6 +68,8 @@ impl Device for KillOnly {
     ghost history = { λ file. kill_history file.past.items file.bytes.items };
 
     ghost faults = { λ _. 0 };
+
+    ghost writes = { writes_of };
 
     ghost kill_leaves = { λ _. refl };
 

@@ -1,5 +1,5 @@
 //! A file that other processes write to as well.
-ghost use Rattle.std.specs.Prelude.{◌≤◌, length, IfOk};
+ghost use Rattle.std.specs.Prelude.{◌≡◌, ◌≤◌, length, IfOk};
 ghost use Rattle.line_journal.specs.Device.{TellsFaults};
 ghost use Rattle.line_journal.specs.Renewed.{IsRenewed};
 
@@ -19,9 +19,10 @@ pub enum Renewed {
 /// A file that other processes write to as well, one process at a time. They add to it, or put another file in its place.
 pub trait Renewable: Device {
     /// Looks at what others have made of the file since this process had its turn. The first `kept` bytes are those that
-    /// are to stay. What was read anew may not be on the disk yet.
+    /// are to stay. What was read anew may not be on the disk yet. Nothing is written.
     fn renew(&mut self, kept: usize) -> Result<Renewed, DeviceError>
         requires within { kept ≤ length (Self.content self.old) }
         ensures renewed { IfOk result (IsRenewed kept (Self.content self.old) (Self.content self.new)) }
+        ensures writes { Self.writes self.new ≡ Self.writes self.old }
         ensures faults { TellsFaults (Self.faults self.old) (Self.faults self.new) result };
 }

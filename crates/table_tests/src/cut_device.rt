@@ -2,7 +2,7 @@
 ghost use Rattle.std.specs.Prelude.{◌≡◌};
 ghost use Rattle.std.proofs.Common.{refl};
 ghost use Rattle.line_journal.specs.Device.{TellsFaults};
-ghost use Rattle.line_journal.specs.KillOnly.{held_by, history_of};
+ghost use Rattle.line_journal.specs.KillOnly.{held_by, history_of, writes_of};
 
 use line_journal::{Device, DeviceError, KillOnly};
 use std::alloc::Global;
@@ -65,6 +65,8 @@ impl Device for CutDevice {
     ghost history = { λ device. history_of device.file };
 
     ghost faults = { λ device. device.faults };
+
+    ghost writes = { λ device. writes_of device.file };
 
     ghost kill_leaves = { λ _. refl };
 
