@@ -79,7 +79,7 @@ abbrev pub weakdep_entry : Place → List ℕ → Option Entry
 weakdep_entry place text =
     option_map (λ line. Weakdep (record { name = line.name; items = weak_words line.text; place = line.place })) (text_line place text)
 
--- a line of weak dependencies is a bad one where they are not known
+-- a line of weak dependencies is a bad one if they are not known
 abbrev pub dependency_entry : Kmod → Place → List ℕ → List ℕ → Option Entry
 dependency_entry kmod place w text =
     if bytes_eq w (codes "softdep") then softdep_entry place text

@@ -28,7 +28,7 @@ Queries:
 
 Options of queries:
   -a, --all                   Each word is the name of a module
-      --first-time            Fail where a module is loaded, or removed, already
+      --first-time            Fail if a module is loaded, or removed, already
   -i, --ignore-install, --ignore-remove
                               Pass over install and remove lines
   -b, --use-blacklist         The blacklist counts for names too
