@@ -6,7 +6,8 @@ refuse() {
 }
 
 # Reads the words of a tool. It sets from to where what is installed comes from: a proof, a build without one (unproved), an
-# earlier run (built), or nothing, if it is to be removed. It sets wanted to PREFIX as it was given.
+# earlier run (built), or nothing, if it is to be removed. It sets wanted to PREFIX as it was given, and named to the words
+# that follow.
 read_words() {
   from=proof
   case "${1:-}" in
@@ -15,8 +16,8 @@ read_words() {
   --uninstall) from=nothing; shift ;;
   esac
   case "${1:-}" in '' | -*) usage >&2; exit 2 ;; esac
-  [ $# = 1 ] || { usage >&2; exit 2; }
   wanted=$1
+  named=("${@:2}")
 }
 
 # Removes files below a folder, and the folders that are then empty, up to that one.
