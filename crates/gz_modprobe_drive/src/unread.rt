@@ -1,34 +1,14 @@
 //! Files beside the configuration that are not read, and why.
 ghost use Rattle.std.specs.Prelude.{◌≡◌};
-ghost use Rattle.text_parts.specs.Text.{texts_of};
-ghost use Rattle.modprobe_files.specs.Files.{is_read};
-ghost use Rattle.modprobe_files.specs.Folders.{paths_by_rank};
 ghost use Rattle.gz_modprobe_drive.specs.Unread.{unread_by, unread_name};
 
 use crate::listing::names_of;
 use kmod_version::Kmod;
-use modprobe_files::{Host, Kind, System, joined};
+use modprobe_files::{Host, Kind, System, is_read, joined, paths_by_rank};
 use std::alloc::AllocError;
 use text_parts::is_same;
 
 const LIB: &[u8] = b"/lib/modprobe.d";
-
-/// The folders of modprobe.d(5), by their rank.
-const FOLDERS: [&[u8]; 5] = [
-    b"/etc/modprobe.d",
-    b"/run/modprobe.d",
-    b"/usr/local/lib/modprobe.d",
-    b"/usr/lib/modprobe.d",
-    LIB,
-];
-
-/// The same, without the distribution's own.
-const OLD_FOLDERS: [&[u8]; 4] = [
-    b"/etc/modprobe.d",
-    b"/run/modprobe.d",
-    b"/usr/local/lib/modprobe.d",
-    LIB,
-];
 
 /// What old kernels' tools read in place of the folders.
 const OUTSIDE: &[u8] = b"/etc/modprobe.conf";
@@ -53,31 +33,6 @@ pub enum Unread {
 pub struct UnreadFile {
     pub path: Vec<u8>,
     pub reason: Unread,
-}
-
-/// The paths of the configuration by their rank: those that were named, or the folders of modprobe.d(5).
-fn paths_by_rank<'a>(kmod: Kmod, named: &'a [&'a [u8]]) -> &'a [&'a [u8]]
-    ensures { texts_of result.now ≡ paths_by_rank kmod (texts_of named.entry.now) }
-{
-    if !named.is_empty() {
-        named
-    } else if kmod.reads_usr_lib() {
-        &FOLDERS
-    } else {
-        &OLD_FOLDERS
-    }
-}
-
-/// Whether a name of a folder is that of a file which is read.
-fn is_read(kmod: Kmod, name: &[u8]) -> bool
-    ensures { result ≡ is_read kmod name.now }
-{
-    if name.starts_with(b".") {
-        return false;
-    }
-    let is_conf = name.len() > 5 && is_same(&name[name.len() - 5..], b".conf");
-    let is_alias = name.len() > 6 && is_same(&name[name.len() - 6..], b".alias");
-    is_conf || kmod.reads_alias_files() && is_alias
 }
 
 /// Why a name is not that of a file which is read.

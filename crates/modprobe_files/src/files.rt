@@ -41,8 +41,9 @@ fn is_alias_file(name: &[u8]) -> bool
     !name.starts_with(b".") && name.len() > 6 && is_same(&name[name.len() - 6..], b".alias")
 }
 
-/// Whether a name of a folder is that of a file which is read.
-pub(crate) fn is_read(kmod: Kmod, name: &[u8]) -> bool
+/// Whether a name of a folder is that of a file which this version of kmod reads: it ends in `.conf`, has a byte before
+/// that, and is not hidden (modprobe.d(5)). Some versions read `.alias` alike.
+pub fn is_read(kmod: Kmod, name: &[u8]) -> bool
     ensures { result ≡ is_read kmod name.now }
 {
     counts(name) || kmod.reads_alias_files() && is_alias_file(name)

@@ -17,10 +17,11 @@ mod whole_files;
 
 pub use disk::Disk;
 pub use faults::{is_rootless, reason, tell_folder, tell_unread};
-pub use files::{File, Name, Source, counted_files};
+pub use files::{File, Name, Source, counted_files, is_read};
 pub use host::{Host, joined};
 pub use laws::hidden_files_do_not_count;
 pub use machine::{absolute_path, directory, read_configuration, read_later, read_modules};
+pub use sources::paths_by_rank;
 pub use system::{Entry, Kind, Place, System};
-pub use texts::{ConfTexts, HiddenFile, LaterTexts, ModuleTexts, TextFile};
+pub use texts::{COMMAND_LINE, ConfTexts, HiddenFile, LaterTexts, ModuleTexts, TextFile};
 pub use walk::{Resolved, resolve};

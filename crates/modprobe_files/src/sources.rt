@@ -29,8 +29,9 @@ const FOLDERS: [&[u8]; 4] = [ETC, RUN, LOCAL, LIB];
 /// The same, with the distribution's own.
 const FOLDERS_WITH_USR_LIB: [&[u8]; 5] = [ETC, RUN, LOCAL, USR_LIB, LIB];
 
-/// The paths of a configuration by their rank: those that were named, or the folders of modprobe.d(5).
-fn paths_by_rank<'a>(kmod: Kmod, named: &'a [&'a [u8]]) -> &'a [&'a [u8]]
+/// The paths of a configuration by their rank, as this version of kmod searches them: those that were named, or else the
+/// folders of modprobe.d(5). Of files of one name that of the first path counts.
+pub fn paths_by_rank<'a>(kmod: Kmod, named: &'a [&'a [u8]]) -> &'a [&'a [u8]]
     ensures { texts_of result.now ≡ paths_by_rank kmod (texts_of named.entry.now) }
 {
     if !named.is_empty() {

@@ -6,8 +6,8 @@ ghost use Rattle.modprobe_files.specs.Paths.{path_at, paths_of};
 use kmod_version::Kmod;
 use std::alloc::{AllocError, Global};
 
-/// Where the kernel keeps its command line.
-pub(crate) const COMMAND_LINE: &[u8] = b"/proc/cmdline";
+/// Where the kernel keeps its command line (proc(5)).
+pub const COMMAND_LINE: &[u8] = b"/proc/cmdline";
 
 /// A file of the configuration.
 #[derive(Drop)]

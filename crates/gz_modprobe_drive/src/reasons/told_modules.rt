@@ -10,10 +10,9 @@ use crate::sys::MODULES;
 use kmod_conf::TextLine;
 use kmod_names::{Place, Text};
 use kmod_query::{Ask, Object, install_line};
+use modprobe_files::COMMAND_LINE;
 use std::alloc::AllocError;
 use text_parts::is_same;
-
-const COMMAND_LINE: &[u8] = b"/proc/cmdline";
 
 /// What is reported of a line that an earlier one of its kind keeps from counting.
 pub(crate) const LATER: &[u8] = b" line does not count, since another comes first";
