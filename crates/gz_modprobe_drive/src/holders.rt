@@ -1,10 +1,8 @@
 //! Which modules hold a module, as /sys/module has them (sysfs(5)).
-ghost use Rattle.std.specs.Prelude.{◌≡◌};
-ghost use Rattle.gz_modprobe_drive.specs.Evidence.{is_used};
 
 use crate::listing::names_of;
 use crate::sys::MODULES;
-use kmod_query::{ModuleStatus, States};
+use kmod_query::{States, has_users};
 use modprobe_files::{Host, System, joined};
 use std::alloc::AllocError;
 
@@ -16,21 +14,6 @@ pub struct Holders {
     pub folder: Vec<u8>,
     /// Their names, in the order of the bytes.
     pub names: Vec<Vec<u8>>,
-}
-
-/// Whether anything uses a module, as far as that is known.
-fn is_used(status: Option<ModuleStatus>) -> bool
-    ensures { result ≡ is_used status }
-{
-    match status {
-        Some(
-            ModuleStatus {
-                users: Some(users),
-                ..
-            },
-        ) => users > 0,
-        _ => false,
-    }
 }
 
 /// Adds who holds a module, if that can be listed.
@@ -61,7 +44,7 @@ pub(crate) fn read_holders<S: System>(
     let mut holders = Vec::new(host.alloc());
     let modules = names_of(host, MODULES)?;
     for name in modules.as_deref().unwrap_or(&[]) {
-        if is_used(states.of(name)) {
+        if has_users(states.of(name)) {
             add_holders(host, name, &mut holders)?;
         }
     }

@@ -72,6 +72,7 @@ abbrev pub has_users_by : Option ℕ → Bool
 has_users_by None = false
 has_users_by (Some users) = nat_lt 0 users
 
+-- whether anything uses a module, as far as that is known
 abbrev pub has_users : Option ModuleStatus → Bool
 has_users None = false
 has_users (Some status) = has_users_by status.users

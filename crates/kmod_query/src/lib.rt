@@ -46,6 +46,6 @@ pub use look_up::find_name;
 pub use object::Object;
 pub use paths::{AtPath, OwnFile, PathWord};
 pub use query::{Ask, Query};
-pub use removal_check::{Verdict, is_fatal, is_in_use, judge};
+pub use removal_check::{Verdict, has_users, is_fatal, is_in_use, judge};
 pub use states::{ModuleState, ModuleStatus, States};
 pub use world::World;

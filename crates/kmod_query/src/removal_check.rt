@@ -71,7 +71,8 @@ fn is_absent(status: Option<ModuleStatus>) -> bool
     }
 }
 
-fn has_users(status: Option<ModuleStatus>) -> bool
+/// Whether anything uses a module, as far as that is known: its count is known, and is not 0.
+pub fn has_users(status: Option<ModuleStatus>) -> bool
     ensures { result ≡ has_users status }
 {
     match status {
