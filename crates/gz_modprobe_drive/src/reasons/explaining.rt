@@ -207,14 +207,6 @@ impl Told<'_> {
     }
 }
 
-/// A text without a line feed at its end.
-fn without_end(text: &[u8]) -> &[u8] {
-    match text.split_last() {
-        Some((b'\n', front)) => front,
-        _ => text,
-    }
-}
-
 /// The lines of an explanation. They are told over `named`, which has no lines yet: the caller has it, so that no step
 /// that may be refused has to drop it.
 fn explained<'a>(
@@ -226,7 +218,8 @@ fn explained<'a>(
     ensures { IfOk result (λ lines. list_all is_shown lines.items ≡ true) }
 {
     named.add(alloc, asked.world.conf, sources.builtin)?;
-    let given = words(alloc, without_end(sources.command_line))?;
+    let line = sources.command_line;
+    let given = words(alloc, line.strip_suffix(b"\n").unwrap_or(line))?;
     let known = Known {
         asked,
         named,
