@@ -1,5 +1,5 @@
 -- Lines by the bytes of their keys, group by group.
-use Rattle.std.proofs.Common.{◌≡◌, ℕ, zero, suc, ◌+◌, ◌-◌, ◌*◌, ◌/◌, ◌<◌, ◌≤◌, ◌==◌, nat_lt, Bool, true, false, not, ◌&&◌, cond, List, [], ◌∷◌, ◌++◌, length, reverse, filter, fold, slice_get, Some, None, refl, sym, ◌∙◌, ap, ap₂, subst, subst₂, arith, inl, inr, ◌⊎◌, append_assoc, append-nil, true≢false, lt-ltb, le-ltb, eq-eqb}
+use Rattle.std.proofs.Common.{◌≡◌, ℕ, zero, suc, ◌+◌, ◌-◌, ◌*◌, ◌/◌, ◌<◌, ◌≤◌, ◌==◌, nat_lt, Bool, true, false, not, ◌&&◌, List, [], ◌∷◌, ◌++◌, length, reverse, filter, fold, slice_get, Some, None, refl, sym, ◌∙◌, ap, ap₂, subst, subst₂, arith, inl, inr, ◌⊎◌, append_assoc, append-nil, true≢false, lt-ltb, le-ltb, eq-eqb}
 use Rattle.std.specs.Borrow.{Bor}
 use Rattle.std.specs.List.{AllByRecursion, flat_map}
 use Rattle.std.proofs.lemmas.Bool.Decides.{nat_tests}
@@ -11,49 +11,9 @@ use Rattle.kmod_index.specs.Lines.{Keyed}
 use Rattle.kmod_query.specs.declared.key_order.Group.{Group}
 use Rattle.kmod_query.specs.declared.key_order.Parts.{Parts}
 use Rattle.kmod_query.specs.KeyOrder.{AreAlike, ArePartsOf, HasFront, IsAlike, Shows, code_at, code_by, greater_than, less_than, lines_of, same_as, shown_groups, weight, weights}
+use Rattle.kmod_query.proofs.KeptLemmas.{all_front, all_kept, all_mapped, all_pushed, filter_then, kept_one, past_end}
 use Rattle.kmod_query.proofs.ProbeLemmas.{none_left}
 use Rattle.kmod_query.specs.Shown.{by_key, index_line, is_before, put_line, shown_index}
-
--- ---- lists
-
-all_kept : {X : Type 0} (P : X → Type 0) (p : X → Bool) (xs : List X) → AllByRecursion P xs → AllByRecursion (λ x. P x × (p x ≡ true)) (filter p xs)
-all_kept P p [] h = tt
-all_kept P p (x ∷ xs) h = elim (told (p x)) [
-  | inl t ↦ rw t ((h.0, t), all_kept P p xs h.1)
-  | inr t ↦ rw t (all_kept P p xs h.1)
-]
-
-all_mapped : {X : Type 0} (P Q : X → Type 0) → ((x : X) → P x → Q x) → (xs : List X) → AllByRecursion P xs → AllByRecursion Q xs
-all_mapped P Q f [] h = tt
-all_mapped P Q f (x ∷ xs) h = (f x h.0, all_mapped P Q f xs h.1)
-
-all_pushed : {X : Type 0} (P : X → Type 0) (xs : List X) (x : X) → AllByRecursion P xs → P x → AllByRecursion P (xs ++ x ∷ [])
-all_pushed P [] x h own = (own, tt)
-all_pushed P (y ∷ xs) x h own = (h.0, all_pushed P xs x h.1 own)
-
--- the last of them
-all_front : {X : Type 0} (P : X → Type 0) (xs : List X) (x : X) → AllByRecursion P (xs ++ x ∷ []) → AllByRecursion P xs × P x
-all_front P [] x h = (tt, h.0)
-all_front P (y ∷ xs) x h = let later = all_front P xs x h.1 in ((h.0, later.0), later.1)
-
-filter_then : {X : Type 0} (p q r : X → Bool) → ((x : X) → r x ≡ (p x && q x)) → (xs : List X) → filter q (filter p xs) ≡ filter r xs
-filter_then p q r h [] = refl
-filter_then p q r h (x ∷ xs) = elim (told (p x)) [
-  | inl t ↦ (let e : r x ≡ q x = h x ∙ ap (λ b. b && q x) t in rw (t, e, filter_then p q r h xs) refl)
-  | inr t ↦ (let e : r x ≡ false = h x ∙ ap (λ b. b && q x) t in rw (t, e) (filter_then p q r h xs))
-]
-
--- what passes at a place is kept
-kept_one : {X : Type 0} (p : X → Bool) (xs : List X) (k : ℕ) (x : X) → slice_get xs k ≡ Some x → p x ≡ true → 1 ≤ length (filter p xs)
-kept_one p [] k x at own = absurd (cc (at))
-kept_one p (y ∷ xs) zero x at own =
-    let same : y ≡ x = cc in
-    let t : p y ≡ true = ap p same ∙ own in
-    rw t (omega arith)
-kept_one p (y ∷ xs) (suc k) x at own = elim (told (p y)) [
-  | inl t ↦ rw t (omega arith)
-  | inr t ↦ rw t (kept_one p xs k x at own)
-]
 
 -- ---- the order of keys
 
@@ -328,11 +288,6 @@ shows_few depth lines before now groups h text =
       lighter = omega (arith, weighs);
     }
 
-past_end : {X : Type 0} (xs : List X) (k : ℕ) → slice_get xs k ≡ None → length xs ≤ k
-past_end [] k h = omega arith
-past_end (x ∷ xs) zero h = absurd (cc (h))
-past_end (x ∷ xs) (suc k) h = let later : length xs ≤ k = past_end xs k h in omega (arith, later)
-
 -- a group of no lines
 pub shows_none : (depth : ℕ) (items : List (Bor Keyed)) (text : List ℕ) (groups : List Group) → slice_get items (length items / 2) ≡ None → Shows depth (pointed items) text text groups groups
 shows_none depth items text groups h =
@@ -478,18 +433,6 @@ popped text groups rest group whole e h = ap (λ l. text ++ l) (sym (ap shown_gr
 
 pub popped-weight : (groups rest : List Group) (group : Group) → groups ≡ rest ++ group ∷ [] → weights groups ≡ weight group.depth (lines_of group) + weights rest
 popped-weight groups rest group e = ap weights e ∙ weights-push rest group
-
--- ---- one line more
-
-part_push : {X : Type 0} (p : X → Bool) (xs : List X) (x : X) → filter p (xs ++ x ∷ []) ≡ filter p xs ++ cond (p x) (x ∷ []) []
-part_push p [] x = elim (told (p x)) [
-  | inl t ↦ rw t refl
-  | inr t ↦ rw t refl
-]
-part_push p (y ∷ xs) x = elim (told (p y)) [
-  | inl t ↦ rw t (ap (λ l. y ∷ l) (part_push p xs x))
-  | inr t ↦ rw t (part_push p xs x)
-]
 
 -- ---- the first group
 

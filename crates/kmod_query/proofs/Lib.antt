@@ -4,6 +4,7 @@ pub mod SoftLemmas
 pub mod ProbeLemmas
 pub mod TextLemmas
 pub mod RemovalLemmas
+pub mod KeptLemmas
 pub mod KeyOrderLemmas
 pub mod WayLemmas
 pub mod LawLemmas
