@@ -40,3 +40,12 @@ asks_states asks.ShowRemoval = true
 asks_states asks.ShowDepends = false
 asks_states asks.Resolve = false
 asks_states asks.ShowConfig = false
+
+-- Users count for a removal. Of states a load asks only which modules are live (kmod_query's only_live_modules_count).
+abbrev pub asks_users : Ask → Bool
+asks_users asks.Remove = true
+asks_users asks.ShowRemoval = true
+asks_users asks.DryRun = false
+asks_users asks.ShowDepends = false
+asks_users asks.Resolve = false
+asks_users asks.ShowConfig = false

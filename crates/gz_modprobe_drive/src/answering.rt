@@ -11,7 +11,7 @@ use crate::early::{asks_symbols, is_answered_early};
 use crate::evidence::Evidence;
 use crate::failures::tell_failures;
 use crate::paths::read_paths;
-use crate::queries::asks_states;
+use crate::queries::{asks_states, asks_users};
 use crate::sys::add_states;
 use crate::texts::Machine;
 use kmod_conf::Conf;
@@ -149,7 +149,7 @@ fn answer_from<S: System, O: Write, E: Write>(
 {
     let mut states = States::new(host.alloc());
     if asks_states(query.ask) {
-        add_states(host, &mut states, messages)?;
+        add_states(host, asks_users(query.ask), &mut states, messages)?;
     }
     let explains = messages.explains;
     let evidence = Evidence::read(host, conf.kmod, named, query, &states, explains)?;

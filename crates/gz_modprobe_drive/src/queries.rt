@@ -1,7 +1,7 @@
 //! Which query a command line asks.
 ghost use Rattle.std.specs.Prelude.{◌≡◌, IfNone, IfSome, None};
 ghost use Rattle.text_parts.specs.Text.{texts_of};
-ghost use Rattle.gz_modprobe_drive.specs.Queries.{IsQueryOf, ask_of, asks_states};
+ghost use Rattle.gz_modprobe_drive.specs.Queries.{IsQueryOf, ask_of, asks_states, asks_users};
 
 use kmod_query::{Ask, Query};
 use modprobe_words::{Switches, Wish};
@@ -48,5 +48,15 @@ pub(crate) fn asks_states(ask: Ask) -> bool
     match ask {
         Ask::DryRun | Ask::Remove | Ask::ShowRemoval => true,
         Ask::ShowDepends | Ask::Resolve | Ask::ShowConfig => false,
+    }
+}
+
+/// Whether users of modules count too. If not, then of states only which modules are live (`only_live_modules_count`).
+pub(crate) fn asks_users(ask: Ask) -> bool
+    ensures { result ≡ asks_users ask }
+{
+    match ask {
+        Ask::Remove | Ask::ShowRemoval => true,
+        Ask::ShowConfig | Ask::Resolve | Ask::ShowDepends | Ask::DryRun => false,
     }
 }

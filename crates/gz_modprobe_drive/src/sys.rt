@@ -106,6 +106,15 @@ fn status_of<S: System>(
     Ok(status_by(initstate.as_deref(), kind, refcnt.as_deref()))
 }
 
+/// What `initstate` alone tells of a module; None if it has none. One without it is not live, whatever its folder is.
+fn state_alone<S: System>(
+    host: &Host<'_, S>,
+    folder: &[u8],
+) -> Result<Option<ModuleStatus>, AllocError> {
+    let initstate = text_in(host, folder, b"initstate")?;
+    Ok(status_by(initstate.as_deref(), Kind::Nothing, None))
+}
+
 /// The names in /sys/module. One that is not there has none; one that cannot be read is reported.
 fn module_names<S: System, E: Write>(
     host: &Host<'_, S>,
@@ -121,28 +130,36 @@ fn module_names<S: System, E: Write>(
     }
 }
 
-/// Adds the state of a module, if it has one.
+/// Adds the state of a module, if it has one: with its users if they are asked for, or else what `initstate` alone tells.
 fn add_state<S: System>(
     host: &Host<'_, S>,
     name: &[u8],
+    asks_users: bool,
     states: &mut States,
 ) -> Result<(), AllocError> {
     let alloc = host.alloc();
     let folder = joined(alloc, MODULES, b"/", name)?;
-    match status_of(host, &folder)? {
+    let status = if asks_users {
+        status_of(host, &folder)?
+    } else {
+        state_alone(host, &folder)?
+    };
+    match status {
         Some(status) => states.set(alloc, name, status),
         None => Ok(()),
     }
 }
 
-/// Adds the states of all modules that /sys/module has.
+/// Adds the states of all modules that /sys/module has: with their users if they are asked for, or else what `initstate`
+/// alone tells, which says which modules are live.
 pub(crate) fn add_states<S: System, E: Write>(
     host: &Host<'_, S>,
+    asks_users: bool,
     states: &mut States,
     messages: &mut Messages<'_, E>,
 ) -> Result<(), AllocError> {
     for name in &module_names(host, messages)? {
-        add_state(host, name, states)?;
+        add_state(host, name, asks_users, states)?;
     }
     Ok(())
 }
