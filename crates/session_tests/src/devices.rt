@@ -98,3 +98,17 @@ impl Write for Narrow {
         Ok(())
     }
 }
+
+/// Takes all that it is given, and fails if it is flushed.
+#[derive(Drop)]
+pub(crate) struct Unflushed;
+
+impl Write for Unflushed {
+    fn write(&mut self, bytes: &[u8]) -> io::Result<usize> {
+        Ok(bytes.len())
+    }
+
+    fn flush(&mut self) -> io::Result<()> {
+        Err(io::Error::from(io::ErrorKind::Other))
+    }
+}

@@ -1,7 +1,8 @@
-//! The programs of sessions and of schedules over streams that fail, and a session with a line that is too long.
+//! Programs over streams that fail, and a session with a line that is too long.
 ghost use Rattle.std.specs.Prelude.{◌≡◌, false};
 
-use crate::devices::{Broken, Narrow};
+use crate::devices::{Broken, Narrow, Unflushed};
+use modprobe_words::{Ending, Written, end_early, write_whole};
 use modsh_drive::FromWrite;
 use std::io::{Read, Write};
 use std::rt::Files;
@@ -77,4 +78,11 @@ fn a_schedule_whose_writer_fails(rt: HostRuntime) {
     let mut input: &[u8] = b"%catalogue\nmodule a\n%schedule\nworkers 1\nthreads 1\nt0 query a\n";
     let mut output = Narrow::new(0, true);
     assert!(rt; schedule_fails(&rt, &mut input, &mut output, "workload: write fault\n"));
+}
+
+#[test]
+fn an_output_that_is_not_flushed(rt: HostRuntime) {
+    assert!(rt; matches!(write_whole(&mut Unflushed, b"kmod"), Written::Failed));
+    let mut errors = Vec::new(rt.alloc());
+    assert!(rt; end_early(Ending::Help, &mut Unflushed, &mut errors) == 1);
 }
