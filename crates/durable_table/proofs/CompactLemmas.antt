@@ -1,8 +1,9 @@
 -- A journal of commands that make a table, and what it stands for while it is rewritten.
-use Rattle.std.proofs.Common.{◌≡◌, arith, refl, ap, sym, ◌∙◌, ⊎_elim, ℕ, ◌≤◌, true, List, [], ◌∷◌, length, map, drop, Vec, Some}
+use Rattle.std.proofs.Common.{◌≡◌, arith, refl, ap, sym, ◌∙◌, ⊎_elim, ℕ, ◌≤◌, ◌-◌, true, List, [], ◌∷◌, length, map, take, drop, Vec, Some}
 use Rattle.std.specs.List.{list_all, drop-map}
 use Rattle.std.specs.declared.alloc.Global.{Global}
 use Rattle.std.specs.Str.{bytes_eq}
+use Rattle.std.proofs.lemmas.List.{take_rest}
 use Rattle.std.proofs.lemmas.Slice.Eq.{bytes_eq-Decides}
 use Rattle.line_journal.specs.Device.{History, AlwaysLeaves}
 use Rattle.line_journal.specs.Lines.{bytes_of, AreLines, StandsForEither}
@@ -17,7 +18,7 @@ use Rattle.durable_table.specs.Seals.{seal, is_sealed}
 use Rattle.durable_table.specs.Commands.{head}
 use Rattle.durable_table.specs.Tables.{opening_of, table_in}
 use Rattle.durable_table.specs.Durable.{Stands, FileStands}
-use Rattle.durable_table.specs.Compacting.{journal_of, compacted, IsRemade}
+use Rattle.durable_table.specs.Compacting.{journal_of, compacted, IsRemade, CanBeRemade}
 use Rattle.durable_table.proofs.CommandLemmas.{seal_is_sealed}
 
 all_sealed : (commands : List (List ℕ)) → list_all is_sealed (map seal commands) ≡ true
@@ -39,19 +40,28 @@ table_in_journal s commands = grind (arith, head_is_head, all_sealed commands, a
 remade : (s : Setup) (h : Held) (lines : List (List ℕ)) → IsRemade s h lines → table_in s lines ≡ Some h
 remade s h lines made = ap (table_in s) made.is ∙ table_in_journal s (snapshot_of s h) ∙ ap Some made.makes
 
+-- the commands of a journal that is the snapshot's
+snapshot_behind : (s : Setup) (h : Held) (lines rest : List (Vec ℕ Global)) → bytes_of lines ≡ compacted s h → rest ≡ drop 1 lines → snapshot_of s h ≡ map (drop 9) (bytes_of rest)
+snapshot_behind s h lines rest is rest_is =
+    sym (all_unsealed (snapshot_of s h)) ∙ ap (λ l. map (drop 9) (drop 1 l)) (sym is)
+    ∙ ap (map (drop 9)) (drop-map (λ (v : Vec ℕ Global). v.items) 1 lines) ∙ ap (λ l. map (drop 9) (bytes_of l)) (sym rest_is)
+
+-- a second table is the one after the lines
+pub second_table : (s : Setup) (fresh other : Held) (lines : List (Vec ℕ Global)) → fresh ≡ opening_of s → other ≡ after s fresh (map (drop 9) (bytes_of (take (length lines - 1) (drop 1 lines))))
+    → other ≡ after s (opening_of s) (map (drop 9) (bytes_of (drop 1 lines)))
+second_table s fresh other lines opening from =
+    from ∙ ap (λ l. after s fresh (map (drop 9) (bytes_of l))) (take_rest lines 1) ∙ ap (λ (start : Held). after s start (map (drop 9) (bytes_of (drop 1 lines)))) opening
+
 -- what a second table shows
 pub remade_by : (s : Setup) (h other : Held) (lines rest : List (Vec ℕ Global)) → bytes_of lines ≡ compacted s h → rest ≡ drop 1 lines → AreLines (bytes_of lines)
     → other ≡ after s (opening_of s) (map (drop 9) (bytes_of rest)) → other ≡ h → IsRemade s h (bytes_of lines)
 remade_by s h other lines rest is rest_is are made same =
-    record {
-      is = is;
-      are_lines = are;
-      makes =
-          ap (after s (opening_of s)) (
-          sym (all_unsealed (snapshot_of s h)) ∙ ap (λ l. map (drop 9) (drop 1 l)) (sym is)
-          ∙ ap (map (drop 9)) (drop-map (λ (v : Vec ℕ Global). v.items) 1 lines) ∙ ap (λ l. map (drop 9) (bytes_of l)) (sym rest_is))
-          ∙ sym made ∙ same;
-    }
+    record { is = is; are_lines = are; makes = ap (after s (opening_of s)) (snapshot_behind s h lines rest is rest_is) ∙ sym made ∙ same }
+
+-- a table that can be remade is the second one
+pub other_is_same : (s : Setup) (h other : Held) (lines rest : List (Vec ℕ Global)) → bytes_of lines ≡ compacted s h → rest ≡ drop 1 lines
+    → other ≡ after s (opening_of s) (map (drop 9) (bytes_of rest)) → CanBeRemade s h → other ≡ h
+other_is_same s h other lines rest is rest_is made can = made ∙ ap (after s (opening_of s)) (sym (snapshot_behind s h lines rest is rest_is)) ∙ can.makes
 
 -- a crash at any moment of a rewriting leaves the same table
 pub rewrite_moments : {D : Type 0} (content : D → List ℕ) (history : D → History) (s : Setup) (h : Held) (lines written : List (List ℕ)) (old : Journal D) (before now : History)

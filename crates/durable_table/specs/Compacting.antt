@@ -22,3 +22,7 @@ pub record IsRemade (s : Setup) (h : Held) (lines : List (List ℕ)) : Type 0 wh
   pub is : lines ≡ compacted s h
   pub are_lines : AreLines lines
   pub makes : after s (opening_of s) (snapshot_of s h) ≡ h
+
+-- the lines of the table's snapshot make it, and they are lines
+abbrev pub CanBeRemade : Setup → Held → Type 0
+CanBeRemade s h = IsRemade s h (compacted s h)

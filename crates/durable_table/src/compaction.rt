@@ -1,5 +1,5 @@
 //! A journal is rewritten as the lines that make its table.
-ghost use Rattle.std.specs.Prelude.{◌≡◌, ◌+◌, ◌<◌, nat_lt, Ok, length, map, IfOk, IfSome, OnOk, IsErrOf};
+ghost use Rattle.std.specs.Prelude.{◌≡◌, ◌+◌, ◌<◌, nat_lt, Ok, length, map, IfOk, IfSome, IfNone, OnOk, IsErrOf};
 ghost use Rattle.dep_index.specs.Catalogue.{modules_of};
 ghost use Rattle.line_journal.specs.Device.{AlwaysLeaves};
 ghost use Rattle.line_journal.specs.declared.device.DeviceError.TheVariants.{Failed};
@@ -9,7 +9,7 @@ ghost use Rattle.held_lines.specs.Held.{holding};
 ghost use Rattle.durable_table.specs.Seals.{seal};
 ghost use Rattle.durable_table.specs.Tables.{opening_of};
 ghost use Rattle.durable_table.specs.Durable.{Stands, FileStands};
-ghost use Rattle.durable_table.specs.Compacting.{journal_of, compacted, IsRemade};
+ghost use Rattle.durable_table.specs.Compacting.{journal_of, compacted, IsRemade, CanBeRemade};
 
 use crate::durable::{DurableTable, PerformError};
 use crate::head::{HEAD, head_line};
@@ -30,7 +30,7 @@ const BESIDE: usize = 11;
 pub enum Compacted {
     /// It has the lines that make its table, and no others.
     Done,
-    /// These lines do not make its table: it is as it was.
+    /// These lines do not make its table, or one has a line feed: it is as it was.
     Kept,
 }
 
@@ -55,12 +55,16 @@ fn remake<H: Holders>(
 ) -> Result<Option<Vec<Vec<u8>>>, AllocError>
     requires over { H.catalogue fresh ≡ modules_of session.now.setup.now.catalogue }
     requires opening { holding (H.table fresh) (H.names fresh) ≡ opening_of session.now.setup.now }
-    ensures { IfOk result (λ found. IfSome found (λ lines. IsRemade session.now.setup.now (holding (H.table session.now.holders) (H.names session.now.holders)) (bytes_of lines.items))) }
+    ensures made { IfOk result (λ found. IfSome found (λ lines. IsRemade session.now.setup.now (holding (H.table session.now.holders) (H.names session.now.holders)) (bytes_of lines.items))) }
+    ensures none { IfOk result (λ found. IfNone found (CanBeRemade session.now.setup.now (holding (H.table session.now.holders) (H.names session.now.holders)) → ⊥)) }
 {
     let lines = journal_of(alloc, &session.snapshot(alloc)?)?;
     let mut other = HeldSession::new(session.setup(), fresh);
     replay(alloc, &mut other, &lines[1..])?;
-    if !are_lines(&lines) || !session.is_same(alloc, &other)? {
+    if !are_lines(&lines) {
+        return Ok(None);
+    }
+    if !session.is_same(alloc, &other)? {
         return Ok(None);
     }
     Ok(Some(lines))
@@ -82,8 +86,8 @@ fn is_room(room: usize, commands: &[Vec<u8>]) -> bool
 }
 
 impl<'s, H: Holders, D: Device> DurableTable<'s, H, D> {
-    /// Rewrites the journal as the lines that make the table. They are first tried, on holders of which none is there yet,
-    /// and only if they make the same table is the journal rewritten. At `Ok` it stands for the table, on the disk.
+    /// Rewrites the journal as the lines that make the table. They are first tried, on holders of which none is there yet: if
+    /// they make the same table, and only then, the journal is rewritten. At `Ok` it stands for the table, on the disk.
     ///
     /// A crash at any moment of the call leaves a journal of the same table. Out of memory, nothing was changed.
     #[tactic(auto, using(crate::proofs::CompactLemmas::still_stands))]
@@ -94,6 +98,7 @@ impl<'s, H: Holders, D: Device> DurableTable<'s, H, D> {
         ensures done { result ≡ Ok Compacted.Done → lines_in D.content self.new.journal ≡ compacted self.old.session.setup.now (holding (H.table self.old.session.holders) (H.names self.old.session.holders)) }
         ensures stands { OnOk result (Stands D.content D.history self.old.session.setup.now (holding (H.table self.old.session.holders) (H.names self.old.session.holders)) self.new.journal) }
         ensures kept { result ≡ Ok Compacted.Kept → self.new.journal ≡ self.old.journal }
+        ensures needed { result ≡ Ok Compacted.Kept → CanBeRemade self.old.session.setup.now (holding (H.table self.old.session.holders) (H.names self.old.session.holders)) → ⊥ }
         ensures unchanged { IsErrOf result PerformError.OutOfMemory → self.new.journal ≡ self.old.journal }
         ensures any_moment { AlwaysLeaves (D.history self.old.journal.device) (D.history self.new.journal.device)
             (FileStands self.old.session.setup.now (holding (H.table self.old.session.holders) (H.names self.old.session.holders))) }

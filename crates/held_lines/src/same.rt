@@ -14,7 +14,8 @@ fn holds_same<M: Modules>(table: &M, other: &M, number: usize) -> bool
     requires book { (M.table other.now).book ≡ (M.table table.now).book }
     requires number { number < length (M.table table.now).rows }
     requires too { number < length (M.table other.now).rows }
-    ensures { result ≡ true → slice_index_or (M.table other.now).rows number [] ≡ slice_index_or (M.table table.now).rows number [] }
+    ensures is { result ≡ true → slice_index_or (M.table other.now).rows number [] ≡ slice_index_or (M.table table.now).rows number [] }
+    ensures all { slice_index_or (M.table other.now).rows number [] ≡ slice_index_or (M.table table.now).rows number [] → result ≡ true }
 {
     table.laws();
     other.laws();
@@ -31,7 +32,8 @@ fn holds_same<M: Modules>(table: &M, other: &M, number: usize) -> bool
 fn has_same_name<H: Holders>(holders: &H, other: &H, number: usize) -> bool
     requires number { number < length (H.names holders.now) }
     requires too { number < length (H.names other.now) }
-    ensures { result ≡ true → slice_index_or (H.names other.now) number [] ≡ slice_index_or (H.names holders.now) number [] }
+    ensures is { result ≡ true → slice_index_or (H.names other.now) number [] ≡ slice_index_or (H.names holders.now) number [] }
+    ensures all { slice_index_or (H.names other.now) number [] ≡ slice_index_or (H.names holders.now) number [] → result ≡ true }
 {
     other.name(number).as_bytes() == holders.name(number).as_bytes()
 }
@@ -40,7 +42,8 @@ fn has_same_name<H: Holders>(holders: &H, other: &H, number: usize) -> bool
 fn has_same_holders<H: Holders>(holders: &H, other: &H) -> bool
     requires catalogue { H.catalogue other.now ≡ H.catalogue holders.now }
     requires book { (H.table other.now).book ≡ (H.table holders.now).book }
-    ensures { result ≡ true → holding (H.table other.now) (H.names other.now) ≡ holding (H.table holders.now) (H.names holders.now) }
+    ensures is { result ≡ true → holding (H.table other.now) (H.names other.now) ≡ holding (H.table holders.now) (H.names holders.now) }
+    ensures all { holding (H.table other.now) (H.names other.now) ≡ holding (H.table holders.now) (H.names holders.now) → result ≡ true }
 {
     holders.holder_laws();
     other.holder_laws();
@@ -58,7 +61,8 @@ fn has_same_holders<H: Holders>(holders: &H, other: &H) -> bool
 /// Whether two tables over one catalogue are the same, with their holders.
 pub(crate) fn is_same<H: Holders>(alloc: Global, holders: &H, other: &H) -> Result<bool, AllocError>
     requires { H.catalogue other.now ≡ H.catalogue holders.now }
-    ensures { IfOk result (λ is_same. is_same ≡ true → holding (H.table other.now) (H.names other.now) ≡ holding (H.table holders.now) (H.names holders.now)) }
+    ensures is { IfOk result (λ is_same. is_same ≡ true → holding (H.table other.now) (H.names other.now) ≡ holding (H.table holders.now) (H.names holders.now)) }
+    ensures all { IfOk result (λ is_same. holding (H.table other.now) (H.names other.now) ≡ holding (H.table holders.now) (H.names holders.now) → is_same ≡ true) }
 {
     let book = BookCopy::of(alloc, holders)?;
     Ok(book.is_of(other) && has_same_holders(holders, other))

@@ -68,7 +68,8 @@ impl<'s, H: Holders> HeldSession<'s, H> {
     /// Whether the tables of two sessions over one setup are the same, with their holders.
     pub fn is_same(&self, alloc: Global, other: &HeldSession<'_, H>) -> Result<bool, AllocError>
         requires { other.now.setup.now ≡ self.now.setup.now }
-        ensures { IfOk result (λ is_same. is_same ≡ true → holding (H.table other.now.holders) (H.names other.now.holders) ≡ holding (H.table self.now.holders) (H.names self.now.holders)) }
+        ensures is { IfOk result (λ is_same. is_same ≡ true → holding (H.table other.now.holders) (H.names other.now.holders) ≡ holding (H.table self.now.holders) (H.names self.now.holders)) }
+        ensures all { IfOk result (λ is_same. holding (H.table other.now.holders) (H.names other.now.holders) ≡ holding (H.table self.now.holders) (H.names self.now.holders) → is_same ≡ true) }
     {
         is_same(alloc, &self.holders, &other.holders)
     }

@@ -1,26 +1,45 @@
-use Rattle.std.proofs.Common.{◌≡◌, ◌∙◌, rules, ap, subst, true, refl, ◌-◌, length, map, take, drop}
-use Rattle.std.proofs.lemmas.List.{take_rest}
+use Rattle.std.proofs.Common.{◌≡◌, ◌∙◌, arith, rules, ap, sym, subst, true, false, refl, ◌-◌, length, map, take, drop}
 use Rattle.line_journal.specs.Lines.{bytes_of, AreLines}
 use Rattle.held_table.specs.Held.{Held}
 use Rattle.held_lines.specs.Held.{holding}
 use Rattle.held_lines.specs.Outcomes.{after}
-use Rattle.durable_table.specs.Tables.{opening_of}
-use Rattle.durable_table.specs.Compacting.{journal_of}
-use Rattle.durable_table.proofs.CompactLemmas.{remade_by}
+use Rattle.durable_table.specs.Compacting.{journal_of, compacted}
+use Rattle.durable_table.proofs.CompactLemmas.{second_table, remade_by, other_is_same}
 use Rattle.durable_table.proofs.compaction.remake.Goals as goal
 
-pub returns : goal.returns
-returns g c =
+pub returns-then-not-are_lines-clause-none : goal.returns-then-not-are_lines-clause-none
+returns-then-not-are_lines-clause-none g c =
+    let s = c.args.session.now.setup.now in
+    let h : Held = holding (g.H.Modules.table c.args.session.now.holders) (g.H.Modules.names c.args.session.now.holders) in
+    let lines = c.in_ok-lines.lines.items in
+    let is : bytes_of lines ≡ compacted s h = c.in_ok-lines.ensures ∙ ap journal_of (ap bytes_of c.deref.ensures.value ∙ c.in_ok-snapshot.ensures) in
+    let no_lines : c.are_lines.result ≡ false = search rules in
+    λ can. absurd (grind (arith, no_lines, c.are_lines.ensures.1 (subst AreLines (sym is ∙ ap bytes_of (sym c.deref-3.ensures.value)) can.are_lines)))
+
+pub returns-then-not-branch-clause-none : goal.returns-then-not-branch-clause-none
+returns-then-not-branch-clause-none g c =
     let s = c.args.session.now.setup.now in
     let h : Held = holding (g.H.Modules.table c.args.session.now.holders) (g.H.Modules.names c.args.session.now.holders) in
     let other : Held = holding (g.H.Modules.table c.replay.new.session.holders) (g.H.Modules.names c.replay.new.session.holders) in
+    let fresh : Held = holding (g.H.Modules.table c.args.fresh) (g.H.Modules.names c.args.fresh) in
     let lines = c.in_ok-lines.lines.items in
+    let is : bytes_of lines ≡ compacted s h = c.in_ok-lines.ensures ∙ ap journal_of (ap bytes_of c.deref.ensures.value ∙ c.in_ok-snapshot.ensures) in
+    let from : other ≡ after s fresh (map (drop 9) (bytes_of (take (length lines - 1) (drop 1 lines)))) =
+    rw (c.new-other.ensures.setup, c.new-other.ensures.holders, c.setup.ensures, c.deref-2.ensures.value) at c.in_ok-replay.ensures.after in
+    let is_other : c.in_ok-is_same.field-0 ≡ false = search rules in
+    λ can. absurd (grind (arith, is_other, c.in_ok-is_same.ensures.all (other_is_same s h other lines (drop 1 lines) is refl (second_table s fresh other lines c.requires.opening from) can)))
+
+pub returns-clause-made : goal.returns-clause-made
+returns-clause-made g c =
+    let s = c.args.session.now.setup.now in
+    let h : Held = holding (g.H.Modules.table c.args.session.now.holders) (g.H.Modules.names c.args.session.now.holders) in
+    let other : Held = holding (g.H.Modules.table c.replay.new.session.holders) (g.H.Modules.names c.replay.new.session.holders) in
+    let fresh : Held = holding (g.H.Modules.table c.args.fresh) (g.H.Modules.names c.args.fresh) in
+    let lines = c.in_ok-lines.lines.items in
+    let is : bytes_of lines ≡ compacted s h = c.in_ok-lines.ensures ∙ ap journal_of (ap bytes_of c.deref.ensures.value ∙ c.in_ok-snapshot.ensures) in
+    let from : other ≡ after s fresh (map (drop 9) (bytes_of (take (length lines - 1) (drop 1 lines)))) =
+    rw (c.new-other.ensures.setup, c.new-other.ensures.holders, c.setup.ensures, c.deref-2.ensures.value) at c.in_ok-replay.ensures.after in
     let is_lines : c.are_lines.result ≡ true = search rules in
     let is_same : c.in_ok-is_same.field-0 ≡ true = search rules in
     let are : AreLines (bytes_of lines) = subst (λ l. AreLines (bytes_of l)) c.deref-3.ensures.value (c.are_lines.ensures.0 is_lines) in
-    let fresh : Held = holding (g.H.Modules.table c.args.fresh) (g.H.Modules.names c.args.fresh) in
-    let from : other ≡ after s fresh (map (drop 9) (bytes_of (take (length lines - 1) (drop 1 lines)))) =
-    rw (c.new-other.ensures.setup, c.new-other.ensures.holders, c.setup.ensures, c.deref-2.ensures.value) at c.in_ok-replay.ensures.after in
-    let made : other ≡ after s (opening_of s) (map (drop 9) (bytes_of (drop 1 lines))) =
-    from ∙ ap (λ l. after s fresh (map (drop 9) (bytes_of l))) (take_rest lines 1) ∙ ap (λ (start : Held). after s start (map (drop 9) (bytes_of (drop 1 lines)))) c.requires.opening in
-    remade_by s h other lines (drop 1 lines) (c.in_ok-lines.ensures ∙ ap journal_of (ap bytes_of c.deref.ensures.value ∙ c.in_ok-snapshot.ensures)) refl are made (c.in_ok-is_same.ensures is_same)
+    remade_by s h other lines (drop 1 lines) is refl are (second_table s fresh other lines c.requires.opening from) (c.in_ok-is_same.ensures.is is_same)

@@ -15,6 +15,6 @@ loop-number-preserved g c =
     let in_others : number < length other_rows = search rules in
     let in_names : number < length names = search rules in
     let in_other_names : number < length others = search rules in (
-      take_more_same others names number [] in_other_names in_names c.loop-number.invariant.0 (c.has_same_name.ensures named),
-      take_more_same other_rows rows number [] in_others in_rows c.loop-number.invariant.1 (c.holds_same.ensures held),
+      take_more_same others names number [] in_other_names in_names c.loop-number.invariant.0 (c.has_same_name.ensures.is named),
+      take_more_same other_rows rows number [] in_others in_rows c.loop-number.invariant.1 (c.holds_same.ensures.is held),
     )

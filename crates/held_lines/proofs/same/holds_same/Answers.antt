@@ -2,8 +2,8 @@ use Rattle.std.proofs.Common.{arith, length}
 use Rattle.held_lines.proofs.SameLemmas.{same_row}
 use Rattle.held_lines.proofs.same.holds_same.Goals as goal
 
-pub returns : goal.returns
-returns g c =
+pub returns-clause-is : goal.returns-clause-is
+returns-clause-is g c =
     let t = g.M.Modules.table c.args.table.now in
     let u = g.M.Modules.table c.args.other.now in
     let catalogue = g.M.Modules.catalogue c.args.table.now in
