@@ -43,9 +43,8 @@ pub fn sessions_are_functions_of_their_input<R: Source, W: Sink>(
 }
 
 /// However a session stops before the end of its input, what was written is a beginning of the output that belongs to the
-/// input. So no fault has it write anything else, and if the input has no setup nothing is written. It stops for the reason
-/// that it returns: the input has such a fault, or that stream has failed. One that does not stop has read all, and written
-/// all of it.
+/// input. So no fault has it write anything else, and if the input has no setup nothing is written. A fault of the setup, of
+/// the reader or of the writer that it returns is there. One that does not stop has read all, and written all of it.
 ///
 /// Premises: those of the sentence above.
 pub fn stopped_sessions_wrote_a_beginning<R: Source, W: Sink>(
