@@ -6,6 +6,7 @@ pub mod StepLaws
 pub mod Room
 pub mod Replies
 pub mod Safe
+pub mod Cancelling
 pub mod SlotLemmas
 pub mod PairLemmas
 pub mod PieceLemmas

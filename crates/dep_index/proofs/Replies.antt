@@ -3,7 +3,7 @@ use Rattle.std.proofs.Common.{◌≡◌, ℕ, Bool, true, false, cond, List, [],
 use Rattle.std.proofs.lemmas.Bool.{false≢true}
 use Rattle.std.specs.Option.{is_some, unwrap_or}
 use Rattle.dep_index.specs.declared.table.calls.Call.{Call}
-use Rattle.dep_index.specs.declared.table.calls.Call.TheVariants.{Get, Put, InUse as Query, BeginLoad, EndLoad, BeginDrain, BeginRemove, EndRemove}
+use Rattle.dep_index.specs.declared.table.calls.Call.TheVariants.{Get, Put, InUse as Query, BeginLoad, EndLoad, BeginDrain, BeginRemove, EndRemove, CancelRemove}
 use Rattle.dep_index.specs.declared.table.calls.Reply.{Reply}
 use Rattle.dep_index.specs.declared.table.calls.Reply.TheVariants.{Done, Yes, No, NotLive, TooMany, NotHeld, Exists, UnknownSymbol, NeedNotLive, NotLoading, NoEntry, NeededBy, Permanent, InUse, NotUnloading}
 use Rattle.dep_index.specs.Table.{Module, Table, is_held}
@@ -59,6 +59,7 @@ answer_same table (EndLoad m ok) = refl
 answer_same table (BeginDrain m) = refl
 answer_same table (BeginRemove m) = refl
 answer_same table (EndRemove m) = refl
+answer_same table (CancelRemove m) = refl
 
 -- if the reply is Done the call has its effect, and any other changes nothing
 pub next_is : (catalogue : List Module) (table : Table) (call : Call) → next catalogue table call ≡ cond (is_done (reply catalogue table call)) (effect table call) table

@@ -8,12 +8,12 @@ use Rattle.std.specs.Option.{is_some, unwrap_or}
 use Rattle.dep_index.specs.declared.table.states.ModuleState.{ModuleState}
 use Rattle.dep_index.specs.declared.table.states.ModuleState.TheVariants.{Absent, Loading, Live, Draining, Unloading}
 use Rattle.dep_index.specs.declared.table.calls.Call.{Call}
-use Rattle.dep_index.specs.declared.table.calls.Call.TheVariants.{Get, Put, InUse as Query, BeginLoad, EndLoad, BeginDrain, BeginRemove, EndRemove}
+use Rattle.dep_index.specs.declared.table.calls.Call.TheVariants.{Get, Put, InUse as Query, BeginLoad, EndLoad, BeginDrain, BeginRemove, EndRemove, CancelRemove}
 use Rattle.dep_index.specs.declared.table.calls.Reply.{Reply}
 use Rattle.dep_index.specs.declared.table.calls.Reply.TheVariants.{Done, NotLive, TooMany, NotHeld, Exists, UnknownSymbol, NotLoading, NoEntry, NeededBy, Permanent, InUse, NotUnloading}
 use Rattle.dep_index.specs.Table.{Module, Book, Table, state_of, is_absent, is_live, is_draining, is_unloading, needs_slot, users, has_users, pairs, count_of, is_held}
-use Rattle.dep_index.specs.Calls.{refuse, or_else, refusal, book_refusal, unload_refusal, first_missing, missing_need, effect, row_effect, reply, next, after, opening, IsInRange}
-use Rattle.dep_index.specs.Laws.{IsShaped, IsLawful, AllInRange, AlwaysLawful, RemovesUnused, NoReload, IsShutting, StaysShut}
+use Rattle.dep_index.specs.Calls.{refuse, or_else, refusal, book_refusal, unload_refusal, first_missing, missing_need, effect, row_effect, answer, reply, next, after, opening, IsInRange}
+use Rattle.dep_index.specs.Laws.{IsShaped, IsLawful, AllInRange, AlwaysLawful, RemovesUnused, IsReviving, NoRevival, IsShutting, StaysShut}
 use Rattle.dep_index.proofs.Lists.{filter_empty, sum_by-zeros, count_by-present}
 use Rattle.dep_index.proofs.TableLaws.{passed, both_passed, unload_passed, effect_lawful, free_when_unheld, ended_is_down, ended_is_free, not_live}
 
@@ -49,6 +49,7 @@ effect_shaped slots workers table (EndLoad m false) shape = record { states = le
 effect_shaped slots workers table (BeginDrain m) shape = record { states = length-set table.book.states m Draining ∙ shape.states; rows = shape.rows; row = shape.row }
 effect_shaped slots workers table (BeginRemove m) shape = record { states = length-set table.book.states m Unloading ∙ shape.states; rows = shape.rows; row = shape.row }
 effect_shaped slots workers table (EndRemove m) shape = record { states = length-set table.book.states m Absent ∙ shape.states; rows = shape.rows; row = shape.row }
+effect_shaped slots workers table (CancelRemove m) shape = record { states = length-set table.book.states m Live ∙ shape.states; rows = shape.rows; row = shape.row }
 
 pub next_shaped : (slots workers : ℕ) (catalogue : List Module) (table : Table) (call : Call) → IsShaped slots workers table → IsShaped slots workers (next catalogue table call)
 next_shaped slots workers catalogue table call shape = at (is_some (refusal catalogue table call)) where
@@ -141,6 +142,7 @@ refusal_done catalogue table (EndLoad m ok) = either_done _ _ (never_done _ NotL
 refusal_done catalogue table (BeginDrain m) = either_done _ _ (unload_done catalogue table.book m) none_done
 refusal_done catalogue table (BeginRemove m) = either_done _ _ (unload_done catalogue table.book m) (never_done _ InUse _ (λ e. cc) none_done)
 refusal_done catalogue table (EndRemove m) = either_done _ _ (never_done _ NotUnloading _ (λ e. cc) none_done) (never_done _ InUse _ (λ e. cc) none_done)
+refusal_done catalogue table (CancelRemove m) = either_done _ _ (never_done _ NotUnloading _ (λ e. cc) none_done) none_done
 
 -- a call that answers Done is not refused
 pub accepted : (catalogue : List Module) (table : Table) (call : Call) → reply catalogue table call ≡ Done → refusal catalogue table call ≡ None
@@ -215,30 +217,32 @@ set_shut (x ∷ states) (suc m) s shut = set_shut states m s shut
 set_elsewhere : (states : List ModuleState) (k : ℕ) (s : ModuleState) (m : ℕ) → (k ≡ m → ⊥) → is_live (get_or states m Absent) ≡ false → is_live (get_or (set states k s) m Absent) ≡ false
 set_elsewhere states k s m ne down = let other : m ≢ k = λ e. ne (sym e) in rw get_or-set_other down
 
--- a call that is not refused leaves m shut, if it does not end a load of m well
-effect_down : (table : Table) (m : ℕ) (call : Call) → (call ≡ EndLoad m true → ⊥) → is_live (state_of table.book m) ≡ false → is_live (state_of (effect table call).book m) ≡ false
+-- a call that is not refused leaves m shut, if it does not make m Live
+effect_down : (table : Table) (m : ℕ) (call : Call) → (IsReviving m call → ⊥) → is_live (state_of table.book m) ≡ false → is_live (state_of (effect table call).book m) ≡ false
 effect_down table m (Get w k) other down = down
 effect_down table m (Put w k) other down = down
 effect_down table m (Query k) other down = down
 effect_down table m (BeginLoad k) other down = set_down table.book.states k Loading m refl down
-effect_down table m (EndLoad k true) other down = set_elsewhere table.book.states k Live m (λ e. other (ap (λ (i : ℕ). EndLoad i true) e)) down
+effect_down table m (EndLoad k true) other down = set_elsewhere table.book.states k Live m (λ e. other (inl (ap (λ (i : ℕ). EndLoad i true) e))) down
 effect_down table m (EndLoad k false) other down = set_down table.book.states k Absent m refl down
 effect_down table m (BeginDrain k) other down = set_down table.book.states k Draining m refl down
 effect_down table m (BeginRemove k) other down = set_down table.book.states k Unloading m refl down
 effect_down table m (EndRemove k) other down = set_down table.book.states k Absent m refl down
+effect_down table m (CancelRemove k) other down = set_elsewhere table.book.states k Live m (λ e. other (inr (ap (λ (i : ℕ). CancelRemove i) e))) down
 
-next_down : (catalogue : List Module) (table : Table) (m : ℕ) (call : Call) → (call ≡ EndLoad m true → reply catalogue table call ≢ Done)
+next_down : (catalogue : List Module) (table : Table) (m : ℕ) (call : Call) → (IsReviving m call → reply catalogue table call ≢ Done)
     → is_live (state_of table.book m) ≡ false → is_live (state_of (next catalogue table call).book m) ≡ false
-next_down catalogue table m call no_load down = at (refusal catalogue table call) refl where
+next_down catalogue table m call no_revival down = at (refusal catalogue table call) refl where
   at : (o : Option Reply) → refusal catalogue table call ≡ o → is_live (state_of (cond (is_some (refusal catalogue table call)) table (effect table call)).book m) ≡ false
   at (Some r) e = rw e down
   at None e = rw e (effect_down table m call unlike down) where
-    unlike : call ≡ EndLoad m true → ⊥
-    unlike is = no_load is (done (refusal catalogue table (EndLoad m true)) (ap (λ (c : Call). refusal catalogue table c) (sym is) ∙ e)) where
-      done : (o : Option Reply) → refusal catalogue table (EndLoad m true) ≡ None → reply catalogue table call ≡ Done
-      done o e' = ap (λ (c : Call). reply catalogue table c) is ∙ ap (λ (p : Option Reply). unwrap_or p Done) e'
+    unlike : IsReviving m call → ⊥
+    unlike revives = no_revival revives (ap (λ (o : Option Reply). unwrap_or o (answer table call)) e ∙ answered revives) where
+      answered : IsReviving m call → answer table call ≡ Done
+      answered (inl is) = ap (λ (c : Call). answer table c) is
+      answered (inr is) = ap (λ (c : Call). answer table c) is
 
-pub stays_down : (catalogue : List Module) (table : Table) (m : ℕ) (between : List Call) → NoReload catalogue m table between
+pub stays_down : (catalogue : List Module) (table : Table) (m : ℕ) (between : List Call) → NoRevival catalogue m table between
     → is_live (state_of table.book m) ≡ false → is_live (state_of (after catalogue table between).book m) ≡ false
 stays_down catalogue table m [] quiet down = down
 stays_down catalogue table m (call ∷ calls) quiet down =

@@ -8,7 +8,7 @@ use Rattle.std.specs.Option.{is_some, unwrap_or}
 use Rattle.dep_index.specs.declared.table.states.ModuleState.{ModuleState}
 use Rattle.dep_index.specs.declared.table.states.ModuleState.TheVariants.{Absent, Loading, Live, Draining, Unloading}
 use Rattle.dep_index.specs.declared.table.calls.Call.{Call}
-use Rattle.dep_index.specs.declared.table.calls.Call.TheVariants.{Get, Put, InUse as Query, BeginLoad, EndLoad, BeginDrain, BeginRemove, EndRemove}
+use Rattle.dep_index.specs.declared.table.calls.Call.TheVariants.{Get, Put, InUse as Query, BeginLoad, EndLoad, BeginDrain, BeginRemove, EndRemove, CancelRemove}
 use Rattle.dep_index.specs.declared.table.calls.Reply.{Reply}
 use Rattle.dep_index.specs.declared.table.calls.Reply.TheVariants.{Done, UnknownSymbol, InUse}
 use Rattle.dep_index.specs.Table.{Module, Table, state_of, is_absent, is_loading, is_live, is_draining, is_unloading, takes_references, has_users, count_of, is_held, holders, module_at}
@@ -96,6 +96,14 @@ end_remove_steps Live n e = cc
 end_remove_steps Draining n e = close_drain_steps (ltb 0 n) n refl
 end_remove_steps Unloading n e = (refl, refl)
 
+cancel_steps : (s : ModuleState) (n : ℕ) → not (is_unloading s || is_draining s) ≡ false → (takes_references s ≡ false → n ≡ 0)
+    → Steps (cond (is_draining s) (takes_effect (word_in s n - 8589934592) Done) (takes_effect (cond (eqb (word_in s n) 4294967296) 0 (word_in s n)) Done)) None Done (word_in s n) n
+cancel_steps Absent n e none = cc
+cancel_steps Loading n e none = cc
+cancel_steps Live n e none = cc
+cancel_steps Draining n e none = (refl, omega arith)
+cancel_steps Unloading n e none = (refl, sym (none refl))
+
 -- the same at a word and a word after that are known
 steps_at : (step : ℕ → WordStep) (refused : Option Reply) (word n after m : ℕ) → word ≡ n → after ≡ m → Steps (step n) refused Done n m → Steps (step word) refused Done word after
 steps_at step refused word n after m e f known =
@@ -166,6 +174,13 @@ call_steps catalogue workers table (EndRemove m) shape small lawful range =
     let after : word_of (effect table (EndRemove m)) m ≡ 4294967296 = word_changed table.book.states table.rows m Absent (without table.book m).order (omega (arith, shape.states, range.0)) in
     steps_at (λ v. cond (is_draining (state_of table.book m)) (close_step 8589934592 v) (takes_effect v Done)) (refuse (is_draining (state_of table.book m) && is_held table m) InUse None) (word_of table m) (word_of table m) (word_of (effect table (EndRemove m)) m) 4294967296 refl after
     (end_remove_steps (state_of table.book m) (holders table.rows m) one.0))
+call_steps catalogue workers table (CancelRemove m) shape small lawful range =
+    book_steps catalogue table (CancelRemove m) (book_refusal catalogue table.book (CancelRemove m)) None (word_of table m) (word_of (effect table (CancelRemove m)) m) Done
+    (λ (e : book_refusal catalogue table.book (CancelRemove m) ≡ None).
+    let one : (not (is_unloading (state_of table.book m) || is_draining (state_of table.book m)) ≡ false) × (None ≡ None) = passed _ _ _ e in
+    let after : word_of (effect table (CancelRemove m)) m ≡ holders table.rows m = word_changed table.book.states table.rows m Live table.book.order (omega (arith, shape.states, range.0)) in
+    steps_at (λ v. cond (is_draining (state_of table.book m)) (takes_effect (v - 8589934592) Done) (takes_effect (cond (eqb v 4294967296) 0 v) Done)) None (word_of table m) (word_of table m) (word_of (effect table (CancelRemove m)) m) (holders table.rows m) refl after
+    (cancel_steps (state_of table.book m) (holders table.rows m) one.0 (λ shut. holders_none table.rows m (free_when_shut table m lawful.pairs shut))))
 
 -- the words of the other slots
 other_words : (catalogue : List Module) (table : Table) (call : Call) (workers : ℕ) → IsShaped (length catalogue) workers table → IsInRange (length catalogue) workers call
@@ -179,6 +194,7 @@ other_words catalogue table (EndLoad m false) workers shape range k ne = ap (λ 
 other_words catalogue table (BeginDrain m) workers shape range k ne = ap (λ (t : ModuleState). word_in t (holders table.rows k)) (get_or-set_other table.book.states m k Draining Absent ne)
 other_words catalogue table (BeginRemove m) workers shape range k ne = ap (λ (t : ModuleState). word_in t (holders table.rows k)) (get_or-set_other table.book.states m k Unloading Absent ne)
 other_words catalogue table (EndRemove m) workers shape range k ne = ap (λ (t : ModuleState). word_in t (holders table.rows k)) (get_or-set_other table.book.states m k Absent Absent ne)
+other_words catalogue table (CancelRemove m) workers shape range k ne = ap (λ (t : ModuleState). word_in t (holders table.rows k)) (get_or-set_other table.book.states m k Live Absent ne)
 
 other_words_next : (catalogue : List Module) (table : Table) (call : Call) (workers : ℕ) → IsShaped (length catalogue) workers table → IsInRange (length catalogue) workers call
     → (k : ℕ) → k ≢ slot_of call → word_of (next catalogue table call) k ≡ word_of table k

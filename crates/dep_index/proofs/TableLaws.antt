@@ -8,7 +8,7 @@ use Rattle.std.specs.List.{count_by}
 use Rattle.dep_index.specs.declared.table.states.ModuleState.{ModuleState}
 use Rattle.dep_index.specs.declared.table.states.ModuleState.TheVariants.{Absent, Loading, Live, Draining, Unloading}
 use Rattle.dep_index.specs.declared.table.calls.Call.{Call}
-use Rattle.dep_index.specs.declared.table.calls.Call.TheVariants.{Get, Put, InUse as Query, BeginLoad, EndLoad, BeginDrain, BeginRemove, EndRemove}
+use Rattle.dep_index.specs.declared.table.calls.Call.TheVariants.{Get, Put, InUse as Query, BeginLoad, EndLoad, BeginDrain, BeginRemove, EndRemove, CancelRemove}
 use Rattle.dep_index.specs.declared.table.calls.Reply.{Reply}
 use Rattle.dep_index.specs.declared.table.calls.Reply.TheVariants.{NotLive, TooMany, UnknownSymbol, NeededBy, Permanent, InUse}
 use Rattle.dep_index.specs.Table.{Module, Book, Table, state_of, is_absent, is_loading, is_live, is_draining, is_unloading, takes_references, needs_slot, has_users, count_of, is_held, holders, module_at}
@@ -183,11 +183,11 @@ begin_load_lawful catalogue table m room absent none lawful =
             let apart : eqb m k ≡ false = ne_eqb m k (λ e. ne (sym e)) in
             rw (apart, change.other k ne) (omega (arith, lawful.order k))
 
--- a load ends well
-pub end_load_lawful : (catalogue : List Module) (table : Table) (m : ℕ) → m < length table.book.states
-    → is_loading (state_of table.book m) ≡ true
-    → IsLawful catalogue table → IsLawful catalogue (effect table (EndLoad m true))
-end_load_lawful catalogue table m room loading lawful =
+-- a module of the table becomes Live
+pub live_lawful : (catalogue : List Module) (table : Table) (m : ℕ) → m < length table.book.states
+    → is_absent (state_of table.book m) ≡ false
+    → IsLawful catalogue table → IsLawful catalogue (record { book = with_state table.book m Live; rows = table.rows })
+live_lawful catalogue table m room present lawful =
     book_changed catalogue table (with_state table.book m Live) m Live change
     (order_kept table.book (with_state table.book m Live) m Live change refl (present) lawful.order)
     (λ w held. refl)
@@ -197,8 +197,13 @@ end_load_lawful catalogue table m room loading lawful =
       change : StateChange table.book (with_state table.book m Live) m Live
       change = state_change table.book.states table.book.order table.book.order m Live room
 
-      present : is_absent (state_of table.book m) ≡ false
-      present = let e : state_of table.book m ≡ Loading = loading_from (state_of table.book m) loading in rw e refl
+-- a load ends well
+pub end_load_lawful : (catalogue : List Module) (table : Table) (m : ℕ) → m < length table.book.states
+    → is_loading (state_of table.book m) ≡ true
+    → IsLawful catalogue table → IsLawful catalogue (effect table (EndLoad m true))
+end_load_lawful catalogue table m room loading lawful =
+    let e : state_of table.book m ≡ Loading = loading_from (state_of table.book m) loading in
+    live_lawful catalogue table m room (rw e refl) lawful
 
 -- a module leaves the table, held by nobody and not Live
 pub removed_lawful : (catalogue : List Module) (table : Table) (m : ℕ) → m < length table.book.states
@@ -311,6 +316,13 @@ ended_is_down Live e = cc
 ended_is_down Draining e = refl
 ended_is_down Unloading e = refl
 
+pub ended_is_present : (s : ModuleState) → not (is_unloading s || is_draining s) ≡ false → is_absent s ≡ false
+ended_is_present Absent e = cc
+ended_is_present Loading e = cc
+ended_is_present Live e = cc
+ended_is_present Draining e = refl
+ended_is_present Unloading e = refl
+
 pub ended_is_free : (table : Table) (m : ℕ) → PairsAreOpen table → (s : ModuleState) → state_of table.book m ≡ s
     → not (is_unloading s || is_draining s) ≡ false → (is_draining s && is_held table m) ≡ false
     → (w : ℕ) → count_of table w m ≡ 0
@@ -382,3 +394,7 @@ effect_lawful catalogue workers table (EndRemove m) shape lawful range allowed =
     let free : ((is_draining (state_of table.book m) && is_held table m) ≡ false) × (None ≡ None) = passed _ _ _ both.1 in
     removed_lawful catalogue table m (omega (arith, shape.states, range.0)) (ended_is_down _ one.0)
     (ended_is_free table m lawful.pairs (state_of table.book m) refl one.0 free.0) lawful
+effect_lawful catalogue workers table (CancelRemove m) shape lawful range allowed =
+    let both : (book_refusal catalogue table.book (CancelRemove m) ≡ None) × (None ≡ None) = both_passed _ _ allowed in
+    let one : (not (is_unloading (state_of table.book m) || is_draining (state_of table.book m)) ≡ false) × (None ≡ None) = passed _ _ _ both.0 in
+    live_lawful catalogue table m (omega (arith, shape.states, range.0)) (ended_is_present _ one.0) lawful

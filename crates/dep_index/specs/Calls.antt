@@ -4,7 +4,7 @@ use Rattle.std.specs.Prelude.{ℕ, ◌+◌, ◌-◌, ◌==◌, ◌<◌, nat_le, 
 use Rattle.dep_index.specs.declared.table.states.ModuleState.{ModuleState}
 use Rattle.dep_index.specs.declared.table.states.ModuleState.TheVariants.{Absent, Loading, Live, Draining, Unloading}
 use Rattle.dep_index.specs.declared.table.calls.Call.{Call}
-use Rattle.dep_index.specs.declared.table.calls.Call.TheVariants.{Get, Put, InUse as Query, BeginLoad, EndLoad, BeginDrain, BeginRemove, EndRemove}
+use Rattle.dep_index.specs.declared.table.calls.Call.TheVariants.{Get, Put, InUse as Query, BeginLoad, EndLoad, BeginDrain, BeginRemove, EndRemove, CancelRemove}
 use Rattle.dep_index.specs.declared.table.calls.Reply.{Reply}
 use Rattle.dep_index.specs.declared.table.calls.Reply.TheVariants.{Done, Yes, No, NotLive, TooMany, NotHeld, Exists, UnknownSymbol, NeedNotLive, NotLoading, NoEntry, NeededBy, Permanent, InUse, NotUnloading}
 use Rattle.dep_index.specs.Table.{Module, Book, Table, module_at, state_of, is_absent, is_loading, is_live, is_draining, is_unloading, count_of, is_held, has_users}
@@ -47,6 +47,8 @@ book_refusal catalogue book (BeginDrain m) = unload_refusal catalogue book m
 book_refusal catalogue book (BeginRemove m) = unload_refusal catalogue book m
 book_refusal catalogue book (EndRemove m) =
     refuse (not (is_unloading (state_of book m) || is_draining (state_of book m))) NotUnloading None
+book_refusal catalogue book (CancelRemove m) =
+    refuse (not (is_unloading (state_of book m) || is_draining (state_of book m))) NotUnloading None
 book_refusal catalogue book _ = None
 
 -- the refusals that follow, by the references
@@ -86,6 +88,7 @@ book_effect book (EndLoad m false) = without book m
 book_effect book (BeginDrain m) = with_state book m Draining
 book_effect book (BeginRemove m) = with_state book m Unloading
 book_effect book (EndRemove m) = without book m
+book_effect book (CancelRemove m) = with_state book m Live
 book_effect book _ = book
 
 -- a worker's row after its call that is not refused
@@ -140,6 +143,7 @@ slot_of (EndLoad m ok) = m
 slot_of (BeginDrain m) = m
 slot_of (BeginRemove m) = m
 slot_of (EndRemove m) = m
+slot_of (CancelRemove m) = m
 
 -- the worker that takes a reference or puts one back
 abbrev pub worker_of : Call → Option ℕ

@@ -2,7 +2,7 @@
 use Rattle.std.specs.Prelude.{◌≡◌, ◌≢◌, ℕ, ◌==◌, ◌<◌, ◌≤◌, true, false, List, [], ◌∷◌, length, count_by, slice_index_or, ◌⊎◌, if◌then◌else◌}
 use Rattle.dep_index.specs.declared.table.states.ModuleState.TheVariants.{Live}
 use Rattle.dep_index.specs.declared.table.calls.Call.{Call}
-use Rattle.dep_index.specs.declared.table.calls.Call.TheVariants.{Get, EndLoad, BeginDrain, BeginRemove, EndRemove}
+use Rattle.dep_index.specs.declared.table.calls.Call.TheVariants.{Get, EndLoad, BeginDrain, BeginRemove, EndRemove, CancelRemove}
 use Rattle.dep_index.specs.declared.table.calls.Reply.TheVariants.{Done, NotLive}
 use Rattle.dep_index.specs.Table.{Module, Book, Table, state_of, is_absent, takes_references, needs_slot, users, pairs, count_of}
 use Rattle.dep_index.specs.Calls.{reply, next, after, opening, IsInRange}
@@ -58,20 +58,33 @@ RemovesUnused =
     reply catalogue table call ≡ Done
     → (pairs table.rows m ≡ 0) × (users catalogue table.book m ≡ [])
 
--- no load of m ends well in these calls
-abbrev pub NoReload : List Module → ℕ → Table → List Call → Type 0
-NoReload catalogue m table [] = Unit {0}
-NoReload catalogue m table (call ∷ calls) =
-    (call ≡ EndLoad m true → reply catalogue table call ≢ Done) × NoReload catalogue m (next catalogue table call) calls
+-- the call makes m Live: its load ends well, or its removal is called off
+abbrev pub IsReviving : ℕ → Call → Type 0
+IsReviving m call = (call ≡ EndLoad m true) ⊎ (call ≡ CancelRemove m)
+
+-- no call of these makes m Live again
+abbrev pub NoRevival : List Module → ℕ → Table → List Call → Type 0
+NoRevival catalogue m table [] = Unit {0}
+NoRevival catalogue m table (call ∷ calls) =
+    (IsReviving m call → reply catalogue table call ≢ Done) × NoRevival catalogue m (next catalogue table call) calls
 
 -- the call shuts m to each further get
 abbrev pub IsShutting : ℕ → Call → Type 0
 IsShutting m call = (call ≡ BeginRemove m) ⊎ ((call ≡ EndRemove m) ⊎ (call ≡ BeginDrain m))
 
--- after such an Ok each get of m answers NotLive, up to the next load of m that ends well
+-- after such an Ok each get of m answers NotLive, until m is Live again
 abbrev pub StaysShut : Type 0
 StaysShut =
     (catalogue : List Module) (table : Table) (m w : ℕ) (call : Call) (between : List Call)
     → IsShutting m call → reply catalogue table call ≡ Done
-    → NoReload catalogue m (next catalogue table call) between
+    → NoRevival catalogue m (next catalogue table call) between
     → reply catalogue (after catalogue (next catalogue table call) between) (Get w m) ≡ NotLive
+
+-- a drain or a removal that is begun and at once called off leaves the table as it was
+abbrev pub CancelUndoes : Type 0
+CancelUndoes =
+    (catalogue : List Module) (table : Table) (m : ℕ) (call : Call)
+    → (call ≡ BeginDrain m) ⊎ (call ≡ BeginRemove m) → m < length table.book.states
+    → reply catalogue table call ≡ Done
+    → let begun = next catalogue table call in
+    (reply catalogue begun (CancelRemove m) ≡ Done) × (next catalogue begun (CancelRemove m) ≡ table)

@@ -4,7 +4,7 @@ use Rattle.std.specs.Prelude.{◌≡◌, ◌≢◌, ◌<◌, length, ℕ, ◌+�
 use Rattle.dep_index.specs.declared.table.states.ModuleState.{ModuleState}
 use Rattle.dep_index.specs.declared.table.states.ModuleState.TheVariants.{Live, Draining}
 use Rattle.dep_index.specs.declared.table.calls.Call.{Call}
-use Rattle.dep_index.specs.declared.table.calls.Call.TheVariants.{Get, Put, InUse as Query, EndLoad, BeginDrain, BeginRemove, EndRemove}
+use Rattle.dep_index.specs.declared.table.calls.Call.TheVariants.{Get, Put, InUse as Query, EndLoad, BeginDrain, BeginRemove, EndRemove, CancelRemove}
 use Rattle.dep_index.specs.declared.table.calls.Reply.{Reply}
 use Rattle.dep_index.specs.declared.table.calls.Reply.TheVariants.{Done, Yes, No, NotLive, TooMany, NotHeld, InUse}
 pub use Rattle.dep_index.specs.declared.words.Outcome.{Outcome}
@@ -75,6 +75,10 @@ book_step book (BeginDrain m) word = takes_effect (word + drained) Done
 book_step book (BeginRemove m) word = close_step 0 word
 book_step book (EndRemove m) word =
     if is_draining (state_of book m) then close_step drained word else takes_effect word Done
+book_step book (CancelRemove m) word =
+    if is_draining (state_of book m)
+    then takes_effect (word - drained) Done
+    else takes_effect (if word == closed then 0 else word) Done
 book_step book _ word = takes_effect word Done
 
 -- a refusal takes effect and leaves the word

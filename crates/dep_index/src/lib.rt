@@ -18,8 +18,8 @@ pub use faults::{CatError, DepError};
 pub use table::book::Book;
 pub use table::calls::{Call, Reply};
 pub use table::refusals::{
-    BeginDrainError, BeginLoadError, BeginRemoveError, EndLoadError, EndRemoveError, GetError,
-    PutError, Refusal,
+    BeginDrainError, BeginLoadError, BeginRemoveError, CancelRemoveError, EndLoadError,
+    EndRemoveError, GetError, PutError, Refusal,
 };
 pub use table::slots::Slots;
 pub use table::states::ModuleState;

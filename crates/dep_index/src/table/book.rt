@@ -3,14 +3,15 @@ ghost use Rattle.std.specs.Prelude.{ℕ, ◌≡◌, ◌<◌, ◌==◌, ◌&&◌,
 ghost use Rattle.std.specs.List.{list_any};
 ghost use Rattle.dep_index.specs.Table.{state_of, needs_slot, users, has_users};
 ghost use Rattle.dep_index.specs.Calls.{slot_of, book_refusal, unload_refusal, book_effect, opening, with_state, without};
-ghost use Rattle.dep_index.specs.Refusals.{refusal_of, begin_load_refusal, end_load_refusal, begin_drain_refusal, begin_remove_refusal, end_remove_refusal};
-ghost use Rattle.dep_index.specs.declared.table.calls.Call.TheVariants.{BeginLoad, EndLoad, EndRemove};
+ghost use Rattle.dep_index.specs.Refusals.{refusal_of, begin_load_refusal, end_load_refusal, begin_drain_refusal, begin_remove_refusal, end_remove_refusal, cancel_remove_refusal};
+ghost use Rattle.dep_index.specs.declared.table.calls.Call.TheVariants.{BeginLoad, EndLoad, EndRemove, CancelRemove};
 
 use crate::reads;
 use crate::table::calls::{Call, Reply};
 use crate::table::order::Order;
 use crate::table::refusals::{
-    BeginDrainError, BeginLoadError, BeginRemoveError, EndLoadError, EndRemoveError, Refusal,
+    BeginDrainError, BeginLoadError, BeginRemoveError, CancelRemoveError, EndLoadError,
+    EndRemoveError, Refusal,
 };
 use crate::table::slots::Slots;
 use crate::table::states::ModuleState;
@@ -161,6 +162,18 @@ impl Book {
         }
     }
 
+    /// Why no removal and no drain of the slot is called off; None if one is.
+    pub fn cancel_remove_refusal(&self, slot: usize) -> Option<CancelRemoveError>
+        ensures { refusal_of cancel_remove_refusal result ≡ book_refusal [] self.now (CancelRemove slot) }
+    {
+        let state = self.state(slot);
+        if reads::is_draining(state) || reads::is_unloading(state) {
+            None
+        } else {
+            Some(CancelRemoveError::NotUnloading)
+        }
+    }
+
     /// Why the book refuses a call, as a reply; None if it does not.
     pub fn refusal(&self, slots: &Slots, call: Call) -> Option<Reply>
         requires { slot_of call < length slots.now }
@@ -173,6 +186,7 @@ impl Book {
                 Reply::of_refusal(self.drain_refusal(slots, slot))
             }
             Call::EndRemove(slot) => Reply::of_refusal(self.end_remove_refusal(slot)),
+            Call::CancelRemove(slot) => Reply::of_refusal(self.cancel_remove_refusal(slot)),
             Call::Get(_, _) | Call::Put(_, _) | Call::InUse(_) => None,
         }
     }
@@ -212,7 +226,9 @@ impl Book {
     {
         match call {
             Call::BeginLoad(slot) => self.enter(slot),
-            Call::EndLoad(slot, true) => self.set(slot, ModuleState::Live),
+            Call::EndLoad(slot, true) | Call::CancelRemove(slot) => {
+                self.set(slot, ModuleState::Live)
+            }
             Call::EndLoad(slot, false) | Call::EndRemove(slot) => self.leave(slot),
             Call::BeginDrain(slot) => self.set(slot, ModuleState::Draining),
             Call::BeginRemove(slot) => self.set(slot, ModuleState::Unloading),

@@ -22,6 +22,8 @@ pub enum Call {
     BeginRemove(usize),
     /// Ends a removal, or the drain of a module that nobody holds any more: it is Absent then.
     EndRemove(usize),
+    /// Calls off a removal or a drain: the module is Live again, and keeps its place and its references.
+    CancelRemove(usize),
 }
 
 impl Call {
@@ -37,7 +39,8 @@ impl Call {
             | Call::BeginLoad(slot)
             | Call::BeginDrain(slot)
             | Call::BeginRemove(slot)
-            | Call::EndRemove(slot) => slot,
+            | Call::EndRemove(slot)
+            | Call::CancelRemove(slot) => slot,
         }
     }
 }
@@ -73,7 +76,7 @@ pub enum Reply {
     Permanent,
     /// A removal, or the end of a drain, of a module to which there are references.
     InUse,
-    /// The end of a removal of a module that is neither Unloading nor Draining.
+    /// A removal is ended or called off, of a module that is neither Unloading nor Draining.
     NotUnloading,
 }
 

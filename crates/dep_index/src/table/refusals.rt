@@ -2,7 +2,7 @@
 //! that delete_module(2) and init_module(2) give for the same case.
 ghost use Rattle.std.specs.Prelude.{◌≡◌};
 ghost use Rattle.dep_index.specs.Refusals.{get_refusal, put_refusal, begin_load_refusal, end_load_refusal};
-ghost use Rattle.dep_index.specs.Refusals.{begin_drain_refusal, begin_remove_refusal, end_remove_refusal};
+ghost use Rattle.dep_index.specs.Refusals.{begin_drain_refusal, begin_remove_refusal, end_remove_refusal, cancel_remove_refusal};
 
 use crate::table::calls::Reply;
 use thiserror::Error;
@@ -198,6 +198,24 @@ impl Refusal for EndRemoveError {
         match self {
             EndRemoveError::NotUnloading => Reply::NotUnloading,
             EndRemoveError::InUse => Reply::InUse,
+        }
+    }
+}
+
+/// Why no removal and no drain is called off.
+#[derive(Clone, Copy, Debug, PartialEq, Eq, Drop, Error)]
+pub enum CancelRemoveError {
+    /// The module is neither Unloading nor Draining.
+    #[error("the module is neither unloading nor draining")]
+    NotUnloading,
+}
+
+impl Refusal for CancelRemoveError {
+    ghost as_reply = { cancel_remove_refusal };
+
+    fn reply(self) -> Reply {
+        match self {
+            CancelRemoveError::NotUnloading => Reply::NotUnloading,
         }
     }
 }
