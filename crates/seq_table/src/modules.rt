@@ -3,13 +3,13 @@ ghost use Rattle.std.specs.Prelude.{◌≡◌, ◌<◌, ◌≤◌, ◌↔◌, �
 ghost use Rattle.dep_index.specs.Table.{Module, Table as OneThread, state_of, count_of, is_held, needs_slot, pairs, users, references};
 ghost use Rattle.dep_index.specs.Calls.{reply, next};
 ghost use Rattle.dep_index.specs.Refusals.{reply_of, get_refusal, put_refusal, begin_load_refusal, end_load_refusal};
-ghost use Rattle.dep_index.specs.Refusals.{begin_drain_refusal, begin_remove_refusal, end_remove_refusal};
+ghost use Rattle.dep_index.specs.Refusals.{begin_drain_refusal, begin_remove_refusal, end_remove_refusal, cancel_remove_refusal};
 ghost use Rattle.dep_index.specs.Laws.{IsShaped, IsLawful};
-ghost use Rattle.dep_index.specs.declared.table.calls.Call.TheVariants.{Get, Put, BeginLoad, EndLoad, BeginDrain, BeginRemove, EndRemove};
+ghost use Rattle.dep_index.specs.declared.table.calls.Call.TheVariants.{Get, Put, BeginLoad, EndLoad, BeginDrain, BeginRemove, EndRemove, CancelRemove};
 
 use dep_index::{
-    BeginDrainError, BeginLoadError, BeginRemoveError, EndLoadError, EndRemoveError, GetError,
-    ModuleState, PutError,
+    BeginDrainError, BeginLoadError, BeginRemoveError, CancelRemoveError, EndLoadError,
+    EndRemoveError, GetError, ModuleState, PutError,
 };
 use std::alloc::AllocError;
 
@@ -159,6 +159,15 @@ pub trait Modules {
         requires { slot < length (catalogue self.old) }
         ensures answers { reply_of end_remove_refusal result ≡ reply (catalogue self.old) (table self.old) (EndRemove slot) }
         ensures becomes { table self.new ≡ next (catalogue self.old) (table self.old) (EndRemove slot) }
+        ensures over { catalogue self.new ≡ catalogue self.old }
+        ensures named { names self.new ≡ names self.old };
+
+    /// An unloading or draining module is live again, and is needed and given as before; its references stay.
+    /// `NotUnloading`: it is neither.
+    fn cancel_remove(&mut self, slot: usize) -> Result<(), CancelRemoveError>
+        requires { slot < length (catalogue self.old) }
+        ensures answers { reply_of cancel_remove_refusal result ≡ reply (catalogue self.old) (table self.old) (CancelRemove slot) }
+        ensures becomes { table self.new ≡ next (catalogue self.old) (table self.old) (CancelRemove slot) }
         ensures over { catalogue self.new ≡ catalogue self.old }
         ensures named { names self.new ≡ names self.old };
 }

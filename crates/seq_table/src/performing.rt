@@ -24,5 +24,6 @@ pub fn perform<M: Modules>(table: &mut M, call: Call) -> Reply
         Call::BeginDrain(slot) => Reply::of(table.begin_drain(slot)),
         Call::BeginRemove(slot) => Reply::of(table.begin_remove(slot)),
         Call::EndRemove(slot) => Reply::of(table.end_remove(slot)),
+        Call::CancelRemove(slot) => Reply::of(table.cancel_remove(slot)),
     }
 }

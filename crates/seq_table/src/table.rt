@@ -6,8 +6,8 @@ ghost use Rattle.dep_index.specs.Calls.{opening};
 use crate::counts::Counts;
 use crate::modules::Modules;
 use dep_index::{
-    BeginDrainError, BeginLoadError, BeginRemoveError, Book, Catalogue, EndLoadError,
-    EndRemoveError, GetError, ModuleState, PutError, Slots, reads,
+    BeginDrainError, BeginLoadError, BeginRemoveError, Book, CancelRemoveError, Catalogue,
+    EndLoadError, EndRemoveError, GetError, ModuleState, PutError, Slots, reads,
 };
 use std::alloc::{AllocError, Global};
 use std::marker::Model;
@@ -196,6 +196,14 @@ impl Modules for Table {
             return Err(EndRemoveError::InUse);
         }
         self.book.leave(slot);
+        Ok(())
+    }
+
+    fn cancel_remove(&mut self, slot: usize) -> Result<(), CancelRemoveError> {
+        if let Some(refusal) = self.book.cancel_remove_refusal(slot) {
+            return Err(refusal);
+        }
+        self.book.set(slot, ModuleState::Live);
         Ok(())
     }
 }
