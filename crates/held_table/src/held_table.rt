@@ -7,8 +7,8 @@ use crate::name::HolderName;
 use crate::names::Names;
 use crate::rows::Rows;
 use dep_index::{
-    BeginDrainError, BeginLoadError, BeginRemoveError, Book, EndLoadError, EndRemoveError,
-    GetError, ModuleState, PutError, Slots, reads,
+    BeginDrainError, BeginLoadError, BeginRemoveError, Book, CancelRemoveError, EndLoadError,
+    EndRemoveError, GetError, ModuleState, PutError, Slots, reads,
 };
 use seq_table::Modules;
 use std::alloc::{AllocError, Global};
@@ -216,6 +216,14 @@ impl Modules for HeldTable {
             return Err(EndRemoveError::InUse);
         }
         self.book.leave(slot);
+        Ok(())
+    }
+
+    fn cancel_remove(&mut self, slot: usize) -> Result<(), CancelRemoveError> {
+        if let Some(refusal) = self.book.cancel_remove_refusal(slot) {
+            return Err(refusal);
+        }
+        self.book.set(slot, ModuleState::Live);
         Ok(())
     }
 }
