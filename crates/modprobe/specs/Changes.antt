@@ -52,9 +52,10 @@ one_removal s slot t =
     if is_draining (state_of t.book slot) then call_change s unload_code slot (call.EndRemove slot) t
     else (call_change s unload_code slot (call.BeginRemove slot) t then (λ u. call_change s unload_code slot (call.EndRemove slot) u))
 
--- one of the two calls of a load or of a removal
+-- one of the calls of a load or of a removal
 abbrev pub half_change : Setup → ℕ → Half → Table → Change
 half_change s slot half_is.BeginLoad t = call_change s code_of slot (call.BeginLoad slot) t
 half_change s slot (half_is.EndLoad ok) t = call_change s code_of slot (call.EndLoad slot ok) t
 half_change s slot half_is.BeginRemove t = call_change s unload_code slot (call.BeginRemove slot) t
 half_change s slot half_is.EndRemove t = call_change s unload_code slot (call.EndRemove slot) t
+half_change s slot half_is.CancelRemove t = call_change s unload_code slot (call.CancelRemove slot) t

@@ -11,8 +11,8 @@ use crate::refusal::{Code, SlotRefusal};
 use crate::session::Session;
 use dep_index::reads::is_draining;
 use dep_index::{
-    BeginDrainError, BeginLoadError, BeginRemoveError, EndLoadError, EndRemoveError, GetError,
-    PutError,
+    BeginDrainError, BeginLoadError, BeginRemoveError, CancelRemoveError, EndLoadError,
+    EndRemoveError, GetError, PutError,
 };
 use load_plan::params_valid;
 use seq_table::Modules;
@@ -91,6 +91,17 @@ impl<'s, 't, M: Modules> Session<'s, 't, M> {
             Ok(()) => Ok(()),
             Err(EndRemoveError::NotUnloading) => Err(SlotRefusal::new(Code::Ebusy, slot)),
             Err(EndRemoveError::InUse) => Err(SlotRefusal::new(Code::Ewouldblock, slot)),
+        }
+    }
+
+    /// Calls off a removal or a drain.
+    pub(crate) fn cancel_remove(&mut self, slot: usize) -> Result<(), SlotRefusal>
+        requires { slot < length self.old.setup.now.catalogue }
+        ensures { Makes self.old self.new (refusal_in self.old.setup.now result) (λ s t. call_change s unload_code slot (calls.CancelRemove slot) t) }
+    {
+        match self.table.cancel_remove(slot) {
+            Ok(()) => Ok(()),
+            Err(CancelRemoveError::NotUnloading) => Err(SlotRefusal::new(Code::Ebusy, slot)),
         }
     }
 

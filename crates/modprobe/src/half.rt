@@ -21,6 +21,8 @@ pub enum Half {
     EndLoad(bool),
     BeginRemove,
     EndRemove,
+    /// The removal, or a drain, is called off: the module is live again.
+    CancelRemove,
 }
 
 #[tactic(auto, using(crate::proofs::SlotLemmas::modules_of_length))]
@@ -34,6 +36,7 @@ impl<'s, 't, M: Modules> Session<'s, 't, M> {
             Half::EndLoad(ok) => self.end_load(slot, ok),
             Half::BeginRemove => self.begin_remove(slot),
             Half::EndRemove => self.end_remove(slot),
+            Half::CancelRemove => self.cancel_remove(slot),
         }
     }
 
