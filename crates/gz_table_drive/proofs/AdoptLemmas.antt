@@ -89,6 +89,7 @@ change_sound s workers slot half_is.BeginLoad t below = next_sound s workers t (
 change_sound s workers slot (half_is.EndLoad ok) t below = next_sound s workers t (call.EndLoad slot ok) (below, tt)
 change_sound s workers slot half_is.BeginRemove t below = next_sound s workers t (call.BeginRemove slot) (below, tt)
 change_sound s workers slot half_is.EndRemove t below = next_sound s workers t (call.EndRemove slot) (below, tt)
+change_sound s workers slot half_is.CancelRemove t below = next_sound s workers t (call.CancelRemove slot) (below, tt)
 
 half_sound : (s : Setup) (workers : ℕ) (name : List ℕ) (half : Half) (t : Table) → IsSound s workers t → IsSound s workers (half_outcome s name half t).1
 half_sound s workers name half t sound = at (slot_named s.catalogue name) refl where

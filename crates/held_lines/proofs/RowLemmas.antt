@@ -60,6 +60,7 @@ half_change_rows s slot (half_is.EndLoad true) t = next_rows (modules_of s.catal
 half_change_rows s slot (half_is.EndLoad false) t = next_rows (modules_of s.catalogue) t (call.EndLoad slot false) refl
 half_change_rows s slot half_is.BeginRemove t = next_rows (modules_of s.catalogue) t (call.BeginRemove slot) refl
 half_change_rows s slot half_is.EndRemove t = next_rows (modules_of s.catalogue) t (call.EndRemove slot) refl
+half_change_rows s slot half_is.CancelRemove t = next_rows (modules_of s.catalogue) t (call.CancelRemove slot) refl
 
 -- Half of a load or of a removal leaves the rows as they are.
 pub half_rows : (s : Setup) (name : List ℕ) (half : Half) (t : Table) → (half_outcome s name half t).1.rows ≡ t.rows

@@ -80,7 +80,8 @@ by_half first rest =
     if bytes_eq first (codes "begin_load") then with_half first half_is.BeginLoad rest
     else (if bytes_eq first (codes "end_load") then with_end first rest
     else (if bytes_eq first (codes "begin_remove") then with_half first half_is.BeginRemove rest
-    else (if bytes_eq first (codes "end_remove") then with_half first half_is.EndRemove rest else as_session)))
+    else (if bytes_eq first (codes "end_remove") then with_half first half_is.EndRemove rest
+    else (if bytes_eq first (codes "cancel_remove") then with_half first half_is.CancelRemove rest else as_session))))
 
 -- what a first word asks for, with the words that follow it
 abbrev pub by_first : List ℕ → List (List ℕ) → Asked

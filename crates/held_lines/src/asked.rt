@@ -219,6 +219,8 @@ fn by_half<'a>(
         with_half(alloc, first, Half::BeginRemove, rest)
     } else if first == b"end_remove".as_slice() {
         with_half(alloc, first, Half::EndRemove, rest)
+    } else if first == b"cancel_remove".as_slice() {
+        with_half(alloc, first, Half::CancelRemove, rest)
     } else {
         Ok(Asked::AsSession)
     }
