@@ -4,7 +4,7 @@ use Rattle.std.proofs.Math.ListN.{set, length-set}
 use Rattle.std.proofs.lemmas.Bool.{cases_eq}
 use Rattle.std.specs.Option.{is_some, unwrap_or}
 use Rattle.dep_index.specs.declared.table.calls.Call.{Call}
-use Rattle.dep_index.specs.declared.table.calls.Call.TheVariants.{Get, Put, InUse as Query, BeginLoad, EndLoad, BeginDrain, BeginRemove, EndRemove}
+use Rattle.dep_index.specs.declared.table.calls.Call.TheVariants.{Get, Put, InUse as Query, BeginLoad, EndLoad, BeginDrain, BeginRemove, EndRemove, CancelRemove}
 use Rattle.dep_index.specs.declared.table.calls.Reply.{Reply}
 use Rattle.dep_index.specs.declared.table.calls.Reply.TheVariants.{Done, Yes, No}
 use Rattle.dep_index.specs.Table.{Module, Table, count_of, is_held}
@@ -34,6 +34,7 @@ holder-with_same slots locks (EndLoad m ok) o has range = refl
 holder-with_same slots locks (BeginDrain m) o has range = refl
 holder-with_same slots locks (BeginRemove m) o has range = refl
 holder-with_same slots locks (EndRemove m) o has range = refl
+holder-with_same slots locks (CancelRemove m) o has range = refl
 
 length-with_holder : (locks : Locks) (l : LockName) (o : Option ℕ) → length (with_holder locks l o).leaves ≡ length locks.leaves
 length-with_holder locks (Leaf w) o = length-set locks.leaves w o
@@ -192,6 +193,7 @@ return_line catalogue workers s t a r sound here is = (
     freed_of (BeginDrain m) range = refl
     freed_of (BeginRemove m) range = refl
     freed_of (EndRemove m) range = refl
+    freed_of (CancelRemove m) range = refl
 
   nothing_written : writing (Some a) ≡ None
   nothing_written = rw is refl
@@ -215,6 +217,7 @@ counts_stay written (EndLoad m ok) v k ne = refl
 counts_stay written (BeginDrain m) v k ne = refl
 counts_stay written (BeginRemove m) v k ne = refl
 counts_stay written (EndRemove m) v k ne = refl
+counts_stay written (CancelRemove m) v k ne = refl
 
 -- the count or the book is written
 pub write_line : (catalogue : List Module) (workers : ℕ) (s : State) (t : ℕ) (a : Activity) → IsSound catalogue workers s
@@ -275,6 +278,7 @@ seen_as_shown catalogue s t (EndLoad m ok) v holds range none = rw (own_pends s.
 seen_as_shown catalogue s t (BeginDrain m) v holds range none = rw (own_pends s.threads s.locks t TableLock holds none) refl
 seen_as_shown catalogue s t (BeginRemove m) v holds range none = rw (own_pends s.threads s.locks t TableLock holds none) refl
 seen_as_shown catalogue s t (EndRemove m) v holds range none = rw (own_pends s.threads s.locks t TableLock holds none) refl
+seen_as_shown catalogue s t (CancelRemove m) v holds range none = rw (own_pends s.threads s.locks t TableLock holds none) refl
 
 length-row_effect : (row : List ℕ) (call : Call) → length (row_effect row call) ≡ length row
 length-row_effect row (Get w m) = length-set row m _
@@ -285,6 +289,7 @@ length-row_effect row (EndLoad m ok) = refl
 length-row_effect row (BeginDrain m) = refl
 length-row_effect row (BeginRemove m) = refl
 length-row_effect row (EndRemove m) = refl
+length-row_effect row (CancelRemove m) = refl
 
 -- the shown table has the shape of what is written
 pub shown_shaped : (slots workers : ℕ) (s : State) → IsShaped slots workers s.written → IsShaped slots workers (shown s)
@@ -315,6 +320,7 @@ done_has_lock catalogue table (EndLoad m ok) e = tt
 done_has_lock catalogue table (BeginDrain m) e = tt
 done_has_lock catalogue table (BeginRemove m) e = tt
 done_has_lock catalogue table (EndRemove m) e = tt
+done_has_lock catalogue table (CancelRemove m) e = tt
 
 -- a call that is not Done leaves the table
 pub next_not_done : (catalogue : List Module) (table : Table) (call : Call) → (reply catalogue table call ≡ Done → ⊥) → next catalogue table call ≡ table
@@ -328,6 +334,7 @@ next_not_done catalogue table call other = at (refusal catalogue table call) ref
   unanswered (BeginDrain m) ne = absurd (ne refl)
   unanswered (BeginRemove m) ne = absurd (ne refl)
   unanswered (EndRemove m) ne = absurd (ne refl)
+  unanswered (CancelRemove m) ne = absurd (ne refl)
 
   at : (o : Option Reply) → refusal catalogue table call ≡ o → next catalogue table call ≡ table
   at (Some r) e = rw e refl

@@ -3,7 +3,7 @@ use Rattle.std.proofs.Common.{◌≡◌, ◌≢◌, ℕ, ◌<◌, ◌≤◌, Lis
 use Rattle.std.proofs.lemmas.Bool.{cases_lt}
 use Rattle.std.proofs.lemmas.List.{get_or_past}
 use Rattle.dep_index.specs.declared.table.calls.Call.{Call}
-use Rattle.dep_index.specs.declared.table.calls.Call.TheVariants.{Get, Put, InUse as Query, BeginLoad, EndLoad, BeginDrain, BeginRemove, EndRemove}
+use Rattle.dep_index.specs.declared.table.calls.Call.TheVariants.{Get, Put, InUse as Query, BeginLoad, EndLoad, BeginDrain, BeginRemove, EndRemove, CancelRemove}
 use Rattle.dep_index.specs.Table.{Module}
 use Rattle.dep_index.specs.Calls.{row_effect, book_effect, worker_of, IsWorkerInRange}
 use Rattle.step_core.specs.declared.steps.Step.{Step}
@@ -90,6 +90,7 @@ leaf_of catalogue workers s t w (EndLoad m ok) sound writes worker at = cc
 leaf_of catalogue workers s t w (BeginDrain m) sound writes worker at = cc
 leaf_of catalogue workers s t w (BeginRemove m) sound writes worker at = cc
 leaf_of catalogue workers s t w (EndRemove m) sound writes worker at = cc
+leaf_of catalogue workers s t w (CancelRemove m) sound writes worker at = cc
 
 table_of_writer : (workers : ℕ) (s : State) (t : ℕ) (call : Call) → writes_next s t ≡ Some call → worker_of call ≡ None → IsAtWrite s t call workers
     → (shown s).book ≡ book_effect s.written.book call
@@ -101,6 +102,7 @@ table_of_writer workers s t (EndLoad m ok) writes worker at = book_of_writer s t
 table_of_writer workers s t (BeginDrain m) writes worker at = book_of_writer s t (BeginDrain m) writes at.holds
 table_of_writer workers s t (BeginRemove m) writes worker at = book_of_writer s t (BeginRemove m) writes at.holds
 table_of_writer workers s t (EndRemove m) writes worker at = book_of_writer s t (EndRemove m) writes at.holds
+table_of_writer workers s t (CancelRemove m) writes worker at = book_of_writer s t (CancelRemove m) writes at.holds
 
 -- what the holder of a lock is about to write is a call under it
 under : (catalogue : List Module) (workers : ℕ) (s : State) (l : LockName) (t : ℕ) (call : Call) → IsSound catalogue workers s → holder s.locks l ≡ Some t
@@ -126,6 +128,7 @@ worker_under_leaf (EndLoad m ok) w e = cc
 worker_under_leaf (BeginDrain m) w e = cc
 worker_under_leaf (BeginRemove m) w e = cc
 worker_under_leaf (EndRemove m) w e = cc
+worker_under_leaf (CancelRemove m) w e = cc
 
 worker_under_table : (call : Call) → lock_of call ≡ TableLock → worker_of call ≡ None
 worker_under_table (Get v m) e = cc
@@ -136,6 +139,7 @@ worker_under_table (EndLoad m ok) e = refl
 worker_under_table (BeginDrain m) e = refl
 worker_under_table (BeginRemove m) e = refl
 worker_under_table (EndRemove m) e = refl
+worker_under_table (CancelRemove m) e = refl
 
 -- nothing is pending under a lock if no thread stands at the line that writes under it
 quiet : (catalogue : List Module) (workers : ℕ) (s : State) (l : LockName) (o : Option ℕ) → IsSound catalogue workers s → holder s.locks l ≡ o

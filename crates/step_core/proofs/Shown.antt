@@ -4,7 +4,7 @@ use Rattle.std.proofs.Math.ListN.{set}
 use Rattle.std.proofs.lemmas.Bool.{cases_eq, cases_lt}
 use Rattle.std.proofs.lemmas.List.{get_or_past}
 use Rattle.dep_index.specs.declared.table.calls.Call.{Call}
-use Rattle.dep_index.specs.declared.table.calls.Call.TheVariants.{Get, Put, InUse as Query, BeginLoad, EndLoad, BeginDrain, BeginRemove, EndRemove}
+use Rattle.dep_index.specs.declared.table.calls.Call.TheVariants.{Get, Put, InUse as Query, BeginLoad, EndLoad, BeginDrain, BeginRemove, EndRemove, CancelRemove}
 use Rattle.dep_index.specs.Calls.{row_effect, effect, rows_effect, IsInRange}
 use Rattle.step_core.specs.Sound.{HasLock}
 use Rattle.step_core.specs.declared.steps.Activity.{Activity}
@@ -182,6 +182,7 @@ shown-begun old new slots (EndLoad m ok) written has range none some locks other
 shown-begun old new slots (BeginDrain m) written has range none some locks others = whole_begun old new (BeginDrain m) written none some locks others (λ rows. refl)
 shown-begun old new slots (BeginRemove m) written has range none some locks others = whole_begun old new (BeginRemove m) written none some locks others (λ rows. refl)
 shown-begun old new slots (EndRemove m) written has range none some locks others = whole_begun old new (EndRemove m) written none some locks others (λ rows. refl)
+shown-begun old new slots (CancelRemove m) written has range none some locks others = whole_begun old new (CancelRemove m) written none some locks others (λ rows. refl)
 
 -- the write of a call is made: the shown table stays
 pub shown-written : (old new : State) (slots : ℕ) (call : Call) → new.written ≡ effect old.written call → HasLock (lock_of call)
@@ -205,3 +206,4 @@ shown-written old new slots (EndLoad m ok) written has range some none locks oth
 shown-written old new slots (BeginDrain m) written has range some none locks others = whole_written old new (BeginDrain m) written some none locks others (λ rows. refl)
 shown-written old new slots (BeginRemove m) written has range some none locks others = whole_written old new (BeginRemove m) written some none locks others (λ rows. refl)
 shown-written old new slots (EndRemove m) written has range some none locks others = whole_written old new (EndRemove m) written some none locks others (λ rows. refl)
+shown-written old new slots (CancelRemove m) written has range some none locks others = whole_written old new (CancelRemove m) written some none locks others (λ rows. refl)

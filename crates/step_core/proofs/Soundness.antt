@@ -3,7 +3,7 @@ use Rattle.std.proofs.Common.{◌≡◌, ◌≢◌, ℕ, ◌<◌, ◌⊎◌, Lis
 use Rattle.std.proofs.Math.ListN.{set}
 use Rattle.std.proofs.lemmas.Bool.{cases_eq}
 use Rattle.dep_index.specs.declared.table.calls.Call.{Call}
-use Rattle.dep_index.specs.declared.table.calls.Call.TheVariants.{Get, Put, InUse as Query, BeginLoad, EndLoad, BeginDrain, BeginRemove, EndRemove}
+use Rattle.dep_index.specs.declared.table.calls.Call.TheVariants.{Get, Put, InUse as Query, BeginLoad, EndLoad, BeginDrain, BeginRemove, EndRemove, CancelRemove}
 use Rattle.dep_index.specs.Table.{Module, Table, count_of}
 use Rattle.dep_index.specs.Laws.{IsShaped, IsLawful}
 use Rattle.dep_index.specs.Words.{word_of}
@@ -63,6 +63,7 @@ arrives_still written written' (EndLoad m ok) same arriving = absurd arriving
 arrives_still written written' (BeginDrain m) same arriving = absurd arriving
 arrives_still written written' (BeginRemove m) same arriving = absurd arriving
 arrives_still written written' (EndRemove m) same arriving = absurd arriving
+arrives_still written written' (CancelRemove m) same arriving = absurd arriving
 
 -- after a step of thread t, whose call is under the lock of a
 pub sound_after : (catalogue : List Module) (workers : ℕ) (old new : State) (t : ℕ) (a : Activity) (x : Option Activity)

@@ -1,11 +1,11 @@
 -- Each step that is not refused keeps the machine sound, and is right for the table that it shows.
-use Rattle.std.proofs.Common.{◌≡◌, ℕ, ◌+◌, ◌<◌, Bool, true, false, ◌⊎◌, cond, eqb, ltb, List, length, get_or, Option, Some, None, refl, sym, ◌∙◌, ap, subst, arith, inl, inr, get_or-set_same, get_or-set_other}
+use Rattle.std.proofs.Common.{◌≡◌, ℕ, ◌+◌, ◌-◌, ◌<◌, Bool, true, false, ◌⊎◌, cond, eqb, ltb, List, length, get_or, Option, Some, None, refl, sym, ◌∙◌, ap, subst, arith, inl, inr, get_or-set_same, get_or-set_other}
 use Rattle.std.proofs.Math.ListN.{set}
 use Rattle.std.proofs.lemmas.Bool.{cases_eq, eqb-true, ltb-true, lt-ltb}
 use Rattle.std.proofs.lemmas.List.{set-get_or, get_or-replicate, length-replicate}
 use Rattle.std.specs.Option.{is_some, IsSomeAnd}
 use Rattle.dep_index.specs.declared.table.calls.Call.{Call}
-use Rattle.dep_index.specs.declared.table.calls.Call.TheVariants.{Get, Put, InUse as Query, BeginLoad, EndLoad, BeginDrain, BeginRemove, EndRemove}
+use Rattle.dep_index.specs.declared.table.calls.Call.TheVariants.{Get, Put, InUse as Query, BeginLoad, EndLoad, BeginDrain, BeginRemove, EndRemove, CancelRemove}
 use Rattle.dep_index.specs.declared.table.calls.Reply.{Reply}
 use Rattle.dep_index.specs.declared.table.calls.Reply.TheVariants.{Done, Yes, No, NotLive, TooMany, NotHeld, Exists, UnknownSymbol, NeedNotLive, NotLoading, NoEntry, NeededBy, Permanent, InUse, NotUnloading}
 use Rattle.dep_index.specs.Table.{Module, Table, state_of, count_of, holders, is_draining}
@@ -93,6 +93,8 @@ arriving_from catalogue table (BeginRemove m) v x e =
     absurd (no_exchange _ x (book_effects catalogue table (BeginRemove m) v (book_refusal catalogue table.book (BeginRemove m)) (either_effect (eqb v 0) (takes_effect closed Done) (takes_effect v InUse) tt tt)) e)
 arriving_from catalogue table (EndRemove m) v x e =
     absurd (no_exchange _ x (book_effects catalogue table (EndRemove m) v (book_refusal catalogue table.book (EndRemove m)) (either_effect (is_draining (state_of table.book m)) (close_step 8589934592 v) (takes_effect v Done) (either_effect (eqb v 8589934592) (takes_effect closed Done) (takes_effect v InUse) tt tt) tt)) e)
+arriving_from catalogue table (CancelRemove m) v x e =
+    absurd (no_exchange _ x (book_effects catalogue table (CancelRemove m) v (book_refusal catalogue table.book (CancelRemove m)) (either_effect (is_draining (state_of table.book m)) (takes_effect (v - 8589934592) Done) (takes_effect (cond (eqb v closed) 0 v) Done) tt tt)) e)
 
 -- the step on the word, by what it comes to
 look_out : (catalogue : List Module) (workers : ℕ) (s : State) (t : ℕ) (a : Activity) (v : ℕ) (out : Outcome) → IsSound catalogue workers s
@@ -176,6 +178,7 @@ arrives catalogue written (EndLoad m ok) x none h = absurd none
 arrives catalogue written (BeginDrain m) x none h = absurd none
 arrives catalogue written (BeginRemove m) x none h = absurd none
 arrives catalogue written (EndRemove m) x none h = absurd none
+arrives catalogue written (CancelRemove m) x none h = absurd none
 
 -- the exchange
 exchange_line : (catalogue : List Module) (workers : ℕ) (s : State) (t : ℕ) (a : Activity) (x : ℕ) → IsSound catalogue workers s
@@ -244,6 +247,7 @@ invoke_line catalogue workers s t call sound idle room range = (whole, same) whe
   first_place (BeginDrain m) = tt
   first_place (BeginRemove m) = tt
   first_place (EndRemove m) = tt
+  first_place (CancelRemove m) = tt
 
   placed : (u : ℕ) (c : Activity) → get_or (set s.threads t (Some b)) u None ≡ Some c → (u ≡ t) ⊎ (u ≡ t → ⊥) → IsPlaced (length catalogue) workers (s.invoked + 1) s.locks s.written u c
   placed u c there (inl e) =

@@ -27,6 +27,10 @@ fn book_step(book: &Book, call: Call, word: u64) -> WordStep
         Call::EndRemove(slot) if reads::is_draining(book.state(slot)) => {
             words::close_step(words::DRAINED, word)
         }
+        Call::CancelRemove(slot) if reads::is_draining(book.state(slot)) => {
+            words::takes_effect(word.saturating_sub(words::DRAINED), Reply::Done)
+        }
+        Call::CancelRemove(_) => words::takes_effect(opened(word), Reply::Done),
         _ => words::takes_effect(word, Reply::Done),
     }
 }
