@@ -4,7 +4,7 @@ use Rattle.std.proofs.Math.ListN.{length-set}
 use Rattle.std.proofs.lemmas.List.{get_or-map, length-map}
 use Rattle.std.specs.Option.{is_some}
 use Rattle.dep_index.specs.declared.table.calls.Call.{Call}
-use Rattle.dep_index.specs.declared.table.calls.Call.TheVariants.{Get, Put, InUse as Query, BeginLoad, EndLoad, BeginDrain, BeginRemove, EndRemove}
+use Rattle.dep_index.specs.declared.table.calls.Call.TheVariants.{Get, Put, InUse as Query, BeginLoad, EndLoad, BeginDrain, BeginRemove, EndRemove, CancelRemove}
 use Rattle.dep_index.specs.declared.table.calls.Reply.{Reply}
 use Rattle.dep_index.specs.Table.{Module, Table}
 use Rattle.dep_index.specs.Calls.{reply, next, replies, effect, rows_effect, row_effect, refusal, IsInRange}
@@ -28,6 +28,7 @@ rows_kept rows (EndLoad m ok) = refl
 rows_kept rows (BeginDrain m) = refl
 rows_kept rows (BeginRemove m) = refl
 rows_kept rows (EndRemove m) = refl
+rows_kept rows (CancelRemove m) = refl
 
 pub workers_kept : (catalogue : List Module) (table : Table) (call : Call) → length (next catalogue table call).rows ≡ length table.rows
 workers_kept catalogue table call = at (is_some (refusal catalogue table call)) where
