@@ -1,5 +1,5 @@
 -- The steps of the book.
-use Rattle.std.proofs.Common.{◌≡◌, ◌≢◌, ◌⊎◌, ⊎_elim, ℕ, ◌+◌, ◌%◌, ◌^◌, ◌<◌, Bool, true, false, cond, not, ◌||◌, List, [], ◌∷◌, Option, Some, None, get_or, eqb, ◌==◌, refl, sym, ap, ◌∙◌, subst, arith, eq-eqb, ne_eqb, MatchOption}
+use Rattle.std.proofs.Common.{◌≡◌, ◌≢◌, ◌⊎◌, ⊎_elim, ℕ, ◌+◌, ◌-◌, ◌%◌, ◌^◌, ◌<◌, Bool, true, false, cond, not, ◌||◌, List, [], ◌∷◌, Option, Some, None, get_or, eqb, ◌==◌, refl, sym, ap, ◌∙◌, subst, arith, eq-eqb, ne_eqb, MatchOption}
 use mathlib.Core.Option.{some, none}
 use lib.ListN.{get_elem?}
 use prog.Atomic.{either}
@@ -79,6 +79,7 @@ module _ (s : move.St) (id : ℕ) (v : View) (kept : RowRule v.world s) (at : ge
   range book_is.BeginDrain = (inside, tt)
   range book_is.BeginRemove = (inside, tt)
   range book_is.EndRemove = (inside, tt)
+  range book_is.CancelRemove = (inside, tt)
 
   maker : (kind : BookCall) → makes name_is.Book (book_call kind m) ≡ true
   maker book_is.BeginLoad = refl
@@ -86,6 +87,7 @@ module _ (s : move.St) (id : ℕ) (v : View) (kept : RowRule v.world s) (at : ge
   maker book_is.BeginDrain = refl
   maker book_is.BeginRemove = refl
   maker book_is.EndRemove = refl
+  maker book_is.CancelRemove = refl
 
   others_stay : (kind : BookCall) (j : ℕ) → j ≢ m → word_of (next v.world.catalogue T (book_call kind m)) j ≡ word_of T j
   others_stay book_is.BeginLoad = move.others_stay v.world s kept (book_call book_is.BeginLoad m) (inside, tt)
@@ -93,6 +95,7 @@ module _ (s : move.St) (id : ℕ) (v : View) (kept : RowRule v.world s) (at : ge
   others_stay book_is.BeginDrain = move.others_stay v.world s kept (book_call book_is.BeginDrain m) (inside, tt)
   others_stay book_is.BeginRemove = move.others_stay v.world s kept (book_call book_is.BeginRemove m) (inside, tt)
   others_stay book_is.EndRemove = move.others_stay v.world s kept (book_call book_is.EndRemove m) (inside, tt)
+  others_stay book_is.CancelRemove = move.others_stay v.world s kept (book_call book_is.CancelRemove m) (inside, tt)
 
   -- a call of the book changes no row
   rows_stay : (kind : BookCall) → (effect T (book_call kind m)).rows ≡ T.rows
@@ -101,6 +104,7 @@ module _ (s : move.St) (id : ℕ) (v : View) (kept : RowRule v.world s) (at : ge
   rows_stay book_is.BeginDrain = refl
   rows_stay book_is.BeginRemove = refl
   rows_stay book_is.EndRemove = refl
+  rows_stay book_is.CancelRemove = refl
 
   own_given : (kind : BookCall) (b : Bool) → (cond b (effect T (book_call kind m)) T).book ≡ cond b (book_effect book (book_call kind m)) book
   own_given kind true = ap (λ (b : Book). book_effect b (book_call kind m)) book_is_own
@@ -163,6 +167,7 @@ module _ (s : move.St) (id : ℕ) (v : View) (kept : RowRule v.world s) (at : ge
   first_right book_is.BeginDrain = move.right v.world s kept (book_call book_is.BeginDrain m) (inside, tt)
   first_right book_is.BeginRemove = move.right v.world s kept (book_call book_is.BeginRemove m) (inside, tt)
   first_right book_is.EndRemove = move.right v.world s kept (book_call book_is.EndRemove m) (inside, tt)
+  first_right book_is.CancelRemove = move.right v.world s kept (book_call book_is.CancelRemove m) (inside, tt)
 
   -- the step at the word that is found, by the book of the seat and its own refusal
   right : (kind : BookCall) (o : Option Reply) → book_refusal v.world.catalogue book (book_call kind m) ≡ o → RightAt kind (unless_refused o n (book_step book (book_call kind m) n))
@@ -189,6 +194,7 @@ module _ (s : move.St) (id : ℕ) (v : View) (kept : RowRule v.world s) (at : ge
   looks_by book_is.BeginDrain None is = stays book_is.BeginDrain
   looks_by book_is.BeginRemove None is = stays book_is.BeginRemove
   looks_by book_is.EndRemove None is = looks_end_remove (is_draining (state_of book m)) refl (right book_is.EndRemove None is)
+  looks_by book_is.CancelRemove None is = stays book_is.CancelRemove
 
   looks_at : (kind : BookCall) → Look kind (book_look v.world (book_of v) kind m)
   looks_at kind = looks_by kind (book_refusal v.world.catalogue book (book_call kind m)) refl
@@ -243,9 +249,37 @@ module _ (s : move.St) (id : ℕ) (v : View) (kept : RowRule v.world s) (at : ge
       whole : (k : ℕ) → k < closed → (k + drained) % 18446744073709551616 ≡ k + drained
       whole k small = omega arith
 
+  -- the step that calls a removal off, by whether the module drains
+  cancels_right : (s : ModuleState) → state_in v m ≡ s → not (is_unloading s || is_draining s) ≡ false
+      → RightAt book_is.CancelRemove (cond (is_draining s) (takes_effect (n - drained) Done) (takes_effect (cond (n == closed) 0 n) Done))
+  cancels_right s is going =
+      let unrefused : book_refusal v.world.catalogue book (book_call book_is.CancelRemove m) ≡ None =
+      ap (λ (t : ModuleState). refuse (not (is_unloading t || is_draining t)) NotUnloading None) is ∙ ap (λ (b : Bool). refuse b NotUnloading None) going in
+      subst (λ (t : ModuleState). RightAt book_is.CancelRemove (cond (is_draining t) (takes_effect (n - drained) Done) (takes_effect (cond (n == closed) 0 n) Done))) is (right book_is.CancelRemove None unrefused)
+
+  undrains_at : state_in v m ≡ state_is.Draining → Put ((n + 18446744065119617024) % 18446744073709551616) (λ w. BookAnswered v m book_is.CancelRemove Done w)
+  undrains_at draining =
+      let is : RightAt book_is.CancelRemove (takes_effect (n - drained) Done) = cancels_right state_is.Draining draining refl in
+      let found : n ≡ drained + h = found_is ∙ ap (λ (t : ModuleState). word_in t h) draining in
+      let same : (n + 18446744065119617024) % 18446744073709551616 ≡ n - drained = whole n h few found in
+      let a = answers book_is.CancelRemove Done ((n + 18446744065119617024) % 18446744073709551616) (is.0, same ∙ is.1) in
+      (a.0, a.1, a.2.0)
+    where
+      whole : (k j : ℕ) → j < closed → k ≡ drained + j → (k + 18446744065119617024) % 18446744073709551616 ≡ k - drained
+      whole k j small e = omega (arith, small, e)
+
+  unloading_found : state_in v m ≡ state_is.Unloading → n ≡ closed
+  unloading_found unloading = found_is ∙ ap (λ (t : ModuleState). word_in t h) unloading
+
+  reopens_at : state_in v m ≡ state_is.Unloading → Put 0 (λ w. BookAnswered v m book_is.CancelRemove Done w)
+  reopens_at unloading =
+      let is : RightAt book_is.CancelRemove (takes_effect (cond (n == closed) 0 n) Done) = cancels_right state_is.Unloading unloading refl in
+      let a = answers book_is.CancelRemove Done 0 (is.0, sym (ap (λ (b : Bool). cond b 0 n) (eq-eqb n closed (unloading_found unloading))) ∙ is.1) in
+      (a.0, a.1, a.2.0)
+
 -- what the steps of the book tell
-abbrev pub opened : Step (Unit {0}) → SeatState → ℕ → SeatState → Type 0
-opened = AtSlot (λ expected m v found w. BookAnswered v m (book_is.EndLoad true) Done w × (found ≡ expected))
+abbrev pub opened : BookCall → Step (Unit {0}) → SeatState → ℕ → SeatState → Type 0
+opened kind = AtSlot (λ expected m v found w. BookAnswered v m kind Done w × (found ≡ expected))
 
 abbrev pub looked_book : BookCall → Step (Unit {0}) → SeatState → ℕ → SeatState → Type 0
 looked_book kind = AtSlot (λ _ m v found w. LookedBook kind m v found w)
@@ -296,13 +330,26 @@ module _ (world : World) (slots' id : ℕ) (me : Me (Unit {0}) View) (is : IsBoo
       let t = both s kept at inside' in
       exchanged (get_or s.words (place_of m) 0) old new (λ n'. Owes s (λ _. n') then me.0.world) t.0 t.1)
 
-  pub opens : state_in me.0 m ≡ state_is.Loading → Allows (RowRule world) slots' id me (place_of m) (λ n. either (eqb n closed) 0 n) (opened (step slots' (place_of m) closed 0 none) me)
-  opens loading = exchanges closed 0 (opened (step slots' (place_of m) closed 0 none) me) (λ s kept at inside'. (
+  pub opens : state_in me.0 m ≡ state_is.Loading → Allows (RowRule world) slots' id me (place_of m) (λ n. either (eqb n closed) 0 n) (opened (book_is.EndLoad true) (step slots' (place_of m) closed 0 none) me)
+  opens loading = exchanges closed 0 (opened (book_is.EndLoad true) (step slots' (place_of m) closed 0 none) me) (λ s kept at inside'. (
     (λ hit.
         let r = opens_at s id me.0 kept at is m inside' me.1 loading in
         (r.0, keeps, tt, r.1, (refl, λ j e. (subst (λ i. BookAnswered me.0 i (book_is.EndLoad true) Done r.0) (move.same_slot m j e) r.2, hit)))),
     (λ miss. absurd (miss (loading_found s id me.0 kept at is m inside' me.1 loading))),
   ))
+
+  pub reopens : state_in me.0 m ≡ state_is.Unloading → Allows (RowRule world) slots' id me (place_of m) (λ n. either (eqb n closed) 0 n) (opened book_is.CancelRemove (step slots' (place_of m) closed 0 none) me)
+  reopens unloading = exchanges closed 0 (opened book_is.CancelRemove (step slots' (place_of m) closed 0 none) me) (λ s kept at inside'. (
+    (λ hit.
+        let r = reopens_at s id me.0 kept at is m inside' me.1 unloading in
+        (r.0, keeps, tt, r.1, (refl, λ j e. (subst (λ i. BookAnswered me.0 i book_is.CancelRemove Done r.0) (move.same_slot m j e) r.2, hit)))),
+    (λ miss. absurd (miss (unloading_found s id me.0 kept at is m inside' me.1 unloading))),
+  ))
+
+  pub undrains : state_in me.0 m ≡ state_is.Draining → Allows (RowRule world) slots' id me (place_of m) (λ n. (n + (2 ^ 64 - drained)) % 2 ^ 64) (made book_is.CancelRemove (step slots' (place_of m) drained 0 none) me)
+  undrains draining = at_own (λ n. (n + (2 ^ 64 - drained)) % 2 ^ 64) (made book_is.CancelRemove (step slots' (place_of m) drained 0 none) me) (λ s kept at inside'.
+      let r = undrains_at s id me.0 kept at is m inside' me.1 draining in
+      (r.0, keeps, tt, r.1, (refl, λ j e. subst (λ i. BookAnswered me.0 i book_is.CancelRemove Done r.0) (move.same_slot m j e) r.2)))
 
   -- a closing tells what it promises
   tells : (found old : ℕ) (b : Bool) (w : View) → (found == old) ≡ b → BookAnswered me.0 m (closing (state_in me.0 m)) (cond b Done InUse) w

@@ -1,5 +1,5 @@
 -- The steps of a seat under the rule: what was proved of the views holds of the views with their steps.
-use Rattle.std.proofs.Common.{◌≡◌, ◌⊎◌, ℕ, zero, suc, ◌+◌, ◌-◌, ◌<◌, ◌%◌, ◌^◌, List, [], ◌∷◌, ◌++◌, map, get_or, set, eqb, refl, sym, ap, ◌∙◌, subst}
+use Rattle.std.proofs.Common.{◌≡◌, ◌⊎◌, ℕ, zero, suc, true, ◌+◌, ◌-◌, ◌<◌, ◌%◌, ◌^◌, List, [], ◌∷◌, ◌++◌, map, get_or, set, eqb, refl, sym, ap, ◌∙◌, subst}
 use mathlib.Core.Option.{some, none}
 use lib.ListN.{get_elem?}
 use prog.Atomic.{either}
@@ -78,12 +78,20 @@ module _ (world : World) (slots' id : ℕ) (me : TrailState) where
   looks_book is m inside kind = records m (λ n. n) (book.looked_book kind) load_step (step slots' (place_of m) 0 0 none) refl (book.looks world slots' id (shown_seat me) is m inside kind)
 
   pub opens : IsBook me.0.view → (m : ℕ) → m < slots world → state_in me.0.view m ≡ state_is.Loading
-      → Allows (TrailRule world) slots' id me (place_of m) (λ n. either (eqb n closed) 0 n) (Recorded book.opened exchange_step (step slots' (place_of m) closed 0 none) me)
-  opens is m inside loading = records m (λ n. either (eqb n closed) 0 n) book.opened exchange_step (step slots' (place_of m) closed 0 none) refl (book.opens world slots' id (shown_seat me) is m inside loading)
+      → Allows (TrailRule world) slots' id me (place_of m) (λ n. either (eqb n closed) 0 n) (Recorded (book.opened (book_is.EndLoad true)) exchange_step (step slots' (place_of m) closed 0 none) me)
+  opens is m inside loading = records m (λ n. either (eqb n closed) 0 n) (book.opened (book_is.EndLoad true)) exchange_step (step slots' (place_of m) closed 0 none) refl (book.opens world slots' id (shown_seat me) is m inside loading)
 
   pub drains : IsBook me.0.view → (m : ℕ) → m < slots world → MayLeave me.0.view m
       → Allows (TrailRule world) slots' id me (place_of m) (λ n. (n + drained) % 2 ^ 64) (Recorded (book.made book_is.BeginDrain) add_step (step slots' (place_of m) drained 0 none) me)
   drains is m inside may = records m (λ n. (n + drained) % 2 ^ 64) (book.made book_is.BeginDrain) add_step (step slots' (place_of m) drained 0 none) refl (book.drains world slots' id (shown_seat me) is m inside may)
+
+  pub undrains : IsBook me.0.view → (m : ℕ) → m < slots world → state_in me.0.view m ≡ state_is.Draining
+      → Allows (TrailRule world) slots' id me (place_of m) (λ n. (n + (2 ^ 64 - drained)) % 2 ^ 64) (Recorded (book.made book_is.CancelRemove) subtract_step (step slots' (place_of m) drained 0 none) me)
+  undrains is m inside draining = records m (λ n. (n + (2 ^ 64 - drained)) % 2 ^ 64) (book.made book_is.CancelRemove) subtract_step (step slots' (place_of m) drained 0 none) refl (book.undrains world slots' id (shown_seat me) is m inside draining)
+
+  pub reopens : IsBook me.0.view → (m : ℕ) → m < slots world → state_in me.0.view m ≡ state_is.Unloading
+      → Allows (TrailRule world) slots' id me (place_of m) (λ n. either (eqb n closed) 0 n) (Recorded (book.opened book_is.CancelRemove) exchange_step (step slots' (place_of m) closed 0 none) me)
+  reopens is m inside unloading = records m (λ n. either (eqb n closed) 0 n) (book.opened book_is.CancelRemove) exchange_step (step slots' (place_of m) closed 0 none) refl (book.reopens world slots' id (shown_seat me) is m inside unloading)
 
   pub closes : IsBook me.0.view → (m : ℕ) → m < slots world → MayLeave me.0.view m ⊎ (state_in me.0.view m ≡ state_is.Draining)
       → (old : ℕ) → old ≡ unheld_word (state_in me.0.view m)

@@ -23,14 +23,17 @@ book_call (book_is.EndLoad ok) m = call_is.EndLoad m ok
 book_call book_is.BeginDrain m = call_is.BeginDrain m
 book_call book_is.BeginRemove m = call_is.BeginRemove m
 book_call book_is.EndRemove m = call_is.EndRemove m
+book_call book_is.CancelRemove m = call_is.CancelRemove m
 
--- what a look answers if the book does not refuse the call: nothing, if an exchange or an addition makes the call
+-- what a look answers if the book does not refuse the call: nothing, if an exchange, an addition or a subtraction makes
+-- the call
 abbrev pub unrefused_look : Book → BookCall → ℕ → Option Reply
 unrefused_look book book_is.BeginLoad m = Some Done
 unrefused_look book (book_is.EndLoad ok) m = if ok then None else Some Done
 unrefused_look book book_is.BeginDrain m = None
 unrefused_look book book_is.BeginRemove m = None
 unrefused_look book book_is.EndRemove m = if is_draining (state_of book m) then None else Some Done
+unrefused_look book book_is.CancelRemove m = None
 
 -- what a look answers
 abbrev pub book_look : World → Book → BookCall → ℕ → Option Reply

@@ -122,6 +122,31 @@ impl Play<(), Trail> for Drain {
     ghost then = { Recorded (AtSlot (λ _ m v _ w. BookAnswered v m BeginDrain Done w)) add_step };
 }
 
+pub(crate) struct Undrain;
+
+impl Play<(), Trail> for Undrain {
+    ghost use Rattle.root_row.specs.Steps.{AtSlot};
+    ghost use Rattle.root_row.specs.BookSteps.{BookAnswered};
+    ghost use Rattle.dep_index.specs.declared.table.calls.Reply.TheVariants.{Done};
+    ghost use Rattle.root_row.specs.declared.calls.BookCall.TheVariants.{CancelRemove};
+    ghost use Rattle.root_row.specs.Trails.{Recorded, subtract_step};
+
+    ghost then = { Recorded (AtSlot (λ _ m v _ w. BookAnswered v m CancelRemove Done w)) subtract_step };
+}
+
+pub(crate) struct Reopen;
+
+impl Play<(), Trail> for Reopen {
+    ghost use Rattle.std.specs.Prelude.{◌≡◌};
+    ghost use Rattle.root_row.specs.Steps.{AtSlot};
+    ghost use Rattle.root_row.specs.BookSteps.{BookAnswered};
+    ghost use Rattle.dep_index.specs.declared.table.calls.Reply.TheVariants.{Done};
+    ghost use Rattle.root_row.specs.declared.calls.BookCall.TheVariants.{CancelRemove};
+    ghost use Rattle.root_row.specs.Trails.{Recorded, exchange_step};
+
+    ghost then = { Recorded (AtSlot (λ expected m v found w. BookAnswered v m CancelRemove Done w × (found ≡ expected))) exchange_step };
+}
+
 /// The exchange of the word that shows no holder, whichever call closes the slot.
 pub(crate) struct Close;
 
