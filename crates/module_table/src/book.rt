@@ -1,11 +1,11 @@
 //! The book of a running table: its seat at the row, and the states and order that its calls write.
 use dep_index::{
-    BeginDrainError, BeginLoadError, BeginRemoveError, Catalogue, EndLoadError, EndRemoveError,
-    ModuleState, Slots, reads,
+    BeginDrainError, BeginLoadError, BeginRemoveError, CancelRemoveError, Catalogue, EndLoadError,
+    EndRemoveError, ModuleState, Slots, reads,
 };
 use root_row::{
-    AskBeginDrain, AskBeginLoad, AskBeginRemove, AskEndLoad, AskEndRemove, AskFailLoad, BookCall,
-    BookSeat, Row,
+    AskBeginDrain, AskBeginLoad, AskBeginRemove, AskCancelRemove, AskEndLoad, AskEndRemove,
+    AskFailLoad, BookCall, BookSeat, Row,
 };
 use std::alloc::{AllocError, Global};
 use std::marker::Model;
@@ -46,7 +46,7 @@ impl Book {
     ghost use Rattle.root_row.specs.Made.{new_book};
     ghost use Rattle.dep_index.specs.Catalogue.{modules_of};
     ghost use Rattle.dep_index.specs.Refusals.{reply_of, begin_load_refusal, end_load_refusal};
-    ghost use Rattle.dep_index.specs.Refusals.{begin_drain_refusal, begin_remove_refusal, end_remove_refusal};
+    ghost use Rattle.dep_index.specs.Refusals.{begin_drain_refusal, begin_remove_refusal, end_remove_refusal, cancel_remove_refusal};
     ghost use Rattle.root_row.specs.World.{slots};
     ghost use Rattle.root_row.specs.Seats.{IsOf, KnowsTable};
     ghost use Rattle.root_row.specs.Views.{state_in, book_of};
@@ -212,6 +212,27 @@ impl Book {
             row.look_book::<AskEndRemove>(&mut self.seat, slot);
         }
         self.book.leave(slot);
+        Ok(())
+    }
+
+    /// Calls off a removal or a drain: the module is live again, and who holds it goes on holding it.
+    pub fn cancel_remove(&mut self, row: &Row, slot: usize) -> Result<(), CancelRemoveError>
+        requires own { IsOf row.now self.old }
+        requires inside { slot < slots row.now.world }
+        ensures own { IsOf row.now self.new }
+        ensures call { BookAnswered self.old.view slot BookCall.CancelRemove (reply_of cancel_remove_refusal result) self.new.view }
+        ensures steps { CallSteps BookCall.CancelRemove slot (reply_of cancel_remove_refusal result) self.old self.new }
+    {
+        if let Some(refusal) = self.book.cancel_remove_refusal(slot) {
+            row.look_book::<AskCancelRemove>(&mut self.seat, slot);
+            return Err(refusal);
+        }
+        if reads::is_draining(self.book.state(slot)) {
+            row.undrain(&mut self.seat, slot);
+        } else {
+            row.reopen(&mut self.seat, slot);
+        }
+        self.book.set(slot, ModuleState::Live);
         Ok(())
     }
 }

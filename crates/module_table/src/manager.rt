@@ -4,8 +4,8 @@ use crate::own_book::OwnBook;
 use crate::own_leaf::OwnLeaf;
 use crossbeam_utils::CachePadded;
 use dep_index::{
-    BeginDrainError, BeginLoadError, BeginRemoveError, Catalogue, EndLoadError, EndRemoveError,
-    GetError, ModuleState, PutError,
+    BeginDrainError, BeginLoadError, BeginRemoveError, CancelRemoveError, Catalogue, EndLoadError,
+    EndRemoveError, GetError, ModuleState, PutError,
 };
 use root_row::Row;
 use std::alloc::{AllocError, Global};
@@ -193,6 +193,17 @@ impl Manager {
         ensures { slots self.now.world ≤ slot → IsNone result }
     {
         self.book_for(slot)?.lock(rt).end_remove(slot)
+    }
+
+    /// Calls off a removal or a drain.
+    pub fn cancel_remove<R: Wait>(
+        &self,
+        rt: &R,
+        slot: usize,
+    ) -> Option<Result<(), CancelRemoveError>>
+        ensures { slots self.now.world ≤ slot → IsNone result }
+    {
+        self.book_for(slot)?.lock(rt).cancel_remove(slot)
     }
 
     /// The state of the module.

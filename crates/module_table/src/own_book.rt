@@ -1,6 +1,7 @@
 use crate::book::Book;
 use dep_index::{
-    BeginDrainError, BeginLoadError, BeginRemoveError, EndLoadError, EndRemoveError, ModuleState,
+    BeginDrainError, BeginLoadError, BeginRemoveError, CancelRemoveError, EndLoadError,
+    EndRemoveError, ModuleState,
 };
 use root_row::{BookCall, Row};
 use std::alloc::Global;
@@ -30,7 +31,7 @@ impl OwnBook {
     ghost use Rattle.std.specs.Prelude.{◌≡◌, ◌<◌, ◌≤◌, ◌↔◌, length, slice_index, IfSome, IsNone, MatchOption};
     ghost use Rattle.std.specs.Arc.{arc_value};
     ghost use Rattle.dep_index.specs.Refusals.{reply_of, begin_load_refusal, end_load_refusal};
-    ghost use Rattle.dep_index.specs.Refusals.{begin_drain_refusal, begin_remove_refusal, end_remove_refusal};
+    ghost use Rattle.dep_index.specs.Refusals.{begin_drain_refusal, begin_remove_refusal, end_remove_refusal, cancel_remove_refusal};
     ghost use Rattle.root_row.specs.World.{slots};
     ghost use Rattle.root_row.specs.Seats.{IsOf, KnowsTable};
     ghost use Rattle.root_row.specs.Views.{state_in, book_of};
@@ -151,5 +152,18 @@ impl OwnBook {
             return None;
         }
         Some(self.book.end_remove(&self.row, slot))
+    }
+
+    /// Calls off a removal or a drain: the module is live again, and the references stay.
+    pub fn cancel_remove(&mut self, slot: usize) -> Option<Result<(), CancelRemoveError>>
+        ensures range { MatchOption result ((slots self.old.view.world ≤ slot) × (self.new ≡ self.old)) (λ _. slot < slots self.old.view.world) }
+        ensures call { IfSome result (λ r. BookAnswered self.old.view slot BookCall.CancelRemove (reply_of cancel_remove_refusal r) self.new.view) }
+        ensures steps { IfSome result (λ r. CallSteps BookCall.CancelRemove slot (reply_of cancel_remove_refusal r) self.old self.new) }
+        ensures row { self.new.row ≡ self.old.row }
+    {
+        if slot >= self.row.slots() {
+            return None;
+        }
+        Some(self.book.cancel_remove(&self.row, slot))
     }
 }
