@@ -1,7 +1,7 @@
 -- A managed call, whichever it is: where it can be made, and that it was.
 use Rattle.std.specs.Prelude.{◌≡◌, ℕ, ◌<◌}
 use Rattle.dep_index.specs.declared.table.calls.Call.{Call}
-use Rattle.dep_index.specs.declared.table.calls.Call.TheVariants.{Get, Put, InUse, BeginLoad, EndLoad, BeginDrain, BeginRemove, EndRemove}
+use Rattle.dep_index.specs.declared.table.calls.Call.TheVariants.{Get, Put, InUse, BeginLoad, EndLoad, BeginDrain, BeginRemove, EndRemove, CancelRemove}
 use Rattle.dep_index.specs.declared.table.calls.Reply.{Reply}
 use Rattle.root_row.specs.World.{slots}
 use Rattle.managed_table.specs.Callers.{ManagedIs, CallerIs, IsInside, LeafMade, BookMade}
@@ -16,6 +16,7 @@ CanBeMade table (EndLoad slot ok) = slot < slots table.row.world
 CanBeMade table (BeginDrain slot) = slot < slots table.row.world
 CanBeMade table (BeginRemove slot) = slot < slots table.row.world
 CanBeMade table (EndRemove slot) = slot < slots table.row.world
+CanBeMade table (CancelRemove slot) = slot < slots table.row.world
 
 -- the worker's leaf made this one call, in one turn of the caller, who did nothing else
 abbrev pub LeafMadeOnce : ManagedIs → ℕ → Call → Reply → CallerIs → CallerIs → Type 0
@@ -35,3 +36,4 @@ CallMade table (EndLoad slot ok) = BookMadeOnce table (EndLoad slot ok)
 CallMade table (BeginDrain slot) = BookMadeOnce table (BeginDrain slot)
 CallMade table (BeginRemove slot) = BookMadeOnce table (BeginRemove slot)
 CallMade table (EndRemove slot) = BookMadeOnce table (EndRemove slot)
+CallMade table (CancelRemove slot) = BookMadeOnce table (CancelRemove slot)

@@ -2,15 +2,15 @@
 use crate::caller::Caller;
 use crate::table::ManagedTable;
 use dep_index::{
-    BeginDrainError, BeginLoadError, BeginRemoveError, Call, EndLoadError, EndRemoveError,
-    ModuleState,
+    BeginDrainError, BeginLoadError, BeginRemoveError, Call, CancelRemoveError, EndLoadError,
+    EndRemoveError, ModuleState,
 };
 use std::sync::Wait;
 
 impl ManagedTable {
     ghost use Rattle.std.specs.Prelude.{◌≡◌, ◌<◌, ◌≤◌, IfSome, IfNone, MatchOption};
     ghost use Rattle.dep_index.specs.Refusals.{reply_of, begin_load_refusal, end_load_refusal};
-    ghost use Rattle.dep_index.specs.Refusals.{begin_drain_refusal, begin_remove_refusal, end_remove_refusal};
+    ghost use Rattle.dep_index.specs.Refusals.{begin_drain_refusal, begin_remove_refusal, end_remove_refusal, cancel_remove_refusal};
     ghost use Rattle.root_row.specs.World.{slots};
     ghost use Rattle.managed_table.specs.Shown.{IsInState, HasLoaded, HasLoadedAt, HasNoneAt};
     ghost use Rattle.managed_table.specs.Callers.{IsCallerOf, BookMade, BookShown};
@@ -116,6 +116,26 @@ impl ManagedTable {
         }
         let row = &self.row;
         Some(self.book_turn(rt, caller, |book| book.end_remove(row, slot)))
+    }
+
+    /// Calls off a removal or a drain: the module is live again, and the references stay.
+    pub fn cancel_remove<R: Wait>(
+        &self,
+        rt: &R,
+        caller: &mut Caller,
+        slot: usize,
+    ) -> Option<Result<(), CancelRemoveError>>
+        requires own { IsCallerOf self.now caller.old }
+        ensures own { IsCallerOf self.now caller.new }
+        ensures range { MatchOption result ((slots self.now.row.world ≤ slot) × (caller.new ≡ caller.old)) (λ _. slot < slots self.now.row.world) }
+        ensures call { IfSome result (λ r. BookMade self.now (Call.CancelRemove slot) (reply_of cancel_remove_refusal r) caller.old caller.new) }
+        ensures leaves { caller.new.leaves ≡ caller.old.leaves }
+    {
+        if slot >= self.slots() {
+            return None;
+        }
+        let row = &self.row;
+        Some(self.book_turn(rt, caller, |book| book.cancel_remove(row, slot)))
     }
 
     /// The state of the module. The turn makes no call.

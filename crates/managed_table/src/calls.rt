@@ -28,6 +28,7 @@ impl ManagedTable {
             Call::BeginDrain(slot) => Some(Reply::of(self.begin_drain(rt, caller, slot)?)),
             Call::BeginRemove(slot) => Some(Reply::of(self.begin_remove(rt, caller, slot)?)),
             Call::EndRemove(slot) => Some(Reply::of(self.end_remove(rt, caller, slot)?)),
+            Call::CancelRemove(slot) => Some(Reply::of(self.cancel_remove(rt, caller, slot)?)),
         }
     }
 }

@@ -2,13 +2,13 @@
 use crate::attempt::Attempt;
 use crate::own_caller::OwnCaller;
 use dep_index::{
-    BeginDrainError, BeginLoadError, BeginRemoveError, Call, EndLoadError, EndRemoveError,
-    ModuleState,
+    BeginDrainError, BeginLoadError, BeginRemoveError, Call, CancelRemoveError, EndLoadError,
+    EndRemoveError, ModuleState,
 };
 
 impl OwnCaller {
     ghost use Rattle.dep_index.specs.Refusals.{reply_of, begin_load_refusal, end_load_refusal};
-    ghost use Rattle.dep_index.specs.Refusals.{begin_drain_refusal, begin_remove_refusal, end_remove_refusal};
+    ghost use Rattle.dep_index.specs.Refusals.{begin_drain_refusal, begin_remove_refusal, end_remove_refusal, cancel_remove_refusal};
     ghost use Rattle.managed_table.specs.Shown.{IsInState, HasLoaded};
     ghost use Rattle.managed_table.specs.Owned.{SameTable, Has};
     ghost use Rattle.managed_table.specs.Attempts.{BookEnded, LookEnded, BookDid, BookShows};
@@ -85,6 +85,24 @@ impl OwnCaller {
             slot,
             tries,
             |book| book.end_remove(row, slot),
+        )
+    }
+
+    /// Calls off a removal or a drain: the module is live again, and the references stay.
+    pub fn cancel_remove(
+        &mut self,
+        slot: usize,
+        tries: u32,
+    ) -> Attempt<Result<(), CancelRemoveError>>
+        ensures same { SameTable self.old self.new }
+        ensures call { BookEnded slot tries (λ r. BookDid (Call.CancelRemove slot) self.old self.new (reply_of cancel_remove_refusal r)) self.old result self.new }
+    {
+        let row = &self.table.row;
+        self.table.try_slot_turn(
+            &mut self.caller,
+            slot,
+            tries,
+            |book| book.cancel_remove(row, slot),
         )
     }
 
