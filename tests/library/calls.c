@@ -143,8 +143,13 @@ static void removals(gz_book *book, gz_leaf *leaf)
     CHECK(gz_book_state(book, PCM), GZ_UNLOADING);
     CHECK(gz_leaf_get_blocking(leaf, PCM), GZ_NOT_LIVE);
     CHECK(gz_book_begin_remove(book, PCM), GZ_NOT_LIVE);
+    CHECK(gz_book_cancel_remove(book, PCM), GZ_DONE);
+    CHECK(gz_book_state(book, PCM), GZ_LIVE);
+    CHECK(gz_book_cancel_remove(book, PCM), GZ_NOT_UNLOADING);
+    CHECK(gz_book_begin_remove(book, PCM), GZ_DONE);
     CHECK(gz_book_end_remove(book, PCM), GZ_DONE);
     CHECK(gz_book_end_remove(book, PCM), GZ_NOT_UNLOADING);
+    CHECK(gz_book_cancel_remove(book, PCM), GZ_NOT_UNLOADING);
     CHECK(gz_book_begin_drain(book, LOST), GZ_NO_ENTRY);
     CHECK(gz_book_begin_drain(book, FIXED), GZ_PERMANENT);
     CHECK(gz_leaf_get_blocking(leaf, SND), GZ_DONE);
@@ -170,6 +175,7 @@ static void outside(gz_book *book, gz_leaf *leaf, gz_reader *reader)
     CHECK(gz_book_begin_drain(book, OUTSIDE), GZ_OUT_OF_RANGE);
     CHECK(gz_book_begin_remove(book, OUTSIDE), GZ_OUT_OF_RANGE);
     CHECK(gz_book_end_remove(book, OUTSIDE), GZ_OUT_OF_RANGE);
+    CHECK(gz_book_cancel_remove(book, OUTSIDE), GZ_OUT_OF_RANGE);
     CHECK(gz_book_state(book, SIZE_MAX), GZ_OUT_OF_RANGE);
 }
 

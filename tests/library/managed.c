@@ -95,6 +95,12 @@ static void removals(gz_caller *caller)
     CHECK(gz_caller_state_blocking(caller, SND), GZ_DRAINING);
     CHECK(gz_caller_get_blocking(caller, 1, SND), GZ_NOT_LIVE);
     CHECK(gz_caller_end_remove_blocking(caller, SND), GZ_IN_USE);
+    CHECK(gz_caller_cancel_remove_blocking(caller, SND), GZ_DONE);
+    CHECK(gz_caller_get_blocking(caller, 1, SND), GZ_DONE);
+    CHECK(gz_caller_put_blocking(caller, 1, SND), GZ_DONE);
+    CHECK(gz_caller_cancel_remove_blocking(caller, SND), GZ_NOT_UNLOADING);
+    CHECK(gz_caller_begin_drain_blocking(caller, SND), GZ_DONE);
+    CHECK(gz_caller_end_remove_blocking(caller, SND), GZ_IN_USE);
     CHECK(gz_caller_put_blocking(caller, 1, SND), GZ_DONE);
     CHECK(gz_caller_end_remove_blocking(caller, SND), GZ_DONE);
     CHECK(gz_caller_loaded_blocking(caller, &count), GZ_DONE);
@@ -118,6 +124,7 @@ static void outside(gz_caller *caller)
     CHECK(gz_caller_begin_drain_blocking(caller, OUTSIDE), GZ_OUT_OF_RANGE);
     CHECK(gz_caller_begin_remove_blocking(caller, OUTSIDE), GZ_OUT_OF_RANGE);
     CHECK(gz_caller_end_remove_blocking(caller, OUTSIDE), GZ_OUT_OF_RANGE);
+    CHECK(gz_caller_cancel_remove_blocking(caller, OUTSIDE), GZ_OUT_OF_RANGE);
     CHECK(gz_caller_state_blocking(caller, SIZE_MAX), GZ_OUT_OF_RANGE);
 }
 
@@ -184,6 +191,7 @@ static void busy(gz_caller *caller)
     CHECK(gz_caller_begin_drain(caller, FIXED, 0), GZ_BUSY);
     CHECK(gz_caller_begin_remove(caller, FIXED, 0), GZ_BUSY);
     CHECK(gz_caller_end_remove(caller, FIXED, 0), GZ_BUSY);
+    CHECK(gz_caller_cancel_remove(caller, FIXED, 0), GZ_BUSY);
     CHECK(gz_caller_state(caller, FIXED, 0), GZ_BUSY);
     CHECK(gz_caller_loaded(caller, 0, &count), GZ_BUSY);
     CHECK(gz_caller_loaded_at(caller, 0, 0, &slot), GZ_BUSY);

@@ -339,6 +339,10 @@ gz_number gz_book_begin_remove(gz_book *book, size_t slot);
  * GZ_NOT_UNLOADING, GZ_IN_USE, GZ_OUT_OF_RANGE. */
 gz_number gz_book_end_remove(gz_book *book, size_t slot);
 
+/* Calls off a removal or a drain: the module is live again, and the references stay. What the module has must be whole: this
+ * is for an unload that did not happen, or a wait that took too long. GZ_NOT_UNLOADING, GZ_OUT_OF_RANGE. */
+gz_number gz_book_cancel_remove(gz_book *book, size_t slot);
+
 /* The state of the module: GZ_ABSENT, GZ_LOADING, GZ_LIVE, GZ_DRAINING or GZ_UNLOADING. GZ_OUT_OF_RANGE. */
 gz_number gz_book_state(gz_book *book, size_t slot);
 
@@ -358,6 +362,7 @@ void gz_book_free(gz_book book);
 #define gz_book_begin_drain(book, slot) GZ_ORDERED((gz_book_begin_drain)(book, slot))
 #define gz_book_begin_remove(book, slot) GZ_ORDERED((gz_book_begin_remove)(book, slot))
 #define gz_book_end_remove(book, slot) GZ_ORDERED((gz_book_end_remove)(book, slot))
+#define gz_book_cancel_remove(book, slot) GZ_ORDERED((gz_book_cancel_remove)(book, slot))
 #endif
 
 /* Ends a drain once nobody holds the module, and waits for that at most so many milliseconds. Who has something to unload

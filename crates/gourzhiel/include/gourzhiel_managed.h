@@ -47,6 +47,7 @@ gz_number gz_caller_end_load(gz_caller *caller, size_t slot, bool ok, uint32_t t
 gz_number gz_caller_begin_drain(gz_caller *caller, size_t slot, uint32_t tries);
 gz_number gz_caller_begin_remove(gz_caller *caller, size_t slot, uint32_t tries);
 gz_number gz_caller_end_remove(gz_caller *caller, size_t slot, uint32_t tries);
+gz_number gz_caller_cancel_remove(gz_caller *caller, size_t slot, uint32_t tries);
 gz_number gz_caller_state(gz_caller *caller, size_t slot, uint32_t tries);
 gz_number gz_caller_loaded_at(gz_caller *caller, size_t place, uint32_t tries, size_t *slot);
 
@@ -79,6 +80,7 @@ void gz_teller_free(gz_teller teller);
 #define gz_caller_begin_drain(caller, slot, tries) GZ_ORDERED((gz_caller_begin_drain)(caller, slot, tries))
 #define gz_caller_begin_remove(caller, slot, tries) GZ_ORDERED((gz_caller_begin_remove)(caller, slot, tries))
 #define gz_caller_end_remove(caller, slot, tries) GZ_ORDERED((gz_caller_end_remove)(caller, slot, tries))
+#define gz_caller_cancel_remove(caller, slot, tries) GZ_ORDERED((gz_caller_cancel_remove)(caller, slot, tries))
 #define gz_caller_state(caller, slot, tries) GZ_ORDERED((gz_caller_state)(caller, slot, tries))
 #define gz_caller_loaded(caller, tries, count) GZ_ORDERED((gz_caller_loaded)(caller, tries, count))
 #define gz_caller_loaded_at(caller, place, tries, slot) GZ_ORDERED((gz_caller_loaded_at)(caller, place, tries, slot))
@@ -132,6 +134,11 @@ GZ_INLINE gz_number gz_caller_begin_remove_blocking(gz_caller *caller, size_t sl
 GZ_INLINE gz_number gz_caller_end_remove_blocking(gz_caller *caller, size_t slot)
 {
     GZ_UNTIL_ANSWERED(gz_caller_end_remove(caller, slot, GZ_TRIES));
+}
+
+GZ_INLINE gz_number gz_caller_cancel_remove_blocking(gz_caller *caller, size_t slot)
+{
+    GZ_UNTIL_ANSWERED(gz_caller_cancel_remove(caller, slot, GZ_TRIES));
 }
 
 GZ_INLINE gz_number gz_caller_state_blocking(gz_caller *caller, size_t slot)
@@ -193,7 +200,7 @@ static inline size_t gz_caller_holder(gz_caller *caller, size_t worker, size_t s
 
 /* Waits until nobody holds a module that drains, at most so many milliseconds, with no lock taken between. It still drains
  * then, so nobody gets it: unload what it has, and then call gz_caller_end_remove. While this waits no other thread ends the
- * drain. A module that unloads is held by nobody: GZ_DONE.
+ * drain or calls it off. A module that unloads is held by nobody: GZ_DONE.
  * GZ_NOT_UNLOADING, GZ_OUT_OF_RANGE. GZ_TIMED_OUT: it still drains, and somebody holds it. */
 GZ_INLINE gz_number gz_caller_wait_unheld(gz_caller *caller, size_t slot, int milliseconds)
 {

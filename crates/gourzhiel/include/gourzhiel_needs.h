@@ -162,8 +162,9 @@ GZ_INLINE gz_number gz_caller_load(gz_caller *caller, size_t slot, gz_work *work
 /* Removes a module, and after it each module that it or another removed one needs and that may go: that nobody holds, no
  * loaded module needs, and is not permanent. For each it begins the removal, has `work` done, and ends it.
  * GZ_OUT_OF_MEMORY, and what gz_book_begin_remove answers of the module itself: nothing is then removed.
- * GZ_WORK_FAILED: `work` said no, and was not called again. The module that it was last called for stays unloading, since a
- * removal cannot be called off: nobody gets or loads it until gz_book_end_remove. What was removed before is absent. */
+ * GZ_WORK_FAILED: `work` said no, and was not called again. The module that it was last called for stays unloading: nobody
+ * gets or loads it until gz_book_end_remove, or until gz_book_cancel_remove, by which it is live again if it is whole. What
+ * was removed before is absent. */
 GZ_INLINE gz_number gz_book_remove_with_needs(gz_book *book, gz_catalogue *catalogue, size_t slot, gz_work *work,
                                               void *data)
 {

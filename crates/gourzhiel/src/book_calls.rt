@@ -1,6 +1,6 @@
 //! The calls on the handle of a book.
 ghost use Rattle.std.specs.Prelude.{◌≡◌, true};
-ghost use Rattle.dep_index.specs.Refusals.{begin_drain_refusal, begin_remove_refusal, end_load_refusal, end_remove_refusal};
+ghost use Rattle.dep_index.specs.Refusals.{begin_drain_refusal, begin_remove_refusal, cancel_remove_refusal, end_load_refusal, end_remove_refusal};
 ghost use Rattle.gourzhiel.specs.Ended.{BeginLoadEnded, BookEnded};
 
 use crate::endings::{ended_number, tell_need};
@@ -72,6 +72,18 @@ pub extern "C" fn gz_book_end_remove(book: &mut GzBook, slot: usize) -> u32
     ensures call { BookEnded end_remove_refusal book.old.held slot BookCall.EndRemove result book.new.held }
 {
     ended_number(attempted(book.lend().end_remove(slot)))
+}
+
+/// Calls off a removal or a drain: the module is live again, and the references stay.
+///
+/// NOT_UNLOADING: neither has begun. OUT_OF_RANGE: the slot is none of the table.
+#[unsafe(no_mangle)]
+pub extern "C" fn gz_book_cancel_remove(book: &mut GzBook, slot: usize) -> u32
+    requires full { book.old.full ≡ true }
+    ensures full { book.new.full ≡ true }
+    ensures call { BookEnded cancel_remove_refusal book.old.held slot BookCall.CancelRemove result book.new.held }
+{
+    ended_number(attempted(book.lend().cancel_remove(slot)))
 }
 
 /// Frees a book. Its leaves and readers go on, and no module is loaded or removed any more.

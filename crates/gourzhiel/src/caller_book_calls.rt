@@ -1,6 +1,6 @@
 //! The managed calls of the book, on the handle of a caller. Each is BUSY if the lock was taken at each of so many tries.
 ghost use Rattle.std.specs.Prelude.{◌≡◌, true};
-ghost use Rattle.dep_index.specs.Refusals.{begin_drain_refusal, begin_remove_refusal, end_load_refusal, end_remove_refusal};
+ghost use Rattle.dep_index.specs.Refusals.{begin_drain_refusal, begin_remove_refusal, cancel_remove_refusal, end_load_refusal, end_remove_refusal};
 ghost use Rattle.managed_table.specs.Owned.{SameTable};
 ghost use Rattle.gourzhiel.specs.Called.{BeginLoadCallEnded, BookCallEnded};
 
@@ -68,4 +68,14 @@ pub extern "C" fn gz_caller_end_remove(caller: &mut GzCaller, slot: usize, tries
     ensures call { BookCallEnded end_remove_refusal caller.old.held slot tries (Call.EndRemove slot) result caller.new.held }
 {
     ended_number(caller.lend().end_remove(slot, tries))
+}
+
+/// Calls off a removal or a drain, with the numbers of `gz_book_cancel_remove`.
+#[unsafe(no_mangle)]
+pub extern "C" fn gz_caller_cancel_remove(caller: &mut GzCaller, slot: usize, tries: u32) -> u32
+    requires full { caller.old.full ≡ true }
+    ensures kept { (caller.new.full ≡ true) × SameTable caller.old.held caller.new.held }
+    ensures call { BookCallEnded cancel_remove_refusal caller.old.held slot tries (Call.CancelRemove slot) result caller.new.held }
+{
+    ended_number(caller.lend().cancel_remove(slot, tries))
 }

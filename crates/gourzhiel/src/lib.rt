@@ -21,13 +21,13 @@ mod teller_making;
 mod version;
 
 pub use book_calls::{
-    gz_book_begin_drain, gz_book_begin_load, gz_book_begin_remove, gz_book_end_load,
-    gz_book_end_remove, gz_book_free,
+    gz_book_begin_drain, gz_book_begin_load, gz_book_begin_remove, gz_book_cancel_remove,
+    gz_book_end_load, gz_book_end_remove, gz_book_free,
 };
 pub use book_reads::{gz_book_loaded, gz_book_loaded_at, gz_book_state};
 pub use caller_book_calls::{
-    gz_caller_begin_drain, gz_caller_begin_load, gz_caller_begin_remove, gz_caller_end_load,
-    gz_caller_end_remove,
+    gz_caller_begin_drain, gz_caller_begin_load, gz_caller_begin_remove, gz_caller_cancel_remove,
+    gz_caller_end_load, gz_caller_end_remove,
 };
 pub use caller_book_reads::{gz_caller_loaded, gz_caller_loaded_at, gz_caller_state};
 pub use caller_calls::{
