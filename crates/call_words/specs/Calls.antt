@@ -7,7 +7,7 @@ use Rattle.text_parts.specs.Text.{texts_of}
 use Rattle.dep_index.specs.declared.table.calls.Call.{Call}
 use Rattle.dep_index.specs.declared.table.calls.Call.TheVariants as call
 use Rattle.call_words.specs.declared.verb.Verb.{Verb}
-use Rattle.call_words.specs.declared.verb.Verb.TheVariants.{Get, Put, Query, BeginLoad, EndLoad, BeginDrain, BeginRemove, EndRemove}
+use Rattle.call_words.specs.declared.verb.Verb.TheVariants.{Get, Put, Query, BeginLoad, EndLoad, BeginDrain, BeginRemove, EndRemove, CancelRemove}
 use Rattle.call_words.specs.declared.verb.Said as said_type
 
 -- a call, but for its module
@@ -20,6 +20,7 @@ verb_in (call.EndLoad slot ok) = EndLoad ok
 verb_in (call.BeginDrain slot) = BeginDrain
 verb_in (call.BeginRemove slot) = BeginRemove
 verb_in (call.EndRemove slot) = EndRemove
+verb_in (call.CancelRemove slot) = CancelRemove
 
 -- the call on the module of a slot
 abbrev pub call_on : Verb → ℕ → Call
@@ -31,6 +32,7 @@ call_on (EndLoad ok) slot = call.EndLoad slot ok
 call_on BeginDrain slot = call.BeginDrain slot
 call_on BeginRemove slot = call.BeginRemove slot
 call_on EndRemove slot = call.EndRemove slot
+call_on CancelRemove slot = call.CancelRemove slot
 
 -- the first word of a call
 abbrev pub word_of : Verb → List ℕ
@@ -42,6 +44,7 @@ word_of (EndLoad ok) = codes "end_load"
 word_of BeginDrain = codes "begin_drain"
 word_of BeginRemove = codes "begin_remove"
 word_of EndRemove = codes "end_remove"
+word_of CancelRemove = codes "cancel_remove"
 
 -- how a load ended
 abbrev pub end_word : Bool → List ℕ
@@ -78,7 +81,7 @@ on_name (Some verb) name later = Some (record { verb = verb; name = name; later 
 -- the verb of a word that a name alone follows
 abbrev pub verb_alone : List ℕ → Option Verb
 verb_alone word =
-    find (λ (verb : Verb). bytes_eq word (word_of verb)) (Query ∷ BeginLoad ∷ BeginDrain ∷ BeginRemove ∷ EndRemove ∷ [])
+    find (λ (verb : Verb). bytes_eq word (word_of verb)) (Query ∷ BeginLoad ∷ BeginDrain ∷ BeginRemove ∷ EndRemove ∷ CancelRemove ∷ [])
 
 abbrev pub load_end : List ℕ → Option Bool
 load_end word = if bytes_eq word (codes "ok") then Some true else (if bytes_eq word (codes "fail") then Some false else None)

@@ -23,6 +23,7 @@ pub enum Verb {
     BeginDrain,
     BeginRemove,
     EndRemove,
+    CancelRemove,
 }
 
 /// A call on the module of a name, and the words after it.
@@ -34,12 +35,13 @@ pub struct Said<'w, 'a> {
 }
 
 /// The verbs that a name alone follows.
-const ALONE: [Verb; 5] = [
+const ALONE: [Verb; 6] = [
     Verb::Query,
     Verb::BeginLoad,
     Verb::BeginDrain,
     Verb::BeginRemove,
     Verb::EndRemove,
+    Verb::CancelRemove,
 ];
 
 fn push_number(text: &mut Vec<u8>, number: usize) -> Result<(), AllocError>
@@ -69,6 +71,7 @@ impl Verb {
             Call::BeginDrain(_) => Verb::BeginDrain,
             Call::BeginRemove(_) => Verb::BeginRemove,
             Call::EndRemove(_) => Verb::EndRemove,
+            Call::CancelRemove(_) => Verb::CancelRemove,
         }
     }
 
@@ -85,6 +88,7 @@ impl Verb {
             Verb::BeginDrain => Call::BeginDrain(slot),
             Verb::BeginRemove => Call::BeginRemove(slot),
             Verb::EndRemove => Call::EndRemove(slot),
+            Verb::CancelRemove => Call::CancelRemove(slot),
         }
     }
 
@@ -101,6 +105,7 @@ impl Verb {
             Verb::BeginDrain => b"begin_drain",
             Verb::BeginRemove => b"begin_remove",
             Verb::EndRemove => b"end_remove",
+            Verb::CancelRemove => b"cancel_remove",
         }
     }
 
