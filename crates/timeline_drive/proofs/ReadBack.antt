@@ -12,7 +12,7 @@ use Rattle.std.proofs.lemmas.Str.Parse.{IsNumeralModel, numerals_by_fold}
 use Rattle.std.proofs.lemmas.Fmt.{digits_decimal, digits_value-decimal, decimal_nonempty, length-decimal-le, first_decimal, decimal_digit}
 use Rattle.text_parts.specs.Text.{is_name, is_name_byte, is_digit, digits_from}
 use Rattle.call_words.specs.declared.verb.Verb.{Verb}
-use Rattle.call_words.specs.declared.verb.Verb.TheVariants.{Get, Put, Query, BeginLoad, EndLoad, BeginDrain, BeginRemove, EndRemove}
+use Rattle.call_words.specs.declared.verb.Verb.TheVariants.{Get, Put, Query, BeginLoad, EndLoad, BeginDrain, BeginRemove, EndRemove, CancelRemove}
 use Rattle.call_words.specs.declared.reply.ReplyWord.{ReplyWord}
 use Rattle.call_words.specs.declared.reply.ReplyWord.TheVariants as reply
 use Rattle.call_words.specs.Replies.{reply_of, reply_text}
@@ -179,6 +179,7 @@ call_back (EndLoad false) name times good shown = rw shown refl
 call_back BeginDrain name times good shown = rw shown refl
 call_back BeginRemove name times good shown = rw shown refl
 call_back EndRemove name times good shown = rw shown refl
+call_back CancelRemove name times good shown = rw shown refl
 
 free_last : (o : Option ℕ) → IsLast o → Free (last_text o)
 free_last None good = free_codes (codes "-") refl
@@ -213,6 +214,7 @@ free_call (EndLoad false) name times good shown free = (free_codes (codes "end_l
 free_call BeginDrain name times good shown free = (free_codes (codes "begin_drain") refl, (shown, free))
 free_call BeginRemove name times good shown free = (free_codes (codes "begin_remove") refl, (shown, free))
 free_call EndRemove name times good shown free = (free_codes (codes "end_remove") refl, (shown, free))
+free_call CancelRemove name times good shown free = (free_codes (codes "cancel_remove") refl, (shown, free))
 
 free_line : (e : Entry) → IsEntry e → AllFree (line_words e)
 free_line e good = (
