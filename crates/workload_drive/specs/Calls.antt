@@ -5,7 +5,7 @@ use Rattle.dep_index.specs.declared.table.calls.Call.TheVariants as calls
 use Rattle.dep_index.specs.declared.table.calls.Reply.{Reply}
 use Rattle.dep_index.specs.declared.table.calls.Reply.TheVariants.{Done}
 use Rattle.workload_drive.specs.declared.script.acts.Change.{Change}
-use Rattle.workload_drive.specs.declared.script.acts.Change.TheVariants.{Load, Remove, Drain, Finish}
+use Rattle.workload_drive.specs.declared.script.acts.Change.TheVariants.{Load, Remove, Drain, Finish, Keep}
 use Rattle.workload_drive.specs.declared.script.acts.Deed.{Deed}
 use Rattle.workload_drive.specs.declared.script.acts.Deed.TheVariants.{Get, Put, Query, Make}
 
@@ -15,6 +15,7 @@ first_of Load slot = calls.BeginLoad slot
 first_of Remove slot = calls.BeginRemove slot
 first_of Drain slot = calls.BeginDrain slot
 first_of Finish slot = calls.EndRemove slot
+first_of Keep slot = calls.CancelRemove slot
 
 -- the call that is made if the first was Done
 abbrev pub second_of : Change → ℕ → Option Call
@@ -22,6 +23,7 @@ second_of Load slot = Some (calls.EndLoad slot true)
 second_of Remove slot = Some (calls.EndRemove slot)
 second_of Drain slot = None
 second_of Finish slot = None
+second_of Keep slot = None
 
 -- if the first call had this reply: the second was made and answered so, or there is none and that is the reply
 abbrev pub Ended : {T : Type 0} → (T → Call → Reply → T → Type 0) → Option Call → Reply → Reply → T → T → Type 0

@@ -9,7 +9,7 @@ use Rattle.dep_index.specs.Catalogue.{Description, slot_named}
 use Rattle.workload_drive.specs.declared.fault.LineCode.TheVariants.{H2}
 use Rattle.workload_drive.specs.declared.fault.LineFault.{LineFault}
 use Rattle.workload_drive.specs.declared.script.acts.Change.{Change}
-use Rattle.workload_drive.specs.declared.script.acts.Change.TheVariants.{Load, Remove, Drain, Finish}
+use Rattle.workload_drive.specs.declared.script.acts.Change.TheVariants.{Load, Remove, Drain, Finish, Keep}
 use Rattle.workload_drive.specs.declared.script.acts.Deed.{Deed}
 use Rattle.workload_drive.specs.declared.script.acts.Deed.TheVariants.{Get, Put, Query, Make}
 use Rattle.workload_drive.specs.declared.script.acts.Act.{Act}
@@ -29,11 +29,12 @@ deed_text (Make Load) = codes "load"
 deed_text (Make Remove) = codes "remove"
 deed_text (Make Drain) = codes "drain"
 deed_text (Make Finish) = codes "finish"
+deed_text (Make Keep) = codes "keep"
 
 -- the deed of a word: what a worker can do to a module
 abbrev pub deed_of : List ℕ → Option Deed
 deed_of verb =
-    find (λ (deed : Deed). bytes_eq verb (deed_text deed)) (Get ∷ Put ∷ Query ∷ Make Load ∷ Make Remove ∷ Make Drain ∷ Make Finish ∷ [])
+    find (λ (deed : Deed). bytes_eq verb (deed_text deed)) (Get ∷ Put ∷ Query ∷ Make Load ∷ Make Remove ∷ Make Drain ∷ Make Finish ∷ Make Keep ∷ [])
 
 -- the change of a deed
 abbrev pub change_in : Deed → Option Change

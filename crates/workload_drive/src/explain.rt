@@ -55,7 +55,7 @@ fn tell_line<E: Write>(number: usize, line: &[u8], errors: &mut E) {
 
 /// Whether a word begins a line of a script.
 fn is_of_script(word: &[u8]) -> bool {
-    let words: [&[u8]; 4] = [b"load", b"remove", b"drain", b"finish"];
+    let words: [&[u8]; 5] = [b"load", b"remove", b"drain", b"finish", b"keep"];
     marked(b'w', word).is_some() || words.iter().any(|own| is_same(word, own))
 }
 
@@ -77,6 +77,8 @@ fn schedule_hint(word: &[u8]) -> &'static str {
 fn script_hint(word: &[u8]) -> &'static str {
     if marked(b't', word).is_some() {
         "this is a line of a schedule: is --threads too much?"
+    } else if is_same(word, b"keep") {
+        "keep has one name, as finish, and stands alone before all lines of workers; W is below N"
     } else if is_of_script(word) {
         "load, remove, drain and finish have one name, and stand alone before all lines of workers; W is below N; w0 may also get, put and query"
     } else {

@@ -21,6 +21,8 @@ pub(crate) enum Change {
     Drain,
     /// The end of a removal or a drain.
     Finish,
+    /// A removal or a drain is called off.
+    Keep,
 }
 
 /// What a worker does to a module.
@@ -58,6 +60,7 @@ impl Change {
             Change::Remove => Call::BeginRemove(slot),
             Change::Drain => Call::BeginDrain(slot),
             Change::Finish => Call::EndRemove(slot),
+            Change::Keep => Call::CancelRemove(slot),
         }
     }
 
@@ -68,7 +71,7 @@ impl Change {
         match self {
             Change::Load => Some(Call::EndLoad(slot, true)),
             Change::Remove => Some(Call::EndRemove(slot)),
-            Change::Drain | Change::Finish => None,
+            Change::Drain | Change::Finish | Change::Keep => None,
         }
     }
 }
@@ -82,7 +85,7 @@ impl Act {
     }
 }
 
-const DEEDS: [Deed; 7] = [
+const DEEDS: [Deed; 8] = [
     Deed::Get,
     Deed::Put,
     Deed::Query,
@@ -90,6 +93,7 @@ const DEEDS: [Deed; 7] = [
     Deed::Make(Change::Remove),
     Deed::Make(Change::Drain),
     Deed::Make(Change::Finish),
+    Deed::Make(Change::Keep),
 ];
 
 impl Deed {
@@ -105,6 +109,7 @@ impl Deed {
             Deed::Make(Change::Remove) => b"remove",
             Deed::Make(Change::Drain) => b"drain",
             Deed::Make(Change::Finish) => b"finish",
+            Deed::Make(Change::Keep) => b"keep",
         }
     }
 }

@@ -45,6 +45,7 @@ impl Calls for ManagerCalls<'_> {
             Call::BeginDrain(slot) => Some(Reply::of(manager.begin_drain(rt, slot)?)),
             Call::BeginRemove(slot) => Some(Reply::of(manager.begin_remove(rt, slot)?)),
             Call::EndRemove(slot) => Some(Reply::of(manager.end_remove(rt, slot)?)),
+            Call::CancelRemove(slot) => Some(Reply::of(manager.cancel_remove(rt, slot)?)),
         }
     }
 

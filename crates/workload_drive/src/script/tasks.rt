@@ -83,8 +83,8 @@ fn said_by(
 }
 
 /// The script that an input is: `%catalogue`, a catalogue, `%script`, `workers N`, then lines `load NAME`,
-/// `remove NAME`, `drain NAME` or `finish NAME`, then lines of workers, `wW` and one of these or `get NAME`, `put NAME`
-/// or `query NAME`. `Line` is the first faulty line, `Memory` says that there was none.
+/// `remove NAME`, `drain NAME`, `finish NAME` or `keep NAME`, then lines of workers, `wW` and one of these or `get NAME`,
+/// `put NAME` or `query NAME`. `Line` is the first faulty line, `Memory` says that there was none.
 pub fn read_script(alloc: Global, input: &[u8]) -> Result<Script, ScheduleFault>
     ensures script { IfOk result (λ script. script_of input.now ≡ Ok script) }
     ensures refused { IfErr result (λ fault. IsFirstFault fault (script_of input.now)) }
