@@ -3,7 +3,7 @@ use Rattle.std.proofs.Common.{◌≡◌, ◌⊎◌, ℕ, [], ◌∷◌, ◌++◌
 use Rattle.std.specs.Prelude.{OnOk}
 use Rattle.std.proofs.lemmas.List.{map-append}
 use Rattle.dep_index.specs.declared.table.calls.Call.{Call}
-use Rattle.dep_index.specs.declared.table.calls.Call.TheVariants.{Get, Put, InUse, BeginLoad, EndLoad, BeginDrain, BeginRemove, EndRemove}
+use Rattle.dep_index.specs.declared.table.calls.Call.TheVariants.{Get, Put, InUse, BeginLoad, EndLoad, BeginDrain, BeginRemove, EndRemove, CancelRemove}
 use Rattle.dep_index.specs.declared.table.calls.Reply.{Reply}
 use Rattle.dep_index.specs.declared.table.calls.Reply.TheVariants.{Done}
 use Rattle.dep_index.specs.Refusals.{reply_of}
@@ -33,6 +33,7 @@ was_made row call reply old new law m other =
       legal = m.legal;
       unheld = safe.unused;
       none_after = safe.shut;
+      called_off = safe.called_off;
     }
 
 pub left_unused : (row : RowIs) (call : Call) (m : ℕ) (old new : CallerIs) → LegalIsSafe → (call ≡ BeginRemove m) ⊎ (call ≡ EndRemove m) → WasMadeOnce row call Done old new → LeftUnused row call m old new
@@ -68,6 +69,7 @@ was_made_once table (EndLoad m ok) reply old new law made = was_made table.row (
 was_made_once table (BeginDrain m) reply old new law made = was_made table.row (BeginDrain m) reply old new law made.0 made.1
 was_made_once table (BeginRemove m) reply old new law made = was_made table.row (BeginRemove m) reply old new law made.0 made.1
 was_made_once table (EndRemove m) reply old new law made = was_made table.row (EndRemove m) reply old new law made.0 made.1
+was_made_once table (CancelRemove m) reply old new law made = was_made table.row (CancelRemove m) reply old new law made.0 made.1
 
 pub if_made_once : (table : ManagedIs) (call : Call) (r : Option Reply) (old new : CallerIs) → LegalIsSafe → IfSome r (λ reply. CallMade table call reply old new) → IfSome r (λ reply. WasMadeOnce table.row call reply old new)
 if_made_once table call None old new law made = tt

@@ -49,6 +49,7 @@ rows_effect table (call.EndLoad m ok) = refl
 rows_effect table (call.BeginDrain m) = refl
 rows_effect table (call.BeginRemove m) = refl
 rows_effect table (call.EndRemove m) = refl
+rows_effect table (call.CancelRemove m) = refl
 
 rows_next : (catalogue : List Module) (table : Table) (x : Call) → length (next catalogue table x).rows ≡ length table.rows
 rows_next catalogue table x = at (is_some (refusal catalogue table x)) where

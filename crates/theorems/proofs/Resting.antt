@@ -84,6 +84,7 @@ book_looked t m word (book_is.EndLoad false) answer e = some_same word Done answ
 book_looked t m word book_is.BeginDrain answer e = absurd (cc)
 book_looked t m word book_is.BeginRemove answer e = absurd (cc)
 book_looked t m word book_is.EndRemove answer e = undrained m word answer (is_draining (state_of t.book m)) e
+book_looked t m word book_is.CancelRemove answer e = absurd (cc)
 
 book_word : (world : World) (t : Table) (m word : ℕ) (kind : BookCall) (answer : Reply) → book_look world t.book kind m ≡ Some answer
     → word_step world.catalogue t (book_call kind m) word ≡ takes_effect word answer
@@ -92,6 +93,7 @@ book_word world t m word (book_is.EndLoad ok) answer e = refused_look (book_refu
 book_word world t m word book_is.BeginDrain answer e = refused_look (book_refusal world.catalogue t.book (call.BeginDrain m)) _ word (book_step t.book (call.BeginDrain m) word) answer (book_looked t m word book_is.BeginDrain answer) e
 book_word world t m word book_is.BeginRemove answer e = refused_look (book_refusal world.catalogue t.book (call.BeginRemove m)) _ word (book_step t.book (call.BeginRemove m) word) answer (book_looked t m word book_is.BeginRemove answer) e
 book_word world t m word book_is.EndRemove answer e = refused_look (book_refusal world.catalogue t.book (call.EndRemove m)) _ word (book_step t.book (call.EndRemove m) word) answer (book_looked t m word book_is.EndRemove answer) e
+book_word world t m word book_is.CancelRemove answer e = refused_look (book_refusal world.catalogue t.book (call.CancelRemove m)) _ word (book_step t.book (call.CancelRemove m) word) answer (book_looked t m word book_is.CancelRemove answer) e
 
 pub looks_rest : (world : World) (t : Table) (m found : ℕ) → LooksAreWordSteps world t m found
 looks_rest world t m found =
@@ -117,4 +119,6 @@ writes_rest catalogue t m found =
       close = λ free. ap (λ o. unless_refused o found (book_step t.book (call.BeginRemove m) found)) free;
       open_it = λ free is. ap (λ o. unless_refused o found (book_step t.book (call.EndLoad m true) found)) free ∙ opened_word found is;
       close_drained = λ free is. ap (λ o. unless_refused o found (book_step t.book (call.EndRemove m) found)) free ∙ cond-true _ _ _ is;
+      undrain = λ free is. ap (λ o. unless_refused o found (book_step t.book (call.CancelRemove m) found)) free ∙ cond-true _ _ _ is;
+      reopen = λ free still is. ap (λ o. unless_refused o found (book_step t.book (call.CancelRemove m) found)) free ∙ cond-false _ _ _ still ∙ opened_word found is;
     }

@@ -3,7 +3,7 @@ use Rattle.std.specs.Prelude.{◌≡◌, ℕ, List, [], ◌∷◌, ◌++◌}
 use mathlib.Core.Option as core
 use lib.ListN.{get_elem?}
 use Rattle.dep_index.specs.declared.table.calls.Call.{Call}
-use Rattle.dep_index.specs.declared.table.calls.Call.TheVariants.{Get, Put, InUse, BeginLoad, EndLoad, BeginDrain, BeginRemove, EndRemove}
+use Rattle.dep_index.specs.declared.table.calls.Call.TheVariants.{Get, Put, InUse, BeginLoad, EndLoad, BeginDrain, BeginRemove, EndRemove, CancelRemove}
 use Rattle.dep_index.specs.declared.table.calls.Reply.{Reply}
 use Rattle.dep_index.specs.declared.table.calls.Reply.TheVariants.{Done}
 use Rattle.dep_index.specs.Table.{pairs, users}
@@ -17,7 +17,7 @@ use Rattle.managed_table.specs.Callers.{CallerIs, PassIs}
 use Rattle.managed_table.specs.Turns.{turn, with_turns, with_misses}
 use Rattle.managed_table.specs.declared.view.Turn.{Turn}
 use Rattle.managed_table.specs.declared.view.Pass.{Pass}
-use Rattle.theorems.specs.Safety.{RemovesUnheld, GetsNoneAfter, table_at}
+use Rattle.theorems.specs.Safety.{RemovesUnheld, GetsNoneAfter, CancelsKeepReferences, table_at}
 
 -- which seat makes a call: the leaf of its worker, or the book
 abbrev pub seat_for : Call → SeatName
@@ -29,6 +29,7 @@ seat_for (EndLoad m ok) = Book
 seat_for (BeginDrain m) = Book
 seat_for (BeginRemove m) = Book
 seat_for (EndRemove m) = Book
+seat_for (CancelRemove m) = Book
 
 abbrev pub lock_of : SeatName → ℕ
 lock_of (Leaf w) = w
@@ -68,9 +69,10 @@ pub record WasMadeOnce (row : RowIs) (call : Call) (reply : Reply) (old new : Ca
   pub legal : IsLegal row.world.catalogue row.world.workers (answers_in after)
   pub unheld : RemovesUnheld row.world.catalogue row.world.workers (answers_in after)
   pub none_after : GetsNoneAfter (answers_in after)
+  pub called_off : CancelsKeepReferences row.world.catalogue row.world.workers (answers_in after)
 
 -- The caller had one turn more, whose history ends with the removal of m. Before it no reference to m was held by any worker, and
--- no module of the table needed it; and in each legal history that begins with it no get of m succeeds until m is loaded again.
+-- no module of the table needed it; and in each legal history that begins with it no get of m succeeds until m is live again.
 pub record LeftUnused (row : RowIs) (removal : Call) (m : ℕ) (old new : CallerIs) : Type 0 where
   pub turn : Turn
   pub turned : turns_of removal new ≡ turns_of removal old ++ turn ∷ []

@@ -10,7 +10,7 @@ use Rattle.root_row.specs.declared.view.SeatAnswer.{SeatAnswer}
 use Rattle.root_row.specs.declared.view.SeatName.TheVariants.{Leaf, Book}
 use Rattle.root_row.specs.History.{SeatName, seat_answer, answers_in, own_answers}
 use Rattle.root_row.specs.Views.{seen_of, worker_of}
-use Rattle.theorems.specs.Safety.{RemovesUnheld, GetsNoneAfter, table_at}
+use Rattle.theorems.specs.Safety.{RemovesUnheld, GetsNoneAfter, CancelsKeepReferences, table_at}
 
 abbrev pub history_of : View → List Answer
 history_of v = answers_in (seen_of v)
@@ -28,6 +28,7 @@ pub record IsAnswered (old : View) (by : SeatName) (call : Call) (reply : Reply)
   pub legal : IsLegal new.world.catalogue new.world.workers (history_of new)
   pub unheld : RemovesUnheld new.world.catalogue new.world.workers (history_of new)
   pub none_after : GetsNoneAfter (history_of new)
+  pub called_off : CancelsKeepReferences new.world.catalogue new.world.workers (history_of new)
 
 abbrev pub LeafIsAnswered : View → Call → Reply → View → Type 0
 LeafIsAnswered old call reply new = IsAnswered old (Leaf (worker_of old)) call reply new

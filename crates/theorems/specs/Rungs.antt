@@ -1,8 +1,8 @@
 -- The row of threads, as a state of the machine of steps.
-use Rattle.std.specs.Prelude.{◌≡◌, ◌≢◌, ℕ, ◌+◌, ◌-◌, ◌==◌, true, List, map, slice_index, replicate, Some, None, if◌then◌else◌}
+use Rattle.std.specs.Prelude.{◌≡◌, ◌≢◌, ℕ, ◌+◌, ◌-◌, ◌==◌, true, false, List, map, slice_index, replicate, Some, None, if◌then◌else◌}
 use Rattle.std.specs.List.{range_with_len}
 use Rattle.atomic_table.specs.Table as rows
-use Rattle.dep_index.specs.declared.table.calls.Call.TheVariants.{Get, Put, InUse as Query, EndLoad, BeginDrain, BeginRemove, EndRemove}
+use Rattle.dep_index.specs.declared.table.calls.Call.TheVariants.{Get, Put, InUse as Query, EndLoad, BeginDrain, BeginRemove, EndRemove, CancelRemove}
 use Rattle.dep_index.specs.declared.table.calls.Reply.TheVariants.{Done, Yes, No}
 use Rattle.dep_index.specs.declared.table.calls.Reply.{Reply}
 use Rattle.dep_index.specs.Table.{Module, Table, count_of, state_of, is_draining}
@@ -65,6 +65,10 @@ pub record WritesAreWordSteps (catalogue : List Module) (t : Table) (m found : �
   pub open_it : book_refusal catalogue t.book (EndLoad m true) ≡ None → found ≡ closed → word_step catalogue t (EndLoad m true) found ≡ takes_effect 0 Done
   pub close_drained : book_refusal catalogue t.book (EndRemove m) ≡ None → is_draining (state_of t.book m) ≡ true
       → word_step catalogue t (EndRemove m) found ≡ close_step drained found
+  pub undrain : book_refusal catalogue t.book (CancelRemove m) ≡ None → is_draining (state_of t.book m) ≡ true
+      → word_step catalogue t (CancelRemove m) found ≡ takes_effect (found - drained) Done
+  pub reopen : book_refusal catalogue t.book (CancelRemove m) ≡ None → is_draining (state_of t.book m) ≡ false → found ≡ closed
+      → word_step catalogue t (CancelRemove m) found ≡ takes_effect 0 Done
 
 abbrev pub AllWritesAreWordSteps : Type 0
 AllWritesAreWordSteps = (catalogue : List Module) (t : Table) (m found : ℕ) → WritesAreWordSteps catalogue t m found

@@ -12,7 +12,7 @@ use Rattle.root_row.specs.Views.{name_of, part_of, seen_of}
 use Rattle.managed_table.specs.Callers.{CallerIs}
 use Rattle.managed_table.specs.Hearing.{Met}
 use Rattle.managed_table.specs.declared.view.Turn.{Turn}
-use Rattle.theorems.specs.Safety.{NotLoadedAgain}
+use Rattle.theorems.specs.Safety.{NotLiveAgain}
 use Rattle.theorems.specs.Managed.{seat_for, lock_of, here, elsewhere, past_turn, WasMadeOnce}
 
 -- The caller had one turn more, at the lock of the call's seat, which it had found taken so often, and did nothing else. The seat made
@@ -57,12 +57,12 @@ pub record WereMadeInOrder (row : RowIs) (first : Call) (reply : Reply) (old new
   pub since : List SeatAnswer
   pub order : other.after ≡ (one.after ++ since) ++ seat_answer (seat_for second) second reply' ∷ []
 
--- If this removal of the slot was answered Ok, the get is answered NotLive, unless a load of the module ended well between the two
+-- If this removal of the slot was answered Ok, the get is answered NotLive, unless the module was live again between the two
 abbrev pub FindsItGone : RowIs → Call → ℕ → ℕ → Reply → Reply → CallerIs → CallerIs → CallerIs → CallerIs → Type 0
 FindsItGone row removal slot worker reply get old new old' new' =
     reply ≡ Done
     → (t : WereMadeInOrder row removal reply old new (Get worker slot) get old' new')
-    × (NotLoadedAgain slot (answers_in t.since) → get ≡ NotLive)
+    × (NotLiveAgain slot (answers_in t.since) → get ≡ NotLive)
 
 -- the seat that makes the call, and the reader, heard of each other in one turn of the caller
 abbrev pub MetAt : RowIs → Call → CallerIs → CallerIs → View → View → Type 0

@@ -20,7 +20,7 @@ use use_indicator::Reader;
 
 /// A managed drain, or removal, that ended with Ok left no reference by any worker, through whichever caller it was taken, and no
 /// loaded module that needs the module. In every legal history that begins so, no get of the module succeeds afterwards until it
-/// is loaded again. None comes exactly if the slot is out of range, and nothing is then done.
+/// is live again. None comes exactly if the slot is out of range, and nothing is then done.
 pub fn managed_drains_end_unused<R: Wait>(
     rt: &R,
     table: &ManagedTable,
@@ -37,8 +37,8 @@ pub fn managed_drains_end_unused<R: Wait>(
     table.end_remove(rt, caller, slot)
 }
 
-/// A get that was told of the end of a drain, which was answered Ok, finds the module gone: it is answered NotLive, unless a load
-/// of the module ended well between the two. Whatever they are answered, both were made, in this order, and the reader has asked
+/// A get that was told of the end of a drain, which was answered Ok, finds the module gone: it is answered NotLive, unless the
+/// module was live again between the two. Whatever they are answered, both were made, in this order, and the reader has asked
 /// nothing. The worker and the slot are in range.
 pub fn gets_told_of_a_drain_find_it_gone<R: Wait>(
     rt: &R,

@@ -36,7 +36,7 @@ pub fn managed_calls_are_made_once<R: Wait>(
 
 /// A managed removal that was begun with Ok found no reference by any worker, through whichever caller it was taken, and no
 /// loaded module that needs it. In every legal history that begins so, no get of the module succeeds afterwards until it is
-/// loaded again. None comes exactly if the slot is out of range, and nothing is then done. Premises as above.
+/// live again. None comes exactly if the slot is out of range, and nothing is then done. Premises as above.
 pub fn managed_removals_find_no_user<R: Wait>(
     rt: &R,
     table: &ManagedTable,

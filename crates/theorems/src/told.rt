@@ -87,8 +87,8 @@ pub fn calls_told_are_in_order<R: Wait>(
     (reply, answer, heard)
 }
 
-/// A get that was told of a removal which was answered Ok finds the module gone: it is answered NotLive, unless a load of the
-/// module ended well between the two. Whatever they are answered, both were made, in this order, and the reader has asked nothing.
+/// A get that was told of a removal which was answered Ok finds the module gone: it is answered NotLive, unless the module was live
+/// again between the two. Whatever they are answered, both were made, in this order, and the reader has asked nothing.
 pub fn gets_told_of_a_removal_find_it_gone<R: Wait>(
     rt: &R,
     table: &ManagedTable,
@@ -152,5 +152,6 @@ fn meet_at<R: Wait>(
         Call::BeginDrain(_) => table.meet_book(rt, caller, reader),
         Call::BeginRemove(_) => table.meet_book(rt, caller, reader),
         Call::EndRemove(_) => table.meet_book(rt, caller, reader),
+        Call::CancelRemove(_) => table.meet_book(rt, caller, reader),
     }
 }
