@@ -84,6 +84,7 @@ fn reply_to<R: Wait>(rt: &R, manager: &Manager, call: Call) -> Option<Reply> {
         Call::BeginDrain(slot) => reply_of(manager.begin_drain(rt, slot)),
         Call::BeginRemove(slot) => reply_of(manager.begin_remove(rt, slot)),
         Call::EndRemove(slot) => reply_of(manager.end_remove(rt, slot)),
+        Call::CancelRemove(slot) => reply_of(manager.cancel_remove(rt, slot)),
     }
 }
 
@@ -104,6 +105,7 @@ fn book_reply(book: &mut OwnBook, call: Call) -> Option<Reply> {
         Call::BeginDrain(slot) => reply_of(book.begin_drain(slot)),
         Call::BeginRemove(slot) => reply_of(book.begin_remove(slot)),
         Call::EndRemove(slot) => reply_of(book.end_remove(slot)),
+        Call::CancelRemove(slot) => reply_of(book.cancel_remove(slot)),
         _ => None,
     }
 }

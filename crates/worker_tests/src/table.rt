@@ -44,7 +44,7 @@ static LOADS: [(Call, Reply); 30] = [
 ];
 
 /// A module that is permanent, and a drain.
-static DRAINS: [(Call, Reply); 16] = [
+static DRAINS: [(Call, Reply); 24] = [
     (Call::BeginLoad(FIXED), Reply::Done),
     (Call::EndLoad(FIXED, true), Reply::Done),
     (Call::BeginDrain(FIXED), Reply::Permanent),
@@ -57,10 +57,18 @@ static DRAINS: [(Call, Reply); 16] = [
     (Call::Get(0, SND), Reply::NotLive),
     (Call::Get(1, SND), Reply::NotLive),
     (Call::BeginLoad(SND_PCM), Reply::NeedNotLive(0)),
+    (Call::CancelRemove(SND), Reply::Done),
+    (Call::Get(1, SND), Reply::Done),
+    (Call::Put(1, SND), Reply::Done),
+    (Call::CancelRemove(SND), Reply::NotUnloading),
+    (Call::BeginDrain(SND), Reply::Done),
     (Call::EndRemove(SND), Reply::InUse),
     (Call::Put(0, SND), Reply::Done),
     (Call::EndRemove(SND), Reply::Done),
     (Call::EndRemove(SND), Reply::NotUnloading),
+    (Call::CancelRemove(SND), Reply::NotUnloading),
+    (Call::BeginLoad(SND), Reply::Done),
+    (Call::CancelRemove(SND), Reply::NotUnloading),
 ];
 
 /// A module that is held and needed.

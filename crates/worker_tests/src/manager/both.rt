@@ -32,10 +32,12 @@ static TAKEN: [Pair; 3] = [
     (Call::Get(1, SND), Done, Done),
 ];
 
-/// Both give it back, and have no further one. Then the module drains.
-static GIVEN: [Pair; 4] = [
+/// Both give it back, and have no further one. Then the module drains, and the drain is called off once.
+static GIVEN: [Pair; 6] = [
     (Call::Put(1, SND), Done, Done),
     (Call::Put(1, SND), NotHeld, NotHeld),
+    (Call::BeginDrain(SND), Done, NotLive),
+    (Call::CancelRemove(SND), Done, NotUnloading),
     (Call::BeginDrain(SND), Done, NotLive),
     (Call::EndRemove(SND), Done, NotUnloading),
 ];

@@ -16,7 +16,7 @@ const NOBODY: usize = 2;
 const MOST: u32 = 65_535;
 
 /// Workers and slots that there are none of.
-static OUTSIDE: [Row; 15] = [
+static OUTSIDE: [Row; 16] = [
     Answers(Call::Get(NOBODY, SND), None),
     Answers(Call::Get(usize::MAX, SND), None),
     Answers(Call::Get(0, PAST), None),
@@ -30,12 +30,13 @@ static OUTSIDE: [Row; 15] = [
     Answers(Call::BeginDrain(PAST), None),
     Answers(Call::BeginRemove(PAST), None),
     Answers(Call::EndRemove(PAST), None),
+    Answers(Call::CancelRemove(PAST), None),
     Held(NOBODY, SND, None),
     Held(0, PAST, None),
 ];
 
 /// Nothing is loaded. Then a load begins, and fails.
-static FAILED: [Row; 21] = [
+static FAILED: [Row; 23] = [
     Answers(Call::BeginLoad(SND_PCM), Some(Reply::NeedNotLive(0))),
     Answers(Call::BeginLoad(LOST), Some(Reply::UnknownSymbol)),
     Answers(Call::Get(0, SND), Some(Reply::NotLive)),
@@ -45,7 +46,9 @@ static FAILED: [Row; 21] = [
     Answers(Call::EndLoad(SND, true), Some(Reply::NotLoading)),
     Answers(Call::EndLoad(SND, false), Some(Reply::NotLoading)),
     Answers(Call::EndRemove(SND), Some(Reply::NotUnloading)),
+    Answers(Call::CancelRemove(SND), Some(Reply::NotUnloading)),
     Answers(Call::BeginLoad(SND), Some(Reply::Done)),
+    Answers(Call::CancelRemove(SND), Some(Reply::NotUnloading)),
     Answers(Call::BeginLoad(SND), Some(Reply::Exists)),
     Answers(Call::BeginLoad(SND_PCM), Some(Reply::NeedNotLive(0))),
     Answers(Call::Get(0, SND), Some(Reply::NotLive)),
@@ -96,11 +99,31 @@ static DRAINED: [Row; 20] = [
     Held(1, SND_PCM, Some(0)),
 ];
 
-/// snd-pcm is given back and gone, and the removal of snd begins and ends.
-static GONE: [Row; 10] = [
+/// The drain of snd-pcm is called off, and the first worker holds it still. Then it drains again.
+static CALLED_OFF: [Row; 8] = [
+    Answers(Call::CancelRemove(SND_PCM), Some(Reply::Done)),
+    Shows(
+        3,
+        &[Some(FIXED), Some(SND), Some(SND_PCM), None],
+        &[Some(Live), Some(Live), Some(Live), Some(Absent)],
+    ),
+    Held(0, SND_PCM, Some(1)),
+    Answers(Call::Get(1, SND_PCM), Some(Reply::Done)),
+    Answers(Call::Put(1, SND_PCM), Some(Reply::Done)),
+    Answers(Call::CancelRemove(SND_PCM), Some(Reply::NotUnloading)),
+    Answers(Call::BeginRemove(SND_PCM), Some(Reply::InUse)),
+    Answers(Call::BeginDrain(SND_PCM), Some(Reply::Done)),
+];
+
+/// snd-pcm is given back and gone. The removal of snd begins, is called off, begins again and ends.
+static GONE: [Row; 14] = [
     Answers(Call::Put(0, SND_PCM), Some(Reply::Done)),
     Answers(Call::Put(0, SND_PCM), Some(Reply::NotHeld)),
     Answers(Call::EndRemove(SND_PCM), Some(Reply::Done)),
+    Answers(Call::BeginRemove(SND), Some(Reply::Done)),
+    Answers(Call::CancelRemove(SND), Some(Reply::Done)),
+    Answers(Call::Get(0, SND), Some(Reply::Done)),
+    Answers(Call::Put(0, SND), Some(Reply::Done)),
     Answers(Call::BeginRemove(SND), Some(Reply::Done)),
     Answers(Call::BeginDrain(SND), Some(Reply::NotLive)),
     Shows(
@@ -145,6 +168,7 @@ fn gives_each_answer<R: Wait>(rt: &R, manager: &Manager, on: &On) -> bool {
     none_outside(rt, manager, on)
         && are_right(rt, manager, on, &FAILED)
         && are_right(rt, manager, on, &DRAINED)
+        && are_right(rt, manager, on, &CALLED_OFF)
         && are_right(rt, manager, on, &GONE)
         && takes_most(rt, manager, on)
         && are_right(rt, manager, on, &FULL)
