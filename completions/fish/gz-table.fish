@@ -44,7 +44,8 @@ function __gz_table_commands
         modinfo\t'Describe a module' drain\t'Let nobody else get a module' get\t'Take a reference' \
         put\t'Give a reference back' query\t'Ask whether anybody holds a module' hold\t'Hold modules, all or none' \
         release\t'Give back what a holder holds' holders\t'Show who holds a module' held\t'Show what is held' \
-        begin_load\t'Begin a load' end_load\t'End a load' begin_remove\t'Begin a removal' end_remove\t'End a removal'
+        begin_load\t'Begin a load' end_load\t'End a load' begin_remove\t'Begin a removal' end_remove\t'End a removal' \
+        cancel_remove\t'Call a removal off'
 end
 
 # What may follow the words.
@@ -64,7 +65,7 @@ function __gz_table_follow
             __gz_table_ask $words[1] held $words[3]
         case 0insmod 0modprobe 0plan 0modinfo 0query 0begin_load
             __gz_table_catalogue $words[1]
-        case 1get '*hold' 0rmmod 0drain 0holders 0end_load 0begin_remove 0end_remove
+        case 1get '*hold' 0rmmod 0drain 0holders 0end_load 0begin_remove 0end_remove 0cancel_remove
             __gz_table_ask $words[1] proc
         case 1end_load
             printf '%s\n' ok fail

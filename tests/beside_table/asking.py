@@ -26,6 +26,7 @@ def command(rng, holder, number):
             f"end_load {name} {rng.choice(['ok', 'fail'])}",
             f"begin_remove {name}",
             f"end_remove {name}",
+            f"cancel_remove {name}",
             f"query {name}",
         ]
     )

@@ -119,6 +119,11 @@ class Table:
             raise Refused(f"EWOULDBLOCK {name}")
         del self.states[name]
 
+    def do_cancel_remove(self, name):
+        if self.states.get(name) not in (UNLOADING, DRAINING):
+            raise Refused(f"EBUSY {name}")
+        self.states[name] = LIVE
+
     def do_insmod(self, name):
         self.do_begin_load(name)
         self.do_end_load(name, "ok")
