@@ -124,14 +124,12 @@ def limits(caller, plugins):
 
 
 def with_needs(caller, catalogue, plugins):
-    """Loads two modules, and removes them: first with a plugin that stays, whose removal is ended later."""
+    """Loads two modules, and removes them: first with a plugin that stays, whose module is live again."""
     at = c_size_t()
     caller.expect([DONE], "load_with_needs_for", byref(catalogue), PCM, plugins.load, None, byref(at), LONG)
     caller.expect([NEEDED_BY], "begin_remove_blocking", SND)
     caller.expect([WORK_FAILED], "remove_with_needs", byref(catalogue), PCM, plugins.stay, None)
-    plugins.set(PCM, False)
-    caller.expect([DONE], "end_remove_blocking", PCM)
-    caller.expect([DONE], "remove_with_needs", byref(catalogue), SND, plugins.unload, None)
+    caller.expect([DONE], "remove_with_needs", byref(catalogue), PCM, plugins.unload, None)
 
 
 def tell(remover, user, teller):

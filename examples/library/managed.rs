@@ -218,7 +218,7 @@ fn keep_limits(caller: &mut Caller) {
     IS_THERE.store(false, SeqCst);
 }
 
-/// Loads the module with what it needs, and removes it, first with a plugin that stays.
+/// Loads the module with what it needs, and removes it. At first the plugin stays, and the module is live again.
 fn load_and_remove(caller: &mut Caller, catalogue: &mut Catalogue) {
     let (mut at, none) = (0, ptr::null_mut());
     let handle = &mut caller.handle;
@@ -226,6 +226,7 @@ fn load_and_remove(caller: &mut Caller, catalogue: &mut Catalogue) {
     assert!(is_done(loaded));
     let removed = unsafe { gz_caller_remove_with_needs(handle, catalogue, SND, keep_plugin, none) };
     assert_eq!(removed, WORK_FAILED);
+    caller.drain();
     caller.unload_plugin();
 }
 

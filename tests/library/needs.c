@@ -161,7 +161,7 @@ static void by_caller(gz_catalogue *catalogue)
     gz_caller_clear(&caller);
 }
 
-/* A removal whose work fails stops there: what was removed before is absent, and the rest is as it was. */
+/* A removal whose work fails stops there: what was removed before is absent, and the rest is live. */
 static void failed_removals(gz_catalogue *catalogue)
 {
     gz_caller caller = GZ_EMPTY;
@@ -174,16 +174,43 @@ static void failed_removals(gz_catalogue *catalogue)
     CHECK(gz_caller_remove_with_needs(&caller, catalogue, AUDIO, note, &log), GZ_WORK_FAILED);
     CHECK_LOG(log, AUDIO, PCM);
     CHECK(gz_caller_state_blocking(&caller, AUDIO), GZ_ABSENT);
-    CHECK(gz_caller_state_blocking(&caller, PCM), GZ_UNLOADING);
+    CHECK(gz_caller_state_blocking(&caller, PCM), GZ_LIVE);
     CHECK(gz_caller_state_blocking(&caller, CORE), GZ_LIVE);
-    CHECK(gz_caller_get_blocking(&caller, 0, PCM), GZ_NOT_LIVE);
+    CHECK(gz_caller_get_blocking(&caller, 0, PCM), GZ_DONE);
+    CHECK(gz_caller_put_blocking(&caller, 0, PCM), GZ_DONE);
+    CHECK(gz_caller_begin_remove_blocking(&caller, PCM), GZ_DONE);
     CHECK(gz_caller_wait_unheld(&caller, PCM, 0), GZ_DONE);
     CHECK(gz_caller_end_remove_blocking(&caller, PCM), GZ_DONE);
     log.bad = TIMER;
     CHECK(gz_caller_remove_with_needs(&caller, catalogue, TIMER, note, &log), GZ_WORK_FAILED);
     CHECK_LOG(log, TIMER);
-    CHECK(gz_caller_state_blocking(&caller, TIMER), GZ_UNLOADING);
+    CHECK(gz_caller_state_blocking(&caller, TIMER), GZ_LIVE);
     CHECK(strcmp(gz_strerror(GZ_WORK_FAILED), "the work failed"), 0);
+    gz_caller_clear(&caller);
+}
+
+/* An unload that waits too long, or whose work fails, leaves its module live. Else the module is absent. */
+static void unloads(gz_catalogue *catalogue)
+{
+    gz_caller caller = GZ_EMPTY;
+    struct log log = { { 0 }, 0, OUTSIDE };
+    CHECK(gz_managed_new(catalogue, 1, &caller), GZ_DONE);
+    CHECK(gz_caller_unload(&caller, TIMER, note, &log, 0), GZ_NO_ENTRY);
+    CHECK(gz_caller_load(&caller, TIMER, note, &log), GZ_DONE);
+    CHECK_LOG(log, TIMER);
+    CHECK(gz_caller_get_blocking(&caller, 0, TIMER), GZ_DONE);
+    CHECK(gz_caller_unload(&caller, TIMER, note, &log, 1), GZ_TIMED_OUT);
+    CHECK(gz_caller_state_blocking(&caller, TIMER), GZ_LIVE);
+    CHECK(gz_caller_put_blocking(&caller, 0, TIMER), GZ_DONE);
+    log.bad = TIMER;
+    CHECK(gz_caller_unload(&caller, TIMER, note, &log, -1), GZ_WORK_FAILED);
+    CHECK_LOG(log, TIMER);
+    CHECK(gz_caller_state_blocking(&caller, TIMER), GZ_LIVE);
+    log.bad = OUTSIDE;
+    CHECK(gz_caller_unload(&caller, TIMER, note, &log, -1), GZ_DONE);
+    CHECK_LOG(log, TIMER);
+    CHECK(gz_caller_state_blocking(&caller, TIMER), GZ_ABSENT);
+    CHECK(gz_caller_unload(&caller, OUTSIDE, note, &log, -1), GZ_OUT_OF_RANGE);
     gz_caller_clear(&caller);
 }
 
@@ -261,6 +288,7 @@ int main(void)
     by_book(&catalogue);
     by_caller(&catalogue);
     failed_removals(&catalogue);
+    unloads(&catalogue);
     waits(&catalogue);
     loads_with_a_limit(&catalogue);
     gz_catalogue_clear(&catalogue);

@@ -99,7 +99,7 @@ typedef enum gz_number {
     GZ_TOO_SHORT = 35,      /* the buffer is shorter than the name */
     GZ_TOO_MANY_LEAVES = 36, /* a table has fewer than 2^32 leaves */
     GZ_TIMED_OUT = 40,      /* of what waits: the limit of time is over */
-    GZ_WORK_FAILED = 41     /* of a removal with needs: the program's work said no */
+    GZ_WORK_FAILED = 41     /* of an unload or a removal with needs: the program's work said no */
 } gz_number;
 
 /* Handles. Only the library reads what `at` points to. */

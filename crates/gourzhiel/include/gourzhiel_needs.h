@@ -40,6 +40,11 @@ static inline gz_number gz_side_end_remove(gz_side side, size_t slot)
     return side.book ? gz_book_end_remove(side.book, slot) : gz_caller_end_remove_blocking(side.caller, slot);
 }
 
+static inline gz_number gz_side_cancel_remove(gz_side side, size_t slot)
+{
+    return side.book ? gz_book_cancel_remove(side.book, slot) : gz_caller_cancel_remove_blocking(side.caller, slot);
+}
+
 /* One whole load of a module whose needs are live. GZ_NOT_LIVE: `work` said no. */
 static inline gz_number gz_side_load_one(gz_side side, size_t slot, size_t *need, gz_work *work, void *data)
 {
@@ -89,12 +94,19 @@ static inline gz_number gz_side_load(gz_side side, size_t slots, size_t slot, gz
     return number;
 }
 
+/* The second half of a removal: its work, and its end. GZ_WORK_FAILED: `work` said no, and the module is live again. */
+static inline gz_number gz_side_unload(gz_side side, size_t slot, gz_work *work, void *data)
+{
+    if (work(data, slot))
+        return gz_side_end_remove(side, slot);
+    gz_number number = gz_side_cancel_remove(side, slot);
+    return number == GZ_DONE ? GZ_WORK_FAILED : number;
+}
+
 static inline gz_number gz_side_remove_one(gz_side side, size_t slot, gz_work *work, void *data)
 {
     gz_number number = gz_side_begin_remove(side, slot);
-    if (number != GZ_DONE)
-        return number;
-    return work(data, slot) ? gz_side_end_remove(side, slot) : GZ_WORK_FAILED;
+    return number == GZ_DONE ? gz_side_unload(side, slot, work, data) : number;
 }
 
 static inline gz_number gz_side_remove(gz_side side, gz_catalogue *catalogue, size_t slot, gz_work *work, void *data)
@@ -159,12 +171,29 @@ GZ_INLINE gz_number gz_caller_load(gz_caller *caller, size_t slot, gz_work *work
     return gz_side_load_one(side, slot, &need, work, data);
 }
 
+/* Unloads one module: it begins a drain, waits at most so many milliseconds until nobody holds the module, has `work` done,
+ * and ends the removal. Nobody gets the module meanwhile. What gz_caller_begin_drain answers.
+ * GZ_TIMED_OUT: somebody holds the module still. GZ_WORK_FAILED: `work` said no, and left what the module has whole. Both
+ * call the drain off: the module is live again. GZ_NOT_UNLOADING: another thread ended the drain or called it off. */
+GZ_INLINE gz_number gz_caller_unload(gz_caller *caller, size_t slot, gz_work *work, void *data, int milliseconds)
+{
+    gz_side side = { NULL, caller };
+    gz_number number = gz_caller_begin_drain_blocking(caller, slot);
+    if (number != GZ_DONE)
+        return number;
+    number = gz_caller_wait_unheld(caller, slot, milliseconds);
+    if (number == GZ_DONE)
+        return gz_side_unload(side, slot, work, data);
+    if (number == GZ_TIMED_OUT)
+        gz_caller_cancel_remove_blocking(caller, slot);
+    return number;
+}
+
 /* Removes a module, and after it each module that it or another removed one needs and that may go: that nobody holds, no
  * loaded module needs, and is not permanent. For each it begins the removal, has `work` done, and ends it.
  * GZ_OUT_OF_MEMORY, and what gz_book_begin_remove answers of the module itself: nothing is then removed.
- * GZ_WORK_FAILED: `work` said no, and was not called again. The module that it was last called for stays unloading: nobody
- * gets or loads it until gz_book_end_remove, or until gz_book_cancel_remove, by which it is live again if it is whole. What
- * was removed before is absent. */
+ * GZ_WORK_FAILED: `work` said no, and was not called again. The module that it was last called for is live again, so `work`
+ * leaves whole what it does not unload. What was removed before is absent. */
 GZ_INLINE gz_number gz_book_remove_with_needs(gz_book *book, gz_catalogue *catalogue, size_t slot, gz_work *work,
                                               void *data)
 {
