@@ -7,8 +7,10 @@ pub mod Pairing
 pub mod Missing
 pub mod Turning
 pub mod Answered
+pub mod Giving
 pub mod Fresh
 pub mod Trying
 pub mod Waiting
 pub mod InHand
 pub mod Telling
+pub mod Holders

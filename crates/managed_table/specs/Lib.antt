@@ -10,4 +10,5 @@ pub mod InHand
 pub mod Owned
 pub mod Hearing
 pub mod Attempts
+pub mod Holdings
 pub mod Calls
