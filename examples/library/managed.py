@@ -13,7 +13,7 @@ from ctypes import CFUNCTYPE, POINTER, Structure, byref, c_bool, c_char_p, c_int
 TEXT = b"module snd\nexports snd_card_new\nmodule snd-pcm\nneeds snd_card_new\n"
 SND, PCM, WORKERS, THREADS, JOBS = 0, 1, 2, 4, 400
 SHORT, LONG = 20, 5000  # milliseconds
-(DONE, NOT_LIVE, NEEDED_BY, ABSENT, TIMED_OUT, WORK_FAILED) = (0, 1, 9, 16, 40, 41)
+(DONE, NOT_LIVE, NOT_HELD, NEEDED_BY, ABSENT, TIMED_OUT, WORK_FAILED) = (0, 1, 3, 9, 16, 40, 41)
 
 Work = CFUNCTYPE(c_bool, c_void_p, c_size_t)
 
@@ -36,6 +36,8 @@ def declared(path):
         ("caller_new", number, handle, handle),
         ("caller_get_blocking", number, handle, size, size),
         ("caller_put_blocking", number, handle, size, size),
+        ("caller_held_by_blocking", number, handle, size, size, POINTER(size), POINTER(c_uint32)),
+        ("caller_put_all_blocking", number, handle, size),
         ("caller_references", number, handle, size, POINTER(c_uint64)),
         ("caller_load", number, handle, size, Work, c_void_p),
         ("caller_load_with_needs_for", number, handle, handle, size, Work, c_void_p, POINTER(size), c_int),
@@ -123,6 +125,20 @@ def limits(caller, plugins):
     plugins.set(SND, False)
 
 
+def holder_gone(caller, plugins):
+    """What a holder that is gone had is looked through, and given back at once."""
+    slot, count = c_size_t(), c_uint32()
+    caller.expect([DONE], "load", SND, plugins.load, None)
+    for _ in range(3):
+        caller.expect([DONE], "get_blocking", 1, SND)
+    caller.expect([DONE], "held_by_blocking", 1, 0, byref(slot), byref(count))
+    if (slot.value, count.value) != (SND, 3):
+        sys.exit(f"the holder had slot {slot.value} {count.value} times")
+    caller.expect([NOT_HELD], "held_by_blocking", 1, slot.value + 1, byref(slot), byref(count))
+    caller.expect([DONE], "put_all_blocking", 1)
+    unload(caller, plugins)
+
+
 def with_needs(caller, catalogue, plugins):
     """Loads two modules, and removes them: first with a plugin that stays, whose module is live again."""
     at = c_size_t()
@@ -159,6 +175,7 @@ def main():
     if sum_of.value:
         sys.exit(f"{sum_of.value} references are left")
     limits(loader, plugins)
+    holder_gone(loader, plugins)
     with_needs(loader, catalogue, plugins)
     loader.expect([ABSENT], "state_blocking", SND)
     tell(loader, callers[0], tellers[0])

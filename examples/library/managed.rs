@@ -9,6 +9,7 @@ use std::{ptr, thread};
 
 const DONE: u32 = 0;
 const NOT_LIVE: u32 = 1;
+const NOT_HELD: u32 = 3;
 const TIMED_OUT: u32 = 40;
 const WORK_FAILED: u32 = 41;
 const TEXT: &[u8] = b"module snd\n";
@@ -56,6 +57,14 @@ extern "C" {
     fn gz_caller_new(caller: &mut CallerHandle, further: &mut CallerHandle) -> u32;
     fn gz_caller_get_blocking(caller: &mut CallerHandle, worker: usize, slot: usize) -> u32;
     fn gz_caller_put_blocking(caller: &mut CallerHandle, worker: usize, slot: usize) -> u32;
+    fn gz_caller_held_by_blocking(
+        caller: &mut CallerHandle,
+        worker: usize,
+        place: usize,
+        slot: &mut usize,
+        count: &mut u32,
+    ) -> u32;
+    fn gz_caller_put_all_blocking(caller: &mut CallerHandle, worker: usize) -> u32;
     fn gz_caller_references(caller: &mut CallerHandle, slot: usize, sum: &mut u64) -> u32;
     fn gz_caller_load(caller: &mut CallerHandle, slot: usize, work: Work, data: *mut c_void) -> u32;
     fn gz_caller_load_with_needs_for(
@@ -138,6 +147,20 @@ impl Caller {
         assert!(is_done(unsafe { gz_caller_put_blocking(&mut self.handle, worker, SND) }));
     }
 
+    /// Gives back all that the worker holds.
+    fn put_all(&mut self, worker: usize) {
+        assert!(is_done(unsafe { gz_caller_put_all_blocking(&mut self.handle, worker) }));
+    }
+
+    /// The first slot from a place on that the worker holds, and how often.
+    fn held_by(&mut self, worker: usize, place: usize) -> Option<(usize, u32)> {
+        let (mut slot, mut count) = (0, 0);
+        match unsafe { gz_caller_held_by_blocking(&mut self.handle, worker, place, &mut slot, &mut count) } {
+            NOT_HELD => None,
+            number => is_done(number).then_some((slot, count)),
+        }
+    }
+
     fn references(&mut self) -> u64 {
         let mut sum = 0;
         assert!(is_done(unsafe { gz_caller_references(&mut self.handle, SND, &mut sum) }));
@@ -218,6 +241,17 @@ fn keep_limits(caller: &mut Caller) {
     IS_THERE.store(false, SeqCst);
 }
 
+/// What a holder that is gone had is looked through, and given back at once.
+fn give_back(caller: &mut Caller) {
+    caller.load();
+    assert_eq!((caller.get(1), caller.get(1)), (DONE, DONE));
+    assert_eq!((caller.held_by(1, SND), caller.held_by(1, SND + 1)), (Some((SND, 2)), None));
+    caller.put_all(1);
+    assert_eq!(caller.held_by(1, SND), None);
+    caller.drain();
+    caller.unload_plugin();
+}
+
 /// Loads the module with what it needs, and removes it. At first the plugin stays, and the module is live again.
 fn load_and_remove(caller: &mut Caller, catalogue: &mut Catalogue) {
     let (mut at, none) = (0, ptr::null_mut());
@@ -252,6 +286,7 @@ fn main() {
         println!("{ROUNDS} loads and removals, {got} gets, and no reference is left");
     });
     keep_limits(&mut loader);
+    give_back(&mut loader);
     load_and_remove(&mut loader, &mut catalogue);
     let mut user = loader.further();
     loader.meet_book(&mut tellers[0]);

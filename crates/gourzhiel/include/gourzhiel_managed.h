@@ -41,6 +41,16 @@ gz_number gz_caller_put(gz_caller *caller, size_t worker, size_t slot, uint32_t 
 /* How often the worker holds the module, in *count. GZ_OUT_OF_RANGE, GZ_BUSY: *count is left as it is. */
 gz_number gz_caller_held(gz_caller *caller, size_t worker, size_t slot, uint32_t tries, uint32_t *count);
 
+/* Gives back all references of the worker, each module's as often as it is held, in one turn of its lock: for a holder that
+ * is gone. GZ_OUT_OF_RANGE: the worker is none of the table. GZ_BUSY. Nothing is then given back. */
+gz_number gz_caller_put_all(gz_caller *caller, size_t worker, uint32_t tries);
+
+/* The first slot from `place` on that the worker holds, in *slot, and how often, in *count. If each place is the slot after
+ * the last one found, the calls go through all that the worker holds.
+ * GZ_NOT_HELD: it holds none from there on. GZ_OUT_OF_RANGE: the worker is none of the table. GZ_BUSY. *slot and *count are
+ * then left as they are. */
+gz_number gz_caller_held_by(gz_caller *caller, size_t worker, size_t place, uint32_t tries, size_t *slot, uint32_t *count);
+
 /* The calls of the book, as gz_book_begin_load and its like, and GZ_BUSY. */
 gz_number gz_caller_begin_load(gz_caller *caller, size_t slot, uint32_t tries, size_t *need);
 gz_number gz_caller_end_load(gz_caller *caller, size_t slot, bool ok, uint32_t tries);
@@ -75,6 +85,9 @@ void gz_teller_free(gz_teller teller);
 #define gz_caller_get(caller, worker, slot, tries) GZ_ORDERED((gz_caller_get)(caller, worker, slot, tries))
 #define gz_caller_put(caller, worker, slot, tries) GZ_ORDERED((gz_caller_put)(caller, worker, slot, tries))
 #define gz_caller_held(caller, worker, slot, tries, count) GZ_ORDERED((gz_caller_held)(caller, worker, slot, tries, count))
+#define gz_caller_put_all(caller, worker, tries) GZ_ORDERED((gz_caller_put_all)(caller, worker, tries))
+#define gz_caller_held_by(caller, worker, place, tries, slot, count) \
+    GZ_ORDERED((gz_caller_held_by)(caller, worker, place, tries, slot, count))
 #define gz_caller_begin_load(caller, slot, tries, need) GZ_ORDERED((gz_caller_begin_load)(caller, slot, tries, need))
 #define gz_caller_end_load(caller, slot, ok, tries) GZ_ORDERED((gz_caller_end_load)(caller, slot, ok, tries))
 #define gz_caller_begin_drain(caller, slot, tries) GZ_ORDERED((gz_caller_begin_drain)(caller, slot, tries))
@@ -109,6 +122,16 @@ GZ_INLINE gz_number gz_caller_put_blocking(gz_caller *caller, size_t worker, siz
 GZ_INLINE gz_number gz_caller_held_blocking(gz_caller *caller, size_t worker, size_t slot, uint32_t *count)
 {
     GZ_UNTIL_ANSWERED(gz_caller_held(caller, worker, slot, GZ_TRIES, count));
+}
+
+GZ_INLINE gz_number gz_caller_put_all_blocking(gz_caller *caller, size_t worker)
+{
+    GZ_UNTIL_ANSWERED(gz_caller_put_all(caller, worker, GZ_TRIES));
+}
+
+GZ_INLINE gz_number gz_caller_held_by_blocking(gz_caller *caller, size_t worker, size_t place, size_t *slot, uint32_t *count)
+{
+    GZ_UNTIL_ANSWERED(gz_caller_held_by(caller, worker, place, GZ_TRIES, slot, count));
 }
 
 GZ_INLINE gz_number gz_caller_begin_load_blocking(gz_caller *caller, size_t slot, size_t *need)

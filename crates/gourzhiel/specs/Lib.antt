@@ -6,4 +6,5 @@ pub mod Lent
 pub mod Naming
 pub mod Making
 pub mod Called
+pub mod Holdings
 pub mod Meeting

@@ -50,6 +50,10 @@ fault_at number =
     else (if number == 27 then Some too_many
     else None)))
 
+-- the worker holds no reference
+abbrev pub not_held : ℕ
+not_held = 3
+
 -- no memory was left
 abbrev pub out_of_memory : ℕ
 out_of_memory = 28

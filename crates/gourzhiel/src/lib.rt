@@ -6,6 +6,7 @@ mod book_reads;
 mod caller_book_calls;
 mod caller_book_reads;
 mod caller_calls;
+mod caller_holdings;
 mod caller_meetings;
 mod catalogue_calls;
 mod endings;
@@ -33,6 +34,7 @@ pub use caller_book_reads::{gz_caller_loaded, gz_caller_loaded_at, gz_caller_sta
 pub use caller_calls::{
     gz_caller_free, gz_caller_get, gz_caller_held, gz_caller_put, gz_caller_workers,
 };
+pub use caller_holdings::{gz_caller_held_by, gz_caller_put_all};
 pub use caller_meetings::{gz_caller_meet_book, gz_caller_meet_leaf, gz_teller_free};
 pub use catalogue_calls::{
     gz_catalogue_free, gz_catalogue_len, gz_catalogue_name, gz_catalogue_need, gz_catalogue_read,
