@@ -4,7 +4,7 @@ ghost use Rattle.line_journal.specs.Device.{AlwaysLeaves};
 ghost use Rattle.line_journal.specs.Journal.{lines_in};
 ghost use Rattle.held_lines.specs.Held.{holding};
 ghost use Rattle.durable_table.specs.Durable.{Stands, FileStands};
-ghost use Rattle.durable_table.specs.Compacting.{compacted};
+ghost use Rattle.durable_table.specs.Compacting.{compacted, CanBeRemade};
 ghost use Rattle.table_folder.specs.Setups.{is_sound};
 
 use crate::kept::Kept;
@@ -44,6 +44,7 @@ fn compact_table<'s, D: Renewable + Drop>(
     ensures changed { is_sound kept.old.setup.now ≡ false → (result ≡ Err CompactFault.ChangedSetup) × (table.new ≡ table.old) }
     ensures written { result ≡ Ok Compacted.Done → lines_in D.content table.new.journal ≡ compacted kept.old.setup.now.setup (holding table.old.session.holders.held.table table.old.session.holders.held.names) }
     ensures kept { result ≡ Ok Compacted.Kept → table.new.journal ≡ table.old.journal }
+    ensures needed { result ≡ Ok Compacted.Kept → CanBeRemade kept.old.setup.now.setup (holding table.old.session.holders.held.table table.old.session.holders.held.names) → ⊥ }
     ensures stands { OnOk result (Stands D.content D.history kept.old.setup.now.setup (holding table.new.session.holders.held.table table.new.session.holders.held.names) table.new.journal) }
     ensures any_moment { AlwaysLeaves (D.history table.old.journal.device) (D.history table.new.journal.device)
         (FileStands kept.old.setup.now.setup (holding table.old.session.holders.held.table table.old.session.holders.held.names)) }
