@@ -2,14 +2,16 @@
 ghost use Rattle.std.specs.Prelude.{◌≡◌, ◌<◌, true, length, All, IfOk};
 ghost use Rattle.dep_index.specs.Table.{module_at, no_module};
 ghost use Rattle.root_row.specs.World.{slots};
-ghost use Rattle.root_row.specs.Views.{worker_of, reader_of, book_of};
+ghost use Rattle.root_row.specs.Views.{worker_of, reader_of, book_of, state_in};
 ghost use Rattle.root_row.specs.Made.{new_leaf, new_reader, new_book};
 ghost use Rattle.root_row.specs.Seats.{IsOf};
 ghost use Rattle.root_row.specs.BookSteps.{MayLeave};
 
 use crate::sound::sound;
-use dep_index::Slots;
-use one_thread::{is_held_and_drained, is_held_and_removed};
+use dep_index::{ModuleState, Slots};
+use one_thread::{
+    is_closed_and_reopened, is_held_and_drained, is_held_and_removed, is_held_and_undrained,
+};
 use root_row::{BookSeat, LeafSeat, ReadSeat, Row};
 use std::alloc::Global;
 use std::sync::Wait;
@@ -84,6 +86,7 @@ fn live_row(alloc: Global) -> Result<(Row, BookSeat, Users), Fail>
     ensures wide { IfOk result (λ s. slots s.0.world ≡ 2) }
     ensures book { IfOk result (λ s. IsOf s.0 s.1) }
     ensures may { IfOk result (λ s. MayLeave s.1.view 0) }
+    ensures live { IfOk result (λ s. state_in s.1.view 0 ≡ ModuleState.Live) }
     ensures states { IfOk result (λ s. 0 < length (book_of s.1.view).states) }
     ensures leaves { IfOk result (λ s. IsOf s.0 s.2.leaf × IsOf s.0 s.2.other) }
     ensures reader { IfOk result (λ s. IsOf s.0 s.2.reader) }
@@ -98,6 +101,8 @@ fn live_row(alloc: Global) -> Result<(Row, BookSeat, Users), Fail>
 enum Course {
     Removal,
     Drain,
+    DrainCalledOff,
+    RemovalCalledOff,
     Guesses,
 }
 
@@ -107,6 +112,8 @@ fn goes_well<R: AllocGlobal + Wait>(rt: &R, course: &Course) -> Result<bool, Fai
     Ok(match course {
         Course::Removal => is_held_and_removed(rt, &row, &mut book, &mut users),
         Course::Drain => is_held_and_drained(rt, &row, &mut book, &mut users),
+        Course::DrainCalledOff => is_held_and_undrained(rt, &row, &mut book, &mut users),
+        Course::RemovalCalledOff => is_closed_and_reopened(rt, &row, &mut book, &mut users),
         Course::Guesses => are_guesses_right(&row, &mut users),
     })
 }

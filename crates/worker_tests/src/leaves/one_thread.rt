@@ -1,16 +1,16 @@
 //! A leaf, another, a reader and the book, by turns.
-ghost use Rattle.std.specs.Prelude.{◌<◌, length};
+ghost use Rattle.std.specs.Prelude.{◌≡◌, ◌<◌, length};
 ghost use Rattle.root_row.specs.World.{slots};
 ghost use Rattle.root_row.specs.Seats.{IsOf};
-ghost use Rattle.root_row.specs.Views.{book_of};
+ghost use Rattle.root_row.specs.Views.{book_of, state_in};
 ghost use Rattle.root_row.specs.BookSteps.{MayLeave};
 
-use super::steps::{drain, finish, remove};
+use super::steps::{close_and_reopen, drain, finish, remove, undrain};
 use super::{Course, Users, goes_well};
 use Call::{Get, InUse, Put};
 use Reply::{Done, No, NotHeld, NotLive, Yes};
-use dep_index::words::DRAINED;
-use dep_index::{Call, Reply};
+use dep_index::words::{CLOSED, DRAINED};
+use dep_index::{Call, ModuleState, Reply};
 use root_row::{BookSeat, Row};
 use std::sync::Wait;
 use std::test::Fail;
@@ -32,6 +32,20 @@ static GIVEN: [(Call, Reply); 4] = [
     (Put(0, 0), Done),
     (Put(0, 0), NotHeld),
     (InUse(0), No),
+];
+
+/// The other leaf takes one reference.
+static ENTERED: [(Call, Reply); 1] = [(Get(1, 0), Done)];
+
+/// The module drains, and the other leaf gives its reference back.
+static DEPARTED: [(Call, Reply); 3] = [(Get(1, 0), NotLive), (Put(1, 0), Done), (InUse(0), Yes)];
+
+/// The drain is called off, so the other leaf gets the module again.
+static AGAIN: [(Call, Reply); 4] = [
+    (Get(1, 0), Done),
+    (Put(1, 0), Done),
+    (Put(1, 0), NotHeld),
+    (InUse(0), Yes),
 ];
 
 /// The module is gone.
@@ -133,6 +147,56 @@ pub(super) fn is_held_and_drained<R: Wait>(
         && [found, word, end] == [1, DRAINED + 1, DRAINED]
 }
 
+/// A live module is drained while both leaves hold it. One departs, and the drain is called off: the first holds it.
+pub(super) fn is_held_and_undrained<R: Wait>(
+    rt: &R,
+    row: &Row,
+    book: &mut BookSeat,
+    users: &mut Users,
+) -> bool
+    requires inside { 0 < slots row.now.world }
+    requires book { IsOf row.now book.old }
+    requires may { MayLeave book.old.view 0 }
+    requires wide { 0 < length (book_of book.old.view).states }
+    requires leaf { IsOf row.now users.old.leaf }
+    requires other { IsOf row.now users.old.other }
+    requires reader { IsOf row.now users.old.reader }
+{
+    let taken = answers(rt, row, users, &TAKEN);
+    let entered = answers(rt, row, users, &ENTERED);
+    let found = drain(row, book);
+    let departed = answers(rt, row, users, &DEPARTED);
+    let word = undrain(row, book);
+    let held = users.leaf.held(0);
+    let again = answers(rt, row, users, &AGAIN);
+    let given = answers(rt, row, users, &GIVEN);
+    [taken, entered, departed, again, given] == [true, true, true, true, true]
+        && held == 2
+        && [found, word] == [2, DRAINED + 1]
+}
+
+/// A removal of a live module begins and is called off: gets come in again.
+pub(super) fn is_closed_and_reopened<R: Wait>(
+    rt: &R,
+    row: &Row,
+    book: &mut BookSeat,
+    users: &mut Users,
+) -> bool
+    requires inside { 0 < slots row.now.world }
+    requires book { IsOf row.now book.old }
+    requires may { MayLeave book.old.view 0 }
+    requires live { state_in book.old.view 0 ≡ ModuleState.Live }
+    requires wide { 0 < length (book_of book.old.view).states }
+    requires leaf { IsOf row.now users.old.leaf }
+    requires other { IsOf row.now users.old.other }
+    requires reader { IsOf row.now users.old.reader }
+{
+    let word = close_and_reopen(row, book);
+    let taken = answers(rt, row, users, &TAKEN);
+    let given = answers(rt, row, users, &GIVEN);
+    taken && given && word == Some(CLOSED)
+}
+
 #[test]
 fn loads_holds_and_removes(rt: HostRuntime) -> Result<(), Fail> {
     assert!(rt; goes_well(&rt, &Course::Removal)?);
@@ -142,5 +206,17 @@ fn loads_holds_and_removes(rt: HostRuntime) -> Result<(), Fail> {
 #[test]
 fn drains(rt: HostRuntime) -> Result<(), Fail> {
     assert!(rt; goes_well(&rt, &Course::Drain)?);
+    Ok(())
+}
+
+#[test]
+fn calls_a_drain_off(rt: HostRuntime) -> Result<(), Fail> {
+    assert!(rt; goes_well(&rt, &Course::DrainCalledOff)?);
+    Ok(())
+}
+
+#[test]
+fn calls_a_removal_off(rt: HostRuntime) -> Result<(), Fail> {
+    assert!(rt; goes_well(&rt, &Course::RemovalCalledOff)?);
     Ok(())
 }

@@ -12,8 +12,8 @@ ghost use Rattle.root_row.specs.BookSteps.{MayLeave};
 
 use dep_index::{Call, ModuleState};
 use root_row::{
-    AskBeginDrain, AskBeginLoad, AskBeginRemove, AskEndLoad, AskEndRemove, BookSeat, LeafCall,
-    LeafSeat, ReadSeat, Row,
+    AskBeginDrain, AskBeginLoad, AskBeginRemove, AskCancelRemove, AskEndLoad, AskEndRemove,
+    BookSeat, LeafCall, LeafSeat, ReadSeat, Row,
 };
 use std::alloc::Global;
 use std::test::Fail;
@@ -100,6 +100,7 @@ pub(super) fn load(row: &Row, book: &mut BookSeat) -> (u64, u64)
     requires new { book.old ≡ new_book row.now.id row.now.world }
     ensures own { IsOf row.now book.new }
     ensures may { MayLeave book.new.view 0 }
+    ensures live { state_in book.new.view 0 ≡ ModuleState.Live }
     ensures wide { 0 < length (book_of book.new.view).states }
 {
     let begun = begin_load(row, book);
@@ -143,6 +144,36 @@ pub(super) fn finish(row: &Row, book: &mut BookSeat) -> (u64, bool)
 {
     let found = row.look_book::<AskEndRemove>(book, 0);
     (found, row.try_close(book, 0))
+}
+
+/// Calls a drain off, and answers the word that the look found.
+pub(super) fn undrain(row: &Row, book: &mut BookSeat) -> u64
+    requires own { IsOf row.now book.old }
+    requires inside { 0 < slots row.now.world }
+    requires draining { state_in book.old.view 0 ≡ ModuleState.Draining }
+    ensures own { IsOf row.now book.new }
+{
+    let found = row.look_book::<AskCancelRemove>(book, 0);
+    row.undrain(book, 0);
+    found
+}
+
+/// Begins a removal of a live module and calls it off. Answers the word that a look found between, or None if the
+/// module is held.
+pub(super) fn close_and_reopen(row: &Row, book: &mut BookSeat) -> Option<u64>
+    requires own { IsOf row.now book.old }
+    requires inside { 0 < slots row.now.world }
+    requires may { MayLeave book.old.view 0 }
+    requires live { state_in book.old.view 0 ≡ ModuleState.Live }
+    requires wide { 0 < length (book_of book.old.view).states }
+    ensures own { IsOf row.now book.new }
+{
+    if !row.try_close(book, 0) {
+        return None;
+    }
+    let found = row.look_book::<AskCancelRemove>(book, 0);
+    row.reopen(book, 0);
+    Some(found)
 }
 
 /// A get's look by a leaf that does not hold the slot.

@@ -19,7 +19,8 @@ use use_indicator::Leaf;
 
 const TURNS: u32 = 10_000;
 
-/// Loads the first module and drains it over and over; whether there is at most that one at the end.
+/// Loads the first module and drains it over and over, and calls each first drain off; whether there is at most that
+/// one at the end.
 fn load_and_drain(row: &Row, book: &mut Book) -> bool
     requires inside { 0 < slots row.now.world }
     requires own { IsOf row.now book.old }
@@ -28,6 +29,8 @@ fn load_and_drain(row: &Row, book: &mut Book) -> bool
     for _ in 0..TURNS {
         let _ = book.begin_load(row, 0);
         let _ = book.end_load(row, 0, true);
+        let _ = book.begin_drain(row, 0);
+        let _ = book.cancel_remove(row, 0);
         let _ = book.begin_drain(row, 0);
         let _ = book.end_remove(row, 0);
     }

@@ -41,13 +41,20 @@ fn load<R: Wait>(rt: &R, manager: &Manager, slot: usize) {
     let _ = manager.end_load(rt, slot, true);
 }
 
-/// Removes or drains a module if nothing refuses.
-fn remove<R: Wait>(rt: &R, manager: &Manager, slot: usize, drains: bool) {
+/// Begins a removal or a drain if nothing refuses.
+fn begin<R: Wait>(rt: &R, manager: &Manager, slot: usize, drains: bool) {
     let _ = if drains {
         manager.begin_drain(rt, slot).is_some()
     } else {
         manager.begin_remove(rt, slot).is_some()
     };
+}
+
+/// Removes or drains a module if nothing refuses. The first removal or drain is called off.
+fn remove<R: Wait>(rt: &R, manager: &Manager, slot: usize, drains: bool) {
+    begin(rt, manager, slot, drains);
+    let _ = manager.cancel_remove(rt, slot);
+    begin(rt, manager, slot, drains);
     let _ = manager.end_remove(rt, slot);
 }
 
