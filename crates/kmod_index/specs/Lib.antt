@@ -6,4 +6,5 @@ pub mod Builtins
 pub mod Tries
 pub mod Indexes
 pub mod Index
+pub mod Needs
 pub mod ForProofs

@@ -10,6 +10,7 @@ mod index;
 mod index_line;
 mod modinfo;
 mod modules_dep;
+mod needs;
 mod parts;
 mod path_names;
 mod symbol_scan;
