@@ -13,3 +13,4 @@ pub mod ListedLemmas
 pub mod OrderLemmas
 pub mod EarlyLemmas
 pub mod SymbolLemmas
+pub mod WholeLemmas

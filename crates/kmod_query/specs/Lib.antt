@@ -20,3 +20,5 @@ pub mod AnswerOf
 pub mod Reasons
 pub mod Order
 pub mod Early
+pub mod Whole
+pub mod Wholes

@@ -22,7 +22,7 @@ use std::alloc::{AllocError, Global};
 /// What is to be done: take an object, which is a soft item or not, let it go once its soft items after it are gone, or
 /// leave the way.
 #[derive(Drop)]
-enum Removal {
+pub(crate) enum Removal {
     Take(bool, Object),
     Release(bool, Object),
     Leave,
@@ -51,7 +51,7 @@ fn removed_before(asked: &Asked, name: &[u8]) -> Result<Vec<Object>, AllocError>
     Ok(soft_items(asked.alloc, &asked.world, name)?.after)
 }
 
-fn removed_after(asked: &Asked, name: &[u8]) -> Result<Vec<Object>, AllocError>
+pub(crate) fn removed_after(asked: &Asked, name: &[u8]) -> Result<Vec<Object>, AllocError>
     ensures { IfOk result (λ found. objects_of found.items ≡ removed_after (facts_of asked.now.world) asked.now.query name.now) }
 {
     if asked.query.ignore_commands {
@@ -61,7 +61,7 @@ fn removed_after(asked: &Asked, name: &[u8]) -> Result<Vec<Object>, AllocError>
 }
 
 /// The objects are taken as soft items, the last first, before what is to be done already.
-fn push_each(stack: &mut Vec<Removal>, objects: Vec<Object>) -> Result<(), AllocError>
+pub(crate) fn push_each(stack: &mut Vec<Removal>, objects: Vec<Object>) -> Result<(), AllocError>
     ensures { OnOk result (removals_of stack.new.items ≡ take_each (objects_of objects.items) ++ removals_of stack.old.items) }
 {
     'objects: for object in objects.into_iter() {
@@ -71,7 +71,7 @@ fn push_each(stack: &mut Vec<Removal>, objects: Vec<Object>) -> Result<(), Alloc
 }
 
 /// The object is taken: its soft items after it, then itself, before what is to be done already.
-fn push_taken(
+pub(crate) fn push_taken(
     asked: &Asked,
     soft: bool,
     stack: &mut Vec<Removal>,

@@ -55,14 +55,14 @@ pub(crate) fn removal_command<'a>(
 }
 
 /// Whether states and users count.
-fn counts_state(asked: &Asked, object: &Object) -> Result<bool, AllocError>
+pub(crate) fn counts_state(asked: &Asked, object: &Object) -> Result<bool, AllocError>
     ensures { IfOk result (λ counts. counts ≡ counts_state (facts_of asked.now.world) asked.now.query (object_of object.now)) }
 {
     let command = removal_command(asked, object)?;
     Ok(command.is_none() && matches!(asked.query.ask, Ask::Remove))
 }
 
-fn is_absent(status: Option<ModuleStatus>) -> bool
+pub(crate) fn is_absent(status: Option<ModuleStatus>) -> bool
     ensures { result ≡ is_absent status }
 {
     match status {
@@ -100,7 +100,11 @@ pub(crate) fn has_no_users(status: Option<ModuleStatus>) -> bool
     }
 }
 
-fn absent_verdict(alloc: Global, query: &Query, object: &Object) -> Result<Verdict, AllocError>
+pub(crate) fn absent_verdict(
+    alloc: Global,
+    query: &Query,
+    object: &Object,
+) -> Result<Verdict, AllocError>
     ensures { IfOk result (λ verdict. verdict_of verdict ≡ absent_verdict query.now (object_of object.now)) }
 {
     if query.first_time {
@@ -109,7 +113,11 @@ fn absent_verdict(alloc: Global, query: &Query, object: &Object) -> Result<Verdi
     Ok(Verdict::Pass)
 }
 
-fn builtin_verdict(alloc: Global, soft: bool, object: &Object) -> Result<Verdict, AllocError>
+pub(crate) fn builtin_verdict(
+    alloc: Global,
+    soft: bool,
+    object: &Object,
+) -> Result<Verdict, AllocError>
     ensures { IfOk result (λ verdict. verdict_of verdict ≡ builtin_verdict soft (object_of object.now)) }
 {
     if soft {
@@ -119,7 +127,7 @@ fn builtin_verdict(alloc: Global, soft: bool, object: &Object) -> Result<Verdict
 }
 
 /// What becomes of an object that is to be removed, a soft item or not. It fails only if memory runs out.
-pub fn judge(asked: &Asked, soft: bool, object: &Object) -> Result<Verdict, AllocError>
+pub(crate) fn judge(asked: &Asked, soft: bool, object: &Object) -> Result<Verdict, AllocError>
     ensures { IfOk result (λ own. verdict_of own ≡ verdict (facts_of asked.now.world) asked.now.query soft (object_of object.now)) }
 {
     if !counts_state(asked, object)? {
@@ -135,7 +143,7 @@ pub fn judge(asked: &Asked, soft: bool, object: &Object) -> Result<Verdict, Allo
 }
 
 /// Whether an object that is to be removed is not, since it has users. It fails only if memory runs out.
-pub fn is_in_use(asked: &Asked, object: &Object) -> Result<bool, AllocError>
+pub(crate) fn is_in_use(asked: &Asked, object: &Object) -> Result<bool, AllocError>
     ensures { IfOk result (λ used. used ≡ is_in_use (facts_of asked.now.world) asked.now.query (object_of object.now)) }
 {
     Ok(counts_state(asked, object)? && has_users(status_of(&asked.world, &object.name)))

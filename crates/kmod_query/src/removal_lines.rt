@@ -50,7 +50,7 @@ fn push_all_unused(lines: &mut Vec<u8>, world: &World, names: &[Vec<u8>]) -> Res
     Ok(())
 }
 
-fn push_command(lines: &mut Vec<u8>, command: &[u8]) -> Result<(), AllocError>
+pub(crate) fn push_command(lines: &mut Vec<u8>, command: &[u8]) -> Result<(), AllocError>
     ensures { OnOk result (lines.new.items ≡ lines.old.items ++ codes "remove " ++ unmarked command.now ++ (10 ∷ [])) }
 {
     lines.extend_from_slice(b"remove ")?;
