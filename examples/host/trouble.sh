@@ -27,6 +27,7 @@ for module in 'nvme_core 1' 'realtek 0' 'libphy 1'; do
     put "machine/sys/module/${module% *}/initstate" live
     put "machine/sys/module/${module% *}/refcnt" "${module#* }"
 done
+mkdir -p machine/sys/module/libphy/holders/realtek
 cp -r "$here/lib" machine
 mkdir -p machine/etc machine/lib/modprobe.d
 cp -r "$here/modprobe.d" machine/etc
@@ -39,7 +40,7 @@ ask 'gz-modprobe --explain -D e1000e 2>&1 | grep options'
 put machine/etc/modprobe.d/local.conf 'options e1000 debug=16'
 ask 'gz-modprobe --explain -c >/dev/null'
 rm machine/etc/modprobe.d/local.conf
-ask 'gz-modprobe --explain -r -n -v realtek'
+ask 'gz-modprobe --whole --explain -r -n -v realtek'
 # The kernel was replaced by a later one, and still runs.
 put machine/proc/sys/kernel/osrelease 6.1.0-49-amd64
 ask 'gz-modprobe -D nvme'

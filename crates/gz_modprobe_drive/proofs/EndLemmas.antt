@@ -52,11 +52,12 @@ known-paths machine whole = refl
 -- an answer with the status 0 was an answer without a failure, and was written whole
 pub well-answered : (machine : Machine) (query : Query) (answer : Answer) (how : Written) (before after : Option (List ℕ)) (status : ℕ)
     → path_words machine.paths.now ≡ paths_of machine.conf.now.kmod query → IsAnswerOf machine query answer → (how ≡ Whole → Appends before after answer.output)
-    → status ≡ status_of answer how → status ≡ 0 → WasAnswered machine.conf.now.kmod query before after
+    → status ≡ status_of answer how → status ≡ 0 → WasAnswered machine.conf.now.kmod machine.whole query before after
 well-answered machine query answer how before after status paths is grew told zero =
     let ends = both-well answer.failed (is_whole how) (sym told ∙ zero) in
     record {
       known = said_by machine (texts_of_folder machine);
+      holders = machine.evidence.now.holders.items;
       read = read-by machine (texts_of_folder machine);
       paths = known-paths machine (texts_of_folder machine) ∙ paths;
       answer = answer;

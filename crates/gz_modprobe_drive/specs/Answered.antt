@@ -1,5 +1,5 @@
 -- What a query is answered, by the texts and the states of a machine.
-use Rattle.std.specs.Prelude.{◌≡◌, ℕ, Bool, true, false, not, ◌||◌, List, Option, Some, None, if◌then◌else◌}
+use Rattle.std.specs.Prelude.{◌≡◌, ℕ, Bool, true, false, not, ◌||◌, ◌&&◌, List, Option, Some, None, if◌then◌else◌}
 use Rattle.text_parts.specs.Text.{texts_of}
 use Rattle.kmod_conf.specs.Configuration.{Configuration}
 use Rattle.kmod_index.specs.Index.{Texts, indexes_of}
@@ -7,15 +7,18 @@ use Rattle.kmod_index.specs.Indexes.{Indexes}
 use Rattle.kmod_query.specs.declared.paths.PathWord.{PathWord}
 use Rattle.kmod_query.specs.declared.query.Query.{Query}
 use Rattle.kmod_query.specs.declared.states.ModuleStatus.{ModuleStatus}
+use Rattle.kmod_query.specs.declared.taken.Holders.{Holders}
 use Rattle.kmod_query.specs.declared.world.World.{World}
 use Rattle.kmod_query.specs.AnswerOf.{answer_of}
 use Rattle.kmod_query.specs.Answers.{Answer}
 use Rattle.kmod_query.specs.Early.{is_early, is_symbolless}
 use Rattle.kmod_query.specs.Paths.{own_of}
+use Rattle.kmod_query.specs.Whole.{answer_by, whole_of}
 use Rattle.kmod_query.specs.World.{facts_of}
 use Rattle.modprobe_words.specs.declared.written.Written.{Written}
 use Rattle.modprobe_words.specs.declared.written.Written.TheVariants as written
 use Rattle.gz_modprobe_drive.specs.declared.texts.Machine.{Machine}
+use Rattle.gz_modprobe_drive.specs.Queries.{is_removal}
 use Rattle.gz_modprobe_drive.specs.Texts.{AreRead, conf_of, folder_texts, large_texts}
 
 -- what is known of a machine; no module has a file of its own at first
@@ -60,11 +63,25 @@ known_of world =
       own = own_of world.own;
     }
 
--- an answer is that of kmod_query to a world that has what is known
-pub record IsAnswer (known : Known) (query : Query) (answer : Answer) : Type 0 where
+-- how a removal is answered: as it is made, or as a dry run shows it; and who holds modules, as far as that was read
+pub record Manner : Type 0 where
+  pub whole : Bool
+  pub holders : List Holders
+
+abbrev pub manner_of : Machine → Manner
+manner_of machine = record { whole = machine.whole; holders = machine.evidence.now.holders.items }
+
+-- the answer to a query: kmod's, or what its removal would do if it were made
+abbrev pub answer_for : Manner → World → Query → Answer
+answer_for manner world query =
+    if manner.whole && is_removal query.ask
+    then answer_by query (whole_of (facts_of world) manner.holders query (texts_of query.words.now)) else answer_of world query
+
+-- an answer is that of kmod_query, in this manner, to a world that has what is known
+pub record IsAnswer (known : Known) (manner : Manner) (query : Query) (answer : Answer) : Type 0 where
   pub world : World
   pub has : known_of world ≡ known
-  pub is : answer ≡ answer_of world query
+  pub is : answer ≡ answer_for manner world query
 
 -- a query of what is known is answered early
 pub record IsEarly (known : Known) (query : Query) : Type 0 where
@@ -87,7 +104,7 @@ pub record IsEnough (machine : Machine) (query : Query) : Type 0 where
 
 -- an answer is that of the machine's texts and states, whatever stands in texts that were not read
 pub record IsAnswerOf (machine : Machine) (query : Query) (answer : Answer) : Type 0 where
-  pub is : (whole : Texts) → AreRead machine.modules.now (large_texts machine.later.now) whole → IsAnswer (said_by machine whole) query answer
+  pub is : (whole : Texts) → AreRead machine.modules.now (large_texts machine.later.now) whole → IsAnswer (said_by machine whole) (manner_of machine) query answer
 
 abbrev pub is_whole : Written → Bool
 is_whole written.Whole = true

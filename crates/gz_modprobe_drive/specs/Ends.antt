@@ -1,9 +1,10 @@
 -- How a run ends, by its words.
-use Rattle.std.specs.Prelude.{◌≡◌, ℕ, false, nat_lt, List, [], ◌++◌, length, Option, Some, None, unwrap_or}
+use Rattle.std.specs.Prelude.{◌≡◌, ℕ, Bool, false, nat_lt, List, [], ◌++◌, length, Option, Some, None, unwrap_or}
 use Rattle.std.specs.Io.KnownBytes.{Appends}
 use Rattle.kmod_version.specs.declared.kmod.Kmod.{Kmod}
 use Rattle.kmod_query.specs.Answers.{Answer}
 use Rattle.kmod_query.specs.declared.query.Query.{Query}
+use Rattle.kmod_query.specs.declared.taken.Holders.{Holders}
 use Rattle.modprobe_files.specs.declared.texts.ConfTexts.{ConfTexts}
 use Rattle.modprobe_words.specs.Asked.{Asked, asked_by}
 use Rattle.modprobe_words.specs.Endings.{Ending, IsEnded, first_ending}
@@ -26,13 +27,15 @@ pub record IsReadBy (kmod : Kmod) (known : Known) : Type 0 where
   pub is : known.conf ≡ conf_of texts
 
 -- A query was answered well: standard output has grown by the answer to it of a machine, in which no name failed. The
--- machine's configuration is as this version of kmod reads it, and so are the words that are paths.
-pub record WasAnswered (kmod : Kmod) (query : Query) (before after : Option (List ℕ)) : Type 0 where
+-- machine's configuration is as this version of kmod reads it, and so are the words that are paths. With --whole a removal is
+-- answered as it is made.
+pub record WasAnswered (kmod : Kmod) (whole : Bool) (query : Query) (before after : Option (List ℕ)) : Type 0 where
   pub known : Known
+  pub holders : List Holders
   pub read : IsReadBy kmod known
   pub paths : path_words known.paths ≡ paths_of kmod query
   pub answer : Answer
-  pub is : IsAnswer known query answer
+  pub is : IsAnswer known (record { whole = whole; holders = holders }) query answer
   pub well : answer.failed ≡ false
   pub written : Appends before after answer.output
 
@@ -40,7 +43,7 @@ pub record WasAnswered (kmod : Kmod) (query : Query) (before after : Option (Lis
 pub record WereAnswered (asked : Asked) (before after : Option (List ℕ)) : Type 0 where
   pub query : Query
   pub asks : IsQueryOf (wish_of asked.switches (nat_lt 0 (length asked.words))) asked.switches asked.words query
-  pub answered : WasAnswered asked.kmod query before after
+  pub answered : WasAnswered asked.kmod asked.switches.whole query before after
 
 -- words that ask for an end before a query end so; other ones end with 0 only if they were answered well
 abbrev pub IsEndBy : Option Ending → Asked → Option (List ℕ) → Option (List ℕ) → ℕ → Type 0

@@ -41,11 +41,12 @@ asks_states asks.ShowDepends = false
 asks_states asks.Resolve = false
 asks_states asks.ShowConfig = false
 
--- Users count for a removal. Of states a load asks only which modules are live (kmod_query's only_live_modules_count).
-abbrev pub asks_users : Ask → Bool
-asks_users asks.Remove = true
-asks_users asks.ShowRemoval = true
-asks_users asks.DryRun = false
-asks_users asks.ShowDepends = false
-asks_users asks.Resolve = false
-asks_users asks.ShowConfig = false
+-- Modules are to be removed. Users count then; of states a load asks only which modules are live (kmod_query's
+-- only_live_modules_count).
+abbrev pub is_removal : Ask → Bool
+is_removal asks.DryRun = false
+is_removal asks.Remove = true
+is_removal asks.ShowRemoval = true
+is_removal asks.ShowDepends = false
+is_removal asks.Resolve = false
+is_removal asks.ShowConfig = false

@@ -1,16 +1,16 @@
 //! An answer, from the texts of a machine to a stream.
 ghost use Rattle.std.specs.Prelude.{◌≡◌, IfOk};
 ghost use Rattle.std.specs.Io.KnownBytes.{Appends};
-ghost use Rattle.kmod_query.specs.AnswerOf.{answer_of};
 ghost use Rattle.modprobe_words.specs.declared.written.Written.TheVariants.{Whole};
-ghost use Rattle.gz_modprobe_drive.specs.Answered.{IsAnswerOf, IsEnough, status_of};
+ghost use Rattle.gz_modprobe_drive.specs.Answered.{IsAnswerOf, IsEnough, answer_for, manner_of, status_of};
 ghost use Rattle.gz_modprobe_drive.specs.Texts.{IsConfOf};
 
 use crate::explained::explain;
 use crate::folder::index_of;
+use crate::queries::is_removal;
 use crate::texts::{Machine, world_of};
 use kmod_conf::Conf;
-use kmod_query::{Answer, Query, World, answer_to};
+use kmod_query::{Answer, Asked, Query, World, answer_to, whole_removal};
 use modprobe_words::{Messages, Written, write_whole};
 use std::alloc::{AllocError, Global};
 use std::io::Write;
@@ -34,6 +34,26 @@ impl Answered {
     }
 }
 
+/// The answer to a query of a world: kmod's, or what its removal would do if it were made. It fails only if memory runs out.
+fn answer_for(
+    alloc: Global,
+    machine: &Machine<'_>,
+    world: &World<'_>,
+    query: &Query<'_>,
+) -> Result<Answer, AllocError>
+    ensures { IfOk result (λ answer. answer ≡ answer_for (manner_of machine.now) world.now query.now) }
+{
+    if !(machine.whole && is_removal(query.ask)) {
+        return answer_to(alloc, world, query);
+    }
+    let asked = Asked {
+        alloc,
+        world: *world,
+        query: *query,
+    };
+    whole_removal(&asked, &machine.evidence.holders)
+}
+
 /// Answers a query of a world, which has what `machine` has, and writes the answer's output. It fails only if memory runs
 /// out.
 fn answer_world<O: Write, E: Write>(
@@ -44,10 +64,10 @@ fn answer_world<O: Write, E: Write>(
     output: &mut O,
     messages: &mut Messages<'_, E>,
 ) -> Result<Answered, AllocError>
-    ensures answer { IfOk result (λ own. own.answer ≡ answer_of world.now query.now) }
+    ensures answer { IfOk result (λ own. own.answer ≡ answer_for (manner_of machine.now) world.now query.now) }
     ensures written { IfOk result (λ own. own.written ≡ Whole → Appends (O.contents output.old) (O.contents output.new) own.answer.output) }
 {
-    let answer = answer_to(alloc, world, query)?;
+    let answer = answer_for(alloc, machine, world, query)?;
     let written = write_whole(output, answer.output());
     explain(alloc, machine, world, query, messages);
     Ok(Answered { answer, written })

@@ -11,7 +11,7 @@ use crate::early::{asks_symbols, is_answered_early};
 use crate::evidence::Evidence;
 use crate::failures::tell_failures;
 use crate::paths::read_paths;
-use crate::queries::{asks_states, asks_users};
+use crate::queries::{asks_states, is_removal};
 use crate::sys::add_states;
 use crate::texts::Machine;
 use kmod_conf::Conf;
@@ -74,7 +74,7 @@ fn answer_read<S: System, O: Write, E: Write>(
     requires enough { IsEnough machine.now query.now }
     requires paths { words_of machine.now.paths.now ≡ paths_of machine.now.conf.now.kmod query.now }
     ensures status { IfOk result (λ status. status ≤ 1) }
-    ensures well { IfOk result (λ status. status ≡ 0 → WasAnswered machine.now.conf.now.kmod query.now (O.contents output.old) (O.contents output.new)) }
+    ensures well { IfOk result (λ status. status ≡ 0 → WasAnswered machine.now.conf.now.kmod machine.now.whole query.now (O.contents output.old) (O.contents output.new)) }
 {
     let answered = answer_machine(host.alloc(), machine, conf, query, output, messages)?;
     tell_answered(host, &answered, query, machine.directory, messages)
@@ -94,7 +94,7 @@ fn answer_by<S: System, O: Write, E: Write>(
     requires unread { machine.now.later.now.alias ≡ None }
     requires paths { words_of machine.now.paths.now ≡ paths_of machine.now.conf.now.kmod query.now }
     ensures status { IfOk result (λ status. status ≤ 1) }
-    ensures well { IfOk result (λ status. status ≡ 0 → WasAnswered machine.now.conf.now.kmod query.now (O.contents output.old) (O.contents output.new)) }
+    ensures well { IfOk result (λ status. status ≡ 0 → WasAnswered machine.now.conf.now.kmod machine.now.whole query.now (O.contents output.old) (O.contents output.new)) }
 {
     let alloc = host.alloc();
     if is_answered_early(alloc, machine, conf, query, messages.explains)? {
@@ -110,6 +110,7 @@ fn answer_by<S: System, O: Write, E: Write>(
         directory: machine.directory,
         paths: machine.paths,
         evidence: machine.evidence,
+        whole: machine.whole,
     };
     answer_read(host, &whole, conf, query, output, messages)
 }
@@ -125,34 +126,32 @@ fn answer_configured<S: System, O: Write, E: Write>(
     requires unread { machine.now.later.now.alias ≡ None }
     requires paths { words_of machine.now.paths.now ≡ paths_of machine.now.conf.now.kmod query.now }
     ensures status { IfOk result (λ status. status ≤ 1) }
-    ensures well { IfOk result (λ status. status ≡ 0 → WasAnswered machine.now.conf.now.kmod query.now (O.contents output.old) (O.contents output.new)) }
+    ensures well { IfOk result (λ status. status ≡ 0 → WasAnswered machine.now.conf.now.kmod machine.now.whole query.now (O.contents output.old) (O.contents output.new)) }
 {
     let conf = conf_of(host.alloc(), machine.conf)?;
     tell_bad_lines(host.alloc(), machine.conf, &conf, messages)?;
     answer_by(host, machine, &conf, query, output, messages)
 }
 
-/// Reads the states and looks at the paths that a query asks of, and answers it. `named` are the paths of the configuration
-/// that the command line has. Returns the status.
+/// Reads the states and looks at the paths that a query asks of, and answers it. Returns the status.
 fn answer_from<S: System, O: Write, E: Write>(
     host: &Host<'_, S>,
+    asked: &Asked<'_>,
     conf: &ConfTexts,
     modules: &ModuleTexts,
     directory: &[u8],
-    named: &[&[u8]],
     query: &Query<'_>,
     output: &mut O,
     messages: &mut Messages<'_, E>,
 ) -> Result<u8, AllocError>
     ensures status { IfOk result (λ status. status ≤ 1) }
-    ensures well { IfOk result (λ status. status ≡ 0 → WasAnswered conf.now.kmod query.now (O.contents output.old) (O.contents output.new)) }
+    ensures well { IfOk result (λ status. status ≡ 0 → WasAnswered conf.now.kmod asked.now.switches.whole query.now (O.contents output.old) (O.contents output.new)) }
 {
     let mut states = States::new(host.alloc());
     if asks_states(query.ask) {
-        add_states(host, asks_users(query.ask), &mut states, messages)?;
+        add_states(host, is_removal(query.ask), &mut states, messages)?;
     }
-    let explains = messages.explains;
-    let evidence = Evidence::read(host, conf.kmod, named, query, &states, explains)?;
+    let evidence = Evidence::read(host, asked, query, &states)?;
     let paths = read_paths(host, conf.kmod, query)?;
     let unread = LaterTexts {
         alias: None,
@@ -166,6 +165,7 @@ fn answer_from<S: System, O: Write, E: Write>(
         directory,
         paths: &paths,
         evidence: &evidence,
+        whole: asked.switches.whole,
     };
     answer_configured(host, &machine, query, output, messages)
 }
@@ -181,13 +181,13 @@ fn answer_in<S: System, O: Write, E: Write>(
     messages: &mut Messages<'_, E>,
 ) -> Result<u8, AllocError>
     ensures status { IfOk result (λ status. status ≤ 1) }
-    ensures well { IfOk result (λ status. status ≡ 0 → WasAnswered asked.now.kmod query.now (O.contents output.old) (O.contents output.new)) }
+    ensures well { IfOk result (λ status. status ≡ 0 → WasAnswered asked.now.kmod asked.now.switches.whole query.now (O.contents output.old) (O.contents output.new)) }
 {
     let named = asked.configurations.as_slice();
     let conf = read_configuration(host, asked.kmod, directory, named, messages)?;
     let modules = read_modules(host, directory, messages)?;
     answer_from(
-        host, &conf, &modules, directory, named, query, output, messages,
+        host, asked, &conf, &modules, directory, query, output, messages,
     )
 }
 
@@ -200,7 +200,7 @@ pub(crate) fn answer_query<S: System, O: Write, E: Write>(
     messages: &mut Messages<'_, E>,
 ) -> Result<u8, AllocError>
     ensures status { IfOk result (λ status. status ≤ 1) }
-    ensures well { IfOk result (λ status. status ≡ 0 → WasAnswered asked.now.kmod query.now (O.contents output.old) (O.contents output.new)) }
+    ensures well { IfOk result (λ status. status ≡ 0 → WasAnswered asked.now.kmod asked.now.switches.whole query.now (O.contents output.old) (O.contents output.new)) }
 {
     if is_rootless(host, asked.root.unwrap_or(b""), messages)? {
         return Ok(1);

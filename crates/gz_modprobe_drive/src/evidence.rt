@@ -1,14 +1,15 @@
-//! What is read of a machine only to explain an answer.
+//! What is read of a machine only to explain an answer, or to answer a removal as it is made.
 ghost use Rattle.std.specs.Prelude.{◌≡◌, [], false, IfOk};
 
-use crate::holders::{Holders, read_holders};
+use crate::holders::read_holders;
+use crate::queries::is_removal;
 use crate::unread::{UnreadFile, unread_files};
-use kmod_query::{Ask, Query, States};
-use kmod_version::Kmod;
+use kmod_query::{Holders, Query, States};
 use modprobe_files::{Host, System};
+use modprobe_words::Asked;
 use std::alloc::AllocError;
 
-/// What an explanation needs beside what the answer needs.
+/// What an explanation needs beside what the answer needs. A removal that is answered as it is made needs the holders too.
 pub(crate) struct Evidence {
     /// Who holds the modules that are used, if modules are to be removed.
     pub(crate) holders: Vec<Holders>,
@@ -27,30 +28,26 @@ impl Drop for Evidence {
 }
 
 impl Evidence {
-    /// What explains the answer to a query, of a configuration that has these paths, or the folders of modprobe.d(5). Nothing
-    /// is read for an answer that is not explained. It fails only if memory runs out.
+    /// What explains the answer to a query. Without --explain and --whole nothing is read. It fails only if memory runs out.
     pub(crate) fn read<S: System>(
         host: &Host<'_, S>,
-        kmod: Kmod,
-        named: &[&[u8]],
+        asked: &Asked<'_>,
         query: &Query<'_>,
         states: &States,
-        explains: bool,
     ) -> Result<Evidence, AllocError>
-        ensures holders { IfOk result (λ own. explains ≡ false → own.holders.items ≡ []) }
-        ensures unread { IfOk result (λ own. explains ≡ false → own.unread.items ≡ []) }
+        ensures holders { IfOk result (λ own. asked.now.switches.explain ≡ false → asked.now.switches.whole ≡ false → own.holders.items ≡ []) }
+        ensures unread { IfOk result (λ own. asked.now.switches.explain ≡ false → own.unread.items ≡ []) }
     {
         let mut evidence = Evidence {
             holders: Vec::new(host.alloc()),
             unread: Vec::new(host.alloc()),
         };
-        if !explains {
-            return Ok(evidence);
-        }
-        if matches!(query.ask, Ask::Remove | Ask::ShowRemoval) {
+        if is_removal(query.ask) && (asked.switches.explain || asked.switches.whole) {
             evidence.holders = read_holders(host, states)?;
         }
-        evidence.unread = unread_files(host, kmod, named)?;
+        if asked.switches.explain {
+            evidence.unread = unread_files(host, asked.kmod, &asked.configurations)?;
+        }
         Ok(evidence)
     }
 }

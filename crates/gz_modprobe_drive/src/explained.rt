@@ -22,6 +22,7 @@ fn explained(
         hidden: &machine.conf.hidden,
         unread: &machine.evidence.unread,
         holders: &machine.evidence.holders,
+        whole: machine.whole,
         builtin: &machine.modules.builtin,
     };
     explanation(alloc, &sources, world, query)

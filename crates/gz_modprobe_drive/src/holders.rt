@@ -2,18 +2,14 @@
 
 use crate::listing::names_of;
 use crate::sys::MODULES;
-use kmod_query::{States, has_users};
+use kmod_query::{Holders, States, has_users};
 use modprobe_files::{Host, System, joined};
-use std::alloc::AllocError;
+use std::alloc::{AllocError, Global};
 
-/// The modules that hold a module.
-#[derive(Drop)]
-pub struct Holders {
-    pub module: Vec<u8>,
-    /// The folder that lists them.
-    pub folder: Vec<u8>,
-    /// Their names, in the order of the bytes.
-    pub names: Vec<Vec<u8>>,
+/// The folder that lists the holders of a module. It fails only if memory runs out.
+pub(crate) fn holders_folder(alloc: Global, module: &[u8]) -> Result<Vec<u8>, AllocError> {
+    let place = joined(alloc, MODULES, b"/", module)?;
+    joined(alloc, &place, b"/holders", b"")
 }
 
 /// Adds who holds a module, if that can be listed.
@@ -23,20 +19,15 @@ fn add_holders<S: System>(
     holders: &mut Vec<Holders>,
 ) -> Result<(), AllocError> {
     let alloc = host.alloc();
-    let place = joined(alloc, MODULES, b"/", name)?;
-    let folder = joined(alloc, &place, b"/holders", b"")?;
+    let folder = holders_folder(alloc, name)?;
     if let Some(names) = names_of(host, &folder)? {
         let module = Vec::from_slice(alloc, name)?;
-        holders.push(Holders {
-            module,
-            folder,
-            names,
-        })?;
+        holders.push(Holders { module, names })?;
     }
     Ok(())
 }
 
-/// Who holds each module that is used. It fails only if memory runs out.
+/// Who holds each module that is used, the names in the order of the bytes. It fails only if memory runs out.
 pub(crate) fn read_holders<S: System>(
     host: &Host<'_, S>,
     states: &States,

@@ -24,7 +24,6 @@ mod unread;
 
 pub use configuration::conf_of;
 pub use folder::index_of;
-pub use holders::Holders;
 pub use program::drive;
 pub use reasons::{Sources, explanation};
 pub use unread::{Unread, UnreadFile};

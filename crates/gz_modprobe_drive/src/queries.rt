@@ -1,7 +1,7 @@
 //! Which query a command line asks.
 ghost use Rattle.std.specs.Prelude.{◌≡◌, IfNone, IfSome, None};
 ghost use Rattle.text_parts.specs.Text.{texts_of};
-ghost use Rattle.gz_modprobe_drive.specs.Queries.{IsQueryOf, ask_of, asks_states, asks_users};
+ghost use Rattle.gz_modprobe_drive.specs.Queries.{IsQueryOf, ask_of, asks_states, is_removal};
 
 use kmod_query::{Ask, Query};
 use modprobe_words::{Switches, Wish};
@@ -51,12 +51,13 @@ pub(crate) fn asks_states(ask: Ask) -> bool
     }
 }
 
-/// Whether users of modules count too. If not, then of states only which modules are live (`only_live_modules_count`).
-pub(crate) fn asks_users(ask: Ask) -> bool
-    ensures { result ≡ asks_users ask }
+/// Whether modules are to be removed. Users count then; if not, then of states only which modules are live
+/// (`only_live_modules_count`).
+pub(crate) fn is_removal(ask: Ask) -> bool
+    ensures { result ≡ is_removal ask }
 {
     match ask {
         Ask::Remove | Ask::ShowRemoval => true,
-        Ask::ShowConfig | Ask::Resolve | Ask::ShowDepends | Ask::DryRun => false,
+        Ask::DryRun | Ask::ShowDepends | Ask::Resolve | Ask::ShowConfig => false,
     }
 }

@@ -11,8 +11,10 @@ mod shown;
 mod sources;
 mod tasks;
 mod told;
+mod told_loads;
 mod told_modules;
 mod told_removals;
+mod told_soft;
 mod told_words;
 
 pub use explaining::explanation;

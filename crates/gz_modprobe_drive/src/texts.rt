@@ -20,6 +20,8 @@ pub(crate) struct Machine<'a> {
     /// The words of the query that are paths, and what stands there.
     pub(crate) paths: &'a [PathWord],
     pub(crate) evidence: &'a Evidence,
+    /// Whether a removal is answered as it is made, and not as a dry run shows it.
+    pub(crate) whole: bool,
 }
 
 /// What queries are answered from, by its parts. No module has a file of its own.

@@ -1,4 +1,4 @@
-//! The options of modprobe(8), and three more: `--explain`, `--root` and `--as`.
+//! The options of modprobe(8), and four more: `--explain`, `--root`, `--as` and `--whole`.
 ghost use Rattle.std.specs.Prelude.{◌≡◌};
 ghost use Rattle.modprobe_words.specs.Options.{kind_of, may_be_cut, meaning_of_letter, meaning_of, word_of};
 
@@ -26,6 +26,7 @@ pub enum Switch {
     Version,
     Help,
     Explain,
+    Whole,
 }
 
 /// An option with a value.
@@ -81,10 +82,11 @@ pub enum LongOption {
     ExplainWord,
     RootWord,
     AsWord,
+    WholeWord,
 }
 
 /// The options by words, in the order of `modprobe --help`, and then those that modprobe has not.
-pub(crate) const LONG_OPTIONS: [LongOption; 32] = [
+pub(crate) const LONG_OPTIONS: [LongOption; 33] = [
     LongOption::AllWord,
     LongOption::RemoveWord,
     LongOption::RemoveDependenciesWord,
@@ -117,6 +119,7 @@ pub(crate) const LONG_OPTIONS: [LongOption; 32] = [
     LongOption::ExplainWord,
     LongOption::RootWord,
     LongOption::AsWord,
+    LongOption::WholeWord,
 ];
 
 /// The option of a letter.
@@ -199,14 +202,16 @@ impl LongOption {
             LongOption::ExplainWord => b"explain",
             LongOption::RootWord => b"root",
             LongOption::AsWord => b"as",
+            LongOption::WholeWord => b"whole",
         }
     }
 
-    /// Whether a beginning of the word stands for it. `--as` is given whole, so that `--a` is `--all`, as with modprobe.
+    /// Whether a beginning of the word stands for it. `--as` and `--whole` are not cut, so that `--a` is `--all` and `--w` is
+    /// `--wait`, as with modprobe.
     pub(crate) fn may_be_cut(self) -> bool
         ensures { result ≡ may_be_cut self }
     {
-        !matches!(self, LongOption::AsWord)
+        !matches!(self, LongOption::AsWord | LongOption::WholeWord)
     }
 
     #[tactic(auto, unfolding(crate::specs::Options::meaning_of))]
@@ -249,6 +254,7 @@ impl LongOption {
             LongOption::ExplainWord => Meaning::Plain(Switch::Explain),
             LongOption::RootWord => Meaning::WithValue(Valued::Root),
             LongOption::AsWord => Meaning::WithValue(Valued::As),
+            LongOption::WholeWord => Meaning::Plain(Switch::Whole),
         }
     }
 }

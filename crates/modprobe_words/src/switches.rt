@@ -20,6 +20,8 @@ pub struct Switches {
     pub show_module: bool,
     pub dry_run: bool,
     pub explain: bool,
+    /// A removal is shown as it would be made.
+    pub whole: bool,
     /// 4 at first.
     pub verbosity: u64,
 }
@@ -41,6 +43,7 @@ impl Switches {
             show_module: false,
             dry_run: false,
             explain: false,
+            whole: false,
             verbosity: 4,
         }
     }
@@ -65,6 +68,7 @@ impl Switches {
             Switch::Quiet => switches.verbosity = 0,
             Switch::Verbose => switches.verbosity = switches.verbosity.saturating_add(1),
             Switch::Explain => switches.explain = true,
+            Switch::Whole => switches.whole = true,
             Switch::Force
             | Switch::ForceModversion
             | Switch::ForceVermagic

@@ -7,7 +7,7 @@ use crate::kernel_list::kernel_list;
 use crate::reasons::known::Known;
 use crate::reasons::named_lines::NamedLines;
 use crate::reasons::sources::Sources;
-use crate::reasons::tasks::{Part, Task, Tasks};
+use crate::reasons::tasks::{Subject, Task, Tasks};
 use crate::reasons::told::{Spot, Told};
 use kmod_names::name_of_path;
 use kmod_query::{
@@ -28,7 +28,7 @@ fn name_count(query: &Query<'_>) -> usize {
 }
 
 impl Told<'_> {
-    /// Begins with a module that is to be loaded in a world.
+    /// Tells whether a module is loaded in a world, and what that leads to.
     fn begin_load(
         &mut self,
         tasks: &mut Tasks,
@@ -45,15 +45,21 @@ impl Told<'_> {
             return Ok(());
         }
         self.tell_exempt_object(tasks, world, object)?;
-        let part = if query.ignore_commands {
-            Part::Named
-        } else {
-            Part::Own
-        };
-        tasks.add_load(self.alloc, object, part)
+        let subject = Subject::of(self.alloc, object, query.ignore_commands)?;
+        tasks.push(Task::Load(subject))?;
+        self.tell_tasks(tasks)
     }
 
-    /// Begins with a module that a name stands for. Returns whether it is refused.
+    /// Tells what becomes of a module that is to be removed, and what that leads to. Returns whether it is refused.
+    fn tell_whole(&mut self, tasks: &mut Tasks, object: &Object) -> Result<bool, AllocError> {
+        tasks.begin_name();
+        let subject = Subject::of(self.alloc, object, false)?;
+        tasks.push(Task::Remove(false, subject))?;
+        self.tell_tasks(tasks)?;
+        Ok(tasks.is_refused())
+    }
+
+    /// Tells what becomes of a module that a name stands for. Returns whether it is refused.
     fn begin(&mut self, tasks: &mut Tasks, object: &Object) -> Result<bool, AllocError> {
         let asked = self.known.asked;
         match asked.query.ask {
@@ -65,7 +71,7 @@ impl Told<'_> {
                 self.tell_exempt_object(tasks, &asked.world, object)?;
                 Ok(false)
             }
-            Ask::Remove | Ask::ShowRemoval => self.begin_removal(tasks, object, false),
+            Ask::Remove | Ask::ShowRemoval => self.tell_whole(tasks, object),
             Ask::ShowConfig => Ok(false),
         }
     }
@@ -78,7 +84,7 @@ impl Told<'_> {
         }
     }
 
-    /// Begins with the modules of a name, up to one that is refused. Returns whether one is refused.
+    /// Tells what becomes of the modules of a name, up to one that is refused. Returns whether one is refused.
     fn begin_each(&mut self, tasks: &mut Tasks, objects: &[Object]) -> Result<bool, AllocError> {
         for (at, object) in objects.iter().enumerate() {
             if self.begin(tasks, object)? {
@@ -90,7 +96,7 @@ impl Told<'_> {
         Ok(false)
     }
 
-    /// Tells why a name of the command line stands for modules, and begins with them. Returns whether it is refused.
+    /// Tells why a name of the command line stands for modules, and what becomes of them. Returns whether it is refused.
     fn begin_word(&mut self, tasks: &mut Tasks, word: &[u8]) -> Result<bool, AllocError> {
         let found = self.tell_word(word)?;
         let objects = found.as_deref().unwrap_or(&[]);
@@ -101,7 +107,7 @@ impl Told<'_> {
         self.begin_each(tasks, objects)
     }
 
-    /// Tells the file of a path, and begins with its module.
+    /// Tells the file of a path, and what becomes of its module.
     fn begin_file(
         &mut self,
         tasks: &mut Tasks,
@@ -120,7 +126,7 @@ impl Told<'_> {
         self.begin_load(tasks, &world, &object)
     }
 
-    /// Tells what stands at a path, and begins with its module.
+    /// Tells what stands at a path, and what becomes of its module.
     fn begin_path(
         &mut self,
         tasks: &mut Tasks,
@@ -136,7 +142,7 @@ impl Told<'_> {
         }
     }
 
-    /// Begins with a word of the command line: a path or a name. A removal has no paths.
+    /// Tells a word of the command line: a path or a name. A removal has no paths.
     fn tell_asked(&mut self, tasks: &mut Tasks, word: &[u8]) -> Result<(), AllocError> {
         let asked = self.known.asked;
         let paths = asked.world.paths;
@@ -146,14 +152,11 @@ impl Told<'_> {
         }
     }
 
-    /// Begins with a name. A removal is told to its end, which the refusal of a name may be.
+    /// Tells a name. Its refusal may end a removal.
     fn tell_name(&mut self, tasks: &mut Tasks, word: &[u8]) -> Result<(), AllocError> {
         let refused = self.begin_word(tasks, word)?;
-        if self.known.is_removal() {
-            self.tell_tasks(tasks)?;
-            if refused && is_fatal(&self.known.asked.query) {
-                tasks.end();
-            }
+        if self.known.is_removal() && refused && is_fatal(&self.known.asked.query) {
+            tasks.end();
         }
         Ok(())
     }
@@ -167,24 +170,28 @@ impl Told<'_> {
             }
             self.tell_asked(tasks, word)?;
         }
-        self.tell_tasks(tasks)
+        Ok(())
     }
 
-    fn tell_task(&mut self, tasks: &mut Tasks, task: &Task) -> Result<(), AllocError> {
-        match task.part {
-            Part::Needs => self.tell_needs(tasks, &task.name),
-            Part::Held => self.tell_held(tasks, &task.name),
-            Part::Named | Part::Own => self.tell_own(tasks, task),
+    fn tell_task(&mut self, tasks: &mut Tasks, task: Task) -> Result<(), AllocError> {
+        match task {
+            Task::Load(subject) => self.tell_load(tasks, subject),
+            Task::Need(need) => self.tell_need(tasks, &need),
+            Task::Fill(subject) => self.tell_fill(tasks, subject),
+            Task::Soft(word) => self.tell_soft(tasks, &word),
+            Task::Own(subject) => self.tell_loaded(tasks, &subject),
+            Task::Remove(soft, subject) => self.tell_removal(tasks, soft, subject),
+            Task::Release(soft, subject) => self.tell_release(tasks, soft, &subject),
         }
     }
 
     /// Tells what is to be told, and what that leads to.
     fn tell_tasks(&mut self, tasks: &mut Tasks) -> Result<(), AllocError> {
         for _task in 0..usize::MAX {
-            let Some(task) = tasks.next()? else {
+            let Some(task) = tasks.next() else {
                 return Ok(());
             };
-            self.tell_task(tasks, &task)?;
+            self.tell_task(tasks, task)?;
         }
         Ok(())
     }

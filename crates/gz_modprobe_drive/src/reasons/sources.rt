@@ -1,7 +1,7 @@
 //! What an explanation is told of files.
 
-use crate::holders::Holders;
 use crate::unread::UnreadFile;
+use kmod_query::Holders;
 use modprobe_files::{HiddenFile, TextFile};
 
 /// Where a world was read from.
@@ -19,6 +19,8 @@ pub struct Sources<'a> {
     pub unread: &'a [UnreadFile],
     /// Who holds modules.
     pub holders: &'a [Holders],
+    /// Whether a removal is answered as it is made, and not as a dry run shows it.
+    pub whole: bool,
     /// The text of modules.builtin, whose lines the index does not number.
     pub builtin: &'a [u8],
 }

@@ -1,31 +1,120 @@
-//! What is to be told of modules, each once.
+//! What is to be told, in the order of what is done.
 
 use crate::reasons::exemptions::Exemption;
 use indexmap::{IndexMap, IndexSet};
+use kmod_names::Place;
 use kmod_query::Object;
 use std::alloc::{AllocError, Global};
 
-/// What is to be told of a module.
-#[derive(Clone, Copy, PartialEq, Eq, Hash)]
-pub(crate) enum Part {
-    /// The lines of a module that a name of the query stands for, under -i, which passes its commands and soft items over.
-    Named,
-    /// The lines of a module.
-    Own,
-    /// The soft items that are removed before a module, which stays since it is in use.
-    Held,
-    /// What a module needs.
-    Needs,
-}
-
-/// A module of which something is to be told, with the alias by which it came. `builtin` says that this was an alias of
-/// modules.builtin.modinfo.
+/// A module, with the alias by which it came. `builtin` says that this was an alias of modules.builtin.modinfo, `bare` that
+/// a name of the query stands for it under -i, which passes its commands and soft items over.
 #[derive(Clone, PartialEq, Eq, Hash, Drop)]
-pub(crate) struct Task {
+pub(crate) struct Subject {
     pub(crate) name: Vec<u8>,
     pub(crate) alias: Option<Vec<u8>>,
     pub(crate) builtin: bool,
-    pub(crate) part: Part,
+    pub(crate) bare: bool,
+}
+
+impl Subject {
+    /// A module that came by its own name.
+    pub(crate) fn by_name(alloc: Global, name: &[u8]) -> Result<Subject, AllocError> {
+        Ok(Subject {
+            name: Vec::from_slice(alloc, name)?,
+            alias: None,
+            builtin: false,
+            bare: false,
+        })
+    }
+
+    /// A module that a name stands for.
+    pub(crate) fn of(alloc: Global, object: &Object, bare: bool) -> Result<Subject, AllocError> {
+        Ok(Subject {
+            name: Vec::from_slice(alloc, &object.name)?,
+            alias: object.alias.clone()?,
+            builtin: object.builtin,
+            bare,
+        })
+    }
+
+    /// The module as queries have it.
+    pub(crate) fn object(&self, alloc: Global) -> Result<Object, AllocError> {
+        Ok(Object {
+            name: Vec::from_slice(alloc, &self.name)?,
+            alias: self.alias.clone()?,
+            builtin: self.builtin,
+        })
+    }
+}
+
+/// A module that another one needs: who needs it, how, and by which line of modules.dep.
+#[derive(Drop)]
+pub(crate) struct Need {
+    pub(crate) name: Vec<u8>,
+    pub(crate) by: Vec<u8>,
+    pub(crate) how: Vec<u8>,
+    pub(crate) number: usize,
+}
+
+/// On which side of its module a word of a softdep line stands.
+#[derive(Clone, Copy)]
+pub(crate) enum Side {
+    Before,
+    After,
+}
+
+/// A word of a softdep line of a module, and where the line stands.
+#[derive(Drop)]
+pub(crate) struct SoftWord {
+    pub(crate) word: Vec<u8>,
+    pub(crate) of: Vec<u8>,
+    pub(crate) side: Side,
+    pub(crate) place: Place,
+}
+
+/// What is to be told.
+#[derive(Drop)]
+pub(crate) enum Task {
+    /// A load: what the module needs, and then the module.
+    Load(Subject),
+    /// A module that another one needs.
+    Need(Need),
+    /// A module with its soft items before and after it.
+    Fill(Subject),
+    /// A word of a softdep line.
+    Soft(SoftWord),
+    /// The lines of a module that is loaded.
+    Own(Subject),
+    /// A removal, of a soft item or not: the soft items after the module, and then the module.
+    Remove(bool, Subject),
+    /// A module that is removed, if it is not in use by then.
+    Release(bool, Subject),
+}
+
+/// Tasks, the next last, and what was told by now.
+#[derive(Drop)]
+pub(crate) struct Tasks {
+    stack: Vec<Task>,
+    /// Whether a removal that was asked for is refused.
+    refused: bool,
+    /// Whether nothing more is to be told, since a refusal ended the query.
+    ended: bool,
+    /// Whether a module that a name stands for is the same if another one asks for it.
+    merges: bool,
+    /// The modules whose needs were told.
+    loaded: IndexSet<Subject>,
+    /// The modules that were told with their soft items.
+    filled: IndexSet<Subject>,
+    /// The modules that were told as removed.
+    removed: IndexSet<Subject>,
+    /// The words of softdep lines that were looked up, each with whether it stands for a module.
+    found: IndexMap<Vec<u8>, bool>,
+    /// The words of softdep lines that were told.
+    words: IndexSet<Vec<u8>>,
+    /// The modules whose files were named by paths.
+    files: IndexSet<Vec<u8>>,
+    /// The modules of which it was told why blacklist lines do not hold.
+    exempt: IndexSet<Exempt>,
 }
 
 /// A module whose blacklist lines do not hold, for one reason.
@@ -35,105 +124,89 @@ struct Exempt {
     exemption: Exemption,
 }
 
-/// Tasks in the order in which they came.
-#[derive(Drop)]
-pub(crate) struct Tasks {
-    all: IndexSet<Task>,
-    /// How many were told.
-    told: usize,
-    /// Whether nothing more is to be told, since a refusal ended the query.
-    ended: bool,
-    /// Whether a module that a name stands for is the same if another one asks for it.
-    merges: bool,
-    /// The words of softdep lines that were told, each with whether it stands for a module.
-    words: IndexMap<Vec<u8>, bool>,
-    /// The modules whose files were named by paths.
-    files: IndexSet<Vec<u8>>,
-    /// The modules of which it was told why blacklist lines do not hold.
-    exempt: IndexSet<Exempt>,
-}
-
 impl Tasks {
     /// No tasks yet. `merges` says that a module which a name stands for is the same if another one asks for it.
     pub(crate) fn new(alloc: Global, merges: bool) -> Tasks {
         Tasks {
-            all: IndexSet::new(alloc),
-            told: 0,
+            stack: Vec::new(alloc),
+            refused: false,
             ended: false,
             merges,
-            words: IndexMap::new(alloc),
+            loaded: IndexSet::new(alloc),
+            filled: IndexSet::new(alloc),
+            removed: IndexSet::new(alloc),
+            found: IndexMap::new(alloc),
+            words: IndexSet::new(alloc),
             files: IndexSet::new(alloc),
             exempt: IndexSet::new(alloc),
         }
     }
 
-    fn insert(
-        &mut self,
-        alloc: Global,
-        name: &[u8],
-        alias: &Option<Vec<u8>>,
-        builtin: bool,
-        part: Part,
-    ) -> Result<(), AllocError> {
-        let mut task = Task {
-            name: Vec::from_slice(alloc, name)?,
-            alias: alias.clone()?,
-            builtin,
-            part: Part::Named,
-        };
-        if matches!(part, Part::Own) && self.merges && self.all.contains(&task) {
-            return Ok(());
-        }
-        task.part = part;
-        self.all.insert(task)?;
+    /// Adds a task before all others.
+    pub(crate) fn push(&mut self, task: Task) -> Result<(), AllocError> {
+        self.stack.push(task)?;
         Ok(())
     }
 
-    /// Adds a part of a module that came by its own name.
-    pub(crate) fn add_name(
-        &mut self,
-        alloc: Global,
-        name: &[u8],
-        part: Part,
-    ) -> Result<(), AllocError> {
-        self.insert(alloc, name, &None, false, part)
+    /// The next task.
+    pub(crate) fn next(&mut self) -> Option<Task> {
+        if self.ended { None } else { self.stack.pop() }
     }
 
-    /// Adds a part of a module.
-    pub(crate) fn add_part(
-        &mut self,
-        alloc: Global,
-        object: &Object,
-        part: Part,
-    ) -> Result<(), AllocError> {
-        self.insert(alloc, &object.name, &object.alias, object.builtin, part)
+    /// Whether a module was told already, as a name of the query or as what another one asks for.
+    fn is_known(&self, all: &IndexSet<Subject>, subject: &Subject) -> Result<bool, AllocError> {
+        if subject.bare || !self.merges {
+            return Ok(all.contains(subject));
+        }
+        let mut bare = subject.clone()?;
+        bare.bare = true;
+        Ok(all.contains(subject) || all.contains(&bare))
     }
 
-    /// Adds a module that is to be loaded, and then what it needs.
-    pub(crate) fn add_load(
-        &mut self,
-        alloc: Global,
-        object: &Object,
-        part: Part,
-    ) -> Result<(), AllocError> {
-        self.add_part(alloc, object, part)?;
-        self.add_name(alloc, &object.name, Part::Needs)
+    /// Whether the needs of a module are to be told; from now on they were.
+    pub(crate) fn begin_load(&mut self, subject: &Subject) -> Result<bool, AllocError> {
+        if self.is_known(&self.loaded, subject)? {
+            return Ok(false);
+        }
+        self.loaded.insert(subject.clone()?)?;
+        Ok(true)
     }
 
-    /// Whether a word of a softdep line stands for a module, None if it was not told.
+    /// Whether a module is to be told with its soft items; from now on it was.
+    pub(crate) fn begin_fill(&mut self, subject: &Subject) -> Result<bool, AllocError> {
+        if self.is_known(&self.filled, subject)? {
+            return Ok(false);
+        }
+        self.filled.insert(subject.clone()?)?;
+        Ok(true)
+    }
+
+    /// Whether the removal of a module is to be told; from now on it was.
+    pub(crate) fn begin_removal(&mut self, subject: &Subject) -> Result<bool, AllocError> {
+        let is_new = self.removed.insert(subject.clone()?)?;
+        Ok(is_new)
+    }
+
+    /// Whether a word of a softdep line stands for a module, None if it was not looked up.
     pub(crate) fn is_found(&self, word: &[u8]) -> Option<bool> {
-        self.words.get(word).copied()
+        self.found.get(word).copied()
     }
 
-    /// Notes that a word of a softdep line was told, and whether it stands for a module.
-    pub(crate) fn add_word(
+    /// Notes whether a word of a softdep line stands for a module.
+    pub(crate) fn add_found(
         &mut self,
         alloc: Global,
         word: &[u8],
         found: bool,
     ) -> Result<(), AllocError> {
-        self.words.insert(Vec::from_slice(alloc, word)?, found)?;
+        self.found.insert(Vec::from_slice(alloc, word)?, found)?;
         Ok(())
+    }
+
+    /// Whether a word of a softdep line is to be told; from now on it was.
+    pub(crate) fn begin_word(&mut self, alloc: Global, word: &[u8]) -> Result<bool, AllocError> {
+        let is_new = self.words.insert(Vec::from_slice(alloc, word)?)?;
+        Ok(is_new)
     }
 
     /// Notes that blacklist lines of a module do not hold for a reason. Returns whether that is new.
@@ -159,6 +232,21 @@ impl Tasks {
         self.files.contains(name)
     }
 
+    /// Notes that another module is asked for, which is not refused yet.
+    pub(crate) fn begin_name(&mut self) {
+        self.refused = false;
+    }
+
+    /// Notes that a removal that was asked for is refused.
+    pub(crate) fn refuse(&mut self) {
+        self.refused = true;
+    }
+
+    /// Whether the removal that was told last is refused.
+    pub(crate) fn is_refused(&self) -> bool {
+        self.refused
+    }
+
     /// Notes that nothing more is to be told.
     pub(crate) fn end(&mut self) {
         self.ended = true;
@@ -166,17 +254,5 @@ impl Tasks {
 
     pub(crate) fn has_ended(&self) -> bool {
         self.ended
-    }
-
-    /// The next task.
-    pub(crate) fn next(&mut self) -> Result<Option<Task>, AllocError> {
-        if self.ended {
-            return Ok(None);
-        }
-        let task = self.all.get_index(self.told).cloned()?;
-        if task.is_some() {
-            self.told = self.told.saturating_add(1);
-        }
-        Ok(task)
     }
 }

@@ -9,6 +9,7 @@ use crate::reasons::known::Known;
 use crate::reasons::shown::Shown;
 use crate::unread::Unread;
 use kmod_names::Place;
+use kmod_query::Taken;
 use std::alloc::{AllocError, Global};
 
 /// For how many words near names are looked for.
@@ -44,6 +45,8 @@ pub(crate) struct Told<'a> {
     pub(crate) alloc: Global,
     pub(crate) known: &'a Known<'a>,
     lines: Shown,
+    /// What a removal takes by now, if it is made and not only shown.
+    pub(crate) taken: Vec<Taken>,
     /// For how many words near names may still be looked for.
     pub(crate) searches: usize,
 }
@@ -55,6 +58,7 @@ impl<'a> Told<'a> {
             alloc,
             known,
             lines: Shown::new(alloc),
+            taken: Vec::new(alloc),
             searches: SEARCHES,
         }
     }

@@ -2,9 +2,14 @@
 ghost use Rattle.std.specs.Prelude.{◌≡◌};
 ghost use Rattle.gz_modprobe_drive.specs.Evidence.{users_beside};
 
-use crate::reasons::tasks::{Part, Tasks};
+use crate::holders::holders_folder;
+use crate::reasons::tasks::{Need, Side, Subject, Task, Tasks};
 use crate::reasons::told::{Spot, Told};
-use kmod_query::{ModuleStatus, Object, Verdict, is_fatal, is_in_use, judge, remove_line};
+use crate::reasons::told_soft::{push_words, soft_words};
+use kmod_query::{
+    ModuleStatus, Object, Taken, Verdict, has_users, is_fatal, is_gone, is_in_use_after,
+    judge_after, push_taken, remove_line,
+};
 use std::alloc::AllocError;
 use text_parts::is_same;
 
@@ -16,13 +21,23 @@ fn users_beside(users: u64, holders: usize) -> u64
 }
 
 impl Told<'_> {
+    /// What counts of what a removal has taken: nothing for a dry run, which asks the modules as they are now.
+    fn counted(&self) -> &[Taken] {
+        if self.known.sources.whole {
+            &self.taken
+        } else {
+            &[]
+        }
+    }
+
     /// Tells which modules hold a module, and how many of its users are none.
     fn tell_holders(&mut self, name: &[u8], users: u64) -> Result<(), AllocError> {
         let all = self.known.sources.holders;
         let Some(holders) = all.iter().find(|own| is_same(&own.module, name)) else {
             return Ok(());
         };
-        let spot = Spot::Whole(&holders.folder);
+        let folder = holders_folder(self.alloc, name)?;
+        let spot = Spot::Whole(&folder);
         for holder in &holders.names {
             let what: [&[u8]; 2] = [b"held by ", holder];
             self.say(name, &what, spot);
@@ -51,7 +66,7 @@ impl Told<'_> {
     }
 
     /// Tells why a module stays that another one needs, or that is in use.
-    pub(crate) fn tell_need_state(&mut self, name: &[u8]) -> Result<(), AllocError> {
+    fn tell_need_state(&mut self, name: &[u8]) -> Result<(), AllocError> {
         if self.known.is_built_in(name, false) {
             self.tell_built_in(name, name, b", so it is not removed");
             return Ok(());
@@ -66,99 +81,191 @@ impl Told<'_> {
         }
     }
 
-    /// Goes on with a module for which a soft item stands. A refusal may end the removal.
-    pub(crate) fn follow_removal(
-        &mut self,
-        tasks: &mut Tasks,
-        object: &Object,
-    ) -> Result<(), AllocError> {
-        let refused = self.begin_removal(tasks, object, true)?;
-        if refused && is_fatal(&self.known.asked.query) {
-            let what = b"stays, so the removal ends";
-            self.say(&object.name, &[what], Spot::Nowhere);
-            tasks.end();
-        }
-        Ok(())
-    }
-
-    /// Tells why a module is not removed: it is built in, or not loaded.
+    /// Tells that a module is gone by then, built in or not loaded.
     fn tell_kept(&mut self, object: &Object) {
         let name = object.name.as_slice();
-        if self.known.is_built_in(name, object.builtin) {
+        if is_gone(self.counted(), name) {
+            self.say(name, &[b"gone by then"], Spot::Nowhere);
+        } else if self.known.is_built_in(name, object.builtin) {
             self.tell_built_in(name, name, b", so it is not removed");
         } else {
             self.tell_state(name, b"not loaded", b"");
         }
     }
 
-    /// Goes on with a module that is in use: what is removed before it, and that it stays.
-    fn begin_held(&mut self, tasks: &mut Tasks, object: &Object) -> Result<(), AllocError> {
-        tasks.add_part(self.alloc, object, Part::Held)?;
-        self.tell_need_state(&object.name)
+    /// Notes that a module is not removed. That may end all.
+    fn refuse(&mut self, tasks: &mut Tasks, soft: bool, name: &[u8]) {
+        if !soft {
+            tasks.refuse();
+        } else if is_fatal(&self.known.asked.query) {
+            self.say(name, &[b"stays, so the removal ends"], Spot::Nowhere);
+            tasks.end();
+        }
     }
 
-    /// Begins with a module that is to be removed, a soft item or not. Returns whether it is refused.
-    pub(crate) fn begin_removal(
+    /// Goes on with the soft items after a module, the last first, and then the module.
+    fn begin_removal(
         &mut self,
         tasks: &mut Tasks,
-        object: &Object,
-        is_soft: bool,
-    ) -> Result<bool, AllocError> {
-        let asked = self.known.asked;
-        match judge(asked, is_soft, object)? {
-            Verdict::Remove => {
-                if is_in_use(asked, object)? {
-                    self.begin_held(tasks, object)?;
-                    return Ok(true);
-                }
-                tasks.add_part(self.alloc, object, Part::Own)?;
-                Ok(false)
-            }
+        soft: bool,
+        subject: Subject,
+    ) -> Result<(), AllocError> {
+        if !tasks.begin_removal(&subject)? {
+            return Ok(());
+        }
+        let (alloc, asked) = (self.alloc, self.known.asked);
+        let conf = asked.world.conf;
+        let Some(line) = conf.softdep_of(alloc, &subject.name)? else {
+            return tasks.push(Task::Release(soft, subject));
+        };
+        if asked.query.ignore_commands {
+            let what = b"softdep, passed over by -i";
+            self.say_of(&subject.name, &[what], line.place);
+            return tasks.push(Task::Release(soft, subject));
+        }
+        let after = soft_words(
+            alloc,
+            &subject.name,
+            Side::After,
+            line.items.post(),
+            line.place,
+        )?;
+        tasks.push(Task::Release(soft, subject))?;
+        push_words(tasks, after)
+    }
+
+    /// Tells why a module is not removed, or goes on with it.
+    pub(crate) fn tell_removal(
+        &mut self,
+        tasks: &mut Tasks,
+        soft: bool,
+        subject: Subject,
+    ) -> Result<(), AllocError> {
+        let object = subject.object(self.alloc)?;
+        let (asked, holders) = (self.known.asked, self.known.sources.holders);
+        match judge_after(asked, holders, self.counted(), soft, &object)? {
+            Verdict::Remove => self.begin_removal(tasks, soft, subject),
             Verdict::Pass => {
-                self.tell_kept(object);
-                Ok(false)
+                self.tell_kept(&object);
+                Ok(())
             }
             Verdict::Refuse(_) => {
-                self.tell_kept(object);
-                Ok(true)
+                self.tell_kept(&object);
+                self.refuse(tasks, soft, &object.name);
+                Ok(())
             }
         }
     }
 
-    /// Tells the soft items that are removed before a module that is in use.
-    pub(crate) fn tell_held(&mut self, tasks: &mut Tasks, name: &[u8]) -> Result<(), AllocError> {
-        if self.known.asked.query.ignore_commands {
-            let _ = self.tell_softdep(tasks, name, true)?;
+    /// Tells that a need of a module that goes is removed too, since nothing uses it then. A dry run has a line for it only if
+    /// nothing uses it now.
+    fn tell_unused(&mut self, need: &Need) -> Result<(), AllocError> {
+        let asked = self.known.asked;
+        if !has_users(asked.world.states.of(&need.name)) {
+            self.tell_state(&need.name, b"nothing uses it", b", so it is removed too");
             return Ok(());
         }
-        let asked = self.known.asked;
-        let conf = asked.world.conf;
-        if let Some(line) = conf.softdep_of(self.alloc, name)? {
-            let (items, place) = (line.items.post(), line.place);
-            let _ = self.tell_items(tasks, name, b"softdep after ", items, place)?;
+        let more: &[u8] = if self.known.sources.whole {
+            b""
+        } else {
+            b", which only --whole shows"
+        };
+        let what: [&[u8]; 4] = [
+            b"nothing uses it once ",
+            &need.by,
+            b" is gone, so it is removed too",
+            more,
+        ];
+        let folder = holders_folder(self.alloc, &need.name)?;
+        self.say(&need.name, &what, Spot::Whole(&folder));
+        Ok(())
+    }
+
+    /// Whether a module was gone when only this much was taken.
+    fn was_gone(&self, name: &[u8], before: usize) -> bool {
+        match self.taken.get(..before) {
+            Some(taken) => is_gone(taken, name),
+            None => false,
+        }
+    }
+
+    /// Whether a module goes by what was taken since then.
+    fn goes_since(&self, name: &[u8], before: usize) -> bool {
+        match self.taken.get(before..) {
+            Some(taken) => is_gone(taken, name),
+            None => false,
+        }
+    }
+
+    /// Tells a need of a module that goes, and whether it goes too. `before` is what was taken before the module.
+    fn tell_freed_need(&mut self, need: &Need, before: usize) -> Result<(), AllocError> {
+        self.say_need(need);
+        if self.known.sources.whole && self.was_gone(&need.name, before) {
+            self.say(&need.name, &[b"gone by then"], Spot::Nowhere);
+            return Ok(());
+        }
+        self.tell_need_state(&need.name)?;
+        if self.goes_since(&need.name, before) {
+            self.tell_unused(need)?;
+        }
+        Ok(())
+    }
+
+    /// Tells what a module that goes needs, and whether that goes too. `before` is what was taken before the module.
+    fn tell_freed(&mut self, name: &[u8], before: usize) -> Result<(), AllocError> {
+        let needs = self.needs_of(name)?;
+        for need in &needs {
+            self.tell_freed_need(need, before)?;
         }
         Ok(())
     }
 
     /// Tells what counts for a removal of a module.
-    pub(crate) fn tell_removed(
-        &mut self,
-        tasks: &mut Tasks,
-        name: &[u8],
-        alias: Option<&[u8]>,
-    ) -> Result<(), AllocError> {
-        let is_bare = self.known.asked.query.ignore_commands;
-        let _ = self.tell_softdep(tasks, name, is_bare)?;
-        if tasks.has_ended() {
-            return Ok(());
-        }
+    fn tell_removed(&mut self, subject: &Subject, object: &Object) -> Result<(), AllocError> {
+        let (name, alias) = (subject.name.as_slice(), subject.alias.as_deref());
+        let (asked, named) = (self.known.asked, self.known.named);
+        let is_bare = asked.query.ignore_commands;
         let why: &[u8] = if is_bare { b", passed over by -i" } else { b"" };
-        let named = self.known.named;
-        let line = remove_line(self.alloc, &self.known.asked.world, name, alias)?;
+        let line = remove_line(self.alloc, &asked.world, name, alias)?;
         self.tell_commands(name, b"remove", line, &named.removes, why);
+        let before = self.taken.len();
+        push_taken(asked, self.known.sources.holders, &mut self.taken, object)?;
         if is_bare || line.is_none() {
-            tasks.add_name(self.alloc, name, Part::Needs)?;
+            return self.tell_freed(name, before);
         }
         Ok(())
+    }
+
+    /// Goes on with the soft items before a module that was removed, the last first.
+    fn follow_removal(&mut self, tasks: &mut Tasks, name: &[u8]) -> Result<(), AllocError> {
+        let (alloc, asked) = (self.alloc, self.known.asked);
+        let conf = asked.world.conf;
+        if asked.query.ignore_commands {
+            return Ok(());
+        }
+        let Some(line) = conf.softdep_of(alloc, name)? else {
+            return Ok(());
+        };
+        self.tell_later_softdeps(name, line.place);
+        let before = soft_words(alloc, name, Side::Before, line.items.pre(), line.place)?;
+        push_words(tasks, before)
+    }
+
+    /// Tells what counts for a removal of a module whose soft items after it are removed, or that it is in use.
+    pub(crate) fn tell_release(
+        &mut self,
+        tasks: &mut Tasks,
+        soft: bool,
+        subject: &Subject,
+    ) -> Result<(), AllocError> {
+        let object = subject.object(self.alloc)?;
+        let (asked, holders) = (self.known.asked, self.known.sources.holders);
+        if is_in_use_after(asked, holders, self.counted(), &object)? {
+            self.tell_need_state(&subject.name)?;
+            self.refuse(tasks, soft, &subject.name);
+            return Ok(());
+        }
+        self.tell_removed(subject, &object)?;
+        self.follow_removal(tasks, &subject.name)
     }
 }
