@@ -4,7 +4,7 @@
 function __gz_modprobe_said
     set -l words (commandline -opc)
     # (the empty word is the value of a last option, or a name)
-    argparse -i a/all r/remove C/config=+ d/dirname= S/set-version= root= as= -- $words[2..] '' 2>/dev/null
+    argparse -i a/all r/remove why C/config=+ d/dirname= S/set-version= root= as= -- $words[2..] '' 2>/dev/null
     set -l root (string replace -r '^~/' "$HOME/" -- "$_flag_root")
     set -l dir (string replace -r '^~/' "$HOME/" -- "$_flag_d")
     set -l folder $dir/lib/modules
@@ -20,7 +20,7 @@ function __gz_modprobe_said
     else
         echo
     end
-    set -q _flag_a; or set -q _flag_r; or test (count (string match -v -- '-*' $argv)) = 1; and echo yes
+    set -q _flag_a; or set -q _flag_r; or set -q _flag_why; or test (count (string match -v -- '-*' $argv)) = 1; and echo yes
 end
 
 function __gz_modprobe_releases
@@ -58,3 +58,4 @@ complete -c gz-modprobe -l root -x -a '(__fish_complete_directories)' -d 'Read a
 complete -c gz-modprobe -s S -l set-version -x -a '(__gz_modprobe_releases)' -d 'Answer for a release'
 complete -c gz-modprobe -s v -l verbose -d 'Show the lines of -n and -r -n'
 complete -c gz-modprobe -l whole -d 'Show the removal itself, with -r'
+complete -c gz-modprobe -l why -d 'Show what leads to a module'

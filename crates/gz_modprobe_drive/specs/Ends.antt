@@ -1,5 +1,5 @@
 -- How a run ends, by its words.
-use Rattle.std.specs.Prelude.{◌≡◌, ℕ, Bool, false, nat_lt, List, [], ◌++◌, length, Option, Some, None, unwrap_or}
+use Rattle.std.specs.Prelude.{◌≡◌, ℕ, Bool, true, false, nat_lt, List, [], ◌++◌, length, Option, Some, None, unwrap_or}
 use Rattle.std.specs.Io.KnownBytes.{Appends}
 use Rattle.kmod_version.specs.declared.kmod.Kmod.{Kmod}
 use Rattle.kmod_query.specs.Answers.{Answer}
@@ -13,7 +13,8 @@ use Rattle.modprobe_words.specs.Wishes.{wish_of}
 use Rattle.modprobe_words.specs.Words.{items}
 use Rattle.gz_modprobe_drive.specs.Answered.{IsAnswer, Known}
 use Rattle.gz_modprobe_drive.specs.Paths.{paths_of, words_of as path_words}
-use Rattle.gz_modprobe_drive.specs.Queries.{IsQueryOf}
+use Rattle.gz_modprobe_drive.specs.Leads.{WasTold}
+use Rattle.gz_modprobe_drive.specs.Queries.{IsQueryOf, is_why}
 use Rattle.gz_modprobe_drive.specs.Texts.{conf_of}
 
 -- the words of a run: those of MODPROBE_OPTIONS, and then those of the command line (modprobe(8))
@@ -45,10 +46,18 @@ pub record WereAnswered (asked : Asked) (before after : Option (List ℕ)) : Typ
   pub asks : IsQueryOf (wish_of asked.switches (nat_lt 0 (length asked.words))) asked.switches asked.words query
   pub answered : WasAnswered asked.kmod asked.switches.whole query before after
 
--- words that ask for an end before a query end so; other ones end with 0 only if they were answered well
+-- what leads to names ends well if lines of it were written, and a query if it was answered well
+abbrev pub EndsWell : Bool → Asked → Option (List ℕ) → Option (List ℕ) → Type 0
+EndsWell true asked before after = WasTold before after
+EndsWell false asked before after = WereAnswered asked before after
+
+abbrev pub IsDone : Asked → Option (List ℕ) → Option (List ℕ) → Type 0
+IsDone asked before after = EndsWell (is_why (wish_of asked.switches (nat_lt 0 (length asked.words)))) asked before after
+
+-- words that ask for an end before a query end so; other ones end with 0 only if what they ask for ended well
 abbrev pub IsEndBy : Option Ending → Asked → Option (List ℕ) → Option (List ℕ) → ℕ → Type 0
 IsEndBy (Some ending) asked before after status = IsEnded ending before after status
-IsEndBy None asked before after status = status ≡ 0 → WereAnswered asked before after
+IsEndBy None asked before after status = status ≡ 0 → IsDone asked before after
 
 -- how words end a run, by what standard output has before and after, and the status
 abbrev pub IsEndOf : List (List ℕ) → Option (List ℕ) → Option (List ℕ) → ℕ → Type 0

@@ -3,6 +3,7 @@ pub mod Ends
 pub mod Evidence
 pub mod Exemptions
 pub mod KernelList
+pub mod Leads
 pub mod LineEnds
 pub mod NearNames
 pub mod Paths

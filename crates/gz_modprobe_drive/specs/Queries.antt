@@ -16,11 +16,27 @@ ask_of wishes.DryRun = Some asks.DryRun
 ask_of wishes.Resolve = Some asks.Resolve
 ask_of wishes.Remove = Some asks.Remove
 ask_of wishes.ShowRemoval = Some asks.ShowRemoval
+ask_of wishes.Why = None
 ask_of wishes.NoName = None
 ask_of wishes.ShowModule = None
 ask_of wishes.RemoveHolders = None
 ask_of wishes.Load = None
 ask_of wishes.Removal = None
+
+-- what leads to names is wished for
+abbrev pub is_why : Wish → Bool
+is_why wishes.Why = true
+is_why wishes.ShowConfig = false
+is_why wishes.ShowDepends = false
+is_why wishes.DryRun = false
+is_why wishes.Resolve = false
+is_why wishes.Remove = false
+is_why wishes.ShowRemoval = false
+is_why wishes.NoName = false
+is_why wishes.ShowModule = false
+is_why wishes.RemoveHolders = false
+is_why wishes.Load = false
+is_why wishes.Removal = false
 
 -- what is asked, as the options and the words of a command line say
 pub record IsQueryOf (wish : Wish) (switches : Switches) (given : List (List ℕ)) (query : Query) : Type 0 where

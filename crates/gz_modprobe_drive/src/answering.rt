@@ -25,7 +25,7 @@ use std::alloc::{AllocError, Global};
 use std::io::Write;
 
 /// Tells the lines of the configuration that say nothing.
-fn tell_bad_lines<E: Write>(
+pub(crate) fn tell_bad_lines<E: Write>(
     alloc: Global,
     texts: &ConfTexts,
     conf: &Conf,
@@ -42,7 +42,15 @@ fn tell_bad_lines<E: Write>(
     Ok(())
 }
 
-/// Tells what is wrong with an answer; that nobody reads it is nothing to tell. Returns the status.
+/// Tells that standard output cannot be written; that nobody reads it is nothing to tell.
+pub(crate) fn tell_unwritten<E: Write>(written: Written, messages: &mut Messages<'_, E>) {
+    if matches!(written, Written::Failed) {
+        let text = b"standard output cannot be written";
+        messages.tell_always(Level::Error, text, b"", b"", b"");
+    }
+}
+
+/// Tells what is wrong with an answer. Returns the status.
 fn tell_answered<S: System, E: Write>(
     host: &Host<'_, S>,
     answered: &Answered,
@@ -53,10 +61,7 @@ fn tell_answered<S: System, E: Write>(
     ensures status { IfOk result (λ status. status ≤ 1) }
     ensures told { IfOk result (λ status. status ≡ status_of answered.now.answer answered.now.written) }
 {
-    if matches!(answered.written, Written::Failed) {
-        let text = b"standard output cannot be written";
-        messages.tell_always(Level::Error, text, b"", b"", b"");
-    }
+    tell_unwritten(answered.written, messages);
     tell_failures(host, &answered.answer, query, directory, messages)?;
     Ok(answered.status())
 }

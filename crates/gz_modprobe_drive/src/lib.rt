@@ -4,6 +4,7 @@
 mod answered;
 mod answering;
 mod configuration;
+mod devices;
 mod early;
 mod evidence;
 mod explained;
@@ -21,9 +22,11 @@ mod refusals;
 mod sys;
 mod texts;
 mod unread;
+mod why;
 
 pub use configuration::conf_of;
+pub use devices::Device;
 pub use folder::index_of;
 pub use program::drive;
-pub use reasons::{Sources, explanation};
+pub use reasons::{Leads, Sources, explanation, lead_lines};
 pub use unread::{Unread, UnreadFile};

@@ -3,17 +3,43 @@ ghost use Rattle.std.specs.Prelude.{◌≡◌, ◌≤◌, ◌++◌, IfOk, OnOk};
 ghost use Rattle.text_parts.specs.Text.{texts_of};
 ghost use Rattle.modprobe_words.specs.Asked.{asked_of, text_of};
 ghost use Rattle.modprobe_words.specs.Variable.{bytes_of};
-ghost use Rattle.gz_modprobe_drive.specs.Ends.{IsEndOf, WereAnswered, given};
+ghost use Rattle.gz_modprobe_drive.specs.Ends.{IsDone, IsEndOf, given};
+ghost use Rattle.gz_modprobe_drive.specs.Leads.{WasTold};
 
 use crate::answering::answer_query;
-use crate::queries::query_of;
+use crate::queries::{is_why, query_of};
 use crate::refusals::tell_refusal;
+use crate::why::tell_why;
 use modprobe_files::{Disk, Host};
 use modprobe_words::{Asked, Messages, end_early, first_ending, read_words, variable_words};
 use std::alloc::{AllocError, Global};
 use std::env::Env;
 use std::io::Write;
 use std::rt::Files;
+
+/// Tells what leads to the names that are asked for. Returns the status.
+fn tell_asked<R: Files + Env + AllocGlobal, O: Write, E: Write>(
+    rt: &R,
+    asked: &Asked<'_>,
+    output: &mut O,
+    errors: &mut E,
+) -> Result<u8, AllocError>
+    ensures status { IfOk result (λ status. status ≤ 1) }
+    ensures told { IfOk result (λ status. status ≡ 0 → WasTold (O.contents output.old) (O.contents output.new)) }
+{
+    let disk = Disk {
+        rt,
+        root: asked.root.unwrap_or(b""),
+    };
+    let host = Host { system: &disk };
+    let mut messages = Messages {
+        errors,
+        program: b"gz-modprobe",
+        verbosity: asked.switches.verbosity,
+        explains: false,
+    };
+    tell_why(&host, asked, output, &mut messages)
+}
 
 /// Answers what is asked. Returns the status.
 fn answer_asked<R: Files + Env + AllocGlobal, O: Write, E: Write>(
@@ -23,9 +49,12 @@ fn answer_asked<R: Files + Env + AllocGlobal, O: Write, E: Write>(
     errors: &mut E,
 ) -> Result<u8, AllocError>
     ensures status { IfOk result (λ status. status ≤ 1) }
-    ensures well { IfOk result (λ status. status ≡ 0 → WereAnswered (asked_of asked.now) (O.contents output.old) (O.contents output.new)) }
+    ensures well { IfOk result (λ status. status ≡ 0 → IsDone (asked_of asked.now) (O.contents output.old) (O.contents output.new)) }
 {
     let wish = asked.switches.wish(!asked.words.is_empty());
+    if is_why(wish) {
+        return tell_asked(rt, asked, output, errors);
+    }
     let Some(query) = query_of(wish, asked.switches, &asked.words) else {
         tell_refusal(wish, errors);
         return Ok(1);

@@ -1,7 +1,7 @@
 //! Which query a command line asks.
 ghost use Rattle.std.specs.Prelude.{◌≡◌, IfNone, IfSome, None};
 ghost use Rattle.text_parts.specs.Text.{texts_of};
-ghost use Rattle.gz_modprobe_drive.specs.Queries.{IsQueryOf, ask_of, asks_states, is_removal};
+ghost use Rattle.gz_modprobe_drive.specs.Queries.{IsQueryOf, ask_of, asks_states, is_removal, is_why};
 
 use kmod_query::{Ask, Query};
 use modprobe_words::{Switches, Wish};
@@ -17,7 +17,12 @@ fn ask_of(wish: Wish) -> Option<Ask>
         Wish::Resolve => Some(Ask::Resolve),
         Wish::Remove => Some(Ask::Remove),
         Wish::ShowRemoval => Some(Ask::ShowRemoval),
-        Wish::NoName | Wish::ShowModule | Wish::RemoveHolders | Wish::Load | Wish::Removal => None,
+        Wish::Why
+        | Wish::NoName
+        | Wish::ShowModule
+        | Wish::RemoveHolders
+        | Wish::Load
+        | Wish::Removal => None,
     }
 }
 
@@ -39,6 +44,13 @@ pub(crate) fn query_of<'a>(
         verbosity: switches.verbosity,
         words,
     })
+}
+
+/// Whether what leads to names is wished for.
+pub(crate) fn is_why(wish: Wish) -> bool
+    ensures { result ≡ is_why wish }
+{
+    matches!(wish, Wish::Why)
 }
 
 /// Whether states of modules count.

@@ -5,6 +5,7 @@ mod explaining;
 mod heads;
 mod idle_lines;
 mod known;
+mod leading;
 mod named_lines;
 mod near_names;
 mod shown;
@@ -18,4 +19,5 @@ mod told_soft;
 mod told_words;
 
 pub use explaining::explanation;
+pub use leading::{Leads, lead_lines};
 pub use sources::Sources;

@@ -63,7 +63,7 @@ fn count_of(text: &[u8]) -> Option<u64>
 }
 
 /// The text of a file of a module's folder; None if it has none that can be read.
-fn text_in<S: System>(
+pub(crate) fn text_in<S: System>(
     host: &Host<'_, S>,
     folder: &[u8],
     name: &[u8],

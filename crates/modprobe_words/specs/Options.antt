@@ -1,4 +1,4 @@
--- The options of modprobe(8), and `--explain`, `--root`, `--as` and `--whole`, which it has not.
+-- The options of modprobe(8), and `--explain`, `--root`, `--as`, `--whole` and `--why`, which it has not.
 use Rattle.std.specs.Prelude.{ℕ, Bool, true, false, ◌+◌, ◌==◌, if◌then◌else◌, List, [], ◌∷◌, codes, Option, Some, None}
 use Rattle.modprobe_words.specs.declared.options.Switch.{Switch}
 use Rattle.modprobe_words.specs.declared.options.Switch.TheVariants as switch
@@ -7,7 +7,7 @@ use Rattle.modprobe_words.specs.declared.options.Valued.TheVariants as valued
 use Rattle.modprobe_words.specs.declared.options.Meaning.{Meaning}
 use Rattle.modprobe_words.specs.declared.options.Meaning.TheVariants.{Plain, WithValue}
 use Rattle.modprobe_words.specs.declared.options.LongOption.{LongOption}
-use Rattle.modprobe_words.specs.declared.options.LongOption.TheVariants.{AllWord, RemoveWord, RemoveDependenciesWord, RemoveHoldersWord, WaitWord, ResolveAliasWord, FirstTimeWord, IgnoreInstallWord, IgnoreRemoveWord, UseBlacklistWord, ForceWord, ForceModversionWord, ForceVermagicWord, ShowDependsWord, ShowconfigWord, ShowConfigWord, ShowModversionsWord, DumpModversionsWord, ShowExportsWord, DryRunWord, ShowWord, ConfigWord, DirnameWord, SetVersionWord, SyslogWord, QuietWord, VerboseWord, VersionWord, HelpWord, ExplainWord, RootWord, AsWord, WholeWord}
+use Rattle.modprobe_words.specs.declared.options.LongOption.TheVariants.{AllWord, RemoveWord, RemoveDependenciesWord, RemoveHoldersWord, WaitWord, ResolveAliasWord, FirstTimeWord, IgnoreInstallWord, IgnoreRemoveWord, UseBlacklistWord, ForceWord, ForceModversionWord, ForceVermagicWord, ShowDependsWord, ShowconfigWord, ShowConfigWord, ShowModversionsWord, DumpModversionsWord, ShowExportsWord, DryRunWord, ShowWord, ConfigWord, DirnameWord, SetVersionWord, SyslogWord, QuietWord, VerboseWord, VersionWord, HelpWord, ExplainWord, RootWord, AsWord, WholeWord, WhyWord}
 
 -- the option of a letter
 unfoldable pub meaning_of_letter : ℕ → Option Meaning
@@ -56,6 +56,7 @@ switch_number switch.Version = 18
 switch_number switch.Help = 19
 switch_number switch.Explain = 20
 switch_number switch.Whole = 21
+switch_number switch.Why = 22
 
 abbrev pub valued_number : Valued → ℕ
 valued_number valued.Wait = 0
@@ -104,6 +105,7 @@ word_of ExplainWord = codes "explain"
 word_of RootWord = codes "root"
 word_of AsWord = codes "as"
 word_of WholeWord = codes "whole"
+word_of WhyWord = codes "why"
 
 unfoldable pub meaning_of : LongOption → Meaning
 meaning_of AllWord = Plain switch.All
@@ -139,6 +141,7 @@ meaning_of ExplainWord = Plain switch.Explain
 meaning_of RootWord = WithValue valued.Root
 meaning_of AsWord = WithValue valued.As
 meaning_of WholeWord = Plain switch.Whole
+meaning_of WhyWord = Plain switch.Why
 
 -- in the order of `modprobe --help`
 unfoldable pub long_options : List LongOption
@@ -149,10 +152,12 @@ long_options =
     ∷ ShowConfigWord ∷ ShowModversionsWord ∷ DumpModversionsWord ∷ ShowExportsWord ∷ DryRunWord
     ∷ ShowWord ∷ ConfigWord ∷ DirnameWord ∷ SetVersionWord ∷ SyslogWord
     ∷ QuietWord ∷ VerboseWord ∷ VersionWord ∷ HelpWord ∷ ExplainWord
-    ∷ RootWord ∷ AsWord ∷ WholeWord ∷ []
+    ∷ RootWord ∷ AsWord ∷ WholeWord ∷ WhyWord ∷ []
 
--- an option that may be cut; `--as` and `--whole` may not, so that `--a` is `--all` and `--w` is `--wait`, as with modprobe
+-- An option that may be cut. `--as`, `--whole` and `--why` may not, so that `--a` is `--all` and `--w` is `--wait`, as with
+-- modprobe.
 abbrev pub may_be_cut : LongOption → Bool
 may_be_cut AsWord = false
 may_be_cut WholeWord = false
+may_be_cut WhyWord = false
 may_be_cut option = true

@@ -1,5 +1,5 @@
 -- What the options of a command line wish for (modprobe(8)). `--showconfig` counts before all others, then
--- `--show-modversions` and `--show-exports`, then `--remove`, then `--resolve-alias`.
+-- `--show-modversions` and `--show-exports`, then `--remove`, then `--why`, then `--resolve-alias`.
 use Rattle.std.specs.Prelude.{Bool, not, if◌then◌else◌}
 use Rattle.modprobe_words.specs.declared.switches.Switches.{Switches}
 use Rattle.modprobe_words.specs.declared.wishes.Wish.{Wish}
@@ -7,9 +7,10 @@ use Rattle.modprobe_words.specs.declared.wishes.Wish.TheVariants as wish
 
 abbrev pub loads : Switches → Wish
 loads s =
-    if s.resolve then wish.Resolve
+    if s.why then wish.Why
+    else (if s.resolve then wish.Resolve
     else (if s.show_depends then wish.ShowDepends
-    else (if s.dry_run then wish.DryRun else wish.Load))
+    else (if s.dry_run then wish.DryRun else wish.Load)))
 
 -- a removal with neither `--dry-run` nor `--show-depends` is refused
 abbrev pub removes : Switches → Wish

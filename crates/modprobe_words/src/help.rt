@@ -15,6 +15,7 @@ pub(crate) const HELP: &str = "Usage:
   gz-modprobe -R [options] modulename
   gz-modprobe -R [options] -a modulename [modulename...]
   gz-modprobe -c [options]
+  gz-modprobe --why [options] modulename [modulename...]
 
 It answers what modprobe(8) of kmod 34 answers, and loads and removes nothing.
 
@@ -25,6 +26,7 @@ Queries:
   -c, --showconfig, --show-config
                               Print the configuration and the indexes
   -r, --remove                With -n: what a removal would do
+      --why                   Print what leads to a module: needs, lines, devices
 
 Options of queries:
   -a, --all                   Each word is the name of a module

@@ -1,4 +1,4 @@
-//! The options of modprobe(8), and four more: `--explain`, `--root`, `--as` and `--whole`.
+//! The options of modprobe(8), and five more: `--explain`, `--root`, `--as`, `--whole` and `--why`.
 ghost use Rattle.std.specs.Prelude.{◌≡◌};
 ghost use Rattle.modprobe_words.specs.Options.{kind_of, may_be_cut, meaning_of_letter, meaning_of, word_of};
 
@@ -27,6 +27,7 @@ pub enum Switch {
     Help,
     Explain,
     Whole,
+    Why,
 }
 
 /// An option with a value.
@@ -83,10 +84,11 @@ pub enum LongOption {
     RootWord,
     AsWord,
     WholeWord,
+    WhyWord,
 }
 
 /// The options by words, in the order of `modprobe --help`, and then those that modprobe has not.
-pub(crate) const LONG_OPTIONS: [LongOption; 33] = [
+pub(crate) const LONG_OPTIONS: [LongOption; 34] = [
     LongOption::AllWord,
     LongOption::RemoveWord,
     LongOption::RemoveDependenciesWord,
@@ -120,6 +122,7 @@ pub(crate) const LONG_OPTIONS: [LongOption; 33] = [
     LongOption::RootWord,
     LongOption::AsWord,
     LongOption::WholeWord,
+    LongOption::WhyWord,
 ];
 
 /// The option of a letter.
@@ -203,15 +206,19 @@ impl LongOption {
             LongOption::RootWord => b"root",
             LongOption::AsWord => b"as",
             LongOption::WholeWord => b"whole",
+            LongOption::WhyWord => b"why",
         }
     }
 
-    /// Whether a beginning of the word stands for it. `--as` and `--whole` are not cut, so that `--a` is `--all` and `--w` is
-    /// `--wait`, as with modprobe.
+    /// Whether a beginning of the word stands for it. `--as`, `--whole` and `--why` are not cut, so that `--a` is `--all` and
+    /// `--w` is `--wait`, as with modprobe.
     pub(crate) fn may_be_cut(self) -> bool
         ensures { result ≡ may_be_cut self }
     {
-        !matches!(self, LongOption::AsWord | LongOption::WholeWord)
+        !matches!(
+            self,
+            LongOption::AsWord | LongOption::WholeWord | LongOption::WhyWord
+        )
     }
 
     #[tactic(auto, unfolding(crate::specs::Options::meaning_of))]
@@ -255,6 +262,7 @@ impl LongOption {
             LongOption::RootWord => Meaning::WithValue(Valued::Root),
             LongOption::AsWord => Meaning::WithValue(Valued::As),
             LongOption::WholeWord => Meaning::Plain(Switch::Whole),
+            LongOption::WhyWord => Meaning::Plain(Switch::Why),
         }
     }
 }

@@ -22,6 +22,8 @@ pub struct Switches {
     pub explain: bool,
     /// A removal is shown as it would be made.
     pub whole: bool,
+    /// What leads to names is asked for.
+    pub why: bool,
     /// 4 at first.
     pub verbosity: u64,
 }
@@ -44,6 +46,7 @@ impl Switches {
             dry_run: false,
             explain: false,
             whole: false,
+            why: false,
             verbosity: 4,
         }
     }
@@ -69,6 +72,7 @@ impl Switches {
             Switch::Verbose => switches.verbosity = switches.verbosity.saturating_add(1),
             Switch::Explain => switches.explain = true,
             Switch::Whole => switches.whole = true,
+            Switch::Why => switches.why = true,
             Switch::Force
             | Switch::ForceModversion
             | Switch::ForceVermagic

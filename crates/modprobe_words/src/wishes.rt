@@ -15,6 +15,8 @@ pub enum Wish {
     Remove,
     /// `-r -D`: these lines, even if the modules are in use or not loaded.
     ShowRemoval,
+    /// `--why`: what leads to names.
+    Why,
     /// Refused: no name was given.
     NoName,
     /// Refused: what the file of a module has.
@@ -32,7 +34,9 @@ impl Switches {
     fn loads(self) -> Wish
         ensures { result ≡ loads self }
     {
-        if self.resolve {
+        if self.why {
+            Wish::Why
+        } else if self.resolve {
             Wish::Resolve
         } else if self.show_depends {
             Wish::ShowDepends

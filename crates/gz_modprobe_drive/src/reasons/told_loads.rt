@@ -10,8 +10,11 @@ use kmod_names::Text;
 use kmod_query::{Ask, install_line};
 use std::alloc::{AllocError, Global};
 
+/// What is said of a need of the module itself.
+pub(crate) const DIRECT: &[u8] = b", direct";
+
 /// How a module of these needs is needed: by the module itself, or through others of them.
-fn how_needed(
+pub(crate) fn how_needed(
     alloc: Global,
     index: &Index<'_>,
     needs: &[Text],
@@ -19,7 +22,7 @@ fn how_needed(
 ) -> Result<Vec<u8>, AllocError> {
     let through = index.nearest(alloc, needs, need)?;
     let Some((first, others)) = through.split_first() else {
-        return Vec::from_slice(alloc, b", direct");
+        return Vec::from_slice(alloc, DIRECT);
     };
     let mut how = Vec::from_slice(alloc, b" through ")?;
     how.extend_from_slice(first.as_bytes())?;

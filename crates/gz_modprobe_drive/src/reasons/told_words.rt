@@ -9,7 +9,7 @@ use std::alloc::AllocError;
 
 pub(crate) const DEPENDENCIES: &[u8] = b"modules.dep";
 
-const ALIASES: &[u8] = b"modules.alias";
+pub(crate) const ALIASES: &[u8] = b"modules.alias";
 
 const SYMBOLS: &[u8] = b"modules.symbols";
 

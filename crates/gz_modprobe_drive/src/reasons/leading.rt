@@ -1,0 +1,252 @@
+//! What leads to a module: who needs it, which lines have it, and which devices ask for it.
+ghost use Rattle.std.specs.Prelude.{◌≡◌, IfOk, true};
+ghost use Rattle.std.specs.List.{list_all};
+ghost use Rattle.gz_modprobe_drive.specs.Told.{is_shown};
+
+use crate::devices::Device;
+use crate::reasons::known::Known;
+use crate::reasons::named_lines::NamedLines;
+use crate::reasons::sources::Sources;
+use crate::reasons::told::{Spot, Told};
+use crate::reasons::told_loads::{DIRECT, how_needed};
+use crate::reasons::told_words::{ALIASES, DEPENDENCIES};
+use indexmap::IndexSet;
+use kmod_conf::{SoftdepLine, WeakdepLine};
+use kmod_index::DepLine;
+use kmod_names::{Place, Text, normal_alias};
+use kmod_query::{Asked, Query, World, find_name, install_line, remove_line};
+use std::alloc::{AllocError, Global};
+use text_parts::is_same;
+
+/// What leads to names, in lines for people.
+#[derive(Drop)]
+pub struct Leads {
+    pub lines: Vec<u8>,
+    /// Whether a name stands for no module.
+    pub is_missing: bool,
+}
+
+impl Told<'_> {
+    /// Tells a module that needs another one, if it does so in this way: itself, or through others.
+    fn tell_needing(
+        &mut self,
+        line: &DepLine<'_>,
+        name: &[u8],
+        is_direct: bool,
+    ) -> Result<(), AllocError> {
+        let asked = self.known.asked;
+        let needs = line.needed_names(self.alloc)?;
+        let how = how_needed(self.alloc, asked.world.index, &needs, name)?;
+        if is_same(&how, DIRECT) == is_direct {
+            let own = line.name(self.alloc)?;
+            let spot = Spot::Line(DEPENDENCIES, line.number());
+            self.say(own.as_bytes(), &[b"needs ", name, &how], spot);
+        }
+        Ok(())
+    }
+
+    /// Tells the modules that need a module: first those that need it themselves.
+    fn tell_all_needing(&mut self, name: &[u8]) -> Result<(), AllocError> {
+        let asked = self.known.asked;
+        let index = asked.world.index;
+        let lines = index.needing(self.alloc, name)?;
+        for line in &lines {
+            self.tell_needing(line, name, true)?;
+        }
+        for line in &lines {
+            self.tell_needing(line, name, false)?;
+        }
+        Ok(())
+    }
+
+    /// Whether a word stands for a module.
+    fn leads_to(&self, word: &[u8], name: &[u8]) -> Result<bool, AllocError> {
+        let asked = self.known.asked;
+        match normal_alias(self.alloc, word)? {
+            Some(own) => {
+                let own = own.as_bytes();
+                let finding = find_name(self.alloc, &asked.world, own)?;
+                let objects = finding.objects(self.alloc, own)?;
+                Ok(objects.iter().any(|object| is_same(&object.name, name)))
+            }
+            None => Ok(false),
+        }
+    }
+
+    /// Tells those words of a line that stand for a module.
+    fn tell_items(
+        &mut self,
+        name: &[u8],
+        what: &[u8],
+        of: &[u8],
+        words: &[Text],
+        place: Place,
+    ) -> Result<(), AllocError> {
+        for word in words {
+            if self.leads_to(word.as_bytes(), name)? {
+                self.say_of(word.as_bytes(), &[what, of], place);
+            }
+        }
+        Ok(())
+    }
+
+    /// Tells the words of a softdep line that stand for a module, if the line counts for its own name.
+    fn tell_softdep(&mut self, line: &SoftdepLine, name: &[u8]) -> Result<(), AllocError> {
+        let asked = self.known.asked;
+        let conf = asked.world.conf;
+        let own = line.name.as_bytes();
+        match conf.softdep_of(self.alloc, own)? {
+            Some(counting) if counting.place != line.place => return Ok(()),
+            _ => {}
+        }
+        let (items, place) = (&line.items, line.place);
+        self.tell_items(name, b"softdep before ", own, items.pre(), place)?;
+        self.tell_items(name, b"softdep after ", own, items.post(), place)
+    }
+
+    fn tell_weakdep(&mut self, line: &WeakdepLine, name: &[u8]) -> Result<(), AllocError> {
+        let own = line.name.as_bytes();
+        self.tell_items(name, b"weakdep of ", own, line.items.words(), line.place)
+    }
+
+    /// Tells the soft and weak dependencies that a module is.
+    fn tell_soft_leads(&mut self, name: &[u8]) -> Result<(), AllocError> {
+        let asked = self.known.asked;
+        let conf = asked.world.conf;
+        for line in conf.softdeps() {
+            self.tell_softdep(line, name)?;
+        }
+        for line in conf.weakdeps() {
+            self.tell_weakdep(line, name)?;
+        }
+        Ok(())
+    }
+
+    /// Tells the lines of the configuration that have the name of a module.
+    fn tell_own_lines(&mut self, name: &[u8]) -> Result<(), AllocError> {
+        let (asked, named) = (self.known.asked, self.known.named);
+        let conf = asked.world.conf;
+        for line in conf.aliases() {
+            if is_same(line.target.as_bytes(), name) {
+                let what: [&[u8]; 2] = [b"alias of ", name];
+                self.say_of(line.pattern.as_bytes(), &what, line.place);
+            }
+        }
+        self.tell_blacklist(name, b"");
+        self.tell_options(name, None)?;
+        let line = install_line(self.alloc, &asked.world, name, None)?;
+        self.tell_commands(name, b"install", line, &named.installs, b"");
+        let line = remove_line(self.alloc, &asked.world, name, None)?;
+        self.tell_commands(name, b"remove", line, &named.removes, b"");
+        Ok(())
+    }
+
+    /// Tells a device, if its alias stands for a module.
+    fn tell_device(&mut self, device: &Device, name: &[u8]) -> Result<(), AllocError> {
+        if !self.leads_to(&device.alias, name)? {
+            return Ok(());
+        }
+        let spot = Spot::Whole(&device.folder);
+        let what: [&[u8]; 3] = [b"alias of ", name, b" that a device has"];
+        self.say(&device.alias, &what, spot);
+        Ok(())
+    }
+
+    /// Tells the lines of modules.alias of a module.
+    fn tell_alias_lines(&mut self, name: &[u8]) -> Result<(), AllocError> {
+        let asked = self.known.asked;
+        let index = asked.world.index;
+        let lines = index.alias_lines(self.alloc)?;
+        for line in &lines {
+            if is_same(line.name(), name) {
+                let spot = Spot::Line(ALIASES, line.number());
+                self.say(line.key(), &[b"alias of ", name], spot);
+            }
+        }
+        Ok(())
+    }
+
+    /// Tells what leads to a module.
+    fn tell_leads(&mut self, name: &[u8], devices: &[Device]) -> Result<(), AllocError> {
+        self.tell_all_needing(name)?;
+        self.tell_soft_leads(name)?;
+        self.tell_own_lines(name)?;
+        for device in devices {
+            self.tell_device(device, name)?;
+        }
+        self.tell_alias_lines(name)
+    }
+
+    /// Tells what a name stands for, and what leads to that. Returns whether it stands for a module.
+    fn tell_lead_word(&mut self, word: &[u8], devices: &[Device]) -> Result<bool, AllocError> {
+        let found = self.tell_word(word)?;
+        let objects = found.as_deref().unwrap_or(&[]);
+        if objects.is_empty() {
+            self.tell_near(word)?;
+            return Ok(false);
+        }
+        let mut told: IndexSet<Vec<u8>> = IndexSet::new(self.alloc);
+        for object in objects {
+            if told.insert(object.name.clone()?)? {
+                self.tell_leads(&object.name, devices)?;
+            }
+        }
+        Ok(true)
+    }
+
+    fn tell_lead_words(&mut self, devices: &[Device]) -> Result<bool, AllocError> {
+        let asked = self.known.asked;
+        let mut is_missing = false;
+        for word in asked.query.words {
+            let found = self.tell_lead_word(word, devices)?;
+            is_missing = is_missing || !found;
+        }
+        Ok(is_missing)
+    }
+}
+
+/// What leads to the names of a query. `named` has no lines yet, as `explanation` has it.
+fn told_leads<'a>(
+    alloc: Global,
+    sources: &Sources<'a>,
+    asked: &Asked<'a>,
+    devices: &[Device],
+    named: &mut NamedLines<'a>,
+) -> Result<Leads, AllocError>
+    ensures { IfOk result (λ leads. list_all is_shown leads.lines.items ≡ true) }
+{
+    named.add(alloc, asked.world.conf, sources.builtin)?;
+    let known = Known {
+        asked,
+        named,
+        sources,
+        refused: b"",
+    };
+    let mut told = Told::new(alloc, &known);
+    let is_missing = told.tell_lead_words(devices)?;
+    Ok(Leads {
+        lines: told.into_lines()?,
+        is_missing,
+    })
+}
+
+/// What leads to the modules of names: the modules that need them, soft and weak dependencies, lines of the configuration,
+/// devices whose alias stands for them, and their lines of modules.alias. Lines are for people: control characters of names
+/// and texts are shown as question marks. It fails only if memory runs out.
+pub fn lead_lines(
+    alloc: Global,
+    sources: &Sources<'_>,
+    world: &World<'_>,
+    query: &Query<'_>,
+    devices: &[Device],
+) -> Result<Leads, AllocError>
+    ensures { IfOk result (λ leads. list_all is_shown leads.lines.items ≡ true) }
+{
+    let mut named = NamedLines::new(alloc);
+    let asked = Asked {
+        alloc,
+        world: *world,
+        query: *query,
+    };
+    told_leads(alloc, sources, &asked, devices, &mut named)
+}

@@ -1,0 +1,166 @@
+//! What leads to names, from the files of a machine.
+ghost use Rattle.std.specs.Prelude.{◌≡◌, ◌≤◌, IfOk, true};
+ghost use Rattle.std.specs.List.{list_all};
+ghost use Rattle.gz_modprobe_drive.specs.Leads.{WasTold};
+ghost use Rattle.gz_modprobe_drive.specs.Told.{is_shown};
+
+use crate::answering::{tell_bad_lines, tell_unwritten};
+use crate::configuration::conf_of;
+use crate::devices::{Device, read_devices};
+use crate::folder::index_of;
+use crate::reasons::{Leads, Sources, lead_lines};
+use crate::texts::world_of;
+use kmod_conf::Conf;
+use kmod_query::{Ask, Query, States};
+use modprobe_files::{
+    ConfTexts, Host, LaterTexts, ModuleTexts, System, directory, is_rootless, read_configuration,
+    read_later, read_modules,
+};
+use modprobe_words::{Asked, Messages, Written, write_whole};
+use std::alloc::{AllocError, Global};
+use std::io::Write;
+
+/// What is read of a machine to tell what leads to names.
+#[derive(Clone, Copy)]
+struct Known<'a> {
+    conf: &'a ConfTexts,
+    modules: &'a ModuleTexts,
+    later: &'a LaterTexts,
+    devices: &'a [Device],
+    /// The folder of modules, as it is printed.
+    directory: &'a [u8],
+}
+
+/// The names, and the aliases of devices: all that is looked up in any case.
+fn looked_up<'a>(
+    alloc: Global,
+    names: &[&'a [u8]],
+    devices: &'a [Device],
+) -> Result<Vec<&'a [u8]>, AllocError> {
+    let mut all = Vec::from_slice(alloc, names)?;
+    for device in devices {
+        all.push(device.alias.as_slice())?;
+    }
+    Ok(all)
+}
+
+/// The query that has these names, all of them.
+fn query_of<'a>(names: &'a [&'a [u8]]) -> Query<'a> {
+    Query {
+        ask: Ask::Resolve,
+        all: true,
+        use_blacklist: false,
+        ignore_commands: false,
+        first_time: false,
+        verbosity: 4,
+        words: names,
+    }
+}
+
+/// What leads to names, by what was read.
+fn leads_of(
+    alloc: Global,
+    known: &Known<'_>,
+    conf: &Conf,
+    names: &[&[u8]],
+) -> Result<Leads, AllocError>
+    ensures { IfOk result (λ leads. list_all is_shown leads.lines.items ≡ true) }
+{
+    let words = looked_up(alloc, names, known.devices)?;
+    let index = index_of(alloc, known.modules, known.later, &words)?;
+    let states = States::new(alloc);
+    let world = world_of(conf, &index, &states, known.directory, &[]);
+    let paths = known.conf.paths(alloc)?;
+    let sources = Sources {
+        paths: &paths,
+        files: &[],
+        command_line: b"",
+        hidden: &[],
+        unread: &[],
+        holders: &[],
+        whole: false,
+        builtin: &known.modules.builtin,
+    };
+    lead_lines(alloc, &sources, &world, &query_of(names), known.devices)
+}
+
+/// Writes what leads to names, and tells if it cannot be written. Returns the status.
+fn write_leads<O: Write, E: Write>(
+    leads: &Leads,
+    output: &mut O,
+    messages: &mut Messages<'_, E>,
+) -> u8
+    requires shown { list_all is_shown leads.now.lines.items ≡ true }
+    ensures status { result ≤ 1 }
+    ensures told { result ≡ 0 → WasTold (O.contents output.old) (O.contents output.new) }
+{
+    let written = write_whole(output, &leads.lines);
+    tell_unwritten(written, messages);
+    match written {
+        Written::Whole if !leads.is_missing => 0,
+        _ => 1,
+    }
+}
+
+/// Tells what leads to names, by what was read. Returns the status.
+fn tell_known<O: Write, E: Write>(
+    alloc: Global,
+    known: &Known<'_>,
+    names: &[&[u8]],
+    output: &mut O,
+    messages: &mut Messages<'_, E>,
+) -> Result<u8, AllocError>
+    ensures status { IfOk result (λ status. status ≤ 1) }
+    ensures told { IfOk result (λ status. status ≡ 0 → WasTold (O.contents output.old) (O.contents output.new)) }
+{
+    let conf = conf_of(alloc, known.conf)?;
+    tell_bad_lines(alloc, known.conf, &conf, messages)?;
+    let leads = leads_of(alloc, known, &conf, names)?;
+    Ok(write_leads(&leads, output, messages))
+}
+
+/// Reads what leads to names, and tells it. Returns the status.
+fn tell_in<S: System, O: Write, E: Write>(
+    host: &Host<'_, S>,
+    asked: &Asked<'_>,
+    directory: &[u8],
+    output: &mut O,
+    messages: &mut Messages<'_, E>,
+) -> Result<u8, AllocError>
+    ensures status { IfOk result (λ status. status ≤ 1) }
+    ensures told { IfOk result (λ status. status ≡ 0 → WasTold (O.contents output.old) (O.contents output.new)) }
+{
+    let named = asked.configurations.as_slice();
+    let conf = read_configuration(host, asked.kmod, directory, named, messages)?;
+    let modules = read_modules(host, directory, messages)?;
+    let later = read_later(host, directory, true, messages)?;
+    let devices = read_devices(host)?;
+    let known = Known {
+        conf: &conf,
+        modules: &modules,
+        later: &later,
+        devices: &devices,
+        directory,
+    };
+    tell_known(host.alloc(), &known, &asked.words, output, messages)
+}
+
+/// Tells what leads to the names that are asked for, on standard output. Returns the status: 0 if each stands for a module,
+/// and all was written.
+pub(crate) fn tell_why<S: System, O: Write, E: Write>(
+    host: &Host<'_, S>,
+    asked: &Asked<'_>,
+    output: &mut O,
+    messages: &mut Messages<'_, E>,
+) -> Result<u8, AllocError>
+    ensures status { IfOk result (λ status. status ≤ 1) }
+    ensures told { IfOk result (λ status. status ≡ 0 → WasTold (O.contents output.old) (O.contents output.new)) }
+{
+    if is_rootless(host, asked.root.unwrap_or(b""), messages)? {
+        return Ok(1);
+    }
+    match directory(host, asked, messages)? {
+        Some(directory) => tell_in(host, asked, &directory, output, messages),
+        None => Ok(1),
+    }
+}
