@@ -1,0 +1,245 @@
+-- What is noted of the lines of a configuration: that modprobe(8) ignores a line, or that it has no effect on this machine.
+use Rattle.std.specs.Prelude.{ℕ, Bool, true, false, not, if◌then◌else◌, ◌&&◌, ◌||◌, nat_lt, nat_eq, List, [], ◌∷◌, ◌++◌, codes, Option, Some, None, is_none, option_map}
+use Rattle.std.specs.List.{ends_with, filter_map, find, flat_map, list_any}
+use Rattle.std.specs.Option.{option_or, option_to_list}
+use Rattle.std.specs.Str.{bytes_eq}
+use Rattle.text_parts.specs.Text.{is_filled, words}
+use Rattle.kmod_names.specs.declared.place.Place.{Place}
+use Rattle.kmod_names.specs.Names.{normal_alias}
+use Rattle.kmod_conf.specs.declared.line.TextLine.{TextLine}
+use Rattle.kmod_conf.specs.declared.line.SoftdepLine.{SoftdepLine}
+use Rattle.kmod_conf.specs.Configuration.{Configuration}
+use Rattle.kmod_conf.specs.LookUps.{install_named, install_of, remove_named, remove_of, softdep_of}
+use Rattle.kmod_index.specs.Builtins.{is_among}
+use Rattle.kmod_index.specs.Indexes.{Indexes}
+use Rattle.machine_lint.specs.declared.judge.Judge.{Judge}
+use Rattle.machine_lint.specs.declared.known.Known.{Known}
+use Rattle.machine_lint.specs.declared.known.Origin.{Origin}
+use Rattle.machine_lint.specs.declared.note.Note.{Note}
+use Rattle.machine_lint.specs.declared.note.NoteKind.{NoteKind}
+use Rattle.machine_lint.specs.declared.note.NoteKind.TheVariants.{BadLine, BuiltIn, CarriageReturn, Later, OwnItem, Pattern, Repeated, RingItem, Stopped, Unknown, UnknownItem, UnknownModule}
+use Rattle.machine_lint.specs.declared.setting.Setting.{Setting}
+use Rattle.machine_lint.specs.declared.setting.Setting.TheVariants as sets
+use Rattle.machine_lint.specs.Lines.{Said, is_depmod, is_kernel, is_package, is_same_place, lines_of, origin_at}
+use Rattle.machine_lint.specs.Names.{has_file, has_pattern, is_loadable, is_named, is_used}
+
+-- what is known of a machine, and all lines of its configuration
+pub record Facts : Type 0 where
+  pub conf : Configuration
+  pub index : Indexes
+  pub lines : List Said
+
+abbrev pub facts_by : Judge → Facts
+facts_by judge = record { conf = judge.conf.now; index = judge.index.now; lines = judge.lines.now }
+
+abbrev pub facts_of : Known → Facts
+facts_of known = record { conf = known.conf.now; index = known.index.now; lines = lines_of known.conf.now }
+
+-- A carriage return counts as the last byte of a line's last word. White space divides the items of softdep and weakdep
+-- lines, which have no text here.
+abbrev pub ends_with_cr : Said → Bool
+ends_with_cr line = ends_with nat_eq (if is_filled line.text then line.text else line.name) (13 ∷ [])
+
+abbrev pub is_true_or_false : List ℕ → Bool
+is_true_or_false word =
+    bytes_eq word (codes "true") || bytes_eq word (codes "/bin/true") || bytes_eq word (codes "/usr/bin/true")
+    || bytes_eq word (codes "false") || bytes_eq word (codes "/bin/false") || bytes_eq word (codes "/usr/bin/false")
+
+-- a command of one word that loads nothing
+abbrev pub is_idle : List (List ℕ) → Bool
+is_idle (word ∷ []) = is_true_or_false word
+is_idle _ = false
+
+-- whether a command is `true` or `false` alone, by which modules are kept out
+abbrev pub does_nothing : List ℕ → Bool
+does_nothing command = is_idle (words command)
+
+-- why a name that leads to nothing has no effect: its module is in the kernel, or it is a pattern, which stands for itself here
+abbrev pub why_absent : Indexes → List ℕ → NoteKind
+why_absent index name =
+    if is_among index.builtin_names name then BuiltIn else (if has_pattern name then Pattern else Unknown)
+
+abbrev pub unless : Bool → NoteKind → Option NoteKind
+unless is_said kind = if is_said then None else Some kind
+
+-- of a name that leads neither to a module's file nor to an alias nor to a command
+abbrev pub absent : Facts → List ℕ → Option NoteKind
+absent facts name = unless (is_used facts.conf facts.index name) (why_absent facts.index name)
+
+-- numbers of settings
+abbrev pub number_of : Setting → ℕ
+number_of sets.Alias = 0
+number_of sets.Blacklist = 1
+number_of sets.Options = 2
+number_of sets.Install = 3
+number_of sets.Remove = 4
+number_of sets.Softdep = 5
+number_of sets.Weakdep = 6
+number_of sets.Bad = 7
+
+abbrev pub is_softdep : Setting → Bool
+is_softdep sets.Softdep = true
+is_softdep _ = false
+
+-- the same line stands before in the same file
+abbrev pub is_repeat_of : Said → Said → Bool
+is_repeat_of line other =
+    nat_eq (number_of other.setting) (number_of line.setting) && nat_eq other.place.source line.place.source
+    && nat_lt other.place.line line.place.line && bytes_eq other.name line.name && bytes_eq other.text line.text
+
+abbrev pub repeated : Facts → Said → Option NoteKind
+repeated facts line = option_map (λ first. Repeated first.place) (find (is_repeat_of line) facts.lines)
+
+-- another line counts in place of one
+abbrev pub unless_here : Place → Place → Option NoteKind
+unless_here here counting = if is_same_place here counting then None else Some (Later counting)
+
+abbrev pub later : Place → Option TextLine → Option NoteKind
+later here None = None
+later here (Some counting) = unless_here here counting.place
+
+-- the softdep line that counts for a name is the first that matches it; a pattern may match names that no earlier one matches
+abbrev pub later_softdep : Place → Option SoftdepLine → Option NoteKind
+later_softdep here None = None
+later_softdep here (Some counting) = unless_here here counting.place
+
+-- The command that counts for a name is that of the first line that matches, if modules.dep has a module of the name. Other
+-- names are found by the first line of just this name.
+abbrev pub counting_install : Facts → List ℕ → Option TextLine
+counting_install facts name = if has_file facts.index name then install_of facts.conf name else install_named facts.conf name
+
+abbrev pub counting_remove : Facts → List ℕ → Option TextLine
+counting_remove facts name = if has_file facts.index name then remove_of facts.conf name else remove_named facts.conf name
+
+-- a command that does nothing keeps no module out that is not there
+abbrev pub keeps_nothing : Facts → Said → Option NoteKind
+keeps_nothing facts line =
+    unless (is_named facts.conf facts.index line.name || has_pattern line.name || not (does_nothing line.text))
+    (why_absent facts.index line.name)
+
+-- options of a module whose install command does nothing; with soft dependencies an install line does not count
+abbrev pub stopped_by : Option TextLine → Option NoteKind
+stopped_by None = None
+stopped_by (Some install) = if does_nothing install.text then Some (Stopped install.place) else None
+
+abbrev pub stopped : Facts → Said → Option NoteKind
+stopped facts line =
+    if has_file facts.index line.name && is_none (softdep_of facts.conf line.name)
+    then stopped_by (install_of facts.conf line.name) else None
+
+-- an alias leads to a module, or to `off`, which switches it off; it does not lead to another alias
+abbrev pub alias_kind : Facts → Said → Option NoteKind
+alias_kind facts line =
+    if bytes_eq line.text (codes "off") || is_loadable facts.conf facts.index line.text then repeated facts line
+    else Some (UnknownModule line.text)
+
+abbrev pub blacklist_kind : Facts → Said → Option NoteKind
+blacklist_kind facts line = option_or (absent facts line.name) (repeated facts line)
+
+-- the kernel itself reads its command line, for parts of it that no text names
+abbrev pub used_options_kind : Facts → Said → Option NoteKind
+used_options_kind facts line = option_or (stopped facts line) (repeated facts line)
+
+abbrev pub options_kind : Facts → Origin → Said → Option NoteKind
+options_kind facts origin line =
+    option_or (if is_kernel origin then None else absent facts line.name) (used_options_kind facts line)
+
+abbrev pub install_kind : Facts → Said → Option NoteKind
+install_kind facts line = option_or (later line.place (counting_install facts line.name)) (keeps_nothing facts line)
+
+abbrev pub remove_kind : Facts → Said → Option NoteKind
+remove_kind facts line = option_or (later line.place (counting_remove facts line.name)) (keeps_nothing facts line)
+
+abbrev pub weakdep_kind : Facts → Said → Option NoteKind
+weakdep_kind facts line = if has_pattern line.name then None else absent facts line.name
+
+abbrev pub softdep_kind : Facts → Said → Option NoteKind
+softdep_kind facts line =
+    if has_pattern line.name then None
+    else option_or (later_softdep line.place (softdep_of facts.conf line.name)) (absent facts line.name)
+
+-- by what a line sets
+abbrev pub setting_kind : Facts → Origin → Setting → Said → Option NoteKind
+setting_kind facts origin sets.Alias line = alias_kind facts line
+setting_kind facts origin sets.Blacklist line = blacklist_kind facts line
+setting_kind facts origin sets.Options line = options_kind facts origin line
+setting_kind facts origin sets.Install line = install_kind facts line
+setting_kind facts origin sets.Remove line = remove_kind facts line
+setting_kind facts origin sets.Softdep line = softdep_kind facts line
+setting_kind facts origin sets.Weakdep line = weakdep_kind facts line
+setting_kind facts origin sets.Bad line = Some BadLine
+
+-- what is noted of a line itself
+abbrev pub kind_of : Facts → Origin → Said → Option NoteKind
+kind_of facts origin line =
+    if ends_with_cr line then Some CarriageReturn else setting_kind facts origin line.setting line
+
+abbrev pub is_this : List ℕ → Option (List ℕ) → Bool
+is_this name None = false
+is_this name (Some own) = bytes_eq own name
+
+-- an item is this name
+abbrev pub is_form_of : List ℕ → List ℕ → Bool
+is_form_of name item = is_this name (normal_alias item)
+
+abbrev pub has_item : List ℕ → Option SoftdepLine → Bool
+has_item name None = false
+has_item name (Some line) = list_any (is_form_of name) line.items.pre || list_any (is_form_of name) line.items.post
+
+-- the softdep line that counts for an item names the module that has the item: a ring, in which kmod loses itself
+abbrev pub names_back : Facts → Said → List ℕ → Bool
+names_back facts line own = is_softdep line.setting && has_item line.name (softdep_of facts.conf own)
+
+-- of an item to which no look-up finds anything
+abbrev pub absent_item : Facts → List ℕ → List ℕ → Option NoteKind
+absent_item facts item own =
+    unless (is_used facts.conf facts.index own || is_among facts.index.builtin_names own) (UnknownItem item)
+
+-- an item of a softdep or weakdep line that is the line's own module, that names it back, or that no look-up finds
+abbrev pub item_by : Facts → Said → List ℕ → Option (List ℕ) → Option NoteKind
+item_by facts line item None = Some (UnknownItem item)
+item_by facts line item (Some own) =
+    if bytes_eq own line.name then Some OwnItem
+    else (if names_back facts line own then Some (RingItem item)
+    else absent_item facts item own)
+
+abbrev pub item_kind : Facts → Said → List ℕ → Option NoteKind
+item_kind facts line item = item_by facts line item (normal_alias item)
+
+abbrev pub note_with : Said → NoteKind → Note
+note_with line kind = record { place = line.place; setting = line.setting; name = line.name; kind = kind }
+
+-- that no such module is there, or that it is in the kernel: another kernel may have it as a module
+abbrev pub is_absence : NoteKind → Bool
+is_absence Unknown = true
+is_absence BuiltIn = true
+is_absence (UnknownModule name) = true
+is_absence (UnknownItem item) = true
+is_absence _ = false
+
+-- a package has lines for whichever kernel is there
+abbrev pub due : Origin → Option NoteKind → Option NoteKind
+due origin None = None
+due origin (Some kind) = if is_package origin && is_absence kind then None else Some kind
+
+abbrev pub note_of : Facts → Origin → Said → Option Note
+note_of facts origin line = option_map (note_with line) (due origin (kind_of facts origin line))
+
+abbrev pub item_note : Facts → Origin → Said → List ℕ → Option Note
+item_note facts origin line item = option_map (note_with line) (due origin (item_kind facts line item))
+
+abbrev pub own_notes : Facts → Origin → Said → List Note
+own_notes facts origin line =
+    option_to_list (note_of facts origin line) ++ filter_map (item_note facts origin line) line.items
+
+-- nobody edits what depmod(8) writes
+abbrev pub notes_by : Facts → Origin → Said → List Note
+notes_by facts origin line = if is_depmod origin then [] else own_notes facts origin line
+
+-- what is noted of a line, by who wrote it
+abbrev pub line_notes : List Origin → Facts → Said → List Note
+line_notes files facts line = notes_by facts (origin_at files line.place.source) line
+
+-- all notes of a machine's configuration
+unfoldable pub notes_of : Known → List Note
+notes_of known = flat_map (line_notes known.files.now (facts_of known)) (lines_of known.conf.now)

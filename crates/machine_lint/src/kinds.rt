@@ -1,0 +1,272 @@
+//! What is noted of a line.
+ghost use Rattle.std.specs.Prelude.{◌≡◌, IfOk, option_copied};
+ghost use Rattle.machine_lint.specs.Notes.{absent, alias_kind, blacklist_kind, counting_install, counting_remove, facts_by};
+ghost use Rattle.machine_lint.specs.Notes.{install_kind, keeps_nothing, kind_of, later, later_softdep, options_kind};
+ghost use Rattle.machine_lint.specs.Notes.{remove_kind, repeated, setting_kind, softdep_kind, stopped, stopped_by, unless_here, used_options_kind, weakdep_kind, why_absent};
+
+use crate::judge::Judge;
+use crate::known::Origin;
+use crate::line::Line;
+use crate::note::NoteKind;
+use crate::repeats::first_same;
+use crate::setting::Setting;
+use crate::words::{does_nothing, ends_with_cr, has_pattern};
+use kmod_conf::{SoftdepLine, TextLine};
+use kmod_names::{Place, Text};
+use std::alloc::{AllocError, Global};
+use text_parts::is_same;
+
+/// That another line counts, unless it is this one.
+fn unless_here(here: Place, counting: Place) -> Option<NoteKind>
+    ensures { result ≡ unless_here here counting }
+{
+    if here.source == counting.source && here.line == counting.line {
+        None
+    } else {
+        Some(NoteKind::Later(counting))
+    }
+}
+
+/// That another line counts for the name.
+fn later(here: Place, counting: Option<&TextLine>) -> Option<NoteKind>
+    ensures { result ≡ later here (option_copied counting.entry) }
+{
+    match counting {
+        Some(counting) => unless_here(here, counting.place),
+        None => None,
+    }
+}
+
+/// That another softdep line counts for the name.
+fn later_softdep(here: Place, counting: Option<&SoftdepLine>) -> Option<NoteKind>
+    ensures { result ≡ later_softdep here (option_copied counting.entry) }
+{
+    match counting {
+        Some(counting) => unless_here(here, counting.place),
+        None => None,
+    }
+}
+
+/// That an install line stops the module, if its command does nothing.
+fn stopped_by(alloc: Global, install: Option<&TextLine>) -> Result<Option<NoteKind>, AllocError>
+    ensures { IfOk result (λ kind. kind ≡ stopped_by (option_copied install.entry)) }
+{
+    let Some(install) = install else {
+        return Ok(None);
+    };
+    if does_nothing(alloc, install.text.as_bytes())? {
+        Ok(Some(NoteKind::Stopped(install.place)))
+    } else {
+        Ok(None)
+    }
+}
+
+impl Judge<'_> {
+    /// Why a name that leads to nothing has no effect.
+    fn why_absent(&self, name: &[u8]) -> NoteKind
+        ensures { result ≡ why_absent self.now.index.now name.now }
+    {
+        if self.is_builtin(name) {
+            NoteKind::BuiltIn
+        } else if has_pattern(name) {
+            NoteKind::Pattern
+        } else {
+            NoteKind::Unknown
+        }
+    }
+
+    /// Of a name that leads to nothing.
+    fn absent(&self, alloc: Global, name: &[u8]) -> Result<Option<NoteKind>, AllocError>
+        ensures { IfOk result (λ kind. kind ≡ absent (facts_by self.now) name.now) }
+    {
+        if self.is_used(alloc, name)? {
+            Ok(None)
+        } else {
+            Ok(Some(self.why_absent(name)))
+        }
+    }
+
+    /// That the same line stands before in the same file.
+    fn repeated(&self, line: &Line) -> Option<NoteKind>
+        ensures { result ≡ repeated (facts_by self.now) line.now }
+    {
+        match first_same(self.lines, line) {
+            Some(first) => Some(NoteKind::Repeated(first.place())),
+            None => None,
+        }
+    }
+
+    /// The install line that counts for a name.
+    fn counting_install(&self, alloc: Global, name: &[u8]) -> Result<Option<&TextLine>, AllocError>
+        ensures { IfOk result (λ line. option_copied line ≡ counting_install (facts_by self.now) name.now) }
+    {
+        if self.has_file(name) {
+            self.conf.install_of(alloc, name)
+        } else {
+            Ok(self.conf.install_named(name))
+        }
+    }
+
+    /// The remove line that counts for a name.
+    fn counting_remove(&self, alloc: Global, name: &[u8]) -> Result<Option<&TextLine>, AllocError>
+        ensures { IfOk result (λ line. option_copied line ≡ counting_remove (facts_by self.now) name.now) }
+    {
+        if self.has_file(name) {
+            self.conf.remove_of(alloc, name)
+        } else {
+            Ok(self.conf.remove_named(name))
+        }
+    }
+
+    /// That a command which does nothing keeps no module out.
+    fn keeps_nothing(&self, alloc: Global, line: &Line) -> Result<Option<NoteKind>, AllocError>
+        ensures { IfOk result (λ kind. kind ≡ keeps_nothing (facts_by self.now) line.now) }
+    {
+        let is_named = self.is_named(alloc, line.name())?;
+        let is_idle = does_nothing(alloc, line.text())?;
+        if is_named || has_pattern(line.name()) || !is_idle {
+            Ok(None)
+        } else {
+            Ok(Some(self.why_absent(line.name())))
+        }
+    }
+
+    /// That an install command keeps options from being used.
+    fn stopped(&self, alloc: Global, line: &Line) -> Result<Option<NoteKind>, AllocError>
+        ensures { IfOk result (λ kind. kind ≡ stopped (facts_by self.now) line.now) }
+    {
+        let softdep = self.conf.softdep_of(alloc, line.name())?;
+        let install = self.conf.install_of(alloc, line.name())?;
+        if self.has_file(line.name()) && softdep.is_none() {
+            stopped_by(alloc, install)
+        } else {
+            Ok(None)
+        }
+    }
+
+    fn alias_kind(&self, alloc: Global, line: &Line) -> Result<Option<NoteKind>, AllocError>
+        ensures { IfOk result (λ kind. kind ≡ alias_kind (facts_by self.now) line.now) }
+    {
+        let is_loadable = self.is_loadable(alloc, line.text())?;
+        if is_same(line.text(), b"off") || is_loadable {
+            Ok(self.repeated(line))
+        } else {
+            Ok(Some(NoteKind::UnknownModule(Text::new(alloc, line.text())?)))
+        }
+    }
+
+    fn blacklist_kind(&self, alloc: Global, line: &Line) -> Result<Option<NoteKind>, AllocError>
+        ensures { IfOk result (λ kind. kind ≡ blacklist_kind (facts_by self.now) line.now) }
+    {
+        match self.absent(alloc, line.name())? {
+            Some(kind) => Ok(Some(kind)),
+            None => Ok(self.repeated(line)),
+        }
+    }
+
+    fn used_options_kind(&self, alloc: Global, line: &Line) -> Result<Option<NoteKind>, AllocError>
+        ensures { IfOk result (λ kind. kind ≡ used_options_kind (facts_by self.now) line.now) }
+    {
+        match self.stopped(alloc, line)? {
+            Some(kind) => Ok(Some(kind)),
+            None => Ok(self.repeated(line)),
+        }
+    }
+
+    fn options_kind(
+        &self,
+        alloc: Global,
+        origin: Origin,
+        line: &Line,
+    ) -> Result<Option<NoteKind>, AllocError>
+        ensures { IfOk result (λ kind. kind ≡ options_kind (facts_by self.now) origin line.now) }
+    {
+        if origin.is_kernel() {
+            return self.used_options_kind(alloc, line);
+        }
+        match self.absent(alloc, line.name())? {
+            Some(kind) => Ok(Some(kind)),
+            None => self.used_options_kind(alloc, line),
+        }
+    }
+
+    fn install_kind(&self, alloc: Global, line: &Line) -> Result<Option<NoteKind>, AllocError>
+        ensures { IfOk result (λ kind. kind ≡ install_kind (facts_by self.now) line.now) }
+    {
+        let counting = self.counting_install(alloc, line.name())?;
+        match later(line.place(), counting) {
+            Some(kind) => Ok(Some(kind)),
+            None => self.keeps_nothing(alloc, line),
+        }
+    }
+
+    fn remove_kind(&self, alloc: Global, line: &Line) -> Result<Option<NoteKind>, AllocError>
+        ensures { IfOk result (λ kind. kind ≡ remove_kind (facts_by self.now) line.now) }
+    {
+        let counting = self.counting_remove(alloc, line.name())?;
+        match later(line.place(), counting) {
+            Some(kind) => Ok(Some(kind)),
+            None => self.keeps_nothing(alloc, line),
+        }
+    }
+
+    fn softdep_kind(&self, alloc: Global, line: &Line) -> Result<Option<NoteKind>, AllocError>
+        ensures { IfOk result (λ kind. kind ≡ softdep_kind (facts_by self.now) line.now) }
+    {
+        if has_pattern(line.name()) {
+            return Ok(None);
+        }
+        let counting = self.conf.softdep_of(alloc, line.name())?;
+        match later_softdep(line.place(), counting) {
+            Some(kind) => Ok(Some(kind)),
+            None => self.absent(alloc, line.name()),
+        }
+    }
+
+    fn weakdep_kind(&self, alloc: Global, line: &Line) -> Result<Option<NoteKind>, AllocError>
+        ensures { IfOk result (λ kind. kind ≡ weakdep_kind (facts_by self.now) line.now) }
+    {
+        if has_pattern(line.name()) {
+            Ok(None)
+        } else {
+            self.absent(alloc, line.name())
+        }
+    }
+
+    /// By what a line sets.
+    fn setting_kind(
+        &self,
+        alloc: Global,
+        origin: Origin,
+        line: &Line,
+    ) -> Result<Option<NoteKind>, AllocError>
+        ensures { IfOk result (λ kind. kind ≡ setting_kind (facts_by self.now) origin line.now.setting line.now) }
+    {
+        match line.setting() {
+            Setting::Alias => self.alias_kind(alloc, line),
+            Setting::Blacklist => self.blacklist_kind(alloc, line),
+            Setting::Options => self.options_kind(alloc, origin, line),
+            Setting::Install => self.install_kind(alloc, line),
+            Setting::Remove => self.remove_kind(alloc, line),
+            Setting::Softdep => self.softdep_kind(alloc, line),
+            Setting::Weakdep => self.weakdep_kind(alloc, line),
+            Setting::Bad => Ok(Some(NoteKind::BadLine)),
+        }
+    }
+
+    /// What is noted of a line itself.
+    pub(crate) fn kind_of(
+        &self,
+        alloc: Global,
+        origin: Origin,
+        line: &Line,
+    ) -> Result<Option<NoteKind>, AllocError>
+        ensures { IfOk result (λ kind. kind ≡ kind_of (facts_by self.now) origin line.now) }
+    {
+        if ends_with_cr(line) {
+            Ok(Some(NoteKind::CarriageReturn))
+        } else {
+            self.setting_kind(alloc, origin, line)
+        }
+    }
+}

@@ -1,0 +1,21 @@
+//! Which lines of a machine's own configuration have no effect on it.
+#![tactic(auto)]
+
+mod items;
+mod judge;
+mod kinds;
+mod known;
+pub mod laws;
+mod line;
+mod lines;
+mod names;
+mod note;
+mod notes;
+mod repeats;
+mod setting;
+mod words;
+
+pub use known::{Known, Origin};
+pub use note::{Note, NoteKind};
+pub use notes::lint;
+pub use setting::Setting;

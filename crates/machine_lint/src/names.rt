@@ -1,0 +1,80 @@
+//! What names stand for.
+ghost use Rattle.std.specs.Prelude.{◌≡◌, IfOk};
+ghost use Rattle.kmod_index.specs.Builtins.{is_among};
+ghost use Rattle.machine_lint.specs.Names.{has_file, is_alias, is_commanded, is_alias_pattern, is_loadable, is_named, is_used};
+
+use crate::judge::Judge;
+use std::alloc::{AllocError, Global};
+use text_parts::is_same;
+
+impl Judge<'_> {
+    /// Whether modules.dep has a module of the name.
+    pub(crate) fn has_file(&self, name: &[u8]) -> bool
+        ensures { result ≡ has_file self.now.index.now name.now }
+    {
+        self.index.find(name).is_some()
+    }
+
+    /// Whether a module of the name is in the kernel.
+    pub(crate) fn is_builtin(&self, name: &[u8]) -> bool
+        ensures { result ≡ is_among self.now.index.now.builtin_names name.now }
+    {
+        self.index.is_builtin(name)
+    }
+
+    /// Whether an alias matches the name, or a symbol is this name.
+    fn is_alias(&self, alloc: Global, name: &[u8]) -> Result<bool, AllocError>
+        ensures { IfOk result (λ is. is ≡ is_alias self.now.conf.now self.now.index.now name.now) }
+    {
+        let own = self.conf.matching_aliases(alloc, name)?;
+        let found = self.index.matching_aliases(alloc, name)?;
+        let built_in = self.index.builtin_aliases(alloc, name)?;
+        let symbols = self.index.symbols_of_key(alloc, name)?;
+        Ok(own.len() > 0 || found.len() > 0 || built_in.len() > 0 || symbols.len() > 0)
+    }
+
+    /// Whether an alias line of the configuration has this very name for its pattern.
+    fn is_alias_pattern(&self, name: &[u8]) -> bool
+        ensures { result ≡ is_alias_pattern self.now.conf.now name.now }
+    {
+        let lines = self.conf.aliases();
+        lines
+            .iter()
+            .any(|line| is_same(line.pattern.as_bytes(), name))
+    }
+
+    /// Whether an install or a remove line has this very name, or matches it.
+    fn is_commanded(&self, alloc: Global, name: &[u8]) -> Result<bool, AllocError>
+        ensures { IfOk result (λ is. is ≡ is_commanded self.now.conf.now name.now) }
+    {
+        let install = self.conf.install_of(alloc, name)?;
+        let remove = self.conf.remove_of(alloc, name)?;
+        let has_line = self.conf.has_install_named(name) || self.conf.has_remove_named(name);
+        Ok(has_line || install.is_some() || remove.is_some())
+    }
+
+    /// Whether the name leads to a file of a module, or is an alias.
+    pub(crate) fn is_named(&self, alloc: Global, name: &[u8]) -> Result<bool, AllocError>
+        ensures { IfOk result (λ is. is ≡ is_named self.now.conf.now self.now.index.now name.now) }
+    {
+        let is_alias = self.is_alias(alloc, name)?;
+        Ok(self.has_file(name) || is_alias || self.is_alias_pattern(name))
+    }
+
+    /// Whether it does, or a command is run for the name.
+    pub(crate) fn is_used(&self, alloc: Global, name: &[u8]) -> Result<bool, AllocError>
+        ensures { IfOk result (λ is. is ≡ is_used self.now.conf.now self.now.index.now name.now) }
+    {
+        let is_commanded = self.is_commanded(alloc, name)?;
+        let is_named = self.is_named(alloc, name)?;
+        Ok(is_named || is_commanded)
+    }
+
+    /// Whether a module is loaded, or a command run, by the name.
+    pub(crate) fn is_loadable(&self, alloc: Global, name: &[u8]) -> Result<bool, AllocError>
+        ensures { IfOk result (λ is. is ≡ is_loadable self.now.conf.now self.now.index.now name.now) }
+    {
+        let is_commanded = self.is_commanded(alloc, name)?;
+        Ok(self.has_file(name) || self.is_builtin(name) || is_commanded)
+    }
+}

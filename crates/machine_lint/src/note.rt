@@ -1,0 +1,60 @@
+//! What is noted of a line.
+ghost use Rattle.std.specs.Prelude.{◌≡◌};
+ghost use Rattle.machine_lint.specs.Notes.{is_absence};
+
+use crate::setting::Setting;
+use kmod_names::{Place, Text};
+
+/// Why a line has no effect, or not the one that it seems to have.
+#[derive(Drop)]
+pub enum NoteKind {
+    /// No kmod reads the line: its first word is unknown, or words are missing.
+    BadLine,
+    /// A carriage return ends the line, and counts as a part of its last word.
+    CarriageReturn,
+    /// No module has the name, no alias matches it, and no command is run for it.
+    Unknown,
+    /// The same, and the name is written as a pattern, which stands for itself here.
+    Pattern,
+    /// The name is that of a module in the kernel, which modprobe(8) does not load.
+    BuiltIn,
+    /// The alias leads to this name, and no module has it.
+    UnknownModule(Text),
+    /// Nothing answers to this item.
+    UnknownItem(Text),
+    /// An item is the line's own module.
+    OwnItem,
+    /// The softdep line of this item names the line's own module: a ring, in which kmod loses itself.
+    RingItem(Text),
+    /// The line at this place counts for the name.
+    Later(Place),
+    /// The same line stands at this place of the same file.
+    Repeated(Place),
+    /// The install line at this place runs `true` or `false` in place of a load.
+    Stopped(Place),
+}
+
+impl NoteKind {
+    /// Whether it is that no such module is there, or that it is in the kernel: another kernel may have it as a module.
+    pub(crate) fn is_absence(&self) -> bool
+        ensures { result ≡ is_absence self.now }
+    {
+        matches!(
+            self,
+            NoteKind::Unknown
+                | NoteKind::BuiltIn
+                | NoteKind::UnknownModule(_)
+                | NoteKind::UnknownItem(_)
+        )
+    }
+}
+
+/// A note of a line: where it stands, what it sets, its name in normal form, and what is noted. Of a bad line the name is its
+/// first word, and the place that of its end.
+#[derive(Drop)]
+pub struct Note {
+    pub place: Place,
+    pub setting: Setting,
+    pub name: Text,
+    pub kind: NoteKind,
+}
