@@ -1,2 +1,3 @@
 pub mod AnswerLemmas
 pub mod EndLemmas
+pub mod LintLemmas

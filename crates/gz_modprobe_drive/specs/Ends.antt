@@ -6,6 +6,7 @@ use Rattle.kmod_query.specs.Answers.{Answer}
 use Rattle.kmod_query.specs.declared.query.Query.{Query}
 use Rattle.kmod_query.specs.declared.taken.Holders.{Holders}
 use Rattle.modprobe_files.specs.declared.texts.ConfTexts.{ConfTexts}
+use Rattle.modprobe_words.specs.declared.wishes.Wish.{Wish}
 use Rattle.modprobe_words.specs.Asked.{Asked, asked_by}
 use Rattle.modprobe_words.specs.Endings.{Ending, IsEnded, first_ending}
 use Rattle.modprobe_words.specs.Variable.{words_of}
@@ -14,7 +15,8 @@ use Rattle.modprobe_words.specs.Words.{items}
 use Rattle.gz_modprobe_drive.specs.Answered.{IsAnswer, Known}
 use Rattle.gz_modprobe_drive.specs.Paths.{paths_of, words_of as path_words}
 use Rattle.gz_modprobe_drive.specs.Leads.{WasTold}
-use Rattle.gz_modprobe_drive.specs.Queries.{IsQueryOf, is_why}
+use Rattle.gz_modprobe_drive.specs.Linted.{WasLinted}
+use Rattle.gz_modprobe_drive.specs.Queries.{IsQueryOf, is_lint, is_why}
 use Rattle.gz_modprobe_drive.specs.Texts.{conf_of}
 
 -- the words of a run: those of MODPROBE_OPTIONS, and then those of the command line (modprobe(8))
@@ -40,19 +42,25 @@ pub record WasAnswered (kmod : Kmod) (whole : Bool) (query : Query) (before afte
   pub well : answer.failed ≡ false
   pub written : Appends before after answer.output
 
+-- what a command line wishes for
+abbrev pub wish_by : Asked → Wish
+wish_by asked = wish_of asked.switches (nat_lt 0 (length asked.words))
+
 -- what is asked for is a query, and it was answered well
 pub record WereAnswered (asked : Asked) (before after : Option (List ℕ)) : Type 0 where
   pub query : Query
-  pub asks : IsQueryOf (wish_of asked.switches (nat_lt 0 (length asked.words))) asked.switches asked.words query
+  pub asks : IsQueryOf (wish_by asked) asked.switches asked.words query
   pub answered : WasAnswered asked.kmod asked.switches.whole query before after
 
--- what leads to names ends well if lines of it were written, and a query if it was answered well
-abbrev pub EndsWell : Bool → Asked → Option (List ℕ) → Option (List ℕ) → Type 0
-EndsWell true asked before after = WasTold before after
-EndsWell false asked before after = WereAnswered asked before after
+-- A lint ends well if nothing was noted, what leads to names if lines of it were written, and a query if it was answered
+-- well.
+abbrev pub EndsWell : Bool → Bool → Asked → Option (List ℕ) → Option (List ℕ) → Type 0
+EndsWell true why asked before after = WasLinted asked.kmod before after
+EndsWell false true asked before after = WasTold before after
+EndsWell false false asked before after = WereAnswered asked before after
 
 abbrev pub IsDone : Asked → Option (List ℕ) → Option (List ℕ) → Type 0
-IsDone asked before after = EndsWell (is_why (wish_of asked.switches (nat_lt 0 (length asked.words)))) asked before after
+IsDone asked before after = EndsWell (is_lint (wish_by asked)) (is_why (wish_by asked)) asked before after
 
 -- words that ask for an end before a query end so; other ones end with 0 only if what they ask for ended well
 abbrev pub IsEndBy : Option Ending → Asked → Option (List ℕ) → Option (List ℕ) → ℕ → Type 0

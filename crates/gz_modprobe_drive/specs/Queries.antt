@@ -16,12 +16,31 @@ ask_of wishes.DryRun = Some asks.DryRun
 ask_of wishes.Resolve = Some asks.Resolve
 ask_of wishes.Remove = Some asks.Remove
 ask_of wishes.ShowRemoval = Some asks.ShowRemoval
+ask_of wishes.Lint = None
 ask_of wishes.Why = None
 ask_of wishes.NoName = None
+ask_of wishes.LintOfName = None
 ask_of wishes.ShowModule = None
 ask_of wishes.RemoveHolders = None
 ask_of wishes.Load = None
 ask_of wishes.Removal = None
+
+-- `--lint` alone is wished for
+abbrev pub is_lint : Wish → Bool
+is_lint wishes.Lint = true
+is_lint wishes.ShowConfig = false
+is_lint wishes.ShowDepends = false
+is_lint wishes.DryRun = false
+is_lint wishes.Resolve = false
+is_lint wishes.Remove = false
+is_lint wishes.ShowRemoval = false
+is_lint wishes.Why = false
+is_lint wishes.NoName = false
+is_lint wishes.LintOfName = false
+is_lint wishes.ShowModule = false
+is_lint wishes.RemoveHolders = false
+is_lint wishes.Load = false
+is_lint wishes.Removal = false
 
 -- what leads to names is wished for
 abbrev pub is_why : Wish → Bool
@@ -32,7 +51,9 @@ is_why wishes.DryRun = false
 is_why wishes.Resolve = false
 is_why wishes.Remove = false
 is_why wishes.ShowRemoval = false
+is_why wishes.Lint = false
 is_why wishes.NoName = false
+is_why wishes.LintOfName = false
 is_why wishes.ShowModule = false
 is_why wishes.RemoveHolders = false
 is_why wishes.Load = false

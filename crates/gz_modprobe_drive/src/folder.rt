@@ -11,6 +11,9 @@ use std::alloc::{AllocError, Global};
 /// as the look-up of about so many.
 pub(crate) const FEW_NAMES: usize = 32;
 
+/// A name for which all texts have tables: it is that of a symbol, and of no module.
+const A_SYMBOL: &[u8] = b"symbol:";
+
 /// A text; one that was not read is empty.
 fn lent(text: &Option<Vec<u8>>) -> &[u8]
     ensures { result.now ≡ text_or_empty text.entry.now }
@@ -32,6 +35,17 @@ pub(crate) fn folder_texts<'a>(texts: &'a ModuleTexts, later: &'a LaterTexts) ->
         builtin: &texts.builtin,
         builtin_modinfo: &texts.builtin_modinfo,
     }
+}
+
+/// What the texts of a folder of modules say, in tables of all of them. It fails only if memory runs out.
+pub(crate) fn whole_index<'a>(
+    alloc: Global,
+    texts: &'a ModuleTexts,
+    later: &'a LaterTexts,
+) -> Result<Index<'a>, AllocError>
+    ensures { IfOk result (λ index. index ≡ index_of texts.entry.now later.entry.now) }
+{
+    Index::with_tables(alloc, folder_texts(texts, later), &[A_SYMBOL])
 }
 
 /// What the texts of a folder of modules say, for a query of these names. One that was not read is taken for empty. It fails

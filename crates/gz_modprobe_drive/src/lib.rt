@@ -13,6 +13,8 @@ mod folder;
 mod holders;
 mod kernel_list;
 mod line_ends;
+mod lint_text;
+mod linting;
 mod listing;
 mod paths;
 mod program;

@@ -1,7 +1,7 @@
 //! Which query a command line asks.
 ghost use Rattle.std.specs.Prelude.{◌≡◌, IfNone, IfSome, None};
 ghost use Rattle.text_parts.specs.Text.{texts_of};
-ghost use Rattle.gz_modprobe_drive.specs.Queries.{IsQueryOf, ask_of, asks_states, is_removal, is_why};
+ghost use Rattle.gz_modprobe_drive.specs.Queries.{IsQueryOf, ask_of, asks_states, is_lint, is_removal, is_why};
 
 use kmod_query::{Ask, Query};
 use modprobe_words::{Switches, Wish};
@@ -17,8 +17,10 @@ fn ask_of(wish: Wish) -> Option<Ask>
         Wish::Resolve => Some(Ask::Resolve),
         Wish::Remove => Some(Ask::Remove),
         Wish::ShowRemoval => Some(Ask::ShowRemoval),
-        Wish::Why
+        Wish::Lint
+        | Wish::Why
         | Wish::NoName
+        | Wish::LintOfName
         | Wish::ShowModule
         | Wish::RemoveHolders
         | Wish::Load
@@ -44,6 +46,13 @@ pub(crate) fn query_of<'a>(
         verbosity: switches.verbosity,
         words,
     })
+}
+
+/// Whether the lines of the configuration that have no effect are wished for.
+pub(crate) fn is_lint(wish: Wish) -> bool
+    ensures { result ≡ is_lint wish }
+{
+    matches!(wish, Wish::Lint)
 }
 
 /// Whether what leads to names is wished for.

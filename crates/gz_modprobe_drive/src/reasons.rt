@@ -20,4 +20,6 @@ mod told_words;
 
 pub use explaining::explanation;
 pub use leading::{Leads, lead_lines};
+pub(crate) use shown::Shown;
 pub use sources::Sources;
+pub(crate) use told::why_unread;

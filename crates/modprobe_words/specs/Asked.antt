@@ -30,6 +30,7 @@ with_switch s switch.DryRun = record s { dry_run = true }
 with_switch s switch.Quiet = record s { verbosity = 0 }
 with_switch s switch.Verbose = record s { verbosity = min (s.verbosity + 1) (2 ^ 64 - 1) }
 with_switch s switch.Explain = record s { explain = true }
+with_switch s switch.Lint = record s { lint = true }
 with_switch s switch.Whole = record s { whole = true }
 with_switch s switch.Why = record s { why = true }
 with_switch s switch.Force = s
@@ -54,6 +55,7 @@ no_switch =
       show_module = false;
       dry_run = false;
       explain = false;
+      lint = false;
       whole = false;
       why = false;
       verbosity = 4;

@@ -1,4 +1,4 @@
--- The options of modprobe(8), and `--explain`, `--root`, `--as`, `--whole` and `--why`, which it has not.
+-- The options of modprobe(8), and `--explain`, `--lint`, `--root`, `--as`, `--whole` and `--why`, which it has not.
 use Rattle.std.specs.Prelude.{ℕ, Bool, true, false, ◌+◌, ◌==◌, if◌then◌else◌, List, [], ◌∷◌, codes, Option, Some, None}
 use Rattle.modprobe_words.specs.declared.options.Switch.{Switch}
 use Rattle.modprobe_words.specs.declared.options.Switch.TheVariants as switch
@@ -7,7 +7,7 @@ use Rattle.modprobe_words.specs.declared.options.Valued.TheVariants as valued
 use Rattle.modprobe_words.specs.declared.options.Meaning.{Meaning}
 use Rattle.modprobe_words.specs.declared.options.Meaning.TheVariants.{Plain, WithValue}
 use Rattle.modprobe_words.specs.declared.options.LongOption.{LongOption}
-use Rattle.modprobe_words.specs.declared.options.LongOption.TheVariants.{AllWord, RemoveWord, RemoveDependenciesWord, RemoveHoldersWord, WaitWord, ResolveAliasWord, FirstTimeWord, IgnoreInstallWord, IgnoreRemoveWord, UseBlacklistWord, ForceWord, ForceModversionWord, ForceVermagicWord, ShowDependsWord, ShowconfigWord, ShowConfigWord, ShowModversionsWord, DumpModversionsWord, ShowExportsWord, DryRunWord, ShowWord, ConfigWord, DirnameWord, SetVersionWord, SyslogWord, QuietWord, VerboseWord, VersionWord, HelpWord, ExplainWord, RootWord, AsWord, WholeWord, WhyWord}
+use Rattle.modprobe_words.specs.declared.options.LongOption.TheVariants.{AllWord, RemoveWord, RemoveDependenciesWord, RemoveHoldersWord, WaitWord, ResolveAliasWord, FirstTimeWord, IgnoreInstallWord, IgnoreRemoveWord, UseBlacklistWord, ForceWord, ForceModversionWord, ForceVermagicWord, ShowDependsWord, ShowconfigWord, ShowConfigWord, ShowModversionsWord, DumpModversionsWord, ShowExportsWord, DryRunWord, ShowWord, ConfigWord, DirnameWord, SetVersionWord, SyslogWord, QuietWord, VerboseWord, VersionWord, HelpWord, ExplainWord, LintWord, RootWord, AsWord, WholeWord, WhyWord}
 
 -- the option of a letter
 unfoldable pub meaning_of_letter : ℕ → Option Meaning
@@ -55,8 +55,9 @@ switch_number switch.Verbose = 17
 switch_number switch.Version = 18
 switch_number switch.Help = 19
 switch_number switch.Explain = 20
-switch_number switch.Whole = 21
-switch_number switch.Why = 22
+switch_number switch.Lint = 21
+switch_number switch.Whole = 22
+switch_number switch.Why = 23
 
 abbrev pub valued_number : Valued → ℕ
 valued_number valued.Wait = 0
@@ -102,6 +103,7 @@ word_of VerboseWord = codes "verbose"
 word_of VersionWord = codes "version"
 word_of HelpWord = codes "help"
 word_of ExplainWord = codes "explain"
+word_of LintWord = codes "lint"
 word_of RootWord = codes "root"
 word_of AsWord = codes "as"
 word_of WholeWord = codes "whole"
@@ -138,6 +140,7 @@ meaning_of VerboseWord = Plain switch.Verbose
 meaning_of VersionWord = Plain switch.Version
 meaning_of HelpWord = Plain switch.Help
 meaning_of ExplainWord = Plain switch.Explain
+meaning_of LintWord = Plain switch.Lint
 meaning_of RootWord = WithValue valued.Root
 meaning_of AsWord = WithValue valued.As
 meaning_of WholeWord = Plain switch.Whole
@@ -152,7 +155,7 @@ long_options =
     ∷ ShowConfigWord ∷ ShowModversionsWord ∷ DumpModversionsWord ∷ ShowExportsWord ∷ DryRunWord
     ∷ ShowWord ∷ ConfigWord ∷ DirnameWord ∷ SetVersionWord ∷ SyslogWord
     ∷ QuietWord ∷ VerboseWord ∷ VersionWord ∷ HelpWord ∷ ExplainWord
-    ∷ RootWord ∷ AsWord ∷ WholeWord ∷ WhyWord ∷ []
+    ∷ LintWord ∷ RootWord ∷ AsWord ∷ WholeWord ∷ WhyWord ∷ []
 
 -- An option that may be cut. `--as`, `--whole` and `--why` may not, so that `--a` is `--all` and `--w` is `--wait`, as with
 -- modprobe.

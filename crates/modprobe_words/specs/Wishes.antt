@@ -1,4 +1,4 @@
--- What the options of a command line wish for (modprobe(8)). `--showconfig` counts before all others, then
+-- What the options of a command line wish for (modprobe(8)). `--lint` counts before all others, then `--showconfig`, then
 -- `--show-modversions` and `--show-exports`, then `--remove`, then `--why`, then `--resolve-alias`.
 use Rattle.std.specs.Prelude.{Bool, not, if◌then◌else◌}
 use Rattle.modprobe_words.specs.declared.switches.Switches.{Switches}
@@ -19,9 +19,13 @@ removes s =
     else (if s.show_depends then wish.ShowRemoval
     else (if s.dry_run then wish.Remove else wish.Removal))
 
-unfoldable pub wish_of : Switches → Bool → Wish
-wish_of s has_name =
+abbrev pub asks : Switches → Bool → Wish
+asks s has_name =
     if s.show_config then wish.ShowConfig
     else (if not has_name then wish.NoName
     else (if s.show_module then wish.ShowModule
     else (if s.remove then removes s else loads s)))
+
+-- with `--lint` no name is looked up, whatever else is given
+unfoldable pub wish_of : Switches → Bool → Wish
+wish_of s has_name = if s.lint then (if has_name then wish.LintOfName else wish.Lint) else asks s has_name

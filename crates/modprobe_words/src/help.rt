@@ -16,6 +16,7 @@ pub(crate) const HELP: &str = "Usage:
   gz-modprobe -R [options] -a modulename [modulename...]
   gz-modprobe -c [options]
   gz-modprobe --why [options] modulename [modulename...]
+  gz-modprobe --lint [options]
 
 It answers what modprobe(8) of kmod 34 answers, and loads and removes nothing.
 
@@ -27,6 +28,7 @@ Queries:
                               Print the configuration and the indexes
   -r, --remove                With -n: what a removal would do
       --why                   Print what leads to a module: needs, lines, devices
+      --lint                  Print the lines of the configuration that have no effect
 
 Options of queries:
   -a, --all                   Each word is the name of a module

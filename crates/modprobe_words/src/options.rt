@@ -1,4 +1,4 @@
-//! The options of modprobe(8), and five more: `--explain`, `--root`, `--as`, `--whole` and `--why`.
+//! The options of modprobe(8), and six more: `--explain`, `--lint`, `--root`, `--as`, `--whole` and `--why`.
 ghost use Rattle.std.specs.Prelude.{◌≡◌};
 ghost use Rattle.modprobe_words.specs.Options.{kind_of, may_be_cut, meaning_of_letter, meaning_of, word_of};
 
@@ -26,6 +26,7 @@ pub enum Switch {
     Version,
     Help,
     Explain,
+    Lint,
     Whole,
     Why,
 }
@@ -81,6 +82,7 @@ pub enum LongOption {
     VersionWord,
     HelpWord,
     ExplainWord,
+    LintWord,
     RootWord,
     AsWord,
     WholeWord,
@@ -88,7 +90,7 @@ pub enum LongOption {
 }
 
 /// The options by words, in the order of `modprobe --help`, and then those that modprobe has not.
-pub(crate) const LONG_OPTIONS: [LongOption; 34] = [
+pub(crate) const LONG_OPTIONS: [LongOption; 35] = [
     LongOption::AllWord,
     LongOption::RemoveWord,
     LongOption::RemoveDependenciesWord,
@@ -119,6 +121,7 @@ pub(crate) const LONG_OPTIONS: [LongOption; 34] = [
     LongOption::VersionWord,
     LongOption::HelpWord,
     LongOption::ExplainWord,
+    LongOption::LintWord,
     LongOption::RootWord,
     LongOption::AsWord,
     LongOption::WholeWord,
@@ -203,6 +206,7 @@ impl LongOption {
             LongOption::VersionWord => b"version",
             LongOption::HelpWord => b"help",
             LongOption::ExplainWord => b"explain",
+            LongOption::LintWord => b"lint",
             LongOption::RootWord => b"root",
             LongOption::AsWord => b"as",
             LongOption::WholeWord => b"whole",
@@ -259,6 +263,7 @@ impl LongOption {
             LongOption::VersionWord => Meaning::Plain(Switch::Version),
             LongOption::HelpWord => Meaning::Plain(Switch::Help),
             LongOption::ExplainWord => Meaning::Plain(Switch::Explain),
+            LongOption::LintWord => Meaning::Plain(Switch::Lint),
             LongOption::RootWord => Meaning::WithValue(Valued::Root),
             LongOption::AsWord => Meaning::WithValue(Valued::As),
             LongOption::WholeWord => Meaning::Plain(Switch::Whole),

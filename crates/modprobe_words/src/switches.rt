@@ -20,6 +20,7 @@ pub struct Switches {
     pub show_module: bool,
     pub dry_run: bool,
     pub explain: bool,
+    pub lint: bool,
     /// A removal is shown as it would be made.
     pub whole: bool,
     /// What leads to names is asked for.
@@ -45,6 +46,7 @@ impl Switches {
             show_module: false,
             dry_run: false,
             explain: false,
+            lint: false,
             whole: false,
             why: false,
             verbosity: 4,
@@ -71,6 +73,7 @@ impl Switches {
             Switch::Quiet => switches.verbosity = 0,
             Switch::Verbose => switches.verbosity = switches.verbosity.saturating_add(1),
             Switch::Explain => switches.explain = true,
+            Switch::Lint => switches.lint = true,
             Switch::Whole => switches.whole = true,
             Switch::Why => switches.why = true,
             Switch::Force

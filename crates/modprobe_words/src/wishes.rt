@@ -1,6 +1,6 @@
 //! What the options of a command line wish for.
 ghost use Rattle.std.specs.Prelude.{◌≡◌};
-ghost use Rattle.modprobe_words.specs.Wishes.{loads, wish_of};
+ghost use Rattle.modprobe_words.specs.Wishes.{asks, loads, wish_of};
 
 use crate::switches::Switches;
 
@@ -15,10 +15,14 @@ pub enum Wish {
     Remove,
     /// `-r -D`: these lines, even if the modules are in use or not loaded.
     ShowRemoval,
+    /// `--lint`: which lines of the configuration have no effect.
+    Lint,
     /// `--why`: what leads to names.
     Why,
     /// Refused: no name was given.
     NoName,
+    /// Refused: a name was given beside `--lint`.
+    LintOfName,
     /// Refused: what the file of a module has.
     ShowModule,
     /// Refused: to remove also the modules that hold one.
@@ -47,10 +51,9 @@ impl Switches {
         }
     }
 
-    /// What is wished, if there is a name or not.
-    #[tactic(auto, unfolding(crate::specs::Wishes::wish_of))]
-    pub fn wish(self, has_name: bool) -> Wish
-        ensures { result ≡ wish_of self has_name }
+    /// What is wished if nothing is linted, if there is a name or not.
+    fn asks(self, has_name: bool) -> Wish
+        ensures { result ≡ asks self has_name }
     {
         if self.show_config {
             Wish::ShowConfig
@@ -68,6 +71,20 @@ impl Switches {
             Wish::Remove
         } else {
             Wish::Removal
+        }
+    }
+
+    /// What is wished, if there is a name or not.
+    #[tactic(auto, unfolding(crate::specs::Wishes::wish_of))]
+    pub fn wish(self, has_name: bool) -> Wish
+        ensures { result ≡ wish_of self has_name }
+    {
+        if !self.lint {
+            self.asks(has_name)
+        } else if has_name {
+            Wish::LintOfName
+        } else {
+            Wish::Lint
         }
     }
 }

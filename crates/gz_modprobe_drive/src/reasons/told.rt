@@ -29,7 +29,7 @@ pub(crate) enum Spot<'a> {
 }
 
 /// Why a file is not read, after `not read, `.
-fn why_unread(reason: Unread) -> &'static [u8] {
+pub(crate) fn why_unread(reason: Unread) -> &'static [u8] {
     match reason {
         Unread::Dotted => b"since its name begins with a dot",
         Unread::OtherEnding => b"since its name does not end in .conf",

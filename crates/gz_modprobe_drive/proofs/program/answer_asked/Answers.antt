@@ -1,0 +1,26 @@
+use Rattle.std.proofs.Common.{ap, sym, ◌∙◌}
+use Rattle.std.proofs.lemmas.Result.{IfOk-weaker}
+use Rattle.text_parts.specs.Text.{texts_of}
+use Rattle.modprobe_words.specs.Asked.{asked_of}
+use Rattle.gz_modprobe_drive.proofs.LintLemmas.{lint-done, query-done, same-query, why-done}
+use Rattle.gz_modprobe_drive.proofs.program.answer_asked.Goals as goal
+
+pub returns-then-is_lint-clause-well : goal.returns-then-is_lint-clause-well
+returns-then-is_lint-clause-well g c =
+    IfOk-weaker c.lint_asked.result _ _
+    (λ status well zero. lint-done (asked_of c.args.asked.now) _ _ _ c.wish_asked-wish.ensures (sym c.is_lint.ensures ∙ c.if-is_lint.true) (well zero))
+    c.lint_asked.ensures.well
+
+pub returns-then-is_why-clause-well : goal.returns-then-is_why-clause-well
+returns-then-is_why-clause-well g c =
+    IfOk-weaker c.tell_asked.result _ _
+    (λ status told zero. why-done (asked_of c.args.asked.now) _ _ _ c.wish_asked-wish.ensures (sym c.is_lint.ensures ∙ c.if-is_lint.false)
+    (sym c.is_why.ensures ∙ c.if-is_why.true) (told zero))
+    c.tell_asked.ensures.told
+
+pub returns-clause-well : goal.returns-clause-well
+returns-clause-well g c =
+    IfOk-weaker c.answer_query.result _ _
+    (λ status well zero. query-done (asked_of c.args.asked.now) _ _ _ c.wish_asked-wish.ensures (sym c.is_lint.ensures ∙ c.if-is_lint.false)
+    (sym c.is_why.ensures ∙ c.if-is_why.false) (record { query = c.in-Some.query; asks = same-query _ _ _ _ _ _ c.wish_asked-wish.ensures (ap texts_of c.deref.ensures.value) c.in-Some.ensures.query; answered = well zero }))
+    c.answer_query.ensures.well

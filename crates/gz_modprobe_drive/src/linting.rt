@@ -1,0 +1,156 @@
+//! Which lines of a machine's configuration have no effect, and which of its files are not read.
+ghost use Rattle.std.specs.Prelude.{◌≡◌, ◌≤◌, IfOk, IsSome};
+ghost use Rattle.gz_modprobe_drive.specs.Linted.{IsSilent, WasLinted, is_of_depmod, is_of_package, origin_by, origins_of};
+
+use crate::configuration::conf_of;
+use crate::folder::whole_index;
+use crate::lint_text::lint_text;
+use crate::unread::{UnreadFile, unread_files};
+use machine_lint::{Known, Note, Origin, lint};
+use modprobe_files::{
+    ConfTexts, Host, LaterTexts, ModuleTexts, System, TextFile, directory, is_rootless,
+    read_configuration, read_later, read_modules,
+};
+use modprobe_words::{Asked, Level, Messages, Written, write_whole};
+use std::alloc::{AllocError, Global};
+use std::io::Write;
+use text_parts::is_same;
+
+/// Whether a path is that of a file of the configuration that depmod writes into this folder of modules.
+fn is_of_depmod(directory: &[u8], path: &[u8]) -> bool
+    ensures { result ≡ is_of_depmod directory.now path.now }
+{
+    match path.strip_prefix(directory) {
+        Some(name) => is_same(name, b"/modules.softdep") || is_same(name, b"/modules.weakdep"),
+        None => false,
+    }
+}
+
+/// Whether a path is that of a file in a folder which packages alone fill.
+fn is_of_package(path: &[u8]) -> bool
+    ensures { result ≡ is_of_package path.now }
+{
+    path.starts_with(b"/usr/lib/modprobe.d/") || path.starts_with(b"/lib/modprobe.d/")
+}
+
+/// Who wrote the file of a path.
+fn origin_by(directory: &[u8], path: &[u8]) -> Origin
+    ensures { result ≡ origin_by directory.now path.now }
+{
+    if is_of_depmod(directory, path) {
+        Origin::Depmod
+    } else if is_of_package(path) {
+        Origin::Package
+    } else {
+        Origin::Own
+    }
+}
+
+/// Who wrote the files of a configuration.
+fn origins_of(
+    alloc: Global,
+    directory: &[u8],
+    files: &[TextFile],
+) -> Result<Vec<Origin>, AllocError>
+    ensures { IfOk result (λ origins. origins.items ≡ origins_of directory.now files.now) }
+{
+    let mut origins = Vec::new(alloc);
+    for file in files {
+        origins.push(origin_by(directory, &file.path))?;
+    }
+    Ok(origins)
+}
+
+/// Writes what was found, if anything was. Returns the status.
+fn write_found<O: Write, E: Write>(
+    alloc: Global,
+    texts: &ConfTexts,
+    notes: &[Note],
+    unread: &[UnreadFile],
+    output: &mut O,
+    messages: &mut Messages<'_, E>,
+) -> Result<u8, AllocError>
+    ensures status { IfOk result (λ status. status ≤ 1) }
+    ensures silent { IfOk result (λ status. status ≡ 0 → IsSilent notes.now (O.contents output.old) (O.contents output.new)) }
+{
+    if notes.is_empty() && texts.hidden.is_empty() && unread.is_empty() {
+        return Ok(0);
+    }
+    let text = lint_text(alloc, texts, notes, unread)?;
+    if matches!(write_whole(output, &text), Written::Failed) {
+        let text = b"standard output cannot be written";
+        messages.tell_always(Level::Error, text, b"", b"", b"");
+    }
+    Ok(1)
+}
+
+/// Looks at the lines of a configuration, over the texts of a folder of modules. `named` are the paths of the configuration
+/// that the command line has. Returns the status.
+fn lint_texts<S: System, O: Write, E: Write>(
+    host: &Host<'_, S>,
+    texts: &ConfTexts,
+    modules: &ModuleTexts,
+    later: &LaterTexts,
+    directory: &[u8],
+    named: &[&[u8]],
+    output: &mut O,
+    messages: &mut Messages<'_, E>,
+) -> Result<u8, AllocError>
+    requires alias { IsSome later.now.alias }
+    requires symbols { IsSome later.now.symbols }
+    ensures status { IfOk result (λ status. status ≤ 1) }
+    ensures well { IfOk result (λ status. status ≡ 0 → WasLinted texts.now.kmod (O.contents output.old) (O.contents output.new)) }
+{
+    let alloc = host.alloc();
+    let conf = conf_of(alloc, texts)?;
+    let index = whole_index(alloc, modules, later)?;
+    let files = origins_of(alloc, directory, &texts.files)?;
+    let known = Known {
+        conf: &conf,
+        index: &index,
+        files: &files,
+    };
+    let notes = lint(alloc, &known)?;
+    let unread = unread_files(host, texts.kmod, named)?;
+    write_found(alloc, texts, &notes, &unread, output, messages)
+}
+
+/// Reads the configuration and the texts of a folder of modules, and looks at the lines. Returns the status.
+fn lint_in<S: System, O: Write, E: Write>(
+    host: &Host<'_, S>,
+    asked: &Asked<'_>,
+    directory: &[u8],
+    output: &mut O,
+    messages: &mut Messages<'_, E>,
+) -> Result<u8, AllocError>
+    ensures status { IfOk result (λ status. status ≤ 1) }
+    ensures well { IfOk result (λ status. status ≡ 0 → WasLinted asked.now.kmod (O.contents output.old) (O.contents output.new)) }
+{
+    let named = asked.configurations.as_slice();
+    let texts = read_configuration(host, asked.kmod, directory, named, messages)?;
+    let modules = read_modules(host, directory, messages)?;
+    let later = read_later(host, directory, true, messages)?;
+    lint_texts(
+        host, &texts, &modules, &later, directory, named, output, messages,
+    )
+}
+
+/// Looks for lines of the machine's configuration that have no effect, and for files that are not read, and writes them.
+/// Returns the status: 0 if there are none. `messages` explains, so that hidden files are known.
+pub(crate) fn lint_machine<S: System, O: Write, E: Write>(
+    host: &Host<'_, S>,
+    asked: &Asked<'_>,
+    output: &mut O,
+    messages: &mut Messages<'_, E>,
+) -> Result<u8, AllocError>
+    ensures status { IfOk result (λ status. status ≤ 1) }
+    ensures well { IfOk result (λ status. status ≡ 0 → WasLinted asked.now.kmod (O.contents output.old) (O.contents output.new)) }
+{
+    if is_rootless(host, asked.root.unwrap_or(b""), messages)? {
+        return Ok(1);
+    }
+    match directory(host, asked, messages)? {
+        Some(directory) => lint_in(host, asked, &directory, output, messages),
+        None => Ok(1),
+    }
+}
