@@ -82,7 +82,7 @@ module _ (v w : View) (slot : ℕ) (given : Reply) (t : LeafAnswered v slot leaf
   pub is_done : given ≡ Done
   is_done = refused (table.count_of before (worker_of v) slot == 0) refl
 
-  counts_after : counts_of w ≡ slice_set (counts_of v) slot (count_of v slot - 1)
+  pub counts_after : counts_of w ≡ slice_set (counts_of v) slot (count_of v slot - 1)
   counts_after = ap (λ ms. counts_in (part_in ms)) t.members ∙ ap (λ r. row_given r (counts_of v) call) is_done
 
   inside : slot < length (counts_of v)
@@ -126,7 +126,7 @@ module _ (row : RowIs) (slot : ℕ) (old x y : Seated) (fits : leaf_fits row (wo
   pub put_fits : leaf_fits row (worker_of old.view) y
   put_fits = (leaf_back row (worker_of old.view) slot x y fits own leaf_is.Put given t).0
 
-  made_put : MadeInOrder (put_done (worker_of x.view) slot ∷ []) x y
+  pub made_put : MadeInOrder (put_done (worker_of x.view) slot ∷ []) x y
   made_put = record {
     begins = (leaf_back row (worker_of old.view) slot x y fits own leaf_is.Put given t).1;
     own = own_one x.view y.view slot given t held;

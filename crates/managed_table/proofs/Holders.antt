@@ -22,12 +22,12 @@ use Rattle.managed_table.specs.Attempts.{LeafShows}
 use Rattle.managed_table.specs.Holdings.{puts_below, MadeInOrder, HasNone, GaveAllBack, IsFirstHeld, HasFirst, WorkerEnded, LeafGaveAllBack}
 
 -- the row of a leaf's worker in the table is the leaf's counts
-knows_row : (row : RowIs) (worker : ℕ) (x : Seated) → leaf_fits row worker x → KnowsTable x.view → get_elem? (table_after row.world (seen x)).rows worker ≡ some (counts_of x.view)
+pub knows_row : (row : RowIs) (worker : ℕ) (x : Seated) → leaf_fits row worker x → KnowsTable x.view → get_elem? (table_after row.world (seen x)).rows worker ≡ some (counts_of x.view)
 knows_row row worker x fit knows =
     let agrees : Agrees (table_after row.world (seen x)) (part_of x.view) = subst (λ (d : World). Agrees (table_after d (seen x)) (part_of x.view)) fit.0.1 knows.agrees in
     ap (λ w. get_elem? (table_after row.world (seen x)).rows w) (sym fit.1) ∙ subst (Agrees (table_after row.world (seen x))) (ap part_in fit.2) agrees
 
-legal_of : (row : RowIs) (x : Seated) → IsOf row x → KnowsTable x.view → IsLegal row.world.catalogue row.world.workers (answers_in (seen x))
+pub legal_of : (row : RowIs) (x : Seated) → IsOf row x → KnowsTable x.view → IsLegal row.world.catalogue row.world.workers (answers_in (seen x))
 legal_of row x own knows = subst (λ (d : World). IsLegal d.catalogue d.workers (answers_in (seen x))) own.1 knows.legal
 
 -- what a leaf did that gave all back
@@ -91,7 +91,7 @@ ended_so worker tries Did Does before after LockBusy h told = h
 ended_so worker tries Did Does before after Missed h told = h
 ended_so worker tries Did Does before after (Answered r) h told = (h.0, told r h.1)
 
-abbrev LeafWas : ℕ → (Seated → Seated → Type 0) → CallerIs → CallerIs → Type 0
+abbrev pub LeafWas : ℕ → (Seated → Seated → Type 0) → CallerIs → CallerIs → Type 0
 LeafWas worker Did before after = LeafTurned worker Did before after × (after.book ≡ before.book)
 
 -- a call by an own caller, which contracts see as `old`

@@ -14,3 +14,5 @@ pub mod Waiting
 pub mod InHand
 pub mod Telling
 pub mod Holders
+pub mod Taking
+pub mod Tried

@@ -11,4 +11,5 @@ pub mod Owned
 pub mod Hearing
 pub mod Attempts
 pub mod Holdings
+pub mod AllOrNone
 pub mod Calls

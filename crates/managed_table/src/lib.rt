@@ -1,6 +1,7 @@
 //! A row with its leaves and its book behind locks that know whose they are. Each managed call is one turn of a caller.
 #![tactic(auto)]
 
+mod all_or_none;
 mod attempt;
 mod book_calls;
 mod caller;
@@ -13,6 +14,7 @@ mod locks;
 mod making;
 mod meeting;
 mod own_caller;
+mod own_caller_all;
 mod own_caller_book;
 mod own_caller_holdings;
 mod own_caller_meeting;
@@ -24,6 +26,7 @@ mod teller;
 mod tries;
 pub mod view;
 
+pub use all_or_none::NotTaken;
 pub use attempt::{Attempt, attempted};
 pub use caller::Caller;
 pub use holdings::Holding;
