@@ -36,6 +36,7 @@ def declared(path):
         ("caller_new", number, handle, handle),
         ("caller_get_blocking", number, handle, size, size),
         ("caller_put_blocking", number, handle, size, size),
+        ("caller_get_all_blocking", number, handle, size, POINTER(size), size, POINTER(size)),
         ("caller_held_by_blocking", number, handle, size, size, POINTER(size), POINTER(c_uint32)),
         ("caller_put_all_blocking", number, handle, size),
         ("caller_references", number, handle, size, POINTER(c_uint64)),
@@ -148,6 +149,16 @@ def with_needs(caller, catalogue, plugins):
     caller.expect([DONE], "remove_with_needs", byref(catalogue), PCM, plugins.unload, None)
 
 
+def all_or_none(caller, plugins):
+    """Of two modules one is absent, so that none is taken."""
+    slots, at = (c_size_t * 2)(SND, PCM), c_size_t()
+    caller.expect([DONE], "load", SND, plugins.load, None)
+    caller.expect([NOT_LIVE], "get_all_blocking", 0, slots, 2, byref(at))
+    if slots[at.value] != PCM:
+        sys.exit(f"the slot {slots[at.value]} was refused")
+    unload(caller, plugins)
+
+
 def tell(remover, user, teller):
     """The user's next get for worker 0 comes after what the remover did: it was told of it."""
     remover.expect([DONE], "meet_book_blocking", byref(teller))
@@ -177,6 +188,7 @@ def main():
     limits(loader, plugins)
     holder_gone(loader, plugins)
     with_needs(loader, catalogue, plugins)
+    all_or_none(loader, plugins)
     loader.expect([ABSENT], "state_blocking", SND)
     tell(loader, callers[0], tellers[0])
     print(f"{THREADS} threads had the module {had} times for {WORKERS} workers, and none is left")

@@ -57,6 +57,13 @@ extern "C" {
     fn gz_caller_new(caller: &mut CallerHandle, further: &mut CallerHandle) -> u32;
     fn gz_caller_get_blocking(caller: &mut CallerHandle, worker: usize, slot: usize) -> u32;
     fn gz_caller_put_blocking(caller: &mut CallerHandle, worker: usize, slot: usize) -> u32;
+    fn gz_caller_get_all_blocking(
+        caller: &mut CallerHandle,
+        worker: usize,
+        slots: *const usize,
+        count: usize,
+        at: &mut usize,
+    ) -> u32;
     fn gz_caller_held_by_blocking(
         caller: &mut CallerHandle,
         worker: usize,
@@ -145,6 +152,12 @@ impl Caller {
 
     fn put(&mut self, worker: usize) {
         assert!(is_done(unsafe { gz_caller_put_blocking(&mut self.handle, worker, SND) }));
+    }
+
+    /// Takes one reference to each of several slots, or to none.
+    fn get_all(&mut self, worker: usize, slots: &[usize]) -> u32 {
+        let mut at = 0;
+        unsafe { gz_caller_get_all_blocking(&mut self.handle, worker, slots.as_ptr(), slots.len(), &mut at) }
     }
 
     /// Gives back all that the worker holds.
@@ -244,7 +257,7 @@ fn keep_limits(caller: &mut Caller) {
 /// What a holder that is gone had is looked through, and given back at once.
 fn give_back(caller: &mut Caller) {
     caller.load();
-    assert_eq!((caller.get(1), caller.get(1)), (DONE, DONE));
+    assert_eq!(caller.get_all(1, &[SND, SND]), DONE);
     assert_eq!((caller.held_by(1, SND), caller.held_by(1, SND + 1)), (Some((SND, 2)), None));
     caller.put_all(1);
     assert_eq!(caller.held_by(1, SND), None);

@@ -162,6 +162,7 @@ static bool managed_calls_take_none(gz_caller *caller)
     is = is && gz_caller_get(caller, 1, 0, 1) == GZ_DONE && gz_caller_held(caller, 1, 0, 1, &count) == GZ_DONE;
     is = is && gz_caller_state(caller, 0, 1) == GZ_LIVE && gz_caller_loaded_at(caller, 0, 1, &slot) == GZ_DONE;
     is = is && gz_caller_begin_remove(caller, 0, 1) == GZ_IN_USE && gz_caller_begin_drain(caller, 0, 1) == GZ_DONE;
+    is = is && gz_caller_get_all(caller, 1, &(size_t){ 0 }, 1, 1, &slot) == GZ_NOT_LIVE;
     is = is && gz_caller_held_by(caller, 1, 0, 1, &slot, &count) == GZ_DONE && gz_caller_put_all(caller, 1, 1) == GZ_DONE;
     is = is && gz_caller_end_remove(caller, 0, 1) == GZ_DONE;
     return is && gz_caller_loaded(caller, 1, &slot) == GZ_DONE && slot == 0;

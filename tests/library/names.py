@@ -22,6 +22,7 @@ TYPES = {
     "&mut usize": ["size_t *"],
     "&mut u32": ["uint32_t *"],
     "&[u8]": ["const void *", "size_t"],
+    "&[usize]": ["const size_t *", "size_t"],
     "&mut [u8]": ["void *", "size_t"],
 }
 for kind in ("Catalogue", "Book", "Leaf", "Reader", "Caller", "Teller"):

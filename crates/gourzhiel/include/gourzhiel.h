@@ -130,6 +130,7 @@ typedef char gz_number_has_32_bits[sizeof(gz_number) == sizeof(uint32_t) ? 1 : -
 static inline const void *gz_text_at(const void *text) { return text ? text : ""; }
 static inline gz_leaf *gz_leaves_at(gz_leaf *at) { return at ? at : (gz_leaf *)(uintptr_t)sizeof *at; }
 static inline gz_reader *gz_readers_at(gz_reader *at) { return at ? at : (gz_reader *)(uintptr_t)sizeof *at; }
+static inline const size_t *gz_slots_at(const size_t *at) { return at ? at : (const size_t *)(uintptr_t)sizeof *at; }
 static inline gz_teller *gz_tellers_at(gz_teller *at) { return at ? at : (gz_teller *)(uintptr_t)sizeof *at; }
 
 /* The version of the library. */

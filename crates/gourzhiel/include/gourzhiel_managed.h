@@ -35,6 +35,12 @@ size_t gz_caller_workers(gz_caller *caller);
 /* Takes one reference to the module for the worker. GZ_NOT_LIVE, GZ_TOO_MANY, GZ_OUT_OF_RANGE, GZ_BUSY. */
 gz_number gz_caller_get(gz_caller *caller, size_t worker, size_t slot, uint32_t tries);
 
+/* Takes one reference for the worker to each of `count` slots, or to none: in one turn of its lock, so that no other call for
+ * this worker comes between. If a get is refused, those before it are given back (until then a removal finds their modules in
+ * use), and its place among the slots is in *at, which is else left as it is. A slot that is named twice is taken twice.
+ * GZ_NOT_LIVE, GZ_TOO_MANY, GZ_OUT_OF_RANGE, GZ_BUSY. */
+gz_number gz_caller_get_all(gz_caller *caller, size_t worker, const size_t *slots, size_t count, uint32_t tries, size_t *at);
+
 /* Gives one reference of the worker back. GZ_NOT_HELD, GZ_OUT_OF_RANGE, GZ_BUSY. */
 gz_number gz_caller_put(gz_caller *caller, size_t worker, size_t slot, uint32_t tries);
 
@@ -82,6 +88,8 @@ void gz_caller_free(gz_caller caller);
 void gz_teller_free(gz_teller teller);
 
 #ifdef GZ_THREAD_SANITIZER
+#define gz_caller_get_all(caller, worker, slots, count, tries, at) \
+    GZ_ORDERED((gz_caller_get_all)(caller, worker, gz_slots_at(slots), count, tries, at))
 #define gz_caller_get(caller, worker, slot, tries) GZ_ORDERED((gz_caller_get)(caller, worker, slot, tries))
 #define gz_caller_put(caller, worker, slot, tries) GZ_ORDERED((gz_caller_put)(caller, worker, slot, tries))
 #define gz_caller_held(caller, worker, slot, tries, count) GZ_ORDERED((gz_caller_held)(caller, worker, slot, tries, count))
@@ -99,6 +107,9 @@ void gz_teller_free(gz_teller teller);
 #define gz_caller_loaded_at(caller, place, tries, slot) GZ_ORDERED((gz_caller_loaded_at)(caller, place, tries, slot))
 #define gz_caller_meet_leaf(caller, worker, tries, teller) GZ_ORDERED((gz_caller_meet_leaf)(caller, worker, tries, teller))
 #define gz_caller_meet_book(caller, tries, teller) GZ_ORDERED((gz_caller_meet_book)(caller, tries, teller))
+#else
+#define gz_caller_get_all(caller, worker, slots, count, tries, at) \
+    (gz_caller_get_all)(caller, worker, gz_slots_at(slots), count, tries, at)
 #endif
 
 /* ---- The same, blocking ---- */
@@ -112,6 +123,11 @@ void gz_teller_free(gz_teller teller);
 GZ_INLINE gz_number gz_caller_get_blocking(gz_caller *caller, size_t worker, size_t slot)
 {
     GZ_UNTIL_ANSWERED(gz_caller_get(caller, worker, slot, GZ_TRIES));
+}
+
+GZ_INLINE gz_number gz_caller_get_all_blocking(gz_caller *caller, size_t worker, const size_t *slots, size_t count, size_t *at)
+{
+    GZ_UNTIL_ANSWERED(gz_caller_get_all(caller, worker, slots, count, GZ_TRIES, at));
 }
 
 GZ_INLINE gz_number gz_caller_put_blocking(gz_caller *caller, size_t worker, size_t slot)

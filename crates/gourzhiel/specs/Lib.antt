@@ -7,4 +7,5 @@ pub mod Naming
 pub mod Making
 pub mod Called
 pub mod Holdings
+pub mod AllOrNone
 pub mod Meeting

@@ -3,6 +3,7 @@
 
 mod book_calls;
 mod book_reads;
+mod caller_all_or_none;
 mod caller_book_calls;
 mod caller_book_reads;
 mod caller_calls;
@@ -26,6 +27,7 @@ pub use book_calls::{
     gz_book_end_load, gz_book_end_remove, gz_book_free,
 };
 pub use book_reads::{gz_book_loaded, gz_book_loaded_at, gz_book_state};
+pub use caller_all_or_none::gz_caller_get_all;
 pub use caller_book_calls::{
     gz_caller_begin_drain, gz_caller_begin_load, gz_caller_begin_remove, gz_caller_cancel_remove,
     gz_caller_end_load, gz_caller_end_remove,
