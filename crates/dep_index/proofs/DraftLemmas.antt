@@ -11,7 +11,7 @@ use Rattle.std.proofs.lemmas.Map.Made.{is_some-lookup}
 use Rattle.indexmap.specs.IndexMap.{insert_entry}
 use Rattle.indexmap.proofs.CallerLemmas.{insert_entry-new}
 use Rattle.dep_index.specs.Catalogue as spec
-use Rattle.dep_index.specs.Catalogue.{Description, Refusal, Directive, bad, duplicate, twice_exported, too_many, version, begin, size, exports, needs, softneeds, param, permanent, has_name, is_exported, exports_symbol, change, change_last, export_each, sized, with_last, with_modules, described, most_modules, has_kind, defined, limit, apply}
+use Rattle.dep_index.specs.Catalogue.{Description, Refusal, Directive, bad, duplicate, twice_exported, too_many, version, begin, size, exports, needs, softneeds, param, permanent, end, has_name, is_exported, exports_symbol, change, change_last, export_each, sized, with_last, with_modules, described, most_modules, has_kind, defined, limit, apply}
 use Rattle.dep_index.specs.declared.catalogue.versions.Version.{Version}
 use Rattle.dep_index.specs.declared.catalogue.versions.Version.TheVariants as text
 use Rattle.dep_index.specs.declared.catalogue.details.Details.{Details}
@@ -99,11 +99,12 @@ keeps_name v es last (param name kind) d h = at (not (has_kind v kind) || list_a
   at : (b : Bool) → cond b (Err bad) (Ok (record last { params = last.params ++ (defined v name kind ∷ []) })) ≡ Ok d → d.name ≡ last.name
   at true k = absurd (cc)
   at false k = named last (record last { params = last.params ++ (defined v name kind ∷ []) }) d refl k
+keeps_name v es last (end n) d h = absurd (cc)
 keeps_name v es last permanent d h = named last (record last { permanent = true }) d refl h
 
 -- the draft with its open module changed
 abbrev pub changed : Draft → Open → List Link → Draft
-changed draft o ls = record { begun = true; version = draft.version; earlier = draft.earlier; last = Some o; exporters = ls }
+changed draft o ls = record { begun = true; version = draft.version; earlier = draft.earlier; last = Some o; exporters = ls; ended = draft.ended }
 
 module _ (draft : Draft) (o : Open) (m : ℕ) (x : Directive) (is : draft.last ≡ Some o) (sound : IsSound draft) (here : m ≡ length draft.earlier.entries) where
   abbrev earlier : List Description
@@ -171,7 +172,7 @@ module _ (draft new : Draft) (o : Open) (name : List ℕ) (sound : IsSound draft
   earlier_modules = sym (append-nil (descriptions_in new.earlier.entries)) ∙ ap (λ l. descriptions_in new.earlier.entries ++ last_in l) (sym closed) ∙ modules
 
   abbrev opened : Draft
-  opened = record { begun = true; version = new.version; earlier = new.earlier; last = Some o; exporters = new.exporters }
+  opened = record { begun = true; version = new.version; earlier = new.earlier; last = Some o; exporters = new.exporters; ended = new.ended }
 
   behind : modules_read opened ≡ modules_read draft ++ described name ∷ []
   behind = ap (λ l. l ++ open_in o ∷ []) earlier_modules ∙ ap (λ d. modules_read draft ++ d ∷ []) is
@@ -184,7 +185,7 @@ module _ (draft new : Draft) (o : Open) (name : List ℕ) (sound : IsSound draft
 
   pub begin_done : (apply (draft_in draft) (begin name) ≡ Ok (draft_in opened)) × IsSound opened
   begin_done = (
-    rw (other, full) (ap Ok (λ i. record { begun = true; version = (sym same i).version; modules = sym behind i })),
+    rw (other, full) (ap Ok (λ i. record { begun = true; version = (sym same i).version; modules = sym behind i; ended = (sym same i).ended })),
     record {
       links = exporters ∙ sound.links ∙ sym (ap links_of behind ∙ links_of-last (modules_read draft) (described name) ∙ append-nil (links_of (modules_read draft)));
       is_new = ap (λ l. has_name l o.name.items) earlier_modules ∙ ap (has_name (modules_read draft)) (ap (λ (d : Description). d.name) is) ∙ other;

@@ -5,7 +5,7 @@ use Rattle.std.specs.Str.{bytes_eq}
 use Rattle.std.proofs.lemmas.Bool.Decides.{nat_tests}
 use Rattle.std.proofs.lemmas.List.{append_assoc, append-nil, map-append}
 use Rattle.std.proofs.lemmas.List.Folds.{list_any-append}
-use Rattle.dep_index.specs.Catalogue.{Description, Refusal, Directive, twice_exported, bad, version, begin, size, exports, needs, softneeds, param, permanent, exports_symbol, is_exported, exporter, has_kind, defined, change, export_each, sized}
+use Rattle.dep_index.specs.Catalogue.{Description, Refusal, Directive, twice_exported, bad, version, begin, size, exports, needs, softneeds, param, permanent, end, exports_symbol, is_exported, exporter, has_kind, defined, change, export_each, sized}
 use Rattle.dep_index.specs.declared.catalogue.versions.Version.{Version}
 use Rattle.dep_index.specs.declared.catalogue.versions.Version.TheVariants as text
 use Rattle.dep_index.specs.Catalogue.Exports.{Link, slot_at, links_from, links_of, export_links, with_links, change_links}
@@ -126,4 +126,5 @@ change_linked v earlier last (param name kind) =
       | true ↦ refl
       | false ↦ kept earlier last (record last { params = last.params ++ (defined v name kind ∷ []) }) refl
     ]
+change_linked v earlier last (end n) = refl
 change_linked v earlier last permanent = kept earlier last (record last { permanent = true }) refl

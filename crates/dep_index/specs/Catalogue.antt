@@ -6,7 +6,7 @@ pub mod Exports
 pub mod Marks
 pub mod ParamNames
 pub mod Pieces
-use Rattle.std.specs.Prelude.{ℕ, suc, ◌-◌, Bool, true, false, not, if◌then◌else◌, ◌||◌, ◌==◌, nat_eq, nat_le, List, [], ◌∷◌, ◌++◌, map, length, position, codes, take, drop, Option, Some, None, Result, Ok, Err, slice_index_or}
+use Rattle.std.specs.Prelude.{ℕ, suc, ◌-◌, Bool, true, false, not, if◌then◌else◌, ◌&&◌, ◌||◌, ◌==◌, nat_eq, nat_le, List, [], ◌∷◌, ◌++◌, map, length, position, codes, take, drop, Option, Some, None, Result, Ok, Err, slice_index_or}
 use Rattle.std.specs.List.{list_all, list_any}
 use Rattle.std.specs.Option.{option_map}
 use Rattle.std.specs.Str.{bytes_eq}
@@ -58,6 +58,7 @@ pub data Directive : Type 0 where
   softneeds : List (List ℕ) → Directive
   param : List ℕ → ParamKind → Directive
   permanent : Directive
+  end : ℕ → Directive
 
 -- why a text is no catalogue
 pub data Refusal : Type 0 where
@@ -98,6 +99,11 @@ abbrev pub with_size : Option ℕ → Option Directive
 with_size None = None
 with_size (Some n) = Some (size n)
 
+-- an end, if its number is one
+abbrev pub with_end : Option ℕ → Option Directive
+with_end None = None
+with_end (Some n) = Some (end n)
+
 -- a parameter, if its kind is one
 abbrev pub with_kind : List ℕ → Option ParamKind → Option Directive
 with_kind name None = None
@@ -112,6 +118,11 @@ begin_of _ = None
 abbrev pub size_of : List (List ℕ) → Option Directive
 size_of (word ∷ []) = with_size (number_within 4294967295 word)
 size_of _ = None
+
+-- one number, at most that of the modules of the largest text
+abbrev pub end_of : List (List ℕ) → Option Directive
+end_of (word ∷ []) = with_end (number_within 65535 word)
+end_of _ = None
 
 -- one or more symbols, which are any words
 abbrev pub some_symbols : (List (List ℕ) → Directive) → List (List ℕ) → Option Directive
@@ -150,7 +161,8 @@ directive_of word rest =
     else (if bytes_eq word (codes "param") then param_of rest
     else (if bytes_eq word (codes "permanent") then alone permanent rest
     else (if bytes_eq word (codes "version") then version_of rest
-    else (if bytes_eq word (codes "softneeds") then some_names rest else None)))))))
+    else (if bytes_eq word (codes "softneeds") then some_names rest
+    else (if bytes_eq word (codes "end") then end_of rest else None))))))))
 
 -- how many modules a text may have
 abbrev pub most_modules : Version → ℕ
@@ -163,6 +175,12 @@ abbrev pub has_softneeds : Version → Bool
 has_softneeds text.One = false
 has_softneeds text.Two = true
 has_softneeds text.Three = true
+
+-- a text may say where it ends
+abbrev pub has_end : Version → Bool
+has_end text.One = false
+has_end text.Two = false
+has_end text.Three = true
 
 -- a kind of parameter that every version has
 abbrev pub is_first_kind : ParamKind → Bool
@@ -187,16 +205,17 @@ drops_quotes text.Three = true
 abbrev pub defined : Version → List ℕ → ParamKind → Param
 defined v name kind = record { name = name; kind = kind; drops_quotes = drops_quotes v }
 
--- what was read so far: whether a line that is not ignored came, the version of the text, and the descriptions in
--- order, the last one open
+-- what was read so far: whether a line that is not ignored came, the version of the text, the descriptions in order,
+-- the last one open, and whether the line came that ends the text
 pub record Draft : Type 0 where
   pub begun : Bool
   pub version : Version
   pub modules : List Description
+  pub ended : Bool
 
 -- before the first line
 abbrev pub no_draft : Draft
-no_draft = record { begun = false; version = text.One; modules = [] }
+no_draft = record { begun = false; version = text.One; modules = []; ended = false }
 
 -- how many modules the text may have
 abbrev pub limit : Draft → ℕ
@@ -254,6 +273,7 @@ change v earlier last (param name kind) =
     then Err bad
     else Ok (record last { params = last.params ++ (defined v name kind ∷ []) })
 change v earlier last permanent = Ok (record last { permanent = true })
+change v earlier last (end n) = Err bad
 
 -- the last of the modules changes; if there is none the line is bad
 abbrev pub change_last : Version → List Description → List Description → Directive → Result (List Description) Refusal
@@ -274,6 +294,8 @@ apply draft (begin name) =
     if has_name draft.modules name then Err duplicate
     else (if nat_le (limit draft) (length draft.modules) then Err too_many
     else Ok (record draft { begun = true; modules = draft.modules ++ (described name ∷ []) }))
+apply draft (end n) =
+    if has_end draft.version && nat_eq n (length draft.modules) then Ok (record draft { ended = true }) else Err bad
 apply draft directive = with_modules draft (change_last draft.version [] draft.modules directive)
 
 -- a line of no form is bad
@@ -281,10 +303,10 @@ abbrev pub apply_some : Draft → Option Directive → Result Draft Refusal
 apply_some draft None = Err bad
 apply_some draft (Some directive) = apply draft directive
 
--- one line, by its words
+-- one line, by its words; none stands behind the end
 abbrev pub read_words : Draft → List (List ℕ) → Result Draft Refusal
 read_words draft [] = Ok draft
-read_words draft (w ∷ ws) = apply_some draft (directive_of w ws)
+read_words draft (w ∷ ws) = if draft.ended then Err bad else apply_some draft (directive_of w ws)
 
 -- one line: a comment says nothing
 abbrev pub read_line : Draft → List ℕ → Result Draft Refusal

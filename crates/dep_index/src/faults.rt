@@ -9,7 +9,8 @@ use thiserror::Error;
 #[derive(Clone, Copy, Debug, PartialEq, Eq, Drop, Error)]
 pub enum CatError {
     /// The line has no form of a catalogue line, or stands where it may not: before the first module, a second
-    /// size, a parameter twice, `softneeds` in version 1, `version` behind another line.
+    /// size, a parameter twice, `softneeds` in version 1, `version` behind another line, `end` with another number than
+    /// that of the modules, any line behind `end`.
     #[error("line {line} is no line of a catalogue, or stands where it may not")]
     Bad { line: usize },
     /// A module of the name stands already.

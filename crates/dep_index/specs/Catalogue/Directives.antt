@@ -2,7 +2,7 @@
 use Rattle.text_parts.specs.Text.{texts_of}
 use Rattle.dep_index.specs.Catalogue as spec
 use Rattle.dep_index.specs.declared.catalogue.directives.Directive.{Directive}
-use Rattle.dep_index.specs.declared.catalogue.directives.Directive.TheVariants.{Version, Module, Size, Exports, Needs, Softneeds, Param, Permanent}
+use Rattle.dep_index.specs.declared.catalogue.directives.Directive.TheVariants.{Version, Module, Size, Exports, Needs, Softneeds, Param, Permanent, End}
 
 -- a directive of the program, as one of the definitions
 abbrev pub directive_in : Directive → spec.Directive
@@ -14,3 +14,4 @@ directive_in (Needs symbols) = spec.needs (texts_of symbols.now)
 directive_in (Softneeds names) = spec.softneeds names.items
 directive_in (Param name kind) = spec.param name kind
 directive_in Permanent = spec.permanent
+directive_in (End n) = spec.end n

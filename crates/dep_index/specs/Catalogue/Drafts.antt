@@ -26,6 +26,7 @@ draft_in draft =
       begun = draft.begun;
       version = draft.version;
       modules = modules_read draft;
+      ended = draft.ended;
     }
 
 -- the open module has no name of an earlier one; if none is open there is none at all

@@ -155,7 +155,9 @@ impl Open {
             IsMade result meant (open_in self.new, exporters.new) }
     {
         match directive {
-            Directive::Version(_) | Directive::Module(_) => return Err(Refused::Bad),
+            Directive::Version(_) | Directive::Module(_) | Directive::End(_) => {
+                return Err(Refused::Bad);
+            }
             Directive::Size(n) => self.set_size(n)?,
             Directive::Exports(symbols) => self.export(exporters, slot, symbols)?,
             Directive::Needs(symbols) => self.need(symbols)?,

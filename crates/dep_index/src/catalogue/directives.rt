@@ -3,7 +3,7 @@ ghost use Rattle.std.specs.Prelude.{◌≡◌, IfOk, codes, map};
 ghost use Rattle.std.specs.List.{list_all};
 ghost use Rattle.std.specs.Option.{option_map};
 ghost use Rattle.text_parts.specs.Text.{texts_of, is_name, normal_form};
-ghost use Rattle.dep_index.specs.Catalogue.{directive_of, begin_of, size_of, some_symbols, some_names, param_of, scalar_of, kind_of, alone, version_of};
+ghost use Rattle.dep_index.specs.Catalogue.{directive_of, begin_of, size_of, end_of, some_symbols, some_names, param_of, scalar_of, kind_of, alone, version_of};
 ghost use Rattle.dep_index.specs.Catalogue as spec;
 ghost use Rattle.dep_index.specs.Catalogue.Directives.{directive_in};
 
@@ -23,6 +23,7 @@ pub(crate) enum Directive<'w, 'a> {
     Softneeds(Vec<Name>),
     Param(Name, ParamKind),
     Permanent,
+    End(usize),
 }
 
 fn module<'w, 'a>(
@@ -193,6 +194,18 @@ fn version<'w, 'a>(rest: &'w [&'a [u8]]) -> Option<Directive<'w, 'a>>
     }
 }
 
+fn end<'w, 'a>(rest: &'w [&'a [u8]]) -> Option<Directive<'w, 'a>>
+    ensures { option_map directive_in result ≡ end_of (texts_of rest.now) }
+{
+    let [word] = rest else {
+        return None;
+    };
+    match number_within(65535, word) {
+        Some(count) => Some(Directive::End(count as usize)),
+        None => None,
+    }
+}
+
 /// What the first word and those behind it say, or `None` if they have no form of a catalogue line.
 pub(crate) fn read_directive<'w, 'a>(
     alloc: Global,
@@ -217,6 +230,8 @@ pub(crate) fn read_directive<'w, 'a>(
         Ok(version(rest))
     } else if is_same(word, b"softneeds") {
         softneeds(alloc, rest)
+    } else if is_same(word, b"end") {
+        Ok(end(rest))
     } else {
         Ok(None)
     }

@@ -24,6 +24,8 @@ pub(crate) struct Draft<'a> {
     pub(crate) earlier: IndexMap<Vec<u8>, Details>,
     pub(crate) last: Option<Open>,
     pub(crate) exporters: Exporters<'a>,
+    /// The line came that ends the text.
+    pub(crate) ended: bool,
 }
 
 fn is_among(earlier: &IndexMap<Vec<u8>, Details>, name: &[u8]) -> bool
@@ -43,6 +45,7 @@ impl<'a> Draft<'a> {
             earlier: IndexMap::new(alloc),
             last: None,
             exporters: Exporters::new(alloc),
+            ended: false,
         }
     }
 
@@ -130,6 +133,18 @@ impl<'a> Draft<'a> {
         open.change(alloc, self.version, &mut self.exporters, slot, directive)
     }
 
+    /// The text ends here, if it has so many modules.
+    fn end(&mut self, count: usize) -> Result<(), Refused>
+        requires sound { IsSound self.old }
+        ensures { DraftIsMade result (apply (draft_in self.old) (spec.end count)) self.new }
+    {
+        if !self.version.has_end() || count != self.len() {
+            return Err(Refused::Bad);
+        }
+        self.ended = true;
+        Ok(())
+    }
+
     fn apply(&mut self, alloc: Global, directive: Directive<'_, 'a>) -> Result<(), Refused>
         requires sound { IsSound self.old }
         ensures { DraftIsMade result (apply (draft_in self.old) (directive_in directive.entry)) self.new }
@@ -137,6 +152,7 @@ impl<'a> Draft<'a> {
         match directive {
             Directive::Version(version) => self.set_version(version),
             Directive::Module(name) => self.begin(alloc, name),
+            Directive::End(count) => self.end(count),
             other => self.change(alloc, other),
         }
     }
@@ -148,6 +164,9 @@ impl<'a> Draft<'a> {
         let Some((word, rest)) = words.split_first() else {
             return Ok(());
         };
+        if self.ended {
+            return Err(Refused::Bad);
+        }
         match read_directive(alloc, word, rest)? {
             Some(directive) => self.apply(alloc, directive),
             None => Err(Refused::Bad),

@@ -47,8 +47,9 @@ fn finish(alloc: Global, mut draft: Draft<'_>) -> Result<Catalogue, AllocError>
 /// The catalogue that a text is, or its first fault with its line. Lines without a word and lines whose first byte
 /// is `#` say nothing; the others are `module NAME`, `size N`, `exports SYMBOL..`, `needs SYMBOL..`,
 /// `param NAME int|bool|charp` and `permanent`. If the first of them is `version 2`, `softneeds NAME..` is
-/// one more, and the limit is 1,024 modules in place of 256. If it is `version 3`, the limit is 65,535 modules, and
-/// parameters have all of the kernel's standard types, also in arrays.
+/// one more, and the limit is 1,024 modules in place of 256. If it is `version 3`, the limit is 65,535 modules,
+/// parameters have all of the kernel's standard types, also in arrays, and behind `end N` no further line may say
+/// something; N is how many modules stand before it.
 pub fn read_catalogue(alloc: Global, text: &[u8]) -> Result<Catalogue, CatError>
     ensures { MatchResult result (λ catalogue. catalogue_of text.now ≡ Ok catalogue) (λ e. IsFirstFault e (catalogue_of text.now)) }
 {

@@ -1,6 +1,6 @@
 //! The versions of a catalogue text.
 ghost use Rattle.std.specs.Prelude.{◌≡◌};
-ghost use Rattle.dep_index.specs.Catalogue.{most_modules, has_softneeds, has_kind, drops_quotes};
+ghost use Rattle.dep_index.specs.Catalogue.{most_modules, has_softneeds, has_end, has_kind, drops_quotes};
 
 use crate::catalogue::params::{ParamKind, Scalar};
 
@@ -31,6 +31,13 @@ impl Version {
             Version::One => false,
             Version::Two | Version::Three => true,
         }
+    }
+
+    /// Whether a line of the text may say that it ends there.
+    pub(crate) fn has_end(self) -> bool
+        ensures { result ≡ has_end self }
+    {
+        matches!(self, Version::Three)
     }
 
     /// Whether a parameter of the text may be of the kind.

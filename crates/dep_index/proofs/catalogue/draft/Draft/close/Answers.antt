@@ -12,4 +12,4 @@ returns-in_ok-insert-clause-same c =
     let modules : descriptions_in es ++ last_in c.take.new.self ≡ modules_read c.args.self.now =
     ap (λ l. descriptions_in es ++ last_in l) c.take.ensures.after
     ∙ closed_modules c.args.self.now c.in-Some.open c.close-name.result es (sym c.take.ensures.value ∙ c.in-Some.is) c.requires.sound c.close-name.ensures c.in_ok-insert.ensures.entries in
-    ap (λ (ms : List Description). let d : spec.Draft = record { begun = c.args.self.now.begun; version = c.args.self.now.version; modules = ms } in d) modules
+    ap (λ (ms : List Description). let d : spec.Draft = record { begun = c.args.self.now.begun; version = c.args.self.now.version; modules = ms; ended = c.args.self.now.ended } in d) modules
