@@ -178,6 +178,8 @@ def catalogue(tree: Tree, modules: list[Module], form: Format, notes: Notes) -> 
     for module in modules:
         yield from description(tree, module, form, notes)
         note_left_out(tree, module, notes)
+    if form.has_end:
+        yield f"end {len(modules)}"
 
 
 def session(tree: Tree, modules: list[Module], form: Format, notes: Notes) -> Iterator[str]:

@@ -11,10 +11,12 @@ LONGEST = 1000
 
 @dataclass(frozen=True)
 class Format:
-    """A version of the catalogue: how many modules it holds, and its word for each type of the kernel's."""
+    """A version of the catalogue: how many modules it holds, whether it says where it ends, and its word for each type of the
+    kernel's."""
 
     version: int
     modules: int
+    has_end: bool
     kinds: dict[str, str]
 
 
@@ -22,8 +24,8 @@ class Format:
 SCALARS = ["byte", "short", "ushort", "int", "uint", "long", "ulong", "ullong", "hexint", "bool", "bint", "invbool"]
 WORDS = {it: it for it in [*SCALARS, "charp"]} | {f"array of {it}": f"{it}[]" for it in SCALARS}
 FORMATS = {
-    2: Format(version=2, modules=1024, kinds={it: it for it in ("int", "bool", "charp")}),
-    3: Format(version=3, modules=65535, kinds=WORDS),
+    2: Format(version=2, modules=1024, has_end=False, kinds={it: it for it in ("int", "bool", "charp")}),
+    3: Format(version=3, modules=65535, has_end=True, kinds=WORDS),
 }
 NEWEST = FORMATS[3]
 
