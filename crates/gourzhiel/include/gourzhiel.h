@@ -175,7 +175,8 @@ bool gz_wait_pause(gz_wait *wait);
 
 /* Reads a catalogue from `length` bytes of text into an empty handle. Line by line: `module NAME`, `exports SYMBOL..`,
  * `needs SYMBOL..`, `size N`, `param NAME int|bool|charp`, `permanent`; a line that begins with # says nothing. gourzhiel(5)
- * has all lines, among them `version N`.
+ * has all lines, among them `version N` and, as the last line of a text of version 3, `end N`. A text that was cut before
+ * that line is read as one without it.
  * GZ_BAD_LINE, GZ_DUPLICATE, GZ_TWICE_EXPORTED, GZ_TOO_MANY_MODULES: the first fault, its line in *line, from 1.
  * GZ_OUT_OF_MEMORY. The handle is full only after GZ_DONE. */
 gz_number gz_catalogue_read(const void *text, size_t length, gz_catalogue *catalogue, size_t *line);
