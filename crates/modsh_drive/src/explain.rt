@@ -1,7 +1,7 @@
 //! What explains a message to people, in lines that begin with two spaces.
 
 use crate::hints::{Faulty, hint_of};
-use crate::notes::{note_about, note_idle};
+use crate::notes::{note_about, note_cut, note_idle};
 use crate::places::Place;
 use crate::witness::Kept;
 use modprobe::{RunFault, Section, ServeFault, SetupCode, SetupFault};
@@ -103,7 +103,8 @@ pub(crate) fn tell_answer<E: Write>(
     };
 }
 
-/// Tells all that is reported after a session: its fault, lines without effect, and lines about nothing.
+/// Tells all that is reported after a session: its fault, where the catalogue may be cut, lines without effect, and lines
+/// about nothing.
 pub(crate) fn explain<E: Write>(answer: &Result<u64, ServeFault>, kept: &Kept<'_>, errors: &mut E) {
     match answer {
         Err(fault) => explain_fault(fault, kept, errors),
@@ -113,6 +114,7 @@ pub(crate) fn explain<E: Write>(answer: &Result<u64, ServeFault>, kept: &Kept<'_
         ),
         Ok(_) => {}
     }
+    note_cut(kept, errors);
     let idle = note_idle(kept, errors);
     let _ = errors.write_all(kept.notes.as_slice());
     note_about(kept, errors);

@@ -30,11 +30,13 @@ pub fn paths_in<R: Files>(alloc: Global, rt: &R, folder: &str) -> Result<Vec<Str
 }
 
 /// A file that was read: its path, which is that of a word or of a file in the folder of a word, how many lines its
-/// section has, with its section line, and where that ends in the joined text.
+/// section has, with its section line, whether its last line lacks a line feed, and where its section ends in the joined
+/// text.
 #[derive(Drop)]
 pub(crate) struct File<'a> {
     pub(crate) path: CowStr<'a>,
     pub(crate) lines: u64,
+    pub(crate) is_unended: bool,
     end: usize,
 }
 
@@ -70,8 +72,15 @@ impl<'a> JoinedFiles<'a> {
         let start = self.files.last().map_or(0, |file| file.end);
         let section = self.text.get(start..).unwrap_or(b"");
         let lines = section.iter().filter(|byte| **byte == b'\n').count() as u64;
+        // (a line feed was added to those of the file, or of the section line if the file is empty)
+        let is_unended = !section.ends_with(b"\n\n");
         let end = self.text.len();
-        self.files.push(File { path, lines, end })?;
+        self.files.push(File {
+            path,
+            lines,
+            is_unended,
+            end,
+        })?;
         Ok(())
     }
 

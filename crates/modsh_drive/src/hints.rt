@@ -35,7 +35,7 @@ impl<'a> Faulty<'a> {
 const SYMBOLS: &str = "exports and needs have one or more symbols";
 
 /// The first words of lines of a catalogue, and what a line of each has to have.
-const FORMS: [(&[u8], &str); 8] = [
+const FORMS: [(&[u8], &str); 9] = [
     (
         b"module",
         "module has one name, of 1 to 55 letters, digits, _ and -",
@@ -59,7 +59,14 @@ const FORMS: [(&[u8], &str); 8] = [
         b"version",
         "version 2 or version 3 is the first line of a catalogue, and there is no other version",
     ),
+    (
+        b"end",
+        "end has one number, that of the modules before it, in a catalogue that begins with version 3: was that cut or changed?",
+    ),
 ];
+
+/// What is wrong with a line of a catalogue that is whole without it.
+const BEHIND_END: &str = "end is the last line of a catalogue: comments alone may follow it";
 
 /// The first words of lines of a configuration, but for `alias`.
 const SETTINGS: [&[u8]; 5] = [b"blacklist", b"install", b"options", b"remove", b"softdep"];
@@ -99,10 +106,16 @@ fn section_hint(line: &[u8]) -> Option<&'static str> {
     word_in_section_hint(first_word(line))
 }
 
-/// Whether there is a module line before this line of a catalogue.
-fn is_behind_module(faulty: &Faulty<'_>) -> bool {
+/// Whether a line that begins with this word stands before this line of a catalogue.
+fn is_behind(faulty: &Faulty<'_>, word: &[u8]) -> bool {
     let mut before = whole_lines(faulty.text).take(faulty.before);
-    before.any(|line| is_same(first_word(line), b"module"))
+    before.any(|line| is_same(first_word(line), word))
+}
+
+/// Whether a line of a catalogue that begins with this word may stand where no module line is before it.
+fn is_of_no_module(word: &[u8]) -> bool {
+    let words: [&[u8]; 3] = [b"module", b"version", b"end"];
+    words.iter().any(|own| is_same(word, own))
 }
 
 /// What is likely wrong with a line of no form in a catalogue.
@@ -111,13 +124,18 @@ fn catalogue_hint(faulty: &Faulty<'_>) -> Option<&'static str> {
     if word.is_empty() {
         return None;
     }
+    let is_ended = is_behind(faulty, b"end");
     let Some(form) = form_in(&FORMS, word) else {
-        return section_hint(faulty.line).or(Some(
-            "a line of a catalogue begins with module, size, exports, needs, param or permanent",
-        ));
+        let wrong = if is_ended {
+            BEHIND_END
+        } else {
+            "a line of a catalogue begins with module, size, exports, needs, param or permanent"
+        };
+        return section_hint(faulty.line).or(Some(wrong));
     };
-    let is_placed = is_same(word, b"module") || is_same(word, b"version");
-    if is_placed || is_behind_module(faulty) {
+    if is_ended {
+        Some(BEHIND_END)
+    } else if is_of_no_module(word) || is_behind(faulty, b"module") {
         Some(form)
     } else {
         Some("a module line comes first")

@@ -9,10 +9,10 @@ use bstr::Lines;
 use conf_lint::NoteKind;
 use modprobe::{Section, Setup};
 use modprobe_conf::idle_settings;
-use program_frame::Shown;
+use program_frame::{Shown, first_word};
 use std::alloc::{AllocError, Global};
 use std::io::Write;
-use text_parts::whole_lines;
+use text_parts::{is_same, whole_lines};
 
 fn reason(why: NoEffect) -> &'static str {
     match why {
@@ -110,6 +110,43 @@ pub(crate) fn note_words<E: Write>(
         note_words_of(alloc, setup, slot, errors)?;
     }
     Ok(())
+}
+
+/// Whether a catalogue is of version 3 and has no line that says where it ends.
+fn says_no_end(catalogue: &[u8]) -> bool {
+    let mut is_third = false;
+    for line in whole_lines(catalogue) {
+        let word = first_word(line);
+        if is_same(word, b"end") {
+            return false;
+        }
+        // (of the versions 3 alone has this digit)
+        is_third |= is_same(word, b"version") && line.contains(&b'3');
+    }
+    is_third
+}
+
+/// The number of the last line of a catalogue, or of one of its files, if it lacks a line feed there.
+fn unended_line(kept: &Kept<'_>) -> Option<u64> {
+    let text = kept.text(Section::Catalogue);
+    let count = whole_lines(text).count() as u64;
+    match kept.places.unended_in(Section::Catalogue) {
+        Some(number) if number <= count => Some(number),
+        _ if text.is_empty() || text.last() == Some(&b'\n') => None,
+        _ => Some(count),
+    }
+}
+
+/// Tells where a catalogue may be cut.
+pub(crate) fn note_cut<E: Write>(kept: &Kept<'_>, errors: &mut E) {
+    let Some(number) = unended_line(kept) else {
+        return;
+    };
+    if says_no_end(kept.text(Section::Catalogue)) {
+        let why =
+            "the catalogue may be cut, no line feed ends this line and no line begins with end";
+        LineNotes::new(Section::Catalogue, kept, errors).tell(number as usize, why, None);
+    }
 }
 
 /// Tells lines of a section that have no effect.

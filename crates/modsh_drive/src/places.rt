@@ -83,6 +83,39 @@ impl<'a> Places<'a> {
         }
         self.of_line(number)
     }
+
+    /// The number, from 1, that the line of this number of the input has in the joined text of a section.
+    fn number_in(&self, section: Section, line: u64) -> Option<u64> {
+        let mut before: u64 = 0;
+        for (i, begun) in self.sections.iter().enumerate() {
+            let next = self.sections.get(i.saturating_add(1));
+            let count = lines_between(begun, next);
+            let within = line.saturating_sub(begun.number);
+            if begun.section == section {
+                if within > 0 && within <= count {
+                    return Some(before.saturating_add(within));
+                }
+                before = before.saturating_add(count);
+            }
+        }
+        None
+    }
+
+    /// The number, in the joined text of a section, of the first line there that is the last of a file and lacks a line
+    /// feed in it.
+    pub(crate) fn unended_in(&self, section: Section) -> Option<u64> {
+        let mut last: u64 = 0;
+        for file in self.files {
+            last = last.saturating_add(file.lines);
+            if file.is_unended {
+                let number = self.number_in(section, last);
+                if number.is_some() {
+                    return number;
+                }
+            }
+        }
+        None
+    }
 }
 
 /// How many lines a section has before the next one; the last has as many as there are.

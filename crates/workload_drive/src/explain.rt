@@ -86,6 +86,43 @@ fn script_hint(word: &[u8]) -> &'static str {
     }
 }
 
+/// What an end line of a catalogue is.
+const END: &str =
+    "end N is the last line of a catalogue that begins with version 3, and N modules stand before it: was that cut or changed?";
+
+/// Whether a line of the input before this one begins with this word.
+fn is_behind(input: &[u8], number: usize, word: &[u8]) -> bool {
+    let mut before = whole_lines(input).take(number.saturating_sub(1));
+    before.any(|line| is_same(first_word(line), word))
+}
+
+/// What is likely wrong with a line of this number that is refused with this code, if it is an end line or one behind it.
+fn end_hint(code: LineCode, input: &[u8], number: usize, word: &[u8]) -> Option<&'static str> {
+    let is_of_end = is_same(word, b"end") || is_behind(input, number, b"end");
+    if matches!(code, LineCode::C1) && is_of_end {
+        Some(END)
+    } else {
+        None
+    }
+}
+
+/// Whether the input may be cut in its catalogue, of version 3, before this line or in it: no line feed ends the input, no
+/// line of it begins with `end`, and it has no further section.
+fn may_be_cut(input: &[u8], number: usize) -> bool {
+    let mut count: usize = 0;
+    let mut is_third = false;
+    for line in whole_lines(input) {
+        let word = first_word(line);
+        if is_same(word, b"end") || line.first() == Some(&b'%') && !is_same(line, b"%catalogue") {
+            return false;
+        }
+        // (of the versions 3 alone has this digit)
+        is_third |= is_same(word, b"version") && line.contains(&b'3');
+        count = count.saturating_add(1);
+    }
+    is_third && number >= count && input.last() != Some(&b'\n')
+}
+
 /// What is likely wrong with a line that is refused with this code.
 fn hint_of(threads: bool, code: LineCode, word: &[u8]) -> Option<&'static str> {
     match code {
@@ -113,7 +150,13 @@ fn explain_line<E: Write>(threads: bool, fault: LineFault, input: &[u8], errors:
     }
     tell_sentence(line_sentence(fault.code), errors);
     let word = first_word(line.unwrap_or(b""));
-    tell_hint(hint_of(threads, fault.code, word), errors);
+    let likely = hint_of(threads, fault.code, word);
+    let hint = likely.or(end_hint(fault.code, input, number, word));
+    tell_hint(hint, errors);
+    if may_be_cut(input, number) {
+        let cut = "the catalogue may be cut: no line feed ends it, and no line begins with end";
+        tell_hint(Some(cut), errors);
+    }
 }
 
 /// How many steps the words of a statement are.
