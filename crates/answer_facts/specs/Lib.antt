@@ -1,0 +1,5 @@
+pub mod Facts
+pub mod Pieces
+pub mod Quoted
+pub mod Shown
+pub mod Words

@@ -1,0 +1,35 @@
+//! What is said of an answer, as values: lines for people and JSON are made of the same ones.
+#![tactic(auto)]
+
+mod blacklist;
+mod fact;
+mod file_fact;
+mod idle_fact;
+mod lead_fact;
+mod line_fact;
+mod lines;
+mod missing_fact;
+mod module_fact;
+mod name_fact;
+mod piece;
+mod quoted;
+mod removal_fact;
+mod sentence;
+mod shown;
+mod spot;
+mod state_fact;
+
+pub use blacklist::Blacklist;
+pub use fact::{Fact, What};
+pub use file_fact::{FileFact, Unread};
+pub use idle_fact::{IdleFact, Setting};
+pub use lead_fact::{LeadFact, Side};
+pub use line_fact::{Command, LineFact, Passed};
+pub use lines::{json_lines, text_lines};
+pub use missing_fact::MissingFact;
+pub use module_fact::ModuleFact;
+pub use name_fact::NameFact;
+pub use removal_fact::{RemovalFact, Shows};
+pub use shown::{Shown, shown_byte};
+pub use spot::Spot;
+pub use state_fact::{Outcome, StateFact};

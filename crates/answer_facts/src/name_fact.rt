@@ -1,0 +1,104 @@
+//! What a name stands for.
+ghost use Rattle.std.specs.Prelude.{IfOk, ◌≡◌};
+ghost use Rattle.answer_facts.specs.Pieces.{pieces_of};
+ghost use Rattle.answer_facts.specs.Facts.{name_fact_pieces};
+
+use crate::line_fact::Command;
+use crate::piece::Piece;
+use crate::sentence::sentence;
+use kmod_names::Text;
+use std::alloc::{AllocError, Global};
+
+/// What a name stands for.
+#[derive(Drop)]
+pub enum NameFact {
+    /// A module, by this line of modules.dep.
+    Module(Text),
+    /// An alias of this, by a line that has this pattern.
+    Alias { of: Text, pattern: Text },
+    /// The same, of a module that is built in.
+    BuiltInAlias { of: Text, pattern: Text },
+    /// A symbol that this module exports.
+    Exported(Text),
+    /// The very name of a line with a command.
+    Named(Command),
+    /// A module that is built in.
+    BuiltIn,
+    /// The file of this module.
+    File(Text),
+}
+
+impl NameFact {
+    /// What is said.
+    pub(crate) fn pieces<'a>(
+        &'a self,
+        alloc: Global,
+        whom: &'a [u8],
+    ) -> Result<Vec<Piece<'a>>, AllocError>
+        ensures { IfOk result (λ pieces. pieces_of pieces.items ≡ name_fact_pieces whom.entry.now self.entry.now) }
+    {
+        let name = Piece::Field(b"name", whom);
+        match self {
+            NameFact::Module(path) => sentence(
+                alloc,
+                b"module",
+                name,
+                &[
+                    Piece::Words(b"module "),
+                    Piece::Field(b"path", path.as_bytes()),
+                ],
+            ),
+            NameFact::Alias { of, pattern } => sentence(
+                alloc,
+                b"alias",
+                name,
+                &[
+                    Piece::Words(b"alias of "),
+                    Piece::Field(b"of", of.as_bytes()),
+                    Piece::Words(b", as "),
+                    Piece::Field(b"pattern", pattern.as_bytes()),
+                ],
+            ),
+            NameFact::BuiltInAlias { of, pattern } => sentence(
+                alloc,
+                b"alias",
+                name,
+                &[
+                    Piece::Words(b"alias of the built-in "),
+                    Piece::Field(b"of", of.as_bytes()),
+                    Piece::Words(b", as "),
+                    Piece::Field(b"pattern", pattern.as_bytes()),
+                    Piece::Flag(b"built_in", true),
+                ],
+            ),
+            NameFact::Exported(by) => sentence(
+                alloc,
+                b"symbol",
+                name,
+                &[
+                    Piece::Words(b"exported by "),
+                    Piece::Field(b"by", by.as_bytes()),
+                ],
+            ),
+            NameFact::Named(command) => sentence(
+                alloc,
+                b"command_name",
+                name,
+                &[
+                    Piece::Words(command.named()),
+                    Piece::Tag(b"setting", command.word()),
+                ],
+            ),
+            NameFact::BuiltIn => sentence(alloc, b"built_in", name, &[Piece::Words(b"built in")]),
+            NameFact::File(of) => sentence(
+                alloc,
+                b"path",
+                name,
+                &[
+                    Piece::Words(b"the file of "),
+                    Piece::Field(b"of", of.as_bytes()),
+                ],
+            ),
+        }
+    }
+}
