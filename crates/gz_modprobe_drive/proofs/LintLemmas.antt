@@ -13,6 +13,7 @@ use Rattle.modprobe_words.specs.declared.switches.Switches.{Switches}
 use Rattle.modprobe_words.specs.declared.wishes.Wish.{Wish}
 use Rattle.modprobe_words.specs.Asked.{Asked}
 use Rattle.gz_modprobe_drive.specs.Ends.{EndsWell, IsDone, WereAnswered, wish_by}
+use Rattle.gz_modprobe_drive.specs.Formed.{form_by}
 use Rattle.gz_modprobe_drive.specs.Leads.{WasTold}
 use Rattle.gz_modprobe_drive.specs.Linted.{IsOfTexts, IsSilent, WasLinted}
 use Rattle.gz_modprobe_drive.specs.Queries.{IsQueryOf, ask_of, is_lint, is_why}
@@ -45,7 +46,7 @@ ends-lint : (lint why : Bool) (asked : Asked) (before after : Option (List ℕ))
 ends-lint true why asked before after e done = done
 ends-lint false why asked before after e done = absurd (true≢false (sym e))
 
-ends-why : (lint why : Bool) (asked : Asked) (before after : Option (List ℕ)) → lint ≡ false → why ≡ true → WasTold before after → EndsWell lint why asked before after
+ends-why : (lint why : Bool) (asked : Asked) (before after : Option (List ℕ)) → lint ≡ false → why ≡ true → WasTold (form_by asked.switches.explain) before after → EndsWell lint why asked before after
 ends-why false true asked before after e f done = done
 ends-why false false asked before after e f done = absurd (true≢false (sym f))
 ends-why true why asked before after e f done = absurd (true≢false e)
@@ -63,7 +64,7 @@ lint-done asked wish before after is lints done =
 
 -- what leads to names is told
 pub why-done : (asked : Asked) (wish : Wish) (before after : Option (List ℕ)) → wish ≡ wish_by asked → is_lint wish ≡ false → is_why wish ≡ true
-    → WasTold before after → IsDone asked before after
+    → WasTold (form_by asked.switches.explain) before after → IsDone asked before after
 why-done asked wish before after is lints tells done =
     ends-why (is_lint (wish_by asked)) (is_why (wish_by asked)) asked before after (ap is_lint (sym is) ∙ lints) (ap is_why (sym is) ∙ tells) done
 

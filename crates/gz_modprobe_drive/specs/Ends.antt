@@ -14,6 +14,7 @@ use Rattle.modprobe_words.specs.Wishes.{wish_of}
 use Rattle.modprobe_words.specs.Words.{items}
 use Rattle.gz_modprobe_drive.specs.Answered.{IsAnswer, Known}
 use Rattle.gz_modprobe_drive.specs.Paths.{paths_of, words_of as path_words}
+use Rattle.gz_modprobe_drive.specs.Formed.{form_by}
 use Rattle.gz_modprobe_drive.specs.Leads.{WasTold}
 use Rattle.gz_modprobe_drive.specs.Linted.{WasLinted}
 use Rattle.gz_modprobe_drive.specs.Queries.{IsQueryOf, is_lint, is_why}
@@ -52,11 +53,11 @@ pub record WereAnswered (asked : Asked) (before after : Option (List ℕ)) : Typ
   pub asks : IsQueryOf (wish_by asked) asked.switches asked.words query
   pub answered : WasAnswered asked.kmod asked.switches.whole query before after
 
--- A lint ends well if nothing was noted, what leads to names if lines of it were written, and a query if it was answered
+-- A lint ends well if nothing was noted, what leads to names if facts of it were written, and a query if it was answered
 -- well.
 abbrev pub EndsWell : Bool → Bool → Asked → Option (List ℕ) → Option (List ℕ) → Type 0
 EndsWell true why asked before after = WasLinted asked.kmod before after
-EndsWell false true asked before after = WasTold before after
+EndsWell false true asked before after = WasTold (form_by asked.switches.explain) before after
 EndsWell false false asked before after = WereAnswered asked before after
 
 abbrev pub IsDone : Asked → Option (List ℕ) → Option (List ℕ) → Type 0

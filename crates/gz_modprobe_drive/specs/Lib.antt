@@ -3,6 +3,7 @@ pub mod Linted
 pub mod Ends
 pub mod Evidence
 pub mod Exemptions
+pub mod Formed
 pub mod KernelList
 pub mod Leads
 pub mod LineEnds
@@ -11,5 +12,4 @@ pub mod Paths
 pub mod Queries
 pub mod Sys
 pub mod Texts
-pub mod Told
 pub mod Unread

@@ -5,8 +5,8 @@ use Rattle.kmod_version.specs.declared.kmod.Kmod.{Kmod}
 use Rattle.modprobe_files.specs.Files.{is_read}
 use Rattle.modprobe_files.specs.declared.system.Kind.{Kind}
 use Rattle.modprobe_files.specs.declared.system.Kind.TheVariants as kinds
-use Rattle.gz_modprobe_drive.specs.declared.unread.Unread.{Unread}
-use Rattle.gz_modprobe_drive.specs.declared.unread.Unread.TheVariants.{Dotted, OtherEnding, Folder, LeadsNowhere}
+use Rattle.answer_facts.specs.declared.file_fact.Unread.{Unread}
+use Rattle.answer_facts.specs.declared.file_fact.Unread.TheVariants.{Dotted, OtherEnding, Folder, LeadsNowhere}
 
 -- a name that is not one of a file to be read begins with a dot, or ends otherwise
 abbrev pub unread_name : List ℕ → Unread

@@ -1,12 +1,13 @@
 //! What is read of a machine only to explain an answer, or to answer a removal as it is made.
-ghost use Rattle.std.specs.Prelude.{◌≡◌, [], false, IfOk};
+ghost use Rattle.std.specs.Prelude.{◌≡◌, [], false, None, IfOk};
 
+use crate::formed::form_by;
 use crate::holders::read_holders;
 use crate::queries::is_removal;
 use crate::unread::{UnreadFile, unread_files};
 use kmod_query::{Holders, Query, States};
 use modprobe_files::{Host, System};
-use modprobe_words::Asked;
+use modprobe_words::{Asked, Form};
 use std::alloc::AllocError;
 
 /// What an explanation needs beside what the answer needs. A removal that is answered as it is made needs the holders too.
@@ -15,6 +16,8 @@ pub(crate) struct Evidence {
     pub(crate) holders: Vec<Holders>,
     /// The files beside the configuration that are not read.
     pub(crate) unread: Vec<UnreadFile>,
+    /// In which form it is explained.
+    pub(crate) form: Form,
 }
 
 // By hand, since a derived drop is written out, and proved, at each place where a value is let go.
@@ -23,6 +26,7 @@ impl Drop for Evidence {
         let Evidence {
             holders: _,
             unread: _,
+            form: _,
         } = self;
     }
 }
@@ -35,17 +39,19 @@ impl Evidence {
         query: &Query<'_>,
         states: &States,
     ) -> Result<Evidence, AllocError>
-        ensures holders { IfOk result (λ own. asked.now.switches.explain ≡ false → asked.now.switches.whole ≡ false → own.holders.items ≡ []) }
-        ensures unread { IfOk result (λ own. asked.now.switches.explain ≡ false → own.unread.items ≡ []) }
+        ensures holders { IfOk result (λ own. asked.now.switches.explain ≡ None → asked.now.switches.whole ≡ false → own.holders.items ≡ []) }
+        ensures unread { IfOk result (λ own. asked.now.switches.explain ≡ None → own.unread.items ≡ []) }
     {
         let mut evidence = Evidence {
             holders: Vec::new(host.alloc()),
             unread: Vec::new(host.alloc()),
+            form: form_by(asked.switches.explain),
         };
-        if is_removal(query.ask) && (asked.switches.explain || asked.switches.whole) {
+        let explains = asked.switches.explain.is_some();
+        if is_removal(query.ask) && (explains || asked.switches.whole) {
             evidence.holders = read_holders(host, states)?;
         }
-        if asked.switches.explain {
+        if explains {
             evidence.unread = unread_files(host, asked.kmod, &asked.configurations)?;
         }
         Ok(evidence)

@@ -1,5 +1,6 @@
-//! Why an answer is as it is, for people.
+//! Why an answer is as it is, for people or for programs.
 
+use crate::formed::lines_by;
 use crate::reasons::{Sources, explanation};
 use crate::texts::Machine;
 use kmod_query::{Query, World};
@@ -25,7 +26,8 @@ fn explained(
         whole: machine.whole,
         builtin: &machine.modules.builtin,
     };
-    explanation(alloc, &sources, world, query)
+    let facts = explanation(alloc, &sources, world, query)?;
+    lines_by(alloc, machine.evidence.form, &facts)
 }
 
 /// Tells why an answer is as it is, if that is asked for.

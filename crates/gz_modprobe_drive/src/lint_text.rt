@@ -1,10 +1,10 @@
 //! What a lint has found, as it is printed.
 ghost use Rattle.std.specs.Prelude.{◌≡◌, IfOk, true};
 ghost use Rattle.std.specs.List.{list_all};
-ghost use Rattle.gz_modprobe_drive.specs.Told.{is_shown};
+ghost use Rattle.answer_facts.specs.Shown.{is_shown};
 
-use crate::reasons::{Shown, why_unread};
 use crate::unread::UnreadFile;
+use answer_facts::Shown;
 use kmod_names::Place;
 use machine_lint::{Note, NoteKind, Setting};
 use modprobe_files::{ConfTexts, HiddenFile};
@@ -137,7 +137,7 @@ impl Printed<'_> {
     /// Adds a file that is not read.
     fn push_unread(&mut self, file: &UnreadFile) {
         self.lines.push(&[&file.path, b": not read, "]);
-        self.lines.push(&[why_unread(file.reason)]);
+        self.lines.push(&[file.reason.why()]);
         self.lines.end_line();
     }
 }

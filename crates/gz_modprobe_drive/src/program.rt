@@ -4,6 +4,7 @@ ghost use Rattle.text_parts.specs.Text.{texts_of};
 ghost use Rattle.modprobe_words.specs.Asked.{asked_of, text_of};
 ghost use Rattle.modprobe_words.specs.Variable.{bytes_of};
 ghost use Rattle.gz_modprobe_drive.specs.Ends.{IsDone, IsEndOf, given, wish_by};
+ghost use Rattle.gz_modprobe_drive.specs.Formed.{form_by};
 ghost use Rattle.gz_modprobe_drive.specs.Leads.{WasTold};
 ghost use Rattle.gz_modprobe_drive.specs.Linted.{WasLinted};
 
@@ -51,7 +52,7 @@ fn tell_asked<R: Files + Env + AllocGlobal, O: Write, E: Write>(
     errors: &mut E,
 ) -> Result<u8, AllocError>
     ensures status { IfOk result (λ status. status ≤ 1) }
-    ensures told { IfOk result (λ status. status ≡ 0 → WasTold (O.contents output.old) (O.contents output.new)) }
+    ensures told { IfOk result (λ status. status ≡ 0 → WasTold (form_by asked.now.switches.explain) (O.contents output.old) (O.contents output.new)) }
 {
     let disk = Disk {
         rt,
@@ -104,7 +105,7 @@ fn answer_asked<R: Files + Env + AllocGlobal, O: Write, E: Write>(
         errors,
         program: b"gz-modprobe",
         verbosity: asked.switches.verbosity,
-        explains: asked.switches.explain,
+        explains: asked.switches.explain.is_some(),
     };
     answer_query(&host, asked, &query, output, &mut messages)
 }

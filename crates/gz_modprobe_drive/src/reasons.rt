@@ -8,7 +8,6 @@ mod known;
 mod leading;
 mod named_lines;
 mod near_names;
-mod shown;
 mod sources;
 mod tasks;
 mod told;
@@ -19,7 +18,5 @@ mod told_soft;
 mod told_words;
 
 pub use explaining::explanation;
-pub use leading::{Leads, lead_lines};
-pub(crate) use shown::Shown;
+pub use leading::{Leads, leads_to};
 pub use sources::Sources;
-pub(crate) use told::why_unread;

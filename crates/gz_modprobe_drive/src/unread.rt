@@ -3,6 +3,7 @@ ghost use Rattle.std.specs.Prelude.{◌≡◌};
 ghost use Rattle.gz_modprobe_drive.specs.Unread.{unread_by, unread_name};
 
 use crate::listing::names_of;
+use answer_facts::Unread;
 use kmod_version::Kmod;
 use modprobe_files::{Host, Kind, System, is_read, joined, paths_by_rank};
 use std::alloc::AllocError;
@@ -12,21 +13,6 @@ const LIB: &[u8] = b"/lib/modprobe.d";
 
 /// What old kernels' tools read in place of the folders.
 const OUTSIDE: &[u8] = b"/etc/modprobe.conf";
-
-/// Why a file is not read (modprobe.d(5)).
-#[derive(Clone, Copy)]
-pub enum Unread {
-    /// Its name begins with a dot.
-    Dotted,
-    /// Its name ends otherwise than those that are read.
-    OtherEnding,
-    /// It is a folder within a folder.
-    Folder,
-    /// It is a link that leads to nothing, or to what cannot be seen.
-    LeadsNowhere,
-    /// It lies in no folder of the configuration.
-    Outside,
-}
 
 /// A file that is not read.
 #[derive(Drop)]

@@ -1,14 +1,14 @@
 //! What leads to names, from the files of a machine.
-ghost use Rattle.std.specs.Prelude.{◌≡◌, ◌≤◌, IfOk, true};
-ghost use Rattle.std.specs.List.{list_all};
+ghost use Rattle.std.specs.Prelude.{◌≡◌, ◌≤◌, IfOk};
+ghost use Rattle.gz_modprobe_drive.specs.Formed.{form_by};
 ghost use Rattle.gz_modprobe_drive.specs.Leads.{WasTold};
-ghost use Rattle.gz_modprobe_drive.specs.Told.{is_shown};
 
 use crate::answering::{tell_bad_lines, tell_unwritten};
 use crate::configuration::conf_of;
 use crate::devices::{Device, read_devices};
 use crate::folder::index_of;
-use crate::reasons::{Leads, Sources, lead_lines};
+use crate::formed::{form_by, lines_by};
+use crate::reasons::{Leads, Sources, leads_to};
 use crate::texts::world_of;
 use kmod_conf::Conf;
 use kmod_query::{Ask, Query, States};
@@ -16,7 +16,7 @@ use modprobe_files::{
     ConfTexts, Host, LaterTexts, ModuleTexts, System, directory, is_rootless, read_configuration,
     read_later, read_modules,
 };
-use modprobe_words::{Asked, Messages, Written, write_whole};
+use modprobe_words::{Asked, Form, Messages, Written, write_whole};
 use std::alloc::{AllocError, Global};
 use std::io::Write;
 
@@ -63,9 +63,7 @@ fn leads_of(
     known: &Known<'_>,
     conf: &Conf,
     names: &[&[u8]],
-) -> Result<Leads, AllocError>
-    ensures { IfOk result (λ leads. list_all is_shown leads.lines.items ≡ true) }
-{
+) -> Result<Leads, AllocError> {
     let words = looked_up(alloc, names, known.devices)?;
     let index = index_of(alloc, known.modules, known.later, &words)?;
     let states = States::new(alloc);
@@ -81,24 +79,26 @@ fn leads_of(
         whole: false,
         builtin: &known.modules.builtin,
     };
-    lead_lines(alloc, &sources, &world, &query_of(names), known.devices)
+    leads_to(alloc, &sources, &world, &query_of(names), known.devices)
 }
 
 /// Writes what leads to names, and tells if it cannot be written. Returns the status.
 fn write_leads<O: Write, E: Write>(
+    alloc: Global,
+    form: Form,
     leads: &Leads,
     output: &mut O,
     messages: &mut Messages<'_, E>,
-) -> u8
-    requires shown { list_all is_shown leads.now.lines.items ≡ true }
-    ensures status { result ≤ 1 }
-    ensures told { result ≡ 0 → WasTold (O.contents output.old) (O.contents output.new) }
+) -> Result<u8, AllocError>
+    ensures status { IfOk result (λ status. status ≤ 1) }
+    ensures told { IfOk result (λ status. status ≡ 0 → WasTold form (O.contents output.old) (O.contents output.new)) }
 {
-    let written = write_whole(output, &leads.lines);
+    let lines = lines_by(alloc, form, &leads.facts)?;
+    let written = write_whole(output, &lines);
     tell_unwritten(written, messages);
     match written {
-        Written::Whole if !leads.is_missing => 0,
-        _ => 1,
+        Written::Whole if !leads.is_missing => Ok(0),
+        _ => Ok(1),
     }
 }
 
@@ -106,17 +106,18 @@ fn write_leads<O: Write, E: Write>(
 fn tell_known<O: Write, E: Write>(
     alloc: Global,
     known: &Known<'_>,
-    names: &[&[u8]],
+    asked: &Asked<'_>,
     output: &mut O,
     messages: &mut Messages<'_, E>,
 ) -> Result<u8, AllocError>
     ensures status { IfOk result (λ status. status ≤ 1) }
-    ensures told { IfOk result (λ status. status ≡ 0 → WasTold (O.contents output.old) (O.contents output.new)) }
+    ensures told { IfOk result (λ status. status ≡ 0 → WasTold (form_by asked.now.switches.explain) (O.contents output.old) (O.contents output.new)) }
 {
     let conf = conf_of(alloc, known.conf)?;
     tell_bad_lines(alloc, known.conf, &conf, messages)?;
-    let leads = leads_of(alloc, known, &conf, names)?;
-    Ok(write_leads(&leads, output, messages))
+    let leads = leads_of(alloc, known, &conf, &asked.words)?;
+    let form = form_by(asked.switches.explain);
+    write_leads(alloc, form, &leads, output, messages)
 }
 
 /// Reads what leads to names, and tells it. Returns the status.
@@ -128,7 +129,7 @@ fn tell_in<S: System, O: Write, E: Write>(
     messages: &mut Messages<'_, E>,
 ) -> Result<u8, AllocError>
     ensures status { IfOk result (λ status. status ≤ 1) }
-    ensures told { IfOk result (λ status. status ≡ 0 → WasTold (O.contents output.old) (O.contents output.new)) }
+    ensures told { IfOk result (λ status. status ≡ 0 → WasTold (form_by asked.now.switches.explain) (O.contents output.old) (O.contents output.new)) }
 {
     let named = asked.configurations.as_slice();
     let conf = read_configuration(host, asked.kmod, directory, named, messages)?;
@@ -142,7 +143,7 @@ fn tell_in<S: System, O: Write, E: Write>(
         devices: &devices,
         directory,
     };
-    tell_known(host.alloc(), &known, &asked.words, output, messages)
+    tell_known(host.alloc(), &known, asked, output, messages)
 }
 
 /// Tells what leads to the names that are asked for, on standard output. Returns the status: 0 if each stands for a module,
@@ -154,7 +155,7 @@ pub(crate) fn tell_why<S: System, O: Write, E: Write>(
     messages: &mut Messages<'_, E>,
 ) -> Result<u8, AllocError>
     ensures status { IfOk result (λ status. status ≤ 1) }
-    ensures told { IfOk result (λ status. status ≡ 0 → WasTold (O.contents output.old) (O.contents output.new)) }
+    ensures told { IfOk result (λ status. status ≡ 0 → WasTold (form_by asked.now.switches.explain) (O.contents output.old) (O.contents output.new)) }
 {
     if is_rootless(host, asked.root.unwrap_or(b""), messages)? {
         return Ok(1);

@@ -1,6 +1,7 @@
 -- What a command line asks for (modprobe(8)).
 use Rattle.std.specs.Prelude.{ℕ, ◌+◌, ◌-◌, ◌^◌, min, true, false, List, [], ◌∷◌, ◌++◌, fold, Option, Some, None, option_map, unwrap_or}
 use Rattle.std.specs.Borrow.{Bor}
+use Rattle.std.specs.Option.{option_or}
 use Rattle.text_parts.specs.Text.{texts_of}
 use Rattle.kmod_version.specs.declared.kmod.Kmod.{Kmod}
 use Rattle.kmod_version.specs.declared.kmod.Kmod.TheVariants.{Version34}
@@ -9,8 +10,11 @@ use Rattle.modprobe_words.specs.declared.options.Switch.{Switch as SwitchOption}
 use Rattle.modprobe_words.specs.declared.options.Switch.TheVariants as switch
 use Rattle.modprobe_words.specs.declared.options.Valued.{Valued}
 use Rattle.modprobe_words.specs.declared.options.Valued.TheVariants as valued
+use Rattle.modprobe_words.specs.declared.form.Form.{Form}
+use Rattle.modprobe_words.specs.declared.form.Form.TheVariants.{Text}
 use Rattle.modprobe_words.specs.declared.switches.Switches.{Switches}
 use Rattle.modprobe_words.specs.declared.asked.Asked.{Asked as CodeAsked}
+use Rattle.modprobe_words.specs.Forms.{form_of}
 use Rattle.modprobe_words.specs.Words.{Item, plain, with_value, operand, fault}
 
 -- one option more; `-q` sets the verbosity to 0 and `-v` adds 1 to it
@@ -29,7 +33,7 @@ with_switch s switch.ShowExports = record s { show_module = true }
 with_switch s switch.DryRun = record s { dry_run = true }
 with_switch s switch.Quiet = record s { verbosity = 0 }
 with_switch s switch.Verbose = record s { verbosity = min (s.verbosity + 1) (2 ^ 64 - 1) }
-with_switch s switch.Explain = record s { explain = true }
+with_switch s switch.Explain = record s { explain = Some Text }
 with_switch s switch.Lint = record s { lint = true }
 with_switch s switch.Whole = record s { whole = true }
 with_switch s switch.Why = record s { why = true }
@@ -54,12 +58,16 @@ no_switch =
       show_config = false;
       show_module = false;
       dry_run = false;
-      explain = false;
+      explain = None;
       lint = false;
       whole = false;
       why = false;
       verbosity = 4;
     }
+
+-- the last `--explain` counts
+abbrev pub with_form : Switches → Option Form → Switches
+with_form s form = record s { explain = option_or form s.explain }
 
 -- options without values, each -C, the last -d, -S, --root and --as, and the other words
 pub record Asked : Type 0 where
@@ -78,6 +86,7 @@ with_option a valued.Dirname text = record a { directory = Some text }
 with_option a valued.SetVersion text = record a { release = Some text }
 with_option a valued.Root text = record a { root = Some text }
 with_option a valued.As text = record a { kmod = unwrap_or (kmod_of text) a.kmod }
+with_option a valued.Explain text = record a { switches = with_form a.switches (form_of text) }
 
 abbrev pub with_item : Asked → Item → Asked
 with_item a (plain option) = record a { switches = with_switch a.switches option }

@@ -1,4 +1,5 @@
 pub mod Options
+pub mod Forms
 pub mod Found
 pub mod Words
 pub mod Numbers

@@ -19,7 +19,7 @@ use Rattle.modprobe_words.specs.declared.items.Item.{Item as CodeItem}
 use Rattle.modprobe_words.specs.declared.items.Item.TheVariants as code_item
 use Rattle.modprobe_words.specs.declared.long_words.Step.{Step as CodeStep}
 use Rattle.modprobe_words.specs.declared.long_words.Step.TheVariants as code_step
-use Rattle.modprobe_words.specs.Options.{meaning_of_letter, meaning_of}
+use Rattle.modprobe_words.specs.Options.{meaning_of_letter, meaning_of, valued_form}
 use Rattle.modprobe_words.specs.Found.{found_long}
 
 -- why words are refused
@@ -72,9 +72,14 @@ abbrev pub value_part : List ℕ → Option (List ℕ)
 value_part [] = None
 value_part (byte ∷ rest) = if byte == 61 then Some rest else value_part rest
 
+-- a value of an option that needs none
+abbrev pub with_form : LongOption → Option Valued → List ℕ → Read
+with_form option None value = only (fault (word_takes_none option))
+with_form option (Some valued) value = only (with_value valued value)
+
 abbrev pub option_read : LongOption → Meaning → Option (List ℕ) → Read
 option_read option (Plain switch) None = only (plain switch)
-option_read option (Plain switch) (Some value) = only (fault (word_takes_none option))
+option_read option (Plain switch) (Some value) = with_form option (valued_form option) value
 option_read option (WithValue valued) None = wait_for valued (ByWord option)
 option_read option (WithValue valued) (Some value) = only (with_value valued value)
 

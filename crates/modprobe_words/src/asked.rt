@@ -3,6 +3,7 @@ ghost use Rattle.std.specs.Prelude.{◌≡◌, IfOk, OnOk};
 ghost use Rattle.modprobe_words.specs.Asked.{asked_by, asked_of, nothing_asked, with_item};
 ghost use Rattle.modprobe_words.specs.Words.{item_of, items_of};
 
+use crate::form::Form;
 use crate::items::Item;
 use crate::options::Valued;
 use crate::switches::Switches;
@@ -52,6 +53,9 @@ impl<'a> Asked<'a> {
             Item::WithValue(Valued::SetVersion, text) => self.release = Some(text),
             Item::WithValue(Valued::Root, text) => self.root = Some(text),
             Item::WithValue(Valued::As, text) => self.kmod = Kmod::of(text).unwrap_or(self.kmod),
+            Item::WithValue(Valued::Explain, text) => {
+                self.switches = self.switches.with_form(Form::of(text));
+            }
             Item::Operand(word) => self.words.push(word)?,
             Item::WithValue(Valued::Wait, _) | Item::Refused(_) => {}
         }

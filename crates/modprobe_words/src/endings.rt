@@ -3,6 +3,7 @@ ghost use Rattle.std.specs.Prelude.{◌≡◌, option_map};
 ghost use Rattle.modprobe_words.specs.Endings.{ending_of, first_ending, seen};
 ghost use Rattle.modprobe_words.specs.Words.{item_of, items_of};
 
+use crate::form::Form;
 use crate::items::{Fault, Item};
 use crate::numbers::is_number;
 use crate::options::{Switch, Valued};
@@ -17,6 +18,8 @@ pub enum Ending<'a> {
     BadWait(&'a [u8]),
     /// `--as` has this in place of a version that is known.
     BadKmod(&'a [u8]),
+    /// `--explain` has this in place of a form that is known.
+    BadForm(&'a [u8]),
     Refused(Fault<'a>),
 }
 
@@ -29,6 +32,9 @@ fn ending_of(item: Item<'_>) -> Option<Ending<'_>>
         Item::WithValue(Valued::Wait, text) if !is_number(text) => Some(Ending::BadWait(text)),
         Item::WithValue(Valued::As, text) if Kmod::of(text).is_none() => {
             Some(Ending::BadKmod(text))
+        }
+        Item::WithValue(Valued::Explain, text) if Form::of(text).is_none() => {
+            Some(Ending::BadForm(text))
         }
         Item::Refused(fault) => Some(Ending::Refused(fault)),
         _ => None,

@@ -41,7 +41,7 @@ Options of queries:
   -S, --set-version=VERSION   The release in place of that of the machine
       --root=DIR              Read all files, of /etc, /sys and /proc too, below DIR
       --as=VERSION            Answer as kmod 30 or as kmod 34; without it as 34
-      --explain               Say on standard error which lines gave the answer
+      --explain[=json]        Say on standard error which lines gave the answer
       --whole                 With -r: what the removal itself would do
 
 General options:

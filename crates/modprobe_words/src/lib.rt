@@ -4,6 +4,7 @@
 mod arguments;
 mod asked;
 mod endings;
+mod form;
 mod found;
 mod help;
 mod items;
@@ -21,6 +22,7 @@ mod written;
 pub use arguments::{given_options, given_variable, given_words};
 pub use asked::Asked;
 pub use endings::{Ending, first_ending};
+pub use form::Form;
 pub use items::{Fault, Item};
 pub use messages::{Level, Messages, tell_line, write_parts};
 pub use numbers::{behind_spaces, is_digit, is_space};

@@ -1,6 +1,6 @@
 //! The options of modprobe(8), and six more: `--explain`, `--lint`, `--root`, `--as`, `--whole` and `--why`.
 ghost use Rattle.std.specs.Prelude.{◌≡◌};
-ghost use Rattle.modprobe_words.specs.Options.{kind_of, may_be_cut, meaning_of_letter, meaning_of, word_of};
+ghost use Rattle.modprobe_words.specs.Options.{kind_of, may_be_cut, meaning_of_letter, meaning_of, word_of, valued_form};
 
 /// An option without a value.
 #[derive(Clone, Copy)]
@@ -40,6 +40,7 @@ pub enum Valued {
     SetVersion,
     Root,
     As,
+    Explain,
 }
 
 /// What an option stands for.
@@ -223,6 +224,16 @@ impl LongOption {
             self,
             LongOption::AsWord | LongOption::WholeWord | LongOption::WhyWord
         )
+    }
+
+    /// What an option without a value stands for if it has one all the same; None if that is refused.
+    pub(crate) fn valued_form(self) -> Option<Valued>
+        ensures { result ≡ valued_form self }
+    {
+        match self {
+            LongOption::ExplainWord => Some(Valued::Explain),
+            _ => None,
+        }
     }
 
     #[tactic(auto, unfolding(crate::specs::Options::meaning_of))]

@@ -1,7 +1,8 @@
 //! Options without values.
 ghost use Rattle.std.specs.Prelude.{◌≡◌};
-ghost use Rattle.modprobe_words.specs.Asked.{no_switch, with_switch};
+ghost use Rattle.modprobe_words.specs.Asked.{no_switch, with_form, with_switch};
 
+use crate::form::Form;
 use crate::options::Switch;
 
 /// Which options without values were given.
@@ -19,7 +20,8 @@ pub struct Switches {
     /// What the file of a module has is asked for.
     pub show_module: bool,
     pub dry_run: bool,
-    pub explain: bool,
+    /// In which form it is told why an answer is as it is, if it is told.
+    pub explain: Option<Form>,
     pub lint: bool,
     /// A removal is shown as it would be made.
     pub whole: bool,
@@ -45,7 +47,7 @@ impl Switches {
             show_config: false,
             show_module: false,
             dry_run: false,
-            explain: false,
+            explain: None,
             lint: false,
             whole: false,
             why: false,
@@ -72,7 +74,7 @@ impl Switches {
             Switch::DryRun => switches.dry_run = true,
             Switch::Quiet => switches.verbosity = 0,
             Switch::Verbose => switches.verbosity = switches.verbosity.saturating_add(1),
-            Switch::Explain => switches.explain = true,
+            Switch::Explain => switches.explain = Some(Form::Text),
             Switch::Lint => switches.lint = true,
             Switch::Whole => switches.whole = true,
             Switch::Why => switches.why = true,
@@ -83,6 +85,15 @@ impl Switches {
             | Switch::Version
             | Switch::Help => {}
         }
+        switches
+    }
+
+    /// With the value of an `--explain`.
+    pub(crate) fn with_form(self, form: Option<Form>) -> Switches
+        ensures { result ≡ with_form self form }
+    {
+        let mut switches = self;
+        switches.explain = form.or(self.explain);
         switches
     }
 }

@@ -75,7 +75,7 @@ fn shown_by(ending: Ending<'_>) -> Option<&'static str>
     match ending {
         Ending::Version => Some(VERSION),
         Ending::Help => Some(HELP),
-        Ending::BadWait(_) | Ending::BadKmod(_) | Ending::Refused(_) => None,
+        Ending::BadWait(_) | Ending::BadKmod(_) | Ending::BadForm(_) | Ending::Refused(_) => None,
     }
 }
 
@@ -87,6 +87,9 @@ fn tell_why<E: Write>(ending: Ending<'_>, errors: &mut E) {
         }
         Ending::BadKmod(text) => {
             tell_line(errors, b"ERROR: --as has '", text, b"': it knows 30 and 34");
+        }
+        Ending::BadForm(text) => {
+            tell_line(errors, b"ERROR: --explain has '", text, b"': it knows json");
         }
         Ending::Refused(fault) => tell_fault(fault, errors),
         Ending::Version | Ending::Help => {}

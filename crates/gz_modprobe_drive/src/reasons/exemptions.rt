@@ -4,7 +4,8 @@ ghost use Rattle.kmod_query.specs.Objects.{object_of};
 ghost use Rattle.gz_modprobe_drive.specs.Exemptions.{asked_exemption, exemption_of};
 
 use crate::reasons::tasks::Tasks;
-use crate::reasons::told::Told;
+use crate::reasons::told::{OfEach, Told};
+use answer_facts::{Blacklist, ModuleFact, What};
 use kmod_names::normal_alias;
 use kmod_query::{Ask, Object, Query, World, is_barred};
 use std::alloc::AllocError;
@@ -24,13 +25,13 @@ pub(crate) enum Exemption {
 }
 
 impl Exemption {
-    /// What is said after `blacklisted`.
-    fn why(self) -> &'static [u8] {
+    /// What the lines do then.
+    fn effect(self) -> Blacklist {
         match self {
-            Exemption::OwnName => b", which does not hold for its own name without -b",
-            Exemption::Needed => b", which does not hold for what another module needs",
-            Exemption::SoftDependency => b", which does not hold for a soft dependency",
-            Exemption::Resolved => b", which does not hold for -R",
+            Exemption::OwnName => Blacklist::OwnName,
+            Exemption::Needed => Blacklist::Needed,
+            Exemption::SoftDependency => Blacklist::SoftDependency,
+            Exemption::Resolved => Blacklist::Resolved,
         }
     }
 }
@@ -68,7 +69,7 @@ impl Told<'_> {
     ) -> Result<(), AllocError> {
         let asked = self.known.asked;
         if asked.world.conf.is_blacklisted(name) && tasks.add_exempt(self.alloc, name, exemption)? {
-            self.tell_blacklist(name, exemption.why());
+            return self.tell_blacklist(name, exemption.effect());
         }
         Ok(())
     }
@@ -87,12 +88,19 @@ impl Told<'_> {
     }
 
     /// Tells the blacklist lines of a name that stands for other modules alone.
-    pub(crate) fn tell_blacklisted_alias(&mut self, name: &[u8], objects: &[Object]) {
+    pub(crate) fn tell_blacklisted_alias(
+        &mut self,
+        name: &[u8],
+        objects: &[Object],
+    ) -> Result<(), AllocError> {
         let is_alias = !objects.is_empty()
             && !objects.iter().any(|object| is_same(&object.name, name));
-        if is_alias && !self.known.is_removal() {
-            self.tell_blacklist(name, b", which does not hold for an alias");
+        if !is_alias || self.known.is_removal() {
+            return Ok(());
         }
+        let named = self.known.named;
+        let what = OfEach::BlacklistedAlias;
+        self.say_of_each(name, what, &named.blacklist, name, None)
     }
 
     /// Whether a blacklist line has a name of a module with `-` for `_`. That of the kernel's command line may, and does not
@@ -112,9 +120,8 @@ impl Told<'_> {
         let named = self.known.named;
         for line in named.blacklist.all() {
             if self.is_misspelt(line.name, name)? {
-                let why: &[u8] = b", which does not hold: only ";
-                let what: [&[u8]; 5] = [b"blacklisted as ", line.name, why, name, b" would"];
-                self.say_of(name, &what, line.place);
+                let what = What::Module(ModuleFact::Misspelt(self.text(line.name)?));
+                self.say_of(name, what, line.place)?;
             }
         }
         Ok(())

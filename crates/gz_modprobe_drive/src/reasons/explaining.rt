@@ -1,14 +1,12 @@
 //! Why an answer is as it is: which line of which file says so.
-ghost use Rattle.std.specs.Prelude.{◌≡◌, IfOk, true};
-ghost use Rattle.std.specs.List.{list_all};
-ghost use Rattle.gz_modprobe_drive.specs.Told.{is_shown};
 
 use crate::kernel_list::kernel_list;
 use crate::reasons::known::Known;
 use crate::reasons::named_lines::NamedLines;
 use crate::reasons::sources::Sources;
 use crate::reasons::tasks::{Subject, Task, Tasks};
-use crate::reasons::told::{Spot, Told};
+use crate::reasons::told::Told;
+use answer_facts::{Blacklist, Fact, MissingFact, NameFact, Outcome, RemovalFact, Spot, What};
 use kmod_names::name_of_path;
 use kmod_query::{
     Ask, Asked, AtPath, Object, OwnFile, Query, World, is_barred, is_fatal, is_passed,
@@ -37,12 +35,10 @@ impl Told<'_> {
     ) -> Result<(), AllocError> {
         let query = &self.known.asked.query;
         if is_passed(world, query, object) {
-            self.tell_in_kernel(&object.name, b", so nothing is loaded");
-            return Ok(());
+            return self.tell_in_kernel(&object.name, Outcome::NothingLoaded);
         }
         if is_barred(world, query, object) {
-            self.tell_blacklist(&object.name, b", so it is not loaded");
-            return Ok(());
+            return self.tell_blacklist(&object.name, Blacklist::Holds);
         }
         self.tell_exempt_object(tasks, world, object)?;
         let subject = Subject::of(self.alloc, object, query.ignore_commands)?;
@@ -77,11 +73,12 @@ impl Told<'_> {
     }
 
     /// Tells the modules of a name that are left out, since an earlier one is refused.
-    fn tell_left_out(&mut self, refused: &Object, objects: &[Object]) {
+    fn tell_left_out(&mut self, refused: &Object, objects: &[Object]) -> Result<(), AllocError> {
         for object in objects {
-            let what: [&[u8]; 3] = [b"not asked for, since ", &refused.name, b" is not removed"];
-            self.say(&object.name, &what, Spot::Nowhere);
+            let fact = RemovalFact::LeftOut(self.text(&refused.name)?);
+            self.say_removal(&object.name, fact)?;
         }
+        Ok(())
     }
 
     /// Tells what becomes of the modules of a name, up to one that is refused. Returns whether one is refused.
@@ -89,7 +86,7 @@ impl Told<'_> {
         for (at, object) in objects.iter().enumerate() {
             if self.begin(tasks, object)? {
                 let later = objects.get(at.saturating_add(1)..);
-                self.tell_left_out(object, later.unwrap_or(&[]));
+                self.tell_left_out(object, later.unwrap_or(&[]))?;
                 return Ok(true);
             }
         }
@@ -116,7 +113,9 @@ impl Told<'_> {
     ) -> Result<(), AllocError> {
         let name = name_of_path(self.alloc, word)?;
         let name = name.as_bytes();
-        self.say(word, &[b"the file of ", name], Spot::Whole(file));
+        let what = What::Name(NameFact::File(self.text(name)?));
+        let spot = self.whole(file)?;
+        self.say(word, what, spot)?;
         if matches!(self.known.asked.query.ask, Ask::Resolve) {
             return Ok(());
         }
@@ -136,8 +135,8 @@ impl Told<'_> {
         match at {
             AtPath::File(file) => self.begin_file(tasks, word, file.as_bytes()),
             AtPath::Nothing(reason) => {
-                self.say(word, &[b"a path: ", reason.as_bytes()], Spot::Nowhere);
-                Ok(())
+                let fact = MissingFact::BadPath(self.text(reason.as_bytes())?);
+                self.say(word, What::Missing(fact), Spot::Nowhere)
             }
         }
     }
@@ -207,23 +206,20 @@ impl Told<'_> {
         if matches!(self.known.asked.query.ask, Ask::ShowConfig) {
             self.tell_idle()?;
         }
-        self.say_hidden();
-        self.say_unread();
-        self.say_line_ends();
-        Ok(())
+        self.say_hidden()?;
+        self.say_unread()?;
+        self.say_line_ends()
     }
 }
 
-/// The lines of an explanation. They are told over `named`, which has no lines yet: the caller has it, so that no step
+/// The facts of an explanation. They are told over `named`, which has no lines yet: the caller has it, so that no step
 /// that may be refused has to drop it.
 fn explained<'a>(
     alloc: Global,
     sources: &Sources<'a>,
     asked: &Asked<'a>,
     named: &mut NamedLines<'a>,
-) -> Result<Vec<u8>, AllocError>
-    ensures { IfOk result (λ lines. list_all is_shown lines.items ≡ true) }
-{
+) -> Result<Vec<Fact>, AllocError> {
     named.add(alloc, asked.world.conf, sources.builtin)?;
     let line = sources.command_line;
     let given = words(alloc, line.strip_suffix(b"\n").unwrap_or(line))?;
@@ -235,19 +231,16 @@ fn explained<'a>(
     };
     let mut told = Told::new(alloc, &known);
     told.tell_all()?;
-    told.into_lines()
+    Ok(told.into_facts())
 }
 
-/// Why a query of a world is answered as it is, in lines for people. Control characters of names and texts are shown as
-/// question marks. It fails only if memory runs out.
+/// Why a query of a world is answered as it is. It fails only if memory runs out.
 pub fn explanation(
     alloc: Global,
     sources: &Sources<'_>,
     world: &World<'_>,
     query: &Query<'_>,
-) -> Result<Vec<u8>, AllocError>
-    ensures { IfOk result (λ lines. list_all is_shown lines.items ≡ true) }
-{
+) -> Result<Vec<Fact>, AllocError> {
     let mut named = NamedLines::new(alloc);
     let asked = Asked {
         alloc,

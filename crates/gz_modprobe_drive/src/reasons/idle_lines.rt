@@ -2,7 +2,7 @@
 
 use crate::reasons::heads::{Head, Heads};
 use crate::reasons::told::Told;
-use crate::reasons::told_modules::LATER;
+use answer_facts::{IdleFact, Setting, What};
 use kmod_conf::TextLine;
 use kmod_names::AliasEntry;
 use kmod_query::{Finding, find_name};
@@ -30,8 +30,8 @@ impl Told<'_> {
         for line in lines {
             let target = line.target.as_bytes();
             if !self.known.is_module(self.alloc, target)? {
-                let what: [&[u8]; 3] = [b"alias of ", target, b", but no module has that name"];
-                self.say_of(line.pattern.as_bytes(), &what, line.place);
+                let what = What::Idle(IdleFact::Alias(self.text(target)?));
+                self.say_of(line.pattern.as_bytes(), what, line.place)?;
             }
         }
         Ok(())
@@ -42,12 +42,16 @@ impl Told<'_> {
         &mut self,
         lines: &[Head<'_>],
         has_patterns: bool,
-        what: &[u8],
+        setting: Setting,
     ) -> Result<(), AllocError> {
         for line in lines {
             let passes = has_patterns && is_pattern(line.name);
             if !passes && !self.known.is_module(self.alloc, line.name)? {
-                self.say_of(line.name, &[what], line.place);
+                self.say_of(
+                    line.name,
+                    What::Idle(IdleFact::Unknown(setting)),
+                    line.place,
+                )?;
             }
         }
         Ok(())
@@ -57,20 +61,21 @@ impl Told<'_> {
         for line in lines {
             let name = line.name.as_bytes();
             if !self.is_known(name)? {
-                let what = b"options, but no module or alias has this name";
-                self.say_of(name, &[what], line.place);
+                let what = What::Idle(IdleFact::Unknown(Setting::Options));
+                self.say_of(name, what, line.place)?;
             }
         }
         Ok(())
     }
 
     /// Tells lines of a kind whose name an earlier one has.
-    fn tell_later_lines(&mut self, kind: &[u8], lines: &Heads<'_>) {
+    fn tell_later_lines(&mut self, setting: Setting, lines: &Heads<'_>) -> Result<(), AllocError> {
         for (number, line) in lines.all().iter().enumerate() {
             if lines.numbers(line.name).first() != Some(&number) {
-                self.say_of(line.name, &[kind, LATER], line.place);
+                self.say_of(line.name, What::Idle(IdleFact::Later(setting)), line.place)?;
             }
         }
+        Ok(())
     }
 
     /// Tells the lines of the configuration that have no effect.
@@ -78,15 +83,12 @@ impl Told<'_> {
         let asked = self.known.asked;
         let conf = asked.world.conf;
         let named = self.known.named;
-        let what = b"blacklisted, but no module has this name";
-        self.tell_idle_names(named.blacklist.all(), false, what)?;
+        self.tell_idle_names(named.blacklist.all(), false, Setting::Blacklist)?;
         self.tell_idle_aliases(conf.aliases())?;
         self.tell_idle_options(conf.options())?;
-        let what = b"softdep, but no module has this name";
-        self.tell_idle_names(named.softdeps.all(), true, what)?;
-        self.tell_later_lines(b"install", &named.installs);
-        self.tell_later_lines(b"remove", &named.removes);
-        self.tell_later_lines(b"softdep", &named.softdeps);
-        Ok(())
+        self.tell_idle_names(named.softdeps.all(), true, Setting::Softdep)?;
+        self.tell_later_lines(Setting::Install, &named.installs)?;
+        self.tell_later_lines(Setting::Remove, &named.removes)?;
+        self.tell_later_lines(Setting::Softdep, &named.softdeps)
     }
 }

@@ -1,15 +1,12 @@
 //! What leads to a module: who needs it, which lines have it, and which devices ask for it.
-ghost use Rattle.std.specs.Prelude.{◌≡◌, IfOk, true};
-ghost use Rattle.std.specs.List.{list_all};
-ghost use Rattle.gz_modprobe_drive.specs.Told.{is_shown};
 
 use crate::devices::Device;
 use crate::reasons::known::Known;
 use crate::reasons::named_lines::NamedLines;
 use crate::reasons::sources::Sources;
-use crate::reasons::told::{Spot, Told};
-use crate::reasons::told_loads::{DIRECT, how_needed};
+use crate::reasons::told::Told;
 use crate::reasons::told_words::{ALIASES, DEPENDENCIES};
+use answer_facts::{Blacklist, Command, Fact, LeadFact, ModuleFact, Passed, Side, What};
 use indexmap::IndexSet;
 use kmod_conf::{SoftdepLine, WeakdepLine};
 use kmod_index::DepLine;
@@ -18,10 +15,10 @@ use kmod_query::{Asked, Query, World, find_name, install_line, remove_line};
 use std::alloc::{AllocError, Global};
 use text_parts::is_same;
 
-/// What leads to names, in lines for people.
+/// What leads to names.
 #[derive(Drop)]
 pub struct Leads {
-    pub lines: Vec<u8>,
+    pub facts: Vec<Fact>,
     /// Whether a name stands for no module.
     pub is_missing: bool,
 }
@@ -35,14 +32,17 @@ impl Told<'_> {
         is_direct: bool,
     ) -> Result<(), AllocError> {
         let asked = self.known.asked;
-        let needs = line.needed_names(self.alloc)?;
-        let how = how_needed(self.alloc, asked.world.index, &needs, name)?;
-        if is_same(&how, DIRECT) == is_direct {
-            let own = line.name(self.alloc)?;
-            let spot = Spot::Line(DEPENDENCIES, line.number());
-            self.say(own.as_bytes(), &[b"needs ", name, &how], spot);
+        let index = asked.world.index;
+        let own_needs = line.needed_names(self.alloc)?;
+        let through = index.nearest(self.alloc, &own_needs, name)?;
+        if through.is_empty() != is_direct {
+            return Ok(());
         }
-        Ok(())
+        let own = line.name(self.alloc)?;
+        let needs = self.text(name)?;
+        let spot = self.line(DEPENDENCIES, line.number())?;
+        let what = What::Module(ModuleFact::Needs { needs, through });
+        self.say(own.as_bytes(), what, spot)
     }
 
     /// Tells the modules that need a module: first those that need it themselves.
@@ -73,18 +73,22 @@ impl Told<'_> {
         }
     }
 
-    /// Tells those words of a line that stand for a module.
-    fn tell_items(
+    /// Tells those soft items on one side of a module that stand for another one.
+    fn tell_soft_items(
         &mut self,
         name: &[u8],
-        what: &[u8],
-        of: &[u8],
-        words: &[Text],
-        place: Place,
+        side: Side,
+        line: &SoftdepLine,
     ) -> Result<(), AllocError> {
+        let words = match side {
+            Side::Before => line.items.pre(),
+            Side::After => line.items.post(),
+        };
         for word in words {
             if self.leads_to(word.as_bytes(), name)? {
-                self.say_of(word.as_bytes(), &[what, of], place);
+                let of = self.text(line.name.as_bytes())?;
+                let what = What::Lead(LeadFact::Softdep { side, of });
+                self.say_of(word.as_bytes(), what, line.place)?;
             }
         }
         Ok(())
@@ -99,14 +103,19 @@ impl Told<'_> {
             Some(counting) if counting.place != line.place => return Ok(()),
             _ => {}
         }
-        let (items, place) = (&line.items, line.place);
-        self.tell_items(name, b"softdep before ", own, items.pre(), place)?;
-        self.tell_items(name, b"softdep after ", own, items.post(), place)
+        self.tell_soft_items(name, Side::Before, line)?;
+        self.tell_soft_items(name, Side::After, line)
     }
 
+    /// Tells the weak items of a line that stand for a module.
     fn tell_weakdep(&mut self, line: &WeakdepLine, name: &[u8]) -> Result<(), AllocError> {
-        let own = line.name.as_bytes();
-        self.tell_items(name, b"weakdep of ", own, line.items.words(), line.place)
+        for word in line.items.words() {
+            if self.leads_to(word.as_bytes(), name)? {
+                let what = What::Lead(LeadFact::Weakdep(self.text(line.name.as_bytes())?));
+                self.say_of(word.as_bytes(), what, line.place)?;
+            }
+        }
+        Ok(())
     }
 
     /// Tells the soft and weak dependencies that a module is.
@@ -122,23 +131,30 @@ impl Told<'_> {
         Ok(())
     }
 
-    /// Tells the lines of the configuration that have the name of a module.
-    fn tell_own_lines(&mut self, name: &[u8]) -> Result<(), AllocError> {
-        let (asked, named) = (self.known.asked, self.known.named);
+    /// Tells the lines of the configuration that have aliases of a module.
+    fn tell_own_aliases(&mut self, name: &[u8]) -> Result<(), AllocError> {
+        let asked = self.known.asked;
         let conf = asked.world.conf;
         for line in conf.aliases() {
             if is_same(line.target.as_bytes(), name) {
-                let what: [&[u8]; 2] = [b"alias of ", name];
-                self.say_of(line.pattern.as_bytes(), &what, line.place);
+                let what = What::Lead(LeadFact::Alias(self.text(name)?));
+                self.say_of(line.pattern.as_bytes(), what, line.place)?;
             }
         }
-        self.tell_blacklist(name, b"");
-        self.tell_options(name, None)?;
-        let line = install_line(self.alloc, &asked.world, name, None)?;
-        self.tell_commands(name, b"install", line, &named.installs, b"");
-        let line = remove_line(self.alloc, &asked.world, name, None)?;
-        self.tell_commands(name, b"remove", line, &named.removes, b"");
         Ok(())
+    }
+
+    /// Tells the lines of the configuration that have the name of a module.
+    fn tell_own_lines(&mut self, name: &[u8]) -> Result<(), AllocError> {
+        let (asked, named) = (self.known.asked, self.known.named);
+        self.tell_own_aliases(name)?;
+        self.tell_blacklist(name, Blacklist::Listed)?;
+        self.tell_options(name, None)?;
+        let (install, remove, passed) = (Command::Install, Command::Remove, Passed::Never);
+        let line = install_line(self.alloc, &asked.world, name, None)?;
+        self.tell_commands(name, install, line, &named.installs, passed)?;
+        let line = remove_line(self.alloc, &asked.world, name, None)?;
+        self.tell_commands(name, remove, line, &named.removes, passed)
     }
 
     /// Tells a device, if its alias stands for a module.
@@ -146,10 +162,9 @@ impl Told<'_> {
         if !self.leads_to(&device.alias, name)? {
             return Ok(());
         }
-        let spot = Spot::Whole(&device.folder);
-        let what: [&[u8]; 3] = [b"alias of ", name, b" that a device has"];
-        self.say(&device.alias, &what, spot);
-        Ok(())
+        let what = What::Lead(LeadFact::Device(self.text(name)?));
+        let spot = self.whole(&device.folder)?;
+        self.say(&device.alias, what, spot)
     }
 
     /// Tells the lines of modules.alias of a module.
@@ -159,8 +174,9 @@ impl Told<'_> {
         let lines = index.alias_lines(self.alloc)?;
         for line in &lines {
             if is_same(line.name(), name) {
-                let spot = Spot::Line(ALIASES, line.number());
-                self.say(line.key(), &[b"alias of ", name], spot);
+                let what = What::Lead(LeadFact::Alias(self.text(name)?));
+                let spot = self.line(ALIASES, line.number())?;
+                self.say(line.key(), what, spot)?;
             }
         }
         Ok(())
@@ -212,9 +228,7 @@ fn told_leads<'a>(
     asked: &Asked<'a>,
     devices: &[Device],
     named: &mut NamedLines<'a>,
-) -> Result<Leads, AllocError>
-    ensures { IfOk result (λ leads. list_all is_shown leads.lines.items ≡ true) }
-{
+) -> Result<Leads, AllocError> {
     named.add(alloc, asked.world.conf, sources.builtin)?;
     let known = Known {
         asked,
@@ -225,23 +239,20 @@ fn told_leads<'a>(
     let mut told = Told::new(alloc, &known);
     let is_missing = told.tell_lead_words(devices)?;
     Ok(Leads {
-        lines: told.into_lines()?,
+        facts: told.into_facts(),
         is_missing,
     })
 }
 
 /// What leads to the modules of names: the modules that need them, soft and weak dependencies, lines of the configuration,
-/// devices whose alias stands for them, and their lines of modules.alias. Lines are for people: control characters of names
-/// and texts are shown as question marks. It fails only if memory runs out.
-pub fn lead_lines(
+/// devices whose alias stands for them, and their lines of modules.alias. It fails only if memory runs out.
+pub fn leads_to(
     alloc: Global,
     sources: &Sources<'_>,
     world: &World<'_>,
     query: &Query<'_>,
     devices: &[Device],
-) -> Result<Leads, AllocError>
-    ensures { IfOk result (λ leads. list_all is_shown leads.lines.items ≡ true) }
-{
+) -> Result<Leads, AllocError> {
     let mut named = NamedLines::new(alloc);
     let asked = Asked {
         alloc,

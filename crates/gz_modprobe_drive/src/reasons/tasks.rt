@@ -1,8 +1,9 @@
 //! What is to be told, in the order of what is done.
 
 use crate::reasons::exemptions::Exemption;
+use answer_facts::Side;
 use indexmap::{IndexMap, IndexSet};
-use kmod_names::Place;
+use kmod_names::{Place, Text};
 use kmod_query::Object;
 use std::alloc::{AllocError, Global};
 
@@ -47,20 +48,13 @@ impl Subject {
     }
 }
 
-/// A module that another one needs: who needs it, how, and by which line of modules.dep.
+/// A module that another one needs: who needs it, by itself or through these, and by which line of modules.dep.
 #[derive(Drop)]
 pub(crate) struct Need {
     pub(crate) name: Vec<u8>,
     pub(crate) by: Vec<u8>,
-    pub(crate) how: Vec<u8>,
+    pub(crate) through: Vec<Text>,
     pub(crate) number: usize,
-}
-
-/// On which side of its module a word of a softdep line stands.
-#[derive(Clone, Copy)]
-pub(crate) enum Side {
-    Before,
-    After,
 }
 
 /// A word of a softdep line of a module, and where the line stands.

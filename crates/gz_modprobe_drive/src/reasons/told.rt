@@ -1,50 +1,48 @@
-//! Lines for people: of whom, what, and where it stands.
-ghost use Rattle.std.specs.Prelude.{◌≡◌, IfOk, true};
-ghost use Rattle.std.specs.List.{list_all};
-ghost use Rattle.gz_modprobe_drive.specs.Told.{is_shown};
+//! Facts of an answer: of whom, what, and where it stands.
 
 use crate::line_ends::first_cr_line;
 use crate::reasons::heads::Heads;
 use crate::reasons::known::Known;
-use crate::reasons::shown::Shown;
-use crate::unread::Unread;
-use kmod_names::Place;
+use answer_facts::{
+    Blacklist, Command, Fact, FileFact, IdleFact, ModuleFact, NameFact, Setting, Spot, What,
+};
+use kmod_names::{Place, Text};
 use kmod_query::Taken;
 use std::alloc::{AllocError, Global};
 
 /// For how many words near names are looked for.
 const SEARCHES: usize = 8;
 
-/// Where something stands.
+/// What is said of each line of a name.
 #[derive(Clone, Copy)]
-pub(crate) enum Spot<'a> {
-    /// A line of a file.
-    Line(&'a [u8], usize),
-    /// An entry of a file whose entries end with a NUL.
-    Entry(&'a [u8], usize),
-    /// A file or a folder.
-    Whole(&'a [u8]),
-    /// It stands in no file.
-    Nowhere,
+pub(crate) enum OfEach {
+    /// It is a blacklist line of a module.
+    Blacklisted(Blacklist),
+    /// It is a blacklist line of an alias.
+    BlacklistedAlias,
+    /// It has the name, and this command.
+    Named(Command),
+    /// It does not count, since an earlier one does.
+    Later(Setting),
 }
 
-/// Why a file is not read, after `not read, `.
-pub(crate) fn why_unread(reason: Unread) -> &'static [u8] {
-    match reason {
-        Unread::Dotted => b"since its name begins with a dot",
-        Unread::OtherEnding => b"since its name does not end in .conf",
-        Unread::Folder => b"since it is a folder within a folder",
-        Unread::LeadsNowhere => b"since it is a link that leads to nothing",
-        Unread::Outside => b"since it lies in no folder modprobe.d",
+impl OfEach {
+    fn what(self) -> What {
+        match self {
+            OfEach::Blacklisted(effect) => What::Module(ModuleFact::Blacklisted(effect)),
+            OfEach::BlacklistedAlias => What::Idle(IdleFact::BlacklistedAlias),
+            OfEach::Named(command) => What::Name(NameFact::Named(command)),
+            OfEach::Later(setting) => What::Idle(IdleFact::Later(setting)),
+        }
     }
 }
 
-/// Lines about what is known, one after another.
+/// Facts about what is known, one after another.
 #[derive(Drop)]
 pub(crate) struct Told<'a> {
     pub(crate) alloc: Global,
     pub(crate) known: &'a Known<'a>,
-    lines: Shown,
+    facts: Vec<Fact>,
     /// What a removal takes by now, if it is made and not only shown.
     pub(crate) taken: Vec<Taken>,
     /// For how many words near names may still be looked for.
@@ -52,95 +50,106 @@ pub(crate) struct Told<'a> {
 }
 
 impl<'a> Told<'a> {
-    /// No lines yet.
+    /// No facts yet.
     pub(crate) fn new(alloc: Global, known: &'a Known<'a>) -> Told<'a> {
         Told {
             alloc,
             known,
-            lines: Shown::new(alloc),
+            facts: Vec::new(alloc),
             taken: Vec::new(alloc),
             searches: SEARCHES,
         }
     }
 
-    /// All that was told. It fails only if memory ran out before.
-    pub(crate) fn into_lines(self) -> Result<Vec<u8>, AllocError>
-        ensures { IfOk result (λ lines. list_all is_shown lines.items ≡ true) }
-    {
-        self.lines.into_bytes()
+    /// All that was told.
+    pub(crate) fn into_facts(self) -> Vec<Fact> {
+        self.facts
     }
 
-    /// Adds a file and a number of it.
-    fn push_number(&mut self, file: &[u8], unit: &[u8], number: usize) {
-        match format!(in self.alloc; "{number}") {
-            Ok(text) => self.lines.push(&[b" (", file, unit, text.as_bytes(), b")"]),
-            Err(_) => self.lines.cut(),
-        }
+    /// A text of its own.
+    pub(crate) fn text(&self, bytes: &[u8]) -> Result<Text, AllocError> {
+        Text::new(self.alloc, bytes)
     }
 
-    fn push_spot(&mut self, spot: Spot<'_>) {
-        match spot {
-            Spot::Line(file, number) => self.push_number(file, b" line ", number),
-            Spot::Entry(file, number) => self.push_number(file, b" entry ", number),
-            Spot::Whole(file) => self.lines.push(&[b" (", file, b")"]),
-            Spot::Nowhere => {}
-        }
+    /// A line of a file.
+    pub(crate) fn line(&self, file: &[u8], number: usize) -> Result<Spot, AllocError> {
+        Ok(Spot::Line(self.text(file)?, number as u64))
     }
 
-    /// Adds a line: of whom, the parts of what is said, and where that stands.
-    pub(crate) fn say(&mut self, whom: &[u8], what: &[&[u8]], spot: Spot<'_>) {
-        self.lines.push(&[whom, b": "]);
-        self.lines.push(what);
-        self.push_spot(spot);
-        self.lines.end_line();
+    /// An entry of a file whose entries end with a NUL.
+    pub(crate) fn entry(&self, file: &[u8], number: usize) -> Result<Spot, AllocError> {
+        Ok(Spot::Entry(self.text(file)?, number as u64))
     }
 
-    /// Adds a line of what stands in the configuration.
-    pub(crate) fn say_of(&mut self, whom: &[u8], what: &[&[u8]], place: Place) {
-        let path = self.known.sources.path(place.source);
-        self.say(whom, what, Spot::Line(path, place.line));
+    /// A file or a folder.
+    pub(crate) fn whole(&self, file: &[u8]) -> Result<Spot, AllocError> {
+        Ok(Spot::Whole(self.text(file)?))
     }
 
-    /// Adds a line for each line of a name, but for the one that counts.
+    /// Adds a fact: of whom, what is said, and where that stands.
+    pub(crate) fn say(&mut self, whom: &[u8], what: What, spot: Spot) -> Result<(), AllocError> {
+        let whom = self.text(whom)?;
+        self.facts.push(Fact { whom, what, spot })?;
+        Ok(())
+    }
+
+    /// Adds a fact of what stands in the configuration.
+    pub(crate) fn say_of(
+        &mut self,
+        whom: &[u8],
+        what: What,
+        place: Place,
+    ) -> Result<(), AllocError> {
+        let spot = self.line(self.known.sources.path(place.source), place.line)?;
+        self.say(whom, what, spot)
+    }
+
+    /// Adds a fact for each line of a name, but for the one that counts.
     pub(crate) fn say_of_each(
         &mut self,
         whom: &[u8],
-        what: &[&[u8]],
+        what: OfEach,
         lines: &Heads<'_>,
         name: &[u8],
         counting: Option<Place>,
-    ) {
+    ) -> Result<(), AllocError> {
         for number in lines.numbers(name) {
             match lines.all().get(*number) {
-                Some(head) if counting != Some(head.place) => self.say_of(whom, what, head.place),
+                Some(head) if counting != Some(head.place) => {
+                    self.say_of(whom, what.what(), head.place)?;
+                }
                 _ => {}
             }
         }
+        Ok(())
     }
 
     /// Tells the files of the configuration that are hidden by others of their names.
-    pub(crate) fn say_hidden(&mut self) {
+    pub(crate) fn say_hidden(&mut self) -> Result<(), AllocError> {
         for file in self.known.sources.hidden {
-            let what = b"not read, since a file of its name comes first";
-            self.say(&file.path, &[what], Spot::Whole(&file.by));
+            let what = What::File(FileFact::Hidden(self.text(&file.by)?));
+            self.say(&file.path, what, Spot::Nowhere)?;
         }
+        Ok(())
     }
 
     /// Tells the files of the configuration whose lines end with a carriage return.
-    pub(crate) fn say_line_ends(&mut self) {
+    pub(crate) fn say_line_ends(&mut self) -> Result<(), AllocError> {
         for file in self.known.sources.files {
             if let Some(number) = first_cr_line(&file.text) {
-                let what = b"a CR ends its lines, and counts as part of their last words";
-                self.say(&file.path, &[what], Spot::Line(&file.path, number));
+                let spot = self.line(&file.path, number)?;
+                self.say(&file.path, What::File(FileFact::CarriageReturn), spot)?;
             }
         }
+        Ok(())
     }
 
     /// Tells the files beside the configuration that are not read.
-    pub(crate) fn say_unread(&mut self) {
+    pub(crate) fn say_unread(&mut self) -> Result<(), AllocError> {
         for file in self.known.sources.unread {
-            let what: [&[u8]; 2] = [b"not read, ", why_unread(file.reason)];
-            self.say(&file.path, &what, Spot::Nowhere);
+            let what = What::File(FileFact::Unread(file.reason));
+            self.say(&file.path, what, Spot::Nowhere)?;
         }
+        Ok(())
     }
 }

@@ -1,36 +1,22 @@
 //! What is reported of a load, module by module in the order in which they are loaded.
 
 use crate::reasons::exemptions::Exemption;
-use crate::reasons::tasks::{Need, Side, Subject, Task, Tasks};
-use crate::reasons::told::{Spot, Told};
+use crate::reasons::tasks::{Need, Subject, Task, Tasks};
+use crate::reasons::told::Told;
 use crate::reasons::told_soft::{push_words, soft_words};
 use crate::reasons::told_words::DEPENDENCIES;
-use kmod_index::Index;
+use answer_facts::{Command, LineFact, ModuleFact, Outcome, Passed, Side, What};
 use kmod_names::Text;
 use kmod_query::{Ask, install_line};
 use std::alloc::{AllocError, Global};
 
-/// What is said of a need of the module itself.
-pub(crate) const DIRECT: &[u8] = b", direct";
-
-/// How a module of these needs is needed: by the module itself, or through others of them.
-pub(crate) fn how_needed(
-    alloc: Global,
-    index: &Index<'_>,
-    needs: &[Text],
-    need: &[u8],
-) -> Result<Vec<u8>, AllocError> {
-    let through = index.nearest(alloc, needs, need)?;
-    let Some((first, others)) = through.split_first() else {
-        return Vec::from_slice(alloc, DIRECT);
-    };
-    let mut how = Vec::from_slice(alloc, b" through ")?;
-    how.extend_from_slice(first.as_bytes())?;
-    for other in others {
-        how.extend_from_slice(b", ")?;
-        how.extend_from_slice(other.as_bytes())?;
+/// The same names.
+fn copied(alloc: Global, names: &[Text]) -> Result<Vec<Text>, AllocError> {
+    let mut all = Vec::new(alloc);
+    for name in names {
+        all.push(Text::new(alloc, name.as_bytes())?)?;
     }
-    Ok(how)
+    Ok(all)
 }
 
 impl Told<'_> {
@@ -47,7 +33,7 @@ impl Told<'_> {
             all.push(Need {
                 name: Vec::from_slice(self.alloc, need.as_bytes())?,
                 by: Vec::from_slice(self.alloc, name)?,
-                how: how_needed(self.alloc, index, &needs, need.as_bytes())?,
+                through: index.nearest(self.alloc, &needs, need.as_bytes())?,
                 number: line.number(),
             })?;
         }
@@ -55,9 +41,12 @@ impl Told<'_> {
     }
 
     /// Tells who needs a module, and how.
-    pub(crate) fn say_need(&mut self, need: &Need) {
-        let spot = Spot::Line(DEPENDENCIES, need.number);
-        self.say(&need.name, &[b"needed by ", &need.by, &need.how], spot);
+    pub(crate) fn say_need(&mut self, need: &Need) -> Result<(), AllocError> {
+        let by = self.text(&need.by)?;
+        let through = copied(self.alloc, &need.through)?;
+        let what = What::Module(ModuleFact::NeededBy { by, through });
+        let spot = self.line(DEPENDENCIES, need.number)?;
+        self.say(&need.name, what, spot)
     }
 
     /// Goes on with what a module needs, and then with the module.
@@ -80,7 +69,7 @@ impl Told<'_> {
 
     /// Tells who needs a module, and goes on with it.
     pub(crate) fn tell_need(&mut self, tasks: &mut Tasks, need: &Need) -> Result<(), AllocError> {
-        self.say_need(need);
+        self.say_need(need)?;
         self.tell_exempt(tasks, &need.name, Exemption::Needed)?;
         tasks.push(Task::Fill(Subject::by_name(self.alloc, &need.name)?))
     }
@@ -102,8 +91,7 @@ impl Told<'_> {
         };
         let (items, place) = (&line.items, line.place);
         if subject.bare {
-            let what = b"softdep, passed over by -i";
-            self.say_of(&subject.name, &[what], place);
+            self.say_of(&subject.name, What::Line(LineFact::Softdep), place)?;
             return tasks.push(Task::Own(subject));
         }
         let mut after = soft_words(alloc, &subject.name, Side::After, items.post(), place)?;
@@ -125,24 +113,24 @@ impl Told<'_> {
         let (name, alias) = (subject.name.as_slice(), subject.alias.as_deref());
         self.tell_misspelt(name)?;
         if has_file {
-            self.tell_refused(name);
+            self.tell_refused(name)?;
         }
         let line = install_line(self.alloc, &self.known.asked.world, name, alias)?;
-        let why: &[u8] = match (subject.bare, has_items) {
-            (true, _) => b", passed over by -i",
-            (false, true) => b", passed over since it has soft items",
-            (false, false) => b"",
+        let passed = match (subject.bare, has_items) {
+            (true, _) => Passed::ByOption,
+            (false, true) => Passed::BySoftItems,
+            (false, false) => Passed::Never,
         };
         let is_loaded = has_file || (line.is_some() && !subject.bare && !has_items);
         if is_loaded {
             self.tell_options(name, alias)?;
         }
         let named = self.known.named;
-        self.tell_commands(name, b"install", line, &named.installs, why);
-        if !is_loaded && !self.known.is_built_in(name, subject.builtin) {
-            self.tell_no_module(name);
+        self.tell_commands(name, Command::Install, line, &named.installs, passed)?;
+        if is_loaded || self.known.is_built_in(name, subject.builtin) {
+            return Ok(());
         }
-        Ok(())
+        self.tell_no_module(name)
     }
 
     /// Tells the lines of a module that count for a load of it, and those of its name that do not.
@@ -159,11 +147,10 @@ impl Told<'_> {
         let asked = self.known.asked;
         let conf = asked.world.conf;
         if let Some(line) = conf.softdep_of(self.alloc, name)? {
-            self.tell_later_softdeps(name, line.place);
+            self.tell_later_softdeps(name, line.place)?;
         }
         if is_dry && (is_built_in || self.known.is_live(name)) {
-            self.tell_in_kernel(name, b"");
-            return Ok(());
+            return self.tell_in_kernel(name, Outcome::Silent);
         }
         let has_file = is_named || self.known.has_file(name);
         self.tell_line(subject, has_file, has_items)

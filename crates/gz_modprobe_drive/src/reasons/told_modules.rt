@@ -2,53 +2,83 @@
 
 use crate::kernel_list::is_allowed;
 use crate::reasons::heads::Heads;
-use crate::reasons::told::{Spot, Told};
+use crate::reasons::told::{OfEach, Told};
 use crate::sys::MODULES;
+use answer_facts::{
+    Blacklist, Command, LineFact, ModuleFact, Outcome, Passed, Setting, Spot, StateFact, What,
+};
 use kmod_conf::TextLine;
 use modprobe_files::COMMAND_LINE;
 use std::alloc::AllocError;
 use text_parts::is_same;
 
-/// What is reported of a line that an earlier one of its kind keeps from counting.
-pub(crate) const LATER: &[u8] = b" line does not count, since another comes first";
+/// Of which kind the lines with a command are.
+pub(crate) fn setting_of(command: Command) -> Setting {
+    match command {
+        Command::Install => Setting::Install,
+        Command::Remove => Setting::Remove,
+    }
+}
 
 impl Told<'_> {
-    /// Tells what /sys/module says of a module, and what follows.
-    pub(crate) fn tell_state(&mut self, name: &[u8], state: &[u8], why: &[u8]) {
-        self.say(name, &[state, why], Spot::Whole(MODULES));
+    /// Tells what /sys/module says of a module.
+    pub(crate) fn tell_state(&mut self, name: &[u8], state: StateFact) -> Result<(), AllocError> {
+        let spot = self.whole(MODULES)?;
+        self.say(name, What::State(state), spot)
     }
 
     /// Tells that the kernel has a module, and what follows.
-    pub(crate) fn tell_in_kernel(&mut self, name: &[u8], why: &[u8]) {
+    pub(crate) fn tell_in_kernel(
+        &mut self,
+        name: &[u8],
+        outcome: Outcome,
+    ) -> Result<(), AllocError> {
         if self.known.is_live(name) {
-            self.tell_state(name, b"loaded already", why);
+            self.tell_state(name, StateFact::Loaded(outcome))
         } else {
-            self.tell_built_in(name, name, why);
+            self.tell_built_in(name, outcome)
         }
     }
 
     /// Tells the blacklist lines of a module.
-    pub(crate) fn tell_blacklist(&mut self, name: &[u8], why: &[u8]) {
+    pub(crate) fn tell_blacklist(
+        &mut self,
+        name: &[u8],
+        effect: Blacklist,
+    ) -> Result<(), AllocError> {
         let named = self.known.named;
-        self.say_of_each(name, &[b"blacklisted", why], &named.blacklist, name, None);
+        let what = OfEach::Blacklisted(effect);
+        self.say_of_each(name, what, &named.blacklist, name, None)
     }
 
     /// Tells that the kernel's command line keeps the kernel from loading a module.
-    pub(crate) fn tell_refused(&mut self, name: &[u8]) {
-        if !is_allowed(self.known.refused, name) {
-            let what = b"in module_blacklist=, so the kernel refuses it";
-            self.say(name, &[what], Spot::Line(COMMAND_LINE, 1));
+    pub(crate) fn tell_refused(&mut self, name: &[u8]) -> Result<(), AllocError> {
+        if is_allowed(self.known.refused, name) {
+            return Ok(());
         }
+        let spot = self.line(COMMAND_LINE, 1)?;
+        self.say(name, What::Module(ModuleFact::KernelRefuses), spot)
     }
 
     /// Tells that no module has a name, by which an alias may be switched off.
-    pub(crate) fn tell_no_module(&mut self, name: &[u8]) {
-        let more: &[u8] = if is_same(name, b"off") {
-            b", so its alias is switched off"
+    pub(crate) fn tell_no_module(&mut self, name: &[u8]) -> Result<(), AllocError> {
+        let fact = if is_same(name, b"off") {
+            ModuleFact::SwitchedOff
         } else {
-            b""
+            ModuleFact::NoModule
         };
-        self.say(name, &[b"no module has this name", more], Spot::Nowhere);
+        self.say(name, What::Module(fact), Spot::Nowhere)
+    }
+
+    /// Options of a module, which a line of its own name has or one of the alias by which it came.
+    fn options_of(&self, name: &[u8], line: &TextLine) -> Result<LineFact, AllocError> {
+        let own = line.name.as_bytes();
+        let text = self.text(line.text.as_bytes())?;
+        if is_same(own, name) {
+            return Ok(LineFact::Options(text));
+        }
+        let alias = self.text(own)?;
+        Ok(LineFact::AliasOptions { text, alias })
     }
 
     /// Tells the options of a module, and of the alias by which it came.
@@ -59,15 +89,10 @@ impl Told<'_> {
     ) -> Result<(), AllocError> {
         let asked = self.known.asked;
         let conf = asked.world.conf;
-        for line in conf.options_of(self.alloc, name, alias)?.iter() {
-            let own = line.name.as_bytes();
-            let (of, alias): (&[u8], &[u8]) = if is_same(own, name) {
-                (b"", b"")
-            } else {
-                (b", of the alias ", own)
-            };
-            let what = [b"options ", line.text.as_bytes(), of, alias];
-            self.say_of(name, &what, line.place);
+        let lines = conf.options_of(self.alloc, name, alias)?;
+        for line in lines.iter() {
+            let fact = self.options_of(name, line)?;
+            self.say_of(name, What::Line(fact), line.place)?;
         }
         Ok(())
     }
@@ -77,17 +102,23 @@ impl Told<'_> {
     pub(crate) fn tell_commands(
         &mut self,
         name: &[u8],
-        kind: &[u8],
+        command: Command,
         line: Option<&TextLine>,
         lines: &Heads<'_>,
-        why: &[u8],
-    ) {
+        passed: Passed,
+    ) -> Result<(), AllocError> {
         let mut counting = None;
         if let Some(line) = line {
-            let what = [kind, b" ", line.text.as_bytes(), why];
-            self.say_of(name, &what, line.place);
+            let text = self.text(line.text.as_bytes())?;
+            let fact = LineFact::Command {
+                command,
+                text,
+                passed,
+            };
+            self.say_of(name, What::Line(fact), line.place)?;
             counting = Some(line.place);
         }
-        self.say_of_each(name, &[kind, LATER], lines, name, counting);
+        let what = OfEach::Later(setting_of(command));
+        self.say_of_each(name, what, lines, name, counting)
     }
 }

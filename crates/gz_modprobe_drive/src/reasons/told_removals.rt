@@ -3,9 +3,13 @@ ghost use Rattle.std.specs.Prelude.{◌≡◌};
 ghost use Rattle.gz_modprobe_drive.specs.Evidence.{users_beside};
 
 use crate::holders::holders_folder;
-use crate::reasons::tasks::{Need, Side, Subject, Task, Tasks};
-use crate::reasons::told::{Spot, Told};
+use crate::reasons::tasks::{Need, Subject, Task, Tasks};
+use crate::reasons::told::Told;
 use crate::reasons::told_soft::{push_words, soft_words};
+use crate::sys::MODULES;
+use answer_facts::{
+    Command, LineFact, Outcome, Passed, RemovalFact, Shows, Side, Spot, StateFact, What,
+};
 use kmod_query::{
     ModuleStatus, Object, Taken, Verdict, has_users, is_fatal, is_gone, is_in_use_after,
     judge_after, push_taken, remove_line,
@@ -30,6 +34,11 @@ impl Told<'_> {
         }
     }
 
+    /// Tells what becomes of a module, which stands nowhere.
+    pub(crate) fn say_removal(&mut self, name: &[u8], fact: RemovalFact) -> Result<(), AllocError> {
+        self.say(name, What::Removal(fact), Spot::Nowhere)
+    }
+
     /// Tells which modules hold a module, and how many of its users are none.
     fn tell_holders(&mut self, name: &[u8], users: u64) -> Result<(), AllocError> {
         let all = self.known.sources.holders;
@@ -37,70 +46,64 @@ impl Told<'_> {
             return Ok(());
         };
         let folder = holders_folder(self.alloc, name)?;
-        let spot = Spot::Whole(&folder);
         for holder in &holders.names {
-            let what: [&[u8]; 2] = [b"held by ", holder];
-            self.say(name, &what, spot);
+            let what = What::State(StateFact::HeldBy(self.text(holder)?));
+            let spot = self.whole(&folder)?;
+            self.say(name, what, spot)?;
         }
         let others = users_beside(users, holders.names.len());
-        if others > 0 {
-            let number = format!(in self.alloc; "{others}")?;
-            let text = b"its count of users that are no modules is ";
-            self.say(name, &[text, number.as_bytes()], spot);
+        if others == 0 {
+            return Ok(());
         }
-        Ok(())
+        let spot = self.whole(&folder)?;
+        self.say(name, What::State(StateFact::OtherUsers(others)), spot)
     }
 
     /// Tells how many use a module and which modules they are, unless none does.
     fn tell_users(&mut self, name: &[u8], status: ModuleStatus) -> Result<(), AllocError> {
         match status.users {
-            Some(0) => {}
+            Some(0) => Ok(()),
             Some(users) => {
-                let number = format!(in self.alloc; "{users}")?;
-                self.tell_state(name, b"its count of users is ", number.as_bytes());
-                return self.tell_holders(name, users);
+                self.tell_state(name, StateFact::Users(users))?;
+                self.tell_holders(name, users)
             }
-            None => self.tell_state(name, b"its count of users is not known", b""),
+            None => self.tell_state(name, StateFact::UsersUnknown),
         }
-        Ok(())
     }
 
     /// Tells why a module stays that another one needs, or that is in use.
     fn tell_need_state(&mut self, name: &[u8]) -> Result<(), AllocError> {
         if self.known.is_built_in(name, false) {
-            self.tell_built_in(name, name, b", so it is not removed");
-            return Ok(());
+            return self.tell_built_in(name, Outcome::NotRemoved);
         }
         let asked = self.known.asked;
         match asked.world.states.of(name) {
             Some(status) => self.tell_users(name, status),
-            None => {
-                self.tell_state(name, b"not loaded", b"");
-                Ok(())
-            }
+            None => self.tell_state(name, StateFact::NotLoaded),
         }
     }
 
     /// Tells that a module is gone by then, built in or not loaded.
-    fn tell_kept(&mut self, object: &Object) {
+    fn tell_kept(&mut self, object: &Object) -> Result<(), AllocError> {
         let name = object.name.as_slice();
         if is_gone(self.counted(), name) {
-            self.say(name, &[b"gone by then"], Spot::Nowhere);
+            self.say_removal(name, RemovalFact::Gone)
         } else if self.known.is_built_in(name, object.builtin) {
-            self.tell_built_in(name, name, b", so it is not removed");
+            self.tell_built_in(name, Outcome::NotRemoved)
         } else {
-            self.tell_state(name, b"not loaded", b"");
+            self.tell_state(name, StateFact::NotLoaded)
         }
     }
 
     /// Notes that a module is not removed. That may end all.
-    fn refuse(&mut self, tasks: &mut Tasks, soft: bool, name: &[u8]) {
+    fn refuse(&mut self, tasks: &mut Tasks, soft: bool, name: &[u8]) -> Result<(), AllocError> {
         if !soft {
             tasks.refuse();
         } else if is_fatal(&self.known.asked.query) {
-            self.say(name, &[b"stays, so the removal ends"], Spot::Nowhere);
+            self.say_removal(name, RemovalFact::Ends)?;
             tasks.end();
         }
+        Ok(())
     }
 
     /// Goes on with the soft items after a module, the last first, and then the module.
@@ -119,8 +122,7 @@ impl Told<'_> {
             return tasks.push(Task::Release(soft, subject));
         };
         if asked.query.ignore_commands {
-            let what = b"softdep, passed over by -i";
-            self.say_of(&subject.name, &[what], line.place);
+            self.say_of(&subject.name, What::Line(LineFact::Softdep), line.place)?;
             return tasks.push(Task::Release(soft, subject));
         }
         let after = soft_words(
@@ -145,14 +147,10 @@ impl Told<'_> {
         let (asked, holders) = (self.known.asked, self.known.sources.holders);
         match judge_after(asked, holders, self.counted(), soft, &object)? {
             Verdict::Remove => self.begin_removal(tasks, soft, subject),
-            Verdict::Pass => {
-                self.tell_kept(&object);
-                Ok(())
-            }
+            Verdict::Pass => self.tell_kept(&object),
             Verdict::Refuse(_) => {
-                self.tell_kept(&object);
-                self.refuse(tasks, soft, &object.name);
-                Ok(())
+                self.tell_kept(&object)?;
+                self.refuse(tasks, soft, &object.name)
             }
         }
     }
@@ -162,23 +160,19 @@ impl Told<'_> {
     fn tell_unused(&mut self, need: &Need) -> Result<(), AllocError> {
         let asked = self.known.asked;
         if !has_users(asked.world.states.of(&need.name)) {
-            self.tell_state(&need.name, b"nothing uses it", b", so it is removed too");
-            return Ok(());
+            let spot = self.whole(MODULES)?;
+            return self.say(&need.name, What::Removal(RemovalFact::Unused), spot);
         }
-        let more: &[u8] = if self.known.sources.whole {
-            b""
+        let shown = if self.known.sources.whole {
+            Shows::Each
         } else {
-            b", which only --whole shows"
+            Shows::WholeAlone
         };
-        let what: [&[u8]; 4] = [
-            b"nothing uses it once ",
-            &need.by,
-            b" is gone, so it is removed too",
-            more,
-        ];
+        let after = self.text(&need.by)?;
         let folder = holders_folder(self.alloc, &need.name)?;
-        self.say(&need.name, &what, Spot::Whole(&folder));
-        Ok(())
+        let spot = self.whole(&folder)?;
+        let fact = RemovalFact::Freed { after, shown };
+        self.say(&need.name, What::Removal(fact), spot)
     }
 
     /// Whether a module was gone when only this much was taken.
@@ -199,10 +193,9 @@ impl Told<'_> {
 
     /// Tells a need of a module that goes, and whether it goes too. `before` is what was taken before the module.
     fn tell_freed_need(&mut self, need: &Need, before: usize) -> Result<(), AllocError> {
-        self.say_need(need);
+        self.say_need(need)?;
         if self.known.sources.whole && self.was_gone(&need.name, before) {
-            self.say(&need.name, &[b"gone by then"], Spot::Nowhere);
-            return Ok(());
+            return self.say_removal(&need.name, RemovalFact::Gone);
         }
         self.tell_need_state(&need.name)?;
         if self.goes_since(&need.name, before) {
@@ -225,9 +218,13 @@ impl Told<'_> {
         let (name, alias) = (subject.name.as_slice(), subject.alias.as_deref());
         let (asked, named) = (self.known.asked, self.known.named);
         let is_bare = asked.query.ignore_commands;
-        let why: &[u8] = if is_bare { b", passed over by -i" } else { b"" };
+        let passed = if is_bare {
+            Passed::ByOption
+        } else {
+            Passed::Never
+        };
         let line = remove_line(self.alloc, &asked.world, name, alias)?;
-        self.tell_commands(name, b"remove", line, &named.removes, why);
+        self.tell_commands(name, Command::Remove, line, &named.removes, passed)?;
         let before = self.taken.len();
         push_taken(asked, self.known.sources.holders, &mut self.taken, object)?;
         if is_bare || line.is_none() {
@@ -246,7 +243,7 @@ impl Told<'_> {
         let Some(line) = conf.softdep_of(alloc, name)? else {
             return Ok(());
         };
-        self.tell_later_softdeps(name, line.place);
+        self.tell_later_softdeps(name, line.place)?;
         let before = soft_words(alloc, name, Side::Before, line.items.pre(), line.place)?;
         push_words(tasks, before)
     }
@@ -262,8 +259,7 @@ impl Told<'_> {
         let (asked, holders) = (self.known.asked, self.known.sources.holders);
         if is_in_use_after(asked, holders, self.counted(), &object)? {
             self.tell_need_state(&subject.name)?;
-            self.refuse(tasks, soft, &subject.name);
-            return Ok(());
+            return self.refuse(tasks, soft, &subject.name);
         }
         self.tell_removed(subject, &object)?;
         self.follow_removal(tasks, &subject.name)

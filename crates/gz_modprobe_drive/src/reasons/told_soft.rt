@@ -1,9 +1,9 @@
 //! What is reported of words of softdep lines.
 
 use crate::reasons::exemptions::Exemption;
-use crate::reasons::tasks::{Side, SoftWord, Subject, Task, Tasks};
-use crate::reasons::told::Told;
-use crate::reasons::told_modules::LATER;
+use crate::reasons::tasks::{SoftWord, Subject, Task, Tasks};
+use crate::reasons::told::{OfEach, Told};
+use answer_facts::{LeadFact, Setting, Side, What};
 use kmod_names::{Place, Text, normal_alias};
 use kmod_query::{Finding, Object, find_name};
 use std::alloc::{AllocError, Global};
@@ -66,11 +66,9 @@ impl Told<'_> {
         tasks: &mut Tasks,
         own: &SoftWord,
     ) -> Result<(), AllocError> {
-        let when: &[u8] = match own.side {
-            Side::Before => b"softdep before ",
-            Side::After => b"softdep after ",
-        };
-        self.say_of(&own.word, &[when, &own.of], own.place);
+        let (side, of) = (own.side, self.text(&own.of)?);
+        let what = What::Lead(LeadFact::Softdep { side, of });
+        self.say_of(&own.word, what, own.place)?;
         if !tasks.begin_word(self.alloc, &own.word)? {
             return Ok(());
         }
@@ -79,10 +77,14 @@ impl Told<'_> {
     }
 
     /// Tells the softdep lines of a module that do not count, since one at a place does.
-    pub(crate) fn tell_later_softdeps(&mut self, name: &[u8], place: Place) {
+    pub(crate) fn tell_later_softdeps(
+        &mut self,
+        name: &[u8],
+        place: Place,
+    ) -> Result<(), AllocError> {
         let named = self.known.named;
-        let what = [b"softdep", LATER];
-        self.say_of_each(name, &what, &named.softdeps, name, Some(place));
+        let what = OfEach::Later(Setting::Softdep);
+        self.say_of_each(name, what, &named.softdeps, name, Some(place))
     }
 
     /// Whether a word of a softdep line stands for a module.

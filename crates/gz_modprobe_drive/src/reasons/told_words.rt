@@ -1,7 +1,8 @@
 //! What is reported of a word of a command line or of a softdep line.
 
 use crate::reasons::near_names::{NEAREST_FIRST, Nearness, nearness_of};
-use crate::reasons::told::{Spot, Told};
+use crate::reasons::told::{OfEach, Told};
+use answer_facts::{Command, MissingFact, NameFact, Outcome, Spot, StateFact, What};
 use kmod_index::{DepLine, IndexLine};
 use kmod_names::{AliasEntry, name_of_path, normal_alias};
 use kmod_query::{Finding, Object, find_name};
@@ -20,92 +21,124 @@ const BUILTIN_MODINFO: &[u8] = b"modules.builtin.modinfo";
 /// How many near names are told.
 const NEAR_NAMES: usize = 3;
 
-/// What is said of an alias of a module, or of one that is built in, and where it stands.
-fn alias_of<'a>(is_built_in: bool, number: usize) -> (&'a [u8], Spot<'a>) {
-    if is_built_in {
-        let spot = Spot::Entry(BUILTIN_MODINFO, number);
-        (b"alias of the built-in ", spot)
-    } else {
-        (b"alias of ", Spot::Line(ALIASES, number))
-    }
-}
-
 impl Told<'_> {
-    fn tell_configured(&mut self, word: &[u8], entries: &[&AliasEntry]) {
+    fn tell_configured(&mut self, word: &[u8], entries: &[&AliasEntry]) -> Result<(), AllocError> {
         for entry in entries {
-            let (pattern, target) = (entry.pattern.as_bytes(), entry.target.as_bytes());
-            self.say_of(
-                word,
-                &[b"alias of ", target, b", as ", pattern],
-                entry.place,
-            );
+            let of = self.text(entry.target.as_bytes())?;
+            let pattern = self.text(entry.pattern.as_bytes())?;
+            let what = What::Name(NameFact::Alias { of, pattern });
+            self.say_of(word, what, entry.place)?;
         }
+        Ok(())
     }
 
-    fn tell_exported(&mut self, word: &[u8], lines: &[IndexLine]) {
-        for line in lines {
-            let spot = Spot::Line(SYMBOLS, line.number());
-            self.say(word, &[b"exported by ", line.name()], spot);
-        }
+    fn tell_module(&mut self, word: &[u8], line: &DepLine<'_>) -> Result<(), AllocError> {
+        let what = What::Name(NameFact::Module(self.text(line.path())?));
+        let spot = self.line(DEPENDENCIES, line.number())?;
+        self.say(word, what, spot)
     }
 
-    /// Tells the aliases of modules, or those of modules that are built in.
-    fn tell_aliased(&mut self, word: &[u8], is_built_in: bool, lines: &[IndexLine]) {
+    fn tell_exported(&mut self, word: &[u8], lines: &[IndexLine]) -> Result<(), AllocError> {
         for line in lines {
-            let (what, spot) = alias_of(is_built_in, line.number());
-            self.say(word, &[what, line.name(), b", as ", line.key()], spot);
+            let what = What::Name(NameFact::Exported(self.text(line.name())?));
+            let spot = self.line(SYMBOLS, line.number())?;
+            self.say(word, what, spot)?;
         }
+        Ok(())
+    }
+
+    /// Tells the aliases of modules.
+    fn tell_aliased(&mut self, word: &[u8], lines: &[IndexLine]) -> Result<(), AllocError> {
+        for line in lines {
+            let (of, pattern) = (self.text(line.name())?, self.text(line.key())?);
+            let spot = self.line(ALIASES, line.number())?;
+            self.say(word, What::Name(NameFact::Alias { of, pattern }), spot)?;
+        }
+        Ok(())
+    }
+
+    /// Tells the aliases of modules that are built in.
+    fn tell_aliased_built_in(
+        &mut self,
+        word: &[u8],
+        lines: &[IndexLine],
+    ) -> Result<(), AllocError> {
+        for line in lines {
+            let (of, pattern) = (self.text(line.name())?, self.text(line.key())?);
+            let spot = self.entry(BUILTIN_MODINFO, line.number())?;
+            let what = What::Name(NameFact::BuiltInAlias { of, pattern });
+            self.say(word, what, spot)?;
+        }
+        Ok(())
     }
 
     /// Tells the lines of commands of this very name.
-    fn tell_commanded(&mut self, word: &[u8], name: &[u8]) {
+    fn tell_commanded(&mut self, word: &[u8], name: &[u8]) -> Result<(), AllocError> {
         let named = self.known.named;
-        let what = b"name of an install line";
-        self.say_of_each(word, &[what], &named.installs, name, None);
-        let what = b"name of a remove line";
-        self.say_of_each(word, &[what], &named.removes, name, None);
+        let what = OfEach::Named(Command::Install);
+        self.say_of_each(word, what, &named.installs, name, None)?;
+        let what = OfEach::Named(Command::Remove);
+        self.say_of_each(word, what, &named.removes, name, None)
     }
 
-    /// Tells the line of a module that is built in.
-    pub(crate) fn tell_built_in(&mut self, word: &[u8], name: &[u8], why: &[u8]) {
-        let spot = match self.known.named.builtins.of(name).first() {
-            Some(number) => Spot::Line(BUILTIN, *number),
-            None => Spot::Nowhere,
-        };
-        self.say(word, &[b"built in", why], spot);
+    /// The line of a module that is built in.
+    fn built_in_spot(&self, name: &[u8]) -> Result<Spot, AllocError> {
+        match self.known.named.builtins.of(name).first() {
+            Some(number) => self.line(BUILTIN, *number),
+            None => Ok(Spot::Nowhere),
+        }
+    }
+
+    /// Tells that a module is built in, and what follows.
+    pub(crate) fn tell_built_in(
+        &mut self,
+        name: &[u8],
+        outcome: Outcome,
+    ) -> Result<(), AllocError> {
+        let spot = self.built_in_spot(name)?;
+        self.say(name, What::State(StateFact::BuiltIn(outcome)), spot)
+    }
+
+    /// Tells that a word, whose normal form is a name, is that of a module which is built in.
+    fn tell_built_in_name(&mut self, word: &[u8], name: &[u8]) -> Result<(), AllocError> {
+        let spot = self.built_in_spot(name)?;
+        self.say(word, What::Name(NameFact::BuiltIn), spot)
+    }
+
+    /// Tells what is wrong with a word.
+    fn tell_missing(&mut self, word: &[u8], fact: MissingFact) -> Result<(), AllocError> {
+        self.say(word, What::Missing(fact), Spot::Nowhere)
     }
 
     /// Tells why a word, whose normal form is a name, stands for modules, or that it stands for none.
-    fn tell_finding(&mut self, word: &[u8], name: &[u8], finding: &Finding<'_>) {
+    fn tell_finding(
+        &mut self,
+        word: &[u8],
+        name: &[u8],
+        finding: &Finding<'_>,
+    ) -> Result<(), AllocError> {
         match finding {
             Finding::Configured(entries) => self.tell_configured(word, entries),
-            Finding::Module(line) => {
-                let spot = Spot::Line(DEPENDENCIES, line.number());
-                self.say(word, &[b"module ", line.path()], spot)
-            }
+            Finding::Module(line) => self.tell_module(word, line),
             Finding::Exported(lines) => self.tell_exported(word, lines),
             Finding::Commanded => self.tell_commanded(word, name),
-            Finding::Aliased(lines) => self.tell_aliased(word, false, lines),
-            Finding::BuiltIn => self.tell_built_in(word, name, b""),
-            Finding::AliasedBuiltIn(lines) => self.tell_aliased(word, true, lines),
-            Finding::Nothing => {
-                let what = b"no module, alias or built-in has this name";
-                self.say(word, &[what], Spot::Nowhere)
-            }
+            Finding::Aliased(lines) => self.tell_aliased(word, lines),
+            Finding::BuiltIn => self.tell_built_in_name(word, name),
+            Finding::AliasedBuiltIn(lines) => self.tell_aliased_built_in(word, lines),
+            Finding::Nothing => self.tell_missing(word, MissingFact::NotFound),
         }
     }
 
     /// Tells why a word stands for modules, which are answered. None if it is no name.
     pub(crate) fn tell_word(&mut self, word: &[u8]) -> Result<Option<Vec<Object>>, AllocError> {
         let Some(name) = normal_alias(self.alloc, word)? else {
-            let what = b"no name, since a bracket stands alone";
-            self.say(word, &[what], Spot::Nowhere);
+            self.tell_missing(word, MissingFact::NoName)?;
             return Ok(None);
         };
         let finding = find_name(self.alloc, &self.known.asked.world, name.as_bytes())?;
-        self.tell_finding(word, name.as_bytes(), &finding);
+        self.tell_finding(word, name.as_bytes(), &finding)?;
         let objects = finding.objects(self.alloc, name.as_bytes())?;
-        self.tell_blacklisted_alias(name.as_bytes(), &objects);
+        self.tell_blacklisted_alias(name.as_bytes(), &objects)?;
         Ok(Some(objects))
     }
 
@@ -123,8 +156,9 @@ impl Told<'_> {
             let own = line.name(self.alloc)?;
             let own = own.as_bytes();
             if left > 0 && nearness_of(self.alloc, own, name)? == Some(nearness) {
-                let spot = Spot::Line(DEPENDENCIES, line.number());
-                self.say(word, &[b"there is ", own], spot);
+                let what = What::Missing(MissingFact::Near(self.text(own)?));
+                let spot = self.line(DEPENDENCIES, line.number())?;
+                self.say(word, what, spot)?;
                 left -= 1;
             }
         }
