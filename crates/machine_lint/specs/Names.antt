@@ -21,11 +21,19 @@ has_pattern name = list_any is_pattern_byte name
 abbrev pub has_file : Indexes → List ℕ → Bool
 has_file index name = is_some (line_of index.dependencies name)
 
--- an alias of the configuration, of modules.alias or of a built-in module matches the name, or a symbol is this name
+-- an alias of the configuration or of modules.alias matches the name, or a symbol is this name
 abbrev pub is_alias : Configuration → Indexes → List ℕ → Bool
 is_alias conf index name =
     nat_lt 0 (length (matching_aliases conf name)) || nat_lt 0 (length (matching_lines index.aliases name))
-    || nat_lt 0 (length (in_order (matching_lines index.builtin_aliases name))) || nat_lt 0 (length (lines_of_key index.symbols name))
+    || nat_lt 0 (length (lines_of_key index.symbols name))
+
+-- an alias of a module in the kernel matches the name
+abbrev pub is_builtin_alias : Indexes → List ℕ → Bool
+is_builtin_alias index name = nat_lt 0 (length (in_order (matching_lines index.builtin_aliases name)))
+
+-- a module in the kernel has the name, or an alias that matches it
+abbrev pub is_in_kernel : Indexes → List ℕ → Bool
+is_in_kernel index name = is_among index.builtin_names name || is_builtin_alias index name
 
 -- an alias line of the configuration has this very name for its pattern, by which it gives options to its module
 abbrev pub is_alias_pattern : Configuration → List ℕ → Bool
@@ -36,7 +44,7 @@ abbrev pub is_commanded : Configuration → List ℕ → Bool
 is_commanded conf name =
     has_install_named conf name || has_remove_named conf name || is_some (install_of conf name) || is_some (remove_of conf name)
 
--- the name leads to a file of a module, or is an alias
+-- the name leads to a file of a module, or is an alias outside the kernel
 abbrev pub is_named : Configuration → Indexes → List ℕ → Bool
 is_named conf index name = has_file index name || is_alias conf index name || is_alias_pattern conf name
 

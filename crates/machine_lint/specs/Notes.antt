@@ -10,7 +10,6 @@ use Rattle.kmod_conf.specs.declared.line.TextLine.{TextLine}
 use Rattle.kmod_conf.specs.declared.line.SoftdepLine.{SoftdepLine}
 use Rattle.kmod_conf.specs.Configuration.{Configuration}
 use Rattle.kmod_conf.specs.LookUps.{install_named, install_of, remove_named, remove_of, softdep_of}
-use Rattle.kmod_index.specs.Builtins.{is_among}
 use Rattle.kmod_index.specs.Indexes.{Indexes}
 use Rattle.machine_lint.specs.declared.judge.Judge.{Judge}
 use Rattle.machine_lint.specs.declared.known.Known.{Known}
@@ -21,7 +20,7 @@ use Rattle.machine_lint.specs.declared.note.NoteKind.TheVariants.{BadLine, Built
 use Rattle.machine_lint.specs.declared.setting.Setting.{Setting}
 use Rattle.machine_lint.specs.declared.setting.Setting.TheVariants as sets
 use Rattle.machine_lint.specs.Lines.{Said, is_depmod, is_kernel, is_package, is_same_place, lines_of, origin_at}
-use Rattle.machine_lint.specs.Names.{has_file, has_pattern, is_loadable, is_named, is_used}
+use Rattle.machine_lint.specs.Names.{has_file, has_pattern, is_in_kernel, is_loadable, is_named, is_used}
 
 -- what is known of a machine, and all lines of its configuration
 pub record Facts : Type 0 where
@@ -57,7 +56,7 @@ does_nothing command = is_idle (words command)
 -- why a name that leads to nothing has no effect: its module is in the kernel, or it is a pattern, which stands for itself here
 abbrev pub why_absent : Indexes → List ℕ → NoteKind
 why_absent index name =
-    if is_among index.builtin_names name then BuiltIn else (if has_pattern name then Pattern else Unknown)
+    if is_in_kernel index name then BuiltIn else (if has_pattern name then Pattern else Unknown)
 
 abbrev pub unless : Bool → NoteKind → Option NoteKind
 unless is_said kind = if is_said then None else Some kind
@@ -193,7 +192,7 @@ names_back facts line own = is_softdep line.setting && has_item line.name (softd
 -- of an item to which no look-up finds anything
 abbrev pub absent_item : Facts → List ℕ → List ℕ → Option NoteKind
 absent_item facts item own =
-    unless (is_used facts.conf facts.index own || is_among facts.index.builtin_names own) (UnknownItem item)
+    unless (is_used facts.conf facts.index own || is_in_kernel facts.index own) (UnknownItem item)
 
 -- an item of a softdep or weakdep line that is the line's own module, that names it back, or that no look-up finds
 abbrev pub item_by : Facts → Said → List ℕ → Option (List ℕ) → Option NoteKind

@@ -65,7 +65,8 @@ impl Judge<'_> {
         ensures { IfOk result (λ kind. kind ≡ absent_item (facts_by self.now) item.now own.now) }
     {
         let is_used = self.is_used(alloc, own)?;
-        if is_used || self.is_builtin(own) {
+        let is_in_kernel = self.is_in_kernel(alloc, own)?;
+        if is_used || is_in_kernel {
             Ok(None)
         } else {
             Ok(Some(NoteKind::UnknownItem(Text::new(alloc, item)?)))

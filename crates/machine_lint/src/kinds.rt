@@ -63,15 +63,15 @@ fn stopped_by(alloc: Global, install: Option<&TextLine>) -> Result<Option<NoteKi
 
 impl Judge<'_> {
     /// Why a name that leads to nothing has no effect.
-    fn why_absent(&self, name: &[u8]) -> NoteKind
-        ensures { result ≡ why_absent self.now.index.now name.now }
+    fn why_absent(&self, alloc: Global, name: &[u8]) -> Result<NoteKind, AllocError>
+        ensures { IfOk result (λ kind. kind ≡ why_absent self.now.index.now name.now) }
     {
-        if self.is_builtin(name) {
-            NoteKind::BuiltIn
+        if self.is_in_kernel(alloc, name)? {
+            Ok(NoteKind::BuiltIn)
         } else if has_pattern(name) {
-            NoteKind::Pattern
+            Ok(NoteKind::Pattern)
         } else {
-            NoteKind::Unknown
+            Ok(NoteKind::Unknown)
         }
     }
 
@@ -82,7 +82,7 @@ impl Judge<'_> {
         if self.is_used(alloc, name)? {
             Ok(None)
         } else {
-            Ok(Some(self.why_absent(name)))
+            Ok(Some(self.why_absent(alloc, name)?))
         }
     }
 
@@ -127,7 +127,7 @@ impl Judge<'_> {
         if is_named || has_pattern(line.name()) || !is_idle {
             Ok(None)
         } else {
-            Ok(Some(self.why_absent(line.name())))
+            Ok(Some(self.why_absent(alloc, line.name())?))
         }
     }
 

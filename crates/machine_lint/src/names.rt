@@ -1,7 +1,7 @@
 //! What names stand for.
 ghost use Rattle.std.specs.Prelude.{◌≡◌, IfOk};
 ghost use Rattle.kmod_index.specs.Builtins.{is_among};
-ghost use Rattle.machine_lint.specs.Names.{has_file, is_alias, is_commanded, is_alias_pattern, is_loadable, is_named, is_used};
+ghost use Rattle.machine_lint.specs.Names.{has_file, is_alias, is_alias_pattern, is_builtin_alias, is_commanded, is_in_kernel, is_loadable, is_named, is_used};
 
 use crate::judge::Judge;
 use std::alloc::{AllocError, Global};
@@ -16,21 +16,36 @@ impl Judge<'_> {
     }
 
     /// Whether a module of the name is in the kernel.
-    pub(crate) fn is_builtin(&self, name: &[u8]) -> bool
+    fn is_builtin(&self, name: &[u8]) -> bool
         ensures { result ≡ is_among self.now.index.now.builtin_names name.now }
     {
         self.index.is_builtin(name)
     }
 
-    /// Whether an alias matches the name, or a symbol is this name.
+    /// Whether an alias of a module in the kernel matches the name.
+    fn is_builtin_alias(&self, alloc: Global, name: &[u8]) -> Result<bool, AllocError>
+        ensures { IfOk result (λ is. is ≡ is_builtin_alias self.now.index.now name.now) }
+    {
+        let aliases = self.index.builtin_aliases(alloc, name)?;
+        Ok(aliases.len() > 0)
+    }
+
+    /// Whether a module in the kernel has the name, or an alias that matches it.
+    pub(crate) fn is_in_kernel(&self, alloc: Global, name: &[u8]) -> Result<bool, AllocError>
+        ensures { IfOk result (λ is. is ≡ is_in_kernel self.now.index.now name.now) }
+    {
+        let is_alias = self.is_builtin_alias(alloc, name)?;
+        Ok(self.is_builtin(name) || is_alias)
+    }
+
+    /// Whether an alias outside the kernel matches the name, or a symbol is this name.
     fn is_alias(&self, alloc: Global, name: &[u8]) -> Result<bool, AllocError>
         ensures { IfOk result (λ is. is ≡ is_alias self.now.conf.now self.now.index.now name.now) }
     {
         let own = self.conf.matching_aliases(alloc, name)?;
         let found = self.index.matching_aliases(alloc, name)?;
-        let built_in = self.index.builtin_aliases(alloc, name)?;
         let symbols = self.index.symbols_of_key(alloc, name)?;
-        Ok(own.len() > 0 || found.len() > 0 || built_in.len() > 0 || symbols.len() > 0)
+        Ok(own.len() > 0 || found.len() > 0 || symbols.len() > 0)
     }
 
     /// Whether an alias line of the configuration has this very name for its pattern.
@@ -53,7 +68,7 @@ impl Judge<'_> {
         Ok(has_line || install.is_some() || remove.is_some())
     }
 
-    /// Whether the name leads to a file of a module, or is an alias.
+    /// Whether the name leads to a file of a module, or is an alias outside the kernel.
     pub(crate) fn is_named(&self, alloc: Global, name: &[u8]) -> Result<bool, AllocError>
         ensures { IfOk result (λ is. is ≡ is_named self.now.conf.now self.now.index.now name.now) }
     {

@@ -16,7 +16,7 @@ pub enum NoteKind {
     Unknown,
     /// The same, and the name is written as a pattern, which stands for itself here.
     Pattern,
-    /// The name is that of a module in the kernel, which modprobe(8) does not load.
+    /// The name is that of a module in the kernel, or an alias of one. modprobe(8) does not load it.
     BuiltIn,
     /// The alias leads to this name, and no module has it.
     UnknownModule(Text),
