@@ -85,6 +85,7 @@ impl Printed<'_> {
                 name.as_bytes(),
                 b", and no module has that name",
             ]),
+            NoteKind::NoItem => self.lines.push(&[b"no item stands after pre: or post:"]),
             NoteKind::UnknownItem(item) => self
                 .lines
                 .push(&[b"nothing answers to ", item.as_bytes()]),

@@ -1,5 +1,5 @@
 -- The lines of a configuration (modprobe.d(5)), each in one form.
-use Rattle.std.specs.Prelude.{ℕ, Bool, true, false, ◌&&◌, nat_eq, List, [], ◌++◌, map, slice_get, unwrap_or}
+use Rattle.std.specs.Prelude.{ℕ, Bool, true, false, ◌&&◌, nat_eq, nat_lt, List, [], ◌++◌, length, map, slice_get, unwrap_or}
 use Rattle.kmod_names.specs.declared.alias_table.AliasEntry.{AliasEntry}
 use Rattle.kmod_names.specs.declared.place.Place.{Place}
 use Rattle.kmod_conf.specs.declared.line.NameLine.{NameLine}
@@ -46,6 +46,9 @@ lines_of conf =
     map of_alias conf.aliases ++ map (of_name sets.Blacklist) conf.blacklist ++ map (of_text sets.Options) conf.options
     ++ map (of_text sets.Install) conf.installs ++ map (of_text sets.Remove) conf.removes
     ++ map of_softdep conf.softdeps ++ map of_weakdep conf.weakdeps ++ map (of_name sets.Bad) conf.bad
+
+abbrev pub has_items : Said → Bool
+has_items line = nat_lt 0 (length line.items)
 
 -- two lines stand at one place
 abbrev pub is_same_place : Place → Place → Bool

@@ -16,10 +16,10 @@ use Rattle.machine_lint.specs.declared.known.Known.{Known}
 use Rattle.machine_lint.specs.declared.known.Origin.{Origin}
 use Rattle.machine_lint.specs.declared.note.Note.{Note}
 use Rattle.machine_lint.specs.declared.note.NoteKind.{NoteKind}
-use Rattle.machine_lint.specs.declared.note.NoteKind.TheVariants.{BadLine, BuiltIn, CarriageReturn, Later, OwnItem, Pattern, Repeated, RingItem, Stopped, Unknown, UnknownItem, UnknownModule}
+use Rattle.machine_lint.specs.declared.note.NoteKind.TheVariants.{BadLine, BuiltIn, CarriageReturn, Later, NoItem, OwnItem, Pattern, Repeated, RingItem, Stopped, Unknown, UnknownItem, UnknownModule}
 use Rattle.machine_lint.specs.declared.setting.Setting.{Setting}
 use Rattle.machine_lint.specs.declared.setting.Setting.TheVariants as sets
-use Rattle.machine_lint.specs.Lines.{Said, is_depmod, is_kernel, is_package, is_same_place, lines_of, origin_at}
+use Rattle.machine_lint.specs.Lines.{Said, has_items, is_depmod, is_kernel, is_package, is_same_place, lines_of, origin_at}
 use Rattle.machine_lint.specs.Names.{has_file, has_pattern, is_in_kernel, is_loadable, is_named, is_used}
 
 -- what is known of a machine, and all lines of its configuration
@@ -152,10 +152,14 @@ remove_kind facts line = option_or (later line.place (counting_remove facts line
 abbrev pub weakdep_kind : Facts → Said → Option NoteKind
 weakdep_kind facts line = if has_pattern line.name then None else absent facts line.name
 
-abbrev pub softdep_kind : Facts → Said → Option NoteKind
-softdep_kind facts line =
+abbrev pub filled_softdep_kind : Facts → Said → Option NoteKind
+filled_softdep_kind facts line =
     if has_pattern line.name then None
     else option_or (later_softdep line.place (softdep_of facts.conf line.name)) (absent facts line.name)
+
+-- the words of a softdep line are items only after `pre:` or `post:`
+abbrev pub softdep_kind : Facts → Said → Option NoteKind
+softdep_kind facts line = if has_items line then filled_softdep_kind facts line else Some NoItem
 
 -- by what a line sets
 abbrev pub setting_kind : Facts → Origin → Setting → Said → Option NoteKind

@@ -1,6 +1,6 @@
 //! What is noted of a line.
 ghost use Rattle.std.specs.Prelude.{◌≡◌, IfOk, option_copied};
-ghost use Rattle.machine_lint.specs.Notes.{absent, alias_kind, blacklist_kind, counting_install, counting_remove, facts_by};
+ghost use Rattle.machine_lint.specs.Notes.{absent, alias_kind, blacklist_kind, counting_install, counting_remove, facts_by, filled_softdep_kind};
 ghost use Rattle.machine_lint.specs.Notes.{install_kind, keeps_nothing, kind_of, later, later_softdep, options_kind};
 ghost use Rattle.machine_lint.specs.Notes.{remove_kind, repeated, setting_kind, softdep_kind, stopped, stopped_by, unless_here, used_options_kind, weakdep_kind, why_absent};
 
@@ -210,8 +210,13 @@ impl Judge<'_> {
         }
     }
 
-    fn softdep_kind(&self, alloc: Global, line: &Line) -> Result<Option<NoteKind>, AllocError>
-        ensures { IfOk result (λ kind. kind ≡ softdep_kind (facts_by self.now) line.now) }
+    /// What is noted of a softdep line that has an item.
+    fn filled_softdep_kind(
+        &self,
+        alloc: Global,
+        line: &Line,
+    ) -> Result<Option<NoteKind>, AllocError>
+        ensures { IfOk result (λ kind. kind ≡ filled_softdep_kind (facts_by self.now) line.now) }
     {
         if has_pattern(line.name()) {
             return Ok(None);
@@ -220,6 +225,16 @@ impl Judge<'_> {
         match later_softdep(line.place(), counting) {
             Some(kind) => Ok(Some(kind)),
             None => self.absent(alloc, line.name()),
+        }
+    }
+
+    fn softdep_kind(&self, alloc: Global, line: &Line) -> Result<Option<NoteKind>, AllocError>
+        ensures { IfOk result (λ kind. kind ≡ softdep_kind (facts_by self.now) line.now) }
+    {
+        if line.has_items() {
+            self.filled_softdep_kind(alloc, line)
+        } else {
+            Ok(Some(NoteKind::NoItem))
         }
     }
 

@@ -1,6 +1,6 @@
 //! One line of a configuration.
 ghost use Rattle.std.specs.Prelude.{◌≡◌, [], ◌++◌, IfOk, OnOk};
-ghost use Rattle.machine_lint.specs.Lines.{of_alias, of_name, of_softdep, of_text, of_weakdep};
+ghost use Rattle.machine_lint.specs.Lines.{has_items, of_alias, of_name, of_softdep, of_text, of_weakdep};
 
 use crate::setting::Setting;
 use kmod_conf::{NameLine, SoftdepLine, TextLine, WeakdepLine};
@@ -141,6 +141,12 @@ impl Line {
         ensures { result.now ≡ self.now.text }
     {
         self.text.as_bytes()
+    }
+
+    pub(crate) fn has_items(&self) -> bool
+        ensures { result ≡ has_items self.now }
+    {
+        self.items.len() > 0
     }
 
     pub(crate) fn items(&self) -> &[Text]

@@ -20,6 +20,8 @@ pub enum NoteKind {
     BuiltIn,
     /// The alias leads to this name, and no module has it.
     UnknownModule(Text),
+    /// No item stands in the softdep line: none of its words comes after `pre:` or `post:`.
+    NoItem,
     /// Nothing answers to this item.
     UnknownItem(Text),
     /// An item is the line's own module.
