@@ -80,6 +80,9 @@ impl Printed<'_> {
                 .lines
                 .push(&[b"no pattern is read here, and nothing has this name"]),
             NoteKind::BuiltIn => self.lines.push(&[why_built_in(setting)]),
+            NoteKind::AliasName => self.lines.push(&[
+                b"it names an alias, and such lines count for modules alone",
+            ]),
             NoteKind::UnknownModule(name) => self.lines.push(&[
                 b"it leads to ",
                 name.as_bytes(),

@@ -1,5 +1,5 @@
 -- What a name of a configuration stands for, by the configuration and the texts of a folder of modules (modprobe(8)).
-use Rattle.std.specs.Prelude.{ℕ, Bool, ◌||◌, ◌==◌, nat_lt, List, length, is_some}
+use Rattle.std.specs.Prelude.{ℕ, Bool, not, ◌&&◌, ◌||◌, ◌==◌, nat_lt, List, length, is_some}
 use Rattle.std.specs.List.{list_any}
 use Rattle.std.specs.Str.{bytes_eq}
 use Rattle.kmod_conf.specs.Configuration.{Configuration}
@@ -51,6 +51,16 @@ is_named conf index name = has_file index name || is_alias conf index name || is
 -- the same, or a command is run for it
 abbrev pub is_used : Configuration → Indexes → List ℕ → Bool
 is_used conf index name = is_named conf index name || is_commanded conf name
+
+-- a line that counts for modules alone may count for this name: it has a file, or a command is run for it
+abbrev pub is_module : Configuration → Indexes → List ℕ → Bool
+is_module conf index name = has_file index name || is_commanded conf name
+
+-- the name is an alias, and not that of a module in the kernel
+abbrev pub is_only_alias : Configuration → Indexes → List ℕ → Bool
+is_only_alias conf index name =
+    not (is_among index.builtin_names name)
+    && (is_alias conf index name || is_alias_pattern conf name || is_builtin_alias index name)
 
 -- a module that is loaded by its name: it has a file or is built in, or a command is run for it
 abbrev pub is_loadable : Configuration → Indexes → List ℕ → Bool

@@ -16,11 +16,11 @@ use Rattle.machine_lint.specs.declared.known.Known.{Known}
 use Rattle.machine_lint.specs.declared.known.Origin.{Origin}
 use Rattle.machine_lint.specs.declared.note.Note.{Note}
 use Rattle.machine_lint.specs.declared.note.NoteKind.{NoteKind}
-use Rattle.machine_lint.specs.declared.note.NoteKind.TheVariants.{BadLine, BuiltIn, CarriageReturn, Later, NoItem, OwnItem, Pattern, Repeated, RingItem, Stopped, Unknown, UnknownItem, UnknownModule}
+use Rattle.machine_lint.specs.declared.note.NoteKind.TheVariants.{AliasName, BadLine, BuiltIn, CarriageReturn, Later, NoItem, OwnItem, Pattern, Repeated, RingItem, Stopped, Unknown, UnknownItem, UnknownModule}
 use Rattle.machine_lint.specs.declared.setting.Setting.{Setting}
 use Rattle.machine_lint.specs.declared.setting.Setting.TheVariants as sets
 use Rattle.machine_lint.specs.Lines.{Said, has_items, is_depmod, is_kernel, is_package, is_same_place, lines_of, origin_at}
-use Rattle.machine_lint.specs.Names.{has_file, has_pattern, is_in_kernel, is_loadable, is_named, is_used}
+use Rattle.machine_lint.specs.Names.{has_file, has_pattern, is_in_kernel, is_loadable, is_module, is_named, is_only_alias, is_used}
 
 -- what is known of a machine, and all lines of its configuration
 pub record Facts : Type 0 where
@@ -64,6 +64,16 @@ unless is_said kind = if is_said then None else Some kind
 -- of a name that leads neither to a module's file nor to an alias nor to a command
 abbrev pub absent : Facts → List ℕ → Option NoteKind
 absent facts name = unless (is_used facts.conf facts.index name) (why_absent facts.index name)
+
+-- why a line that counts for modules alone has no effect
+abbrev pub why_no_module : Facts → List ℕ → NoteKind
+why_no_module facts name =
+    if is_only_alias facts.conf facts.index name then AliasName else why_absent facts.index name
+
+-- Of a name by which no module is loaded. An alias gives its module options, install and remove lines, and no blacklist,
+-- softdep and weakdep lines.
+abbrev pub no_module : Facts → List ℕ → Option NoteKind
+no_module facts name = unless (is_module facts.conf facts.index name) (why_no_module facts name)
 
 -- numbers of settings
 abbrev pub number_of : Setting → ℕ
@@ -133,7 +143,7 @@ alias_kind facts line =
     else Some (UnknownModule line.text)
 
 abbrev pub blacklist_kind : Facts → Said → Option NoteKind
-blacklist_kind facts line = option_or (absent facts line.name) (repeated facts line)
+blacklist_kind facts line = option_or (no_module facts line.name) (repeated facts line)
 
 -- the kernel itself reads its command line, for parts of it that no text names
 abbrev pub used_options_kind : Facts → Said → Option NoteKind
@@ -150,12 +160,12 @@ abbrev pub remove_kind : Facts → Said → Option NoteKind
 remove_kind facts line = option_or (later line.place (counting_remove facts line.name)) (keeps_nothing facts line)
 
 abbrev pub weakdep_kind : Facts → Said → Option NoteKind
-weakdep_kind facts line = if has_pattern line.name then None else absent facts line.name
+weakdep_kind facts line = if has_pattern line.name then None else no_module facts line.name
 
 abbrev pub filled_softdep_kind : Facts → Said → Option NoteKind
 filled_softdep_kind facts line =
     if has_pattern line.name then None
-    else option_or (later_softdep line.place (softdep_of facts.conf line.name)) (absent facts line.name)
+    else option_or (later_softdep line.place (softdep_of facts.conf line.name)) (no_module facts line.name)
 
 -- the words of a softdep line are items only after `pre:` or `post:`
 abbrev pub softdep_kind : Facts → Said → Option NoteKind
@@ -216,6 +226,7 @@ note_with line kind = record { place = line.place; setting = line.setting; name 
 abbrev pub is_absence : NoteKind → Bool
 is_absence Unknown = true
 is_absence BuiltIn = true
+is_absence AliasName = true
 is_absence (UnknownModule name) = true
 is_absence (UnknownItem item) = true
 is_absence _ = false

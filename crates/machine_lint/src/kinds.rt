@@ -1,8 +1,8 @@
 //! What is noted of a line.
 ghost use Rattle.std.specs.Prelude.{◌≡◌, IfOk, option_copied};
 ghost use Rattle.machine_lint.specs.Notes.{absent, alias_kind, blacklist_kind, counting_install, counting_remove, facts_by, filled_softdep_kind};
-ghost use Rattle.machine_lint.specs.Notes.{install_kind, keeps_nothing, kind_of, later, later_softdep, options_kind};
-ghost use Rattle.machine_lint.specs.Notes.{remove_kind, repeated, setting_kind, softdep_kind, stopped, stopped_by, unless_here, used_options_kind, weakdep_kind, why_absent};
+ghost use Rattle.machine_lint.specs.Notes.{install_kind, keeps_nothing, kind_of, later, later_softdep, no_module, options_kind};
+ghost use Rattle.machine_lint.specs.Notes.{remove_kind, repeated, setting_kind, softdep_kind, stopped, stopped_by, unless_here, used_options_kind, weakdep_kind, why_absent, why_no_module};
 
 use crate::judge::Judge;
 use crate::known::Origin;
@@ -86,6 +86,28 @@ impl Judge<'_> {
         }
     }
 
+    /// Why a line that counts for modules alone has no effect.
+    fn why_no_module(&self, alloc: Global, name: &[u8]) -> Result<NoteKind, AllocError>
+        ensures { IfOk result (λ kind. kind ≡ why_no_module (facts_by self.now) name.now) }
+    {
+        if self.is_only_alias(alloc, name)? {
+            Ok(NoteKind::AliasName)
+        } else {
+            self.why_absent(alloc, name)
+        }
+    }
+
+    /// Of a name by which no module is loaded.
+    fn no_module(&self, alloc: Global, name: &[u8]) -> Result<Option<NoteKind>, AllocError>
+        ensures { IfOk result (λ kind. kind ≡ no_module (facts_by self.now) name.now) }
+    {
+        if self.is_module(alloc, name)? {
+            Ok(None)
+        } else {
+            Ok(Some(self.why_no_module(alloc, name)?))
+        }
+    }
+
     /// That the same line stands before in the same file.
     fn repeated(&self, line: &Line) -> Option<NoteKind>
         ensures { result ≡ repeated (facts_by self.now) line.now }
@@ -158,7 +180,7 @@ impl Judge<'_> {
     fn blacklist_kind(&self, alloc: Global, line: &Line) -> Result<Option<NoteKind>, AllocError>
         ensures { IfOk result (λ kind. kind ≡ blacklist_kind (facts_by self.now) line.now) }
     {
-        match self.absent(alloc, line.name())? {
+        match self.no_module(alloc, line.name())? {
             Some(kind) => Ok(Some(kind)),
             None => Ok(self.repeated(line)),
         }
@@ -224,7 +246,7 @@ impl Judge<'_> {
         let counting = self.conf.softdep_of(alloc, line.name())?;
         match later_softdep(line.place(), counting) {
             Some(kind) => Ok(Some(kind)),
-            None => self.absent(alloc, line.name()),
+            None => self.no_module(alloc, line.name()),
         }
     }
 
@@ -244,7 +266,7 @@ impl Judge<'_> {
         if has_pattern(line.name()) {
             Ok(None)
         } else {
-            self.absent(alloc, line.name())
+            self.no_module(alloc, line.name())
         }
     }
 

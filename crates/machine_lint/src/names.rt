@@ -1,7 +1,7 @@
 //! What names stand for.
 ghost use Rattle.std.specs.Prelude.{◌≡◌, IfOk};
 ghost use Rattle.kmod_index.specs.Builtins.{is_among};
-ghost use Rattle.machine_lint.specs.Names.{has_file, is_alias, is_alias_pattern, is_builtin_alias, is_commanded, is_in_kernel, is_loadable, is_named, is_used};
+ghost use Rattle.machine_lint.specs.Names.{has_file, is_alias, is_alias_pattern, is_builtin_alias, is_commanded, is_in_kernel, is_loadable, is_module, is_named, is_only_alias, is_used};
 
 use crate::judge::Judge;
 use std::alloc::{AllocError, Global};
@@ -83,6 +83,24 @@ impl Judge<'_> {
         let is_commanded = self.is_commanded(alloc, name)?;
         let is_named = self.is_named(alloc, name)?;
         Ok(is_named || is_commanded)
+    }
+
+    /// Whether a module has the name, or a command is run for it.
+    pub(crate) fn is_module(&self, alloc: Global, name: &[u8]) -> Result<bool, AllocError>
+        ensures { IfOk result (λ is. is ≡ is_module self.now.conf.now self.now.index.now name.now) }
+    {
+        let is_commanded = self.is_commanded(alloc, name)?;
+        Ok(self.has_file(name) || is_commanded)
+    }
+
+    /// Whether the name is an alias, and not that of a module in the kernel.
+    pub(crate) fn is_only_alias(&self, alloc: Global, name: &[u8]) -> Result<bool, AllocError>
+        ensures { IfOk result (λ is. is ≡ is_only_alias self.now.conf.now self.now.index.now name.now) }
+    {
+        let is_alias = self.is_alias(alloc, name)?;
+        let is_builtin_alias = self.is_builtin_alias(alloc, name)?;
+        let has_alias = is_alias || self.is_alias_pattern(name) || is_builtin_alias;
+        Ok(!self.is_builtin(name) && has_alias)
     }
 
     /// Whether a module is loaded, or a command run, by the name.

@@ -18,6 +18,8 @@ pub enum NoteKind {
     Pattern,
     /// The name is that of a module in the kernel, or an alias of one. modprobe(8) does not load it.
     BuiltIn,
+    /// The name is an alias alone, and the line counts for modules alone.
+    AliasName,
     /// The alias leads to this name, and no module has it.
     UnknownModule(Text),
     /// No item stands in the softdep line: none of its words comes after `pre:` or `post:`.
@@ -45,6 +47,7 @@ impl NoteKind {
             self,
             NoteKind::Unknown
                 | NoteKind::BuiltIn
+                | NoteKind::AliasName
                 | NoteKind::UnknownModule(_)
                 | NoteKind::UnknownItem(_)
         )
