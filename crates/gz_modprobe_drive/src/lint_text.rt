@@ -102,6 +102,10 @@ impl Printed<'_> {
                 b"does not count, since this line comes first: ",
                 *place,
             ),
+            NoteKind::PassedOver(place) => self.push_counting(
+                b"does not count, since this line gives the module soft dependencies: ",
+                *place,
+            ),
             NoteKind::Repeated(place) => self.push_counting(
                 b"the same line stands before it: ",
                 *place,

@@ -52,6 +52,12 @@ is_named conf index name = has_file index name || is_alias conf index name || is
 abbrev pub is_used : Configuration → Indexes → List ℕ → Bool
 is_used conf index name = is_named conf index name || is_commanded conf name
 
+-- a look-up of the name finds something
+abbrev pub is_found : Configuration → Indexes → List ℕ → Bool
+is_found conf index name =
+    has_file index name || is_alias conf index name || is_in_kernel index name || has_install_named conf name
+    || has_remove_named conf name
+
 -- a line that counts for modules alone may count for this name: it has a file, or a command is run for it
 abbrev pub is_module : Configuration → Indexes → List ℕ → Bool
 is_module conf index name = has_file index name || is_commanded conf name

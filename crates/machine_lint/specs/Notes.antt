@@ -1,5 +1,5 @@
 -- What is noted of the lines of a configuration: that modprobe(8) ignores a line, or that it has no effect on this machine.
-use Rattle.std.specs.Prelude.{ℕ, Bool, true, false, not, if◌then◌else◌, ◌&&◌, ◌||◌, nat_lt, nat_eq, List, [], ◌∷◌, ◌++◌, codes, Option, Some, None, is_none, option_map}
+use Rattle.std.specs.Prelude.{ℕ, Bool, true, false, not, if◌then◌else◌, ◌&&◌, ◌||◌, nat_lt, nat_eq, List, [], ◌∷◌, ◌++◌, codes, Option, Some, None, option_map}
 use Rattle.std.specs.List.{ends_with, filter_map, find, flat_map, list_any}
 use Rattle.std.specs.Option.{option_or, option_to_list}
 use Rattle.std.specs.Str.{bytes_eq}
@@ -16,11 +16,11 @@ use Rattle.machine_lint.specs.declared.known.Known.{Known}
 use Rattle.machine_lint.specs.declared.known.Origin.{Origin}
 use Rattle.machine_lint.specs.declared.note.Note.{Note}
 use Rattle.machine_lint.specs.declared.note.NoteKind.{NoteKind}
-use Rattle.machine_lint.specs.declared.note.NoteKind.TheVariants.{AliasName, BadLine, BuiltIn, CarriageReturn, Later, NoItem, OwnItem, Pattern, Repeated, RingItem, Stopped, Unknown, UnknownItem, UnknownModule}
+use Rattle.machine_lint.specs.declared.note.NoteKind.TheVariants.{AliasName, BadLine, BuiltIn, CarriageReturn, Later, NoItem, OwnItem, PassedOver, Pattern, Repeated, RingItem, Stopped, Unknown, UnknownItem, UnknownModule}
 use Rattle.machine_lint.specs.declared.setting.Setting.{Setting}
 use Rattle.machine_lint.specs.declared.setting.Setting.TheVariants as sets
 use Rattle.machine_lint.specs.Lines.{Said, has_items, is_depmod, is_kernel, is_package, is_same_place, lines_of, origin_at}
-use Rattle.machine_lint.specs.Names.{has_file, has_pattern, is_in_kernel, is_loadable, is_module, is_named, is_only_alias, is_used}
+use Rattle.machine_lint.specs.Names.{has_file, has_pattern, is_found, is_in_kernel, is_loadable, is_module, is_named, is_only_alias, is_used}
 
 -- what is known of a machine, and all lines of its configuration
 pub record Facts : Type 0 where
@@ -126,14 +126,38 @@ keeps_nothing facts line =
     unless (is_named facts.conf facts.index line.name || has_pattern line.name || not (does_nothing line.text))
     (why_absent facts.index line.name)
 
--- options of a module whose install command does nothing; with soft dependencies an install line does not count
+abbrev pub is_found_by : Facts → Option (List ℕ) → Bool
+is_found_by facts None = false
+is_found_by facts (Some own) = is_found facts.conf facts.index own
+
+-- something answers to an item
+abbrev pub is_answered : Facts → List ℕ → Bool
+is_answered facts item = is_found_by facts (normal_alias item)
+
+-- Whether something answers to an item of a softdep line. A module for which such a line counts is loaded by its file,
+-- whatever its install line says.
+abbrev pub has_soft_items : Facts → Option SoftdepLine → Bool
+has_soft_items facts None = false
+has_soft_items facts (Some line) =
+    list_any (is_answered facts) line.items.pre || list_any (is_answered facts) line.items.post
+
+abbrev pub passed_over_by : Facts → Option SoftdepLine → Option NoteKind
+passed_over_by facts None = None
+passed_over_by facts (Some softdep) = if has_soft_items facts (Some softdep) then Some (PassedOver softdep.place) else None
+
+-- an install line of a module that has soft dependencies
+abbrev pub passed_over : Facts → Said → Option NoteKind
+passed_over facts line =
+    if has_pattern line.name then None else passed_over_by facts (softdep_of facts.conf line.name)
+
+-- options of a module whose install command does nothing and counts
 abbrev pub stopped_by : Option TextLine → Option NoteKind
 stopped_by None = None
 stopped_by (Some install) = if does_nothing install.text then Some (Stopped install.place) else None
 
 abbrev pub stopped : Facts → Said → Option NoteKind
 stopped facts line =
-    if has_file facts.index line.name && is_none (softdep_of facts.conf line.name)
+    if has_file facts.index line.name && not (has_soft_items facts (softdep_of facts.conf line.name))
     then stopped_by (install_of facts.conf line.name) else None
 
 -- an alias leads to a module, or to `off`, which switches it off; it does not lead to another alias
@@ -154,7 +178,8 @@ options_kind facts origin line =
     option_or (if is_kernel origin then None else absent facts line.name) (used_options_kind facts line)
 
 abbrev pub install_kind : Facts → Said → Option NoteKind
-install_kind facts line = option_or (later line.place (counting_install facts line.name)) (keeps_nothing facts line)
+install_kind facts line =
+    option_or (later line.place (counting_install facts line.name)) (option_or (keeps_nothing facts line) (passed_over facts line))
 
 abbrev pub remove_kind : Facts → Said → Option NoteKind
 remove_kind facts line = option_or (later line.place (counting_remove facts line.name)) (keeps_nothing facts line)
@@ -206,7 +231,7 @@ names_back facts line own = is_softdep line.setting && has_item line.name (softd
 -- of an item to which no look-up finds anything
 abbrev pub absent_item : Facts → List ℕ → List ℕ → Option NoteKind
 absent_item facts item own =
-    unless (is_used facts.conf facts.index own || is_in_kernel facts.index own) (UnknownItem item)
+    unless (is_found facts.conf facts.index own) (UnknownItem item)
 
 -- an item of a softdep or weakdep line that is the line's own module, that names it back, or that no look-up finds
 abbrev pub item_by : Facts → Said → List ℕ → Option (List ℕ) → Option NoteKind

@@ -64,9 +64,7 @@ impl Judge<'_> {
     ) -> Result<Option<NoteKind>, AllocError>
         ensures { IfOk result (λ kind. kind ≡ absent_item (facts_by self.now) item.now own.now) }
     {
-        let is_used = self.is_used(alloc, own)?;
-        let is_in_kernel = self.is_in_kernel(alloc, own)?;
-        if is_used || is_in_kernel {
+        if self.is_found(alloc, own)? {
             Ok(None)
         } else {
             Ok(Some(NoteKind::UnknownItem(Text::new(alloc, item)?)))

@@ -1,7 +1,8 @@
 //! What is noted of a line.
 ghost use Rattle.std.specs.Prelude.{◌≡◌, IfOk, option_copied};
+ghost use Rattle.std.specs.Option.{option_or};
 ghost use Rattle.machine_lint.specs.Notes.{absent, alias_kind, blacklist_kind, counting_install, counting_remove, facts_by, filled_softdep_kind};
-ghost use Rattle.machine_lint.specs.Notes.{install_kind, keeps_nothing, kind_of, later, later_softdep, no_module, options_kind};
+ghost use Rattle.machine_lint.specs.Notes.{install_kind, keeps_nothing, kind_of, later, later_softdep, no_module, options_kind, passed_over};
 ghost use Rattle.machine_lint.specs.Notes.{remove_kind, repeated, setting_kind, softdep_kind, stopped, stopped_by, unless_here, used_options_kind, weakdep_kind, why_absent, why_no_module};
 
 use crate::judge::Judge;
@@ -158,8 +159,9 @@ impl Judge<'_> {
         ensures { IfOk result (λ kind. kind ≡ stopped (facts_by self.now) line.now) }
     {
         let softdep = self.conf.softdep_of(alloc, line.name())?;
+        let has_soft_items = self.has_soft_items(alloc, softdep)?;
         let install = self.conf.install_of(alloc, line.name())?;
-        if self.has_file(line.name()) && softdep.is_none() {
+        if self.has_file(line.name()) && !has_soft_items {
             stopped_by(alloc, install)
         } else {
             Ok(None)
@@ -212,13 +214,23 @@ impl Judge<'_> {
         }
     }
 
+    /// What is noted of an install line that counts before others of its name.
+    fn first_install_kind(&self, alloc: Global, line: &Line) -> Result<Option<NoteKind>, AllocError>
+        ensures { IfOk result (λ kind. kind ≡ option_or (keeps_nothing (facts_by self.now) line.now) (passed_over (facts_by self.now) line.now)) }
+    {
+        match self.keeps_nothing(alloc, line)? {
+            Some(kind) => Ok(Some(kind)),
+            None => self.passed_over(alloc, line),
+        }
+    }
+
     fn install_kind(&self, alloc: Global, line: &Line) -> Result<Option<NoteKind>, AllocError>
         ensures { IfOk result (λ kind. kind ≡ install_kind (facts_by self.now) line.now) }
     {
         let counting = self.counting_install(alloc, line.name())?;
         match later(line.place(), counting) {
             Some(kind) => Ok(Some(kind)),
-            None => self.keeps_nothing(alloc, line),
+            None => self.first_install_kind(alloc, line),
         }
     }
 

@@ -13,6 +13,7 @@ mod note;
 mod notes;
 mod repeats;
 mod setting;
+mod soft_items;
 mod words;
 
 pub use known::{Known, Origin};

@@ -1,7 +1,7 @@
 //! What names stand for.
 ghost use Rattle.std.specs.Prelude.{◌≡◌, IfOk};
 ghost use Rattle.kmod_index.specs.Builtins.{is_among};
-ghost use Rattle.machine_lint.specs.Names.{has_file, is_alias, is_alias_pattern, is_builtin_alias, is_commanded, is_in_kernel, is_loadable, is_module, is_named, is_only_alias, is_used};
+ghost use Rattle.machine_lint.specs.Names.{has_file, is_alias, is_alias_pattern, is_builtin_alias, is_commanded, is_found, is_in_kernel, is_loadable, is_module, is_named, is_only_alias, is_used};
 
 use crate::judge::Judge;
 use std::alloc::{AllocError, Global};
@@ -83,6 +83,16 @@ impl Judge<'_> {
         let is_commanded = self.is_commanded(alloc, name)?;
         let is_named = self.is_named(alloc, name)?;
         Ok(is_named || is_commanded)
+    }
+
+    /// Whether a look-up of the name finds something.
+    pub(crate) fn is_found(&self, alloc: Global, name: &[u8]) -> Result<bool, AllocError>
+        ensures { IfOk result (λ is. is ≡ is_found self.now.conf.now self.now.index.now name.now) }
+    {
+        let is_alias = self.is_alias(alloc, name)?;
+        let is_in_kernel = self.is_in_kernel(alloc, name)?;
+        let has_line = self.conf.has_install_named(name) || self.conf.has_remove_named(name);
+        Ok(self.has_file(name) || is_alias || is_in_kernel || has_line)
     }
 
     /// Whether a module has the name, or a command is run for it.

@@ -32,6 +32,8 @@ pub enum NoteKind {
     RingItem(Text),
     /// The line at this place counts for the name.
     Later(Place),
+    /// The softdep line at this place has the module loaded by its file: its install line does not count.
+    PassedOver(Place),
     /// The same line stands at this place of the same file.
     Repeated(Place),
     /// The install line at this place runs `true` or `false` in place of a load.
