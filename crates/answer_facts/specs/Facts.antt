@@ -121,6 +121,8 @@ removal_fact_pieces whom of_removal_fact.Unused =
     sentence (codes "unused") (field (codes "module") whom) (words (codes "nothing uses it, so it is removed too") ∷ tag (codes "outcome") (codes "removed") ∷ [])
 removal_fact_pieces whom (of_removal_fact.Freed after shown) =
     sentence (codes "unused") (field (codes "module") whom) (words (codes "nothing uses it once ") ∷ field (codes "after") after ∷ words (codes " is gone, so it is removed too") ∷ words (shows_words shown) ∷ tag (codes "outcome") (codes "removed") ∷ tag (codes "shown_by") (shows_word shown) ∷ [])
+removal_fact_pieces whom of_removal_fact.Free =
+    sentence (codes "free") (field (codes "module") whom) (words (codes "nothing uses it by then") ∷ [])
 removal_fact_pieces whom of_removal_fact.Gone =
     sentence (codes "gone") (field (codes "module") whom) (words (codes "gone by then") ∷ [])
 removal_fact_pieces whom of_removal_fact.Ends =

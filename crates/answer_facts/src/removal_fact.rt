@@ -24,6 +24,8 @@ pub enum RemovalFact {
     Unused,
     /// It is removed too once this module is gone, as a dry run shows or only a whole one.
     Freed { after: Text, shown: Shows },
+    /// Nothing uses it once those are gone that were removed before.
+    Free,
     /// It was removed before.
     Gone,
     /// It stays, and ends the removal.
@@ -86,6 +88,12 @@ impl RemovalFact {
                     Piece::Tag(b"outcome", b"removed"),
                     Piece::Tag(b"shown_by", shown.word()),
                 ],
+            ),
+            RemovalFact::Free => sentence(
+                alloc,
+                b"free",
+                module,
+                &[Piece::Words(b"nothing uses it by then")],
             ),
             RemovalFact::Gone => sentence(alloc, b"gone", module, &[Piece::Words(b"gone by then")]),
             RemovalFact::Ends => sentence(

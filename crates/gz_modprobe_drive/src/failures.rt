@@ -36,6 +36,17 @@ fn tell_failure<E: Write>(
             );
             return;
         }
+        Failure::Gone(name) => {
+            let text = b"': No such file or directory";
+            messages.tell(
+                Level::Error,
+                b"could not remove '",
+                name.as_bytes(),
+                text,
+                b"",
+            );
+            return;
+        }
         Failure::NotFound(word) => (word, b" not found in directory ", directory),
         Failure::NothingToRemove(word) => (word, b" not found.", b""),
         Failure::NotInKernel(name) => (name, b" is not in kernel.", b""),

@@ -2,6 +2,8 @@
 ghost use Rattle.std.specs.Prelude.{◌≡◌};
 ghost use Rattle.gz_modprobe_drive.specs.LineEnds.{ends_with_cr};
 
+use modprobe_words::behind_spaces;
+
 /// Whether a line has a carriage return at its end.
 fn ends_with_cr(line: &[u8]) -> bool
     ensures { result ≡ ends_with_cr line.now }
@@ -9,11 +11,18 @@ fn ends_with_cr(line: &[u8]) -> bool
     line.ends_with(b"\r")
 }
 
-/// The number of the first line of a text that ends with a carriage return, from 1.
+/// Whether a carriage return at a line's end counts as part of its last word: not that of a comment, nor that of a line
+/// whose items kmod splits at any white space.
+fn counts_end(line: &[u8]) -> bool {
+    let rest = behind_spaces(line);
+    !(rest.starts_with(b"#") || rest.starts_with(b"softdep") || rest.starts_with(b"weakdep"))
+}
+
+/// The number of the first line of a text that ends with a carriage return which counts, from 1.
 pub(crate) fn first_cr_line(text: &[u8]) -> Option<usize> {
     let mut number = 1usize;
     for line in text.split(|byte| *byte == b'\n') {
-        if ends_with_cr(line) {
+        if ends_with_cr(line) && counts_end(line) {
             return Some(number);
         }
         number = number.saturating_add(1);

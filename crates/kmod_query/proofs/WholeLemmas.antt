@@ -12,9 +12,8 @@ use Rattle.kmod_query.specs.declared.taken.Taken.{Taken}
 use Rattle.kmod_query.specs.Facts.{Facts}
 use Rattle.kmod_query.specs.Objects.{names_of}
 use Rattle.kmod_query.specs.Probes.{step_limit}
-use Rattle.kmod_query.specs.Removal.{has_ended}
 use Rattle.kmod_query.specs.Removals.{removal_of, removals_of}
-use Rattle.kmod_query.specs.Whole.{Course, all_done, done, next_done, whole_word, whole_words}
+use Rattle.kmod_query.specs.Whole.{Course, all_done, done, is_over, next_done, whole_word, whole_words}
 use Rattle.kmod_query.proofs.RemovalLemmas.{removals-push}
 
 limit-is : step_limit ≡ 18446744073709551615
@@ -72,10 +71,10 @@ left-more facts holders query k course next whole old rest task e tasks below ma
     ∙ ap (λ n. all_done facts holders query n course) (sym fuel)
     ∙ h
 
-pub words-ended : (facts : Facts) (holders : List Holders) (query : Query) (course : Course) (words : List (Bor (List ℕ))) (k : ℕ) → k < length words → has_ended query course.failures ≡ true → whole_words facts holders query course (texts_of (drop k words)) ≡ course
-words-ended facts holders query course [] k below ended = absurd (omega (arith, below))
-words-ended facts holders query course (word ∷ words) zero below ended = ap (λ b. cond b course (whole_words facts holders query (whole_word facts holders query course word.now) (texts_of words))) ended
-words-ended facts holders query course (word ∷ words) (suc k) below ended = words-ended facts holders query course words k (omega (arith, below)) ended
+pub words-over : (facts : Facts) (holders : List Holders) (query : Query) (course : Course) (words : List (Bor (List ℕ))) (k : ℕ) → k < length words → is_over query course.failures ≡ true → whole_words facts holders query course (texts_of (drop k words)) ≡ course
+words-over facts holders query course [] k below ended = absurd (omega (arith, below))
+words-over facts holders query course (word ∷ words) zero below ended = ap (λ b. cond b course (whole_words facts holders query (whole_word facts holders query course word.now) (texts_of words))) ended
+words-over facts holders query course (word ∷ words) (suc k) below ended = words-over facts holders query course words k (omega (arith, below)) ended
 
 -- one more module that another one needed
 pub needs-more : (f : List Taken → List ℕ → List Taken) (needs : List (Vec ℕ Global)) (i : ℕ) (own : Vec ℕ Global) (name : List ℕ) (old new whole : List Taken)

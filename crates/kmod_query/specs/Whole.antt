@@ -1,11 +1,11 @@
 -- What a removal takes if it is made and not only shown: modprobe(8), --remove without --dry-run. A module that is gone
 -- uses nothing any more, so that what only it used goes too.
-use Rattle.std.specs.Prelude.{ℕ, ◌-◌, ◌==◌, Bool, true, false, not, ◌||◌, if◌then◌else◌, List, [], ◌∷◌, ◌++◌, codes, filter, fold, length, Option, Some, None, option_map, Vec, zero, suc}
+use Rattle.std.specs.Prelude.{ℕ, ◌-◌, ◌==◌, Bool, true, false, not, ◌||◌, ◌&&◌, if◌then◌else◌, List, [], ◌∷◌, ◌++◌, codes, filter, fold, length, Option, Some, None, option_map, Vec, zero, suc}
 use Rattle.std.specs.Global.{Global}
 use Rattle.std.specs.List.{flat_map, list_any}
 use Rattle.std.specs.Str.{bytes_eq}
 use Rattle.kmod_query.specs.declared.answer.Failure.{Failure}
-use Rattle.kmod_query.specs.declared.answer.Failure.TheVariants.{InUse, NothingToRemove}
+use Rattle.kmod_query.specs.declared.answer.Failure.TheVariants.{Gone, InUse, NothingToRemove}
 use Rattle.kmod_query.specs.declared.query.Query.{Query}
 use Rattle.kmod_query.specs.declared.states.ModuleStatus.{ModuleStatus}
 use Rattle.kmod_query.specs.declared.taken.Holders.{Holders}
@@ -16,7 +16,7 @@ use Rattle.kmod_query.specs.Facts.{Facts}
 use Rattle.kmod_query.specs.LookUp.{found}
 use Rattle.kmod_query.specs.Objects.{Object}
 use Rattle.kmod_query.specs.Probes.{step_limit}
-use Rattle.kmod_query.specs.Removal.{Task, take, release, leave, Verdict, remove, pass, refuse, front_of, has_ended, has_no_users, is_fatal, is_in_use, removal_command, removed_after, rmmod_line, shows_removal, take_each, taken_tasks, unmarked, verdict}
+use Rattle.kmod_query.specs.Removal.{Task, take, release, leave, Verdict, remove, pass, refuse, counts_state, front_of, has_no_users, is_fatal, is_in_use, removal_command, removed_after, rmmod_line, shows_removal, take_each, taken_tasks, unmarked, verdict}
 
 -- the modules that hold a module, as its folder `holders` lists them (sysfs(5))
 abbrev pub holders_of : List Holders → List ℕ → List (Vec ℕ Global)
@@ -94,9 +94,23 @@ abbrev pub taken_up : Facts → List Holders → Query → Bool → Object → C
 taken_up facts holders query soft object course =
     judged facts query soft object (verdict (facts_after facts holders course.taken) query soft object) course
 
+-- a module that a soft dependency after it took along cannot be removed again: its line is shown, and the message that
+-- follows ends nothing
+abbrev pub with_gone : Bool → Object → Course → Course
+with_gone soft object course =
+    record course {
+      taken = course.taken ++ Removed object.name ∷ [];
+      failures = course.failures ++ Gone object.name ∷ [];
+      failed = course.failed || not soft;
+    }
+
+abbrev pub is_gone_by : Facts → Query → List Taken → Object → Bool
+is_gone_by facts query taken object = counts_state facts query object && is_gone taken object.name
+
 abbrev pub released : Facts → List Holders → Query → Bool → Object → Course → Course
 released facts holders query soft object course =
     if is_in_use (facts_after facts holders course.taken) query object then with_failure query soft (InUse object.name) course
+    else if is_gone_by facts query course.taken object then with_gone soft object course
     else record course {
       tasks = take_each (removed_after facts query object.name) ++ course.tasks;
       taken = with_object facts holders query course.taken object;
@@ -143,11 +157,19 @@ whole_word facts holders query course word =
     let own = whole_name facts holders query (record course { failed = false }) word (facts.normal word) in
     record own { failed = course.failed || own.failed }
 
+-- a message ends the program, but for that of a module that is gone
+abbrev pub ends : Failure → Bool
+ends (Gone name) = false
+ends failure = true
+
+abbrev pub is_over : Query → List Failure → Bool
+is_over query failures = is_fatal query && list_any ends failures
+
 -- the names one after another, up to a message that ends the program
 abbrev pub whole_words : Facts → List Holders → Query → Course → List (List ℕ) → Course
 whole_words facts holders query course [] = course
 whole_words facts holders query course (word ∷ words) =
-    if has_ended query course.failures then course
+    if is_over query course.failures then course
     else whole_words facts holders query (whole_word facts holders query course word) words
 
 abbrev pub no_course : Course

@@ -6,7 +6,7 @@ use std::alloc::{AllocError, Global};
 use std::marker::Model;
 
 /// Why a name was not answered, with the name that a message tells. Messages are a FATAL, or a WARNING under `--all`,
-/// but for `AlreadyLoaded`, which is an ERROR. A word that is no name fails without a message under `Ask::Remove` and
+/// but for `AlreadyLoaded` and `Gone`, which are an ERROR. A word that is no name fails without a message under `Ask::Remove` and
 /// `Ask::ShowRemoval`.
 #[derive(Drop)]
 pub enum Failure {
@@ -24,6 +24,9 @@ pub enum Failure {
     Builtin(Text),
     /// `Module NAME is in use.`: the module, under `Ask::Remove`.
     InUse(Text),
+    /// `could not remove 'NAME': No such file or directory`: the module, under `Ask::Remove` as it is made. A soft dependency
+    /// after it took it along.
+    Gone(Text),
 }
 
 /// The answer to a query: what is written to standard output, what failed, in order, and whether the status is 1 and

@@ -53,5 +53,5 @@ pub use removal_check::{Verdict, has_users, is_fatal};
 pub use states::{ModuleState, ModuleStatus, States};
 pub use taken::{Holders, Taken, is_gone, push_taken};
 pub use whole_names::whole_removal;
-pub use whole_steps::{is_in_use_after, judge_after};
+pub use whole_steps::{is_gone_by, is_in_use_after, judge_after};
 pub use world::World;

@@ -1,9 +1,9 @@
 //! What a removal of names takes, if it is made and not only shown.
 ghost use Rattle.std.specs.Prelude.{◌≡◌, IfOk, OnOk};
+ghost use Rattle.std.specs.List.{list_any};
 ghost use Rattle.text_parts.specs.Text.{texts_of};
 ghost use Rattle.kmod_query.specs.Objects.{objects_of};
-ghost use Rattle.kmod_query.specs.Removal.{has_ended};
-ghost use Rattle.kmod_query.specs.Whole.{answer_by, no_course, whole_found, whole_name, whole_objects, whole_of, whole_word, whole_words};
+ghost use Rattle.kmod_query.specs.Whole.{answer_by, ends, is_over, no_course, whole_found, whole_name, whole_objects, whole_of, whole_word, whole_words};
 ghost use Rattle.kmod_query.specs.Wholes.{course_of};
 ghost use Rattle.kmod_query.specs.World.{facts_of};
 
@@ -103,13 +103,23 @@ fn remove_word(
     Ok(())
 }
 
-fn has_ended(asked: &Asked, course: &Course) -> bool
-    ensures { result ≡ has_ended asked.now.query (course_of course.now).failures }
+/// Whether the message of a failure ends the program.
+fn ends(failure: &Failure) -> bool
+    ensures { result ≡ ends failure.now }
 {
-    match course.failures.first() {
-        Some(_) => is_fatal(&asked.query),
-        None => false,
-    }
+    !matches!(failure, Failure::Gone(_))
+}
+
+fn has_end(failures: &[Failure]) -> bool
+    ensures { result ≡ list_any ends failures.now }
+{
+    failures.iter().any(|failure| ends(failure))
+}
+
+fn is_over(asked: &Asked, course: &Course) -> bool
+    ensures { result ≡ is_over asked.now.query (course_of course.now).failures }
+{
+    is_fatal(&asked.query) && has_end(&course.failures)
 }
 
 /// Removes names one after another, up to a message that ends the program.
@@ -122,7 +132,7 @@ fn remove_words(
     ensures { OnOk result (course_of course.new ≡ whole_words (facts_of asked.now.world) holders.now asked.now.query (course_of course.old) (texts_of words.now)) }
 {
     'words: for word in words {
-        if has_ended(asked, course) {
+        if is_over(asked, course) {
             return Ok(());
         }
         remove_word(asked, holders, course, word)?;

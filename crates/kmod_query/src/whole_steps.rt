@@ -5,7 +5,7 @@ ghost use Rattle.kmod_query.specs.Probes.{step_limit};
 ghost use Rattle.kmod_query.specs.Removal.{is_in_use, verdict};
 ghost use Rattle.kmod_query.specs.Removals.{removal_of};
 ghost use Rattle.kmod_query.specs.Verdicts.{verdict_of};
-ghost use Rattle.kmod_query.specs.Whole.{all_done, done, facts_after, released, taken_up, whole_object, with_failure};
+ghost use Rattle.kmod_query.specs.Whole.{all_done, done, facts_after, is_gone_by, released, taken_up, whole_object, with_failure, with_gone};
 ghost use Rattle.kmod_query.specs.Wholes.{course_of};
 ghost use Rattle.kmod_query.specs.World.{facts_of};
 
@@ -18,7 +18,7 @@ use crate::removal::{Removal, push_each, push_taken as push_tasks, removed_after
 use crate::removal_check::{
     Verdict, absent_verdict, builtin_verdict, counts_state, has_users, is_absent, is_fatal,
 };
-use crate::taken::{Holders, Taken, push_taken, status_after};
+use crate::taken::{Holders, Taken, is_gone, push_taken, status_after};
 use crate::way::Way;
 use kmod_names::Text;
 use std::alloc::{AllocError, Global};
@@ -73,6 +73,13 @@ pub fn is_in_use_after(
     )
 }
 
+/// Whether an object cannot be removed, since a soft dependency after it took it along. It fails only if memory runs out.
+pub fn is_gone_by(asked: &Asked, taken: &[Taken], object: &Object) -> Result<bool, AllocError>
+    ensures { IfOk result (λ gone. gone ≡ is_gone_by (facts_of asked.now.world) asked.now.query taken.now (object_of object.now)) }
+{
+    Ok(counts_state(asked, object)? && is_gone(taken, &object.name))
+}
+
 /// Notes a failure, which may end all.
 pub(crate) fn fail(
     alloc: Global,
@@ -89,6 +96,24 @@ pub(crate) fn fail(
     }
     course.failures.push(failure)?;
     course.failed = course.failed || fatal || !soft;
+    Ok(())
+}
+
+/// Notes that an object cannot be removed again, which ends nothing. Its line is shown.
+fn note_gone(
+    alloc: Global,
+    soft: bool,
+    object: &Object,
+    course: &mut Course,
+) -> Result<(), AllocError>
+    ensures { OnOk result (course_of course.new ≡ with_gone soft (object_of object.now) (course_of course.old)) }
+{
+    course
+        .taken
+        .push(Taken::Removed(Text::new(alloc, &object.name)?))?;
+    let name = Text::new(alloc, &object.name)?;
+    course.failures.push(Failure::Gone(name))?;
+    course.failed = course.failed || !soft;
     Ok(())
 }
 
@@ -130,6 +155,9 @@ fn release(
             Failure::InUse(name),
             course,
         );
+    }
+    if is_gone_by(asked, &course.taken, object)? {
+        return note_gone(asked.alloc, soft, object, course);
     }
     push_taken(asked, holders, &mut course.taken, object)?;
     let items = removed_after(asked, &object.name)?;

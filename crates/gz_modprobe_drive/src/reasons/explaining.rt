@@ -75,8 +75,10 @@ impl Told<'_> {
     /// Tells the modules of a name that are left out, since an earlier one is refused.
     fn tell_left_out(&mut self, refused: &Object, objects: &[Object]) -> Result<(), AllocError> {
         for object in objects {
-            let fact = RemovalFact::LeftOut(self.text(&refused.name)?);
-            self.say_removal(&object.name, fact)?;
+            if !is_same(&object.name, &refused.name) {
+                let fact = RemovalFact::LeftOut(self.text(&refused.name)?);
+                self.say_removal(&object.name, fact)?;
+            }
         }
         Ok(())
     }
@@ -153,9 +155,11 @@ impl Told<'_> {
 
     /// Tells a name. Its refusal may end a removal.
     fn tell_name(&mut self, tasks: &mut Tasks, word: &[u8]) -> Result<(), AllocError> {
+        tasks.begin_name();
         let refused = self.begin_word(tasks, word)?;
-        if self.known.is_removal() && refused && is_fatal(&self.known.asked.query) {
-            tasks.end();
+        let ends = refused && !tasks.is_gone() && is_fatal(&self.known.asked.query);
+        if self.known.is_removal() && ends && tasks.ended_by().is_none() {
+            tasks.end(self.alloc, word)?;
         }
         Ok(())
     }
@@ -164,10 +168,13 @@ impl Told<'_> {
     fn tell_names(&mut self, tasks: &mut Tasks) -> Result<(), AllocError> {
         let query = &self.known.asked.query;
         for word in query.words.iter().take(name_count(query)) {
-            if tasks.has_ended() {
-                return Ok(());
+            match tasks.ended_by() {
+                Some(refused) => {
+                    let fact = RemovalFact::LeftOut(self.text(refused)?);
+                    self.say_removal(word, fact)?;
+                }
+                None => self.tell_asked(tasks, word)?,
             }
-            self.tell_asked(tasks, word)?;
         }
         Ok(())
     }

@@ -9,7 +9,7 @@ use kmod_query::{Finding, find_name};
 use std::alloc::AllocError;
 
 /// Whether a name holds a mark of a pattern.
-fn is_pattern(name: &[u8]) -> bool {
+pub(crate) fn is_pattern(name: &[u8]) -> bool {
     name.contains(&b'*') || name.contains(&b'?') || name.contains(&b'[')
 }
 

@@ -1,6 +1,7 @@
 //! What leads to a module: who needs it, which lines have it, and which devices ask for it.
 
 use crate::devices::Device;
+use crate::reasons::idle_lines::is_pattern;
 use crate::reasons::known::Known;
 use crate::reasons::named_lines::NamedLines;
 use crate::reasons::sources::Sources;
@@ -94,11 +95,19 @@ impl Told<'_> {
         Ok(())
     }
 
+    /// Whether softdep lines of a name may count: they do for a module's own name alone.
+    fn may_be_module(&self, name: &[u8]) -> bool {
+        is_pattern(name) || self.known.has_file(name) || self.known.is_built_in(name, false)
+    }
+
     /// Tells the words of a softdep line that stand for a module, if the line counts for its own name.
     fn tell_softdep(&mut self, line: &SoftdepLine, name: &[u8]) -> Result<(), AllocError> {
         let asked = self.known.asked;
         let conf = asked.world.conf;
         let own = line.name.as_bytes();
+        if !self.may_be_module(own) {
+            return Ok(());
+        }
         match conf.softdep_of(self.alloc, own)? {
             Some(counting) if counting.place != line.place => return Ok(()),
             _ => {}

@@ -91,8 +91,10 @@ pub(crate) struct Tasks {
     stack: Vec<Task>,
     /// Whether a removal that was asked for is refused.
     refused: bool,
-    /// Whether nothing more is to be told, since a refusal ended the query.
-    ended: bool,
+    /// Whether it is refused since the module is gone by then, which ends nothing.
+    gone: bool,
+    /// The name whose refusal ended the query, so that nothing more is to be told.
+    ended: Option<Vec<u8>>,
     /// Whether a module that a name stands for is the same if another one asks for it.
     merges: bool,
     /// The modules whose needs were told.
@@ -124,7 +126,8 @@ impl Tasks {
         Tasks {
             stack: Vec::new(alloc),
             refused: false,
-            ended: false,
+            gone: false,
+            ended: None,
             merges,
             loaded: IndexSet::new(alloc),
             filled: IndexSet::new(alloc),
@@ -144,7 +147,10 @@ impl Tasks {
 
     /// The next task.
     pub(crate) fn next(&mut self) -> Option<Task> {
-        if self.ended { None } else { self.stack.pop() }
+        if self.ended.is_some() {
+            return None;
+        }
+        self.stack.pop()
     }
 
     /// Whether a module was told already, as a name of the query or as what another one asks for.
@@ -229,6 +235,7 @@ impl Tasks {
     /// Notes that another module is asked for, which is not refused yet.
     pub(crate) fn begin_name(&mut self) {
         self.refused = false;
+        self.gone = false;
     }
 
     /// Notes that a removal that was asked for is refused.
@@ -236,17 +243,30 @@ impl Tasks {
         self.refused = true;
     }
 
+    /// Notes that a module that is to be removed is gone by then.
+    pub(crate) fn refuse_gone(&mut self) {
+        self.refused = true;
+        self.gone = true;
+    }
+
     /// Whether the removal that was told last is refused.
     pub(crate) fn is_refused(&self) -> bool {
         self.refused
     }
 
-    /// Notes that nothing more is to be told.
-    pub(crate) fn end(&mut self) {
-        self.ended = true;
+    /// Whether it is refused since the module is gone by then.
+    pub(crate) fn is_gone(&self) -> bool {
+        self.gone
     }
 
-    pub(crate) fn has_ended(&self) -> bool {
-        self.ended
+    /// Notes that the refusal of a name ended the query, so that nothing more is to be told.
+    pub(crate) fn end(&mut self, alloc: Global, name: &[u8]) -> Result<(), AllocError> {
+        self.ended = Some(Vec::from_slice(alloc, name)?);
+        Ok(())
+    }
+
+    /// The name whose refusal ended the query.
+    pub(crate) fn ended_by(&self) -> Option<&[u8]> {
+        self.ended.as_deref()
     }
 }

@@ -11,8 +11,8 @@ use answer_facts::{
     Command, LineFact, Outcome, Passed, RemovalFact, Shows, Side, Spot, StateFact, What,
 };
 use kmod_query::{
-    ModuleStatus, Object, Taken, Verdict, has_users, is_fatal, is_gone, is_in_use_after,
-    judge_after, push_taken, remove_line,
+    ModuleStatus, Object, Taken, Verdict, has_users, is_fatal, is_gone, is_gone_by,
+    is_in_use_after, judge_after, push_taken, remove_line,
 };
 use std::alloc::AllocError;
 use text_parts::is_same;
@@ -101,7 +101,7 @@ impl Told<'_> {
             tasks.refuse();
         } else if is_fatal(&self.known.asked.query) {
             self.say_removal(name, RemovalFact::Ends)?;
-            tasks.end();
+            tasks.end(self.alloc, name)?;
         }
         Ok(())
     }
@@ -248,6 +248,23 @@ impl Told<'_> {
         push_words(tasks, before)
     }
 
+    /// Tells that a soft dependency after a module took it along, so that its own removal fails.
+    fn tell_gone(&mut self, tasks: &mut Tasks, soft: bool, name: &[u8]) -> Result<(), AllocError> {
+        if !soft {
+            tasks.refuse_gone();
+        }
+        self.say_removal(name, RemovalFact::Gone)
+    }
+
+    /// Tells that nothing uses a module by then, if something uses it now.
+    fn tell_free(&mut self, name: &[u8]) -> Result<(), AllocError> {
+        let asked = self.known.asked;
+        if self.known.sources.whole && has_users(asked.world.states.of(name)) {
+            return self.say_removal(name, RemovalFact::Free);
+        }
+        Ok(())
+    }
+
     /// Tells what counts for a removal of a module whose soft items after it are removed, or that it is in use.
     pub(crate) fn tell_release(
         &mut self,
@@ -261,6 +278,10 @@ impl Told<'_> {
             self.tell_need_state(&subject.name)?;
             return self.refuse(tasks, soft, &subject.name);
         }
+        if is_gone_by(asked, self.counted(), &object)? {
+            return self.tell_gone(tasks, soft, &subject.name);
+        }
+        self.tell_free(&subject.name)?;
         self.tell_removed(subject, &object)?;
         self.follow_removal(tasks, &subject.name)
     }
