@@ -1,5 +1,5 @@
 -- What is said by a fact: the one place that has the words of the text, and the keys of JSON.
-use Rattle.std.specs.Prelude.{ℕ, Bool, true, false, List, [], ◌∷◌, ◌++◌, codes}
+use Rattle.std.specs.Prelude.{ℕ, true, List, [], ◌∷◌, ◌++◌, codes}
 use Rattle.std.specs.List.{flat_map}
 use Rattle.answer_facts.specs.declared.name_fact.NameFact.{NameFact}
 use Rattle.answer_facts.specs.declared.name_fact.NameFact.TheVariants as of_name_fact

@@ -49,8 +49,8 @@ impl Model for HeldTable {
 }
 
 impl HeldTable {
-    /// The opening table over the slots of a catalogue: nothing is loaded, and there is no holder. It fails for want of
-    /// memory alone.
+    /// The opening table over the slots of a catalogue: nothing is loaded, and there is no holder. It fails only out of
+    /// memory.
     pub fn new(alloc: Global, slots: Slots) -> Result<HeldTable, AllocError>
         ensures over { IfOk result (λ t. t.catalogue ≡ slots) }
         ensures opens { IfOk result (λ t. t.held.table ≡ opening slots 0) }

@@ -73,8 +73,8 @@ impl ConfTexts {
         }
     }
 
-    /// The paths of the sources by their numbers: of the files, and behind them of the kernel's command line. Only want of
-    /// memory refuses.
+    /// The paths of the sources by their numbers: of the files, and behind them of the kernel's command line. It fails only out of
+    /// memory.
     pub fn paths(&self, alloc: Global) -> Result<Vec<&[u8]>, AllocError>
         ensures { IfOk result (λ paths. texts_of paths.items ≡ paths_of self.entry.now) }
     {

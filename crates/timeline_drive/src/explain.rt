@@ -8,7 +8,7 @@ use std::alloc::{AllocError, Global};
 use std::io::Write;
 use text_parts::whole_lines;
 
-/// Tells where an input of `workload` stands in place of its report.
+/// Tells that the input is one of `workload`, not its report, if it is.
 pub(crate) fn tell_other_input<E: Write>(input: &[u8], errors: &mut E) {
     let told = match other_input(input) {
         Some(OtherInput::Schedule) => {

@@ -48,7 +48,7 @@ fn height(layout: &Layout<'_>) -> u32 {
     height
 }
 
-/// The picture of a report's calls as an SVG: a lane for each thread, a bar for each call, a mark at its point. Where
+/// The picture of a report's calls as an SVG: a lane for each thread, a bar for each call, a mark at its point. If
 /// the columns do not fit side by side, they go on in further bands below.
 pub(crate) fn svg_text(alloc: Global, calls: &[Call<'_>]) -> Result<String, AllocError> {
     let layout = Layout::new(alloc, &SCALE, calls)?;

@@ -1,4 +1,4 @@
-//! The words that looks find where they are no points, and the exchange of a leaf.
+//! The words that looks find if they are no points, and the exchange of a leaf.
 ghost use Rattle.std.specs.Prelude.{◌≡◌, ◌<◌, length, All};
 ghost use Rattle.std.specs.Bool.{OnTrue};
 ghost use Rattle.dep_index.specs.Table.{module_at, no_module};
