@@ -4,9 +4,6 @@ ghost use Rattle.text_parts.specs.Text.{texts_of};
 ghost use Rattle.modprobe_words.specs.Asked.{asked_of, text_of};
 ghost use Rattle.modprobe_words.specs.Variable.{bytes_of};
 ghost use Rattle.gz_modprobe_drive.specs.Ends.{IsDone, IsEndOf, given, wish_by};
-ghost use Rattle.gz_modprobe_drive.specs.Formed.{form_by};
-ghost use Rattle.gz_modprobe_drive.specs.Leads.{WasTold};
-ghost use Rattle.gz_modprobe_drive.specs.Linted.{WasLinted};
 
 use crate::answering::answer_query;
 use crate::linting::lint_machine;
@@ -14,65 +11,25 @@ use crate::queries::{is_lint, is_why, query_of};
 use crate::refusals::tell_refusal;
 use crate::why::tell_why;
 use modprobe_files::{Disk, Host};
-use modprobe_words::{Asked, Messages, Wish, end_early, first_ending, read_words, variable_words};
+use modprobe_words::{
+    Asked, Messages, Switches, Wish, end_early, first_ending, read_words, variable_words,
+};
 use std::alloc::{AllocError, Global};
 use std::env::Env;
 use std::io::Write;
 use std::rt::Files;
-
-/// Looks at the configuration of the machine that is asked. Returns the status.
-fn lint_asked<R: Files + Env + AllocGlobal, O: Write, E: Write>(
-    rt: &R,
-    asked: &Asked<'_>,
-    output: &mut O,
-    errors: &mut E,
-) -> Result<u8, AllocError>
-    ensures status { IfOk result (λ status. status ≤ 1) }
-    ensures well { IfOk result (λ status. status ≡ 0 → WasLinted asked.now.kmod (O.contents output.old) (O.contents output.new)) }
-{
-    let disk = Disk {
-        rt,
-        root: asked.root.unwrap_or(b""),
-    };
-    let host = Host { system: &disk };
-    let mut messages = Messages {
-        errors,
-        program: b"gz-modprobe",
-        verbosity: asked.switches.verbosity,
-        explains: true,
-    };
-    lint_machine(&host, asked, output, &mut messages)
-}
-
-/// Tells what leads to the names that are asked for. Returns the status.
-fn tell_asked<R: Files + Env + AllocGlobal, O: Write, E: Write>(
-    rt: &R,
-    asked: &Asked<'_>,
-    output: &mut O,
-    errors: &mut E,
-) -> Result<u8, AllocError>
-    ensures status { IfOk result (λ status. status ≤ 1) }
-    ensures told { IfOk result (λ status. status ≡ 0 → WasTold (form_by asked.now.switches.explain) (O.contents output.old) (O.contents output.new)) }
-{
-    let disk = Disk {
-        rt,
-        root: asked.root.unwrap_or(b""),
-    };
-    let host = Host { system: &disk };
-    let mut messages = Messages {
-        errors,
-        program: b"gz-modprobe",
-        verbosity: asked.switches.verbosity,
-        explains: false,
-    };
-    tell_why(&host, asked, output, &mut messages)
-}
 
 /// What a command line wishes for.
 fn wish_asked(asked: &Asked<'_>) -> Wish
     ensures { result ≡ wish_by (asked_of asked.now) }
 {
     asked.switches.wish(!asked.words.is_empty())
+}
+
+/// Whether it is told why an answer is as it is. A look at the configuration wants it, for the files that are hidden; what
+/// leads to names tells it in a way of its own.
+fn explains(wish: Wish, switches: Switches) -> bool {
+    is_lint(wish) || (switches.explain.is_some() && !is_why(wish))
 }
 
 /// Answers what is asked. Returns the status.
@@ -86,16 +43,6 @@ fn answer_asked<R: Files + Env + AllocGlobal, O: Write, E: Write>(
     ensures well { IfOk result (λ status. status ≡ 0 → IsDone (asked_of asked.now) (O.contents output.old) (O.contents output.new)) }
 {
     let wish = wish_asked(asked);
-    if is_lint(wish) {
-        return lint_asked(rt, asked, output, errors);
-    }
-    if is_why(wish) {
-        return tell_asked(rt, asked, output, errors);
-    }
-    let Some(query) = query_of(wish, asked.switches, &asked.words) else {
-        tell_refusal(wish, errors);
-        return Ok(1);
-    };
     let disk = Disk {
         rt,
         root: asked.root.unwrap_or(b""),
@@ -105,7 +52,17 @@ fn answer_asked<R: Files + Env + AllocGlobal, O: Write, E: Write>(
         errors,
         program: b"gz-modprobe",
         verbosity: asked.switches.verbosity,
-        explains: asked.switches.explain.is_some(),
+        explains: explains(wish, asked.switches),
+    };
+    if is_lint(wish) {
+        return lint_machine(&host, asked, output, &mut messages);
+    }
+    if is_why(wish) {
+        return tell_why(&host, asked, output, &mut messages);
+    }
+    let Some(query) = query_of(wish, asked.switches, &asked.words) else {
+        tell_refusal(wish, messages.errors);
+        return Ok(1);
     };
     answer_query(&host, asked, &query, output, &mut messages)
 }

@@ -7,16 +7,16 @@ use Rattle.gz_modprobe_drive.proofs.program.answer_asked.Goals as goal
 
 pub returns-then-is_lint-clause-well : goal.returns-then-is_lint-clause-well
 returns-then-is_lint-clause-well g c =
-    IfOk-weaker c.lint_asked.result _ _
+    IfOk-weaker c.lint_machine.result _ _
     (λ status well zero. lint-done (asked_of c.args.asked.now) _ _ _ c.wish_asked-wish.ensures (sym c.is_lint.ensures ∙ c.if-is_lint.true) (well zero))
-    c.lint_asked.ensures.well
+    c.lint_machine.ensures.well
 
 pub returns-then-is_why-clause-well : goal.returns-then-is_why-clause-well
 returns-then-is_why-clause-well g c =
-    IfOk-weaker c.tell_asked.result _ _
+    IfOk-weaker c.tell_why.result _ _
     (λ status told zero. why-done (asked_of c.args.asked.now) _ _ _ c.wish_asked-wish.ensures (sym c.is_lint.ensures ∙ c.if-is_lint.false)
     (sym c.is_why.ensures ∙ c.if-is_why.true) (told zero))
-    c.tell_asked.ensures.told
+    c.tell_why.ensures.told
 
 pub returns-clause-well : goal.returns-clause-well
 returns-clause-well g c =
