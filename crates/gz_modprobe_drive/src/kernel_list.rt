@@ -5,11 +5,15 @@ ghost use Rattle.gz_modprobe_drive.specs.KernelList.{is_other, kernel_list, list
 
 use text_parts::is_same;
 
-/// The names that a word lists after `module_blacklist=`, in place of those of earlier words.
+/// The names that a word lists after `module_blacklist=`, in place of those of earlier words. In the name of a parameter the
+/// kernel takes `-` for `_`.
 fn list_after<'a>(list: &'a [u8], word: &'a [u8]) -> &'a [u8]
     ensures { result.now ≡ list_after list.entry.now word.entry.now }
 {
-    match word.strip_prefix(b"module_blacklist=") {
+    if let Some(names) = word.strip_prefix(b"module_blacklist=") {
+        return names;
+    }
+    match word.strip_prefix(b"module-blacklist=") {
         Some(names) => names,
         None => list,
     }

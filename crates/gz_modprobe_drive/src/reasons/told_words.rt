@@ -5,7 +5,7 @@ use crate::reasons::told::{OfEach, Told};
 use answer_facts::{Command, MissingFact, NameFact, Outcome, Spot, StateFact, What};
 use kmod_index::{DepLine, IndexLine};
 use kmod_names::{AliasEntry, name_of_path, normal_alias};
-use kmod_query::{Finding, Object, find_name};
+use kmod_query::{Ask, Finding, Object, find_name};
 use std::alloc::AllocError;
 
 pub(crate) const DEPENDENCIES: &[u8] = b"modules.dep";
@@ -105,6 +105,17 @@ impl Told<'_> {
         self.say(word, What::Name(NameFact::BuiltIn), spot)
     }
 
+    /// Tells that a word is the name of lines with a command, and of a module that is built in, if it is: a dry run and a
+    /// removal tell the latter of each module.
+    fn tell_named(&mut self, word: &[u8], name: &[u8]) -> Result<(), AllocError> {
+        self.tell_commanded(word, name)?;
+        let is_told = matches!(self.known.asked.query.ask, Ask::DryRun) || self.known.is_removal();
+        if is_told || !self.known.is_built_in(name, false) {
+            return Ok(());
+        }
+        self.tell_built_in_name(word, name)
+    }
+
     /// Tells what is wrong with a word.
     fn tell_missing(&mut self, word: &[u8], fact: MissingFact) -> Result<(), AllocError> {
         self.say(word, What::Missing(fact), Spot::Nowhere)
@@ -121,7 +132,7 @@ impl Told<'_> {
             Finding::Configured(entries) => self.tell_configured(word, entries),
             Finding::Module(line) => self.tell_module(word, line),
             Finding::Exported(lines) => self.tell_exported(word, lines),
-            Finding::Commanded => self.tell_commanded(word, name),
+            Finding::Commanded => self.tell_named(word, name),
             Finding::Aliased(lines) => self.tell_aliased(word, lines),
             Finding::BuiltIn => self.tell_built_in_name(word, name),
             Finding::AliasedBuiltIn(lines) => self.tell_aliased_built_in(word, lines),
