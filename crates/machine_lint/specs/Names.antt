@@ -39,10 +39,18 @@ is_in_kernel index name = is_among index.builtin_names name || is_builtin_alias 
 abbrev pub is_alias_pattern : Configuration → List ℕ → Bool
 is_alias_pattern conf name = list_any (λ line. bytes_eq line.pattern name) conf.aliases
 
--- an install or a remove line has this very name, or matches it
+-- an alias line of the configuration leads to this name, as to a module
+abbrev pub is_target : Configuration → List ℕ → Bool
+is_target conf name = list_any (λ line. bytes_eq line.target name) conf.aliases
+
+-- an install or a remove line matches this name
+abbrev pub is_matched : Configuration → List ℕ → Bool
+is_matched conf name = is_some (install_of conf name) || is_some (remove_of conf name)
+
+-- a command is run for the name: a line has this very name, or one matches it and an alias leads to it
 abbrev pub is_commanded : Configuration → List ℕ → Bool
 is_commanded conf name =
-    has_install_named conf name || has_remove_named conf name || is_some (install_of conf name) || is_some (remove_of conf name)
+    has_install_named conf name || has_remove_named conf name || (is_target conf name && is_matched conf name)
 
 -- the name leads to a file of a module, or is an alias outside the kernel
 abbrev pub is_named : Configuration → Indexes → List ℕ → Bool
@@ -58,9 +66,13 @@ is_found conf index name =
     has_file index name || is_alias conf index name || is_in_kernel index name || has_install_named conf name
     || has_remove_named conf name
 
--- a line that counts for modules alone may count for this name: it has a file, or a command is run for it
+-- a line that counts for modules alone may count for this name: it has a file, a command is run for it, or an alias leads to it
 abbrev pub is_module : Configuration → Indexes → List ℕ → Bool
-is_module conf index name = has_file index name || is_commanded conf name
+is_module conf index name = has_file index name || is_commanded conf name || is_target conf name
+
+-- the name stands for the module of this very name, since no alias of the configuration matches it
+abbrev pub is_own : Configuration → Indexes → List ℕ → Bool
+is_own conf index name = has_file index name && not (nat_lt 0 (length (matching_aliases conf name)))
 
 -- the name is an alias, and not that of a module in the kernel
 abbrev pub is_only_alias : Configuration → Indexes → List ℕ → Bool

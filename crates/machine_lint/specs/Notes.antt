@@ -20,7 +20,7 @@ use Rattle.machine_lint.specs.declared.note.NoteKind.TheVariants.{AliasName, Bad
 use Rattle.machine_lint.specs.declared.setting.Setting.{Setting}
 use Rattle.machine_lint.specs.declared.setting.Setting.TheVariants as sets
 use Rattle.machine_lint.specs.Lines.{Said, has_items, is_depmod, is_kernel, is_package, is_same_place, lines_of, origin_at}
-use Rattle.machine_lint.specs.Names.{has_file, has_pattern, is_found, is_in_kernel, is_loadable, is_module, is_named, is_only_alias, is_used}
+use Rattle.machine_lint.specs.Names.{has_file, has_pattern, is_found, is_in_kernel, is_loadable, is_module, is_named, is_only_alias, is_own, is_used}
 
 -- what is known of a machine, and all lines of its configuration
 pub record Facts : Type 0 where
@@ -224,9 +224,14 @@ abbrev pub has_item : List ℕ → Option SoftdepLine → Bool
 has_item name None = false
 has_item name (Some line) = list_any (is_form_of name) line.items.pre || list_any (is_form_of name) line.items.post
 
+-- two modules, each by its own name
+abbrev pub are_own : Facts → List ℕ → List ℕ → Bool
+are_own facts name other = is_own facts.conf facts.index name && is_own facts.conf facts.index other
+
 -- the softdep line that counts for an item names the module that has the item: a ring, in which kmod loses itself
 abbrev pub names_back : Facts → Said → List ℕ → Bool
-names_back facts line own = is_softdep line.setting && has_item line.name (softdep_of facts.conf own)
+names_back facts line own =
+    is_softdep line.setting && are_own facts line.name own && has_item line.name (softdep_of facts.conf own)
 
 -- of an item to which no look-up finds anything
 abbrev pub absent_item : Facts → List ℕ → List ℕ → Option NoteKind

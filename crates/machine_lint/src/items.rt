@@ -1,7 +1,7 @@
 //! What is noted of the items of softdep and weakdep lines.
 ghost use Rattle.std.specs.Prelude.{◌≡◌, IfOk, option_copied};
 ghost use Rattle.std.specs.List.{list_any};
-ghost use Rattle.machine_lint.specs.Notes.{absent_item, facts_by, has_item, is_form_of, item_kind, names_back};
+ghost use Rattle.machine_lint.specs.Notes.{absent_item, are_own, facts_by, has_item, is_form_of, item_kind, names_back};
 
 use crate::judge::Judge;
 use crate::line::Line;
@@ -46,13 +46,23 @@ fn has_item(alloc: Global, name: &[u8], line: Option<&SoftdepLine>) -> Result<bo
 }
 
 impl Judge<'_> {
-    /// Whether a line is a softdep line, and the one that counts for a name has its name.
+    /// Whether both names stand for the modules of these very names.
+    fn are_own(&self, alloc: Global, name: &[u8], other: &[u8]) -> Result<bool, AllocError>
+        ensures { IfOk result (λ are. are ≡ are_own (facts_by self.now) name.now other.now) }
+    {
+        let is_own = self.is_own(alloc, name)?;
+        let is_other_own = self.is_own(alloc, other)?;
+        Ok(is_own && is_other_own)
+    }
+
+    /// Whether a line is a softdep line, and the one that counts for a name has its name; both are names of modules.
     fn names_back(&self, alloc: Global, line: &Line, own: &[u8]) -> Result<bool, AllocError>
         ensures { IfOk result (λ names. names ≡ names_back (facts_by self.now) line.now own.now) }
     {
+        let are_own = self.are_own(alloc, line.name(), own)?;
         let counting = self.conf.softdep_of(alloc, own)?;
         let has_item = has_item(alloc, line.name(), counting)?;
-        Ok(line.setting().is_softdep() && has_item)
+        Ok(line.setting().is_softdep() && are_own && has_item)
     }
 
     /// Of an item of this name to which nothing answers.

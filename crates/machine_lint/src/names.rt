@@ -1,7 +1,7 @@
 //! What names stand for.
 ghost use Rattle.std.specs.Prelude.{◌≡◌, IfOk};
 ghost use Rattle.kmod_index.specs.Builtins.{is_among};
-ghost use Rattle.machine_lint.specs.Names.{has_file, is_alias, is_alias_pattern, is_builtin_alias, is_commanded, is_found, is_in_kernel, is_loadable, is_module, is_named, is_only_alias, is_used};
+ghost use Rattle.machine_lint.specs.Names.{has_file, is_alias, is_alias_pattern, is_builtin_alias, is_commanded, is_found, is_in_kernel, is_loadable, is_matched, is_module, is_named, is_only_alias, is_own, is_target, is_used};
 
 use crate::judge::Judge;
 use std::alloc::{AllocError, Global};
@@ -58,14 +58,32 @@ impl Judge<'_> {
             .any(|line| is_same(line.pattern.as_bytes(), name))
     }
 
-    /// Whether an install or a remove line has this very name, or matches it.
-    fn is_commanded(&self, alloc: Global, name: &[u8]) -> Result<bool, AllocError>
-        ensures { IfOk result (λ is. is ≡ is_commanded self.now.conf.now name.now) }
+    /// Whether an alias line of the configuration leads to the name.
+    fn is_target(&self, name: &[u8]) -> bool
+        ensures { result ≡ is_target self.now.conf.now name.now }
+    {
+        let lines = self.conf.aliases();
+        lines
+            .iter()
+            .any(|line| is_same(line.target.as_bytes(), name))
+    }
+
+    /// Whether an install or a remove line matches the name.
+    fn is_matched(&self, alloc: Global, name: &[u8]) -> Result<bool, AllocError>
+        ensures { IfOk result (λ is. is ≡ is_matched self.now.conf.now name.now) }
     {
         let install = self.conf.install_of(alloc, name)?;
         let remove = self.conf.remove_of(alloc, name)?;
+        Ok(install.is_some() || remove.is_some())
+    }
+
+    /// Whether an install or a remove line has this very name, or one matches it and an alias line leads to it.
+    fn is_commanded(&self, alloc: Global, name: &[u8]) -> Result<bool, AllocError>
+        ensures { IfOk result (λ is. is ≡ is_commanded self.now.conf.now name.now) }
+    {
+        let is_matched = self.is_matched(alloc, name)?;
         let has_line = self.conf.has_install_named(name) || self.conf.has_remove_named(name);
-        Ok(has_line || install.is_some() || remove.is_some())
+        Ok(has_line || (self.is_target(name) && is_matched))
     }
 
     /// Whether the name leads to a file of a module, or is an alias outside the kernel.
@@ -95,12 +113,21 @@ impl Judge<'_> {
         Ok(self.has_file(name) || is_alias || is_in_kernel || has_line)
     }
 
-    /// Whether a module has the name, or a command is run for it.
+    /// Whether a module has the name, a command is run for it, or an alias line leads to it.
     pub(crate) fn is_module(&self, alloc: Global, name: &[u8]) -> Result<bool, AllocError>
         ensures { IfOk result (λ is. is ≡ is_module self.now.conf.now self.now.index.now name.now) }
     {
         let is_commanded = self.is_commanded(alloc, name)?;
-        Ok(self.has_file(name) || is_commanded)
+        Ok(self.has_file(name) || is_commanded || self.is_target(name))
+    }
+
+    /// Whether the name stands for the module of this very name.
+    pub(crate) fn is_own(&self, alloc: Global, name: &[u8]) -> Result<bool, AllocError>
+        ensures { IfOk result (λ is. is ≡ is_own self.now.conf.now self.now.index.now name.now) }
+    {
+        let aliases = self.conf.matching_aliases(alloc, name)?;
+        let has_alias = aliases.len() > 0;
+        Ok(self.has_file(name) && !has_alias)
     }
 
     /// Whether the name is an alias, and not that of a module in the kernel.
