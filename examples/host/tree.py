@@ -4,7 +4,7 @@ import json
 import sys
 
 takes = {}
-for fact in map(json.loads, sys.stdin):
+for fact in (json.loads(line) for line in sys.stdin if line.startswith("{")):
     name = fact.get("module", fact.get("name", "")).replace("-", "_")
     if fact["what"] in ("needed_by", "softdep"):
         for taker in fact.get("through") or [fact.get("by") or fact["of"]]:
@@ -13,7 +13,7 @@ for fact in map(json.loads, sys.stdin):
         takes.setdefault(name, []).append(fact["of"].replace("-", "_"))
 
 taken = sum(takes.values(), [])
-rest = [(it, 0) for it in takes if it not in taken]
+rest = [(it, 0) for it in takes if it not in taken] or [(it, 0) for it in list(takes)[:1]]
 while rest:
     name, depth = rest.pop(0)
     print("    " * depth + name)
