@@ -126,7 +126,7 @@ removal_fact_pieces whom of_removal_fact.Free =
 removal_fact_pieces whom of_removal_fact.Gone =
     sentence (codes "gone") (field (codes "module") whom) (words (codes "gone by then") ∷ [])
 removal_fact_pieces whom of_removal_fact.Ends =
-    sentence (codes "removal_ends") (field (codes "module") whom) (words (codes "stays, so the removal ends") ∷ [])
+    sentence (codes "removal_ends") (field (codes "module") whom) (words (codes "not removed, so the removal ends") ∷ [])
 removal_fact_pieces whom (of_removal_fact.LeftOut refused) =
     sentence (codes "left_out") (field (codes "module") whom) (words (codes "not asked for, since ") ∷ field (codes "refused") refused ∷ words (codes " is not removed") ∷ [])
 

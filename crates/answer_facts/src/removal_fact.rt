@@ -100,7 +100,7 @@ impl RemovalFact {
                 alloc,
                 b"removal_ends",
                 module,
-                &[Piece::Words(b"stays, so the removal ends")],
+                &[Piece::Words(b"not removed, so the removal ends")],
             ),
             RemovalFact::LeftOut(refused) => sentence(
                 alloc,

@@ -11,20 +11,25 @@ fn ends_with_cr(line: &[u8]) -> bool
     line.ends_with(b"\r")
 }
 
-/// Whether a carriage return at a line's end counts as part of its last word: not that of a comment, nor that of a line
-/// whose items kmod splits at any white space.
+/// Whether a carriage return at the end of a line that begins so counts as part of its last word: not that of a comment, nor
+/// that of a line whose items kmod splits at any white space.
 fn counts_end(line: &[u8]) -> bool {
     let rest = behind_spaces(line);
     !(rest.starts_with(b"#") || rest.starts_with(b"softdep") || rest.starts_with(b"weakdep"))
 }
 
-/// The number of the first line of a text that ends with a carriage return which counts, from 1.
+/// The number of the first line of a text that ends with a carriage return which counts, from 1. Lines of which a backslash
+/// ends the one before are one with it.
 pub(crate) fn first_cr_line(text: &[u8]) -> Option<usize> {
     let mut number = 1usize;
+    let mut goes_on = false;
+    let mut counts = false;
     for line in text.split(|byte| *byte == b'\n') {
-        if ends_with_cr(line) && counts_end(line) {
+        counts = if goes_on { counts } else { counts_end(line) };
+        if counts && ends_with_cr(line) {
             return Some(number);
         }
+        goes_on = line.ends_with(b"\\");
         number = number.saturating_add(1);
     }
     None

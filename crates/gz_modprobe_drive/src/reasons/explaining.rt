@@ -41,7 +41,11 @@ impl Told<'_> {
             return self.tell_blacklist(&object.name, Blacklist::Holds);
         }
         self.tell_exempt_object(tasks, world, object)?;
+        if object.alias.is_some() || query.use_blacklist {
+            self.tell_misspelt(&object.name)?;
+        }
         let subject = Subject::of(self.alloc, object, query.ignore_commands)?;
+        tasks.ask(&subject)?;
         tasks.push(Task::Load(subject))?;
         self.tell_tasks(tasks)
     }
@@ -118,12 +122,12 @@ impl Told<'_> {
         let what = What::Name(NameFact::File(self.text(name)?));
         let spot = self.whole(file)?;
         self.say(word, what, spot)?;
-        if matches!(self.known.asked.query.ask, Ask::Resolve) {
-            return Ok(());
-        }
-        tasks.add_file(self.alloc, name)?;
         let world = self.known.asked.world.with_own(OwnFile { name, file });
         let object = Object::by_name(self.alloc, name)?;
+        if matches!(self.known.asked.query.ask, Ask::Resolve) {
+            return self.tell_exempt_object(tasks, &world, &object);
+        }
+        tasks.add_file(self.alloc, name)?;
         self.begin_load(tasks, &world, &object)
     }
 
@@ -188,6 +192,10 @@ impl Told<'_> {
             Task::Own(subject) => self.tell_loaded(tasks, &subject),
             Task::Remove(soft, subject) => self.tell_removal(tasks, soft, subject),
             Task::Release(soft, subject) => self.tell_release(tasks, soft, &subject),
+            Task::Leave => {
+                tasks.leave();
+                Ok(())
+            }
         }
     }
 

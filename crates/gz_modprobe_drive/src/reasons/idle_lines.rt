@@ -37,7 +37,8 @@ impl Told<'_> {
         Ok(())
     }
 
-    /// Tells the lines whose name no module has. If `has_patterns`, a name that is a pattern is skipped.
+    /// Tells the lines whose name no module has, and to which no alias line leads. If `has_patterns`, a name that is a pattern
+    /// is skipped.
     fn tell_idle_names(
         &mut self,
         lines: &[Head<'_>],
@@ -45,7 +46,7 @@ impl Told<'_> {
         setting: Setting,
     ) -> Result<(), AllocError> {
         for line in lines {
-            let passes = has_patterns && is_pattern(line.name);
+            let passes = (has_patterns && is_pattern(line.name)) || self.known.is_target(line.name);
             if !passes && !self.known.is_module(self.alloc, line.name)? {
                 self.say_of(
                     line.name,

@@ -4,6 +4,7 @@ use crate::reasons::named_lines::NamedLines;
 use crate::reasons::sources::Sources;
 use kmod_query::{Ask, Asked, ModuleState, ModuleStatus};
 use std::alloc::{AllocError, Global};
+use text_parts::is_same;
 
 /// A query, the world that it asks of, the lines of that world's texts by their names, and the files that these stand in.
 #[derive(Clone, Copy)]
@@ -42,6 +43,15 @@ impl Known<'_> {
     pub(crate) fn is_built_in(&self, name: &[u8], is_alias: bool) -> bool {
         let asked = self.asked;
         is_alias || asked.world.index.is_builtin(name)
+    }
+
+    /// Whether an alias of the configuration leads to this name.
+    pub(crate) fn is_target(&self, name: &[u8]) -> bool {
+        let asked = self.asked;
+        let aliases = asked.world.conf.aliases();
+        aliases
+            .iter()
+            .any(|line| is_same(line.target.as_bytes(), name))
     }
 
     /// Whether a line or a text has a module of this name, or a pattern of commands matches it.

@@ -95,9 +95,18 @@ impl Told<'_> {
         Ok(())
     }
 
-    /// Whether softdep lines of a name may count: they do for a module's own name alone.
+    /// Whether softdep lines of a name may count: they do for the name of a module or of lines with a command, and for one to
+    /// which an alias line leads.
     fn may_be_module(&self, name: &[u8]) -> bool {
-        is_pattern(name) || self.known.has_file(name) || self.known.is_built_in(name, false)
+        let known = self.known;
+        let asked = known.asked;
+        let conf = asked.world.conf;
+        is_pattern(name)
+            || known.has_file(name)
+            || known.is_built_in(name, false)
+            || known.is_target(name)
+            || conf.has_install_named(name)
+            || conf.has_remove_named(name)
     }
 
     /// Tells the words of a softdep line that stand for a module, if the line counts for its own name.

@@ -83,6 +83,8 @@ pub(crate) enum Task {
     Remove(bool, Subject),
     /// A module that is removed, if it is not in use by then.
     Release(bool, Subject),
+    /// The innermost module whose soft items are being removed is done.
+    Leave,
 }
 
 /// Tasks, the next last, and what was told by now.
@@ -101,8 +103,10 @@ pub(crate) struct Tasks {
     loaded: IndexSet<Subject>,
     /// The modules that were told with their soft items.
     filled: IndexSet<Subject>,
-    /// The modules that were told as removed.
-    removed: IndexSet<Subject>,
+    /// The modules whose soft items are being removed, the outermost first.
+    way: IndexSet<Vec<u8>>,
+    /// The module that a name stands for, if its commands are passed over: it is the same if another one asks for it.
+    asked: Option<Subject>,
     /// The words of softdep lines that were looked up, each with whether it stands for a module.
     found: IndexMap<Vec<u8>, bool>,
     /// The words of softdep lines that were told.
@@ -131,7 +135,8 @@ impl Tasks {
             merges,
             loaded: IndexSet::new(alloc),
             filled: IndexSet::new(alloc),
-            removed: IndexSet::new(alloc),
+            way: IndexSet::new(alloc),
+            asked: None,
             found: IndexMap::new(alloc),
             words: IndexSet::new(alloc),
             files: IndexSet::new(alloc),
@@ -155,12 +160,26 @@ impl Tasks {
 
     /// Whether a module was told already, as a name of the query or as what another one asks for.
     fn is_known(&self, all: &IndexSet<Subject>, subject: &Subject) -> Result<bool, AllocError> {
-        if subject.bare || !self.merges {
+        if subject.bare || all.contains(subject) {
             return Ok(all.contains(subject));
         }
         let mut bare = subject.clone()?;
         bare.bare = true;
-        Ok(all.contains(subject) || all.contains(&bare))
+        Ok(all.contains(&bare) && (self.merges || self.is_asked(&bare)))
+    }
+
+    /// Whether a name of the query stands for this module.
+    fn is_asked(&self, subject: &Subject) -> bool {
+        match &self.asked {
+            Some(own) => own == subject,
+            None => false,
+        }
+    }
+
+    /// Notes the module that a name stands for, before it is told.
+    pub(crate) fn ask(&mut self, subject: &Subject) -> Result<(), AllocError> {
+        self.asked = Some(subject.clone()?);
+        Ok(())
     }
 
     /// Whether the needs of a module are to be told; from now on they were.
@@ -181,10 +200,20 @@ impl Tasks {
         Ok(true)
     }
 
-    /// Whether the removal of a module is to be told; from now on it was.
-    pub(crate) fn begin_removal(&mut self, subject: &Subject) -> Result<bool, AllocError> {
-        let is_new = self.removed.insert(subject.clone()?)?;
-        Ok(is_new)
+    /// Whether the soft items of a module are being removed.
+    pub(crate) fn is_on_way(&self, name: &[u8]) -> bool {
+        self.way.contains(name)
+    }
+
+    /// Notes that the soft items of a module are being removed, until the task `Leave` is done.
+    pub(crate) fn enter(&mut self, alloc: Global, name: &[u8]) -> Result<(), AllocError> {
+        self.way.insert(Vec::from_slice(alloc, name)?)?;
+        self.push(Task::Leave)
+    }
+
+    /// Notes that the innermost of these modules is done.
+    pub(crate) fn leave(&mut self) {
+        self.way.pop();
     }
 
     /// Whether a word of a softdep line stands for a module, None if it was not looked up.

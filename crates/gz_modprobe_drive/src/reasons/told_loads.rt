@@ -111,7 +111,6 @@ impl Told<'_> {
         has_items: bool,
     ) -> Result<(), AllocError> {
         let (name, alias) = (subject.name.as_slice(), subject.alias.as_deref());
-        self.tell_misspelt(name)?;
         if has_file {
             self.tell_refused(name)?;
         }

@@ -39,17 +39,19 @@ impl Told<'_> {
         self.say(name, What::Removal(fact), Spot::Nowhere)
     }
 
-    /// Tells which modules hold a module, and how many of its users are none.
-    fn tell_holders(&mut self, name: &[u8], users: u64) -> Result<(), AllocError> {
+    /// Tells which modules hold a module, `now` or by then, and how many of its users are none.
+    fn tell_holders(&mut self, name: &[u8], users: u64, now: bool) -> Result<(), AllocError> {
         let all = self.known.sources.holders;
         let Some(holders) = all.iter().find(|own| is_same(&own.module, name)) else {
             return Ok(());
         };
         let folder = holders_folder(self.alloc, name)?;
         for holder in &holders.names {
-            let what = What::State(StateFact::HeldBy(self.text(holder)?));
-            let spot = self.whole(&folder)?;
-            self.say(name, what, spot)?;
+            if now || !is_gone(self.counted(), holder) {
+                let what = What::State(StateFact::HeldBy(self.text(holder)?));
+                let spot = self.whole(&folder)?;
+                self.say(name, what, spot)?;
+            }
         }
         let others = users_beside(users, holders.names.len());
         if others == 0 {
@@ -59,26 +61,31 @@ impl Told<'_> {
         self.say(name, What::State(StateFact::OtherUsers(others)), spot)
     }
 
-    /// Tells how many use a module and which modules they are, unless none does.
-    fn tell_users(&mut self, name: &[u8], status: ModuleStatus) -> Result<(), AllocError> {
+    /// Tells how many use a module and which modules they are, `now` or by then, unless none does.
+    fn tell_users(
+        &mut self,
+        name: &[u8],
+        status: ModuleStatus,
+        now: bool,
+    ) -> Result<(), AllocError> {
         match status.users {
             Some(0) => Ok(()),
             Some(users) => {
                 self.tell_state(name, StateFact::Users(users))?;
-                self.tell_holders(name, users)
+                self.tell_holders(name, users, now)
             }
             None => self.tell_state(name, StateFact::UsersUnknown),
         }
     }
 
-    /// Tells why a module stays that another one needs, or that is in use.
-    fn tell_need_state(&mut self, name: &[u8]) -> Result<(), AllocError> {
+    /// Tells why a module stays that another one needs, as it is `now`, or that is in use by then.
+    fn tell_need_state(&mut self, name: &[u8], now: bool) -> Result<(), AllocError> {
         if self.known.is_built_in(name, false) {
             return self.tell_built_in(name, Outcome::NotRemoved);
         }
         let asked = self.known.asked;
         match asked.world.states.of(name) {
-            Some(status) => self.tell_users(name, status),
+            Some(status) => self.tell_users(name, status, now),
             None => self.tell_state(name, StateFact::NotLoaded),
         }
     }
@@ -113,10 +120,8 @@ impl Told<'_> {
         soft: bool,
         subject: Subject,
     ) -> Result<(), AllocError> {
-        if !tasks.begin_removal(&subject)? {
-            return Ok(());
-        }
         let (alloc, asked) = (self.alloc, self.known.asked);
+        tasks.enter(alloc, &subject.name)?;
         let conf = asked.world.conf;
         let Some(line) = conf.softdep_of(alloc, &subject.name)? else {
             return tasks.push(Task::Release(soft, subject));
@@ -136,13 +141,16 @@ impl Told<'_> {
         push_words(tasks, after)
     }
 
-    /// Tells why a module is not removed, or goes on with it.
+    /// Tells why a module is not removed, or goes on with it, unless its soft items are being removed already.
     pub(crate) fn tell_removal(
         &mut self,
         tasks: &mut Tasks,
         soft: bool,
         subject: Subject,
     ) -> Result<(), AllocError> {
+        if tasks.is_on_way(&subject.name) {
+            return Ok(());
+        }
         let object = subject.object(self.alloc)?;
         let (asked, holders) = (self.known.asked, self.known.sources.holders);
         match judge_after(asked, holders, self.counted(), soft, &object)? {
@@ -197,7 +205,7 @@ impl Told<'_> {
         if self.known.sources.whole && self.was_gone(&need.name, before) {
             return self.say_removal(&need.name, RemovalFact::Gone);
         }
-        self.tell_need_state(&need.name)?;
+        self.tell_need_state(&need.name, true)?;
         if self.goes_since(&need.name, before) {
             self.tell_unused(need)?;
         }
@@ -256,11 +264,20 @@ impl Told<'_> {
         self.say_removal(name, RemovalFact::Gone)
     }
 
-    /// Tells that nothing uses a module by then, if something uses it now.
-    fn tell_free(&mut self, name: &[u8]) -> Result<(), AllocError> {
+    /// Whether a command is run for the removal of a module, which is not asked of its users then.
+    fn is_commanded(&self, subject: &Subject) -> Result<bool, AllocError> {
         let asked = self.known.asked;
-        if self.known.sources.whole && has_users(asked.world.states.of(name)) {
-            return self.say_removal(name, RemovalFact::Free);
+        let (name, alias) = (subject.name.as_slice(), subject.alias.as_deref());
+        let line = remove_line(self.alloc, &asked.world, name, alias)?;
+        Ok(line.is_some() && !asked.query.ignore_commands)
+    }
+
+    /// Tells that nothing uses a module by then, if something uses it now and that is asked.
+    fn tell_free(&mut self, subject: &Subject) -> Result<(), AllocError> {
+        let asked = self.known.asked;
+        let is_used = has_users(asked.world.states.of(&subject.name));
+        if self.known.sources.whole && is_used && !self.is_commanded(subject)? {
+            return self.say_removal(&subject.name, RemovalFact::Free);
         }
         Ok(())
     }
@@ -275,13 +292,13 @@ impl Told<'_> {
         let object = subject.object(self.alloc)?;
         let (asked, holders) = (self.known.asked, self.known.sources.holders);
         if is_in_use_after(asked, holders, self.counted(), &object)? {
-            self.tell_need_state(&subject.name)?;
+            self.tell_need_state(&subject.name, false)?;
             return self.refuse(tasks, soft, &subject.name);
         }
         if is_gone_by(asked, self.counted(), &object)? {
             return self.tell_gone(tasks, soft, &subject.name);
         }
-        self.tell_free(&subject.name)?;
+        self.tell_free(subject)?;
         self.tell_removed(subject, &object)?;
         self.follow_removal(tasks, &subject.name)
     }

@@ -70,10 +70,24 @@ impl Told<'_> {
         let what = What::Lead(LeadFact::Softdep { side, of });
         self.say_of(&own.word, what, own.place)?;
         if !tasks.begin_word(self.alloc, &own.word)? {
-            return Ok(());
+            return self.follow_again(tasks, &own.word);
         }
         let found = self.tell_word(&own.word)?;
         self.follow(tasks, found.as_deref().unwrap_or(&[]))
+    }
+
+    /// Goes on with the modules for which a word stands, of which it was told why: a load takes them once, and a removal
+    /// each time.
+    fn follow_again(&mut self, tasks: &mut Tasks, word: &[u8]) -> Result<(), AllocError> {
+        if !self.known.is_removal() {
+            return Ok(());
+        }
+        let Some(name) = normal_alias(self.alloc, word)? else {
+            return Ok(());
+        };
+        let finding = find_name(self.alloc, &self.known.asked.world, name.as_bytes())?;
+        let objects = finding.objects(self.alloc, name.as_bytes())?;
+        self.follow(tasks, &objects)
     }
 
     /// Tells the softdep lines of a module that do not count, since one at a place does.

@@ -28,6 +28,8 @@ impl Told<'_> {
             let pattern = self.text(entry.pattern.as_bytes())?;
             let what = What::Name(NameFact::Alias { of, pattern });
             self.say_of(word, what, entry.place)?;
+            let target = entry.target.as_bytes();
+            self.tell_if_built_in(target, target)?;
         }
         Ok(())
     }
@@ -105,10 +107,15 @@ impl Told<'_> {
         self.say(word, What::Name(NameFact::BuiltIn), spot)
     }
 
-    /// Tells that a word is the name of lines with a command, and of a module that is built in, if it is: a dry run and a
-    /// removal tell the latter of each module.
+    /// Tells that a word is the name of lines with a command, and of a module that is built in, if it is.
     fn tell_named(&mut self, word: &[u8], name: &[u8]) -> Result<(), AllocError> {
         self.tell_commanded(word, name)?;
+        self.tell_if_built_in(word, name)
+    }
+
+    /// Tells that a word, whose normal form is a name, is that of a module which is built in, if it is. A dry run and a
+    /// removal tell that of each module.
+    fn tell_if_built_in(&mut self, word: &[u8], name: &[u8]) -> Result<(), AllocError> {
         let is_told = matches!(self.known.asked.query.ask, Ask::DryRun) || self.known.is_removal();
         if is_told || !self.known.is_built_in(name, false) {
             return Ok(());
