@@ -13,8 +13,8 @@ for fact in (json.loads(line) for line in sys.stdin if line.startswith("{")):
         takes.setdefault(name, []).append(fact["of"].replace("-", "_"))
 
 taken = sum(takes.values(), [])
-rest = [(it, 0) for it in takes if it not in taken] or [(it, 0) for it in list(takes)[:1]]
-while rest:
-    name, depth = rest.pop(0)
+rest = [(it, 0) for it in takes if it not in taken]
+while rest or takes:
+    name, depth = rest.pop(0) if rest else (next(iter(takes)), 0)
     print("    " * depth + name)
     rest[:0] = [(it, depth + 1) for it in dict.fromkeys(takes.pop(name, []))]

@@ -1,5 +1,5 @@
 -- What is noted of the lines of a configuration: that modprobe(8) ignores a line, or that it has no effect on this machine.
-use Rattle.std.specs.Prelude.{ℕ, Bool, true, false, not, if◌then◌else◌, ◌&&◌, ◌||◌, nat_lt, nat_eq, List, [], ◌∷◌, ◌++◌, codes, Option, Some, None, option_map}
+use Rattle.std.specs.Prelude.{ℕ, Bool, true, false, not, if◌then◌else◌, ◌&&◌, ◌||◌, nat_lt, nat_eq, List, [], ◌∷◌, ◌++◌, codes, Option, Some, None, is_some, option_map}
 use Rattle.std.specs.List.{ends_with, filter_map, find, flat_map, list_any}
 use Rattle.std.specs.Option.{option_or, option_to_list}
 use Rattle.std.specs.Str.{bytes_eq}
@@ -145,10 +145,10 @@ abbrev pub passed_over_by : Facts → Option SoftdepLine → Option NoteKind
 passed_over_by facts None = None
 passed_over_by facts (Some softdep) = if has_soft_items facts (Some softdep) then Some (PassedOver softdep.place) else None
 
--- an install line of a module that has soft dependencies
+-- An install line of a module that has soft dependencies. A name that is no module's is found by such a line all the same.
 abbrev pub passed_over : Facts → Said → Option NoteKind
 passed_over facts line =
-    if has_pattern line.name then None else passed_over_by facts (softdep_of facts.conf line.name)
+    if has_file facts.index line.name then passed_over_by facts (softdep_of facts.conf line.name) else None
 
 -- options of a module whose install command does nothing and counts
 abbrev pub stopped_by : Option TextLine → Option NoteKind
@@ -160,10 +160,14 @@ stopped facts line =
     if has_file facts.index line.name && not (has_soft_items facts (softdep_of facts.conf line.name))
     then stopped_by (install_of facts.conf line.name) else None
 
--- an alias leads to a module, or to `off`, which switches it off; it does not lead to another alias
+-- something is loaded by the name of a module, or of a softdep line to which an alias leads
+abbrev pub loads_something : Facts → List ℕ → Bool
+loads_something facts name = is_loadable facts.conf facts.index name || is_some (softdep_of facts.conf name)
+
+-- an alias leads to such a name, or to `off`, which switches it off; it does not lead to another alias
 abbrev pub alias_kind : Facts → Said → Option NoteKind
 alias_kind facts line =
-    if bytes_eq line.text (codes "off") || is_loadable facts.conf facts.index line.text then repeated facts line
+    if bytes_eq line.text (codes "off") || loads_something facts line.text then repeated facts line
     else Some (UnknownModule line.text)
 
 abbrev pub blacklist_kind : Facts → Said → Option NoteKind

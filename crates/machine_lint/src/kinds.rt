@@ -2,7 +2,7 @@
 ghost use Rattle.std.specs.Prelude.{◌≡◌, IfOk, option_copied};
 ghost use Rattle.std.specs.Option.{option_or};
 ghost use Rattle.machine_lint.specs.Notes.{absent, alias_kind, blacklist_kind, counting_install, counting_remove, facts_by, filled_softdep_kind};
-ghost use Rattle.machine_lint.specs.Notes.{install_kind, keeps_nothing, kind_of, later, later_softdep, no_module, options_kind, passed_over};
+ghost use Rattle.machine_lint.specs.Notes.{install_kind, keeps_nothing, kind_of, later, later_softdep, loads_something, no_module, options_kind, passed_over};
 ghost use Rattle.machine_lint.specs.Notes.{remove_kind, repeated, setting_kind, softdep_kind, stopped, stopped_by, unless_here, used_options_kind, weakdep_kind, why_absent, why_no_module};
 
 use crate::judge::Judge;
@@ -168,11 +168,20 @@ impl Judge<'_> {
         }
     }
 
+    /// Whether something is loaded by a name to which an alias leads.
+    fn loads_something(&self, alloc: Global, name: &[u8]) -> Result<bool, AllocError>
+        ensures { IfOk result (λ loads. loads ≡ loads_something (facts_by self.now) name.now) }
+    {
+        let is_loadable = self.is_loadable(alloc, name)?;
+        let softdep = self.conf.softdep_of(alloc, name)?;
+        Ok(is_loadable || softdep.is_some())
+    }
+
     fn alias_kind(&self, alloc: Global, line: &Line) -> Result<Option<NoteKind>, AllocError>
         ensures { IfOk result (λ kind. kind ≡ alias_kind (facts_by self.now) line.now) }
     {
-        let is_loadable = self.is_loadable(alloc, line.text())?;
-        if is_same(line.text(), b"off") || is_loadable {
+        let loads = self.loads_something(alloc, line.text())?;
+        if is_same(line.text(), b"off") || loads {
             Ok(self.repeated(line))
         } else {
             Ok(Some(NoteKind::UnknownModule(Text::new(alloc, line.text())?)))

@@ -6,7 +6,6 @@ ghost use Rattle.machine_lint.specs.Notes.{facts_by, has_soft_items, is_answered
 use crate::judge::Judge;
 use crate::line::Line;
 use crate::note::NoteKind;
-use crate::words::has_pattern;
 use kmod_conf::SoftdepLine;
 use kmod_names::{Text, normal_alias};
 use std::alloc::{AllocError, Global};
@@ -73,7 +72,7 @@ impl Judge<'_> {
     ) -> Result<Option<NoteKind>, AllocError>
         ensures { IfOk result (λ kind. kind ≡ passed_over (facts_by self.now) line.now) }
     {
-        if has_pattern(line.name()) {
+        if !self.has_file(line.name()) {
             return Ok(None);
         }
         let softdep = self.conf.softdep_of(alloc, line.name())?;

@@ -45,14 +45,13 @@ impl Told<'_> {
             self.tell_misspelt(&object.name)?;
         }
         let subject = Subject::of(self.alloc, object, query.ignore_commands)?;
-        tasks.ask(&subject)?;
         tasks.push(Task::Load(subject))?;
         self.tell_tasks(tasks)
     }
 
     /// Tells what becomes of a module that is to be removed, and what that leads to. Returns whether it is refused.
     fn tell_whole(&mut self, tasks: &mut Tasks, object: &Object) -> Result<bool, AllocError> {
-        tasks.begin_name();
+        tasks.begin_module();
         let subject = Subject::of(self.alloc, object, false)?;
         tasks.push(Task::Remove(false, subject))?;
         self.tell_tasks(tasks)?;
@@ -149,6 +148,7 @@ impl Told<'_> {
 
     /// Tells a word of the command line: a path or a name. A removal has no paths.
     fn tell_asked(&mut self, tasks: &mut Tasks, word: &[u8]) -> Result<(), AllocError> {
+        tasks.begin_name(self.alloc);
         let asked = self.known.asked;
         let paths = asked.world.paths;
         match paths.iter().find(|own| is_same(own.word.as_bytes(), word)) {
@@ -159,7 +159,7 @@ impl Told<'_> {
 
     /// Tells a name. Its refusal may end a removal.
     fn tell_name(&mut self, tasks: &mut Tasks, word: &[u8]) -> Result<(), AllocError> {
-        tasks.begin_name();
+        tasks.begin_module();
         let refused = self.begin_word(tasks, word)?;
         let ends = refused && !tasks.is_gone() && is_fatal(&self.known.asked.query);
         if self.known.is_removal() && ends && tasks.ended_by().is_none() {
@@ -212,7 +212,8 @@ impl Told<'_> {
 
     /// Tells why the words of the query are answered as they are.
     fn tell_words(&mut self) -> Result<(), AllocError> {
-        let mut tasks = Tasks::new(self.alloc, !self.known.asked.query.all);
+        let query = &self.known.asked.query;
+        let mut tasks = Tasks::new(self.alloc, query.all && query.ignore_commands);
         self.tell_names(&mut tasks)
     }
 

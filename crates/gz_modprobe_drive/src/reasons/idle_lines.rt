@@ -29,12 +29,19 @@ impl Told<'_> {
     fn tell_idle_aliases(&mut self, lines: &[AliasEntry]) -> Result<(), AllocError> {
         for line in lines {
             let target = line.target.as_bytes();
-            if !self.known.is_module(self.alloc, target)? {
+            if !self.known.is_module(self.alloc, target)? && !self.has_softdep(target)? {
                 let what = What::Idle(IdleFact::Alias(self.text(target)?));
                 self.say_of(line.pattern.as_bytes(), what, line.place)?;
             }
         }
         Ok(())
+    }
+
+    /// Whether a softdep line counts for a name.
+    fn has_softdep(&self, name: &[u8]) -> Result<bool, AllocError> {
+        let asked = self.known.asked;
+        let conf = asked.world.conf;
+        Ok(conf.softdep_of(self.alloc, name)?.is_some())
     }
 
     /// Tells the lines whose name no module has, and to which no alias line leads. If `has_patterns`, a name that is a pattern

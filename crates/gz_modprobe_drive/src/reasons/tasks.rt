@@ -97,16 +97,14 @@ pub(crate) struct Tasks {
     gone: bool,
     /// The name whose refusal ended the query, so that nothing more is to be told.
     ended: Option<Vec<u8>>,
-    /// Whether a module that a name stands for is the same if another one asks for it.
-    merges: bool,
+    /// Whether what was told under one name is told again under the next: -i holds for the module of a name, and no further.
+    forgets: bool,
     /// The modules whose needs were told.
     loaded: IndexSet<Subject>,
     /// The modules that were told with their soft items.
     filled: IndexSet<Subject>,
     /// The modules whose soft items are being removed, the outermost first.
     way: IndexSet<Vec<u8>>,
-    /// The module that a name stands for, if its commands are passed over: it is the same if another one asks for it.
-    asked: Option<Subject>,
     /// The words of softdep lines that were looked up, each with whether it stands for a module.
     found: IndexMap<Vec<u8>, bool>,
     /// The words of softdep lines that were told.
@@ -125,18 +123,17 @@ struct Exempt {
 }
 
 impl Tasks {
-    /// No tasks yet. `merges` says that a module which a name stands for is the same if another one asks for it.
-    pub(crate) fn new(alloc: Global, merges: bool) -> Tasks {
+    /// No tasks yet. `forgets` says that what was told under one name is told again under the next.
+    pub(crate) fn new(alloc: Global, forgets: bool) -> Tasks {
         Tasks {
             stack: Vec::new(alloc),
             refused: false,
             gone: false,
             ended: None,
-            merges,
+            forgets,
             loaded: IndexSet::new(alloc),
             filled: IndexSet::new(alloc),
             way: IndexSet::new(alloc),
-            asked: None,
             found: IndexMap::new(alloc),
             words: IndexSet::new(alloc),
             files: IndexSet::new(alloc),
@@ -158,28 +155,14 @@ impl Tasks {
         self.stack.pop()
     }
 
-    /// Whether a module was told already, as a name of the query or as what another one asks for.
+    /// Whether a module was told already, as that of a name or as what another one asks for: these are the same.
     fn is_known(&self, all: &IndexSet<Subject>, subject: &Subject) -> Result<bool, AllocError> {
         if subject.bare || all.contains(subject) {
             return Ok(all.contains(subject));
         }
         let mut bare = subject.clone()?;
         bare.bare = true;
-        Ok(all.contains(&bare) && (self.merges || self.is_asked(&bare)))
-    }
-
-    /// Whether a name of the query stands for this module.
-    fn is_asked(&self, subject: &Subject) -> bool {
-        match &self.asked {
-            Some(own) => own == subject,
-            None => false,
-        }
-    }
-
-    /// Notes the module that a name stands for, before it is told.
-    pub(crate) fn ask(&mut self, subject: &Subject) -> Result<(), AllocError> {
-        self.asked = Some(subject.clone()?);
-        Ok(())
+        Ok(all.contains(&bare))
     }
 
     /// Whether the needs of a module are to be told; from now on they were.
@@ -262,9 +245,19 @@ impl Tasks {
     }
 
     /// Notes that another module is asked for, which is not refused yet.
-    pub(crate) fn begin_name(&mut self) {
+    pub(crate) fn begin_module(&mut self) {
         self.refused = false;
         self.gone = false;
+    }
+
+    /// Notes that another word of the query is asked for.
+    pub(crate) fn begin_name(&mut self, alloc: Global) {
+        self.begin_module();
+        if self.forgets {
+            self.loaded = IndexSet::new(alloc);
+            self.filled = IndexSet::new(alloc);
+            self.words = IndexSet::new(alloc);
+        }
     }
 
     /// Notes that a removal that was asked for is refused.

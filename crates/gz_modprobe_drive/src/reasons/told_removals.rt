@@ -47,7 +47,9 @@ impl Told<'_> {
         };
         let folder = holders_folder(self.alloc, name)?;
         for holder in &holders.names {
-            if now || !is_gone(self.counted(), holder) {
+            if !now && is_gone(self.counted(), holder) {
+                self.say_removal(holder, RemovalFact::Gone)?;
+            } else {
                 let what = What::State(StateFact::HeldBy(self.text(holder)?));
                 let spot = self.whole(&folder)?;
                 self.say(name, what, spot)?;
@@ -233,6 +235,9 @@ impl Told<'_> {
         };
         let line = remove_line(self.alloc, &asked.world, name, alias)?;
         self.tell_commands(name, Command::Remove, line, &named.removes, passed)?;
+        if is_gone(&self.taken, name) {
+            return Ok(());
+        }
         let before = self.taken.len();
         push_taken(asked, self.known.sources.holders, &mut self.taken, object)?;
         if is_bare || line.is_none() {
