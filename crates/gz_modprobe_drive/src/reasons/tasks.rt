@@ -105,6 +105,8 @@ pub(crate) struct Tasks {
     filled: IndexSet<Subject>,
     /// The modules whose soft items are being removed, the outermost first.
     way: IndexSet<Vec<u8>>,
+    /// The modules of whose removal it was told what it frees.
+    removed: IndexSet<Vec<u8>>,
     /// The words of softdep lines that were looked up, each with whether it stands for a module.
     found: IndexMap<Vec<u8>, bool>,
     /// The words of softdep lines that were told.
@@ -134,6 +136,7 @@ impl Tasks {
             loaded: IndexSet::new(alloc),
             filled: IndexSet::new(alloc),
             way: IndexSet::new(alloc),
+            removed: IndexSet::new(alloc),
             found: IndexMap::new(alloc),
             words: IndexSet::new(alloc),
             files: IndexSet::new(alloc),
@@ -192,6 +195,12 @@ impl Tasks {
     pub(crate) fn enter(&mut self, alloc: Global, name: &[u8]) -> Result<(), AllocError> {
         self.way.insert(Vec::from_slice(alloc, name)?)?;
         self.push(Task::Leave)
+    }
+
+    /// Whether it is to be told what the removal of a module frees; from now on it was.
+    pub(crate) fn begin_removed(&mut self, alloc: Global, name: &[u8]) -> Result<bool, AllocError> {
+        let is_new = self.removed.insert(Vec::from_slice(alloc, name)?)?;
+        Ok(is_new)
     }
 
     /// Notes that the innermost of these modules is done.

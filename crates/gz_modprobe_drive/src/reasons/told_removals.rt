@@ -11,7 +11,7 @@ use answer_facts::{
     Command, LineFact, Outcome, Passed, RemovalFact, Shows, Side, Spot, StateFact, What,
 };
 use kmod_query::{
-    ModuleStatus, Object, Taken, Verdict, has_users, is_fatal, is_gone, is_gone_by,
+    Ask, ModuleStatus, Object, Taken, Verdict, has_users, is_fatal, is_gone, is_gone_by,
     is_in_use_after, judge_after, push_taken, remove_line,
 };
 use std::alloc::AllocError;
@@ -39,15 +39,21 @@ impl Told<'_> {
         self.say(name, What::Removal(fact), Spot::Nowhere)
     }
 
-    /// Tells which modules hold a module, `now` or by then, and how many of its users are none.
-    fn tell_holders(&mut self, name: &[u8], users: u64, now: bool) -> Result<(), AllocError> {
+    /// What a removal has taken up to this number, as far as it counts.
+    fn counted_to(&self, number: usize) -> &[Taken] {
+        self.counted().get(..number).unwrap_or(&[])
+    }
+
+    /// Tells which modules hold a module, which of them are gone by what was taken up to a number, and how many of its users
+    /// are no modules.
+    fn tell_holders(&mut self, name: &[u8], users: u64, number: usize) -> Result<(), AllocError> {
         let all = self.known.sources.holders;
         let Some(holders) = all.iter().find(|own| is_same(&own.module, name)) else {
             return Ok(());
         };
         let folder = holders_folder(self.alloc, name)?;
         for holder in &holders.names {
-            if !now && is_gone(self.counted(), holder) {
+            if is_gone(self.counted_to(number), holder) {
                 self.say_removal(holder, RemovalFact::Gone)?;
             } else {
                 let what = What::State(StateFact::HeldBy(self.text(holder)?));
@@ -63,31 +69,31 @@ impl Told<'_> {
         self.say(name, What::State(StateFact::OtherUsers(others)), spot)
     }
 
-    /// Tells how many use a module and which modules they are, `now` or by then, unless none does.
+    /// Tells how many use a module and which modules they are, by what was taken up to a number, unless none does.
     fn tell_users(
         &mut self,
         name: &[u8],
         status: ModuleStatus,
-        now: bool,
+        number: usize,
     ) -> Result<(), AllocError> {
         match status.users {
             Some(0) => Ok(()),
             Some(users) => {
                 self.tell_state(name, StateFact::Users(users))?;
-                self.tell_holders(name, users, now)
+                self.tell_holders(name, users, number)
             }
             None => self.tell_state(name, StateFact::UsersUnknown),
         }
     }
 
-    /// Tells why a module stays that another one needs, as it is `now`, or that is in use by then.
-    fn tell_need_state(&mut self, name: &[u8], now: bool) -> Result<(), AllocError> {
+    /// Tells why a module stays that another one needs, or that is in use, by what was taken up to a number.
+    fn tell_need_state(&mut self, name: &[u8], number: usize) -> Result<(), AllocError> {
         if self.known.is_built_in(name, false) {
             return self.tell_built_in(name, Outcome::NotRemoved);
         }
         let asked = self.known.asked;
         match asked.world.states.of(name) {
-            Some(status) => self.tell_users(name, status, now),
+            Some(status) => self.tell_users(name, status, number),
             None => self.tell_state(name, StateFact::NotLoaded),
         }
     }
@@ -207,7 +213,7 @@ impl Told<'_> {
         if self.known.sources.whole && self.was_gone(&need.name, before) {
             return self.say_removal(&need.name, RemovalFact::Gone);
         }
-        self.tell_need_state(&need.name, true)?;
+        self.tell_need_state(&need.name, before)?;
         if self.goes_since(&need.name, before) {
             self.tell_unused(need)?;
         }
@@ -224,7 +230,12 @@ impl Told<'_> {
     }
 
     /// Tells what counts for a removal of a module.
-    fn tell_removed(&mut self, subject: &Subject, object: &Object) -> Result<(), AllocError> {
+    fn tell_removed(
+        &mut self,
+        tasks: &mut Tasks,
+        subject: &Subject,
+        object: &Object,
+    ) -> Result<(), AllocError> {
         let (name, alias) = (subject.name.as_slice(), subject.alias.as_deref());
         let (asked, named) = (self.known.asked, self.known.named);
         let is_bare = asked.query.ignore_commands;
@@ -235,11 +246,13 @@ impl Told<'_> {
         };
         let line = remove_line(self.alloc, &asked.world, name, alias)?;
         self.tell_commands(name, Command::Remove, line, &named.removes, passed)?;
-        if is_gone(&self.taken, name) {
+        if !tasks.begin_removed(self.alloc, name)? {
             return Ok(());
         }
         let before = self.taken.len();
-        push_taken(asked, self.known.sources.holders, &mut self.taken, object)?;
+        if !is_gone(&self.taken, name) {
+            push_taken(asked, self.known.sources.holders, &mut self.taken, object)?;
+        }
         if is_bare || line.is_none() {
             return self.tell_freed(name, before);
         }
@@ -281,7 +294,8 @@ impl Told<'_> {
     fn tell_free(&mut self, subject: &Subject) -> Result<(), AllocError> {
         let asked = self.known.asked;
         let is_used = has_users(asked.world.states.of(&subject.name));
-        if self.known.sources.whole && is_used && !self.is_commanded(subject)? {
+        let is_asked = matches!(asked.query.ask, Ask::Remove) && !self.is_commanded(subject)?;
+        if self.known.sources.whole && is_used && is_asked {
             return self.say_removal(&subject.name, RemovalFact::Free);
         }
         Ok(())
@@ -297,14 +311,14 @@ impl Told<'_> {
         let object = subject.object(self.alloc)?;
         let (asked, holders) = (self.known.asked, self.known.sources.holders);
         if is_in_use_after(asked, holders, self.counted(), &object)? {
-            self.tell_need_state(&subject.name, false)?;
+            self.tell_need_state(&subject.name, self.taken.len())?;
             return self.refuse(tasks, soft, &subject.name);
         }
         if is_gone_by(asked, self.counted(), &object)? {
             return self.tell_gone(tasks, soft, &subject.name);
         }
         self.tell_free(subject)?;
-        self.tell_removed(subject, &object)?;
+        self.tell_removed(tasks, subject, &object)?;
         self.follow_removal(tasks, &subject.name)
     }
 }
