@@ -246,7 +246,7 @@ absent_item facts item own =
 abbrev pub item_by : Facts → Said → List ℕ → Option (List ℕ) → Option NoteKind
 item_by facts line item None = Some (UnknownItem item)
 item_by facts line item (Some own) =
-    if bytes_eq own line.name then Some OwnItem
+    if bytes_eq own line.name && is_own facts.conf facts.index own then Some OwnItem
     else (if names_back facts line own then Some (RingItem item)
     else absent_item facts item own)
 

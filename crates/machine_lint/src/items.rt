@@ -93,7 +93,8 @@ impl Judge<'_> {
         let Some(own) = normal_alias(alloc, item)? else {
             return Ok(Some(NoteKind::UnknownItem(Text::new(alloc, item)?)));
         };
-        if is_same(own.as_bytes(), line.name()) {
+        let is_own = self.is_own(alloc, own.as_bytes())?;
+        if is_same(own.as_bytes(), line.name()) && is_own {
             return Ok(Some(NoteKind::OwnItem));
         }
         if self.names_back(alloc, line, own.as_bytes())? {

@@ -75,24 +75,27 @@ impl Told<'_> {
         }
     }
 
-    /// Tells the modules of a name that are left out, since an earlier one is refused.
-    fn tell_left_out(&mut self, refused: &Object, objects: &[Object]) -> Result<(), AllocError> {
+    /// Tells the modules of a name that are left out, since one is refused.
+    fn tell_left_out(&mut self, refused: &[u8], objects: &[Object]) -> Result<(), AllocError> {
         for object in objects {
-            if !is_same(&object.name, &refused.name) {
-                let fact = RemovalFact::LeftOut(self.text(&refused.name)?);
+            if !is_same(&object.name, refused) {
+                let fact = RemovalFact::LeftOut(self.text(refused)?);
                 self.say_removal(&object.name, fact)?;
             }
         }
         Ok(())
     }
 
-    /// Tells what becomes of the modules of a name, up to one that is refused. Returns whether one is refused.
+    /// Tells what becomes of the modules of a name, up to one that is refused, or with which all ends. Returns whether one is
+    /// refused.
     fn begin_each(&mut self, tasks: &mut Tasks, objects: &[Object]) -> Result<bool, AllocError> {
         for (at, object) in objects.iter().enumerate() {
-            if self.begin(tasks, object)? {
+            let is_refused = self.begin(tasks, object)?;
+            let refused = tasks.ended_by().unwrap_or(&object.name);
+            if is_refused || tasks.ended_by().is_some() {
                 let later = objects.get(at.saturating_add(1)..);
-                self.tell_left_out(object, later.unwrap_or(&[]))?;
-                return Ok(true);
+                self.tell_left_out(refused, later.unwrap_or(&[]))?;
+                return Ok(is_refused);
             }
         }
         Ok(false)

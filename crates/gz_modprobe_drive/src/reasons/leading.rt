@@ -167,6 +167,7 @@ impl Told<'_> {
         let (asked, named) = (self.known.asked, self.known.named);
         self.tell_own_aliases(name)?;
         self.tell_blacklist(name, Blacklist::Listed)?;
+        self.tell_misspelt(name)?;
         self.tell_options(name, None)?;
         let (install, remove, passed) = (Command::Install, Command::Remove, Passed::Never);
         let line = install_line(self.alloc, &asked.world, name, None)?;

@@ -207,6 +207,15 @@ impl Told<'_> {
         }
     }
 
+    /// Whether a dry run shows a need that went before once more, since it asks modules as they are now.
+    fn goes_again(&self, name: &[u8]) -> bool {
+        let asked = self.known.asked;
+        !self.known.sources.whole
+            && self.known.is_live(name)
+            && !has_users(asked.world.states.of(name))
+            && is_gone(&self.taken, name)
+    }
+
     /// Tells a need of a module that goes, and whether it goes too. `before` is what was taken before the module.
     fn tell_freed_need(&mut self, need: &Need, before: usize) -> Result<(), AllocError> {
         self.say_need(need)?;
@@ -214,7 +223,7 @@ impl Told<'_> {
             return self.say_removal(&need.name, RemovalFact::Gone);
         }
         self.tell_need_state(&need.name, before)?;
-        if self.goes_since(&need.name, before) {
+        if self.goes_since(&need.name, before) || self.goes_again(&need.name) {
             self.tell_unused(need)?;
         }
         Ok(())
@@ -311,7 +320,8 @@ impl Told<'_> {
         let object = subject.object(self.alloc)?;
         let (asked, holders) = (self.known.asked, self.known.sources.holders);
         if is_in_use_after(asked, holders, self.counted(), &object)? {
-            self.tell_need_state(&subject.name, self.taken.len())?;
+            let number = self.taken.len();
+            self.tell_need_state(&subject.name, number)?;
             return self.refuse(tasks, soft, &subject.name);
         }
         if is_gone_by(asked, self.counted(), &object)? {
