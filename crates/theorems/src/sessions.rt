@@ -4,7 +4,8 @@ ghost use Rattle.std.specs.Io.KnownBytes.{Appends, IsAtEnd};
 ghost use Rattle.std.specs.Str.Lines.{lines as lines_of};
 ghost use Rattle.dep_index.specs.Catalogue.{modules_of};
 ghost use Rattle.dep_index.specs.Laws.{IsLawful};
-ghost use Rattle.modprobe.specs.Lines.{bytes_left, IfTold};
+ghost use Rattle.modprobe.specs.Lines.{bytes_left, hand_of, IfTold, source_of};
+ghost use Rattle.modprobe.specs.Run.{StandsAfter, is_read, is_write};
 ghost use Rattle.modprobe.specs.Serve.{ServeStands, failed_reading, failed_writing, ran_out_of_turns};
 ghost use Rattle.modprobe.specs.Session.{answer};
 ghost use Rattle.theorems.specs.Sessions.{output, WritesBeginning, SessionsMakeCalls, SessionsAreLawful};
@@ -70,7 +71,8 @@ pub fn stopped_sessions_wrote_a_beginning<R: Source, W: Sink>(
 }
 
 /// Over whatever table, a session that is answered Ok has read all lines that were left, written the answer to them and
-/// nothing else, and left the table of that answer. Also after a fault the table is lawful.
+/// nothing else, and left the table of that answer. After a fault it is said what stands, and the table is lawful. A fault of
+/// the reader or of the writer comes exactly if that one failed.
 ///
 /// Premises: those of the sentence above, and the table is over the catalogue of the setup.
 pub fn sessions_answer_each_line<R: Source, W: Sink, M: Modules>(
@@ -88,6 +90,10 @@ pub fn sessions_answer_each_line<R: Source, W: Sink, M: Modules>(
     ensures table { OnOk result (IfTold (bytes_left R.remaining lines.old) (λ text.
         M.table table.new ≡ (answer setup.now (M.table table.old) (lines_of text)).1)) }
     ensures all_read { OnOk result (IsAtEnd (bytes_left R.remaining lines.new)) }
+    ensures stands { IfErr result (λ fault. StandsAfter fault setup.now (M.table table.old) (bytes_left R.remaining lines.old)
+        (hand_of R.remaining lines.new) (W.contents writer.old) (W.contents writer.new) (M.table table.new)) }
+    ensures read { R.has_failed (source_of lines.new) ≡ is_read result }
+    ensures write { W.has_failed writer.new ≡ is_write result }
     ensures lawful { IsLawful (M.catalogue table.new) (M.table table.new) }
 {
     let result = run(alloc, setup, lines, writer, table);
