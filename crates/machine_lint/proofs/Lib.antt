@@ -1,2 +1,3 @@
 pub mod LineLemmas
 pub mod ListLemmas
+pub mod OptionLemmas

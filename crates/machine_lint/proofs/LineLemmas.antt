@@ -1,5 +1,5 @@
 -- The notes of a machine are of lines of its configuration.
-use Rattle.std.proofs.Common.{◌≡◌, ℕ, Bool, true, false, cond, List, [], ◌∷◌, Contains, Option, Some, None, option_map, ◌⊎◌, inl, inr, refl, sym, ap, arith}
+use Rattle.std.proofs.Common.{◌≡◌, ℕ, Bool, true, false, cond, List, [], ◌∷◌, ◌++◌, Contains, Option, Some, None, option_map, ◌⊎◌, inl, inr, refl, sym, ap, arith}
 use Rattle.std.proofs.lemmas.List.Elements.{Contains-append_left, Contains-append_right, Contains-append_cases, Contains-push, Contains-push_cases}
 use Rattle.std.specs.List.{cons_option, filter_map, flat_map}
 use Rattle.std.specs.Option.{option_to_list}
@@ -8,7 +8,8 @@ use Rattle.machine_lint.specs.declared.note.Note.{Note}
 use Rattle.machine_lint.specs.declared.note.NoteKind.{NoteKind}
 use Rattle.machine_lint.specs.Laws.{NotesAreOfLines}
 use Rattle.machine_lint.specs.Lines.{Said, is_depmod, lines_of, origin_at}
-use Rattle.machine_lint.specs.Notes.{Facts, due, facts_of, item_kind, item_note, kind_of, line_notes, note_with, notes_of, own_notes}
+use Rattle.machine_lint.specs.Notes.{Facts, due, facts_of, item_kind, item_note, kind_of, line_notes, note_of, note_with, notes_of, own_notes, sets_parameters, word_kind, word_note, word_notes}
+use Rattle.machine_lint.specs.Options.{option_words, words_of}
 
 -- the note is one of the line
 abbrev IsTold : Said → Note → Type 0
@@ -37,21 +38,38 @@ first_or line (Some kind) rest note h go = by (Contains-append_cases (note_with 
     by (inl own) = (kind, sym (one (note_with line kind) note own))
     by (inr later) = go later
 
-of_items : (facts : Facts) (origin : Origin) (line : Said) (items : List (List ℕ)) (note : Note)
-    → Contains (filter_map (item_note facts origin line) items) note → IsTold line note
-of_items facts origin line [] note h = absurd (none note h)
-of_items facts origin line (item ∷ items) note h =
-    first_or line (due origin (item_kind facts line item)) (filter_map (item_note facts origin line) items) note h
-    (of_items facts origin line items note)
+-- notes that are made of items or words
+of_texts : (line : Said) (kind : List ℕ → Option NoteKind) (texts : List (List ℕ)) (note : Note)
+    → Contains (filter_map (λ text. option_map (note_with line) (kind text)) texts) note → IsTold line note
+of_texts line kind [] note h = absurd (none note h)
+of_texts line kind (text ∷ texts) note h =
+    first_or line (kind text) (filter_map (λ text. option_map (note_with line) (kind text)) texts) note h (of_texts line kind texts note)
+
+of_some_notes : (line : Said) (are_noted : Bool) (notes : List Note) (note : Note) → (Contains notes note → IsTold line note)
+    → Contains (cond are_noted notes []) note → IsTold line note
+of_some_notes line true notes note go h = go h
+of_some_notes line false notes note go h = absurd (none note h)
+
+of_words : (facts : Facts) (origin : Origin) (line : Said) (note : Note) → Contains (word_notes facts origin line) note → IsTold line note
+of_words facts origin line note h =
+    of_some_notes line (sets_parameters facts origin line) (filter_map (word_note facts origin line (words_of line.name facts.conf)) (option_words line.text)) note
+    (of_texts line (λ word. due origin (word_kind facts line (words_of line.name facts.conf) word)) (option_words line.text) note) h
+
+of_either : (line : Said) (front back : List Note) (note : Note) → (Contains front note → IsTold line note) → (Contains back note → IsTold line note)
+    → Contains (front ++ back) note → IsTold line note
+of_either line front back note go on h = by (Contains-append_cases front back note h)
+  where
+    by : Contains front note ⊎ Contains back note → IsTold line note
+    by (inl before) = go before
+    by (inr after) = on after
 
 of_own : (facts : Facts) (origin : Origin) (line : Said) (note : Note) → Contains (own_notes facts origin line) note → IsTold line note
 of_own facts origin line note h =
-    by (Contains-append_cases (option_to_list (option_map (note_with line) (due origin (kind_of facts origin line)))) (filter_map (item_note facts origin line) line.items) note h)
-  where
-    by : Contains (option_to_list (option_map (note_with line) (due origin (kind_of facts origin line)))) note
-        ⊎ Contains (filter_map (item_note facts origin line) line.items) note → IsTold line note
-    by (inl own) = of_option line (due origin (kind_of facts origin line)) note own
-    by (inr items) = of_items facts origin line line.items note items
+    of_either line (option_to_list (note_of facts origin line) ++ filter_map (item_note facts origin line) line.items) (word_notes facts origin line) note
+    (of_either line (option_to_list (note_of facts origin line)) (filter_map (item_note facts origin line) line.items) note
+    (of_option line (due origin (kind_of facts origin line)) note)
+    (of_texts line (λ item. due origin (item_kind facts line item)) line.items note))
+    (of_words facts origin line note) h
 
 of_line : (files : List Origin) (facts : Facts) (line : Said) (note : Note) → Contains (line_notes files facts line) note
     → (is_depmod (origin_at files line.place.source) ≡ false) × IsTold line note

@@ -1,4 +1,5 @@
 pub mod Lines
 pub mod Names
+pub mod Options
 pub mod Notes
 pub mod Laws

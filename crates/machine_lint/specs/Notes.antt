@@ -1,6 +1,6 @@
 -- What is noted of the lines of a configuration: that modprobe(8) ignores a line, or that it has no effect on this machine.
-use Rattle.std.specs.Prelude.{ℕ, Bool, true, false, not, if◌then◌else◌, ◌&&◌, ◌||◌, nat_lt, nat_eq, List, [], ◌∷◌, ◌++◌, codes, Option, Some, None, is_some, option_map}
-use Rattle.std.specs.List.{ends_with, filter_map, find, flat_map, list_any}
+use Rattle.std.specs.Prelude.{ℕ, Bool, true, false, not, if◌then◌else◌, ◌&&◌, ◌||◌, nat_lt, nat_eq, List, [], ◌∷◌, ◌++◌, codes, Option, Some, None, is_none, is_some, option_map, slice_get}
+use Rattle.std.specs.List.{ends_with, filter_map, find, flat_map, list_all, list_any}
 use Rattle.std.specs.Option.{option_or, option_to_list}
 use Rattle.std.specs.Str.{bytes_eq}
 use Rattle.text_parts.specs.Text.{is_filled, words}
@@ -9,35 +9,51 @@ use Rattle.kmod_names.specs.Names.{normal_alias}
 use Rattle.kmod_conf.specs.declared.line.TextLine.{TextLine}
 use Rattle.kmod_conf.specs.declared.line.SoftdepLine.{SoftdepLine}
 use Rattle.kmod_conf.specs.Configuration.{Configuration}
-use Rattle.kmod_conf.specs.LookUps.{install_named, install_of, remove_named, remove_of, softdep_of}
+use Rattle.kmod_conf.specs.LookUps.{install_named, install_of, matching_aliases, remove_named, remove_of, softdep_of}
 use Rattle.kmod_index.specs.Indexes.{Indexes}
 use Rattle.machine_lint.specs.declared.judge.Judge.{Judge}
 use Rattle.machine_lint.specs.declared.known.Known.{Known}
+use Rattle.machine_lint.specs.declared.known.ModuleParameters.{ModuleParameters}
 use Rattle.machine_lint.specs.declared.known.Origin.{Origin}
 use Rattle.machine_lint.specs.declared.note.Note.{Note}
 use Rattle.machine_lint.specs.declared.note.NoteKind.{NoteKind}
-use Rattle.machine_lint.specs.declared.note.NoteKind.TheVariants.{AliasName, BadLine, BuiltIn, CarriageReturn, Later, NoItem, OwnItem, PassedOver, Pattern, Repeated, RingItem, Stopped, Unknown, UnknownItem, UnknownModule}
+use Rattle.machine_lint.specs.declared.note.NoteKind.TheVariants.{AliasName, BadLine, BuiltIn, CarriageReturn, Later, NoItem, OtherText, OwnItem, PassedOver, Pattern, Repeated, RingItem, SetLater, Stopped, Unknown, UnknownItem, UnknownModule, UnknownParameter}
+use Rattle.machine_lint.specs.declared.options.OptionWord.{OptionWord}
 use Rattle.machine_lint.specs.declared.setting.Setting.{Setting}
 use Rattle.machine_lint.specs.declared.setting.Setting.TheVariants as sets
 use Rattle.machine_lint.specs.Lines.{Said, has_items, is_depmod, is_kernel, is_package, is_same_place, lines_of, origin_at}
-use Rattle.machine_lint.specs.Names.{has_file, has_pattern, is_found, is_in_kernel, is_loadable, is_module, is_named, is_only_alias, is_own, is_used}
+use Rattle.machine_lint.specs.Names.{has_file, has_pattern, is_alias_pattern, is_commanded, is_found, is_in_kernel, is_loadable, is_module, is_named, is_only_alias, is_own, is_used}
+use Rattle.machine_lint.specs.Options.{is_agreed, is_never_unknown, last_setting, option_words, parameter_of, takes_more, value_of, words_of}
 
 -- what is known of a machine, and all lines of its configuration
 pub record Facts : Type 0 where
   pub conf : Configuration
   pub index : Indexes
+  pub parameters : List ModuleParameters
   pub lines : List Said
 
 abbrev pub facts_by : Judge → Facts
-facts_by judge = record { conf = judge.conf.now; index = judge.index.now; lines = judge.lines.now }
+facts_by judge =
+    record { conf = judge.conf.now; index = judge.index.now; parameters = judge.parameters.now; lines = judge.lines.now }
 
 abbrev pub facts_of : Known → Facts
-facts_of known = record { conf = known.conf.now; index = known.index.now; lines = lines_of known.conf.now }
+facts_of known =
+    record {
+      conf = known.conf.now;
+      index = known.index.now;
+      parameters = known.parameters.now;
+      lines = lines_of known.conf.now;
+    }
+
+abbrev pub is_options : Setting → Bool
+is_options sets.Options = true
+is_options _ = false
 
 -- A carriage return counts as the last byte of a line's last word. White space divides the items of softdep and weakdep
--- lines, which have no text here.
+-- lines, which have no text here; and options, of which the kernel takes it for white space.
 abbrev pub ends_with_cr : Said → Bool
-ends_with_cr line = ends_with nat_eq (if is_filled line.text then line.text else line.name) (13 ∷ [])
+ends_with_cr line =
+    ends_with nat_eq (if is_filled line.text && not (is_options line.setting) then line.text else line.name) (13 ∷ [])
 
 abbrev pub is_true_or_false : List ℕ → Bool
 is_true_or_false word =
@@ -174,12 +190,30 @@ abbrev pub blacklist_kind : Facts → Said → Option NoteKind
 blacklist_kind facts line = option_or (no_module facts line.name) (repeated facts line)
 
 -- the kernel itself reads its command line, for parts of it that no text names
+-- all words that set what a line sets set it to the same values
+abbrev pub are_agreed : Facts → Said → Bool
+are_agreed facts line = list_all (is_agreed (words_of line.name facts.conf)) (option_words line.text)
+
+-- options that stand before, unless another line sets one of them to another value: then it is not the same where it stands
+abbrev pub repeated_options : Facts → Said → Option NoteKind
+repeated_options facts line = if are_agreed facts line then repeated facts line else None
+
 abbrev pub used_options_kind : Facts → Said → Option NoteKind
-used_options_kind facts line = option_or (stopped facts line) (repeated facts line)
+used_options_kind facts line = option_or (stopped facts line) (repeated_options facts line)
+
+-- Of a name to which an alias line of another text answers first: such an alias takes options by its own text alone.
+abbrev pub other_text : Facts → List ℕ → Option NoteKind
+other_text facts name =
+    if has_file facts.index name || is_alias_pattern facts.conf name || is_commanded facts.conf name then None
+    else option_map (λ alias. OtherText alias.place) (slice_get (matching_aliases facts.conf name) 0)
+
+abbrev pub named_options_kind : Facts → Said → Option NoteKind
+named_options_kind facts line = option_or (other_text facts line.name) (used_options_kind facts line)
 
 abbrev pub options_kind : Facts → Origin → Said → Option NoteKind
 options_kind facts origin line =
-    option_or (if is_kernel origin then None else absent facts line.name) (used_options_kind facts line)
+    if is_kernel origin then used_options_kind facts line
+    else option_or (absent facts line.name) (named_options_kind facts line)
 
 abbrev pub install_kind : Facts → Said → Option NoteKind
 install_kind facts line =
@@ -228,6 +262,10 @@ abbrev pub has_item : List ℕ → Option SoftdepLine → Bool
 has_item name None = false
 has_item name (Some line) = list_any (is_form_of name) line.items.pre || list_any (is_form_of name) line.items.post
 
+-- an item of this name is the line's own module
+abbrev pub is_own_item : Facts → Said → List ℕ → Bool
+is_own_item facts line own = bytes_eq own line.name && is_own facts.conf facts.index own
+
 -- two modules, each by its own name
 abbrev pub are_own : Facts → List ℕ → List ℕ → Bool
 are_own facts name other = is_own facts.conf facts.index name && is_own facts.conf facts.index other
@@ -246,29 +284,62 @@ absent_item facts item own =
 abbrev pub item_by : Facts → Said → List ℕ → Option (List ℕ) → Option NoteKind
 item_by facts line item None = Some (UnknownItem item)
 item_by facts line item (Some own) =
-    if bytes_eq own line.name && is_own facts.conf facts.index own then Some OwnItem
-    else (if names_back facts line own then Some (RingItem item)
-    else absent_item facts item own)
+    if is_own_item facts line own then Some OwnItem
+    else (if names_back facts line own then Some (RingItem item) else absent_item facts item own)
 
 abbrev pub item_kind : Facts → Said → List ℕ → Option NoteKind
 item_kind facts line item = item_by facts line item (normal_alias item)
 
+abbrev pub is_of_module : List ℕ → ModuleParameters → Bool
+is_of_module name known = bytes_eq known.module name
+
+abbrev pub has_parameter : ModuleParameters → List ℕ → Bool
+has_parameter known parameter = list_any (λ own. bytes_eq own parameter) known.names.items
+
+abbrev pub unknown_by : Option ModuleParameters → List ℕ → Option NoteKind
+unknown_by None parameter = None
+unknown_by (Some known) parameter =
+    unless (is_never_unknown parameter || has_parameter known parameter) (UnknownParameter parameter)
+
+-- Of a parameter that a module does not have, by the first entry of the module. Of one without an entry nothing is said, nor
+-- of a name that an alias line of the configuration leads elsewhere.
+abbrev pub unknown_parameter : Facts → List ℕ → List ℕ → Option NoteKind
+unknown_parameter facts name parameter =
+    if is_own facts.conf facts.index name then unknown_by (find (is_of_module name) facts.parameters) parameter else None
+
+abbrev pub set_later_by : List ℕ → List ℕ → List ℕ → Option OptionWord → Option NoteKind
+set_later_by name parameter value None = None
+set_later_by name parameter value (Some last) =
+    unless (takes_more name parameter || bytes_eq last.value value) (SetLater parameter last.place)
+
+-- of a word whose parameter has another value in the end, by the words of all lines of its name
+abbrev pub set_later : List ℕ → List OptionWord → List ℕ → List ℕ → Option NoteKind
+set_later name words parameter value = set_later_by name parameter value (last_setting words parameter)
+
+-- what is noted of a word of an options line, by the words of all lines of its name
+abbrev pub word_kind : Facts → Said → List OptionWord → List ℕ → Option NoteKind
+word_kind facts line words word =
+    option_or (unknown_parameter facts line.name (parameter_of word)) (set_later line.name words (parameter_of word) (value_of word))
+
 abbrev pub note_with : Said → NoteKind → Note
 note_with line kind = record { place = line.place; setting = line.setting; name = line.name; kind = kind }
 
--- that no such module is there, or that it is in the kernel: another kernel may have it as a module
-abbrev pub is_absence : NoteKind → Bool
-is_absence Unknown = true
-is_absence BuiltIn = true
-is_absence AliasName = true
-is_absence (UnknownModule name) = true
-is_absence (UnknownItem item) = true
-is_absence _ = false
+-- What is to be expected of a package's lines, which are for whichever kernel is there: that no such module or parameter is
+-- there, or that the module is in the kernel. And people set other values, and other aliases, after it.
+abbrev pub is_expected_of_packages : NoteKind → Bool
+is_expected_of_packages Unknown = true
+is_expected_of_packages BuiltIn = true
+is_expected_of_packages AliasName = true
+is_expected_of_packages (UnknownModule name) = true
+is_expected_of_packages (UnknownItem item) = true
+is_expected_of_packages (UnknownParameter parameter) = true
+is_expected_of_packages (SetLater parameter place) = true
+is_expected_of_packages (OtherText place) = true
+is_expected_of_packages _ = false
 
--- a package has lines for whichever kernel is there
 abbrev pub due : Origin → Option NoteKind → Option NoteKind
 due origin None = None
-due origin (Some kind) = if is_package origin && is_absence kind then None else Some kind
+due origin (Some kind) = if is_package origin && is_expected_of_packages kind then None else Some kind
 
 abbrev pub note_of : Facts → Origin → Said → Option Note
 note_of facts origin line = option_map (note_with line) (due origin (kind_of facts origin line))
@@ -276,9 +347,24 @@ note_of facts origin line = option_map (note_with line) (due origin (kind_of fac
 abbrev pub item_note : Facts → Origin → Said → List ℕ → Option Note
 item_note facts origin line item = option_map (note_with line) (due origin (item_kind facts line item))
 
+abbrev pub word_note : Facts → Origin → Said → List OptionWord → List ℕ → Option Note
+word_note facts origin line words word = option_map (note_with line) (due origin (word_kind facts line words word))
+
+-- an options line of which nothing is noted itself
+abbrev pub sets_parameters : Facts → Origin → Said → Bool
+sets_parameters facts origin line = is_options line.setting && is_none (kind_of facts origin line)
+
+-- the notes of the words of such a line
+abbrev pub word_notes : Facts → Origin → Said → List Note
+word_notes facts origin line =
+    if sets_parameters facts origin line
+    then filter_map (word_note facts origin line (words_of line.name facts.conf)) (option_words line.text) else []
+
+-- the notes of a line itself, of its items, and of its words
 abbrev pub own_notes : Facts → Origin → Said → List Note
 own_notes facts origin line =
     option_to_list (note_of facts origin line) ++ filter_map (item_note facts origin line) line.items
+    ++ word_notes facts origin line
 
 -- nobody edits what depmod(8) writes
 abbrev pub notes_by : Facts → Origin → Said → List Note

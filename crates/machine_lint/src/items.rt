@@ -1,7 +1,7 @@
 //! What is noted of the items of softdep and weakdep lines.
 ghost use Rattle.std.specs.Prelude.{◌≡◌, IfOk, option_copied};
 ghost use Rattle.std.specs.List.{list_any};
-ghost use Rattle.machine_lint.specs.Notes.{absent_item, are_own, facts_by, has_item, is_form_of, item_kind, names_back};
+ghost use Rattle.machine_lint.specs.Notes.{absent_item, are_own, facts_by, has_item, is_form_of, is_own_item, item_kind, names_back};
 
 use crate::judge::Judge;
 use crate::line::Line;
@@ -46,6 +46,17 @@ fn has_item(alloc: Global, name: &[u8], line: Option<&SoftdepLine>) -> Result<bo
 }
 
 impl Judge<'_> {
+    /// Whether an item of this name is the line's own module.
+    fn is_own_item(&self, alloc: Global, line: &Line, own: &[u8]) -> Result<bool, AllocError>
+        ensures { IfOk result (λ is. is ≡ is_own_item (facts_by self.now) line.now own.now) }
+    {
+        if is_same(own, line.name()) {
+            self.is_own(alloc, own)
+        } else {
+            Ok(false)
+        }
+    }
+
     /// Whether both names stand for the modules of these very names.
     fn are_own(&self, alloc: Global, name: &[u8], other: &[u8]) -> Result<bool, AllocError>
         ensures { IfOk result (λ are. are ≡ are_own (facts_by self.now) name.now other.now) }
@@ -59,10 +70,13 @@ impl Judge<'_> {
     fn names_back(&self, alloc: Global, line: &Line, own: &[u8]) -> Result<bool, AllocError>
         ensures { IfOk result (λ names. names ≡ names_back (facts_by self.now) line.now own.now) }
     {
+        if !line.setting().is_softdep() {
+            return Ok(false);
+        }
         let are_own = self.are_own(alloc, line.name(), own)?;
         let counting = self.conf.softdep_of(alloc, own)?;
         let has_item = has_item(alloc, line.name(), counting)?;
-        Ok(line.setting().is_softdep() && are_own && has_item)
+        Ok(are_own && has_item)
     }
 
     /// Of an item of this name to which nothing answers.
@@ -93,8 +107,7 @@ impl Judge<'_> {
         let Some(own) = normal_alias(alloc, item)? else {
             return Ok(Some(NoteKind::UnknownItem(Text::new(alloc, item)?)));
         };
-        let is_own = self.is_own(alloc, own.as_bytes())?;
-        if is_same(own.as_bytes(), line.name()) && is_own {
+        if self.is_own_item(alloc, line, own.as_bytes())? {
             return Ok(Some(NoteKind::OwnItem));
         }
         if self.names_back(alloc, line, own.as_bytes())? {

@@ -2,7 +2,7 @@
 ghost use Rattle.std.specs.Prelude.{◌≡◌, IfOk, option_copied};
 ghost use Rattle.std.specs.Option.{option_or};
 ghost use Rattle.machine_lint.specs.Notes.{absent, alias_kind, blacklist_kind, counting_install, counting_remove, facts_by, filled_softdep_kind};
-ghost use Rattle.machine_lint.specs.Notes.{install_kind, keeps_nothing, kind_of, later, later_softdep, loads_something, no_module, options_kind, passed_over};
+ghost use Rattle.machine_lint.specs.Notes.{install_kind, keeps_nothing, kind_of, later, later_softdep, loads_something, named_options_kind, no_module, options_kind, other_text, passed_over};
 ghost use Rattle.machine_lint.specs.Notes.{remove_kind, repeated, setting_kind, softdep_kind, stopped, stopped_by, unless_here, used_options_kind, weakdep_kind, why_absent, why_no_module};
 
 use crate::judge::Judge;
@@ -110,7 +110,7 @@ impl Judge<'_> {
     }
 
     /// That the same line stands before in the same file.
-    fn repeated(&self, line: &Line) -> Option<NoteKind>
+    pub(crate) fn repeated(&self, line: &Line) -> Option<NoteKind>
         ensures { result ≡ repeated (facts_by self.now) line.now }
     {
         match first_same(self.lines, line) {
@@ -202,7 +202,32 @@ impl Judge<'_> {
     {
         match self.stopped(alloc, line)? {
             Some(kind) => Ok(Some(kind)),
-            None => Ok(self.repeated(line)),
+            None => self.repeated_options(alloc, line),
+        }
+    }
+
+    /// That an alias line of another text answers to a name first.
+    fn other_text(&self, alloc: Global, name: &[u8]) -> Result<Option<NoteKind>, AllocError>
+        ensures { IfOk result (λ kind. kind ≡ other_text (facts_by self.now) name.now) }
+    {
+        let is_commanded = self.is_commanded(alloc, name)?;
+        let aliases = self.conf.matching_aliases(alloc, name)?;
+        if self.has_file(name) || self.is_alias_pattern(name) || is_commanded {
+            return Ok(None);
+        }
+        match aliases.first() {
+            Some(alias) => Ok(Some(NoteKind::OtherText(alias.place))),
+            None => Ok(None),
+        }
+    }
+
+    /// What is noted of options of a name that leads to something.
+    fn named_options_kind(&self, alloc: Global, line: &Line) -> Result<Option<NoteKind>, AllocError>
+        ensures { IfOk result (λ kind. kind ≡ named_options_kind (facts_by self.now) line.now) }
+    {
+        match self.other_text(alloc, line.name())? {
+            Some(kind) => Ok(Some(kind)),
+            None => self.used_options_kind(alloc, line),
         }
     }
 
@@ -219,7 +244,7 @@ impl Judge<'_> {
         }
         match self.absent(alloc, line.name())? {
             Some(kind) => Ok(Some(kind)),
-            None => self.used_options_kind(alloc, line),
+            None => self.named_options_kind(alloc, line),
         }
     }
 

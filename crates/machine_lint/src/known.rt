@@ -1,9 +1,12 @@
 //! What is known of a machine.
 ghost use Rattle.std.specs.Prelude.{◌≡◌};
 ghost use Rattle.machine_lint.specs.Lines.{is_depmod, is_kernel, is_package, origin_at};
+ghost use Rattle.machine_lint.specs.Notes.{has_parameter};
 
 use kmod_conf::Conf;
 use kmod_index::Index;
+use kmod_names::Text;
+use text_parts::is_same;
 
 /// Who wrote a text of the configuration.
 #[derive(Clone, Copy)]
@@ -38,12 +41,34 @@ impl Origin {
     }
 }
 
-/// What is known of a machine: its configuration, the texts of its folder of modules, and who wrote the files of the
-/// configuration, by the numbers that places have. The kernel's command line has the number after them.
+/// The parameters of a module: its name as modules.dep has it, and the names of its parameters as modinfo(8) lists them,
+/// all with `_` for `-`.
+#[derive(Drop)]
+pub struct ModuleParameters {
+    pub module: Text,
+    pub names: Vec<Text>,
+}
+
+impl ModuleParameters {
+    /// Whether the module has a parameter of this name.
+    pub(crate) fn has(&self, parameter: &[u8]) -> bool
+        ensures { result ≡ has_parameter self.now parameter.now }
+    {
+        self.names
+            .iter()
+            .any(|name| is_same(name.as_bytes(), parameter))
+    }
+}
+
+/// What is known of a machine: its configuration, the texts of its folder of modules, the parameters of modules, and who
+/// wrote the files of the configuration, by the numbers that places have. The kernel's command line has the number after
+/// them. Not every module need have its parameters here: of one that has none here, no parameter is told as unknown. Of
+/// two entries of a module the first counts.
 #[derive(Clone, Copy)]
 pub struct Known<'a> {
     pub conf: &'a Conf,
     pub index: &'a Index<'a>,
+    pub parameters: &'a [ModuleParameters],
     pub files: &'a [Origin],
 }
 

@@ -11,12 +11,14 @@ mod lines;
 mod names;
 mod note;
 mod notes;
+mod options;
+mod parameters;
 mod repeats;
 mod setting;
 mod soft_items;
 mod words;
 
-pub use known::{Known, Origin};
+pub use known::{Known, ModuleParameters, Origin};
 pub use note::{Note, NoteKind};
 pub use notes::lint;
 pub use setting::Setting;

@@ -49,7 +49,7 @@ impl Judge<'_> {
     }
 
     /// Whether an alias line of the configuration has this very name for its pattern.
-    fn is_alias_pattern(&self, name: &[u8]) -> bool
+    pub(crate) fn is_alias_pattern(&self, name: &[u8]) -> bool
         ensures { result ≡ is_alias_pattern self.now.conf.now name.now }
     {
         let lines = self.conf.aliases();
@@ -78,7 +78,7 @@ impl Judge<'_> {
     }
 
     /// Whether an install or a remove line has this very name, or one matches it and an alias line leads to it.
-    fn is_commanded(&self, alloc: Global, name: &[u8]) -> Result<bool, AllocError>
+    pub(crate) fn is_commanded(&self, alloc: Global, name: &[u8]) -> Result<bool, AllocError>
         ensures { IfOk result (λ is. is ≡ is_commanded self.now.conf.now name.now) }
     {
         let is_matched = self.is_matched(alloc, name)?;

@@ -1,6 +1,6 @@
 //! What is noted of a line.
 ghost use Rattle.std.specs.Prelude.{◌≡◌};
-ghost use Rattle.machine_lint.specs.Notes.{is_absence};
+ghost use Rattle.machine_lint.specs.Notes.{is_expected_of_packages};
 
 use crate::setting::Setting;
 use kmod_names::{Place, Text};
@@ -38,12 +38,19 @@ pub enum NoteKind {
     Repeated(Place),
     /// The install line at this place runs `true` or `false` in place of a load.
     Stopped(Place),
+    /// The module has no parameter of this name.
+    UnknownParameter(Text),
+    /// The line at this place sets the parameter of this name after it, to another value. It may be the same line.
+    SetLater(Text, Place),
+    /// The alias line at this place answers to the name first, and takes options by its own text alone, which is another one.
+    OtherText(Place),
 }
 
 impl NoteKind {
-    /// Whether it is that no such module is there, or that it is in the kernel: another kernel may have it as a module.
-    pub(crate) fn is_absence(&self) -> bool
-        ensures { result ≡ is_absence self.now }
+    /// Whether it is to be expected of a package's line, which is for whichever kernel is there: that no such module or
+    /// parameter is there, that the module is in the kernel, or that people set another value or alias after it.
+    pub(crate) fn is_expected_of_packages(&self) -> bool
+        ensures { result ≡ is_expected_of_packages self.now }
     {
         matches!(
             self,
@@ -52,6 +59,9 @@ impl NoteKind {
                 | NoteKind::AliasName
                 | NoteKind::UnknownModule(_)
                 | NoteKind::UnknownItem(_)
+                | NoteKind::UnknownParameter(_)
+                | NoteKind::SetLater(_, _)
+                | NoteKind::OtherText(_)
         )
     }
 }

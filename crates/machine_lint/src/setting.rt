@@ -1,6 +1,6 @@
 //! What a line sets.
 ghost use Rattle.std.specs.Prelude.{◌≡◌};
-ghost use Rattle.machine_lint.specs.Notes.{is_softdep, number_of};
+ghost use Rattle.machine_lint.specs.Notes.{is_options, is_softdep, number_of};
 
 /// What a line of the configuration sets (modprobe.d(5)).
 #[derive(Clone, Copy)]
@@ -22,6 +22,12 @@ impl Setting {
         ensures { result ≡ number_of self }
     {
         self as u8
+    }
+
+    pub(crate) fn is_options(self) -> bool
+        ensures { result ≡ is_options self }
+    {
+        matches!(self, Setting::Options)
     }
 
     pub(crate) fn is_softdep(self) -> bool

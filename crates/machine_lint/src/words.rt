@@ -54,7 +54,7 @@ pub(crate) fn does_nothing(alloc: Global, command: &[u8]) -> Result<bool, AllocE
 pub(crate) fn ends_with_cr(line: &Line) -> bool
     ensures { result ≡ ends_with_cr line.now }
 {
-    if line.text().is_empty() {
+    if line.text().is_empty() || line.setting().is_options() {
         line.name().ends_with(b"\r")
     } else {
         line.text().ends_with(b"\r")
