@@ -53,7 +53,7 @@ complete -c gz-modprobe -s d -l dirname -x -a '(__fish_complete_directories)' -d
 complete -c gz-modprobe -l explain -f -a json -d 'Say which lines gave the answer'
 complete -c gz-modprobe -l first-time -d 'Fail if a module is loaded, or removed, already'
 complete -c gz-modprobe -s i -l ignore-install -l ignore-remove -d 'Pass over install and remove lines'
-complete -c gz-modprobe -l lint -d 'Show lines of the configuration without effect'
+complete -c gz-modprobe -l lint -f -a json -d 'Show lines of the configuration without effect'
 complete -c gz-modprobe -s q -l quiet -d 'Show few messages, and no lines of -n'
 complete -c gz-modprobe -l root -x -a '(__fish_complete_directories)' -d 'Read all files below a folder'
 complete -c gz-modprobe -s S -l set-version -x -a '(__gz_modprobe_releases)' -d 'Answer for a release'

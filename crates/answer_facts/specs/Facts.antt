@@ -1,4 +1,4 @@
--- What is said by a fact: the one place that has the words of the text, and the keys of JSON.
+-- What is said by a fact: the words of the text, and the keys of JSON.
 use Rattle.std.specs.Prelude.{ℕ, true, List, [], ◌∷◌, ◌++◌, codes}
 use Rattle.std.specs.List.{flat_map}
 use Rattle.answer_facts.specs.declared.name_fact.NameFact.{NameFact}
@@ -24,6 +24,7 @@ use Rattle.answer_facts.specs.declared.spot.Spot.TheVariants as spot_is
 use Rattle.answer_facts.specs.declared.fact.Fact.{Fact}
 use Rattle.answer_facts.specs.declared.fact.What.{What}
 use Rattle.answer_facts.specs.declared.fact.What.TheVariants as of
+use Rattle.answer_facts.specs.NoteFacts.{note_fact_pieces}
 use Rattle.answer_facts.specs.Pieces.{Piece, field, flag, json_of, number, sentence, tag, text_of, through, words}
 use Rattle.answer_facts.specs.Shown.{shown_line}
 use Rattle.answer_facts.specs.Words.{blacklist_outcome, blacklist_passed_over, blacklist_words, command_named, command_word, outcome_word, outcome_words, passed_word, passed_words, setting_unknown, setting_word, shows_word, shows_words, side_word, side_words, unread_why, unread_word}
@@ -157,6 +158,7 @@ what_pieces whom (of.Line fact) = line_fact_pieces whom fact
 what_pieces whom (of.State fact) = state_fact_pieces whom fact
 what_pieces whom (of.Removal fact) = removal_fact_pieces whom fact
 what_pieces whom (of.File fact) = file_fact_pieces whom fact
+what_pieces whom (of.Note fact) = note_fact_pieces whom fact
 
 -- a fact as the parts of one line
 abbrev pub pieces_of_fact : Fact → List Piece

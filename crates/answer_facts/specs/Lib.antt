@@ -1,4 +1,5 @@
 pub mod Facts
+pub mod NoteFacts
 pub mod Pieces
 pub mod Quoted
 pub mod Shown

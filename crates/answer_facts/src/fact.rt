@@ -1,4 +1,4 @@
-//! Facts of which an explanation consists.
+//! Facts of which an explanation or a lint consists.
 ghost use Rattle.std.specs.Prelude.{◌≡◌, IfOk};
 ghost use Rattle.answer_facts.specs.Facts.{pieces_of_fact, what_pieces};
 ghost use Rattle.answer_facts.specs.Pieces.{pieces_of};
@@ -10,6 +10,7 @@ use crate::line_fact::LineFact;
 use crate::missing_fact::MissingFact;
 use crate::module_fact::ModuleFact;
 use crate::name_fact::NameFact;
+use crate::note_fact::NoteFact;
 use crate::piece::Piece;
 use crate::removal_fact::RemovalFact;
 use crate::spot::Spot;
@@ -29,6 +30,7 @@ pub enum What {
     State(StateFact),
     Removal(RemovalFact),
     File(FileFact),
+    Note(NoteFact),
 }
 
 /// A fact: of whom something is said, what, and where that stands.
@@ -54,6 +56,7 @@ impl What {
             What::State(fact) => fact.pieces(alloc, whom),
             What::Removal(fact) => fact.pieces(alloc, whom),
             What::File(fact) => fact.pieces(alloc, whom),
+            What::Note(fact) => fact.pieces(alloc, whom),
         }
     }
 }

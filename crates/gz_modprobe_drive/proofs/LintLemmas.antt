@@ -1,5 +1,5 @@
 -- What a lint that finds nothing says.
-use Rattle.std.proofs.Common.{◌≡◌, ◌∙◌, ℕ, Bool, true, false, true≢false, List, [], ◌∷◌, Option, length, refl, sym, ap, arith}
+use Rattle.std.proofs.Common.{◌≡◌, ◌∙◌, ℕ, Bool, true, false, true≢false, List, [], ◌∷◌, ◌++◌, map, Option, Vec, length, refl, sym, ap, arith}
 use Rattle.std.proofs.lemmas.List.Sorted.{length_permutation}
 use Rattle.std.specs.List.Sorted.{IsPermutation}
 use Rattle.machine_lint.specs.declared.known.Known.{Known}
@@ -15,7 +15,11 @@ use Rattle.modprobe_words.specs.Asked.{Asked}
 use Rattle.gz_modprobe_drive.specs.Ends.{EndsWell, IsDone, WereAnswered, wish_by}
 use Rattle.gz_modprobe_drive.specs.Formed.{form_by}
 use Rattle.gz_modprobe_drive.specs.Leads.{WasTold}
-use Rattle.gz_modprobe_drive.specs.Linted.{IsOfTexts, IsSilent, WasLinted}
+use Rattle.answer_facts.specs.declared.fact.Fact.{Fact}
+use Rattle.modprobe_files.specs.declared.texts.HiddenFile.{HiddenFile}
+use Rattle.gz_modprobe_drive.specs.LintFacts.{fact_of_hidden, fact_of_note, fact_of_unread, lint_facts}
+use Rattle.gz_modprobe_drive.specs.Linted.{IsOfTexts, IsSilent, WasLinted, WereFound}
+use Rattle.std.specs.Global.{Global}
 use Rattle.gz_modprobe_drive.specs.Queries.{IsQueryOf, ask_of, is_lint, is_why}
 
 without-length : (notes : List Note) → ◌≡◌ {A = ℕ} (length notes) 0 → notes ≡ []
@@ -25,21 +29,37 @@ without-length (note ∷ notes) e = absurd (omega arith)
 nothing : (all notes : List Note) → IsPermutation all notes → notes ≡ [] → all ≡ []
 nothing all notes same none = without-length all (sym (length_permutation all notes same) ∙ ap length none)
 
+-- where nothing is told, nothing is noted
+no-notes : (texts : ConfTexts) (notes : List Note) (hidden : List HiddenFile) (rest : List Fact)
+    → map (fact_of_note texts) notes ++ map fact_of_hidden hidden ++ rest ≡ [] → notes ≡ []
+no-notes texts [] hidden rest e = refl
+no-notes texts (note ∷ notes) hidden rest e = absurd (cc)
+
+-- nor is a file hidden
+no-hidden : (texts : ConfTexts) (notes : List Note) (hidden : List HiddenFile) (rest : List Fact)
+    → map (fact_of_note texts) notes ++ map fact_of_hidden hidden ++ rest ≡ [] → hidden ≡ []
+no-hidden texts [] [] rest e = refl
+no-hidden texts [] (file ∷ files) rest e = absurd (cc)
+no-hidden texts (note ∷ notes) hidden rest e = absurd (cc)
+
 -- a silent lint of what texts say noted no line of them
-pub was-linted : (texts : ConfTexts) (modules : ModuleTexts) (later : LaterTexts) (directory : List ℕ) (known : Known) (notes shown : List Note)
-    (before after : Option (List ℕ)) → IsOfTexts texts modules later directory known → IsPermutation (notes_of known) notes → notes ≡ shown
-    → IsSilent shown before after → WasLinted texts.kmod before after
-was-linted texts modules later directory known notes shown before after is same lent silent = record {
-  texts = texts;
-  modules = modules;
-  later = later;
-  directory = directory;
-  known = known;
-  version = refl;
-  is = is;
-  none = nothing (notes_of known) notes same (lent ∙ silent.none);
-  kept = silent.kept;
-}
+pub was-linted : (texts : ConfTexts) (modules : ModuleTexts) (later : LaterTexts) (directory : List ℕ) (known : Known) (facts : Vec Fact Global)
+    (shown : List Fact) (before after : Option (List ℕ)) → IsOfTexts texts modules later directory known → WereFound texts known facts
+    → facts.items ≡ shown → IsSilent shown before after → WasLinted texts.kmod before after
+was-linted texts modules later directory known facts shown before after is found lent silent =
+    let empty : lint_facts texts found.notes found.unread ≡ [] = sym found.are ∙ (lent ∙ silent.none)
+    in record {
+      texts = texts;
+      modules = modules;
+      later = later;
+      directory = directory;
+      known = known;
+      version = refl;
+      is = is;
+      none = nothing (notes_of known) found.notes found.noted (no-notes texts found.notes texts.hidden.items (map fact_of_unread found.unread) empty);
+      read = no-hidden texts found.notes texts.hidden.items (map fact_of_unread found.unread) empty;
+      kept = silent.kept;
+    }
 
 -- how a run ends well, by what it asks for
 ends-lint : (lint why : Bool) (asked : Asked) (before after : Option (List ℕ)) → lint ≡ true → WasLinted asked.kmod before after → EndsWell lint why asked before after

@@ -1,4 +1,5 @@
 pub mod Answered
+pub mod LintFacts
 pub mod Linted
 pub mod Ends
 pub mod Evidence

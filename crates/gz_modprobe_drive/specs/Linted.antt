@@ -1,5 +1,6 @@
 -- What a lint of a machine's configuration finds.
-use Rattle.std.specs.Prelude.{◌≡◌, ℕ, nat_eq, Bool, if◌then◌else◌, ◌&&◌, ◌||◌, List, [], drop, length, map, codes, Option, IsSome}
+use Rattle.std.specs.Prelude.{◌≡◌, ℕ, nat_eq, Bool, if◌then◌else◌, ◌&&◌, ◌||◌, List, [], drop, length, map, codes, Option, IsPermutation, IsSome, Vec}
+use Rattle.std.specs.Global.{Global}
 use Rattle.std.specs.List.{starts_with}
 use Rattle.std.specs.Str.{bytes_eq}
 use Rattle.kmod_version.specs.declared.kmod.Kmod.{Kmod}
@@ -12,6 +13,9 @@ use Rattle.modprobe_files.specs.declared.texts.TextFile.{TextFile}
 use Rattle.modprobe_files.specs.declared.texts.ConfTexts.{ConfTexts}
 use Rattle.modprobe_files.specs.declared.texts.LaterTexts.{LaterTexts}
 use Rattle.modprobe_files.specs.declared.texts.ModuleTexts.{ModuleTexts}
+use Rattle.answer_facts.specs.declared.fact.Fact.{Fact}
+use Rattle.gz_modprobe_drive.specs.declared.unread.UnreadFile.{UnreadFile}
+use Rattle.gz_modprobe_drive.specs.LintFacts.{lint_facts}
 use Rattle.gz_modprobe_drive.specs.Texts.{conf_of, index_of}
 
 abbrev pub is_dependency_file : List ℕ → Bool
@@ -36,10 +40,17 @@ origin_of directory file = origin_by directory file.path.items
 abbrev pub origins_of : List ℕ → List TextFile → List Origin
 origins_of directory files = map (origin_of directory) files
 
--- nothing was noted, and nothing written
-pub record IsSilent (notes : List Note) (before after : Option (List ℕ)) : Type 0 where
-  pub none : notes ≡ []
+-- nothing was found, and nothing written
+pub record IsSilent (facts : List Fact) (before after : Option (List ℕ)) : Type 0 where
+  pub none : facts ≡ []
   pub kept : after ≡ before
+
+-- All that a lint tells of a machine: each note of a line once, in some order, each hidden file, and files that are not read.
+pub record WereFound (texts : ConfTexts) (known : Known) (facts : Vec Fact Global) : Type 0 where
+  pub notes : List Note
+  pub unread : List UnreadFile
+  pub noted : IsPermutation (notes_of known) notes
+  pub are : facts.items ≡ lint_facts texts notes unread
 
 -- What is known of a machine is what its texts say, all of which were read, and who wrote the files of its configuration.
 pub record IsOfTexts (texts : ConfTexts) (modules : ModuleTexts) (later : LaterTexts) (directory : List ℕ) (known : Known) : Type 0 where
@@ -49,8 +60,8 @@ pub record IsOfTexts (texts : ConfTexts) (modules : ModuleTexts) (later : LaterT
   pub alias : IsSome later.alias
   pub symbols : IsSome later.symbols
 
--- A lint has found nothing: no line is noted of a machine whose configuration is what texts say to this version of kmod, and
--- nothing was written to standard output.
+-- A lint has found nothing: no line is noted of a machine whose configuration is what texts say to this version of kmod, no
+-- file of it is hidden, and nothing was written to standard output.
 pub record WasLinted (kmod : Kmod) (before after : Option (List ℕ)) : Type 0 where
   pub texts : ConfTexts
   pub modules : ModuleTexts
@@ -60,4 +71,5 @@ pub record WasLinted (kmod : Kmod) (before after : Option (List ℕ)) : Type 0 w
   pub version : texts.kmod ≡ kmod
   pub is : IsOfTexts texts modules later directory known
   pub none : notes_of known ≡ []
+  pub read : texts.hidden.items ≡ []
   pub kept : after ≡ before

@@ -7,6 +7,11 @@ use modprobe_words::{Level, Messages};
 use std::alloc::{AllocError, Global};
 use std::io::Write;
 
+/// Tells that a module could not be loaded or removed.
+fn tell_could_not<E: Write>(messages: &mut Messages<'_, E>, verb: &[u8], name: &Text, why: &[u8]) {
+    messages.tell(Level::Error, verb, b" '", name.as_bytes(), why);
+}
+
 /// Tells why a name was not answered.
 fn tell_failure<E: Write>(
     failure: &Failure,
@@ -26,26 +31,12 @@ fn tell_failure<E: Write>(
             return;
         }
         Failure::AlreadyLoaded(name) => {
-            let text = b"': Module already in kernel";
-            messages.tell(
-                Level::Error,
-                b"could not insert '",
-                name.as_bytes(),
-                text,
-                b"",
-            );
-            return;
+            let why = b"': Module already in kernel";
+            return tell_could_not(messages, b"could not insert", name, why);
         }
         Failure::Gone(name) => {
-            let text = b"': No such file or directory";
-            messages.tell(
-                Level::Error,
-                b"could not remove '",
-                name.as_bytes(),
-                text,
-                b"",
-            );
-            return;
+            let why = b"': No such file or directory";
+            return tell_could_not(messages, b"could not remove", name, why);
         }
         Failure::NotFound(word) => (word, b" not found in directory ", directory),
         Failure::NothingToRemove(word) => (word, b" not found.", b""),

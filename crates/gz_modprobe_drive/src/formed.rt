@@ -2,11 +2,13 @@
 ghost use Rattle.std.specs.Prelude.{◌≡◌, IfOk, true};
 ghost use Rattle.std.specs.List.{list_all};
 ghost use Rattle.answer_facts.specs.Shown.{is_shown};
-ghost use Rattle.gz_modprobe_drive.specs.Formed.{form_by, lines_by};
+ghost use Rattle.modprobe_words.specs.declared.written.Written.TheVariants.{Whole};
+ghost use Rattle.gz_modprobe_drive.specs.Formed.{AreWritten, form_by, lines_by};
 
 use answer_facts::{Fact, json_lines, text_lines};
-use modprobe_words::Form;
+use modprobe_words::{Form, Written, write_whole};
 use std::alloc::{AllocError, Global};
+use std::io::Write;
 
 /// The form of what is told: text, unless another one is asked for.
 pub(crate) fn form_by(explain: Option<Form>) -> Form
@@ -24,4 +26,17 @@ pub(crate) fn lines_by(alloc: Global, form: Form, facts: &[Fact]) -> Result<Vec<
         Form::Text => text_lines(alloc, facts),
         Form::Json => json_lines(alloc, facts),
     }
+}
+
+/// Writes facts in a form. Returns how they were written. It fails only if memory runs out.
+pub(crate) fn write_facts<O: Write>(
+    alloc: Global,
+    form: Form,
+    facts: &[Fact],
+    output: &mut O,
+) -> Result<Written, AllocError>
+    ensures { IfOk result (λ written. written ≡ Whole → AreWritten form facts.now (O.contents output.old) (O.contents output.new)) }
+{
+    let lines = lines_by(alloc, form, facts)?;
+    Ok(write_whole(output, &lines))
 }

@@ -11,11 +11,14 @@ fn ends_with_cr(line: &[u8]) -> bool
     line.ends_with(b"\r")
 }
 
-/// Whether a carriage return at the end of a line that begins so counts as part of its last word: not that of a comment, nor
-/// that of a line whose items kmod splits at any white space.
+/// Words with which lines begin whose end may have a carriage return: kmod divides the items of the first two at any white
+/// space, and the kernel the options of the last.
+const DIVIDED: [&[u8]; 3] = [b"softdep", b"weakdep", b"options"];
+
+/// Whether a carriage return at the end of a line that begins so counts as part of its last word: not that of a comment.
 fn counts_end(line: &[u8]) -> bool {
     let rest = behind_spaces(line);
-    !(rest.starts_with(b"#") || rest.starts_with(b"softdep") || rest.starts_with(b"weakdep"))
+    !rest.starts_with(b"#") && !DIVIDED.iter().any(|word| rest.starts_with(*word))
 }
 
 /// The number of the first line of a text that ends with a carriage return which counts, from 1. Lines of which a backslash

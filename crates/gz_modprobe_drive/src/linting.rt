@@ -1,17 +1,21 @@
 //! Which lines of a machine's configuration have no effect, and which of its files are not read.
 ghost use Rattle.std.specs.Prelude.{◌≡◌, ◌≤◌, IfOk, IsSome};
-ghost use Rattle.gz_modprobe_drive.specs.Linted.{IsSilent, WasLinted, is_of_depmod, is_of_package, origin_by, origins_of};
+ghost use Rattle.gz_modprobe_drive.specs.Linted.{IsSilent, WasLinted, WereFound, is_of_depmod, is_of_package, origin_by, origins_of};
 
+use crate::answering::tell_unwritten;
 use crate::configuration::conf_of;
 use crate::folder::whole_index;
-use crate::lint_text::lint_text;
-use crate::unread::{UnreadFile, unread_files};
-use machine_lint::{Known, Note, Origin, lint};
+use crate::formed::{form_by, write_facts};
+use crate::lint_facts::lint_facts;
+use crate::parameters::known_parameters;
+use crate::unread::unread_files;
+use answer_facts::Fact;
+use machine_lint::{Known, Origin, lint};
 use modprobe_files::{
     ConfTexts, Host, LaterTexts, ModuleTexts, System, TextFile, directory, is_rootless,
     read_configuration, read_later, read_modules,
 };
-use modprobe_words::{Asked, Level, Messages, Written, write_whole};
+use modprobe_words::{Asked, Form, Messages};
 use std::alloc::{AllocError, Global};
 use std::io::Write;
 use text_parts::is_same;
@@ -61,38 +65,48 @@ fn origins_of(
     Ok(origins)
 }
 
-/// Writes what was found, if anything was. Returns the status.
+/// Writes what is told, if anything is. Returns the status.
 fn write_found<O: Write, E: Write>(
     alloc: Global,
-    texts: &ConfTexts,
-    notes: &[Note],
-    unread: &[UnreadFile],
+    form: Form,
+    facts: &[Fact],
     output: &mut O,
     messages: &mut Messages<'_, E>,
 ) -> Result<u8, AllocError>
     ensures status { IfOk result (λ status. status ≤ 1) }
-    ensures silent { IfOk result (λ status. status ≡ 0 → IsSilent notes.now (O.contents output.old) (O.contents output.new)) }
+    ensures silent { IfOk result (λ status. status ≡ 0 → IsSilent facts.now (O.contents output.old) (O.contents output.new)) }
 {
-    if notes.is_empty() && texts.hidden.is_empty() && unread.is_empty() {
+    if facts.is_empty() {
         return Ok(0);
     }
-    let text = lint_text(alloc, texts, notes, unread)?;
-    if matches!(write_whole(output, &text), Written::Failed) {
-        let text = b"standard output cannot be written";
-        messages.tell_always(Level::Error, text, b"", b"", b"");
-    }
+    let written = write_facts(alloc, form, facts, output)?;
+    tell_unwritten(written, messages);
     Ok(1)
 }
 
-/// Looks at the lines of a configuration, over the texts of a folder of modules. `named` are the paths of the configuration
-/// that the command line has. Returns the status.
+/// What is known of a machine is judged: what a lint of it tells.
+fn found_by<S: System>(
+    host: &Host<'_, S>,
+    texts: &ConfTexts,
+    known: &Known<'_>,
+    named: &[&[u8]],
+) -> Result<Vec<Fact>, AllocError>
+    ensures { IfOk result (WereFound texts.now known.now) }
+{
+    let alloc = host.alloc();
+    let notes = lint(alloc, known)?;
+    let unread = unread_files(host, texts.kmod, named)?;
+    lint_facts(alloc, texts, notes, &unread)
+}
+
+/// Looks at the lines of a configuration, over the texts of a folder of modules. Returns the status.
 fn lint_texts<S: System, O: Write, E: Write>(
     host: &Host<'_, S>,
     texts: &ConfTexts,
     modules: &ModuleTexts,
     later: &LaterTexts,
     directory: &[u8],
-    named: &[&[u8]],
+    asked: &Asked<'_>,
     output: &mut O,
     messages: &mut Messages<'_, E>,
 ) -> Result<u8, AllocError>
@@ -105,14 +119,16 @@ fn lint_texts<S: System, O: Write, E: Write>(
     let conf = conf_of(alloc, texts)?;
     let index = whole_index(alloc, modules, later)?;
     let files = origins_of(alloc, directory, &texts.files)?;
+    let parameters = known_parameters(host, directory, &conf, &index)?;
     let known = Known {
         conf: &conf,
         index: &index,
         files: &files,
+        parameters: &parameters,
     };
-    let notes = lint(alloc, &known)?;
-    let unread = unread_files(host, texts.kmod, named)?;
-    write_found(alloc, texts, &notes, &unread, output, messages)
+    let facts = found_by(host, texts, &known, &asked.configurations)?;
+    let form = form_by(asked.switches.explain);
+    write_found(alloc, form, &facts, output, messages)
 }
 
 /// Reads the configuration and the texts of a folder of modules, and looks at the lines. Returns the status.
@@ -131,12 +147,12 @@ fn lint_in<S: System, O: Write, E: Write>(
     let modules = read_modules(host, directory, messages)?;
     let later = read_later(host, directory, true, messages)?;
     lint_texts(
-        host, &texts, &modules, &later, directory, named, output, messages,
+        host, &texts, &modules, &later, directory, asked, output, messages,
     )
 }
 
-/// Looks for lines of the machine's configuration that have no effect, and for files that are not read, and writes them.
-/// Returns the status: 0 if there are none. `messages` explains, so that hidden files are known.
+/// Looks for lines of the machine's configuration that have no effect, and for files that are not read, and writes them in
+/// the form that is asked for. Returns the status: 0 if there are none. `messages` explains, so that hidden files are known.
 pub(crate) fn lint_machine<S: System, O: Write, E: Write>(
     host: &Host<'_, S>,
     asked: &Asked<'_>,

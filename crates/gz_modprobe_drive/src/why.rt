@@ -7,7 +7,7 @@ use crate::answering::{tell_bad_lines, tell_unwritten};
 use crate::configuration::conf_of;
 use crate::devices::{Device, read_devices};
 use crate::folder::index_of;
-use crate::formed::{form_by, lines_by};
+use crate::formed::{form_by, write_facts};
 use crate::reasons::{Leads, Sources, leads_to};
 use crate::texts::world_of;
 use kmod_conf::Conf;
@@ -16,7 +16,7 @@ use modprobe_files::{
     ConfTexts, Host, LaterTexts, ModuleTexts, System, directory, is_rootless, read_configuration,
     read_later, read_modules,
 };
-use modprobe_words::{Asked, Form, Messages, Written, write_whole};
+use modprobe_words::{Asked, Form, Messages, Written};
 use std::alloc::{AllocError, Global};
 use std::io::Write;
 
@@ -93,8 +93,7 @@ fn write_leads<O: Write, E: Write>(
     ensures status { IfOk result (λ status. status ≤ 1) }
     ensures told { IfOk result (λ status. status ≡ 0 → WasTold form (O.contents output.old) (O.contents output.new)) }
 {
-    let lines = lines_by(alloc, form, &leads.facts)?;
-    let written = write_whole(output, &lines);
+    let written = write_facts(alloc, form, &leads.facts, output)?;
     tell_unwritten(written, messages);
     match written {
         Written::Whole if !leads.is_missing => Ok(0),

@@ -111,6 +111,7 @@ pub(crate) fn ask_lines<D: Device + Drop>(
     ensures some { IfOk result (λ count. 0 < length lines.now → 0 < count) }
     ensures within { IfOk result (λ count. count ≤ length lines.now) }
     ensures reads { OnOk result (Reads D.content table.old.session.setup.now (holding table.new.session.holders.held.table table.new.session.holders.held.names) table.new.journal) }
+    ensures journal { table.new.journal ≡ table.old.journal }
     ensures setup { table.new.session.setup ≡ table.old.session.setup }
 {
     let count = lines.len().min(GROUP);

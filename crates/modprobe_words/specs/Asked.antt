@@ -65,7 +65,7 @@ no_switch =
       verbosity = 4;
     }
 
--- the last `--explain` counts
+-- the last form counts, of `--explain` or `--lint`
 abbrev pub with_form : Switches → Option Form → Switches
 with_form s form = record s { explain = option_or form s.explain }
 
@@ -87,6 +87,7 @@ with_option a valued.SetVersion text = record a { release = Some text }
 with_option a valued.Root text = record a { root = Some text }
 with_option a valued.As text = record a { kmod = unwrap_or (kmod_of text) a.kmod }
 with_option a valued.Explain text = record a { switches = with_form a.switches (form_of text) }
+with_option a valued.Lint text = record a { switches = with_form (with_switch a.switches switch.Lint) (form_of text) }
 
 abbrev pub with_item : Asked → Item → Asked
 with_item a (plain option) = record a { switches = with_switch a.switches option }

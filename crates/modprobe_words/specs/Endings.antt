@@ -11,13 +11,15 @@ use Rattle.modprobe_words.specs.Forms.{form_of}
 use Rattle.modprobe_words.specs.Numbers.{is_number}
 use Rattle.modprobe_words.specs.Words.{Item, plain, with_value, operand, fault, Fault, fault_of}
 
--- the version or the help is asked for, `--wait` has no number, `--as` no version and `--explain` no form that is known, or the words are refused
+-- the version or the help is asked for, `--wait` has no number, `--as` no version, `--explain` or `--lint` no form that is known, or the words are
+-- refused
 pub data Ending : Type 0 where
   version : Ending
   help : Ending
   bad_wait : List ℕ → Ending
   bad_kmod : List ℕ → Ending
   bad_form : List ℕ → Ending
+  bad_lint : List ℕ → Ending
   refused : Fault → Ending
 
 abbrev pub ending_of : Item → Option Ending
@@ -27,6 +29,7 @@ ending_of (plain _) = None
 ending_of (with_value valued.Wait text) = if is_number text then None else Some (bad_wait text)
 ending_of (with_value valued.As text) = if is_some (kmod_of text) then None else Some (bad_kmod text)
 ending_of (with_value valued.Explain text) = if is_some (form_of text) then None else Some (bad_form text)
+ending_of (with_value valued.Lint text) = if is_some (form_of text) then None else Some (bad_lint text)
 ending_of (with_value _ text) = None
 ending_of (operand word) = None
 ending_of (fault why) = Some (refused why)
@@ -47,6 +50,7 @@ shown_by help = Some HELP.now
 shown_by (bad_wait text) = None
 shown_by (bad_kmod text) = None
 shown_by (bad_form text) = None
+shown_by (bad_lint text) = None
 shown_by (refused why) = None
 
 -- the status if a text is to be shown is 0 only if it was written, and if there is none, it is 1
@@ -65,4 +69,5 @@ seen code_ending.Help = help
 seen (code_ending.BadWait text) = bad_wait text.now
 seen (code_ending.BadKmod text) = bad_kmod text.now
 seen (code_ending.BadForm text) = bad_form text.now
+seen (code_ending.BadLint text) = bad_lint text.now
 seen (code_ending.Refused why) = refused (fault_of why)

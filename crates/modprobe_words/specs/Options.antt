@@ -67,6 +67,7 @@ valued_number valued.SetVersion = 3
 valued_number valued.Root = 4
 valued_number valued.As = 5
 valued_number valued.Explain = 6
+valued_number valued.Lint = 7
 
 unfoldable pub kind_of : Meaning → ℕ
 kind_of (Plain switch) = switch_number switch
@@ -166,7 +167,8 @@ may_be_cut WholeWord = false
 may_be_cut WhyWord = false
 may_be_cut option = true
 
--- what an option without a value stands for if it has one all the same; only `--explain` may have one
+-- what an option without a value stands for if it has one all the same; only `--explain` and `--lint` may have one
 abbrev pub valued_form : LongOption → Option Valued
 valued_form ExplainWord = Some valued.Explain
+valued_form LintWord = Some valued.Lint
 valued_form _ = None

@@ -5,7 +5,7 @@ ghost use Rattle.modprobe_words.specs.Words.{item_of, items_of};
 
 use crate::form::Form;
 use crate::items::Item;
-use crate::options::Valued;
+use crate::options::{Switch, Valued};
 use crate::switches::Switches;
 use kmod_version::Kmod;
 use std::alloc::{AllocError, Global};
@@ -55,6 +55,10 @@ impl<'a> Asked<'a> {
             Item::WithValue(Valued::As, text) => self.kmod = Kmod::of(text).unwrap_or(self.kmod),
             Item::WithValue(Valued::Explain, text) => {
                 self.switches = self.switches.with_form(Form::of(text));
+            }
+            Item::WithValue(Valued::Lint, text) => {
+                let switches = self.switches.with(Switch::Lint);
+                self.switches = switches.with_form(Form::of(text));
             }
             Item::Operand(word) => self.words.push(word)?,
             Item::WithValue(Valued::Wait, _) | Item::Refused(_) => {}

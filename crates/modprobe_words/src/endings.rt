@@ -20,6 +20,8 @@ pub enum Ending<'a> {
     BadKmod(&'a [u8]),
     /// `--explain` has this in place of a form that is known.
     BadForm(&'a [u8]),
+    /// `--lint` has this in place of a form that is known.
+    BadLint(&'a [u8]),
     Refused(Fault<'a>),
 }
 
@@ -35,6 +37,9 @@ fn ending_of(item: Item<'_>) -> Option<Ending<'_>>
         }
         Item::WithValue(Valued::Explain, text) if Form::of(text).is_none() => {
             Some(Ending::BadForm(text))
+        }
+        Item::WithValue(Valued::Lint, text) if Form::of(text).is_none() => {
+            Some(Ending::BadLint(text))
         }
         Item::Refused(fault) => Some(Ending::Refused(fault)),
         _ => None,

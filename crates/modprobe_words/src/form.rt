@@ -1,10 +1,10 @@
-//! In which form an answer is explained.
+//! In which form an answer is explained, or linted lines are told.
 ghost use Rattle.std.specs.Prelude.{◌≡◌};
 ghost use Rattle.modprobe_words.specs.Forms.{form_of};
 
 use text_parts::is_same;
 
-/// In which form an answer is explained.
+/// In which form an answer is explained, or linted lines are told.
 #[derive(Clone, Copy)]
 pub enum Form {
     /// Lines for people.
@@ -14,7 +14,7 @@ pub enum Form {
 }
 
 impl Form {
-    /// The form of the value of `--explain`; None if it is another word.
+    /// The form of the value of `--explain` or `--lint`; None if it is another word.
     pub fn of(word: &[u8]) -> Option<Form>
         ensures { result ≡ form_of word.now }
     {

@@ -16,7 +16,7 @@ pub(crate) const HELP: &str = "Usage:
   gz-modprobe -R [options] -a modulename [modulename...]
   gz-modprobe -c [options]
   gz-modprobe --why [options] modulename [modulename...]
-  gz-modprobe --lint [options]
+  gz-modprobe --lint[=json] [options]
 
 It answers what modprobe(8) of kmod 34 answers, and loads and removes nothing.
 
@@ -28,7 +28,7 @@ Queries:
                               Print the configuration and the indexes
   -r, --remove                With -n: what a removal would do
       --why                   Print what leads to a module: needs, lines, devices
-      --lint                  Print the lines of the configuration that have no effect
+      --lint[=json]           Print the lines of the configuration that have no effect
 
 Options of queries:
   -a, --all                   Each word is the name of a module

@@ -41,6 +41,7 @@ pub enum Valued {
     Root,
     As,
     Explain,
+    Lint,
 }
 
 /// What an option stands for.
@@ -232,6 +233,7 @@ impl LongOption {
     {
         match self {
             LongOption::ExplainWord => Some(Valued::Explain),
+            LongOption::LintWord => Some(Valued::Lint),
             _ => None,
         }
     }

@@ -20,7 +20,7 @@ pub struct Switches {
     /// What the file of a module has is asked for.
     pub show_module: bool,
     pub dry_run: bool,
-    /// In which form it is told why an answer is as it is, if it is told.
+    /// In which form it is told why an answer is as it is, or lines are linted, if one is asked for.
     pub explain: Option<Form>,
     pub lint: bool,
     /// A removal is shown as it would be made.
@@ -88,7 +88,7 @@ impl Switches {
         switches
     }
 
-    /// With the value of an `--explain`.
+    /// With the value of an `--explain` or a `--lint`.
     pub(crate) fn with_form(self, form: Option<Form>) -> Switches
         ensures { result ≡ with_form self form }
     {

@@ -75,7 +75,8 @@ fn shown_by(ending: Ending<'_>) -> Option<&'static str>
     match ending {
         Ending::Version => Some(VERSION),
         Ending::Help => Some(HELP),
-        Ending::BadWait(_) | Ending::BadKmod(_) | Ending::BadForm(_) | Ending::Refused(_) => None,
+        Ending::BadWait(_) | Ending::BadKmod(_) => None,
+        Ending::BadForm(_) | Ending::BadLint(_) | Ending::Refused(_) => None,
     }
 }
 
@@ -90,6 +91,9 @@ fn tell_why<E: Write>(ending: Ending<'_>, errors: &mut E) {
         }
         Ending::BadForm(text) => {
             tell_line(errors, b"ERROR: --explain has '", text, b"': it knows json");
+        }
+        Ending::BadLint(text) => {
+            tell_line(errors, b"ERROR: --lint has '", text, b"': it knows json");
         }
         Ending::Refused(fault) => tell_fault(fault, errors),
         Ending::Version | Ending::Help => {}

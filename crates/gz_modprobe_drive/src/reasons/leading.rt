@@ -11,8 +11,8 @@ use answer_facts::{Blacklist, Command, Fact, LeadFact, ModuleFact, Passed, Side,
 use indexmap::IndexSet;
 use kmod_conf::{SoftdepLine, WeakdepLine};
 use kmod_index::DepLine;
-use kmod_names::{Place, Text, normal_alias};
-use kmod_query::{Asked, Query, World, find_name, install_line, remove_line};
+use kmod_names::{Place, Text};
+use kmod_query::{Asked, Query, World, install_line, remove_line};
 use std::alloc::{AllocError, Global};
 use text_parts::is_same;
 
@@ -62,16 +62,8 @@ impl Told<'_> {
 
     /// Whether a word stands for a module.
     fn leads_to(&self, word: &[u8], name: &[u8]) -> Result<bool, AllocError> {
-        let asked = self.known.asked;
-        match normal_alias(self.alloc, word)? {
-            Some(own) => {
-                let own = own.as_bytes();
-                let finding = find_name(self.alloc, &asked.world, own)?;
-                let objects = finding.objects(self.alloc, own)?;
-                Ok(objects.iter().any(|object| is_same(&object.name, name)))
-            }
-            None => Ok(false),
-        }
+        let objects = self.objects_of(word)?;
+        Ok(objects.iter().any(|object| is_same(&object.name, name)))
     }
 
     /// Tells those soft items on one side of a module that stand for another one.

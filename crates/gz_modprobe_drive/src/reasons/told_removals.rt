@@ -10,6 +10,7 @@ use crate::sys::MODULES;
 use answer_facts::{
     Command, LineFact, Outcome, Passed, RemovalFact, Shows, Side, Spot, StateFact, What,
 };
+use kmod_conf::TextLine;
 use kmod_query::{
     Ask, ModuleStatus, Object, Taken, Verdict, has_users, is_fatal, is_gone, is_gone_by,
     is_in_use_after, judge_after, push_taken, remove_line,
@@ -238,14 +239,14 @@ impl Told<'_> {
         Ok(())
     }
 
-    /// Tells what counts for a removal of a module.
+    /// Tells what counts for a removal of a module, for which this remove line counts.
     fn tell_removed(
         &mut self,
         tasks: &mut Tasks,
-        subject: &Subject,
         object: &Object,
+        line: Option<&TextLine>,
     ) -> Result<(), AllocError> {
-        let (name, alias) = (subject.name.as_slice(), subject.alias.as_deref());
+        let name = object.name.as_slice();
         let (asked, named) = (self.known.asked, self.known.named);
         let is_bare = asked.query.ignore_commands;
         let passed = if is_bare {
@@ -253,7 +254,6 @@ impl Told<'_> {
         } else {
             Passed::Never
         };
-        let line = remove_line(self.alloc, &asked.world, name, alias)?;
         self.tell_commands(name, Command::Remove, line, &named.removes, passed)?;
         if !tasks.begin_removed(self.alloc, name)? {
             return Ok(());
@@ -291,21 +291,15 @@ impl Told<'_> {
         self.say_removal(name, RemovalFact::Gone)
     }
 
-    /// Whether a command is run for the removal of a module, which is not asked of its users then.
-    fn is_commanded(&self, subject: &Subject) -> Result<bool, AllocError> {
+    /// Tells that nothing uses a module by then, if something uses it now and that is asked: not if a command is run for its
+    /// removal.
+    fn tell_free(&mut self, name: &[u8], line: Option<&TextLine>) -> Result<(), AllocError> {
         let asked = self.known.asked;
-        let (name, alias) = (subject.name.as_slice(), subject.alias.as_deref());
-        let line = remove_line(self.alloc, &asked.world, name, alias)?;
-        Ok(line.is_some() && !asked.query.ignore_commands)
-    }
-
-    /// Tells that nothing uses a module by then, if something uses it now and that is asked.
-    fn tell_free(&mut self, subject: &Subject) -> Result<(), AllocError> {
-        let asked = self.known.asked;
-        let is_used = has_users(asked.world.states.of(&subject.name));
-        let is_asked = matches!(asked.query.ask, Ask::Remove) && !self.is_commanded(subject)?;
+        let is_used = has_users(asked.world.states.of(name));
+        let is_commanded = line.is_some() && !asked.query.ignore_commands;
+        let is_asked = matches!(asked.query.ask, Ask::Remove) && !is_commanded;
         if self.known.sources.whole && is_used && is_asked {
-            return self.say_removal(&subject.name, RemovalFact::Free);
+            return self.say_removal(name, RemovalFact::Free);
         }
         Ok(())
     }
@@ -327,8 +321,10 @@ impl Told<'_> {
         if is_gone_by(asked, self.counted(), &object)? {
             return self.tell_gone(tasks, soft, &subject.name);
         }
-        self.tell_free(subject)?;
-        self.tell_removed(tasks, subject, &object)?;
+        let (name, alias) = (subject.name.as_slice(), subject.alias.as_deref());
+        let line = remove_line(self.alloc, &asked.world, name, alias)?;
+        self.tell_free(name, line)?;
+        self.tell_removed(tasks, &object, line)?;
         self.follow_removal(tasks, &subject.name)
     }
 }

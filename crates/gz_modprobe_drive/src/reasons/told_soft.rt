@@ -82,11 +82,7 @@ impl Told<'_> {
         if !self.known.is_removal() {
             return Ok(());
         }
-        let Some(name) = normal_alias(self.alloc, word)? else {
-            return Ok(());
-        };
-        let finding = find_name(self.alloc, &self.known.asked.world, name.as_bytes())?;
-        let objects = finding.objects(self.alloc, name.as_bytes())?;
+        let objects = self.objects_of(word)?;
         self.follow(tasks, &objects)
     }
 

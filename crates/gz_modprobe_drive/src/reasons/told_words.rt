@@ -147,6 +147,15 @@ impl Told<'_> {
         }
     }
 
+    /// The modules for which a word stands: none if it is no name.
+    pub(crate) fn objects_of(&self, word: &[u8]) -> Result<Vec<Object>, AllocError> {
+        let Some(name) = normal_alias(self.alloc, word)? else {
+            return Ok(Vec::new(self.alloc));
+        };
+        let finding = find_name(self.alloc, &self.known.asked.world, name.as_bytes())?;
+        finding.objects(self.alloc, name.as_bytes())
+    }
+
     /// Tells why a word stands for modules, which are answered. None if it is no name.
     pub(crate) fn tell_word(&mut self, word: &[u8]) -> Result<Option<Vec<Object>>, AllocError> {
         let Some(name) = normal_alias(self.alloc, word)? else {

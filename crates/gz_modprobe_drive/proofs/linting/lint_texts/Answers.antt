@@ -8,5 +8,5 @@ returns-clause-well g c =
     IfOk-weaker c.write_found.result _ _
     (λ status silent zero. was-linted c.args.texts.now c.args.modules.now c.args.later.now c.args.directory.now _ _ _ _ _
     (record { conf = search rules; index = search rules; files = search rules; alias = c.requires.alias; symbols = c.requires.symbols })
-    c.in_ok-notes.ensures (cc) (silent zero))
+    c.in_ok-facts.ensures (cc) (silent zero))
     c.write_found.ensures.silent

@@ -1,0 +1,71 @@
+//! The parameters of the modules that options lines name, by the files of these modules (modinfo(8)).
+
+use kmod_conf::Conf;
+use kmod_index::Index;
+use kmod_names::Text;
+use machine_lint::ModuleParameters;
+use modprobe_files::{Host, System, joined};
+use module_info::parameters;
+use std::alloc::{AllocError, Global};
+use std::io::ErrorKind;
+use text_parts::is_same;
+
+/// All bytes of a file, None if it cannot be read.
+fn bytes_of<S: System>(host: &Host<'_, S>, path: &[u8]) -> Result<Option<Vec<u8>>, AllocError> {
+    match host.read(path) {
+        Ok(bytes) => Ok(Some(bytes)),
+        Err(error) if error.kind() == ErrorKind::OutOfMemory => Err(AllocError),
+        Err(_) => Ok(None),
+    }
+}
+
+/// The file of a path of modules.dep.
+fn file_of(alloc: Global, directory: &[u8], path: &[u8]) -> Result<Vec<u8>, AllocError> {
+    if path.starts_with(b"/") {
+        Vec::from_slice(alloc, path)
+    } else {
+        joined(alloc, directory, b"/", path)
+    }
+}
+
+/// The parameters of a module, None if it has no file that can be read and is not compressed.
+fn parameters_of<S: System>(
+    host: &Host<'_, S>,
+    directory: &[u8],
+    index: &Index<'_>,
+    name: &[u8],
+) -> Result<Option<ModuleParameters>, AllocError> {
+    let alloc = host.alloc();
+    let path = match index.find(name) {
+        Some(line) if line.path().ends_with(b".ko") => file_of(alloc, directory, line.path())?,
+        _ => return Ok(None),
+    };
+    let Some(bytes) = bytes_of(host, &path)? else {
+        return Ok(None);
+    };
+    let Some(names) = parameters(alloc, &bytes)? else {
+        return Ok(None);
+    };
+    let module = Text::new(alloc, name)?;
+    Ok(Some(ModuleParameters { module, names }))
+}
+
+/// The parameters of the modules that options lines name, as far as their files say them. It fails only if memory runs out.
+pub(crate) fn known_parameters<S: System>(
+    host: &Host<'_, S>,
+    directory: &[u8],
+    conf: &Conf,
+    index: &Index<'_>,
+) -> Result<Vec<ModuleParameters>, AllocError> {
+    let mut known: Vec<ModuleParameters> = Vec::new(host.alloc());
+    for line in conf.options() {
+        let name = line.name.as_bytes();
+        if known.iter().any(|own| is_same(own.module.as_bytes(), name)) {
+            continue;
+        }
+        if let Some(own) = parameters_of(host, directory, index, name)? {
+            known.push(own)?;
+        }
+    }
+    Ok(known)
+}
