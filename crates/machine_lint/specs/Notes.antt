@@ -189,7 +189,6 @@ alias_kind facts line =
 abbrev pub blacklist_kind : Facts → Said → Option NoteKind
 blacklist_kind facts line = option_or (no_module facts line.name) (repeated facts line)
 
--- the kernel itself reads its command line, for parts of it that no text names
 -- all words that set what a line sets set it to the same values
 abbrev pub are_agreed : Facts → Said → Bool
 are_agreed facts line = list_all (is_agreed (words_of line.name facts.conf)) (option_words line.text)
@@ -210,6 +209,7 @@ other_text facts name =
 abbrev pub named_options_kind : Facts → Said → Option NoteKind
 named_options_kind facts line = option_or (other_text facts line.name) (used_options_kind facts line)
 
+-- the kernel itself reads its command line, for parts of it that no text names
 abbrev pub options_kind : Facts → Origin → Said → Option NoteKind
 options_kind facts origin line =
     if is_kernel origin then used_options_kind facts line

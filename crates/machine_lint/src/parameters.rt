@@ -138,8 +138,11 @@ impl Judge<'_> {
     ) -> Result<Option<NoteKind>, AllocError>
         ensures { IfOk result (λ kind. kind ≡ repeated_options (facts_by self.now) line.now) }
     {
+        let Some(kind) = self.repeated(line) else {
+            return Ok(None);
+        };
         if self.are_agreed(alloc, line)? {
-            Ok(self.repeated(line))
+            Ok(Some(kind))
         } else {
             Ok(None)
         }
