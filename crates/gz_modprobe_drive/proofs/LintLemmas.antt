@@ -17,7 +17,8 @@ use Rattle.gz_modprobe_drive.specs.Formed.{form_by}
 use Rattle.gz_modprobe_drive.specs.Leads.{WasTold}
 use Rattle.answer_facts.specs.declared.fact.Fact.{Fact}
 use Rattle.modprobe_files.specs.declared.texts.HiddenFile.{HiddenFile}
-use Rattle.gz_modprobe_drive.specs.LintFacts.{fact_of_hidden, fact_of_note, fact_of_unread, lint_facts}
+use Rattle.answer_reasons.specs.FileFacts.{fact_of_hidden, fact_of_unread}
+use Rattle.gz_modprobe_drive.specs.LintFacts.{fact_of_note, lint_facts}
 use Rattle.gz_modprobe_drive.specs.Linted.{IsOfTexts, IsSilent, WasLinted, WereFound}
 use Rattle.std.specs.Global.{Global}
 use Rattle.gz_modprobe_drive.specs.Queries.{IsQueryOf, ask_of, is_lint, is_why}

@@ -1,5 +1,5 @@
 -- What is read of a machine only to explain an answer.
-use Rattle.std.specs.Prelude.{ℕ, ◌-◌}
+use Rattle.std.specs.Prelude.{ℕ}
 use Rattle.std.specs.Cmp.Lexicographic.{slice_cmp}
 use Rattle.std.specs.Global.{Vec}
 use Rattle.std.specs.Ordering.{nat_cmp}
@@ -8,7 +8,3 @@ use Rattle.std.specs.declared.cmp.Ordering.{Ordering}
 -- by their bytes; what ends first comes first
 abbrev pub by_bytes : Vec ℕ → Vec ℕ → Ordering
 by_bytes name other = slice_cmp nat_cmp name.items other.items
-
--- A module's count of users has one for each module that holds it. What is left are open files, mounts and the like.
-abbrev pub users_beside : ℕ → ℕ → ℕ
-users_beside users holders = users - holders

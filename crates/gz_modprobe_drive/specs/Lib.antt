@@ -3,12 +3,8 @@ pub mod LintFacts
 pub mod Linted
 pub mod Ends
 pub mod Evidence
-pub mod Exemptions
 pub mod Formed
-pub mod KernelList
 pub mod Leads
-pub mod LineEnds
-pub mod NearNames
 pub mod Paths
 pub mod Queries
 pub mod Sys

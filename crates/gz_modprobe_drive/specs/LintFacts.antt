@@ -4,13 +4,12 @@ use Rattle.kmod_names.specs.declared.place.Place.{Place}
 use Rattle.machine_lint.specs.declared.note.Note.{Note}
 use Rattle.answer_facts.specs.declared.fact.Fact.{Fact}
 use Rattle.answer_facts.specs.declared.fact.What.TheVariants as of
-use Rattle.answer_facts.specs.declared.file_fact.FileFact.TheVariants as of_file
 use Rattle.answer_facts.specs.declared.spot.Spot.TheVariants.{Nowhere}
 use Rattle.answer_facts.specs.NoteFacts.{counting_place}
 use Rattle.modprobe_files.specs.declared.texts.ConfTexts.{ConfTexts}
-use Rattle.modprobe_files.specs.declared.texts.HiddenFile.{HiddenFile}
 use Rattle.modprobe_files.specs.Paths.{path_at}
-use Rattle.gz_modprobe_drive.specs.declared.unread.UnreadFile.{UnreadFile}
+use Rattle.answer_reasons.specs.declared.sources.UnreadFile.{UnreadFile}
+use Rattle.answer_reasons.specs.FileFacts.{fact_of_hidden, fact_of_unread}
 
 -- the file of a line that counts in place of another one
 abbrev pub counting_path : ConfTexts → Option Place → List ℕ
@@ -25,14 +24,6 @@ fact_of_note texts note =
       what = of.Note (record { note = note; other = counting_path texts (counting_place note.kind) });
       spot = Nowhere;
     }
-
--- a file that another one of its name hides
-abbrev pub fact_of_hidden : HiddenFile → Fact
-fact_of_hidden file = record { whom = file.path.items; what = of.File (of_file.Hidden file.by.items); spot = Nowhere }
-
--- a file beside the configuration that is not read
-abbrev pub fact_of_unread : UnreadFile → Fact
-fact_of_unread file = record { whom = file.path.items; what = of.File (of_file.Unread file.reason); spot = Nowhere }
 
 -- all that is told: each note, each hidden file and each file that is not read
 abbrev pub lint_facts : ConfTexts → List Note → List UnreadFile → List Fact

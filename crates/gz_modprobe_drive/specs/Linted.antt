@@ -14,7 +14,7 @@ use Rattle.modprobe_files.specs.declared.texts.ConfTexts.{ConfTexts}
 use Rattle.modprobe_files.specs.declared.texts.LaterTexts.{LaterTexts}
 use Rattle.modprobe_files.specs.declared.texts.ModuleTexts.{ModuleTexts}
 use Rattle.answer_facts.specs.declared.fact.Fact.{Fact}
-use Rattle.gz_modprobe_drive.specs.declared.unread.UnreadFile.{UnreadFile}
+use Rattle.answer_reasons.specs.declared.sources.UnreadFile.{UnreadFile}
 use Rattle.gz_modprobe_drive.specs.LintFacts.{lint_facts}
 use Rattle.gz_modprobe_drive.specs.Texts.{conf_of, index_of}
 

@@ -2,17 +2,11 @@
 
 use crate::listing::names_of;
 use crate::sys::text_in;
+use answer_reasons::Device;
 use modprobe_files::{Host, System, joined};
 use std::alloc::AllocError;
 
 const BUSES: &[u8] = b"/sys/bus";
-
-/// A device: its folder, and the alias that asks for its driver.
-#[derive(Drop)]
-pub struct Device {
-    pub folder: Vec<u8>,
-    pub alias: Vec<u8>,
-}
 
 /// Adds the device of a folder, if it has an alias that can be read.
 fn add_device<S: System>(

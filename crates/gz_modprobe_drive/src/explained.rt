@@ -1,8 +1,8 @@
 //! Why an answer is as it is, for people or for programs.
 
 use crate::formed::lines_by;
-use crate::reasons::{Sources, explanation};
 use crate::texts::Machine;
+use answer_reasons::{Sources, explanation};
 use kmod_query::{Query, World};
 use modprobe_words::{Level, Messages};
 use std::alloc::{AllocError, Global};

@@ -1,16 +1,9 @@
 //! Which modules hold a module, as /sys/module has them (sysfs(5)).
 
 use crate::listing::names_of;
-use crate::sys::MODULES;
 use kmod_query::{Holders, States, has_users};
-use modprobe_files::{Host, System, joined};
-use std::alloc::{AllocError, Global};
-
-/// The folder that lists the holders of a module. It fails only if memory runs out.
-pub(crate) fn holders_folder(alloc: Global, module: &[u8]) -> Result<Vec<u8>, AllocError> {
-    let place = joined(alloc, MODULES, b"/", module)?;
-    joined(alloc, &place, b"/holders", b"")
-}
+use modprobe_files::{Host, MODULES, System, holders_folder};
+use std::alloc::AllocError;
 
 /// Adds who holds a module, if that can be listed.
 fn add_holders<S: System>(

@@ -1,12 +1,12 @@
 //! What a lint tells, as facts.
 ghost use Rattle.std.specs.Prelude.{◌≡◌, ◌++◌, map, IfOk, OnOk};
-ghost use Rattle.gz_modprobe_drive.specs.LintFacts.{counting_path, fact_of_hidden, fact_of_note, fact_of_unread, lint_facts};
+ghost use Rattle.gz_modprobe_drive.specs.LintFacts.{counting_path, fact_of_note, lint_facts};
 
-use crate::unread::UnreadFile;
-use answer_facts::{Fact, FileFact, NoteFact, Spot, What, counting_place};
+use answer_facts::{Fact, NoteFact, Spot, What, counting_place};
+use answer_reasons::{UnreadFile, add_hidden, add_unread};
 use kmod_names::{Place, Text};
 use machine_lint::Note;
-use modprobe_files::{ConfTexts, HiddenFile};
+use modprobe_files::ConfTexts;
 use std::alloc::{AllocError, Global};
 
 /// The file of a line that counts in place of another one; empty if none does.
@@ -32,29 +32,6 @@ fn fact_of_note(alloc: Global, texts: &ConfTexts, note: Note) -> Result<Fact, Al
     })
 }
 
-/// A file that another one of its name hides.
-fn fact_of_hidden(alloc: Global, file: &HiddenFile) -> Result<Fact, AllocError>
-    ensures { IfOk result (λ fact. fact ≡ fact_of_hidden file.now) }
-{
-    let by = Text::new(alloc, &file.by)?;
-    Ok(Fact {
-        whom: Text::new(alloc, &file.path)?,
-        what: What::File(FileFact::Hidden(by)),
-        spot: Spot::Nowhere,
-    })
-}
-
-/// A file beside the configuration that is not read.
-fn fact_of_unread(alloc: Global, file: &UnreadFile) -> Result<Fact, AllocError>
-    ensures { IfOk result (λ fact. fact ≡ fact_of_unread file.now) }
-{
-    Ok(Fact {
-        whom: Text::new(alloc, &file.path)?,
-        what: What::File(FileFact::Unread(file.reason)),
-        spot: Spot::Nowhere,
-    })
-}
-
 fn add_notes(
     alloc: Global,
     texts: &ConfTexts,
@@ -65,24 +42,6 @@ fn add_notes(
 {
     'notes: for note in notes.into_iter() {
         facts.push(fact_of_note(alloc, texts, note)?)?;
-    }
-    Ok(())
-}
-
-fn add_hidden(alloc: Global, hidden: &[HiddenFile], facts: &mut Vec<Fact>) -> Result<(), AllocError>
-    ensures { OnOk result (facts.new.items ≡ facts.old.items ++ map fact_of_hidden hidden.now) }
-{
-    for file in hidden {
-        facts.push(fact_of_hidden(alloc, file)?)?;
-    }
-    Ok(())
-}
-
-fn add_unread(alloc: Global, unread: &[UnreadFile], facts: &mut Vec<Fact>) -> Result<(), AllocError>
-    ensures { OnOk result (facts.new.items ≡ facts.old.items ++ map fact_of_unread unread.now) }
-{
-    for file in unread {
-        facts.push(fact_of_unread(alloc, file)?)?;
     }
     Ok(())
 }

@@ -1,32 +1,15 @@
 //! The parameters of the modules that options lines name, by the files of these modules (modinfo(8)).
 
+use crate::sys::bytes_at;
 use kmod_conf::Conf;
 use kmod_index::Index;
 use kmod_names::Text;
+use kmod_query::file_of;
 use machine_lint::ModuleParameters;
-use modprobe_files::{Host, System, joined};
+use modprobe_files::{Host, System};
 use module_info::parameters;
-use std::alloc::{AllocError, Global};
-use std::io::ErrorKind;
+use std::alloc::AllocError;
 use text_parts::is_same;
-
-/// All bytes of a file, None if it cannot be read.
-fn bytes_of<S: System>(host: &Host<'_, S>, path: &[u8]) -> Result<Option<Vec<u8>>, AllocError> {
-    match host.read(path) {
-        Ok(bytes) => Ok(Some(bytes)),
-        Err(error) if error.kind() == ErrorKind::OutOfMemory => Err(AllocError),
-        Err(_) => Ok(None),
-    }
-}
-
-/// The file of a path of modules.dep.
-fn file_of(alloc: Global, directory: &[u8], path: &[u8]) -> Result<Vec<u8>, AllocError> {
-    if path.starts_with(b"/") {
-        Vec::from_slice(alloc, path)
-    } else {
-        joined(alloc, directory, b"/", path)
-    }
-}
 
 /// The parameters of a module, None if it has no file that can be read and is not compressed.
 fn parameters_of<S: System>(
@@ -40,7 +23,7 @@ fn parameters_of<S: System>(
         Some(line) if line.path().ends_with(b".ko") => file_of(alloc, directory, line.path())?,
         _ => return Ok(None),
     };
-    let Some(bytes) = bytes_of(host, &path)? else {
+    let Some(bytes) = bytes_at(host, &path)? else {
         return Ok(None);
     };
     let Some(names) = parameters(alloc, &bytes)? else {

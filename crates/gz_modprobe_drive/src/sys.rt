@@ -6,13 +6,11 @@ ghost use Rattle.modprobe_words.specs.Asked.{text_of};
 ghost use Rattle.gz_modprobe_drive.specs.Sys.{begins_with_space, count_of, number_of, state_of, status_by};
 
 use kmod_query::{ModuleState, ModuleStatus, States};
-use modprobe_files::{Host, Kind, System, joined, tell_unread};
+use modprobe_files::{Host, Kind, MODULES, System, joined, tell_unread};
 use modprobe_words::{Messages, behind_spaces, is_digit, is_space};
 use std::alloc::AllocError;
 use std::io::{ErrorKind, Write};
 use text_parts::{is_same, number_within};
-
-pub(crate) const MODULES: &[u8] = b"/sys/module";
 
 /// The state that a text of `initstate` tells.
 fn state_of(text: &[u8]) -> ModuleState
@@ -62,17 +60,25 @@ fn count_of(text: &[u8]) -> Option<u64>
     number_of(behind_spaces(text))
 }
 
+/// All bytes of a file; None if it cannot be read.
+pub(crate) fn bytes_at<S: System>(
+    host: &Host<'_, S>,
+    path: &[u8],
+) -> Result<Option<Vec<u8>>, AllocError> {
+    match host.read(path) {
+        Ok(bytes) => Ok(Some(bytes)),
+        Err(error) if error.kind() == ErrorKind::OutOfMemory => Err(AllocError),
+        Err(_) => Ok(None),
+    }
+}
+
 /// The text of a file of a module's folder; None if it has none that can be read.
 pub(crate) fn text_in<S: System>(
     host: &Host<'_, S>,
     folder: &[u8],
     name: &[u8],
 ) -> Result<Option<Vec<u8>>, AllocError> {
-    match host.read(&joined(host.alloc(), folder, b"/", name)?) {
-        Ok(text) => Ok(Some(text)),
-        Err(error) if error.kind() == ErrorKind::OutOfMemory => Err(AllocError),
-        Err(_) => Ok(None),
-    }
+    bytes_at(host, &joined(host.alloc(), folder, b"/", name)?)
 }
 
 /// What a module tells by its `initstate`, its folder and its `refcnt`; None if it tells nothing. Without `initstate` it

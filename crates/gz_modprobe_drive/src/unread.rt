@@ -4,6 +4,7 @@ ghost use Rattle.gz_modprobe_drive.specs.Unread.{unread_by, unread_name};
 
 use crate::listing::names_of;
 use answer_facts::Unread;
+use answer_reasons::UnreadFile;
 use kmod_version::Kmod;
 use modprobe_files::{Host, Kind, System, is_read, joined, paths_by_rank};
 use std::alloc::AllocError;
@@ -13,13 +14,6 @@ const LIB: &[u8] = b"/lib/modprobe.d";
 
 /// What old kernels' tools read in place of the folders.
 const OUTSIDE: &[u8] = b"/etc/modprobe.conf";
-
-/// A file that is not read.
-#[derive(Drop)]
-pub struct UnreadFile {
-    pub path: Vec<u8>,
-    pub reason: Unread,
-}
 
 /// Why a name is not that of a file which is read.
 fn unread_name(name: &[u8]) -> Unread

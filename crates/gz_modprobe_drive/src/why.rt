@@ -5,11 +5,11 @@ ghost use Rattle.gz_modprobe_drive.specs.Leads.{WasTold};
 
 use crate::answering::{tell_bad_lines, tell_unwritten};
 use crate::configuration::conf_of;
-use crate::devices::{Device, read_devices};
+use crate::devices::read_devices;
 use crate::folder::index_of;
 use crate::formed::{form_by, write_facts};
-use crate::reasons::{Leads, Sources, leads_to};
 use crate::texts::world_of;
+use answer_reasons::{Device, Leads, Sources, leads_to};
 use kmod_conf::Conf;
 use kmod_query::{Ask, Query, States};
 use modprobe_files::{

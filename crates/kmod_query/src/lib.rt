@@ -54,4 +54,4 @@ pub use states::{ModuleState, ModuleStatus, States};
 pub use taken::{Holders, Taken, is_gone, push_taken};
 pub use whole_names::whole_removal;
 pub use whole_steps::{is_gone_by, is_in_use_after, judge_after};
-pub use world::World;
+pub use world::{World, file_of};

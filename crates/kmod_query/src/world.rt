@@ -116,8 +116,8 @@ pub(crate) fn own_file<'a>(world: &World<'a>, name: &[u8], alias: Option<&[u8]>)
     }
 }
 
-/// The file of a path of modules.dep.
-fn file_of(alloc: Global, directory: &[u8], path: &[u8]) -> Result<Vec<u8>, AllocError>
+/// The file of a path of modules.dep, which stands in this folder. It fails only if memory runs out.
+pub fn file_of(alloc: Global, directory: &[u8], path: &[u8]) -> Result<Vec<u8>, AllocError>
     ensures { IfOk result (λ file. file.items ≡ file_of directory.now path.now) }
 {
     if path.first() == Some(&b'/') {

@@ -1,5 +1,6 @@
 pub mod Files
 pub mod Folders
+pub mod KernelFolders
 pub mod Paths
 pub mod Places
 pub mod Releases

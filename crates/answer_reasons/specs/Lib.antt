@@ -1,0 +1,6 @@
+pub mod Exemptions
+pub mod FileFacts
+pub mod KernelList
+pub mod LineEnds
+pub mod NearNames
+pub mod Users

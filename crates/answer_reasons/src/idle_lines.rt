@@ -1,0 +1,102 @@
+//! Lines of the configuration that have no effect.
+
+use crate::heads::{Head, Heads};
+use crate::told::Told;
+use answer_facts::{IdleFact, Setting, What};
+use kmod_conf::TextLine;
+use kmod_names::AliasEntry;
+use kmod_query::{Finding, find_name};
+use std::alloc::AllocError;
+
+/// Whether a name holds a mark of a pattern.
+pub(crate) fn is_pattern(name: &[u8]) -> bool {
+    name.contains(&b'*') || name.contains(&b'?') || name.contains(&b'[')
+}
+
+impl Told<'_> {
+    /// Whether options of a name may count: it stands for a module, may be that of one, or is the pattern of an alias line.
+    fn is_known(&self, name: &[u8]) -> Result<bool, AllocError> {
+        if !self.known.named.aliases.numbers(name).is_empty() {
+            return Ok(true);
+        }
+        let finding = find_name(self.alloc, &self.known.asked.world, name)?;
+        if !matches!(finding, Finding::Nothing) {
+            return Ok(true);
+        }
+        self.known.is_module(self.alloc, name)
+    }
+
+    fn tell_idle_aliases(&mut self, lines: &[AliasEntry]) -> Result<(), AllocError> {
+        for line in lines {
+            let target = line.target.as_bytes();
+            if !self.known.is_module(self.alloc, target)? && !self.has_softdep(target)? {
+                let what = What::Idle(IdleFact::Alias(self.text(target)?));
+                self.say_of(line.pattern.as_bytes(), what, line.place)?;
+            }
+        }
+        Ok(())
+    }
+
+    /// Whether a softdep line counts for a name.
+    fn has_softdep(&self, name: &[u8]) -> Result<bool, AllocError> {
+        let asked = self.known.asked;
+        let conf = asked.world.conf;
+        Ok(conf.softdep_of(self.alloc, name)?.is_some())
+    }
+
+    /// Tells the lines whose name no module has, and to which no alias line leads. If `has_patterns`, a name that is a pattern
+    /// is skipped.
+    fn tell_idle_names(
+        &mut self,
+        lines: &[Head<'_>],
+        has_patterns: bool,
+        setting: Setting,
+    ) -> Result<(), AllocError> {
+        for line in lines {
+            let passes = (has_patterns && is_pattern(line.name)) || self.known.is_target(line.name);
+            if !passes && !self.known.is_module(self.alloc, line.name)? {
+                self.say_of(
+                    line.name,
+                    What::Idle(IdleFact::Unknown(setting)),
+                    line.place,
+                )?;
+            }
+        }
+        Ok(())
+    }
+
+    fn tell_idle_options(&mut self, lines: &[TextLine]) -> Result<(), AllocError> {
+        for line in lines {
+            let name = line.name.as_bytes();
+            if !self.is_known(name)? {
+                let what = What::Idle(IdleFact::Unknown(Setting::Options));
+                self.say_of(name, what, line.place)?;
+            }
+        }
+        Ok(())
+    }
+
+    /// Tells lines of a kind whose name an earlier one has.
+    fn tell_later_lines(&mut self, setting: Setting, lines: &Heads<'_>) -> Result<(), AllocError> {
+        for (number, line) in lines.all().iter().enumerate() {
+            if lines.numbers(line.name).first() != Some(&number) {
+                self.say_of(line.name, What::Idle(IdleFact::Later(setting)), line.place)?;
+            }
+        }
+        Ok(())
+    }
+
+    /// Tells the lines of the configuration that have no effect.
+    pub(crate) fn tell_idle(&mut self) -> Result<(), AllocError> {
+        let asked = self.known.asked;
+        let conf = asked.world.conf;
+        let named = self.known.named;
+        self.tell_idle_names(named.blacklist.all(), false, Setting::Blacklist)?;
+        self.tell_idle_aliases(conf.aliases())?;
+        self.tell_idle_options(conf.options())?;
+        self.tell_idle_names(named.softdeps.all(), true, Setting::Softdep)?;
+        self.tell_later_lines(Setting::Install, &named.installs)?;
+        self.tell_later_lines(Setting::Remove, &named.removes)?;
+        self.tell_later_lines(Setting::Softdep, &named.softdeps)
+    }
+}

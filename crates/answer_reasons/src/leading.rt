@@ -1,0 +1,273 @@
+//! What leads to a module: who needs it, which lines have it, and which devices ask for it.
+
+use crate::idle_lines::is_pattern;
+use crate::known::Known;
+use crate::named_lines::NamedLines;
+use crate::sources::{Device, Sources};
+use crate::told::Told;
+use crate::told_words::{ALIASES, DEPENDENCIES};
+use answer_facts::{Blacklist, Command, Fact, LeadFact, ModuleFact, Passed, Side, What};
+use indexmap::IndexSet;
+use kmod_conf::{SoftdepLine, WeakdepLine};
+use kmod_index::DepLine;
+use kmod_names::{Place, Text};
+use kmod_query::{Asked, Query, World, install_line, remove_line};
+use std::alloc::{AllocError, Global};
+use text_parts::is_same;
+
+/// What leads to names.
+#[derive(Drop)]
+pub struct Leads {
+    pub facts: Vec<Fact>,
+    /// Whether a name stands for no module.
+    pub is_missing: bool,
+}
+
+impl Told<'_> {
+    /// Tells a module that needs another one, if it does so in this way: itself, or through others.
+    fn tell_needing(
+        &mut self,
+        line: &DepLine<'_>,
+        name: &[u8],
+        is_direct: bool,
+    ) -> Result<(), AllocError> {
+        let asked = self.known.asked;
+        let index = asked.world.index;
+        let own_needs = line.needed_names(self.alloc)?;
+        let through = index.nearest(self.alloc, &own_needs, name)?;
+        if through.is_empty() != is_direct {
+            return Ok(());
+        }
+        let own = line.name(self.alloc)?;
+        let needs = self.text(name)?;
+        let spot = self.line(DEPENDENCIES, line.number())?;
+        let what = What::Module(ModuleFact::Needs { needs, through });
+        self.say(own.as_bytes(), what, spot)
+    }
+
+    /// Tells the modules that need a module: first those that need it themselves.
+    fn tell_all_needing(&mut self, name: &[u8]) -> Result<(), AllocError> {
+        let asked = self.known.asked;
+        let index = asked.world.index;
+        let lines = index.needing(self.alloc, name)?;
+        for line in &lines {
+            self.tell_needing(line, name, true)?;
+        }
+        for line in &lines {
+            self.tell_needing(line, name, false)?;
+        }
+        Ok(())
+    }
+
+    /// Whether a word stands for a module.
+    fn leads_to(&self, word: &[u8], name: &[u8]) -> Result<bool, AllocError> {
+        let objects = self.objects_of(word)?;
+        Ok(objects.iter().any(|object| is_same(&object.name, name)))
+    }
+
+    /// Tells those soft items on one side of a module that stand for another one.
+    fn tell_soft_items(
+        &mut self,
+        name: &[u8],
+        side: Side,
+        line: &SoftdepLine,
+    ) -> Result<(), AllocError> {
+        let words = match side {
+            Side::Before => line.items.pre(),
+            Side::After => line.items.post(),
+        };
+        for word in words {
+            if self.leads_to(word.as_bytes(), name)? {
+                let of = self.text(line.name.as_bytes())?;
+                let what = What::Lead(LeadFact::Softdep { side, of });
+                self.say_of(word.as_bytes(), what, line.place)?;
+            }
+        }
+        Ok(())
+    }
+
+    /// Whether softdep lines of a name may count: they do for the name of a module or of lines with a command, and for one to
+    /// which an alias line leads.
+    fn may_be_module(&self, name: &[u8]) -> bool {
+        let known = self.known;
+        let asked = known.asked;
+        let conf = asked.world.conf;
+        is_pattern(name)
+            || known.has_file(name)
+            || known.is_built_in(name, false)
+            || known.is_target(name)
+            || conf.has_install_named(name)
+            || conf.has_remove_named(name)
+    }
+
+    /// Tells the words of a softdep line that stand for a module, if the line counts for its own name.
+    fn tell_softdep(&mut self, line: &SoftdepLine, name: &[u8]) -> Result<(), AllocError> {
+        let asked = self.known.asked;
+        let conf = asked.world.conf;
+        let own = line.name.as_bytes();
+        if !self.may_be_module(own) {
+            return Ok(());
+        }
+        match conf.softdep_of(self.alloc, own)? {
+            Some(counting) if counting.place != line.place => return Ok(()),
+            _ => {}
+        }
+        self.tell_soft_items(name, Side::Before, line)?;
+        self.tell_soft_items(name, Side::After, line)
+    }
+
+    /// Tells the weak items of a line that stand for a module.
+    fn tell_weakdep(&mut self, line: &WeakdepLine, name: &[u8]) -> Result<(), AllocError> {
+        for word in line.items.words() {
+            if self.leads_to(word.as_bytes(), name)? {
+                let what = What::Lead(LeadFact::Weakdep(self.text(line.name.as_bytes())?));
+                self.say_of(word.as_bytes(), what, line.place)?;
+            }
+        }
+        Ok(())
+    }
+
+    /// Tells the soft and weak dependencies that a module is.
+    fn tell_soft_leads(&mut self, name: &[u8]) -> Result<(), AllocError> {
+        let asked = self.known.asked;
+        let conf = asked.world.conf;
+        for line in conf.softdeps() {
+            self.tell_softdep(line, name)?;
+        }
+        for line in conf.weakdeps() {
+            self.tell_weakdep(line, name)?;
+        }
+        Ok(())
+    }
+
+    /// Tells the lines of the configuration that have aliases of a module.
+    fn tell_own_aliases(&mut self, name: &[u8]) -> Result<(), AllocError> {
+        let asked = self.known.asked;
+        let conf = asked.world.conf;
+        for line in conf.aliases() {
+            if is_same(line.target.as_bytes(), name) {
+                let what = What::Lead(LeadFact::Alias(self.text(name)?));
+                self.say_of(line.pattern.as_bytes(), what, line.place)?;
+            }
+        }
+        Ok(())
+    }
+
+    /// Tells the lines of the configuration that have the name of a module.
+    fn tell_own_lines(&mut self, name: &[u8]) -> Result<(), AllocError> {
+        let (asked, named) = (self.known.asked, self.known.named);
+        self.tell_own_aliases(name)?;
+        self.tell_blacklist(name, Blacklist::Listed)?;
+        self.tell_misspelt(name)?;
+        self.tell_options(name, None)?;
+        let (install, remove, passed) = (Command::Install, Command::Remove, Passed::Never);
+        let line = install_line(self.alloc, &asked.world, name, None)?;
+        self.tell_commands(name, install, line, &named.installs, passed)?;
+        let line = remove_line(self.alloc, &asked.world, name, None)?;
+        self.tell_commands(name, remove, line, &named.removes, passed)
+    }
+
+    /// Tells a device, if its alias stands for a module.
+    fn tell_device(&mut self, device: &Device, name: &[u8]) -> Result<(), AllocError> {
+        if !self.leads_to(&device.alias, name)? {
+            return Ok(());
+        }
+        let what = What::Lead(LeadFact::Device(self.text(name)?));
+        let spot = self.whole(&device.folder)?;
+        self.say(&device.alias, what, spot)
+    }
+
+    /// Tells the lines of modules.alias of a module.
+    fn tell_alias_lines(&mut self, name: &[u8]) -> Result<(), AllocError> {
+        let asked = self.known.asked;
+        let index = asked.world.index;
+        let lines = index.alias_lines(self.alloc)?;
+        for line in &lines {
+            if is_same(line.name(), name) {
+                let what = What::Lead(LeadFact::Alias(self.text(name)?));
+                let spot = self.line(ALIASES, line.number())?;
+                self.say(line.key(), what, spot)?;
+            }
+        }
+        Ok(())
+    }
+
+    /// Tells what leads to a module.
+    fn tell_leads(&mut self, name: &[u8], devices: &[Device]) -> Result<(), AllocError> {
+        self.tell_all_needing(name)?;
+        self.tell_soft_leads(name)?;
+        self.tell_own_lines(name)?;
+        for device in devices {
+            self.tell_device(device, name)?;
+        }
+        self.tell_alias_lines(name)
+    }
+
+    /// Tells what a name stands for, and what leads to that. Returns whether it stands for a module.
+    fn tell_lead_word(&mut self, word: &[u8], devices: &[Device]) -> Result<bool, AllocError> {
+        let found = self.tell_word(word)?;
+        let objects = found.as_deref().unwrap_or(&[]);
+        if objects.is_empty() {
+            self.tell_near(word)?;
+            return Ok(false);
+        }
+        let mut told: IndexSet<Vec<u8>> = IndexSet::new(self.alloc);
+        for object in objects {
+            if told.insert(object.name.clone()?)? {
+                self.tell_leads(&object.name, devices)?;
+            }
+        }
+        Ok(true)
+    }
+
+    fn tell_lead_words(&mut self, devices: &[Device]) -> Result<bool, AllocError> {
+        let asked = self.known.asked;
+        let mut is_missing = false;
+        for word in asked.query.words {
+            let found = self.tell_lead_word(word, devices)?;
+            is_missing = is_missing || !found;
+        }
+        Ok(is_missing)
+    }
+}
+
+/// What leads to the names of a query. `named` has no lines yet, as `explanation` has it.
+fn told_leads<'a>(
+    alloc: Global,
+    sources: &Sources<'a>,
+    asked: &Asked<'a>,
+    devices: &[Device],
+    named: &mut NamedLines<'a>,
+) -> Result<Leads, AllocError> {
+    named.add(alloc, asked.world.conf, sources.builtin)?;
+    let known = Known {
+        asked,
+        named,
+        sources,
+        refused: b"",
+    };
+    let mut told = Told::new(alloc, &known);
+    let is_missing = told.tell_lead_words(devices)?;
+    Ok(Leads {
+        facts: told.into_facts(),
+        is_missing,
+    })
+}
+
+/// What leads to the modules of names: the modules that need them, soft and weak dependencies, lines of the configuration,
+/// devices whose alias stands for them, and their lines of modules.alias. It fails only if memory runs out.
+pub fn leads_to(
+    alloc: Global,
+    sources: &Sources<'_>,
+    world: &World<'_>,
+    query: &Query<'_>,
+    devices: &[Device],
+) -> Result<Leads, AllocError> {
+    let mut named = NamedLines::new(alloc);
+    let asked = Asked {
+        alloc,
+        world: *world,
+        query: *query,
+    };
+    told_leads(alloc, sources, &asked, devices, &mut named)
+}

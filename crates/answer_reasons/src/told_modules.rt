@@ -1,0 +1,123 @@
+//! What is reported of a module: the lines that count for it, and those that do not.
+
+use crate::kernel_list::is_allowed;
+use crate::heads::Heads;
+use crate::told::{OfEach, Told};
+use answer_facts::{
+    Blacklist, Command, LineFact, ModuleFact, Outcome, Passed, Setting, Spot, StateFact, What,
+};
+use kmod_conf::TextLine;
+use modprobe_files::{COMMAND_LINE, MODULES};
+use std::alloc::AllocError;
+use text_parts::is_same;
+
+/// Of which kind the lines with a command are.
+pub(crate) fn setting_of(command: Command) -> Setting {
+    match command {
+        Command::Install => Setting::Install,
+        Command::Remove => Setting::Remove,
+    }
+}
+
+impl Told<'_> {
+    /// Tells what /sys/module says of a module.
+    pub(crate) fn tell_state(&mut self, name: &[u8], state: StateFact) -> Result<(), AllocError> {
+        let spot = self.whole(MODULES)?;
+        self.say(name, What::State(state), spot)
+    }
+
+    /// Tells that the kernel has a module, and what follows.
+    pub(crate) fn tell_in_kernel(
+        &mut self,
+        name: &[u8],
+        outcome: Outcome,
+    ) -> Result<(), AllocError> {
+        if self.known.is_live(name) {
+            self.tell_state(name, StateFact::Loaded(outcome))
+        } else {
+            self.tell_built_in(name, outcome)
+        }
+    }
+
+    /// Tells the blacklist lines of a module.
+    pub(crate) fn tell_blacklist(
+        &mut self,
+        name: &[u8],
+        effect: Blacklist,
+    ) -> Result<(), AllocError> {
+        let named = self.known.named;
+        let what = OfEach::Blacklisted(effect);
+        self.say_of_each(name, what, &named.blacklist, name, None)
+    }
+
+    /// Tells that the kernel's command line keeps the kernel from loading a module.
+    pub(crate) fn tell_refused(&mut self, name: &[u8]) -> Result<(), AllocError> {
+        if is_allowed(self.known.refused, name) {
+            return Ok(());
+        }
+        let spot = self.line(COMMAND_LINE, 1)?;
+        self.say(name, What::Module(ModuleFact::KernelRefuses), spot)
+    }
+
+    /// Tells that no module has a name, by which an alias may be switched off.
+    pub(crate) fn tell_no_module(&mut self, name: &[u8]) -> Result<(), AllocError> {
+        let fact = if is_same(name, b"off") {
+            ModuleFact::SwitchedOff
+        } else {
+            ModuleFact::NoModule
+        };
+        self.say(name, What::Module(fact), Spot::Nowhere)
+    }
+
+    /// Options of a module, which a line of its own name has or one of the alias by which it came.
+    fn options_of(&self, name: &[u8], line: &TextLine) -> Result<LineFact, AllocError> {
+        let own = line.name.as_bytes();
+        let text = self.text(line.text.as_bytes())?;
+        if is_same(own, name) {
+            return Ok(LineFact::Options(text));
+        }
+        let alias = self.text(own)?;
+        Ok(LineFact::AliasOptions { text, alias })
+    }
+
+    /// Tells the options of a module, and of the alias by which it came.
+    pub(crate) fn tell_options(
+        &mut self,
+        name: &[u8],
+        alias: Option<&[u8]>,
+    ) -> Result<(), AllocError> {
+        let asked = self.known.asked;
+        let conf = asked.world.conf;
+        let lines = conf.options_of(self.alloc, name, alias)?;
+        for line in lines.iter() {
+            let fact = self.options_of(name, line)?;
+            self.say_of(name, What::Line(fact), line.place)?;
+        }
+        Ok(())
+    }
+
+    /// Tells the line whose command counts for a module, or why it is passed over, and the lines of this very name that
+    /// do not count.
+    pub(crate) fn tell_commands(
+        &mut self,
+        name: &[u8],
+        command: Command,
+        line: Option<&TextLine>,
+        lines: &Heads<'_>,
+        passed: Passed,
+    ) -> Result<(), AllocError> {
+        let mut counting = None;
+        if let Some(line) = line {
+            let text = self.text(line.text.as_bytes())?;
+            let fact = LineFact::Command {
+                command,
+                text,
+                passed,
+            };
+            self.say_of(name, What::Line(fact), line.place)?;
+            counting = Some(line.place);
+        }
+        let what = OfEach::Later(setting_of(command));
+        self.say_of_each(name, what, lines, name, counting)
+    }
+}

@@ -1,0 +1,215 @@
+//! What is reported of a word of a command line or of a softdep line.
+
+use crate::near_names::{NEAREST_FIRST, Nearness, nearness_of};
+use crate::told::{OfEach, Told};
+use answer_facts::{Command, MissingFact, NameFact, Outcome, Spot, StateFact, What};
+use kmod_index::{DepLine, IndexLine};
+use kmod_names::{AliasEntry, name_of_path, normal_alias};
+use kmod_query::{Ask, Finding, Object, find_name};
+use std::alloc::AllocError;
+
+pub(crate) const DEPENDENCIES: &[u8] = b"modules.dep";
+
+pub(crate) const ALIASES: &[u8] = b"modules.alias";
+
+const SYMBOLS: &[u8] = b"modules.symbols";
+
+const BUILTIN: &[u8] = b"modules.builtin";
+
+const BUILTIN_MODINFO: &[u8] = b"modules.builtin.modinfo";
+
+/// How many near names are told.
+const NEAR_NAMES: usize = 3;
+
+impl Told<'_> {
+    fn tell_configured(&mut self, word: &[u8], entries: &[&AliasEntry]) -> Result<(), AllocError> {
+        for entry in entries {
+            let of = self.text(entry.target.as_bytes())?;
+            let pattern = self.text(entry.pattern.as_bytes())?;
+            let what = What::Name(NameFact::Alias { of, pattern });
+            self.say_of(word, what, entry.place)?;
+            let target = entry.target.as_bytes();
+            self.tell_if_built_in(target, target)?;
+        }
+        Ok(())
+    }
+
+    fn tell_module(&mut self, word: &[u8], line: &DepLine<'_>) -> Result<(), AllocError> {
+        let what = What::Name(NameFact::Module(self.text(line.path())?));
+        let spot = self.line(DEPENDENCIES, line.number())?;
+        self.say(word, what, spot)
+    }
+
+    fn tell_exported(&mut self, word: &[u8], lines: &[IndexLine]) -> Result<(), AllocError> {
+        for line in lines {
+            let what = What::Name(NameFact::Exported(self.text(line.name())?));
+            let spot = self.line(SYMBOLS, line.number())?;
+            self.say(word, what, spot)?;
+        }
+        Ok(())
+    }
+
+    /// Tells the aliases of modules.
+    fn tell_aliased(&mut self, word: &[u8], lines: &[IndexLine]) -> Result<(), AllocError> {
+        for line in lines {
+            let (of, pattern) = (self.text(line.name())?, self.text(line.key())?);
+            let spot = self.line(ALIASES, line.number())?;
+            self.say(word, What::Name(NameFact::Alias { of, pattern }), spot)?;
+        }
+        Ok(())
+    }
+
+    /// Tells the aliases of modules that are built in.
+    fn tell_aliased_built_in(
+        &mut self,
+        word: &[u8],
+        lines: &[IndexLine],
+    ) -> Result<(), AllocError> {
+        for line in lines {
+            let (of, pattern) = (self.text(line.name())?, self.text(line.key())?);
+            let spot = self.entry(BUILTIN_MODINFO, line.number())?;
+            let what = What::Name(NameFact::BuiltInAlias { of, pattern });
+            self.say(word, what, spot)?;
+        }
+        Ok(())
+    }
+
+    /// Tells the lines of commands of this very name.
+    fn tell_commanded(&mut self, word: &[u8], name: &[u8]) -> Result<(), AllocError> {
+        let named = self.known.named;
+        let what = OfEach::Named(Command::Install);
+        self.say_of_each(word, what, &named.installs, name, None)?;
+        let what = OfEach::Named(Command::Remove);
+        self.say_of_each(word, what, &named.removes, name, None)
+    }
+
+    /// The line of a module that is built in.
+    fn built_in_spot(&self, name: &[u8]) -> Result<Spot, AllocError> {
+        match self.known.named.builtins.of(name).first() {
+            Some(number) => self.line(BUILTIN, *number),
+            None => Ok(Spot::Nowhere),
+        }
+    }
+
+    /// Tells that a module is built in, and what follows.
+    pub(crate) fn tell_built_in(
+        &mut self,
+        name: &[u8],
+        outcome: Outcome,
+    ) -> Result<(), AllocError> {
+        let spot = self.built_in_spot(name)?;
+        self.say(name, What::State(StateFact::BuiltIn(outcome)), spot)
+    }
+
+    /// Tells that a word, whose normal form is a name, is that of a module which is built in.
+    fn tell_built_in_name(&mut self, word: &[u8], name: &[u8]) -> Result<(), AllocError> {
+        let spot = self.built_in_spot(name)?;
+        self.say(word, What::Name(NameFact::BuiltIn), spot)
+    }
+
+    /// Tells that a word is the name of lines with a command, and of a module that is built in, if it is.
+    fn tell_named(&mut self, word: &[u8], name: &[u8]) -> Result<(), AllocError> {
+        self.tell_commanded(word, name)?;
+        self.tell_if_built_in(word, name)
+    }
+
+    /// Tells that a word, whose normal form is a name, is that of a module which is built in, if it is. A dry run and a
+    /// removal tell that of each module.
+    fn tell_if_built_in(&mut self, word: &[u8], name: &[u8]) -> Result<(), AllocError> {
+        let is_told = matches!(self.known.asked.query.ask, Ask::DryRun) || self.known.is_removal();
+        if is_told || !self.known.is_built_in(name, false) {
+            return Ok(());
+        }
+        self.tell_built_in_name(word, name)
+    }
+
+    /// Tells what is wrong with a word.
+    fn tell_missing(&mut self, word: &[u8], fact: MissingFact) -> Result<(), AllocError> {
+        self.say(word, What::Missing(fact), Spot::Nowhere)
+    }
+
+    /// Tells why a word, whose normal form is a name, stands for modules, or that it stands for none.
+    fn tell_finding(
+        &mut self,
+        word: &[u8],
+        name: &[u8],
+        finding: &Finding<'_>,
+    ) -> Result<(), AllocError> {
+        match finding {
+            Finding::Configured(entries) => self.tell_configured(word, entries),
+            Finding::Module(line) => self.tell_module(word, line),
+            Finding::Exported(lines) => self.tell_exported(word, lines),
+            Finding::Commanded => self.tell_named(word, name),
+            Finding::Aliased(lines) => self.tell_aliased(word, lines),
+            Finding::BuiltIn => self.tell_built_in_name(word, name),
+            Finding::AliasedBuiltIn(lines) => self.tell_aliased_built_in(word, lines),
+            Finding::Nothing => self.tell_missing(word, MissingFact::NotFound),
+        }
+    }
+
+    /// The modules for which a word stands: none if it is no name.
+    pub(crate) fn objects_of(&self, word: &[u8]) -> Result<Vec<Object>, AllocError> {
+        let Some(name) = normal_alias(self.alloc, word)? else {
+            return Ok(Vec::new(self.alloc));
+        };
+        let finding = find_name(self.alloc, &self.known.asked.world, name.as_bytes())?;
+        finding.objects(self.alloc, name.as_bytes())
+    }
+
+    /// Tells why a word stands for modules, which are answered. None if it is no name.
+    pub(crate) fn tell_word(&mut self, word: &[u8]) -> Result<Option<Vec<Object>>, AllocError> {
+        let Some(name) = normal_alias(self.alloc, word)? else {
+            self.tell_missing(word, MissingFact::NoName)?;
+            return Ok(None);
+        };
+        let finding = find_name(self.alloc, &self.known.asked.world, name.as_bytes())?;
+        self.tell_finding(word, name.as_bytes(), &finding)?;
+        let objects = finding.objects(self.alloc, name.as_bytes())?;
+        self.tell_blacklisted_alias(name.as_bytes(), &objects)?;
+        Ok(Some(objects))
+    }
+
+    /// Tells at most so many modules whose names are so near to `name`. Returns how many more may be told.
+    fn tell_as_near(
+        &mut self,
+        word: &[u8],
+        name: &[u8],
+        lines: &[DepLine<'_>],
+        nearness: Nearness,
+        most: usize,
+    ) -> Result<usize, AllocError> {
+        let mut left = most;
+        for line in lines {
+            let own = line.name(self.alloc)?;
+            let own = own.as_bytes();
+            if left > 0 && nearness_of(self.alloc, own, name)? == Some(nearness) {
+                let what = What::Missing(MissingFact::Near(self.text(own)?));
+                let spot = self.line(DEPENDENCIES, line.number())?;
+                self.say(word, what, spot)?;
+                left -= 1;
+            }
+        }
+        Ok(left)
+    }
+
+    /// Tells at most `NEAR_NAMES` modules whose names are `name` or near it, the nearest first.
+    fn tell_near_names(&mut self, word: &[u8], name: &[u8]) -> Result<(), AllocError> {
+        let asked = self.known.asked;
+        let lines = asked.world.index.dep_lines(self.alloc)?;
+        let mut left = NEAR_NAMES;
+        for nearness in NEAREST_FIRST.iter() {
+            left = self.tell_as_near(word, name, &lines, *nearness, left)?;
+        }
+        Ok(())
+    }
+
+    /// Tells modules whose names are near a word that stands for none, for the first such words.
+    pub(crate) fn tell_near(&mut self, word: &[u8]) -> Result<(), AllocError> {
+        if self.searches == 0 {
+            return Ok(());
+        }
+        self.searches -= 1;
+        let name = name_of_path(self.alloc, word)?;
+        self.tell_near_names(word, name.as_bytes())
+    }
+}

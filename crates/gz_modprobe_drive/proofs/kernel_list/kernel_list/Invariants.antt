@@ -1,8 +1,0 @@
-use Rattle.std.proofs.Common.{◌≡◌, [], drop}
-use Rattle.text_parts.specs.Text.{texts_of}
-use Rattle.gz_modprobe_drive.specs.KernelList.{kernel_list}
-use Rattle.gz_modprobe_drive.proofs.kernel_list.kernel_list.Given as goal
-
--- the words that are left make of the list what all make of none
-abbrev pub invariant-loop-word : goal.invariant-loop-word
-invariant-loop-word l = kernel_list l.list (texts_of (drop l.word-index l.words)) ≡ kernel_list [] (texts_of l.words)

@@ -1,6 +1,0 @@
-use Rattle.std.proofs.Common.{◌≡◌, ◌++◌, map, take}
-use Rattle.gz_modprobe_drive.specs.LintFacts.{fact_of_hidden}
-use Rattle.gz_modprobe_drive.proofs.lint_facts.add_hidden.Given as goal
-
-abbrev pub invariant-loop-file : goal.invariant-loop-file
-invariant-loop-file l = l.facts.items ≡ l.initial.facts.items ++ map fact_of_hidden (take l.file-index l.hidden)

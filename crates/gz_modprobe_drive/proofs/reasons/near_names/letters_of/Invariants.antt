@@ -1,6 +1,0 @@
-use Rattle.std.proofs.Common.{◌≡◌, take}
-use Rattle.gz_modprobe_drive.specs.NearNames.{letters_of}
-use Rattle.gz_modprobe_drive.proofs.reasons.near_names.letters_of.Given as goal
-
-abbrev pub invariant-loop-byte : goal.invariant-loop-byte
-invariant-loop-byte l = l.letters.items ≡ letters_of (take l.byte-index l.name)
