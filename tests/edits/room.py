@@ -23,8 +23,9 @@ class Room:
         self.root, self.folder, self.crates = root, folder, crates
         self.running, self.is_stopped = set(), False
 
-    def prove(self, crate, waits):
-        """Proves the crate after the libraries below it, over what its own out/ keeps if that still fits."""
+    def prove(self, crate, waits, is_tried=False):
+        """Proves the crate after the libraries below it, over what its own out/ keeps if that still fits. A crate whose edits
+        are tried is checked even if its library fits, since only a check keeps what spares a round the other functions."""
         for proof in waits:
             proof.result()
         copy = self.repository(crate, "proved")
@@ -33,9 +34,11 @@ class Room:
             copy_out(crate.folder, copy, shutil.copy2)
         except (OSError, shutil.Error):
             shutil.rmtree(copy / "out", ignore_errors=True)
-        status, said = self.run(copy, "check" if (copy / "src/main.rt").is_file() else "lib")
-        if status:
-            raise NotProved(f"without an edit it is not proved, so none was tried:\n{said[-2000:]}")
+        is_program = (copy / "src/main.rt").is_file()
+        for verb in ["check"] * (is_tried or is_program) + ["lib"] * (not is_program):
+            status, said = self.run(copy, verb)
+            if status:
+                raise NotProved(f"without an edit it is not proved, so none was tried:\n{said[-2000:]}")
 
     def check(self, crate, changed):
         """Checks a copy of the proved crate in which these files are changed."""

@@ -299,7 +299,7 @@ has_parameter known parameter = list_any (λ own. bytes_eq own parameter) known.
 abbrev pub unknown_by : Option ModuleParameters → List ℕ → Option NoteKind
 unknown_by None parameter = None
 unknown_by (Some known) parameter =
-    unless (is_never_unknown parameter || has_parameter known parameter) (UnknownParameter parameter)
+    unless (is_never_unknown known.module parameter || has_parameter known parameter) (UnknownParameter parameter)
 
 -- Of a parameter that a module does not have, by the first entry of the module. Of one without an entry nothing is said, nor
 -- of a name that an alias line of the configuration leads elsewhere.

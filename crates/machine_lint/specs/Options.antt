@@ -1,6 +1,6 @@
 -- The words of options lines, as the kernel reads them (next_arg of lib/cmdline.c), and what they set.
-use Rattle.std.specs.Prelude.{ℕ, Bool, false, not, if◌then◌else◌, ◌==◌, ◌&&◌, ◌||◌, ◌-◌, nat_lt, List, [], ◌∷◌, codes, drop, filter, length, map, reverse, slice_index, take, Option}
-use Rattle.std.specs.List.{before_first, find, flat_map, list_all, list_any, onto_first, position_or_len}
+use Rattle.std.specs.Prelude.{ℕ, Bool, false, not, if◌then◌else◌, ◌==◌, ◌&&◌, ◌||◌, ◌-◌, nat_eq, nat_lt, List, [], ◌∷◌, codes, drop, filter, length, map, reverse, slice_index, take, Option}
+use Rattle.std.specs.List.{before_first, find, flat_map, list_all, list_any, onto_first, position_or_len, starts_with}
 use Rattle.std.specs.Str.{bytes_eq}
 use Rattle.text_parts.specs.Text.{is_filled, normal_form}
 use Rattle.kmod_conf.specs.declared.line.TextLine.{TextLine}
@@ -51,16 +51,24 @@ value_of word = unquoted (drop 1 (drop (position_or_len is_equals (unquoted word
 abbrev pub is_dot : ℕ → Bool
 is_dot byte = byte == 46
 
--- a name with a prefix of its own, as mmc_block has `mmcblk.` for one of its parameters
 abbrev pub has_dot : List ℕ → Bool
 has_dot parameter = list_any is_dot parameter
 
--- What is never unknown: the kernel itself takes the first two for every module, and nothing behind `--`. Of a name with a
--- dot nothing is said.
-abbrev pub is_never_unknown : List ℕ → Bool
-is_never_unknown parameter =
+-- The name of a module, and a dot: the kernel's command line names a parameter so, an options line does not.
+abbrev pub has_own_prefix : List ℕ → List ℕ → Bool
+has_own_prefix name parameter =
+    bytes_eq (take (length name) parameter) name && starts_with nat_eq (drop (length name) parameter) (46 ∷ [])
+
+-- a name with another prefix, as mmc_block has `mmcblk.` for one of its parameters
+abbrev pub has_other_prefix : List ℕ → List ℕ → Bool
+has_other_prefix name parameter = has_dot parameter && not (has_own_prefix name parameter)
+
+-- What is never unknown: the kernel itself takes the first two for every module, and nothing behind `--`. Of a name with
+-- another prefix nothing is said.
+abbrev pub is_never_unknown : List ℕ → List ℕ → Bool
+is_never_unknown name parameter =
     bytes_eq parameter (codes "dyndbg") || bytes_eq parameter (codes "async_probe") || bytes_eq parameter (codes "__")
-    || has_dot parameter
+    || has_other_prefix name parameter
 
 -- libfcoe has a parameter for each thing that it does
 abbrev pub is_of_fcoe : List ℕ → Bool

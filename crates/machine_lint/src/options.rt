@@ -2,7 +2,7 @@
 ghost use Rattle.std.specs.Prelude.{◌≡◌, ◌≤◌, [], ◌∷◌, ◌++◌, filter, length, map, option_copied, IfOk, OnOk};
 ghost use Rattle.std.specs.List.{list_all, position_or_len};
 ghost use Rattle.text_parts.specs.Text.{is_filled};
-ghost use Rattle.machine_lint.specs.Options.{adds_device, agrees, ends_with_quote, has_dot, is_agreed, is_command, is_dot, is_equals, is_never_unknown, is_of_fcoe, is_of_ubi, is_quote, is_this, is_white};
+ghost use Rattle.machine_lint.specs.Options.{adds_device, agrees, ends_with_quote, has_dot, has_other_prefix, has_own_prefix, is_agreed, is_command, is_dot, is_equals, is_never_unknown, is_of_fcoe, is_of_ubi, is_quote, is_this, is_white};
 ghost use Rattle.machine_lint.specs.Options.{last_setting, option_words, parameter_of, takes_more, unquoted, value_of, without_end, word_of, words_for, words_of};
 
 use kmod_conf::{Conf, TextLine};
@@ -134,14 +134,31 @@ fn has_dot(parameter: &[u8]) -> bool
     parameter.iter().any(|byte| is_dot(*byte))
 }
 
+/// Whether the module's name and a dot stand before the parameter.
+fn has_own_prefix(name: &[u8], parameter: &[u8]) -> bool
+    ensures { result ≡ has_own_prefix name.now parameter.now }
+{
+    match parameter.strip_prefix(name) {
+        Some(rest) => rest.starts_with(b"."),
+        None => false,
+    }
+}
+
+/// Whether the parameter has a dot, but not behind the module's name.
+fn has_other_prefix(name: &[u8], parameter: &[u8]) -> bool
+    ensures { result ≡ has_other_prefix name.now parameter.now }
+{
+    has_dot(parameter) && !has_own_prefix(name, parameter)
+}
+
 /// Whether nothing is said if a module does not have the parameter.
-pub(crate) fn is_never_unknown(parameter: &[u8]) -> bool
-    ensures { result ≡ is_never_unknown parameter.now }
+pub(crate) fn is_never_unknown(name: &[u8], parameter: &[u8]) -> bool
+    ensures { result ≡ is_never_unknown name.now parameter.now }
 {
     is_same(parameter, b"dyndbg")
         || is_same(parameter, b"async_probe")
         || is_same(parameter, b"__")
-        || has_dot(parameter)
+        || has_other_prefix(name, parameter)
 }
 
 fn is_of_fcoe(parameter: &[u8]) -> bool

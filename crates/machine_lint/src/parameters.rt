@@ -34,7 +34,8 @@ fn unknown_by(
     let Some(known) = known else {
         return Ok(None);
     };
-    if is_never_unknown(parameter) || known.has(parameter) {
+    let name = known.module.as_bytes();
+    if is_never_unknown(name, parameter) || known.has(parameter) {
         Ok(None)
     } else {
         Ok(Some(NoteKind::UnknownParameter(Text::new(alloc, parameter)?)))

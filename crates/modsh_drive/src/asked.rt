@@ -49,7 +49,7 @@ fn words<'a>(alloc: Global) -> Arg<'a> {
 /// What the program takes.
 fn command<'a>(alloc: Global) -> Result<Command<'a>, AllocError> {
     let explain = "Explains a fault, and lists lines without effect, on standard error";
-    let fail = "Ends with status 1 where a reply was an error";
+    let fail = "Ends with status 1 if a reply was an error or no line is %session";
     let lint =
         "Lists lines without effect or about nothing, on standard error, and answers no command";
     Command::new(alloc, "modsh")

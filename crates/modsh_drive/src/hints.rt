@@ -112,7 +112,7 @@ fn is_behind(faulty: &Faulty<'_>, word: &[u8]) -> bool {
     before.any(|line| is_same(first_word(line), word))
 }
 
-/// Whether a line of a catalogue that begins with this word may stand where no module line is before it.
+/// Whether a line of a catalogue that begins with this word may stand if no module line is before it.
 fn is_of_no_module(word: &[u8]) -> bool {
     let words: [&[u8]; 3] = [b"module", b"version", b"end"];
     words.iter().any(|own| is_same(word, own))
@@ -171,9 +171,9 @@ pub(crate) fn word_hint(word: &str) -> &'static str {
 /// What is likely wrong with a path that cannot be read.
 pub(crate) fn path_hint(path: &str) -> Option<&'static str> {
     if path.is_empty() {
-        Some("nothing stands behind the equals sign")
+        Some("nothing stands after the equals sign")
     } else if path.starts_with('~') {
-        Some("a shell leaves a ~ behind an equals sign as it is: write the whole path")
+        Some("a shell leaves a ~ after an equals sign as it is: write the whole path")
     } else {
         None
     }

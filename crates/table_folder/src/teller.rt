@@ -104,7 +104,7 @@ impl<'e, E: Write> Teller<'e, E> {
         let (lines, bytes) = (cut.open_gates_behind(), cut.behind.len());
         let _ = writeln!(
             self.errors,
-            "gz-table: {folder}/journal: {bytes} bytes behind its lines are cut off and kept in {folder}/journal.cut; {lines} lines that counted are undone: see lsmod and held"
+            "gz-table: {folder}/journal: {bytes} bytes after its lines are cut off and kept in {folder}/journal.cut; {lines} lines that counted are undone: see lsmod and held"
         );
     }
 
@@ -113,7 +113,7 @@ impl<'e, E: Write> Teller<'e, E> {
         if bytes > 0 {
             let _ = writeln!(
                 self.errors,
-                "gz-table: {folder}/journal: a crash left {bytes} bytes behind its lines, which are cut off and kept in {folder}/journal.cut"
+                "gz-table: {folder}/journal: a crash left {bytes} bytes after its lines, which are cut off and kept in {folder}/journal.cut"
             );
         }
     }
@@ -215,7 +215,7 @@ impl<'e, E: Write> Teller<'e, E> {
             ),
             TableFault::Damaged(Damage { line, lost }) => writeln!(
                 self.errors,
-                "gz-table: {folder}/journal, line {line}: its first byte was changed, and {lost} lines behind it would be lost; nothing was done: restore the byte, or have check --repair keep them in journal.cut and go on without them"
+                "gz-table: {folder}/journal, line {line}: its first byte was changed, and {lost} lines after it would be lost; nothing was done: restore the byte, or have check --repair keep them in journal.cut and go on without them"
             ),
             _ => Ok(()),
         };

@@ -32,7 +32,7 @@ fn file<'a>(alloc: Global) -> Arg<'a> {
     Arg::new(alloc, "file")
         .value_name("FILE")
         .action(ArgAction::Set)
-        .help("The report; standard input without it, or where it is -")
+        .help("The report; standard input without it, or if it is -")
 }
 
 /// What the program takes.

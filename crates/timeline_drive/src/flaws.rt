@@ -4,10 +4,9 @@ use crate::entries::{after, call_of, effect_of, last_of, marked_of};
 use crate::numbers::{index_of, thread_of};
 use text_parts::is_same;
 
-const THREAD: &str = "behind the number stands the thread, t0 to t63";
+const THREAD: &str = "after the number stands the thread, t0 to t63";
 
-const MARKS: &str =
-    "behind the call stands: first A last B point P reply R, and nothing behind that";
+const MARKS: &str = "after the call stands: first A last B point P reply R, and nothing after that";
 
 /// Whether a word begins a line that `workload` writes of a script.
 fn is_of_script(word: &[u8]) -> bool {
@@ -41,7 +40,7 @@ fn flaw_of_call(words: &[&[u8]]) -> &'static str {
     match call_of(call) {
         Some(said) => flaw_of_times(said.later),
         None =>
-            "behind the thread stands a call, as begin_load NAME, end_load NAME ok or get W NAME: W is 0 to 63, and NAME has _ for each -",
+            "after the thread stands a call, as begin_load NAME, end_load NAME ok or get W NAME: W is 0 to 63, and NAME has _ for each -",
     }
 }
 
@@ -54,7 +53,7 @@ pub(crate) fn flaw_of(number: usize, words: &[&[u8]]) -> Option<&'static str> {
         );
     }
     if words.len() > 1 && words.iter().any(|word| word.is_empty()) {
-        return Some("single spaces divide the words, and none stands before or behind them");
+        return Some("single spaces divide the words, and none stands before or after them");
     }
     let Some(found) = after(b"call", words) else {
         return Some("a line is: call N tT CALL first A last B point P reply R");

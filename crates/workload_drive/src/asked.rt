@@ -42,7 +42,7 @@ fn file<'a>(alloc: Global) -> Arg<'a> {
     Arg::new(alloc, "file")
         .value_name("FILE")
         .action(ArgAction::Set)
-        .help("The input; standard input without it, or where it is -")
+        .help("The input; standard input without it, or if it is -")
 }
 
 /// What the program takes.
