@@ -53,7 +53,10 @@ impl Told<'_> {
     fn tell_whole(&mut self, tasks: &mut Tasks, object: &Object) -> Result<bool, AllocError> {
         tasks.begin_module();
         let subject = Subject::of(self.alloc, object, false)?;
-        tasks.push(Task::Remove(false, subject))?;
+        tasks.push(Task::Remove {
+            soft: false,
+            subject,
+        })?;
         self.tell_tasks(tasks)?;
         Ok(tasks.is_refused())
     }
@@ -193,8 +196,8 @@ impl Told<'_> {
             Task::Fill(subject) => self.tell_fill(tasks, subject),
             Task::Soft(word) => self.tell_soft(tasks, &word),
             Task::Own(subject) => self.tell_loaded(tasks, &subject),
-            Task::Remove(soft, subject) => self.tell_removal(tasks, soft, subject),
-            Task::Release(soft, subject) => self.tell_release(tasks, soft, &subject),
+            Task::Remove { soft, subject } => self.tell_removal(tasks, soft, subject),
+            Task::Release { soft, subject } => self.tell_release(tasks, soft, &subject),
             Task::Leave => {
                 tasks.leave();
                 Ok(())
@@ -204,6 +207,7 @@ impl Told<'_> {
 
     /// Tells what is to be told, and what that leads to.
     fn tell_tasks(&mut self, tasks: &mut Tasks) -> Result<(), AllocError> {
+        // Each task may add others. The bound is for the proof that it ends, and is never met.
         for _task in 0..usize::MAX {
             let Some(task) = tasks.next() else {
                 return Ok(());

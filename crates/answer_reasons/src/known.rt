@@ -39,10 +39,10 @@ impl Known<'_> {
         asked.world.index.find(name).is_some()
     }
 
-    /// Whether an object is built in.
-    pub(crate) fn is_built_in(&self, name: &[u8], is_alias: bool) -> bool {
+    /// Whether an object is built in: it came by an alias of modules.builtin.modinfo, or modules.builtin has its name.
+    pub(crate) fn is_built_in(&self, name: &[u8], by_builtin_alias: bool) -> bool {
         let asked = self.asked;
-        is_alias || asked.world.index.is_builtin(name)
+        by_builtin_alias || asked.world.index.is_builtin(name)
     }
 
     /// Whether an alias of the configuration leads to this name.

@@ -86,8 +86,8 @@ impl Told<'_> {
         Ok(())
     }
 
-    /// Whether softdep lines of a name may count: they do for the name of a module or of lines with a command, and for one to
-    /// which an alias line leads.
+    /// Whether softdep lines of a name may count: they do for a pattern, for the name of a module or of lines with a command,
+    /// and for one to which an alias line leads.
     fn may_be_module(&self, name: &[u8]) -> bool {
         let known = self.known;
         let asked = known.asked;

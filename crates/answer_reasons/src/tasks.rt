@@ -80,9 +80,9 @@ pub(crate) enum Task {
     /// The lines of a module that is loaded.
     Own(Subject),
     /// A removal, of a soft item or not: the soft items after the module, and then the module.
-    Remove(bool, Subject),
+    Remove { soft: bool, subject: Subject },
     /// A module that is removed, if it is not in use by then.
-    Release(bool, Subject),
+    Release { soft: bool, subject: Subject },
     /// The innermost module whose soft items are being removed is done.
     Leave,
 }

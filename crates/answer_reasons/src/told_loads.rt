@@ -10,7 +10,7 @@ use kmod_names::Text;
 use kmod_query::{Ask, install_line};
 use std::alloc::{AllocError, Global};
 
-/// The same names.
+/// The same names, as texts of their own.
 fn copied(alloc: Global, names: &[Text]) -> Result<Vec<Text>, AllocError> {
     let mut all = Vec::new(alloc);
     for name in names {

@@ -1,7 +1,7 @@
 //! What is reported of a module: the lines that count for it, and those that do not.
 
-use crate::kernel_list::is_allowed;
 use crate::heads::Heads;
+use crate::kernel_list::is_allowed;
 use crate::told::{OfEach, Told};
 use answer_facts::{
     Blacklist, Command, LineFact, ModuleFact, Outcome, Passed, Setting, Spot, StateFact, What,

@@ -86,7 +86,7 @@ impl Told<'_> {
         }
     }
 
-    /// Tells why a module stays that another one needs, or that is in use, by what was taken up to a number.
+    /// Tells the state of a module that another one needs, and who uses it, by what was taken up to a number.
     fn tell_need_state(&mut self, name: &[u8], number: usize) -> Result<(), AllocError> {
         if self.known.is_built_in(name, false) {
             return self.tell_built_in(name, Outcome::NotRemoved);
@@ -132,11 +132,11 @@ impl Told<'_> {
         tasks.enter(alloc, &subject.name)?;
         let conf = asked.world.conf;
         let Some(line) = conf.softdep_of(alloc, &subject.name)? else {
-            return tasks.push(Task::Release(soft, subject));
+            return tasks.push(Task::Release { soft, subject });
         };
         if asked.query.ignore_commands {
             self.say_of(&subject.name, What::Line(LineFact::Softdep), line.place)?;
-            return tasks.push(Task::Release(soft, subject));
+            return tasks.push(Task::Release { soft, subject });
         }
         let after = soft_words(
             alloc,
@@ -145,7 +145,7 @@ impl Told<'_> {
             line.items.post(),
             line.place,
         )?;
-        tasks.push(Task::Release(soft, subject))?;
+        tasks.push(Task::Release { soft, subject })?;
         push_words(tasks, after)
     }
 

@@ -46,7 +46,10 @@ impl Told<'_> {
         }
         if self.known.is_removal() {
             for subject in subjects.into_iter() {
-                tasks.push(Task::Remove(true, subject))?;
+                tasks.push(Task::Remove {
+                    soft: true,
+                    subject,
+                })?;
             }
             return Ok(());
         }
@@ -108,15 +111,21 @@ impl Told<'_> {
         }
     }
 
+    /// Whether a word of a softdep line that was not looked up stands for a module; from now on it was.
+    fn look_up(&self, tasks: &mut Tasks, word: &[u8]) -> Result<bool, AllocError> {
+        let found = self.is_found(word)?;
+        tasks.add_found(self.alloc, word, found)?;
+        Ok(found)
+    }
+
     /// Whether one of the words of a softdep line stands for a module.
     fn is_any_found(&self, tasks: &mut Tasks, words: &[Text]) -> Result<bool, AllocError> {
         for word in words {
             let own = word.as_bytes();
             let found = match tasks.is_found(own) {
                 Some(found) => found,
-                None => self.is_found(own)?,
+                None => self.look_up(tasks, own)?,
             };
-            tasks.add_found(self.alloc, own, found)?;
             if found {
                 return Ok(true);
             }

@@ -180,9 +180,12 @@ impl Told<'_> {
     ) -> Result<usize, AllocError> {
         let mut left = most;
         for line in lines {
+            if left == 0 {
+                return Ok(0);
+            }
             let own = line.name(self.alloc)?;
             let own = own.as_bytes();
-            if left > 0 && nearness_of(self.alloc, own, name)? == Some(nearness) {
+            if nearness_of(self.alloc, own, name)? == Some(nearness) {
                 let what = What::Missing(MissingFact::Near(self.text(own)?));
                 let spot = self.line(DEPENDENCIES, line.number())?;
                 self.say(word, what, spot)?;

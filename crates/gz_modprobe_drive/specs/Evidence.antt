@@ -1,4 +1,4 @@
--- What is read of a machine only to explain an answer.
+-- The order of the names that are read of a machine only to explain an answer.
 use Rattle.std.specs.Prelude.{ℕ}
 use Rattle.std.specs.Cmp.Lexicographic.{slice_cmp}
 use Rattle.std.specs.Global.{Vec}

@@ -108,14 +108,8 @@ fn answer_by<S: System, O: Write, E: Write>(
     let has_symbols = asks_symbols(alloc, query, messages.explains)?;
     let later = read_later(host, machine.directory, has_symbols, messages)?;
     let whole = Machine {
-        conf: machine.conf,
-        modules: machine.modules,
         later: &later,
-        states: machine.states,
-        directory: machine.directory,
-        paths: machine.paths,
-        evidence: machine.evidence,
-        whole: machine.whole,
+        ..*machine
     };
     answer_read(host, &whole, conf, query, output, messages)
 }

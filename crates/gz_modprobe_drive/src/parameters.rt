@@ -1,6 +1,7 @@
 //! The parameters of the modules that options lines name, by the files of these modules (modinfo(8)).
 
 use crate::sys::bytes_at;
+use indexmap::IndexSet;
 use kmod_conf::Conf;
 use kmod_index::Index;
 use kmod_names::Text;
@@ -9,7 +10,6 @@ use machine_lint::ModuleParameters;
 use modprobe_files::{Host, System};
 use module_info::parameters;
 use std::alloc::AllocError;
-use text_parts::is_same;
 
 /// The parameters of a module, None if it has no file that can be read and is not compressed.
 fn parameters_of<S: System>(
@@ -40,10 +40,12 @@ pub(crate) fn known_parameters<S: System>(
     conf: &Conf,
     index: &Index<'_>,
 ) -> Result<Vec<ModuleParameters>, AllocError> {
-    let mut known: Vec<ModuleParameters> = Vec::new(host.alloc());
+    let alloc = host.alloc();
+    let mut known = Vec::new(alloc);
+    let mut looked_up: IndexSet<Vec<u8>> = IndexSet::new(alloc);
     for line in conf.options() {
         let name = line.name.as_bytes();
-        if known.iter().any(|own| is_same(own.module.as_bytes(), name)) {
+        if !looked_up.insert(Vec::from_slice(alloc, name)?)? {
             continue;
         }
         if let Some(own) = parameters_of(host, directory, index, name)? {

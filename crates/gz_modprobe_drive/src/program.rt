@@ -67,7 +67,7 @@ fn answer_asked<R: Files + Env + AllocGlobal, O: Write, E: Write>(
     answer_query(&host, asked, &query, output, &mut messages)
 }
 
-/// Adds words.
+/// Adds words after those that are there.
 fn push_words<'a>(all: &mut Vec<&'a [u8]>, words: &'a [Vec<u8>]) -> Result<(), AllocError>
     ensures { OnOk result (texts_of all.new.items ≡ texts_of all.old.items ++ bytes_of words.entry.now) }
 {
