@@ -2,7 +2,8 @@
 # to the toolchain's.
 
 # `rt try` builds a program without a proof, runs it and keeps nothing. So it gets a toolchain of links, in which clang
-# compiles the program's module to run fast, leaves it in the folder, as it was too, and ends `rt try` there.
+# compiles the program's module to run fast, leaves it in the folder, as it was too, and ends `rt try` there. Beside the
+# build `rt try` has rattle look for names that a proof refuses, which takes as long: what is committed has none.
 make_toolchain_that_keeps() {
   local folder=$1 tool
   mkdir -p "$folder/bin" "$folder/toolchain/bin"
@@ -10,12 +11,21 @@ make_toolchain_that_keeps() {
     case ${tool##*/} in bin | toolchain) ;; *) ln -s "$tool" "$folder" ;; esac
   done
   for tool in "$kit"/bin/*; do
-    case ${tool##*/} in rt | rtlib.py) cp "$tool" "$folder/bin" ;; *) ln -s "$tool" "$folder/bin" ;; esac
+    case ${tool##*/} in
+    rt | rtlib.py) cp "$tool" "$folder/bin" ;;
+    rattle) ;;
+    *) ln -s "$tool" "$folder/bin" ;;
+    esac
   done
   ln -s "$kit/toolchain/lib" "$folder/toolchain"
   for tool in "$kit"/toolchain/bin/*; do
     [ "${tool##*/}" = clang ] || ln -s "$tool" "$folder/toolchain/bin"
   done
+  cat >"$folder/bin/rattle" <<SCRIPT
+#!/bin/sh
+case " \$* " in *" --start no function "*) exit ;; esac
+exec "$kit/bin/rattle" "\$@"
+SCRIPT
   cat >"$folder/toolchain/bin/clang" <<SCRIPT
 #!/bin/sh
 # What is built to find faults is built to be used. The rest is compiled as it is asked for.
@@ -31,7 +41,7 @@ done
 "$kit/toolchain/bin/clang" "\$@" || exit
 [ \$kept = no ] || { /bin/cp module.o module.bc "$folder"; exit 1; }
 SCRIPT
-  chmod +x "$folder/toolchain/bin/clang"
+  chmod +x "$folder/bin/rattle" "$folder/toolchain/bin/clang"
 }
 
 # Compiles the program in a crate's folder. Its module is then in the folder that a toolchain was made in. What rt says goes
