@@ -68,6 +68,16 @@ unset MODPROBE_OPTIONS
 echo '> -R of 9,000 letters'
 gz-modprobe -d "$PWD/machine" -S 6.1.0 -R "$(printf '%09000d' 7)" 2>&1 | sed "s|0\{100,\}|0..|; s|$PWD/||"
 tell "${PIPESTATUS[0]}"
+# kmod refuses a name of 4,096 bytes or more that an alias of the configuration matches. Here no length is special.
+printf 'alias 0*7 loop\n' >long.conf
+for letters in 4095 4096 4097; do
+    echo "> -R of $letters letters, without an alias and with one"
+    for conf in conf.d/link.conf long.conf; do
+        gz-modprobe -d "$PWD/machine" -S 6.1.0 -C $conf -R "$(printf "%0${letters}d" 7)" 2>&1 | sed "s|0\{100,\}|0..|; s|$PWD/||"
+        tell "${PIPESTATUS[0]}"
+    done
+done
+rm long.conf
 echo '> -a -D of 2,000 words'
 gz-modprobe -d "$PWD/machine" -S 6.1.0 -C conf.d/link.conf -a -D $(yes loop | head -2000) | sort | uniq -c | sed "s|$PWD/||; s|^ *||"
 

@@ -35,13 +35,29 @@ ask -D wmi
 ask -C /../../../opt/confs -D wmi
 ask -C opt/./confs//nvidia.conf -D nouveau
 
-# What lies outside is never read: the name of a file here, through the host's root or through the folder above. These links
-# are said to lead to nothing.
+# What lies outside is never read, through the host's root or through the folder above: what -C and -d name, and a path.
 printf 'options wmi outside=1\n' >outside/host.conf
+mkdir -p outside/machine/lib/modules/6.1.0
+printf 'kernel/wmi.ko:\n' >outside/machine/lib/modules/6.1.0/modules.dep
+touch outside/wmi.ko
+for name in host.conf machine wmi.ko; do
+    ln -s "$PWD/outside/$name" $image/opt/$name
+    ln -s ../../outside/$name $image/opt/up-$name
+done
+ask -C /opt/host.conf -D wmi
+ask -C /opt/up-host.conf -D wmi
+ask -d /opt/machine -S 6.1.0 -D wmi
+ask -d /opt/up-machine -S 6.1.0 -D wmi
+ask -D /opt/wmi.ko
+ask -D /opt/up-wmi.ko
+
+# A file of modprobe.d is such a link. It is said to lead to nothing, also in an explanation and by a lint.
 ln -s "$PWD/outside/host.conf" $image/etc/modprobe.d/host.conf
 ln -s ../../../outside/host.conf $image/etc/modprobe.d/up.conf
 ask -D wmi | sort
 ask --explain -D loop | sort
+ask --explain=json -D loop | sort
+ask --lint | (read -r words && echo "$words" && sort)
 ask -C ../outside/host.conf -D wmi
 
 # A loop is an error, and so is a chain of more than 40 links; 40 are followed.
