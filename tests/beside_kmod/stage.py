@@ -101,9 +101,10 @@ class Stage:
         while (request := receive(self.pipes[0][0])) is not None:
             send(self.pipes[1][1], run(*request))
 
-    def ask(self, who, words, environment=(), folder=b"/"):
-        """How `modprobe` or `ours` ends with these words (bytes), which don't have the program's name."""
-        send(self.pipes[0][1], (PLACES[who], [b"modprobe", *words], dict(environment), folder))
+    def ask(self, who, words, environment=(), folder=b"/", called=b"modprobe"):
+        """How `modprobe` or `ours` ends with these words (bytes), which don't have the program's name. By its name kmod is
+        another program too."""
+        send(self.pipes[0][1], (PLACES[who], [called, *words], dict(environment), folder))
         return receive(self.pipes[1][0])
 
     def clear(self):
