@@ -20,14 +20,15 @@ ask() {
     eval "$1" 2>&1
 }
 
-# Two network cards and a disk. The disk's driver is at work, and so is the PHY's, but not the card's.
+# Two network cards and a disk. The disk's driver is at work, for a mounted file system, and so is the PHY's, but not the
+# card's.
 put machine/proc/sys/kernel/osrelease $release
 put machine/sys/class/net/eth0/device/modalias pci:v000010ECd00008168sv00001458sd0000E000bc02sc00i00
-for module in 'nvme_core 1' 'realtek 0' 'libphy 1'; do
+for module in 'nvme 1' 'nvme_core 2' 'realtek 0' 'libphy 1'; do
     put "machine/sys/module/${module% *}/initstate" live
     put "machine/sys/module/${module% *}/refcnt" "${module#* }"
 done
-mkdir -p machine/sys/module/libphy/holders/realtek
+mkdir -p machine/sys/module/nvme_core/holders/nvme machine/sys/module/libphy/holders/realtek
 cp -r "$here/lib" machine
 mkdir -p machine/etc machine/lib/modprobe.d
 cp -r "$here/modprobe.d" machine/etc
