@@ -98,6 +98,15 @@ class Table:
     def query_line(self):
         return Call(self.words(), [f"query {MODULE}\n".encode()], b"yes\n")
 
+    def compact(self):
+        return Call(self.words("compact"), [], b"")
+
+    def write(self, journal):
+        """Puts these bytes in the place of the journal."""
+        with open(self.folder / "journal", "wb") as out:
+            out.write(journal)
+        keep(self.folder / "journal")
+
     def write_journal(self, lines):
         """Writes a journal of these lines, as gourzhiel(5) tells it."""
         with open(self.folder / "journal", "wb") as out:
