@@ -1,5 +1,5 @@
 //! A journal is rewritten as the lines that make its table.
-ghost use Rattle.std.specs.Prelude.{◌≡◌, ◌+◌, ◌<◌, nat_lt, Ok, length, map, IfOk, IfSome, IfNone, OnOk, IsErrOf};
+ghost use Rattle.std.specs.Prelude.{◌≡◌, ◌+◌, ◌<◌, ◌≤◌, nat_lt, Ok, length, map, IfOk, IfSome, IfNone, OnOk, IsErrOf};
 ghost use Rattle.dep_index.specs.Catalogue.{modules_of};
 ghost use Rattle.line_journal.specs.Device.{AlwaysLeaves};
 ghost use Rattle.line_journal.specs.declared.device.DeviceError.TheVariants.{Failed};
@@ -103,6 +103,7 @@ impl<'s, H: Holders, D: Device> DurableTable<'s, H, D> {
         ensures any_moment { AlwaysLeaves (D.history self.old.journal.device) (D.history self.new.journal.device)
             (FileStands self.old.session.setup.now (holding (H.table self.old.session.holders) (H.names self.old.session.holders))) }
         ensures faults { IsErrOf result (PerformError.Device Failed) → D.faults self.old.journal.device < D.faults self.new.journal.device }
+        ensures no_fewer { D.faults self.old.journal.device ≤ D.faults self.new.journal.device }
         ensures session { self.new.session ≡ self.old.session }
     {
         let Ok(found) = remake(alloc, &self.session, fresh) else {

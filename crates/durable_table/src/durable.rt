@@ -1,5 +1,5 @@
 //! The table, and the journal that stands for it.
-ghost use Rattle.std.specs.Prelude.{◌≡◌, ◌⊎◌, ◌<◌, true, false, IfOk, OnOk, IsErrOf};
+ghost use Rattle.std.specs.Prelude.{◌≡◌, ◌⊎◌, ◌<◌, ◌≤◌, true, false, IfOk, OnOk, IsErrOf};
 ghost use Rattle.line_journal.specs.Device.{AlwaysLeaves};
 ghost use Rattle.line_journal.specs.Lines.{IsLine};
 ghost use Rattle.held_lines.specs.Held.{holding};
@@ -58,6 +58,7 @@ impl<'s, H: Holders, D: Device> DurableTable<'s, H, D> {
         ensures any_moment { AlwaysLeaves (D.history self.old.journal.device) (D.history self.new.journal.device)
             (BeforeOrAfter self.old.session.setup.now (holding (H.table self.old.session.holders) (H.names self.old.session.holders)) line.now) }
         ensures faults { IsErrOf result (PerformError.Device DeviceError.Failed) → D.faults self.old.journal.device < D.faults self.new.journal.device }
+        ensures no_fewer { D.faults self.old.journal.device ≤ D.faults self.new.journal.device }
         ensures setup { self.new.session.setup ≡ self.old.session.setup }
     {
         let Ok(sealed) = seal(alloc, line) else {

@@ -1,5 +1,5 @@
 //! Lines that are there already, made as one group.
-ghost use Rattle.std.specs.Prelude.{◌≡◌, ◌⊎◌, ◌<◌, ◌++◌, ◌∷◌, [], true, false, if◌then◌else◌, map, IfOk, OnOk, IsErrOf};
+ghost use Rattle.std.specs.Prelude.{◌≡◌, ◌⊎◌, ◌<◌, ◌≤◌, ◌++◌, ◌∷◌, [], true, false, if◌then◌else◌, map, IfOk, OnOk, IsErrOf};
 ghost use Rattle.line_journal.specs.Device.{AlwaysLeaves};
 ghost use Rattle.line_journal.specs.declared.device.DeviceError.TheVariants.{Failed};
 ghost use Rattle.line_journal.specs.Lines.{bytes_of, IsLine, AreLines};
@@ -95,6 +95,7 @@ impl<'s, H: Holders, D: Device> DurableTable<'s, H, D> {
         ensures any_moment { AlwaysLeaves (D.history self.old.journal.device) (D.history self.new.journal.device)
             (AfterFirstOf self.old.session.setup.now (holding (H.table self.old.session.holders) (H.names self.old.session.holders)) (bytes_of lines.now)) }
         ensures faults { IsErrOf result (PerformError.Device Failed) → D.faults self.old.journal.device < D.faults self.new.journal.device }
+        ensures no_fewer { D.faults self.old.journal.device ≤ D.faults self.new.journal.device }
         ensures setup { self.new.session.setup ≡ self.old.session.setup }
     {
         let Ok(Group { replies, sealed }) = make_each(alloc, &mut self.session, lines) else {
