@@ -64,6 +64,15 @@ export MODPROBE_OPTIONS='--no-such-option'
 ask -D loop
 unset MODPROBE_OPTIONS
 
+# A file whose name is no UTF-8 is told of where it is opened, and not as one that is not read.
+mkdir odd.d
+: >odd.d/$'\xe9.conf'
+echo '> --explain -D loop, with such a file: lines on standard error, and how many of them have "not read"'
+gz-modprobe -d "$PWD/machine" -S 6.1.0 -C odd.d --explain -D loop 2>said >/dev/null
+wc -l <said
+grep -c 'not read' said
+rm -r odd.d
+
 # A long word is one word, and many words are all asked for.
 echo '> -R of 9,000 letters'
 gz-modprobe -d "$PWD/machine" -S 6.1.0 -R "$(printf '%09000d' 7)" 2>&1 | sed "s|0\{100,\}|0..|; s|$PWD/||"

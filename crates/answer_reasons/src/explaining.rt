@@ -1,6 +1,6 @@
 //! Why an answer is as it is: which line of which file says so.
 
-use crate::kernel_list::kernel_list;
+use crate::kernel_list::{kernel_list, kernel_words, unquoted};
 use crate::known::Known;
 use crate::named_lines::NamedLines;
 use crate::sources::Sources;
@@ -12,7 +12,7 @@ use kmod_query::{
     Ask, Asked, AtPath, Object, OwnFile, Query, World, is_barred, is_fatal, is_passed,
 };
 use std::alloc::{AllocError, Global};
-use text_parts::{is_same, words};
+use text_parts::is_same;
 
 /// How many words of a query are names.
 fn name_count(query: &Query<'_>) -> usize {
@@ -244,13 +244,16 @@ fn explained<'a>(
     named: &mut NamedLines<'a>,
 ) -> Result<Vec<Fact>, AllocError> {
     named.add(alloc, asked.world.conf, sources.builtin)?;
-    let line = sources.command_line;
-    let given = words(alloc, line.strip_suffix(b"\n").unwrap_or(line))?;
+    let words = kernel_words(alloc, sources.command_line)?;
+    let mut given = Vec::new(alloc);
+    for word in &words {
+        given.push(unquoted(word))?;
+    }
     let known = Known {
         asked,
         named,
         sources,
-        refused: kernel_list(&given),
+        refused: unquoted(kernel_list(&given)),
     };
     let mut told = Told::new(alloc, &known);
     told.tell_all()?;

@@ -4,16 +4,34 @@ use crate::heads::{Head, Heads};
 use crate::told::Told;
 use answer_facts::{IdleFact, Setting, What};
 use kmod_conf::TextLine;
-use kmod_names::AliasEntry;
+use kmod_names::{AliasEntry, Place};
 use kmod_query::{Finding, find_name};
+use modprobe_files::COMMAND_LINE;
 use std::alloc::AllocError;
+use text_parts::is_same;
 
 /// Whether a name holds a mark of a pattern.
 pub(crate) fn is_pattern(name: &[u8]) -> bool {
     name.contains(&b'*') || name.contains(&b'?') || name.contains(&b'[')
 }
 
+/// Whether the lines of a file are a person's: neither what depmod(8) writes into the folder of modules nor what the kernel was
+/// booted with.
+fn is_edited(path: &[u8]) -> bool {
+    !is_same(path, COMMAND_LINE)
+        && !path.ends_with(b"/modules.softdep")
+        && !path.ends_with(b"/modules.weakdep")
+}
+
 impl Told<'_> {
+    /// Says that a line has no effect, if a person can edit it.
+    fn say_idle(&mut self, name: &[u8], fact: IdleFact, place: Place) -> Result<(), AllocError> {
+        if is_edited(self.known.sources.path(place.source)) {
+            self.say_of(name, What::Idle(fact), place)?;
+        }
+        Ok(())
+    }
+
     /// Whether options of a name may count: it stands for a module, may be that of one, or is the pattern of an alias line.
     fn is_known(&self, name: &[u8]) -> Result<bool, AllocError> {
         if !self.known.named.aliases.numbers(name).is_empty() {
@@ -26,12 +44,14 @@ impl Told<'_> {
         self.known.is_module(self.alloc, name)
     }
 
+    /// Tells the alias lines whose module is not there. `off` stands for none on purpose.
     fn tell_idle_aliases(&mut self, lines: &[AliasEntry]) -> Result<(), AllocError> {
         for line in lines {
             let target = line.target.as_bytes();
-            if !self.known.is_module(self.alloc, target)? && !self.has_softdep(target)? {
-                let what = What::Idle(IdleFact::Alias(self.text(target)?));
-                self.say_of(line.pattern.as_bytes(), what, line.place)?;
+            let is_off = is_same(target, b"off");
+            if !is_off && !self.known.is_module(self.alloc, target)? && !self.has_softdep(target)? {
+                let fact = IdleFact::Alias(self.text(target)?);
+                self.say_idle(line.pattern.as_bytes(), fact, line.place)?;
             }
         }
         Ok(())
@@ -55,11 +75,7 @@ impl Told<'_> {
         for line in lines {
             let passes = (has_patterns && is_pattern(line.name)) || self.known.is_target(line.name);
             if !passes && !self.known.is_module(self.alloc, line.name)? {
-                self.say_of(
-                    line.name,
-                    What::Idle(IdleFact::Unknown(setting)),
-                    line.place,
-                )?;
+                self.say_idle(line.name, IdleFact::Unknown(setting), line.place)?;
             }
         }
         Ok(())
@@ -69,8 +85,7 @@ impl Told<'_> {
         for line in lines {
             let name = line.name.as_bytes();
             if !self.is_known(name)? {
-                let what = What::Idle(IdleFact::Unknown(Setting::Options));
-                self.say_of(name, what, line.place)?;
+                self.say_idle(name, IdleFact::Unknown(Setting::Options), line.place)?;
             }
         }
         Ok(())
@@ -80,13 +95,13 @@ impl Told<'_> {
     fn tell_later_lines(&mut self, setting: Setting, lines: &Heads<'_>) -> Result<(), AllocError> {
         for (number, line) in lines.all().iter().enumerate() {
             if lines.numbers(line.name).first() != Some(&number) {
-                self.say_of(line.name, What::Idle(IdleFact::Later(setting)), line.place)?;
+                self.say_idle(line.name, IdleFact::Later(setting), line.place)?;
             }
         }
         Ok(())
     }
 
-    /// Tells the lines of the configuration that have no effect.
+    /// Tells the lines of the configuration that have no effect, of those that a person can edit.
     pub(crate) fn tell_idle(&mut self) -> Result<(), AllocError> {
         let asked = self.known.asked;
         let conf = asked.world.conf;

@@ -3,7 +3,40 @@ ghost use Rattle.std.specs.Prelude.{◌≡◌, []};
 ghost use Rattle.text_parts.specs.Text.{texts_of};
 ghost use Rattle.answer_reasons.specs.KernelList.{is_other, kernel_list, list_after};
 
+use std::alloc::{AllocError, Global};
+use std::mem;
 use text_parts::is_same;
+
+/// Whether the kernel ends a word at a byte, outside quotes.
+fn is_space(byte: u8) -> bool {
+    matches!(byte, b' ' | b'\t'..=b'\r')
+}
+
+/// The words of the kernel's command line, which blanks end that stand in no quotes: `next_arg` of the kernel's
+/// lib/cmdline.c. A word may be empty. It fails only if memory runs out.
+pub(crate) fn kernel_words(alloc: Global, line: &[u8]) -> Result<Vec<Vec<u8>>, AllocError> {
+    let mut words = Vec::new(alloc);
+    let mut word = Vec::new(alloc);
+    let mut is_quoted = false;
+    for byte in line {
+        if is_space(*byte) && !is_quoted {
+            words.push(mem::replace(&mut word, Vec::new(alloc)))?;
+        } else {
+            is_quoted = is_quoted != (*byte == b'"');
+            word.push(*byte)?;
+        }
+    }
+    words.push(word)?;
+    Ok(words)
+}
+
+/// A text without the quotes that it begins and ends with.
+pub(crate) fn unquoted(text: &[u8]) -> &[u8] {
+    match text.strip_prefix(b"\"") {
+        Some(rest) => rest.strip_suffix(b"\"").unwrap_or(rest),
+        None => text,
+    }
+}
 
 /// The names that a word lists after `module_blacklist=`, in place of those of earlier words. In the name of a parameter the
 /// kernel takes `-` for `_`.

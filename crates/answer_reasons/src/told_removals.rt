@@ -207,12 +207,12 @@ impl Told<'_> {
         }
     }
 
-    /// Whether a dry run shows a need that went before once more, since it asks modules as they are now.
+    /// Whether a dry run shows a need that went before once more, since it asks modules as they are now: nothing uses it.
     fn goes_again(&self, name: &[u8]) -> bool {
         let asked = self.known.asked;
+        let status = asked.world.states.of(name);
         !self.known.sources.whole
-            && self.known.is_live(name)
-            && !has_users(asked.world.states.of(name))
+            && matches!(status, Some(ModuleStatus { users: Some(0), .. }))
             && is_gone(&self.taken, name)
     }
 

@@ -53,16 +53,16 @@ pub(crate) fn tell_unwritten<E: Write>(written: Written, messages: &mut Messages
 /// Tells what is wrong with an answer. Returns the status.
 fn tell_answered<S: System, E: Write>(
     host: &Host<'_, S>,
+    machine: &Machine<'_>,
     answered: &Answered,
     query: &Query<'_>,
-    directory: &[u8],
     messages: &mut Messages<'_, E>,
 ) -> Result<u8, AllocError>
     ensures status { IfOk result (λ status. status ≤ 1) }
     ensures told { IfOk result (λ status. status ≡ status_of answered.now.answer answered.now.written) }
 {
     tell_unwritten(answered.written, messages);
-    tell_failures(host, &answered.answer, query, directory, messages)?;
+    tell_failures(host, machine, &answered.answer, query, messages)?;
     Ok(answered.status())
 }
 
@@ -82,7 +82,7 @@ fn answer_read<S: System, O: Write, E: Write>(
     ensures well { IfOk result (λ status. status ≡ 0 → WasAnswered machine.now.conf.now.kmod machine.now.whole query.now (O.contents output.old) (O.contents output.new)) }
 {
     let answered = answer_machine(host.alloc(), machine, conf, query, output, messages)?;
-    tell_answered(host, &answered, query, machine.directory, messages)
+    tell_answered(host, machine, &answered, query, messages)
 }
 
 /// Answers a query, early if it can be and is not explained. Else modules.alias is read for it, and modules.symbols if it may

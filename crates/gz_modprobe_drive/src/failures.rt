@@ -1,5 +1,6 @@
-//! What people are told of names that were not answered.
+//! What people are told of names that were not answered, and of texts that may not say all.
 
+use crate::texts::Machine;
 use kmod_names::{Text, name_of_path};
 use kmod_query::{Answer, Failure, Query};
 use modprobe_files::{Host, System, tell_folder};
@@ -69,14 +70,25 @@ fn tell_path<E: Write>(
     Ok(())
 }
 
+/// Tells that modules.dep ends within a line, as one does whose writing was cut off: then needs of its last module may be
+/// missing from an answer.
+fn tell_cut_needs<E: Write>(machine: &Machine<'_>, messages: &mut Messages<'_, E>) {
+    let needs = &machine.modules.dep;
+    if !needs.is_empty() && !needs.ends_with(b"\n") {
+        let (name, text) = (b"/modules.dep", b" ends within a line");
+        messages.tell(Level::Notice, machine.directory, name, text, b"");
+    }
+}
+
 /// Tells why names were not answered, and what is wrong with their folder of modules.
 pub(crate) fn tell_failures<S: System, E: Write>(
     host: &Host<'_, S>,
+    machine: &Machine<'_>,
     answer: &Answer,
     query: &Query<'_>,
-    directory: &[u8],
     messages: &mut Messages<'_, E>,
 ) -> Result<(), AllocError> {
+    let directory = machine.directory;
     let mut is_found = true;
     for failure in answer.failures() {
         tell_failure(failure, query, directory, messages);
@@ -85,8 +97,9 @@ pub(crate) fn tell_failures<S: System, E: Write>(
             tell_path(host.alloc(), word.as_bytes(), messages)?;
         }
     }
-    if !is_found {
-        tell_folder(host, directory, messages)?;
+    if is_found {
+        tell_cut_needs(machine, messages);
+        return Ok(());
     }
-    Ok(())
+    tell_folder(host, directory, messages)
 }

@@ -8,6 +8,7 @@ use answer_reasons::UnreadFile;
 use kmod_version::Kmod;
 use modprobe_files::{Host, Kind, System, is_read, joined, paths_by_rank};
 use std::alloc::AllocError;
+use std::str;
 use text_parts::is_same;
 
 const LIB: &[u8] = b"/lib/modprobe.d";
@@ -39,7 +40,7 @@ fn unread_by(kmod: Kmod, name: &[u8], kind: Kind) -> Option<Unread>
     }
 }
 
-/// Adds the names of a folder that are not read.
+/// Adds the names of a folder that are not read. One that is no UTF-8 is told of by whoever tries to open it.
 fn add_names<S: System>(
     host: &Host<'_, S>,
     kmod: Kmod,
@@ -48,6 +49,9 @@ fn add_names<S: System>(
     unread: &mut Vec<UnreadFile>,
 ) -> Result<(), AllocError> {
     for name in names {
+        if str::from_utf8(name).is_err() {
+            continue;
+        }
         let path = joined(host.alloc(), folder, b"/", name)?;
         let kind = host.kind(&path)?;
         if let Some(reason) = unread_by(kmod, name, kind) {
