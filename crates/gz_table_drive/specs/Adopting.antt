@@ -16,7 +16,11 @@ use Rattle.table_adopt.specs.Reports.{report_of}
 use Rattle.table_words.specs.declared.ending.Ending.{Ending}
 use Rattle.table_words.specs.declared.ending.Ending.TheVariants as ending
 use Rattle.table_folder.specs.Endings.{ending_of_outcome}
+use Rattle.durable_table.specs.declared.durable.PerformError.{PerformError}
+use Rattle.durable_table.specs.declared.durable.PerformError.TheVariants as perform_error
 use Rattle.gz_table_drive.specs.Answers.{HasMore}
+use Rattle.gz_table_drive.specs.declared.adopting.AdoptError.{AdoptError}
+use Rattle.gz_table_drive.specs.declared.adopting.AdoptError.TheVariants as adopt_error
 use Rattle.gz_table_drive.specs.declared.answering.Replies.{Replies}
 
 -- the lines that bring the table to these modules, one after another
@@ -46,6 +50,11 @@ pub record HasAdopted (s : Setup) (h : Held) (kernel : List KernelModule) (old n
       ≡ old.text.items ++ (report_of s.catalogue h.table kernel ++ flat_map text_of (refused_of (replies_of s h (adopting_lines s h kernel))))
   pub endings : new.endings.items
       ≡ old.endings.items ++ (ending_of_report (report_of s.catalogue h.table kernel) ∷ map ending_of_outcome (refused_of (replies_of s h (adopting_lines s h kernel))))
+
+-- why a table was not brought to a kernel's modules, by why lines were not performed
+abbrev pub adopt_error_of : PerformError → AdoptError
+adopt_error_of perform_error.OutOfMemory = adopt_error.OutOfMemory
+adopt_error_of (perform_error.Device error) = adopt_error.Device error
 
 -- Each holder holds what it held.
 pub record HoldsTheSame (old new : Held) : Type 0 where

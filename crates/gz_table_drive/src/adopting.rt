@@ -1,6 +1,7 @@
 //! A table is brought to the modules that a kernel has.
-ghost use Rattle.std.specs.Prelude.{◌≡◌, ◌++◌, ◌∷◌, [], map, IfOk, OnOk, IsErrOf};
+ghost use Rattle.std.specs.Prelude.{◌≡◌, ◌⊎◌, ◌<◌, ◌≤◌, ◌++◌, ◌∷◌, [], map, IfOk, IfErr, OnOk, IsErrOf};
 ghost use Rattle.line_journal.specs.Device.{AlwaysLeaves};
+ghost use Rattle.line_journal.specs.declared.device.DeviceError.TheVariants.{Failed};
 ghost use Rattle.line_journal.specs.Lines.{AreLines, bytes_of};
 ghost use Rattle.held_lines.specs.Held.{holding};
 ghost use Rattle.held_lines.specs.Laws.{KeepsHeld};
@@ -48,10 +49,10 @@ impl From<AllocError> for AdoptError {
 }
 
 impl From<PerformError> for AdoptError {
-    ghost use Rattle.std.specs.Prelude.{◌≢◌};
-    ghost use Rattle.gz_table_drive.specs.declared.adopting.AdoptError.TheVariants.{BadName};
+    ghost use Rattle.std.specs.Prelude.{◌≡◌};
+    ghost use Rattle.gz_table_drive.specs.Adopting.{adopt_error_of};
 
-    ghost from_gives = { λ _ error. error ≢ BadName };
+    ghost from_gives = { λ why error. error ≡ adopt_error_of why };
 
     fn from(error: PerformError) -> AdoptError {
         match error {
@@ -110,6 +111,8 @@ fn perform_group<H: Holders, D: Device>(
     ensures stands { OnOk result (Stands D.content D.history table.old.session.setup.now (holding (H.table table.new.session.holders) (H.names table.new.session.holders)) table.new.journal) }
     ensures any_moment { AlwaysLeaves (D.history table.old.journal.device) (D.history table.new.journal.device)
         (AfterFirstOf table.old.session.setup.now (holding (H.table table.old.session.holders) (H.names table.old.session.holders)) (bytes_of group.now)) }
+    ensures faults { IsErrOf result (PerformError.Device Failed) → D.faults table.old.journal.device < D.faults table.new.journal.device }
+    ensures no_fewer { D.faults table.old.journal.device ≤ D.faults table.new.journal.device }
     ensures setup { table.new.session.setup ≡ table.old.session.setup }
 {
     let answered = table.perform_all(alloc, group)?;
@@ -134,6 +137,8 @@ fn perform_lines<H: Holders, D: Device>(
     ensures stands { OnOk result (Stands D.content D.history table.old.session.setup.now (holding (H.table table.new.session.holders) (H.names table.new.session.holders)) table.new.journal) }
     ensures any_moment { AlwaysLeaves (D.history table.old.journal.device) (D.history table.new.journal.device)
         (AfterFirstOf table.old.session.setup.now (holding (H.table table.old.session.holders) (H.names table.old.session.holders)) (bytes_of lines.now)) }
+    ensures faults { IsErrOf result (PerformError.Device Failed) → D.faults table.old.journal.device < D.faults table.new.journal.device }
+    ensures no_fewer { D.faults table.old.journal.device ≤ D.faults table.new.journal.device }
     ensures setup { table.new.session.setup ≡ table.old.session.setup }
 {
     let mut start = 0;
@@ -153,6 +158,8 @@ fn adoption_of<H: Holders>(
 ) -> Result<Adoption, AdoptError>
     ensures lines { IfOk result (λ a. bytes_of a.lines.items ≡ adopting_lines session.now.setup.now (holding (H.table session.now.holders) (H.names session.now.holders)) kernel.now) }
     ensures are_lines { IfOk result (λ a. AreLines (bytes_of a.lines.items)) }
+    ensures refused { IfErr result (λ error. (error ≡ AdoptError.OutOfMemory) ⊎ (error ≡ AdoptError.BadName)) }
+    ensures bad_name { IsErrOf result AdoptError.BadName → AreLines (adopting_lines session.now.setup.now (holding (H.table session.now.holders) (H.names session.now.holders)) kernel.now) → ⊥ }
     ensures report { IfOk result (λ a. a.report.items ≡ report_of session.now.setup.now.catalogue (H.table session.now.holders) kernel.now) }
 {
     let found = adopt(
@@ -201,6 +208,9 @@ pub fn adopt_modules<H: Holders, D: Device>(
     ensures any_moment { AlwaysLeaves (D.history table.old.journal.device) (D.history table.new.journal.device)
         (AfterFirstOf table.old.session.setup.now (holding (H.table table.old.session.holders) (H.names table.old.session.holders))
         (adopting_lines table.old.session.setup.now (holding (H.table table.old.session.holders) (H.names table.old.session.holders)) kernel.now)) }
+    ensures bad_name { IsErrOf result AdoptError.BadName → AreLines (adopting_lines table.old.session.setup.now (holding (H.table table.old.session.holders) (H.names table.old.session.holders)) kernel.now) → ⊥ }
+    ensures faults { IsErrOf result (AdoptError.Device Failed) → D.faults table.old.journal.device < D.faults table.new.journal.device }
+    ensures no_fewer { D.faults table.old.journal.device ≤ D.faults table.new.journal.device }
     ensures setup { table.new.session.setup ≡ table.old.session.setup }
 {
     table.session().holders().laws();

@@ -1,6 +1,7 @@
 //! Lines over a table, and their replies.
-ghost use Rattle.std.specs.Prelude.{◌≡◌, ◌<◌, ◌≤◌, ℕ, [], ◌∷◌, length, map, take, IfOk, OnOk, OnErr};
+ghost use Rattle.std.specs.Prelude.{◌≡◌, ◌<◌, ◌≤◌, ℕ, [], ◌∷◌, length, map, take, IfOk, OnOk, OnErr, IsErrOf};
 ghost use Rattle.line_journal.specs.Device.{AlwaysLeaves};
+ghost use Rattle.line_journal.specs.declared.device.DeviceError.TheVariants.{Failed};
 ghost use Rattle.line_journal.specs.Lines.{AreLines, bytes_of};
 ghost use Rattle.held_lines.specs.Held.{holding};
 ghost use Rattle.held_lines.specs.Outcomes.{after};
@@ -112,6 +113,8 @@ fn answer_group<H: Holders, D: Device>(
         (D.history table.new.journal.device).leaves replies.old replies.new) }
     ensures any_moment { AlwaysLeaves (D.history table.old.journal.device) (D.history table.new.journal.device)
         (AfterFirstOf table.old.session.setup.now (holding (H.table table.old.session.holders) (H.names table.old.session.holders)) (bytes_of group.now)) }
+    ensures faults { IsErrOf result (AnswerError.Device Failed) → D.faults table.old.journal.device < D.faults table.new.journal.device }
+    ensures no_fewer { D.faults table.old.journal.device ≤ D.faults table.new.journal.device }
     ensures setup { table.new.session.setup ≡ table.old.session.setup }
 {
     let answered = match table.perform_all(alloc, group) {
@@ -148,6 +151,8 @@ pub fn answer_lines<H: Holders, D: Device>(
         (D.history table.new.journal.device).leaves replies.old replies.new) }
     ensures any_moment { AlwaysLeaves (D.history table.old.journal.device) (D.history table.new.journal.device)
         (AfterFirstOf table.old.session.setup.now (holding (H.table table.old.session.holders) (H.names table.old.session.holders)) (bytes_of lines.now)) }
+    ensures faults { IsErrOf result (AnswerError.Device Failed) → D.faults table.old.journal.device < D.faults table.new.journal.device }
+    ensures no_fewer { D.faults table.old.journal.device ≤ D.faults table.new.journal.device }
     ensures setup { table.new.session.setup ≡ table.old.session.setup }
 {
     let mut start = 0;

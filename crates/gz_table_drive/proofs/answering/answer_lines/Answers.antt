@@ -55,5 +55,6 @@ loop-start-preserved g c =
       becomes = (rw inv.becomes at (rw inv.setup at made.becomes)) ∙ sym (after_more s h front group) ∙ ap (after s h) (sym all);
       stands = rw inv.setup at made.stands;
       moments = moments_more s h front group (bytes_of lines) _ _ _ (group_behind lines start end) inv.moments (rw inv.becomes at (rw inv.setup at c.answer_group.ensures.any_moment));
+      no_fewer = omega (arith, inv.no_fewer, c.answer_group.ensures.no_fewer);
       setup = made.setup ∙ inv.setup;
     }
