@@ -67,10 +67,10 @@ unset MODPROBE_OPTIONS
 # A file whose name is no UTF-8 is told of where it is opened, and not as one that is not read.
 mkdir odd.d
 : >odd.d/$'\xe9.conf'
-echo '> --explain -D loop, with such a file: lines on standard error, and how many of them have "not read"'
+echo '> --explain -D loop, with such a file: lines on standard error, and how many of them have ": not read"'
 gz-modprobe -d "$PWD/machine" -S 6.1.0 -C odd.d --explain -D loop 2>said >/dev/null
 wc -l <said
-grep -c 'not read' said
+grep -c ': not read' said
 rm -r odd.d
 
 # A long word is one word, and many words are all asked for.
