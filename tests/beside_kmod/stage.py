@@ -9,6 +9,7 @@ import shutil
 import signal
 import struct
 import subprocess
+import time
 from dataclasses import dataclass
 from pathlib import Path
 
@@ -96,7 +97,6 @@ class Stage:
         if libc.prctl(PR_CAPBSET_DROP, CAP_SYS_MODULE, 0, 0, 0) != 0:
             raise OSError(ctypes.get_errno(), "the right to load modules stays")
         os.chroot(self.root)
-        resource.setrlimit(resource.RLIMIT_CPU, (SECONDS, SECONDS))
         resource.setrlimit(resource.RLIMIT_CORE, (0, 0))
         while (request := receive(self.pipes[0][0])) is not None:
             send(self.pipes[1][1], run(*request))
@@ -130,6 +130,9 @@ def run(program, words, environment, folder):
     # (kmod can recurse until its stack ends: see faults.ENDLESS)
     stack = STACKS[program], resource.getrlimit(resource.RLIMIT_STACK)[1]
     resource.setrlimit(resource.RLIMIT_STACK, stack)
+    # (this process has the limit too, and is asked so often that it would meet it itself)
+    seconds = int(time.process_time()) + SECONDS
+    resource.setrlimit(resource.RLIMIT_CPU, (seconds, resource.getrlimit(resource.RLIMIT_CPU)[1]))
     flags = os.O_WRONLY | os.O_CREAT | os.O_TRUNC
     actions = [
         (os.POSIX_SPAWN_OPEN, 0, b"/out/in", os.O_RDONLY | os.O_CREAT, 0o600),
