@@ -109,11 +109,8 @@ class Table:
 
     def write_journal(self, lines):
         """Writes a journal of these lines, as gourzhiel(5) tells it."""
-        with open(self.folder / "journal", "wb") as out:
-            out.write(b"+gourzhiel journal 1\n")
-            out.writelines(b"+%08x %s" % (zlib.adler32(line[:-1]), line) for line in lines)
-            out.write(b" ")
-        keep(self.folder / "journal")
+        sealed = (b"+%08x %s" % (zlib.adler32(line[:-1]), line) for line in lines)
+        self.write(b"+gourzhiel journal 1\n" + b"".join(sealed) + b" ")
 
 
 class Sqlite:
