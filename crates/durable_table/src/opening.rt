@@ -1,5 +1,5 @@
 //! How a journal begins, and how a table is made of one that is there.
-ghost use Rattle.std.specs.Prelude.{◌≡◌, ◌⊎◌, ◌<◌, [], ◌∷◌, Some, IfOk, IfErr, OnOk};
+ghost use Rattle.std.specs.Prelude.{◌≡◌, ◌⊎◌, ◌<◌, ◌≤◌, [], ◌∷◌, Some, IfOk, IfErr, OnOk};
 ghost use Rattle.dep_index.specs.Catalogue.{modules_of};
 ghost use Rattle.modprobe.specs.Setup.{Setup as AnySetup};
 ghost use Rattle.line_journal.specs.Device.{IsOnDisk, AlwaysLeaves, Goes, Unchanged, UnchangedOr, TellsFaults};
@@ -96,6 +96,7 @@ pub fn open<'s, H: Holders, D: Device>(
     ensures any_moment { AlwaysLeaves (D.history device) (D.history (device_after result))
         (λ file. StandsFor (lines_of (D.content device)) file ⊎ (D.history device).leaves file) }
     ensures faults { IfErr result (λ error. error.0 ≡ Failed → D.faults device < D.faults error.1) }
+    ensures no_fewer { D.faults device ≤ D.faults (device_after result) }
 {
     let found = match look(alloc, &mut device) {
         Ok(found) => found,
@@ -136,6 +137,7 @@ pub fn open_reading<'s, H: Holders, D: Device>(
     ensures read { IfOk result (IsTableRead D.content setup.now (D.content device)) }
     ensures crash { Goes Unchanged (D.history device) (D.history (device_read result)) }
     ensures faults { IfErr result (λ error. error.0 ≡ Failed → D.faults device < D.faults error.1) }
+    ensures no_fewer { D.faults device ≤ D.faults (device_read result) }
 {
     let found = match peek(alloc, &mut device) {
         Ok(found) => found,

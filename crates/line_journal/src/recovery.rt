@@ -1,4 +1,4 @@
-ghost use Rattle.std.specs.Prelude.{◌≡◌, ◌⊎◌, ◌↔◌, true, ◌<◌, ◌^◌, length, IfOk, IfErr, OnOk};
+ghost use Rattle.std.specs.Prelude.{◌≡◌, ◌⊎◌, ◌↔◌, true, ◌<◌, ◌≤◌, ◌^◌, length, IfOk, IfErr, OnOk};
 ghost use Rattle.line_journal.specs.declared.device.DeviceError.TheVariants.{Failed};
 ghost use Rattle.line_journal.specs.Device.{IsOnDisk, AlwaysLeaves, TellsFaults};
 ghost use Rattle.line_journal.specs.Journal.{IsFound, IsAtRest, IsRested, IsRecovered, MayCut};
@@ -121,6 +121,7 @@ pub fn open<D: Device>(
     ensures after_restart { IsOnDisk (D.content device) (D.history device)
         → AlwaysLeaves (D.history device) (D.history (device_after result)) (StandsFor (lines_of (D.content device))) }
     ensures faults { IfErr result (λ error. error.0 ≡ Failed → D.faults device < D.faults error.1) }
+    ensures no_fewer { D.faults device ≤ D.faults (device_after result) }
 {
     let found = match look(alloc, &mut device) {
         Ok(found) => found,
@@ -141,6 +142,7 @@ pub fn open_found<D: Device>(
     ensures opened { IfOk result (IsOpened D.content D.history repair device) }
     ensures any_moment { AlwaysLeaves (D.history device) (D.history (device_after result)) (StandsFor (lines_of (D.content device))) }
     ensures faults { IfErr result (λ error. error.0 ≡ Failed → D.faults device < D.faults error.1) }
+    ensures no_fewer { D.faults device ≤ D.faults (device_after result) }
 {
     match rest(&mut device, &found, repair) {
         Ok(true) => Ok(Opened::Ready(Journal::resume(device, found.end), found)),

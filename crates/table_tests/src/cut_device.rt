@@ -30,7 +30,8 @@ impl CutDevice {
 
     /// From now on so many calls are left.
     pub(crate) fn leave(&mut self, calls: usize)
-        ensures { self.new.file ≡ self.old.file }
+        ensures file { self.new.file ≡ self.old.file }
+        ensures faults { self.new.faults ≡ self.old.faults }
     {
         self.calls_left = calls;
     }

@@ -10,7 +10,7 @@ use std::alloc::Global;
 use std::mem;
 use std::process::Abort;
 use std::snapshot::Snapshot;
-use tenures::{Step, World};
+use tenures::{Step, Stopped, World};
 
 /// How far a process comes before it is cut off.
 #[derive(Clone, Copy, Debug)]
@@ -26,6 +26,7 @@ pub(crate) struct Life {
 struct Over {
     asked: Vec<Snapshot<Step>>,
     replies: Vec<Snapshot<Reply>>,
+    ended: Result<(), Stopped>,
 }
 
 /// Takes the replies of processes, and cuts off each at the end of its life. The next one finds the file as it is then.
@@ -40,6 +41,8 @@ pub(crate) struct Watcher<'a, R: Abort> {
     /// Of the processes that are to come.
     lives: &'a [Life],
     replies_left: usize,
+    /// How many processes were cut off.
+    cut_offs: usize,
     /// The replies that were begun, and a line `--` after those of each process.
     text: Vec<u8>,
 }
@@ -59,6 +62,7 @@ impl<'a, R: Abort> Watcher<'a, R> {
             past: Vec::new(alloc),
             lives,
             replies_left: 0,
+            cut_offs: 0,
             text: Vec::new(alloc),
         }
     }
@@ -66,9 +70,11 @@ impl<'a, R: Abort> Watcher<'a, R> {
     /// The life of the next process begins.
     pub(crate) fn begin_life(&mut self, device: &mut CutDevice)
         ensures file { device.new.file ≡ device.old.file }
+        ensures faults { device.new.faults ≡ device.old.faults }
         ensures seen { self.new.seen ≡ self.old.seen }
         ensures begun { self.new.begun ≡ self.old.begun }
         ensures past { self.new.past ≡ self.old.past }
+        ensures cut_offs { self.new.cut_offs ≡ self.old.cut_offs }
     {
         if let [life, later @ ..] = self.lives {
             self.lives = later;
@@ -95,14 +101,23 @@ fn noted<R: Abort>(rt: &R, alloc: Global, asked: &[Step]) -> Vec<Snapshot<Step>>
 }
 
 impl<'a, R: Abort> World<CutDevice> for Watcher<'a, R> {
-    ghost past = { λ w. map (λ over. record { asked = groups_of (map (λ step. step.value) over.asked.items); replies = map (λ reply. reply.value) over.replies.items }) w.past.items };
+    ghost past = { λ w. map (λ over. record { asked = groups_of (map (λ step. step.value) over.asked.items); replies = map (λ reply. reply.value) over.replies.items; ended = over.ended }) w.past.items };
 
     ghost replies = { λ w. map (λ reply. reply.value) w.begun.items };
 
     ghost since = { λ w. (history_of w.seen.value.file).now };
 
+    ghost cut_offs = { λ w. w.cut_offs };
+
     fn is_alive(&mut self) -> bool {
-        self.replies_left > 0
+        if self.replies_left > 0 {
+            return true;
+        }
+        self.cut_offs = self
+            .cut_offs
+            .checked_add(1)
+            .expect(self.rt, "a count of processes");
+        false
     }
 
     fn begin_reply(&mut self, device: &CutDevice, reply: &HeldReply) {
@@ -116,11 +131,20 @@ impl<'a, R: Abort> World<CutDevice> for Watcher<'a, R> {
             .expect(self.rt, "room for a text");
     }
 
-    fn next(&mut self, mut device: CutDevice, asked: &[Step]) -> CutDevice {
+    fn next(
+        &mut self,
+        mut device: CutDevice,
+        asked: &[Step],
+        ended: Result<(), Stopped>,
+    ) -> CutDevice {
         let asked = noted(self.rt, self.alloc, asked);
         let replies = mem::replace(&mut self.begun, Vec::new(self.alloc));
         self.past
-            .push(Over { asked, replies })
+            .push(Over {
+                asked,
+                replies,
+                ended,
+            })
             .expect(self.rt, "room for a tenure");
         self.text
             .extend_from_slice(b"--\n")

@@ -1,5 +1,5 @@
 -- A tenure as it goes on: what its files keep.
-use Rattle.std.proofs.Common.{arith, ◌≡◌, refl, sym, ap, subst, ◌∙◌, ◌⊎◌, ⊎_elim, inl, inr, ℕ, List, [], ◌∷◌, ◌++◌, length, append_assoc, append-nil, length-append}
+use Rattle.std.proofs.Common.{arith, ◌≡◌, refl, sym, ap, subst, ◌∙◌, ◌⊎◌, ⊎_elim, inl, inr, ℕ, List, [], ◌∷◌, ◌++◌, length, append_assoc, append-nil, length-append, Result}
 use Rattle.modprobe.specs.Setup.{Setup}
 use Rattle.modprobe.specs.Outcomes.{Outcome}
 use Rattle.held_table.specs.Held.{Held}
@@ -8,13 +8,17 @@ use Rattle.durable_table.specs.Tables.{opening_of}
 use Rattle.durable_table.specs.Durable.{FileStands}
 use Rattle.durable_table.specs.Groups.{replies_of, KeepsHeldAlong}
 use Rattle.durable_table.proofs.GroupLemmas.{after-append, replies-append, held-append}
+use Rattle.tenures.specs.declared.ending.Stopped.{Stopped}
 use Rattle.tenures.specs.Tenures.{Tenure, one_by_one, next_group, IsFirstOf, TookEffect, IsOneList}
 use Rattle.tenures.specs.Steps.{IsMadeWhole}
 use Rattle.tenures.specs.Kept.{LeadsTo, Keeps}
 use Rattle.tenures.proofs.ListLemmas.{replies_length, one_by_one_more, one_more}
 
-abbrev pub tenure_of : List (List (List ℕ)) → List Outcome → Tenure
-tenure_of asked replies = record { asked = asked; replies = replies }
+abbrev pub Ending : Type 0
+Ending = Result (Unit {0}) Stopped
+
+abbrev pub tenure_of : List (List (List ℕ)) → List Outcome → Ending → Tenure
+tenure_of asked replies ended = record { asked = asked; replies = replies; ended = ended }
 
 -- A process has made some of the groups that it was asked, and begun all replies to them. The rest is left. Its table is this one.
 pub record GoesOn (s : Setup) (past : List Tenure) (asked left : List (List (List ℕ))) (replies : List Outcome) (h : Held) : Type 0 where
@@ -48,9 +52,9 @@ module _ {s : Setup} {past : List Tenure} {asked left : List (List (List ℕ))} 
       ∙ ap (λ (os : List Outcome). os ++ replies_of s (after s (after s (opening_of s) g.before) (one_by_one g.done)) part) (sym g.replied)
       ∙ ap (λ (u : Held). replies ++ replies_of s u part) (sym (g.leads ∙ after-append s (opening_of s) g.before (one_by_one g.done)))
 
-  took : (part : List (List ℕ)) (more begun : List Outcome) → IsFirstOf part (next_group left) → begun ≡ replies ++ more
-      → (more ≡ []) ⊎ (part ≡ next_group left) → TookEffect (tenure_of asked begun) (one_by_one g.done ++ part)
-  took part more begun first grows whole = record {
+  took : (ended : Ending) (part : List (List ℕ)) (more begun : List Outcome) → IsFirstOf part (next_group left) → begun ≡ replies ++ more
+      → (more ≡ []) ⊎ (part ≡ next_group left) → TookEffect (tenure_of asked begun ended) (one_by_one g.done ++ part)
+  took ended part more begun first grows whole = record {
     before = g.done;
     left = left;
     asked = g.parts;
@@ -62,14 +66,14 @@ module _ {s : Setup} {past : List Tenure} {asked left : List (List (List ℕ))} 
   }
 
   -- The file stands for the table after some commands of the next group. Some replies to it were begun only if these are all.
-  pub stands_on : (part : List (List ℕ)) (more begun : List Outcome) → IsFirstOf part (next_group left) → begun ≡ replies ++ more
+  pub stands_on : (ended : Ending) (part : List (List ℕ)) (more begun : List Outcome) → IsFirstOf part (next_group left) → begun ≡ replies ++ more
       → (more ≡ []) ⊎ (part ≡ next_group left) → IsFirstOf more (replies_of s h part) → KeepsHeldAlong s h part
-      → (file : List ℕ) → FileStands s (after s h part) file → Keeps s (past ++ tenure_of asked begun ∷ []) file
-  stands_on part more begun first grows whole (rest, is) keeps file stands = record {
+      → (file : List ℕ) → FileStands s (after s h part) file → Keeps s (past ++ tenure_of asked begun ended ∷ []) file
+  stands_on ended part more begun first grows whole (rest, is) keeps file stands = record {
     commands = g.before ++ (one_by_one g.done ++ part);
     table = after s h part;
     leads = record {
-      one = one_more s (opening_of s) past (tenure_of asked begun) g.before (one_by_one g.done ++ part) g.one (took part more begun first grows whole) (
+      one = one_more s (opening_of s) past (tenure_of asked begun ended) g.before (one_by_one g.done ++ part) g.one (took ended part more begun first grows whole) (
         rest,
         replies_on part ∙ ap (λ (os : List Outcome). replies ++ os) is ∙ sym (append_assoc replies more rest) ∙ ap (λ (os : List Outcome). os ++ rest) (sym grows),
       );
@@ -107,8 +111,9 @@ begins {s} {past} {commands} {h} asked leads = record {
 }
 
 -- a process that makes nothing
-pub idle : {s : Setup} {past : List Tenure} {file : List ℕ} (asked : List (List (List ℕ))) → Keeps s past file → Keeps s (past ++ tenure_of asked [] ∷ []) file
-idle {file = file} asked keeps = stands_on (begins asked keeps.leads) [] [] [] (next_group asked, refl) refl (inl refl) ([], refl) tt file keeps.stands
+pub idle : {s : Setup} {past : List Tenure} {file : List ℕ} (asked : List (List (List ℕ))) (ended : Ending) → Keeps s past file
+    → Keeps s (past ++ tenure_of asked [] ended ∷ []) file
+idle {file = file} asked ended keeps = stands_on (begins asked keeps.leads) ended [] [] [] (next_group asked, refl) refl (inl refl) ([], refl) tt file keeps.stands
 
 -- to all that a process was asked it has begun replies
 pub answered_all : {s : Setup} {past : List Tenure} {asked left : List (List (List ℕ))} {replies : List Outcome} {h : Held} → GoesOn s past asked left replies h

@@ -5,3 +5,4 @@ mod RemovalLemmas
 mod StepLemmas
 mod ReplyLemmas
 mod AskedLemmas
+mod EndingLemmas

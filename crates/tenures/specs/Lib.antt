@@ -1,3 +1,4 @@
 pub mod Tenures
+pub mod Endings
 pub mod Steps
 pub mod Kept

@@ -1,17 +1,19 @@
 -- Tenures and their one list of commands: durable linearizability (Izraelevitz, Mendes, Scott, Linearizability of persistent memory
 -- objects under a full-system-crash failure model, DISC 2016), of processes that use a table one after another.
-use Rattle.std.specs.Prelude.{◌≡◌, ◌⊎◌, ◌≤◌, ℕ, List, [], ◌∷◌, ◌++◌, length, map}
+use Rattle.std.specs.Prelude.{◌≡◌, ◌⊎◌, ◌≤◌, ℕ, List, [], ◌∷◌, ◌++◌, length, map, Result}
 use Rattle.modprobe.specs.Setup.{Setup}
 use Rattle.modprobe.specs.Outcomes.{Outcome}
 use Rattle.held_table.specs.Held.{Held}
 use Rattle.held_lines.specs.Outcomes.{after}
 use Rattle.durable_table.specs.Groups.{replies_of}
+use Rattle.tenures.specs.declared.ending.Stopped.{Stopped}
 
--- One process from lock to unlock: the groups of commands that it was asked, one group after another, and the replies that it
--- began, to the first of these commands.
+-- One process from lock to unlock: the groups of commands that it was asked, one group after another; the replies that it
+-- began, to the first of these commands; and how it ended.
 pub record Tenure : Type 0 where
   pub asked : List (List (List ℕ))
   pub replies : List Outcome
+  pub ended : Result (Unit {0}) Stopped
 
 -- what each of them was asked
 abbrev pub asked_of : List Tenure → List (List (List (List ℕ)))

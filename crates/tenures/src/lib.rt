@@ -1,6 +1,7 @@
 //! Processes that use one table one after another, whatever cuts them off.
 #![tactic(auto)]
 
+mod ending;
 pub mod laws;
 mod making;
 mod outside;
@@ -8,7 +9,7 @@ mod process;
 mod processes;
 mod step;
 
-pub use making::Stopped;
+pub use ending::Stopped;
 pub use outside::World;
 pub use process::tenure;
 pub use processes::run;

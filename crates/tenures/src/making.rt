@@ -1,12 +1,15 @@
 //! How a process makes its steps.
-ghost use Rattle.std.specs.Prelude.{◌≡◌, ◌++◌, IfOk, OnOk};
+ghost use Rattle.std.specs.Prelude.{◌≡◌, ◌+◌, ◌≤◌, ◌++◌, IfOk, IfErr, OnOk, IsErrOf};
 ghost use Rattle.dep_index.specs.Catalogue.{modules_of};
 ghost use Rattle.line_journal.specs.Device.{AlwaysLeaves};
 ghost use Rattle.line_journal.specs.Lines.{bytes_of, AreLines};
 ghost use Rattle.durable_table.specs.Tables.{opening_of};
 ghost use Rattle.durable_table.specs.Durable.{Stands, FileStands};
+ghost use Rattle.tenures.specs.declared.ending.Stopped.TheVariants.{CutOff, NoTable};
+ghost use Rattle.tenures.specs.Endings.{cut_offs_in, failures_in};
 ghost use Rattle.tenures.specs.Steps.{commands_of, held_of, outcomes_of, HasBegun, IsMade, IsMadeWhole};
 
+use crate::ending::{Stopped, stopped_by};
 use crate::outside::World;
 use crate::step::Step;
 use durable_table::DurableTable;
@@ -15,15 +18,6 @@ use held_table::HeldTable;
 use line_journal::Device;
 use modprobe::Setup;
 use std::alloc::{AllocError, Global};
-
-/// Why a process answers no further line.
-#[derive(Clone, Copy, Debug, PartialEq, Eq)]
-pub enum Stopped {
-    /// It was cut off.
-    CutOff,
-    /// The table was not opened, a line got no reply, or the journal was not rewritten.
-    Failed,
-}
 
 /// The table of a process that has opened nothing yet.
 pub(crate) fn empty_table(alloc: Global, setup: &Setup) -> Result<HeldTable, AllocError>
@@ -42,6 +36,8 @@ fn begin_replies<D: Device, W: World<D>>(
     ensures past { W.past world.new ≡ W.past world.old }
     ensures begun { HasBegun (outcomes_of replies.now) (D.history device.now).now (W.replies world.old) (W.replies world.new) (W.since world.old) (W.since world.new) }
     ensures answered { OnOk result (W.replies world.new ≡ W.replies world.old ++ outcomes_of replies.now) }
+    ensures cut_off { cut_offs_in result + W.cut_offs world.old ≤ W.cut_offs world.new }
+    ensures only_cut_off { IfErr result (λ stopped. stopped ≡ CutOff) }
 {
     for reply in replies {
         if !world.is_alive() {
@@ -68,10 +64,13 @@ fn make_group<D: Device, W: World<D>>(
         (W.replies world.old) (W.replies world.new)) }
     ensures stands { OnOk result (Stands D.content D.history table.old.session.setup.now (held_of table.new.session.holders) table.new.journal) }
     ensures setup { table.new.session.setup ≡ table.old.session.setup }
+    ensures cut_off { cut_offs_in result + W.cut_offs world.old ≤ W.cut_offs world.new }
+    ensures failed { failures_in result + D.faults table.old.journal.device ≤ D.faults table.new.journal.device }
+    ensures found { IsErrOf result NoTable → ⊥ }
 {
     match table.perform_all(alloc, lines) {
         Ok(replies) => begin_replies(table.device(), &replies, world),
-        Err(_) => Err(Stopped::Failed),
+        Err(error) => Err(stopped_by(error)),
     }
 }
 
@@ -87,13 +86,16 @@ fn compact<D: Device>(
     ensures any_moment { AlwaysLeaves (D.history table.old.journal.device) (D.history table.new.journal.device)
         (FileStands table.old.session.setup.now (held_of table.old.session.holders)) }
     ensures session { table.new.session ≡ table.old.session }
+    ensures alive { cut_offs_in result ≡ 0 }
+    ensures failed { failures_in result + D.faults table.old.journal.device ≤ D.faults table.new.journal.device }
+    ensures found { IsErrOf result NoTable → ⊥ }
 {
     let Ok(fresh) = empty_table(alloc, setup) else {
-        return Err(Stopped::Failed);
+        return Err(Stopped::OutOfMemory);
     };
     match table.compact(alloc, fresh) {
         Ok(_) => Ok(()),
-        Err(_) => Err(Stopped::Failed),
+        Err(error) => Err(stopped_by(error)),
     }
 }
 
@@ -115,6 +117,9 @@ pub(crate) fn make<D: Device, W: World<D>>(
         (W.replies world.old) (W.replies world.new)) }
     ensures stands { OnOk result (Stands D.content D.history table.old.session.setup.now (held_of table.new.session.holders) table.new.journal) }
     ensures setup { table.new.session.setup ≡ table.old.session.setup }
+    ensures cut_off { cut_offs_in result + W.cut_offs world.old ≤ W.cut_offs world.new }
+    ensures failed { failures_in result + D.faults table.old.journal.device ≤ D.faults table.new.journal.device }
+    ensures found { IsErrOf result NoTable → ⊥ }
 {
     match step {
         Step::Group(lines) => make_group(alloc, table, lines, world),

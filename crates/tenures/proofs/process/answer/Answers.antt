@@ -1,11 +1,11 @@
-use Rattle.std.proofs.Common.{◌≡◌, refl, sym, ap, subst, ◌∙◌, [], ◌∷◌, ◌++◌, List, ℕ, ◌+◌, drop, Bor}
+use Rattle.std.proofs.Common.{arith, ◌≡◌, refl, sym, ap, subst, ◌∙◌, [], ◌∷◌, ◌++◌, List, ℕ, ◌+◌, drop, Bor}
 use Rattle.modprobe.specs.Setup.{Setup}
 use Rattle.modprobe.specs.Outcomes.{Outcome}
 use Rattle.held_table.specs.Held.{Held}
 use Rattle.durable_table.specs.Durable.{Stands}
 use Rattle.tenures.specs.Steps.{commands_of, groups_of, held_of, IsMade, IsMadeWhole}
 use Rattle.tenures.specs.Kept.{IsKeptSince}
-use Rattle.tenures.proofs.KeptLemmas.{GoesOn, tenure_of, begins, goes_on, answered_all}
+use Rattle.tenures.proofs.KeptLemmas.{GoesOn, Ending, tenure_of, begins, goes_on, answered_all}
 use Rattle.tenures.proofs.MomentLemmas.{idle_since, made_kept, made_since}
 use Rattle.tenures.proofs.StepLemmas.{rest_is, none_left, lines_are}
 use Rattle.tenures.proofs.process.answer.Goals as goal
@@ -23,8 +23,10 @@ loop-step-init g c =
       goes = subst (λ (os : List Outcome). GoesOn s before asked asked os h) none (begins asked c.requires.leads.1);
       stands = c.requires.stands;
       since = c.requires.since;
-      kept = subst (λ (os : List Outcome). IsKeptSince s (before ++ tenure_of asked os ∷ []) (g.D.Device.history c.args.table.now.journal.device) (g.W.World.since c.args.world.now)) none
-          (idle_since s before asked (g.D.Device.history c.args.table.now.journal.device) (g.W.World.since c.args.world.now) c.requires.kept);
+      cut_off = omega arith;
+      failed = omega arith;
+      kept = λ (ended : Ending). subst (λ (os : List Outcome). IsKeptSince s (before ++ tenure_of asked os ended ∷ []) (g.D.Device.history c.args.table.now.journal.device) (g.W.World.since c.args.world.now)) none
+          (idle_since s before asked ended (g.D.Device.history c.args.table.now.journal.device) (g.W.World.since c.args.world.now) c.requires.kept);
     }
 
 pub make-requires-clause-setup : goal.make-requires-clause-setup
@@ -65,7 +67,9 @@ loop-step-preserved g c =
       goes = goes_on goes (subst (λ (v : Setup). IsMadeWhole v h new group replies begun) same c.in_ok-make.ensures.whole);
       stands = subst (λ (v : Setup). Stands g.D.Device.content g.D.Device.history v new c.make.new.table.journal) same c.in_ok-make.ensures.stands;
       since = made_since s group replies begun h old_history new_history since since_new c.loop-step.invariant.since made;
-      kept = made_kept s before asked rest group replies begun h old_history new_history since since_new goes c.loop-step.invariant.since made c.loop-step.invariant.kept;
+      cut_off = omega (arith, c.loop-step.invariant.cut_off, c.make.ensures.cut_off);
+      failed = omega (arith, c.loop-step.invariant.failed, c.make.ensures.failed);
+      kept = λ (ended : Ending). made_kept s before asked rest group replies begun h old_history new_history since since_new goes c.loop-step.invariant.since ended made (c.loop-step.invariant.kept ended);
     }
 
 pub returns-in_err-make-clause-kept : goal.returns-in_err-make-clause-kept
@@ -88,7 +92,7 @@ returns-in_err-make-clause-kept g c =
     c.loop-step.invariant.goes in
     let made : IsMade s h group old_history new_history replies begun since since_new =
     subst (λ (v : Setup). IsMade v h group old_history new_history replies begun since since_new) same c.make.ensures.made in
-    made_kept s before asked rest group replies begun h old_history new_history since since_new goes c.loop-step.invariant.since made c.loop-step.invariant.kept
+    made_kept s before asked rest group replies begun h old_history new_history since since_new goes c.loop-step.invariant.since _ made (c.loop-step.invariant.kept _)
 
 pub returns-clause-answered : goal.returns-clause-answered
 returns-clause-answered g c = answered_all c.loop-step.invariant.goes (none_left c.args.steps.now c.loop-step.step-index c.loop-step-test.false)

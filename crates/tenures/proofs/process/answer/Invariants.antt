@@ -2,7 +2,7 @@ use Rattle.std.proofs.Common.{◌≡◌, ◌≤◌, [], ◌∷◌, ◌++◌, dro
 use Rattle.durable_table.specs.Durable.{Stands}
 use Rattle.tenures.specs.Steps.{groups_of, held_of}
 use Rattle.tenures.specs.Kept.{IsKeptSince}
-use Rattle.tenures.proofs.KeptLemmas.{GoesOn, tenure_of}
+use Rattle.tenures.proofs.KeptLemmas.{GoesOn, Ending, tenure_of}
 use Rattle.tenures.proofs.process.answer.Given as goal
 
 abbrev pub invariant-loop-step : goal.invariant-loop-step
@@ -17,5 +17,7 @@ invariant-loop-step g l =
       goes : GoesOn s before (groups_of l.steps) (groups_of (drop l.step-index l.steps)) begun h;
       stands : Stands g.D.Device.content g.D.Device.history s h l.table.journal;
       since : g.W.World.since l.world ≤ (g.D.Device.history l.table.journal.device).now;
-      kept : IsKeptSince s (before ++ tenure_of (groups_of l.steps) begun ∷ []) (g.D.Device.history l.table.journal.device) (g.W.World.since l.world);
+      cut_off : g.W.World.cut_offs l.fn.world ≤ g.W.World.cut_offs l.world;
+      failed : g.D.Device.faults l.fn.table.journal.device ≤ g.D.Device.faults l.table.journal.device;
+      kept : (ended : Ending) → IsKeptSince s (before ++ tenure_of (groups_of l.steps) begun ended ∷ []) (g.D.Device.history l.table.journal.device) (g.W.World.since l.world);
     }

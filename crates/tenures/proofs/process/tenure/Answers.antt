@@ -1,4 +1,4 @@
-use Rattle.std.proofs.Common.{arith, sym, ap, subst, ◌∙◌, ◌++◌, ◌∷◌, [], List, ℕ}
+use Rattle.std.proofs.Common.{arith, Err, sym, ap, subst, ◌∙◌, ◌++◌, ◌∷◌, [], List, ℕ}
 use Rattle.modprobe.specs.Setup.{Setup}
 use Rattle.held_table.specs.Held.{Held}
 use Rattle.durable_table.specs.Durable.{Stands}
@@ -36,20 +36,20 @@ answer-answered-requires-clause-kept g c =
 pub returns-in-Ok-clause-past : goal.returns-in-Ok-clause-past
 returns-in-Ok-clause-past g c = (
   g.W.World.replies c.answer-answered.new.world,
-  c.next.ensures.past ∙ ap (λ (ts : List Tenure). ts ++ tenure_of (groups_of c.args.steps.now) (g.W.World.replies c.answer-answered.new.world) ∷ []) c.answer-answered.ensures.past,
+  c.next.ensures.past ∙ ap (λ (ts : List Tenure). ts ++ tenure_of (groups_of c.args.steps.now) (g.W.World.replies c.answer-answered.new.world) c.answer-answered.result ∷ []) c.answer-answered.ensures.past,
   c.answer-answered.ensures.answered,
 )
 
 pub returns-in-Ok-clause-kept : goal.returns-in-Ok-clause-kept
 returns-in-Ok-clause-kept g c =
     over_answered c.args.setup.now c.in-Ok.table.session.setup.now (g.W.World.past c.args.world.now) (g.W.World.past c.answer-answered.new.world) (g.W.World.past c.next.new.self)
-    (groups_of c.args.steps.now) (g.W.World.replies c.answer-answered.new.world) (g.D.Device.history c.answer-answered.new.table.journal.device) (g.D.Device.history c.next.result) (g.W.World.since c.answer-answered.new.world)
+    (groups_of c.args.steps.now) c.answer-answered.result (g.W.World.replies c.answer-answered.new.world) (g.D.Device.history c.answer-answered.new.table.journal.device) (g.D.Device.history c.next.result) (g.W.World.since c.answer-answered.new.world)
     c.in-Ok.ensures.setup c.answer-answered.ensures.kept c.answer-answered.ensures.past c.next.ensures.past
     (subst (λ (d : g.row.D.Denot). (left : List ℕ) → (g.D.Device.history c.next.result).leaves left → (g.D.Device.history d).left_since (g.W.World.since c.answer-answered.new.world) left)
     c.into_device.ensures c.next.ensures.left)
 
 pub returns-in-Err-clause-kept : goal.returns-in-Err-clause-kept
 returns-in-Err-clause-kept g c =
-    over_idle c.args.setup.now (g.W.World.past c.args.world.now) (g.W.World.past c.next-in-Err.new.self) (groups_of c.args.steps.now) (g.W.World.replies c.args.world.now)
+    over_idle c.args.setup.now (g.W.World.past c.args.world.now) (g.W.World.past c.next-in-Err.new.self) (groups_of c.args.steps.now) (Err c.in-Err.stopped) (g.W.World.replies c.args.world.now)
     (g.D.Device.content c.args.device) (g.D.Device.history c.args.device) (g.D.Device.history c.in-Err.device) (g.D.Device.history c.next-in-Err.result) (g.W.World.since c.args.world.now)
     (g.met.D.Device.kill_leaves c.args.device) c.requires.kept c.in-Err.ensures.refused c.requires.since c.requires.none c.next-in-Err.ensures.past c.next-in-Err.ensures.left
