@@ -1,2 +1,3 @@
 mod FeedLemmas
+mod InputLemmas
 mod SetupLemmas

@@ -1,5 +1,8 @@
 -- How a run ends that did not do what was asked.
-use Rattle.std.specs.Prelude.{Option, Some, None}
+use Rattle.std.specs.Prelude.{◌≡◌, ℕ, List, codes, ⊤, Option, Some, None}
+use Rattle.std.specs.Borrow.{Bor}
+use Rattle.std.specs.declared.io.ErrorKind.{ErrorKind}
+use Rattle.std.specs.declared.io.ErrorKind.TheVariants as kind
 use Rattle.file_journal.specs.declared.fault.Cause.{Cause}
 use Rattle.file_journal.specs.declared.fault.Cause.TheVariants.{OutOfMemory, NotThere}
 use Rattle.file_journal.specs.declared.fault.FileFault.{FileFault}
@@ -44,6 +47,30 @@ fault_of_cause file cause = fault.File file
 abbrev pub fault_of_file : Option FileFault → TableFault
 fault_of_file None = fault.Journal
 fault_of_file (Some file) = fault_of_cause file file.cause
+
+-- a file for which there was no memory was not refused by the disk
+abbrev pub fault_of_write : Bor (List ℕ) → ErrorKind → TableFault
+fault_of_write name kind.OutOfMemory = fault.OutOfMemory
+fault_of_write name why = fault.Unwritten name why
+
+-- the file of this name was not written, or there was no memory
+abbrev pub IsUnwritten : List ℕ → TableFault → Type 0
+IsUnwritten name fault.OutOfMemory = ⊤
+IsUnwritten name (fault.Unwritten file why) = file.now ≡ name
+IsUnwritten name _ = ⊥
+
+-- the file of this name was not read, or there was no memory: a setup that is not there is no table, and a journal has a fault of its own
+abbrev pub IsUnread : List ℕ → TableFault → Type 0
+IsUnread name fault.OutOfMemory = ⊤
+IsUnread name fault.NoTable = name ≡ codes "setup"
+IsUnread name fault.NoJournal = name ≡ codes "journal"
+IsUnread name (fault.Unread file why) = file.now ≡ name
+IsUnread name _ = ⊥
+
+-- the folder was not made
+abbrev pub IsNoFolder : TableFault → Type 0
+IsNoFolder (fault.NoFolder why) = ⊤
+IsNoFolder _ = ⊥
 
 -- why a run that did not take the lock did not do what was asked
 abbrev pub fault_of_lock : LockError → TableFault

@@ -1,5 +1,8 @@
 //! The file of what was cut off behind a journal's lines.
 
+ghost use Rattle.std.specs.Prelude.{codes, IfErr};
+ghost use Rattle.table_folder.specs.Faults.{IsUnwritten};
+
 use crate::fault::{TableFault, unwritten};
 use crate::shared::{CUT, Shared};
 use std::alloc::AllocError;
@@ -21,7 +24,9 @@ fn add_cut<R: Files<File = File>>(rt: &R, path: &str, behind: &[u8]) -> io::Resu
 pub fn keep_cut<R: Files<File = File> + Clock + AllocGlobal>(
     shared: &Shared<'_, R>,
     behind: &[u8],
-) -> Result<(), TableFault> {
+) -> Result<(), TableFault>
+    ensures { IfErr result (IsUnwritten (codes "journal.cut")) }
+{
     let path = shared.path(CUT)?;
     match add_cut(shared.rt, &path, behind) {
         Ok(()) => Ok(()),

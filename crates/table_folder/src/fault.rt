@@ -1,6 +1,7 @@
 //! Why a run did not do what was asked.
 ghost use Rattle.std.specs.Prelude.{◌≡◌};
-ghost use Rattle.table_folder.specs.Faults.{ending_of_fault, fault_of_file};
+ghost use Rattle.std.specs.IoError.{error_kind};
+ghost use Rattle.table_folder.specs.Faults.{ending_of_fault, fault_of_file, fault_of_write, IsUnwritten};
 
 use crate::setup::SectionsFault;
 use file_journal::{Cause, FileFault, LockError, OpenError, Target};
@@ -128,7 +129,10 @@ impl From<OpenError> for TableFault {
 }
 
 /// A file of the folder was not written.
-pub(crate) fn unwritten(name: &'static str, error: &io::Error) -> TableFault {
+pub(crate) fn unwritten(name: &'static str, error: &io::Error) -> TableFault
+    ensures value { result ≡ fault_of_write name.entry (error_kind error.now) }
+    ensures named { IsUnwritten name.now result }
+{
     match error.kind() {
         ErrorKind::OutOfMemory => TableFault::OutOfMemory,
         kind => TableFault::Unwritten(name, kind),

@@ -1,6 +1,8 @@
 //! The lines of an input, as reads bring them.
-ghost use Rattle.std.specs.Prelude.{◌≡◌, ◌<◌, ◌≤◌, [], ◌∷◌, length, take, IfOk, IfSome, IfNone, OnOk};
+ghost use Rattle.std.specs.Prelude.{◌≡◌, ◌≢◌, ℕ, ◌+◌, ◌-◌, ◌<◌, ◌≤◌, if◌then◌else◌, true, List, [], ◌∷◌, ◌++◌, length, slice_index, take, Ok, Err, IfOk, IfErr, IfSome, IfNone, OnOk, OnErr};
+ghost use Rattle.std.specs.Io.KnownBytes.{Consumes, IsAtEnd, Keeps};
 ghost use Rattle.line_journal.specs.Lines.{IsLine, AreLines, bytes_of};
+ghost use Rattle.table_folder.specs.declared.input.InputFault.TheVariants.{OutOfMemory, Failed};
 
 use memchr::memchr;
 use std::alloc::{AllocError, Global};
@@ -23,8 +25,6 @@ pub enum InputFault {
 }
 
 impl From<AllocError> for InputFault {
-    ghost use Rattle.table_folder.specs.declared.input.InputFault.TheVariants.{OutOfMemory};
-
     ghost from_gives = { λ _ fault. fault ≡ OutOfMemory };
 
     fn from(_: AllocError) -> InputFault {
@@ -43,10 +43,18 @@ pub fn alone(alloc: Global, line: Vec<u8>) -> Result<Vec<Vec<u8>>, AllocError>
     Ok(lines)
 }
 
+/// Room for what a read brings.
+fn room(alloc: Global) -> Result<Vec<u8>, AllocError>
+    ensures { IfOk result (λ room. 0 < length room.items) }
+{
+    vec![in alloc; 0u8; PIECE]
+}
+
 /// Where the first line feed stands.
 fn line_end(bytes: &[u8]) -> Option<usize>
     ensures line { IfSome result (λ len. IsLine (take len bytes.now)) }
     ensures within { IfSome result (λ len. len < length bytes.now) }
+    ensures feed { IfSome result (λ len. slice_index bytes.now len ≡ 10) }
     ensures none { IfNone result (IsLine bytes.now) }
 {
     memchr(b'\n', bytes)
@@ -64,9 +72,14 @@ pub struct InputLines<'i, I> {
 }
 
 impl<'i, I: Read> InputLines<'i, I> {
+    ghost use Rattle.table_folder.specs.InputLines.{brought, is_too_long, text_left, SameInput, IfTold, GoesOn, BringsLines, counted, Counts, CountsTooLong};
+
     /// The lines of this input, of which none was read.
     pub fn new(alloc: Global, input: &'i mut I) -> InputLines<'i, I>
-        ensures { IsLine result.begun.items }
+        ensures begun { IsLine result.begun.items }
+        ensures same_input { result.input.ghost_name ≡ input.entry.ghost_name }
+        ensures text { text_left I.remaining result ≡ I.remaining input.old }
+        ensures too_long { result.too_long ≡ 0 }
     {
         InputLines {
             alloc,
@@ -76,7 +89,7 @@ impl<'i, I: Read> InputLines<'i, I> {
         }
     }
 
-    /// How many lines were too long so far.
+    /// How many lines were too long so far, as far as 64 bits count.
     pub fn too_long(&self) -> u64
         ensures { result ≡ self.now.too_long }
     {
@@ -87,7 +100,10 @@ impl<'i, I: Read> InputLines<'i, I> {
     fn go_on(&mut self, bytes: &[u8]) -> Result<(), AllocError>
         requires begun { IsLine self.old.begun.items }
         requires more { IsLine bytes.now }
-        ensures { OnOk result (IsLine self.new.begun.items) }
+        ensures begun { IsLine self.new.begun.items }
+        ensures added { OnOk result (self.new.begun.items ≡ self.old.begun.items ++ take (65536 - length self.old.begun.items) bytes.now) }
+        ensures input { self.new.input ≡ self.old.input }
+        ensures too_long { self.new.too_long ≡ self.old.too_long }
     {
         let room = (LONGEST + 1).saturating_sub(self.begun.len());
         let count = bytes.len().min(room);
@@ -98,7 +114,11 @@ impl<'i, I: Read> InputLines<'i, I> {
     fn ended(&mut self) -> Result<Vec<u8>, AllocError>
         requires { IsLine self.old.begun.items }
         ensures line { IfOk result (λ line. IsLine line.items) }
+        ensures value { IfOk result (λ line. line.items ≡ brought self.old.begun.items) }
         ensures begun { OnOk result (self.new.begun.items ≡ []) }
+        ensures kept { OnErr result (self.new.begun ≡ self.old.begun) }
+        ensures counted { counted self.new.too_long ≡ counted (self.old.too_long + (if is_too_long self.old.begun.items then 1 else 0)) }
+        ensures input { self.new.input ≡ self.old.input }
     {
         let line = if self.begun.len() > LONGEST {
             self.too_long = self.too_long.saturating_add(1);
@@ -114,8 +134,12 @@ impl<'i, I: Read> InputLines<'i, I> {
     fn end_line(&mut self, lines: &mut Vec<Vec<u8>>) -> Result<(), AllocError>
         requires begun { IsLine self.old.begun.items }
         requires lines { AreLines (bytes_of lines.old.items) }
+        ensures line { IsLine self.new.begun.items }
         ensures begun { OnOk result (self.new.begun.items ≡ []) }
         ensures lines { OnOk result (AreLines (bytes_of lines.new.items)) }
+        ensures added { OnOk result (bytes_of lines.new.items ≡ bytes_of lines.old.items ++ brought self.old.begun.items ∷ []) }
+        ensures counted { counted self.new.too_long ≡ counted (self.old.too_long + (if is_too_long self.old.begun.items then 1 else 0)) }
+        ensures input { self.new.input ≡ self.old.input }
     {
         let line = self.ended()?;
         lines.push(line)?;
@@ -126,8 +150,13 @@ impl<'i, I: Read> InputLines<'i, I> {
     fn take(&mut self, bytes: &[u8], lines: &mut Vec<Vec<u8>>) -> Result<(), AllocError>
         requires begun { IsLine self.old.begun.items }
         requires lines { AreLines (bytes_of lines.old.items) }
-        ensures begun { OnOk result (IsLine self.new.begun.items) }
+        ensures begun { IsLine self.new.begun.items }
         ensures lines { OnOk result (AreLines (bytes_of lines.new.items)) }
+        ensures goes_on { OnOk result ((rest : List ℕ) → GoesOn (bytes_of lines.old.items) (bytes_of lines.new.items)
+            (self.old.begun.items ++ (bytes.now ++ rest)) (self.new.begun.items ++ rest)) }
+        ensures counted { OnOk result ((rest : List ℕ) → Counts self.old.too_long self.new.too_long
+            (self.old.begun.items ++ (bytes.now ++ rest)) (self.new.begun.items ++ rest)) }
+        ensures input { self.new.input ≡ self.old.input }
     {
         let mut rest = bytes;
         while let Some(at) = line_end(rest) {
@@ -141,9 +170,17 @@ impl<'i, I: Read> InputLines<'i, I> {
 
     /// Reads once. An interrupted read is made again.
     fn read_piece(&mut self, piece: &mut [u8]) -> Result<usize, InputFault>
-        requires { IsLine self.old.begun.items }
+        requires begun { IsLine self.old.begun.items }
+        requires room { 0 < length piece.old }
         ensures within { IfOk result (λ count. count ≤ length piece.new) }
-        ensures begun { OnOk result (IsLine self.new.begun.items) }
+        ensures room { length piece.new ≡ length piece.old }
+        ensures begun { self.new.begun ≡ self.old.begun }
+        ensures too_long { self.new.too_long ≡ self.old.too_long }
+        ensures same_input { SameInput self.old self.new }
+        ensures bytes { IfOk result (λ count. Consumes (I.remaining self.old.input.now) (I.remaining self.new.input.now) (take count piece.new)) }
+        ensures end { result ≡ Ok 0 → IsAtEnd (I.remaining self.new.input.now) }
+        ensures kept { OnErr result (Keeps (I.remaining self.old.input.now) (I.remaining self.new.input.now)) }
+        ensures failed { IfErr result (λ fault. fault ≡ Failed) }
     {
         for _ in 0..u64::MAX {
             match self.input.read(piece) {
@@ -159,8 +196,17 @@ impl<'i, I: Read> InputLines<'i, I> {
     fn read_lines(&mut self, piece: &mut [u8], lines: &mut Vec<Vec<u8>>) -> Result<bool, InputFault>
         requires begun { IsLine self.old.begun.items }
         requires lines { AreLines (bytes_of lines.old.items) }
-        ensures begun { OnOk result (IsLine self.new.begun.items) }
+        requires room { 0 < length piece.old }
+        ensures begun { IsLine self.new.begun.items }
         ensures lines { OnOk result (AreLines (bytes_of lines.new.items)) }
+        ensures room { length piece.new ≡ length piece.old }
+        ensures same_input { SameInput self.old self.new }
+        ensures goes_on { OnOk result (IfTold (text_left I.remaining self.old) (text_left I.remaining self.new)
+            (GoesOn (bytes_of lines.old.items) (bytes_of lines.new.items))) }
+        ensures counted { OnOk result (CountsTooLong (text_left I.remaining self.old) (text_left I.remaining self.new) self.old.too_long self.new.too_long) }
+        ensures end { result ≡ Ok true → IsAtEnd (text_left I.remaining self.new) }
+        ensures failed { result ≡ Err Failed → Keeps (text_left I.remaining self.old) (text_left I.remaining self.new) }
+        ensures failed_count { result ≡ Err Failed → self.new.too_long ≡ self.old.too_long }
     {
         let count = self.read_piece(piece)?;
         if count > 0 {
@@ -174,20 +220,31 @@ impl<'i, I: Read> InputLines<'i, I> {
     }
 
     /// The lines that the next reads bring, or none at the end of the input. A last line needs no end. A line that is too long
-    /// stands there as `too-long`. `Failed` if the input cannot be read: what was read of a line is kept.
+    /// stands there as `too-long`. `Failed` if the input cannot be read: what was read of a line is kept. After `OutOfMemory`
+    /// nothing is said of the lines that are to come.
     pub fn next_lines(&mut self) -> Result<Vec<Vec<u8>>, InputFault>
         requires { IsLine self.old.begun.items }
-        ensures begun { OnOk result (IsLine self.new.begun.items) }
+        ensures begun { IsLine self.new.begun.items }
+        ensures same_input { SameInput self.old self.new }
         ensures lines { IfOk result (λ lines. AreLines (bytes_of lines.items)) }
+
+        // They are the next lines of the input, in order. There are none only if none is left.
+        ensures brings { IfOk result (λ lines. BringsLines (text_left I.remaining self.old) (text_left I.remaining self.new) (bytes_of lines.items)) }
+        ensures end { IfOk result (λ lines. lines.items ≡ [] → IsAtEnd (text_left I.remaining self.new)) }
+
+        // If the input fails, all lines are still to come.
+        ensures failed { result ≡ Err Failed → BringsLines (text_left I.remaining self.old) (text_left I.remaining self.new) [] }
+        ensures counted { result ≢ Err OutOfMemory →
+            CountsTooLong (text_left I.remaining self.old) (text_left I.remaining self.new) self.old.too_long self.new.too_long }
     {
         let mut lines = Vec::new(self.alloc);
-        let mut piece = vec![in self.alloc; 0u8; PIECE]?;
+        let mut piece = room(self.alloc)?;
         for _ in 0..u64::MAX {
             let has_ended = self.read_lines(&mut piece, &mut lines)?;
             if has_ended || !lines.is_empty() {
                 return Ok(lines);
             }
         }
-        Ok(lines)
+        Err(InputFault::Failed)
     }
 }

@@ -1,5 +1,6 @@
 //! The setup of a new table: how it is made, and how it is written.
-ghost use Rattle.std.specs.Prelude.{IfOk};
+ghost use Rattle.std.specs.Prelude.{codes, IfOk, IfErr};
+ghost use Rattle.table_folder.specs.Faults.{IsNoFolder, IsUnwritten};
 ghost use Rattle.table_folder.specs.Setups.{IsNewSetup};
 
 use crate::fault::{TableFault, unwritten};
@@ -66,7 +67,9 @@ pub fn new_setup<R: Files + Env + AllocGlobal, E: Write>(
 }
 
 /// Makes a folder, if there is none of this path. `NoFolder` with the cause if it cannot be made.
-pub fn make_folder<R: Files>(rt: &R, folder: &str) -> Result<(), TableFault> {
+pub fn make_folder<R: Files>(rt: &R, folder: &str) -> Result<(), TableFault>
+    ensures { IfErr result IsNoFolder }
+{
     if is_folder(rt, folder) {
         return Ok(());
     }
@@ -105,7 +108,9 @@ fn put_setup<R: Files<File = File> + Clock + AllocGlobal>(
 pub fn write_setup<R: Files<File = File> + Clock + AllocGlobal>(
     shared: &Shared<'_, R>,
     bytes: &[u8],
-) -> Result<(), TableFault> {
+) -> Result<(), TableFault>
+    ensures { IfErr result (IsUnwritten (codes "setup")) }
+{
     match put_setup(shared, bytes) {
         Ok(()) => Ok(()),
         Err(error) => Err(unwritten(SETUP, &error)),

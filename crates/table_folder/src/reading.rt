@@ -1,5 +1,6 @@
 //! How the files of a folder are read.
-ghost use Rattle.std.specs.Prelude.{ℕ, List, IfOk};
+ghost use Rattle.std.specs.Prelude.{ℕ, List, codes, IfOk, IfErr};
+ghost use Rattle.table_folder.specs.Faults.{IsUnread};
 ghost use Rattle.table_folder.specs.Setups.{IsReadFrom};
 
 use crate::alias_form::form_for;
@@ -39,7 +40,9 @@ fn read_path<R: Files<File = File> + AllocGlobal>(rt: &R, path: &str) -> io::Res
 fn read_file<R: Files<File = File> + Clock + AllocGlobal>(
     shared: &Shared<'_, R>,
     name: &'static str,
-) -> Result<Vec<u8>, TableFault> {
+) -> Result<Vec<u8>, TableFault>
+    ensures { IfErr result (IsUnread name.now) }
+{
     let path = shared.path(name)?;
     match read_path(shared.rt, &path) {
         Ok(bytes) => Ok(bytes),
@@ -55,7 +58,9 @@ fn read_file<R: Files<File = File> + Clock + AllocGlobal>(
 /// All bytes of the folder's journal. `NoJournal` if there is none, and `Unread` with the cause if it cannot be read.
 pub fn read_journal<R: Files<File = File> + Clock + AllocGlobal>(
     shared: &Shared<'_, R>,
-) -> Result<Vec<u8>, TableFault> {
+) -> Result<Vec<u8>, TableFault>
+    ensures { IfErr result (IsUnread (codes "journal")) }
+{
     read_file(shared, JOURNAL)
 }
 

@@ -1,5 +1,9 @@
 //! Files that are read are regular files.
 
+ghost use Rattle.std.specs.Prelude.{◌≡◌, ◌⊎◌, IfErr};
+ghost use Rattle.table_words.specs.declared.ending.Ending.TheVariants.{Unasked};
+ghost use Rattle.table_folder.specs.declared.fault.TableFault.TheVariants.{OutOfMemory, Told};
+
 use crate::fault::TableFault;
 use crate::shared::{CUT, JOURNAL, SETUP, Shared};
 use crate::teller::Teller;
@@ -21,7 +25,9 @@ pub(crate) fn is_other_than_file<R: Files>(rt: &R, path: &str) -> bool {
 pub fn refuse_others<R: Files<File = File> + Clock + AllocGlobal, E: Write>(
     shared: &Shared<'_, R>,
     teller: &mut Teller<'_, E>,
-) -> Result<(), TableFault> {
+) -> Result<(), TableFault>
+    ensures { IfErr result (λ fault. (fault ≡ OutOfMemory) ⊎ (fault ≡ Told Unasked)) }
+{
     for name in &FILES {
         if is_other_than_file(shared.rt, &shared.path(*name)?) {
             return Err(teller.other_than_file(shared.folder, *name));

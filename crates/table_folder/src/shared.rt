@@ -1,5 +1,7 @@
 //! The folder of a table, and how a run uses it.
 
+ghost use Rattle.std.specs.Prelude.{◌≡◌, ◌++◌, codes, string_bytes, IfOk};
+
 use file_journal::{FolderLock, LockError, LockKind, Syncs};
 use std::alloc::{AllocError, Global};
 use std::fs::{self, File};
@@ -32,7 +34,9 @@ impl<R: Files<File = File> + Clock + AllocGlobal> Shared<'_, R> {
     }
 
     /// The path of a file in the folder.
-    pub(crate) fn path(&self, name: &str) -> Result<String, AllocError> {
+    pub(crate) fn path(&self, name: &str) -> Result<String, AllocError>
+        ensures { IfOk result (λ path. string_bytes path ≡ self.now.folder.now ++ codes "/" ++ name.now) }
+    {
         let folder = self.folder;
         format!(in self.rt.alloc(); "{folder}/{name}")
     }

@@ -45,12 +45,17 @@ fn unwritten_for(kind: ErrorKind) -> &'static str {
 
 impl<'e, E: Write> Teller<'e, E> {
     /// Tells people on this stream.
-    pub fn new(errors: &'e mut E) -> Teller<'e, E> {
+    pub fn new(errors: &'e mut E) -> Teller<'e, E>
+        ensures same_stream { result.errors.ghost_name ≡ errors.entry.ghost_name }
+        ensures stream { result.errors.now ≡ errors.old }
+    {
         Teller { errors }
     }
 
     /// The stream itself.
-    pub fn errors(&mut self) -> &mut E {
+    pub fn errors(&mut self) -> &mut E
+        ensures { result.now ≡ self.old.errors.now }
+    {
         self.errors
     }
 
@@ -73,7 +78,9 @@ impl<'e, E: Write> Teller<'e, E> {
     }
 
     /// A path that the words name is no regular file.
-    pub(crate) fn no_file(&mut self, path: &str) -> TableFault {
+    pub(crate) fn no_file(&mut self, path: &str) -> TableFault
+        ensures { result ≡ Told ending.Unasked }
+    {
         let _ = writeln!(
             self.errors,
             "gz-table: {path} is no regular file: name one, or give its lines on standard input, for -"
@@ -82,7 +89,9 @@ impl<'e, E: Write> Teller<'e, E> {
     }
 
     /// A file does not list a kernel's modules.
-    pub(crate) fn no_listing(&mut self, fault: KernelFault) -> TableFault {
+    pub(crate) fn no_listing(&mut self, fault: KernelFault) -> TableFault
+        ensures { result ≡ Told ending.Unasked }
+    {
         let _ = writeln!(
             self.errors,
             "gz-table: these are no lines of /proc/modules: {fault}; nothing was done"
@@ -91,7 +100,9 @@ impl<'e, E: Write> Teller<'e, E> {
     }
 
     /// The folder has something else in the place of one of its files.
-    pub(crate) fn other_than_file(&mut self, folder: &str, name: &str) -> TableFault {
+    pub(crate) fn other_than_file(&mut self, folder: &str, name: &str) -> TableFault
+        ensures { result ≡ Told ending.Unasked }
+    {
         let _ = writeln!(
             self.errors,
             "gz-table: {folder}/{name} is no regular file, and nothing was done: restore it, or make the table in another folder"
@@ -100,7 +111,9 @@ impl<'e, E: Write> Teller<'e, E> {
     }
 
     /// What stood behind the journal's lines is cut off.
-    pub fn repaired(&mut self, folder: &str, cut: &Found) {
+    pub fn repaired(&mut self, folder: &str, cut: &Found)
+        ensures { self.new.errors.ghost_name ≡ self.old.errors.ghost_name }
+    {
         let (lines, bytes) = (cut.open_gates_behind(), cut.behind.len());
         let _ = writeln!(
             self.errors,
@@ -108,8 +121,11 @@ impl<'e, E: Write> Teller<'e, E> {
         );
     }
 
-    /// So many bytes behind the journal's lines are cut off.
-    pub fn cut(&mut self, folder: &str, bytes: usize) {
+    /// So many bytes behind the journal's lines are cut off. If there are none, nothing is told.
+    pub fn cut(&mut self, folder: &str, bytes: usize)
+        ensures same_stream { self.new.errors.ghost_name ≡ self.old.errors.ghost_name }
+        ensures silent { bytes ≡ 0 → self.new ≡ self.old }
+    {
         if bytes > 0 {
             let _ = writeln!(
                 self.errors,
@@ -129,8 +145,11 @@ impl<'e, E: Write> Teller<'e, E> {
         TableFault::Told(Ending::Fault)
     }
 
-    /// So many lines were too long.
-    pub fn too_long(&mut self, lines: u64) {
+    /// So many lines were too long. If none was, nothing is told.
+    pub fn too_long(&mut self, lines: u64)
+        ensures same_stream { self.new.errors.ghost_name ≡ self.old.errors.ghost_name }
+        ensures silent { lines ≡ 0 → self.new ≡ self.old }
+    {
         if lines > 0 {
             let _ = writeln!(
                 self.errors,
