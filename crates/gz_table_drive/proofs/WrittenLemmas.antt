@@ -22,7 +22,7 @@ use Rattle.gz_table_drive.specs.declared.answering.Replies.{Replies}
 use Rattle.table_folder.specs.Endings.{ending_of_outcome}
 use Rattle.gz_table_drive.specs.Answers.{HasAnsweredOver}
 use Rattle.table_folder.specs.Setups.{IsReadFrom}
-use Rattle.gz_table_drive.specs.Written.{first_ending, AreAnswersTo, AreWritten, IsWritten}
+use Rattle.gz_table_drive.specs.Written.{first_ending, AreAnswersTo, AreWritten, IsWritten, WritesReplies}
 use Rattle.table_folder.specs.declared.folder_setup.FolderSetup.{FolderSetup}
 use Rattle.gz_table_drive.proofs.AnswerLemmas.{after_more, texts_more}
 
@@ -73,24 +73,40 @@ ends_more (ending ∷ first) second = at (is_refusal ending) refl (ends_more fir
 pub none_written : (s : Setup) (contents : Option (List ℕ)) → AreWritten s [] contents contents Done
 none_written s contents = record { replies = []; answers = tt; text = Appends-nil contents; ends = refl }
 
--- the replies of one tenure behind those of others
-pub written_more : (s : Setup) (front group : List (List ℕ)) (old mid new : Option (List ℕ)) (ending : Ending) (none replies : Replies)
-    → none.text.items ≡ [] → none.endings.items ≡ [] → AreWritten s front old mid ending → HasAnsweredOver s group none replies → Appends mid new replies.text.items
-    → AreWritten s (front ++ group) old new (behind ending (ending_of_lines replies.endings.items))
-written_more s front group old mid new ending none replies no_text no_endings before over appends =
-    let more = replies_of s over.held group in
+-- the replies of one tenure
+pub tenure_written : (s : Setup) (lines : List (List ℕ)) (old new : Option (List ℕ)) (none replies : Replies)
+    → none.text.items ≡ [] → none.endings.items ≡ [] → HasAnsweredOver s lines none replies → Appends old new replies.text.items
+    → AreWritten s lines old new (ending_of_lines replies.endings.items)
+tenure_written s lines old new none replies no_text no_endings over appends =
+    let more = replies_of s over.held lines in
     let text : replies.text.items ≡ flat_map text_of more = over.answered.text ∙ ap (λ text. text ++ flat_map text_of more) no_text in
     let ends : replies.endings.items ≡ map ending_of_outcome more = over.answered.endings ∙ ap (λ ends. ends ++ map ending_of_outcome more) no_endings in
     record {
-      replies = before.replies ++ more;
-      answers = answers_more s front group before.replies more before.answers (answers_over s over.held over.file group over.stands);
-      text = subst (Appends old new) (sym (texts_more before.replies more))
-          (Appends-trans old mid new (flat_map text_of before.replies) (flat_map text_of more) before.text (subst (Appends mid new) text appends));
-      ends = ap (λ e. behind e (ending_of_lines replies.endings.items)) before.ends
-          ∙ ap (λ e. behind (ending_of_lines (map ending_of_outcome before.replies)) (ending_of_lines e)) ends
-          ∙ sym (ends_more (map ending_of_outcome before.replies) (map ending_of_outcome more))
-          ∙ ap ending_of_lines (sym (map-append ending_of_outcome before.replies more));
+      replies = more;
+      answers = answers_over s over.held over.file lines over.stands;
+      text = subst (Appends old new) text appends;
+      ends = ap ending_of_lines ends;
     }
+
+-- the replies to some lines behind those to others
+pub written_more : (s : Setup) (front group : List (List ℕ)) (old mid new : Option (List ℕ)) (ending next : Ending)
+    → AreWritten s front old mid ending → AreWritten s group mid new next → AreWritten s (front ++ group) old new (behind ending next)
+written_more s front group old mid new ending next before more =
+    record {
+      replies = before.replies ++ more.replies;
+      answers = answers_more s front group before.replies more.replies before.answers more.answers;
+      text = subst (Appends old new) (sym (texts_more before.replies more.replies))
+          (Appends-trans old mid new (flat_map text_of before.replies) (flat_map text_of more.replies) before.text more.text);
+      ends = ap (λ e. behind e next) before.ends
+          ∙ ap (behind (ending_of_lines (map ending_of_outcome before.replies))) more.ends
+          ∙ sym (ends_more (map ending_of_outcome before.replies) (map ending_of_outcome more.replies))
+          ∙ ap ending_of_lines (sym (map-append ending_of_outcome before.replies more.replies));
+    }
+
+-- the replies to some lines more
+pub replies_more : (s : Setup) (group : List (List ℕ)) (old mid new : Option (List ℕ)) (ending next : Ending)
+    → WritesReplies s old mid ending → AreWritten s group mid new next → WritesReplies s old new (behind ending next)
+replies_more s group old mid new ending next (front, before) more = (front ++ group, written_more s front group old mid new ending next before more)
 
 -- the reply to one line
 pub line_written : (file : List ℕ) (found : FolderSetup) (line : List ℕ) (lines : List (List ℕ)) (old new : Option (List ℕ)) (none replies : Replies) (ending : Ending)
@@ -138,7 +154,8 @@ turn_more s lines rest behind_it old mid new ending none replies count (before, 
       omega (arith, within, below, long),
       behind_is ∙ ap (drop count) rest_is ∙ drop-drop count before lines,
       subst (λ answered. AreWritten s answered old new (behind ending (ending_of_lines replies.endings.items))) all
-          (written_more s front group old mid new ending none replies no_text no_endings written over appends),
+          (written_more s front group old mid new ending (ending_of_lines replies.endings.items) written
+          (tenure_written s group mid new none replies no_text no_endings over appends)),
     )
 
 -- no line is left

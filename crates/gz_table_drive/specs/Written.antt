@@ -45,3 +45,7 @@ pub record AreWritten (s : Setup) (lines : List (List ℕ)) (old new : Option (L
   pub answers : AreAnswersTo s lines replies
   pub text : Appends old new (flat_map text_of replies)
   pub ends : ending ≡ ending_of_lines (map ending_of_outcome replies)
+
+-- What is written is the replies to some lines, and they end together so.
+abbrev pub WritesReplies : Setup → Option (List ℕ) → Option (List ℕ) → Ending → Type 0
+WritesReplies s old new ending = (lines : List (List ℕ)) × AreWritten s lines old new ending

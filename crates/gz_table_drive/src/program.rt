@@ -1,12 +1,15 @@
 //! The program over any words and streams.
-ghost use Rattle.std.specs.Prelude.{◌≡◌, ◌+◌, ◌≤◌, [], ◌∷◌, drop, length, IfOk, OnOk};
+ghost use Rattle.std.specs.Prelude.{◌≡◌, ◌+◌, ◌≤◌, [], ◌∷◌, ◌↔◌, drop, length, IfOk, IfErr, IfNone, IfSome, IsNone, IsTrue, OnOk, OnErr, OnSome};
 ghost use Rattle.std.specs.Io.KnownBytes.{Appends};
 ghost use Rattle.text_parts.specs.Text.{texts_of};
 ghost use Rattle.line_journal.specs.Lines.{AreLines, bytes_of};
+ghost use Rattle.table_words.specs.Asked.{asked, asked_view, job_view};
 ghost use Rattle.table_words.specs.Endings.{number_of};
 ghost use Rattle.table_words.specs.Lines.{line_of};
+ghost use Rattle.table_words.specs.Options.{stop_of, text_of};
 ghost use Rattle.table_words.specs.declared.ending.Ending.{Ending as AnyEnding};
-ghost use Rattle.gz_table_drive.specs.Written.{first_ending, AreWritten, IsWritten};
+ghost use Rattle.gz_table_drive.specs.Ended.{HasSecondFolder, HasSlash, IsMisplaced, IsNoFolder, IsRun, IsRunOf, IsShown, IsStopped, IsUnasked};
+ghost use Rattle.gz_table_drive.specs.Written.{first_ending, AreWritten, IsWritten, WritesReplies};
 
 use crate::adopt::adopt;
 use crate::answering::Replies;
@@ -35,7 +38,8 @@ use table_words::{Asked, Ending, HELP, Job, Stop, VERSION, line_of, read_words};
 
 /// Writes a text, and waits until the stream has it.
 fn write_whole<O: Write>(text: &[u8], output: &mut O) -> Result<(), TableFault>
-    ensures { OnOk result (Appends (O.contents output.old) (O.contents output.new) text.now) }
+    ensures written { OnOk result (Appends (O.contents output.old) (O.contents output.new) text.now) }
+    ensures failed { IfErr result (λ fault. fault ≡ TableFault.Output) }
 {
     if output.write_all(text).is_err() || output.flush().is_err() {
         return Err(TableFault::Output);
@@ -128,7 +132,10 @@ fn answer_input<'s, 'r, R: Files<File = File> + Clock + AllocGlobal, I: Read, O:
     input: &mut I,
     output: &mut O,
     teller: &mut Teller<'_, E>,
-) -> Result<Ending, TableFault> {
+) -> Result<Ending, TableFault>
+    ensures written { IfOk result (WritesReplies kept.old.setup.now.setup (O.contents output.old) (O.contents output.new)) }
+    ensures setup { kept.new.setup.now ≡ kept.old.setup.now }
+{
     let mut reader = InputLines::new(shared.alloc(), input);
     let mut ending = Ending::Done;
     for _ in 0..u64::MAX {
@@ -198,20 +205,73 @@ fn perform<R: Files<File = File> + Env + Clock + AllocGlobal, I: Read, O: Write,
     }
 }
 
-/// Does what is asked, and tells why if it is not done.
+/// The path of a folder, if it is one: UTF-8, and not empty.
+fn folder_path(bytes: &[u8]) -> Option<&str>
+    ensures path { IfSome result (λ path. path.now ≡ bytes.now) }
+    ensures none { IsNone result ↔ IsNoFolder bytes.now }
+{
+    match str::from_utf8(bytes) {
+        Ok(path) if !path.is_empty() => Some(path),
+        _ => None,
+    }
+}
+
+/// Whether a slash stands in a word.
+fn has_slash(word: &[u8]) -> bool
+    ensures { IsTrue result ↔ HasSlash word.now }
+{
+    memchr(b'/', word).is_some()
+}
+
+/// The word of a folder that stands in the place of a command, since GZ_TABLE names the folder. No command has a slash.
+fn second_folder<'a>(table: Option<&[u8]>, asked: &Asked<'_, 'a>) -> Option<&'a [u8]>
+    ensures some { OnSome result (HasSecondFolder (text_of table.entry) (job_view asked.now.job)) }
+    ensures none { IfNone result (¬ HasSecondFolder (text_of table.entry) (job_view asked.now.job)) }
+{
+    let Job::Command([first, ..]) = asked.job else {
+        return None;
+    };
+    if table.is_none() || !has_slash(*first) {
+        return None;
+    }
+    Some(*first)
+}
+
+/// The path of the folder that words name. Tells why if they name none, or two.
+fn asked_folder<'a, E: Write>(
+    table: Option<&[u8]>,
+    asked: &Asked<'_, 'a>,
+    teller: &mut Teller<'_, E>,
+) -> Result<&'a str, TableFault>
+    ensures ok { OnOk result (¬ IsMisplaced (text_of table.entry) (asked_view asked.now)) }
+    ensures err { OnErr result (IsMisplaced (text_of table.entry) (asked_view asked.now)) }
+    ensures told { IfErr result (λ fault. fault ≡ TableFault.Told Ending.Unasked) }
+{
+    if let Some(word) = second_folder(table, asked) {
+        let advice = "GZ_TABLE is set and names the folder, so no word does";
+        return Err(teller.say("bad command", word, advice));
+    }
+    let Some(folder) = folder_path(asked.folder) else {
+        let advice = "the path of a folder is UTF-8, and not empty";
+        return Err(teller.say("bad folder", asked.folder, advice));
+    };
+    Ok(folder)
+}
+
+/// Does what is asked, and tells why if it is not done. Of words that name no folder, or two, nothing is written: status 2.
 fn answer_asked<R: Files<File = File> + Env + Clock + AllocGlobal, I: Read, O: Write, E: Write>(
     rt: &R,
+    table: Option<&[u8]>,
     asked: &Asked<'_, '_>,
     input: &mut I,
     output: &mut O,
     teller: &mut Teller<'_, E>,
-) -> Ending {
-    let folder = match str::from_utf8(asked.folder) {
-        Ok(folder) if !folder.is_empty() => folder,
-        _ => {
-            let advice = "the path of a folder is UTF-8, and not empty";
-            return teller.say("bad folder", asked.folder, advice).ending();
-        }
+) -> Ending
+    ensures { IsMisplaced (text_of table.entry) (asked_view asked.now) → IsUnasked (O.contents output.old) (O.contents output.new) result }
+{
+    let folder = match asked_folder(table, asked, teller) {
+        Ok(folder) => folder,
+        Err(fault) => return fault.ending(),
     };
     let shared = Shared {
         rt,
@@ -229,7 +289,56 @@ fn answer_asked<R: Files<File = File> + Env + Clock + AllocGlobal, I: Read, O: W
     }
 }
 
-fn slices(alloc: Global, words: &[Vec<u8>]) -> Result<Vec<&[u8]>, AllocError> {
+/// Writes a text that was asked for in the place of work. The status is 0, or 3 if the output failed.
+fn tell_text<O: Write, E: Write>(text: &[u8], output: &mut O, teller: &mut Teller<'_, E>) -> Ending
+    ensures { IsShown text.now (O.contents output.old) (O.contents output.new) result }
+{
+    match write_whole(text, output) {
+        Ok(()) => Ending::Done,
+        Err(fault) => teller.end("", 0, fault),
+    }
+}
+
+/// Ends a run whose words ask for no work. Help and the version are written, with status 0, or 3 if the output failed. Of words
+/// that are refused nothing is written, and people are told why, with status 2.
+fn tell_stop<O: Write, E: Write>(
+    stop: Stop<'_>,
+    output: &mut O,
+    teller: &mut Teller<'_, E>,
+) -> Ending
+    ensures { IsStopped (stop_of stop.entry) (O.contents output.old) (O.contents output.new) result }
+{
+    match stop {
+        Stop::Help => tell_text(HELP, output, teller),
+        Stop::Version => tell_text(VERSION, output, teller),
+        Stop::Refused(fault) => {
+            tell_fault(fault, teller.errors());
+            Ending::Unasked
+        }
+    }
+}
+
+/// Does what the words ask for, by the text of GZ_TABLE.
+fn run_words<R: Files<File = File> + Env + Clock + AllocGlobal, I: Read, O: Write, E: Write>(
+    rt: &R,
+    words: &[&[u8]],
+    table: Option<&[u8]>,
+    input: &mut I,
+    output: &mut O,
+    teller: &mut Teller<'_, E>,
+) -> Ending
+    ensures { IsRunOf (asked (text_of table.entry) (texts_of words.entry.now)) (text_of table.entry) (O.contents output.old) (O.contents output.new) result }
+{
+    match read_words(table, words) {
+        Ok(asked) => answer_asked(rt, table, &asked, input, output, teller),
+        Err(stop) => tell_stop(stop, output, teller),
+    }
+}
+
+/// The words as slices.
+fn slices(alloc: Global, words: &[Vec<u8>]) -> Result<Vec<&[u8]>, AllocError>
+    ensures { IfOk result (λ slices. texts_of slices.items ≡ bytes_of words.entry.now) }
+{
     let mut slices = Vec::new(alloc);
     for word in words {
         slices.push(word.as_slice())?;
@@ -237,30 +346,9 @@ fn slices(alloc: Global, words: &[Vec<u8>]) -> Result<Vec<&[u8]>, AllocError> {
     Ok(slices)
 }
 
-/// Writes a text that was asked for in the place of work.
-fn tell_text<O: Write, E: Write>(
-    text: &[u8],
-    output: &mut O,
-    teller: &mut Teller<'_, E>,
-) -> Ending {
-    match write_whole(text, output) {
-        Ok(()) => Ending::Done,
-        Err(fault) => teller.end("", 0, fault),
-    }
-}
-
-/// The word of a folder that stands in the place of a command, since GZ_TABLE names the folder. No command has a slash.
-fn second_folder<'a>(table: Option<&[u8]>, asked: &Asked<'_, 'a>) -> Option<&'a [u8]> {
-    let Job::Command([first, ..]) = asked.job else {
-        return None;
-    };
-    if table.is_none() || memchr(b'/', *first).is_none() {
-        return None;
-    }
-    Some(*first)
-}
-
-/// Runs the program on its words and the text of GZ_TABLE. Returns the status.
+/// Runs the program on its words and the text of GZ_TABLE. Returns the status: 0 once help or the version is written; 2 if
+/// words are refused, or name no folder or two, and nothing is written then; 3 if memory ran out or the output failed. The
+/// status of work that is done is that of its replies.
 pub fn drive<R: Files<File = File> + Env + Clock + AllocGlobal, I: Read, O: Write, E: Write>(
     rt: &R,
     words: &[Vec<u8>],
@@ -269,26 +357,12 @@ pub fn drive<R: Files<File = File> + Env + Clock + AllocGlobal, I: Read, O: Writ
     output: &mut O,
     errors: &mut E,
 ) -> u8
-    ensures { (ending : AnyEnding) × (result ≡ number_of ending) }
+    ensures { (ending : AnyEnding) × (result ≡ number_of ending)
+        × IsRun (bytes_of words.entry.now) (text_of table.entry) (O.contents output.old) (O.contents output.new) ending }
 {
     let mut teller = Teller::new(errors);
     let Ok(words) = slices(rt.alloc(), words) else {
         return teller.end("", 0, TableFault::OutOfMemory).number();
     };
-    let ending = match read_words(table, &words) {
-        Ok(asked) => match second_folder(table, &asked) {
-            Some(word) => {
-                let advice = "GZ_TABLE is set and names the folder, so no word does";
-                teller.say("bad command", word, advice).ending()
-            }
-            None => answer_asked(rt, &asked, input, output, &mut teller),
-        },
-        Err(Stop::Refused(fault)) => {
-            tell_fault(fault, teller.errors());
-            Ending::Unasked
-        }
-        Err(Stop::Help) => tell_text(HELP, output, &mut teller),
-        Err(Stop::Version) => tell_text(VERSION, output, &mut teller),
-    };
-    ending.number()
+    run_words(rt, &words, table, input, output, &mut teller).number()
 }

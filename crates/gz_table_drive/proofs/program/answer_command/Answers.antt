@@ -22,5 +22,5 @@ returns g c =
     c.new-replies.ensures.text c.new-replies.ensures.endings
     (subst (λ (f : FolderSetup). HasAnsweredOver f.setup (take count (bytes_of lines)) c.new-replies.result c.answer_in_tenure.new.replies)
     (c.new.ensures ∙ c.deref.ensures) c.in_ok-answer_in_tenure.ensures.answered)
-    (subst (Appends (g.O.Write.contents c.args.output.now) (g.O.Write.contents c.write_whole.new.output)) c.deref-3.ensures.value c.in_ok-write_whole.ensures)
+    (subst (Appends (g.O.Write.contents c.args.output.now) (g.O.Write.contents c.write_whole.new.output)) c.deref-3.ensures.value c.in_ok-write_whole.ensures.written)
     c.first_ending.ensures

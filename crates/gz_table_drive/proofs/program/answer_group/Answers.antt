@@ -22,6 +22,6 @@ loop-rest-preserved g c =
           (turn_more s c.args.lines.now c.loop-rest.rest.now c.lines_behind-rest.result.now old mid new c.loop-rest.ending c.new-replies.result replies count
           inv.turns c.new-replies.ensures.text c.new-replies.ensures.endings c.in_ok-answered.ensures.within
           (subst (λ (f : FolderSetup). HasAnsweredOver f.setup (take count (bytes_of c.loop-rest.rest.now)) c.new-replies.result replies) inv.setup c.in_ok-answered.ensures.answered)
-          (subst (Appends mid new) c.deref.ensures.value c.in_ok-write_whole.ensures) c.lines_behind-rest.ensures.rest);
+          (subst (Appends mid new) c.deref.ensures.value c.in_ok-write_whole.ensures.written) c.lines_behind-rest.ensures.rest);
       setup = c.answer_in_tenure-answered.ensures.setup ∙ inv.setup;
     }
