@@ -3,3 +3,4 @@ mod AnswerLemmas
 mod AskLemmas
 mod TenureLemmas
 mod WrittenLemmas
+mod InputLemmas

@@ -22,7 +22,7 @@ use Rattle.gz_table_drive.specs.declared.answering.Replies.{Replies}
 use Rattle.table_folder.specs.Endings.{ending_of_outcome}
 use Rattle.gz_table_drive.specs.Answers.{HasAnsweredOver}
 use Rattle.table_folder.specs.Setups.{IsReadFrom}
-use Rattle.gz_table_drive.specs.Written.{first_ending, AreAnswersTo, AreWritten, IsWritten, WritesReplies}
+use Rattle.gz_table_drive.specs.Written.{first_ending, AreAnswersTo, AreWritten, IsWritten}
 use Rattle.table_folder.specs.declared.folder_setup.FolderSetup.{FolderSetup}
 use Rattle.gz_table_drive.proofs.AnswerLemmas.{after_more, texts_more}
 
@@ -102,11 +102,6 @@ written_more s front group old mid new ending next before more =
           ∙ sym (ends_more (map ending_of_outcome before.replies) (map ending_of_outcome more.replies))
           ∙ ap ending_of_lines (sym (map-append ending_of_outcome before.replies more.replies));
     }
-
--- the replies to some lines more
-pub replies_more : (s : Setup) (group : List (List ℕ)) (old mid new : Option (List ℕ)) (ending next : Ending)
-    → WritesReplies s old mid ending → AreWritten s group mid new next → WritesReplies s old new (behind ending next)
-replies_more s group old mid new ending next (front, before) more = (front ++ group, written_more s front group old mid new ending next before more)
 
 -- the reply to one line
 pub line_written : (file : List ℕ) (found : FolderSetup) (line : List ℕ) (lines : List (List ℕ)) (old new : Option (List ℕ)) (none replies : Replies) (ending : Ending)

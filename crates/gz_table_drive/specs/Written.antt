@@ -1,5 +1,5 @@
 -- What is written of lines that are answered, in one tenure or in several.
-use Rattle.std.specs.Prelude.{⊤, ◌≡◌, ℕ, List, [], ◌∷◌, map, Option}
+use Rattle.std.specs.Prelude.{⊤, ◌≡◌, ℕ, List, [], ◌∷◌, map, Option, IfSome}
 use Rattle.std.specs.List.{flat_map}
 use Rattle.std.specs.Io.KnownBytes.{Appends}
 use Rattle.modprobe.specs.Setup.{Setup}
@@ -10,6 +10,7 @@ use Rattle.table_words.specs.Endings.{ending_of_lines}
 use Rattle.table_words.specs.declared.ending.Ending.{Ending}
 use Rattle.table_words.specs.declared.ending.Ending.TheVariants.{Done}
 use Rattle.table_folder.specs.Endings.{ending_of_outcome}
+use Rattle.table_folder.specs.InputLines.{brought_lines, BringsLines}
 use Rattle.table_folder.specs.Setups.{IsReadFrom}
 use Rattle.table_folder.specs.declared.folder_setup.FolderSetup.{FolderSetup}
 
@@ -46,6 +47,14 @@ pub record AreWritten (s : Setup) (lines : List (List ℕ)) (old new : Option (L
   pub text : Appends old new (flat_map text_of replies)
   pub ends : ending ≡ ending_of_lines (map ending_of_outcome replies)
 
--- What is written is the replies to some lines, and they end together so.
-abbrev pub WritesReplies : Setup → Option (List ℕ) → Option (List ℕ) → Ending → Type 0
-WritesReplies s old new ending = (lines : List (List ℕ)) × AreWritten s lines old new ending
+-- these are the lines that an input brings, if its text is told
+abbrev pub AreBrought : Option (List ℕ) → List (List ℕ) → Type 0
+AreBrought input lines = IfSome input (λ text. lines ≡ brought_lines text)
+
+-- What is written is the replies to the lines that an input brings, and they end together so.
+abbrev pub AnswersInput : Setup → Option (List ℕ) → Option (List ℕ) → Option (List ℕ) → Ending → Type 0
+AnswersInput s input old new ending = (lines : List (List ℕ)) × AreBrought input lines × AreWritten s lines old new ending
+
+-- The same of the lines that the input has brought so far: behind them comes what is left of it.
+abbrev pub AnswersSoFar : Setup → Option (List ℕ) → Option (List ℕ) → Option (List ℕ) → Option (List ℕ) → Ending → Type 0
+AnswersSoFar s input left old new ending = (lines : List (List ℕ)) × BringsLines input left lines × AreWritten s lines old new ending

@@ -9,7 +9,7 @@ ghost use Rattle.table_words.specs.Lines.{line_of};
 ghost use Rattle.table_words.specs.Options.{stop_of, text_of};
 ghost use Rattle.table_words.specs.declared.ending.Ending.{Ending as AnyEnding};
 ghost use Rattle.gz_table_drive.specs.Ended.{HasSecondFolder, HasSlash, IsMisplaced, IsNoFolder, IsRun, IsRunOf, IsShown, IsStopped, IsUnasked};
-ghost use Rattle.gz_table_drive.specs.Written.{first_ending, AreWritten, IsWritten, WritesReplies};
+ghost use Rattle.gz_table_drive.specs.Written.{first_ending, AnswersInput, AreWritten, IsWritten};
 
 use crate::adopt::adopt;
 use crate::answering::Replies;
@@ -125,7 +125,7 @@ fn answer_command<R: Files<File = File> + Clock + AllocGlobal, O: Write, E: Writ
     Ok(first_ending(&replies))
 }
 
-/// Answers the lines of an input. The table is kept from one group of them to the next.
+/// Answers the lines of an input, to its end. The table is kept from one group of them to the next.
 fn answer_input<'s, 'r, R: Files<File = File> + Clock + AllocGlobal, I: Read, O: Write, E: Write>(
     shared: &Shared<'r, R>,
     kept: &mut Kept<'s, FileDevice<&'r R>>,
@@ -133,7 +133,7 @@ fn answer_input<'s, 'r, R: Files<File = File> + Clock + AllocGlobal, I: Read, O:
     output: &mut O,
     teller: &mut Teller<'_, E>,
 ) -> Result<Ending, TableFault>
-    ensures written { IfOk result (WritesReplies kept.old.setup.now.setup (O.contents output.old) (O.contents output.new)) }
+    ensures written { IfOk result (AnswersInput kept.old.setup.now.setup (I.remaining input.old) (O.contents output.old) (O.contents output.new)) }
     ensures setup { kept.new.setup.now ≡ kept.old.setup.now }
 {
     let mut reader = InputLines::new(shared.alloc(), input);
@@ -145,12 +145,12 @@ fn answer_input<'s, 'r, R: Files<File = File> + Clock + AllocGlobal, I: Read, O:
             Err(InputFault::Failed) => return Err(TableFault::Input),
         };
         if lines.is_empty() {
-            break;
+            teller.too_long(reader.too_long());
+            return Ok(ending);
         }
         ending = ending.behind(answer_group(shared, kept, &lines, output, teller)?);
     }
-    teller.too_long(reader.too_long());
-    Ok(ending)
+    Err(TableFault::Input)
 }
 
 /// Brings the table to the modules that a file lists, and writes what is not done.

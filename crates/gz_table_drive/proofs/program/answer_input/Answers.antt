@@ -1,14 +1,16 @@
-use Rattle.std.proofs.Common.{[], refl, sym, subst, ◌∙◌}
+use Rattle.std.proofs.Common.{arith, ◌≡◌, length, rules, refl, sym, ap, subst, ◌∙◌}
+use Rattle.std.proofs.lemmas.List.{nil_from_length}
 use Rattle.line_journal.specs.Lines.{bytes_of}
 use Rattle.table_folder.specs.declared.folder_setup.FolderSetup.{FolderSetup}
-use Rattle.gz_table_drive.specs.Written.{AreWritten, WritesReplies}
-use Rattle.gz_table_drive.proofs.WrittenLemmas.{none_written, replies_more}
+use Rattle.table_folder.specs.InputLines.{text_left, BringsLines}
+use Rattle.gz_table_drive.specs.Written.{AreWritten, AnswersSoFar}
+use Rattle.gz_table_drive.proofs.InputLemmas.{none_answered, answered_more, answered_all}
 use Rattle.gz_table_drive.proofs.program.answer_input.Goals as goal
 
 pub loop-init : goal.loop-init
 loop-init g c =
     let s = c.args.kept.now.setup.now.setup in
-    record { begun = c.new-reader.ensures.begun; written = ([], none_written s (g.O.Write.contents c.args.output.now)); setup = refl }
+    record { begun = c.new-reader.ensures.begun; written = none_answered s (g.I.Read.remaining c.args.input.now) (text_left g.I.Read.remaining c.new-reader.result) (g.O.Write.contents c.args.output.now) c.new-reader.ensures.text; setup = refl }
 
 pub loop-preserved : goal.loop-preserved
 loop-preserved g c =
@@ -19,10 +21,22 @@ loop-preserved g c =
     let new = g.O.Write.contents c.answer_group.new.output in
     let group = bytes_of c.deref.result.now in
     let next = c.in_ok-answer_group.field-0 in
+    let input = g.I.Read.remaining c.args.input.now in
+    let left = text_left g.I.Read.remaining c.next_lines.new.self in
+    let brings : BringsLines (text_left g.I.Read.remaining c.loop.reader) left group = subst (BringsLines (text_left g.I.Read.remaining c.loop.reader) left) (ap bytes_of (sym c.deref.ensures.value)) c.in-Ok.ensures.brings in
     record {
       begun = c.in-Ok.ensures.begun;
-      written = subst (WritesReplies s old new) (sym c.behind-ending.ensures)
-          (replies_more s group old mid new c.loop.ending next inv.written
+      written = subst (AnswersSoFar s input left old new) (sym c.behind-ending.ensures)
+          (answered_more s group input (text_left g.I.Read.remaining c.loop.reader) left old mid new c.loop.ending next inv.written brings
           (subst (λ (f : FolderSetup). AreWritten f.setup group mid new next) inv.setup c.in_ok-answer_group.ensures.written));
       setup = c.answer_group.ensures.setup ∙ inv.setup;
     }
+
+pub returns-then-is_empty-clause-written : goal.returns-then-is_empty-clause-written
+returns-then-is_empty-clause-written g c =
+    let s = c.args.kept.now.setup.now.setup in
+    let empty : length c.in-Ok.lines.items ≡ 0 = search (arith, rules) in
+    let none = nil_from_length c.in-Ok.lines.items empty in
+    answered_all s (bytes_of c.in-Ok.lines.items) (g.I.Read.remaining c.args.input.now) (text_left g.I.Read.remaining c.loop.reader)
+    (text_left g.I.Read.remaining c.next_lines.new.self) (g.O.Write.contents c.args.output.now) (g.O.Write.contents c.loop.output) c.loop.ending
+    c.loop.invariant.written c.in-Ok.ensures.brings (ap bytes_of none) (c.in-Ok.ensures.end none)
