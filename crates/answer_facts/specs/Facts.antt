@@ -44,6 +44,8 @@ name_fact_pieces whom of_name_fact.BuiltIn =
     sentence (codes "built_in") (field (codes "name") whom) (words (codes "built in") ∷ [])
 name_fact_pieces whom (of_name_fact.File of) =
     sentence (codes "path") (field (codes "name") whom) (words (codes "the file of ") ∷ field (codes "of") of ∷ [])
+name_fact_pieces whom (of_name_fact.LeftOut refused) =
+    sentence (codes "left_out") (field (codes "name") whom) (words (codes "not asked for, since ") ∷ field (codes "refused") refused ∷ words (codes " is not removed") ∷ [])
 
 abbrev pub missing_fact_pieces : List ℕ → MissingFact → List Piece
 missing_fact_pieces whom of_missing_fact.NotFound =

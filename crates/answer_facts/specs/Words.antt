@@ -31,7 +31,7 @@ command_named of_command.Remove = codes "name of a remove line"
 abbrev pub passed_words : Passed → List ℕ
 passed_words of_passed.Never = []
 passed_words of_passed.ByOption = codes ", passed over by -i"
-passed_words of_passed.BySoftItems = codes ", passed over since it has soft items"
+passed_words of_passed.BySoftItems = codes ", passed over since it has soft dependencies"
 
 -- the value in JSON
 abbrev pub passed_word : Passed → List ℕ

@@ -77,7 +77,7 @@ impl Passed {
         match self {
             Passed::Never => b"",
             Passed::ByOption => b", passed over by -i",
-            Passed::BySoftItems => b", passed over since it has soft items",
+            Passed::BySoftItems => b", passed over since it has soft dependencies",
         }
     }
 

@@ -26,6 +26,8 @@ pub enum NameFact {
     BuiltIn,
     /// The file of this module.
     File(Text),
+    /// It is not asked for, since what has this name is not removed.
+    LeftOut(Text),
 }
 
 impl NameFact {
@@ -97,6 +99,16 @@ impl NameFact {
                 &[
                     Piece::Words(b"the file of "),
                     Piece::Field(b"of", of.as_bytes()),
+                ],
+            ),
+            NameFact::LeftOut(refused) => sentence(
+                alloc,
+                b"left_out",
+                name,
+                &[
+                    Piece::Words(b"not asked for, since "),
+                    Piece::Field(b"refused", refused.as_bytes()),
+                    Piece::Words(b" is not removed"),
                 ],
             ),
         }

@@ -87,7 +87,7 @@ impl Told<'_> {
         }
     }
 
-    /// Tells the blacklist lines of a name that stands for other modules alone.
+    /// Tells the blacklist lines of a name that stands for other modules alone, once.
     pub(crate) fn tell_blacklisted_alias(
         &mut self,
         name: &[u8],
@@ -95,7 +95,7 @@ impl Told<'_> {
     ) -> Result<(), AllocError> {
         let is_alias = !objects.is_empty()
             && !objects.iter().any(|object| is_same(&object.name, name));
-        if !is_alias || self.known.is_removal() {
+        if !is_alias || self.known.is_removal() || !self.begin_unheld(name)? {
             return Ok(());
         }
         let named = self.known.named;
@@ -115,11 +115,12 @@ impl Told<'_> {
         }
     }
 
-    /// Tells the blacklist lines that have the name of a module with `-` for `_`.
+    /// Tells the names of a module with `-` for `_` that blacklist lines have, each once: all stand on the kernel's command
+    /// line.
     pub(crate) fn tell_misspelt(&mut self, name: &[u8]) -> Result<(), AllocError> {
         let named = self.known.named;
         for line in named.blacklist.all() {
-            if self.is_misspelt(line.name, name)? {
+            if self.is_misspelt(line.name, name)? && self.begin_unheld(line.name)? {
                 let what = What::Module(ModuleFact::Misspelt(self.text(line.name)?));
                 self.say_of(name, what, line.place)?;
             }

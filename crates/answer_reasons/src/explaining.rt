@@ -45,6 +45,7 @@ impl Told<'_> {
             self.tell_misspelt(&object.name)?;
         }
         let subject = Subject::of(self.alloc, object, query.ignore_commands)?;
+        tasks.begin_list(&subject)?;
         tasks.push(Task::Load(subject))?;
         self.tell_tasks(tasks)
     }
@@ -174,15 +175,23 @@ impl Told<'_> {
         Ok(())
     }
 
+    /// Tells a name that is left out, since one is refused. It is told as a module if it is just the name of one.
+    fn tell_left_out_name(&mut self, word: &[u8], refused: &[u8]) -> Result<(), AllocError> {
+        let by = self.text(refused)?;
+        let what = if self.leads_to(word, word)? {
+            What::Removal(RemovalFact::LeftOut(by))
+        } else {
+            What::Name(NameFact::LeftOut(by))
+        };
+        self.say(word, what, Spot::Nowhere)
+    }
+
     /// Tells the names, as far as they are asked for, and what they lead to.
     fn tell_names(&mut self, tasks: &mut Tasks) -> Result<(), AllocError> {
         let query = &self.known.asked.query;
         for word in query.words.iter().take(name_count(query)) {
             match tasks.ended_by() {
-                Some(refused) => {
-                    let fact = RemovalFact::LeftOut(self.text(refused)?);
-                    self.say_removal(word, fact)?;
-                }
+                Some(refused) => self.tell_left_out_name(word, refused)?,
                 None => self.tell_asked(tasks, word)?,
             }
         }
@@ -195,7 +204,7 @@ impl Told<'_> {
             Task::Need(need) => self.tell_need(tasks, &need),
             Task::Fill(subject) => self.tell_fill(tasks, subject),
             Task::Soft(word) => self.tell_soft(tasks, &word),
-            Task::Own(subject) => self.tell_loaded(tasks, &subject),
+            Task::Own(subject) => self.tell_own(tasks, subject),
             Task::Remove { soft, subject } => self.tell_removal(tasks, soft, subject),
             Task::Release { soft, subject } => self.tell_release(tasks, soft, &subject),
             Task::Leave => {

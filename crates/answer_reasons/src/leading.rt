@@ -1,16 +1,14 @@
 //! What leads to a module: who needs it, which lines have it, and which devices ask for it.
 
-use crate::idle_lines::is_pattern;
 use crate::known::Known;
 use crate::named_lines::NamedLines;
 use crate::sources::{Device, Sources};
 use crate::told::Told;
 use crate::told_words::{ALIASES, DEPENDENCIES};
-use answer_facts::{Blacklist, Command, Fact, LeadFact, ModuleFact, Passed, Side, What};
+use answer_facts::{Blacklist, Command, Fact, LeadFact, ModuleFact, Passed, What};
 use indexmap::IndexSet;
-use kmod_conf::{SoftdepLine, WeakdepLine};
+use kmod_conf::WeakdepLine;
 use kmod_index::DepLine;
-use kmod_names::{Place, Text};
 use kmod_query::{Asked, Query, World, install_line, remove_line};
 use std::alloc::{AllocError, Global};
 use text_parts::is_same;
@@ -57,63 +55,6 @@ impl Told<'_> {
             self.tell_needing(line, name, false)?;
         }
         Ok(())
-    }
-
-    /// Whether a word stands for a module.
-    fn leads_to(&self, word: &[u8], name: &[u8]) -> Result<bool, AllocError> {
-        let objects = self.objects_of(word)?;
-        Ok(objects.iter().any(|object| is_same(&object.name, name)))
-    }
-
-    /// Tells those soft items on one side of a module that stand for another one.
-    fn tell_soft_items(
-        &mut self,
-        name: &[u8],
-        side: Side,
-        line: &SoftdepLine,
-    ) -> Result<(), AllocError> {
-        let words = match side {
-            Side::Before => line.items.pre(),
-            Side::After => line.items.post(),
-        };
-        for word in words {
-            if self.leads_to(word.as_bytes(), name)? {
-                let of = self.text(line.name.as_bytes())?;
-                let what = What::Lead(LeadFact::Softdep { side, of });
-                self.say_of(word.as_bytes(), what, line.place)?;
-            }
-        }
-        Ok(())
-    }
-
-    /// Whether softdep lines of a name may count: they do for a pattern, for the name of a module or of lines with a command,
-    /// and for one to which an alias line leads.
-    fn may_be_module(&self, name: &[u8]) -> bool {
-        let known = self.known;
-        let asked = known.asked;
-        let conf = asked.world.conf;
-        is_pattern(name)
-            || known.has_file(name)
-            || known.is_built_in(name, false)
-            || known.is_target(name)
-            || conf.has_install_named(name)
-            || conf.has_remove_named(name)
-    }
-
-    /// Tells the words of a softdep line that stand for a module, if the line counts for its own name.
-    fn tell_softdep(&mut self, line: &SoftdepLine, name: &[u8]) -> Result<(), AllocError> {
-        let asked = self.known.asked;
-        let conf = asked.world.conf;
-        let own = line.name.as_bytes();
-        if !self.may_be_module(own) {
-            return Ok(());
-        }
-        match conf.softdep_of(self.alloc, own)? {
-            Some(counting) if counting.place != line.place => return Ok(()),
-            _ => {}
-        }
-        self.tell_soft_items(name, Side::Before, line)?;
-        self.tell_soft_items(name, Side::After, line)
     }
 
     /// Tells the weak items of a line that stand for a module.

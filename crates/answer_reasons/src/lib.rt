@@ -12,6 +12,7 @@ mod leading;
 mod line_ends;
 mod named_lines;
 mod near_names;
+mod soft_leads;
 mod sources;
 mod tasks;
 mod told;

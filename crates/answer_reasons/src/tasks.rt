@@ -18,6 +18,11 @@ pub(crate) struct Subject {
 }
 
 impl Subject {
+    /// Whether another one is the same module, which came by the same alias.
+    fn is_as(&self, other: &Subject) -> bool {
+        self.name == other.name && self.alias == other.alias
+    }
+
     /// A module that came by its own name.
     pub(crate) fn by_name(alloc: Global, name: &[u8]) -> Result<Subject, AllocError> {
         Ok(Subject {
@@ -103,6 +108,10 @@ pub(crate) struct Tasks {
     loaded: IndexSet<Subject>,
     /// The modules that were told with their soft items.
     filled: IndexSet<Subject>,
+    /// The modules of which their own lines were told.
+    owned: IndexSet<Subject>,
+    /// The module that is being loaded, if a name of the query stands for it under -i.
+    bare: Option<Subject>,
     /// The modules whose soft items are being removed, the outermost first.
     way: IndexSet<Vec<u8>>,
     /// The modules of whose removal it was told what it frees.
@@ -135,6 +144,8 @@ impl Tasks {
             forgets,
             loaded: IndexSet::new(alloc),
             filled: IndexSet::new(alloc),
+            owned: IndexSet::new(alloc),
+            bare: None,
             way: IndexSet::new(alloc),
             removed: IndexSet::new(alloc),
             found: IndexMap::new(alloc),
@@ -184,6 +195,31 @@ impl Tasks {
         }
         self.filled.insert(subject.clone()?)?;
         Ok(true)
+    }
+
+    /// Notes that a module is loaded, and what it leads to.
+    pub(crate) fn begin_list(&mut self, subject: &Subject) -> Result<(), AllocError> {
+        self.bare = if subject.bare {
+            Some(subject.clone()?)
+        } else {
+            None
+        };
+        Ok(())
+    }
+
+    /// Whether -i passes the commands of a module over: it does so for the module of a name, wherever that stands in the list
+    /// of what is loaded.
+    pub(crate) fn is_bare(&self, subject: &Subject) -> bool {
+        match &self.bare {
+            Some(bare) => bare.is_as(subject),
+            None => false,
+        }
+    }
+
+    /// Whether the own lines of a module are to be told; from now on they were.
+    pub(crate) fn begin_own(&mut self, subject: &Subject) -> Result<bool, AllocError> {
+        let is_new = self.owned.insert(subject.clone()?)?;
+        Ok(is_new)
     }
 
     /// Whether the soft items of a module are being removed.
@@ -265,6 +301,7 @@ impl Tasks {
         if self.forgets {
             self.loaded = IndexSet::new(alloc);
             self.filled = IndexSet::new(alloc);
+            self.owned = IndexSet::new(alloc);
             self.words = IndexSet::new(alloc);
         }
     }

@@ -4,9 +4,8 @@ use crate::file_facts::{add_hidden, add_unread};
 use crate::heads::Heads;
 use crate::known::Known;
 use crate::line_ends::first_cr_line;
-use answer_facts::{
-    Blacklist, Command, Fact, FileFact, IdleFact, ModuleFact, NameFact, Setting, Spot, What,
-};
+use answer_facts::{Blacklist, Fact, FileFact, IdleFact, ModuleFact, Setting, Spot, What};
+use indexmap::IndexSet;
 use kmod_names::{Place, Text};
 use kmod_query::Taken;
 use std::alloc::{AllocError, Global};
@@ -21,8 +20,6 @@ pub(crate) enum OfEach {
     Blacklisted(Blacklist),
     /// It is a blacklist line of an alias.
     BlacklistedAlias,
-    /// It has the name, and this command.
-    Named(Command),
     /// It does not count, since an earlier one does.
     Later(Setting),
 }
@@ -32,7 +29,6 @@ impl OfEach {
         match self {
             OfEach::Blacklisted(effect) => What::Module(ModuleFact::Blacklisted(effect)),
             OfEach::BlacklistedAlias => What::Idle(IdleFact::BlacklistedAlias),
-            OfEach::Named(command) => What::Name(NameFact::Named(command)),
             OfEach::Later(setting) => What::Idle(IdleFact::Later(setting)),
         }
     }
@@ -48,6 +44,9 @@ pub(crate) struct Told<'a> {
     pub(crate) taken: Vec<Taken>,
     /// For how many words near names may still be looked for.
     pub(crate) searches: usize,
+    /// The names of which it was told that blacklist lines do not hold for an alias, and those that blacklist lines have with
+    /// `-` for `_`.
+    unheld: IndexSet<Vec<u8>>,
 }
 
 impl<'a> Told<'a> {
@@ -59,7 +58,14 @@ impl<'a> Told<'a> {
             facts: Vec::new(alloc),
             taken: Vec::new(alloc),
             searches: SEARCHES,
+            unheld: IndexSet::new(alloc),
         }
+    }
+
+    /// Whether it is to be told that blacklist lines of a name do not hold; from now on it was.
+    pub(crate) fn begin_unheld(&mut self, name: &[u8]) -> Result<bool, AllocError> {
+        let is_new = self.unheld.insert(Vec::from_slice(self.alloc, name)?)?;
+        Ok(is_new)
     }
 
     /// All that was told.
@@ -105,7 +111,8 @@ impl<'a> Told<'a> {
         self.say(whom, what, spot)
     }
 
-    /// Adds a fact for each line of a name, but for the one that counts.
+    /// Adds a fact for each line of a name, but for the one that counts. A list of the kernel's command line that has the name
+    /// twice is one.
     pub(crate) fn say_of_each(
         &mut self,
         whom: &[u8],
@@ -114,10 +121,12 @@ impl<'a> Told<'a> {
         name: &[u8],
         counting: Option<Place>,
     ) -> Result<(), AllocError> {
+        let mut last = None;
         for number in lines.numbers(name) {
             match lines.all().get(*number) {
-                Some(head) if counting != Some(head.place) => {
+                Some(head) if counting != Some(head.place) && last != Some(head.place) => {
                     self.say_of(whom, what.what(), head.place)?;
+                    last = Some(head.place);
                 }
                 _ => {}
             }

@@ -133,11 +133,7 @@ impl Told<'_> {
     }
 
     /// Tells the lines of a module that count for a load of it, and those of its name that do not.
-    pub(crate) fn tell_loaded(
-        &mut self,
-        tasks: &mut Tasks,
-        subject: &Subject,
-    ) -> Result<(), AllocError> {
+    fn tell_loaded(&mut self, tasks: &mut Tasks, subject: &Subject) -> Result<(), AllocError> {
         let name = subject.name.as_slice();
         let has_items = !subject.bare && self.has_soft_items(tasks, name)?;
         let is_dry = matches!(self.known.asked.query.ask, Ask::DryRun);
@@ -153,5 +149,19 @@ impl Told<'_> {
         }
         let has_file = is_named || self.known.has_file(name);
         self.tell_line(subject, has_file, has_items)
+    }
+
+    /// Tells the lines of a module of a load, unless they were told.
+    pub(crate) fn tell_own(
+        &mut self,
+        tasks: &mut Tasks,
+        subject: Subject,
+    ) -> Result<(), AllocError> {
+        let mut own = subject;
+        own.bare = tasks.is_bare(&own);
+        if !tasks.begin_own(&own)? {
+            return Ok(());
+        }
+        self.tell_loaded(tasks, &own)
     }
 }

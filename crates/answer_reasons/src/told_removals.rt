@@ -98,8 +98,46 @@ impl Told<'_> {
         }
     }
 
+    /// Tells the soft items that -i passes over.
+    fn tell_passed_softdep(&mut self, name: &[u8]) -> Result<(), AllocError> {
+        let asked = self.known.asked;
+        let conf = asked.world.conf;
+        match conf.softdep_of(self.alloc, name)? {
+            Some(line) => self.say_of(name, What::Line(LineFact::Softdep), line.place),
+            None => Ok(()),
+        }
+    }
+
+    /// Tells the remove line of a module that counts or is passed over, and those of its very name that do not count.
+    fn tell_remove_lines(
+        &mut self,
+        name: &[u8],
+        line: Option<&TextLine>,
+        passed: Passed,
+    ) -> Result<(), AllocError> {
+        let named = self.known.named;
+        self.tell_commands(name, Command::Remove, line, &named.removes, passed)
+    }
+
+    /// Tells what -i passes over of a module that stays: without it a remove line counts whatever the module's state, and soft
+    /// items with it.
+    fn tell_passed_over(&mut self, object: &Object) -> Result<(), AllocError> {
+        let asked = self.known.asked;
+        if !asked.query.ignore_commands {
+            return Ok(());
+        }
+        let (name, alias) = (object.name.as_slice(), object.alias.as_deref());
+        let line = remove_line(self.alloc, &asked.world, name, alias)?;
+        if line.is_none() {
+            return Ok(());
+        }
+        self.tell_passed_softdep(name)?;
+        self.tell_remove_lines(name, line, Passed::ByOption)
+    }
+
     /// Tells that a module is gone by then, built in or not loaded.
     fn tell_kept(&mut self, object: &Object) -> Result<(), AllocError> {
+        self.tell_passed_over(object)?;
         let name = object.name.as_slice();
         if is_gone(self.counted(), name) {
             self.say_removal(name, RemovalFact::Gone)
@@ -131,13 +169,13 @@ impl Told<'_> {
         let (alloc, asked) = (self.alloc, self.known.asked);
         tasks.enter(alloc, &subject.name)?;
         let conf = asked.world.conf;
+        if asked.query.ignore_commands {
+            self.tell_passed_softdep(&subject.name)?;
+            return tasks.push(Task::Release { soft, subject });
+        }
         let Some(line) = conf.softdep_of(alloc, &subject.name)? else {
             return tasks.push(Task::Release { soft, subject });
         };
-        if asked.query.ignore_commands {
-            self.say_of(&subject.name, What::Line(LineFact::Softdep), line.place)?;
-            return tasks.push(Task::Release { soft, subject });
-        }
         let after = soft_words(
             alloc,
             &subject.name,
@@ -246,14 +284,11 @@ impl Told<'_> {
         line: Option<&TextLine>,
     ) -> Result<(), AllocError> {
         let name = object.name.as_slice();
-        let (asked, named) = (self.known.asked, self.known.named);
+        let asked = self.known.asked;
         let is_bare = asked.query.ignore_commands;
-        let passed = if is_bare {
-            Passed::ByOption
-        } else {
-            Passed::Never
-        };
-        self.tell_commands(name, Command::Remove, line, &named.removes, passed)?;
+        if !is_bare {
+            self.tell_remove_lines(name, line, Passed::Never)?;
+        }
         if !tasks.begin_removed(self.alloc, name)? {
             return Ok(());
         }
@@ -312,6 +347,11 @@ impl Told<'_> {
     ) -> Result<(), AllocError> {
         let object = subject.object(self.alloc)?;
         let (asked, holders) = (self.known.asked, self.known.sources.holders);
+        let (name, alias) = (subject.name.as_slice(), subject.alias.as_deref());
+        let line = remove_line(self.alloc, &asked.world, name, alias)?;
+        if asked.query.ignore_commands {
+            self.tell_remove_lines(name, line, Passed::ByOption)?;
+        }
         if is_in_use_after(asked, holders, self.counted(), &object)? {
             let number = self.taken.len();
             self.tell_need_state(&subject.name, number)?;
@@ -320,8 +360,6 @@ impl Told<'_> {
         if is_gone_by(asked, self.counted(), &object)? {
             return self.tell_gone(tasks, soft, &subject.name);
         }
-        let (name, alias) = (subject.name.as_slice(), subject.alias.as_deref());
-        let line = remove_line(self.alloc, &asked.world, name, alias)?;
         self.tell_free(name, line)?;
         self.tell_removed(tasks, &object, line)?;
         self.follow_removal(tasks, &subject.name)

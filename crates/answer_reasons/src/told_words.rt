@@ -1,7 +1,7 @@
 //! What is reported of a word of a command line or of a softdep line.
 
 use crate::near_names::{NEAREST_FIRST, Nearness, nearness_of};
-use crate::told::{OfEach, Told};
+use crate::told::Told;
 use answer_facts::{Command, MissingFact, NameFact, Outcome, Spot, StateFact, What};
 use kmod_index::{DepLine, IndexLine};
 use kmod_names::{AliasEntry, name_of_path, normal_alias};
@@ -74,13 +74,18 @@ impl Told<'_> {
         Ok(())
     }
 
-    /// Tells the lines of commands of this very name.
+    /// Tells the line of a command by whose very name a word is found: the first install line, or else the first remove line.
     fn tell_commanded(&mut self, word: &[u8], name: &[u8]) -> Result<(), AllocError> {
-        let named = self.known.named;
-        let what = OfEach::Named(Command::Install);
-        self.say_of_each(word, what, &named.installs, name, None)?;
-        let what = OfEach::Named(Command::Remove);
-        self.say_of_each(word, what, &named.removes, name, None)
+        let asked = self.known.asked;
+        let conf = asked.world.conf;
+        let (command, line) = match conf.install_named(name) {
+            Some(line) => (Command::Install, Some(line)),
+            None => (Command::Remove, conf.remove_named(name)),
+        };
+        match line {
+            Some(line) => self.say_of(word, What::Name(NameFact::Named(command)), line.place),
+            None => Ok(()),
+        }
     }
 
     /// The line of a module that is built in.
@@ -107,7 +112,7 @@ impl Told<'_> {
         self.say(word, What::Name(NameFact::BuiltIn), spot)
     }
 
-    /// Tells that a word is the name of lines with a command, and of a module that is built in, if it is.
+    /// Tells that a word is the name of a line with a command, and of a module that is built in, if it is.
     fn tell_named(&mut self, word: &[u8], name: &[u8]) -> Result<(), AllocError> {
         self.tell_commanded(word, name)?;
         self.tell_if_built_in(word, name)

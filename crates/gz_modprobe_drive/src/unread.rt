@@ -75,9 +75,17 @@ fn add_outside<S: System>(
     Ok(())
 }
 
-/// The files of these folders, or of those of modprobe.d(5) if none is named, that are not read, in the order of the folders
-/// and of the bytes of names. /lib/modprobe.d is skipped if it has just the names of the folder before it, as if /lib is a
-/// link to /usr/lib. It fails only if memory runs out.
+/// Whether a path stands among those before it, as that of a folder which is named twice.
+fn is_again(paths: &[&[u8]], number: usize, path: &[u8]) -> bool {
+    match paths.get(..number) {
+        Some(before) => before.iter().any(|own| is_same(*own, path)),
+        None => false,
+    }
+}
+
+/// The files of these folders, or of those of modprobe.d(5) if none is named, that are not read, each once, in the order of
+/// the folders and of the bytes of names. /lib/modprobe.d is skipped if it has just the names of the folder before it, as if
+/// /lib is a link to /usr/lib. It fails only if memory runs out.
 pub(crate) fn unread_files<S: System>(
     host: &Host<'_, S>,
     kmod: Kmod,
@@ -86,7 +94,11 @@ pub(crate) fn unread_files<S: System>(
     let alloc = host.alloc();
     let mut unread = Vec::new(alloc);
     let mut before: Vec<Vec<u8>> = Vec::new(alloc);
-    for folder in paths_by_rank(kmod, named) {
+    let paths = paths_by_rank(kmod, named);
+    for (number, folder) in paths.iter().enumerate() {
+        if is_again(paths, number, *folder) {
+            continue;
+        }
         let names = names_of(host, *folder)?.unwrap_or(Vec::new(alloc));
         if !is_same(*folder, LIB) || names != before {
             add_names(host, kmod, *folder, &names, &mut unread)?;
