@@ -8,6 +8,7 @@ NOT_UTF8 = "a file of modprobe.d whose name is no UTF-8 is not read"
 WAIT = "a removal with --wait passes over what is in use"
 OVERWRITTEN = "MODPROBE_OPTIONS with several words in quotes is overwritten"
 CUT = "a name of an install or remove line is cut as that of a file"
+FOUND_TWICE = "a soft dependency is found twice by its ? or *"
 # (since kmod 31)
 OTHER_PATH = "what needs the module of a path that was given forgets all that it needs"
 BLANKS = b" \t\n\v\f\r"
@@ -83,8 +84,30 @@ def with_both(files, version):
     return {**with_right_softdeps(files, version), **without_odd_names(files, version)}
 
 
+def modules_of_patterns(files):
+    """The patterns of modules.alias that have a ? or a *, with the module of each."""
+    texts = [it for path, it in files.items() if path.endswith(b"/modules.alias") and isinstance(it, bytes)]
+    found = re.findall(rb"^alias (\S*[?*]\S*) (\S+)$", b"\n".join(texts), flags=re.M)
+    return {pattern: module for pattern, module in found}
+
+
+def with_modules(line, modules):
+    """The line, in which modules stand in the place of soft items that are patterns."""
+    if not line.lstrip(b" \t").startswith(b"softdep"):
+        return line
+    return b"".join(modules.get(word, word) for word in re.split(rb"([ \t]+)", line))
+
+
+def found_once(files, version):
+    """The files that change when each soft item that is a pattern of modules.alias is its module."""
+    modules = modules_of_patterns(files)
+    texts = {path: it for path, it in files.items() if is_configuration(path) and isinstance(it, bytes)}
+    changed = {path: b"\n".join(with_modules(line, modules) for line in it.split(b"\n")) for path, it in texts.items()}
+    return {path: it for path, it in changed.items() if it != texts[path]}
+
+
 # What kmod is asked over once more, and what is known if it then answers as gz-modprobe does.
-MENDS = ((SOFTDEP, with_right_softdeps), (NOT_UTF8, without_odd_names), (NOT_UTF8, with_both))
+MENDS = ((SOFTDEP, with_right_softdeps), (NOT_UTF8, without_odd_names), (NOT_UTF8, with_both), (FOUND_TWICE, found_once))
 
 
 def shown_right(output):
