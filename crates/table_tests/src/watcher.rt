@@ -1,6 +1,6 @@
 //! A world that takes replies, and cuts processes off.
 ghost use Rattle.std.specs.Prelude.{◌≡◌, [], map};
-ghost use Rattle.line_journal.specs.KillOnly.{history_of};
+ghost use Rattle.line_journal.specs.KillOnly.{held_by, history_of};
 ghost use Rattle.tenures.specs.Steps.{groups_of};
 
 use crate::cut_device::CutDevice;
@@ -24,6 +24,7 @@ pub(crate) struct Life {
 /// A tenure that is over. Only clauses read it.
 #[derive(Drop)]
 struct Over {
+    found: Snapshot<CutDevice>,
     asked: Vec<Snapshot<Step>>,
     replies: Vec<Snapshot<Reply>>,
     ended: Result<(), Stopped>,
@@ -36,6 +37,8 @@ pub(crate) struct Watcher<'a, R: Abort> {
     alloc: Global,
     /// The device when the process began its last reply. If there is none, as it found it.
     seen: Snapshot<CutDevice>,
+    /// The device as the process found it.
+    found: Snapshot<CutDevice>,
     begun: Vec<Snapshot<Reply>>,
     past: Vec<Over>,
     /// Of the processes that are to come.
@@ -51,6 +54,7 @@ impl<'a, R: Abort> Watcher<'a, R> {
     /// Before the first process, which finds this device.
     pub(crate) fn new(rt: &'a R, alloc: Global, device: &CutDevice, lives: &'a [Life]) -> Self
         ensures seen { result.seen.value ≡ device.now }
+        ensures found { result.found.value ≡ device.now }
         ensures begun { result.begun.items ≡ [] }
         ensures past { result.past.items ≡ [] }
     {
@@ -58,6 +62,7 @@ impl<'a, R: Abort> Watcher<'a, R> {
             rt,
             alloc,
             seen: Snapshot::of(device),
+            found: Snapshot::of(device),
             begun: Vec::new(alloc),
             past: Vec::new(alloc),
             lives,
@@ -72,6 +77,7 @@ impl<'a, R: Abort> Watcher<'a, R> {
         ensures file { device.new.file ≡ device.old.file }
         ensures faults { device.new.faults ≡ device.old.faults }
         ensures seen { self.new.seen ≡ self.old.seen }
+        ensures found { self.new.found ≡ self.old.found }
         ensures begun { self.new.begun ≡ self.old.begun }
         ensures past { self.new.past ≡ self.old.past }
         ensures cut_offs { self.new.cut_offs ≡ self.old.cut_offs }
@@ -101,11 +107,13 @@ fn noted<R: Abort>(rt: &R, alloc: Global, asked: &[Step]) -> Vec<Snapshot<Step>>
 }
 
 impl<'a, R: Abort> World<CutDevice> for Watcher<'a, R> {
-    ghost past = { λ w. map (λ over. record { asked = groups_of (map (λ step. step.value) over.asked.items); replies = map (λ reply. reply.value) over.replies.items; ended = over.ended }) w.past.items };
+    ghost past = { λ w. map (λ over. record { found = held_by over.found.value.file; asked = groups_of (map (λ step. step.value) over.asked.items); replies = map (λ reply. reply.value) over.replies.items; ended = over.ended }) w.past.items };
 
     ghost replies = { λ w. map (λ reply. reply.value) w.begun.items };
 
     ghost since = { λ w. (history_of w.seen.value.file).now };
+
+    ghost found = { λ w. held_by w.found.value.file };
 
     ghost cut_offs = { λ w. w.cut_offs };
 
@@ -138,9 +146,11 @@ impl<'a, R: Abort> World<CutDevice> for Watcher<'a, R> {
         ended: Result<(), Stopped>,
     ) -> CutDevice {
         let asked = noted(self.rt, self.alloc, asked);
+        let found = mem::replace(&mut self.found, Snapshot::of(&device));
         let replies = mem::replace(&mut self.begun, Vec::new(self.alloc));
         self.past
             .push(Over {
+                found,
                 asked,
                 replies,
                 ended,
@@ -151,6 +161,7 @@ impl<'a, R: Abort> World<CutDevice> for Watcher<'a, R> {
             .expect(self.rt, "room for a text");
         self.begin_life(&mut device);
         self.seen = Snapshot::of(&device);
+        self.found = Snapshot::of(&device);
         device
     }
 }

@@ -17,8 +17,8 @@ use Rattle.tenures.proofs.ListLemmas.{replies_length, one_by_one_more, one_more}
 abbrev pub Ending : Type 0
 Ending = Result (Unit {0}) Stopped
 
-abbrev pub tenure_of : List (List (List ℕ)) → List Outcome → Ending → Tenure
-tenure_of asked replies ended = record { asked = asked; replies = replies; ended = ended }
+abbrev pub tenure_of : List ℕ → List (List (List ℕ)) → List Outcome → Ending → Tenure
+tenure_of found asked replies ended = record { found = found; asked = asked; replies = replies; ended = ended }
 
 -- A process has made some of the groups that it was asked, and begun all replies to them. The rest is left. Its table is this one.
 pub record GoesOn (s : Setup) (past : List Tenure) (asked left : List (List (List ℕ))) (replies : List Outcome) (h : Held) : Type 0 where
@@ -52,9 +52,9 @@ module _ {s : Setup} {past : List Tenure} {asked left : List (List (List ℕ))} 
       ∙ ap (λ (os : List Outcome). os ++ replies_of s (after s (after s (opening_of s) g.before) (one_by_one g.done)) part) (sym g.replied)
       ∙ ap (λ (u : Held). replies ++ replies_of s u part) (sym (g.leads ∙ after-append s (opening_of s) g.before (one_by_one g.done)))
 
-  took : (ended : Ending) (part : List (List ℕ)) (more begun : List Outcome) → IsFirstOf part (next_group left) → begun ≡ replies ++ more
-      → (more ≡ []) ⊎ (part ≡ next_group left) → TookEffect (tenure_of asked begun ended) (one_by_one g.done ++ part)
-  took ended part more begun first grows whole = record {
+  took : (found : List ℕ) (ended : Ending) (part : List (List ℕ)) (more begun : List Outcome) → IsFirstOf part (next_group left) → begun ≡ replies ++ more
+      → (more ≡ []) ⊎ (part ≡ next_group left) → TookEffect (tenure_of found asked begun ended) (one_by_one g.done ++ part)
+  took found ended part more begun first grows whole = record {
     before = g.done;
     left = left;
     asked = g.parts;
@@ -66,14 +66,14 @@ module _ {s : Setup} {past : List Tenure} {asked left : List (List (List ℕ))} 
   }
 
   -- The file stands for the table after some commands of the next group. Some replies to it were begun only if these are all.
-  pub stands_on : (ended : Ending) (part : List (List ℕ)) (more begun : List Outcome) → IsFirstOf part (next_group left) → begun ≡ replies ++ more
+  pub stands_on : (found : List ℕ) (ended : Ending) (part : List (List ℕ)) (more begun : List Outcome) → IsFirstOf part (next_group left) → begun ≡ replies ++ more
       → (more ≡ []) ⊎ (part ≡ next_group left) → IsFirstOf more (replies_of s h part) → KeepsHeldAlong s h part
-      → (file : List ℕ) → FileStands s (after s h part) file → Keeps s (past ++ tenure_of asked begun ended ∷ []) file
-  stands_on ended part more begun first grows whole (rest, is) keeps file stands = record {
+      → (file : List ℕ) → FileStands s (after s h part) file → Keeps s (past ++ tenure_of found asked begun ended ∷ []) file
+  stands_on found ended part more begun first grows whole (rest, is) keeps file stands = record {
     commands = g.before ++ (one_by_one g.done ++ part);
     table = after s h part;
     leads = record {
-      one = one_more s (opening_of s) past (tenure_of asked begun ended) g.before (one_by_one g.done ++ part) g.one (took ended part more begun first grows whole) (
+      one = one_more s (opening_of s) past (tenure_of found asked begun ended) g.before (one_by_one g.done ++ part) g.one (took found ended part more begun first grows whole) (
         rest,
         replies_on part ∙ ap (λ (os : List Outcome). replies ++ os) is ∙ sym (append_assoc replies more rest) ∙ ap (λ (os : List Outcome). os ++ rest) (sym grows),
       );
@@ -111,9 +111,9 @@ begins {s} {past} {commands} {h} asked leads = record {
 }
 
 -- a process that makes nothing
-pub idle : {s : Setup} {past : List Tenure} {file : List ℕ} (asked : List (List (List ℕ))) (ended : Ending) → Keeps s past file
-    → Keeps s (past ++ tenure_of asked [] ended ∷ []) file
-idle {file = file} asked ended keeps = stands_on (begins asked keeps.leads) ended [] [] [] (next_group asked, refl) refl (inl refl) ([], refl) tt file keeps.stands
+pub idle : {s : Setup} {past : List Tenure} {file : List ℕ} (found : List ℕ) (asked : List (List (List ℕ))) (ended : Ending) → Keeps s past file
+    → Keeps s (past ++ tenure_of found asked [] ended ∷ []) file
+idle {file = file} found asked ended keeps = stands_on (begins asked keeps.leads) found ended [] [] [] (next_group asked, refl) refl (inl refl) ([], refl) tt file keeps.stands
 
 -- to all that a process was asked it has begun replies
 pub answered_all : {s : Setup} {past : List Tenure} {asked left : List (List (List ℕ))} {replies : List Outcome} {h : Held} → GoesOn s past asked left replies h

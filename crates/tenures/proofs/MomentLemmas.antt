@@ -30,23 +30,23 @@ opened s past file old new there kept always left since =
     ⊎_elim (λ same. same_lines left same (kept file there)) (λ before. kept left before) (always.each left since)
 
 module _ (s : Setup) (past : List Tenure) (asked left : List (List (List ℕ))) (group : List (List ℕ)) (replies begun : List Outcome) (h : Held) (old new : History) (since since_new : ℕ)
-    (goes : GoesOn s past asked (group ∷ left) replies h) (before : since ≤ old.now) (ended : Ending) where
-  unanswered : IsUnanswered s h group old new replies begun since since_new → IsKeptSince s (past ++ tenure_of asked replies ended ∷ []) old since
-      → IsKeptSince s (past ++ tenure_of asked begun ended ∷ []) new since_new
+    (goes : GoesOn s past asked (group ∷ left) replies h) (before : since ≤ old.now) (found : List ℕ) (ended : Ending) where
+  unanswered : IsUnanswered s h group old new replies begun since since_new → IsKeptSince s (past ++ tenure_of found asked replies ended ∷ []) old since
+      → IsKeptSince s (past ++ tenure_of found asked begun ended ∷ []) new since_new
   unanswered made kept file from =
-      ⊎_elim (λ earlier. subst (λ (os : List Outcome). Keeps s (past ++ tenure_of asked os ended ∷ []) file) (sym made.none) (kept file earlier))
+      ⊎_elim (λ earlier. subst (λ (os : List Outcome). Keeps s (past ++ tenure_of found asked os ended ∷ []) file) (sym made.none) (kept file earlier))
       (λ (stands : StandsAfterFirst s h group file).
-      stands_on goes ended stands.0 [] begun stands.1 (made.none ∙ sym (append-nil replies)) (inl refl) (replies_of s h stands.0, refl) stands.2 file stands.3)
+      stands_on goes found ended stands.0 [] begun stands.1 (made.none ∙ sym (append-nil replies)) (inl refl) (replies_of s h stands.0, refl) stands.2 file stands.3)
       (made.meanwhile.earlier since file before (subst (λ (n : ℕ). new.left_since n file) made.same from))
 
-  answered : IsAnswered s h group old new replies begun since_new → IsKeptSince s (past ++ tenure_of asked begun ended ∷ []) new since_new
+  answered : IsAnswered s h group old new replies begun since_new → IsKeptSince s (past ++ tenure_of found asked begun ended ∷ []) new since_new
   answered made file from =
-      stands_on goes ended group made.more begun ([], sym (append-nil group)) made.grows (inr refl) made.first made.held file
+      stands_on goes found ended group made.more begun ([], sym (append-nil group)) made.grows (inr refl) made.first made.held file
       (made.leaves file (new.only_now file (subst (λ (n : ℕ). new.left_since n file) made.now from)))
 
   -- a step is made, as far as the process came
-  pub made_kept : IsMade s h group old new replies begun since since_new → IsKeptSince s (past ++ tenure_of asked replies ended ∷ []) old since
-      → IsKeptSince s (past ++ tenure_of asked begun ended ∷ []) new since_new
+  pub made_kept : IsMade s h group old new replies begun since since_new → IsKeptSince s (past ++ tenure_of found asked replies ended ∷ []) old since
+      → IsKeptSince s (past ++ tenure_of found asked begun ended ∷ []) new since_new
   made_kept made kept = ⊎_elim (λ none. unanswered none kept) (λ some. answered some) made
 
 pub made_since : (s : Setup) (group : List (List ℕ)) (replies begun : List Outcome) (h : Held) (old new : History) (since since_new : ℕ) → since ≤ old.now
@@ -58,25 +58,25 @@ made_since s group replies begun h old new since since_new before made =
     made
 
 -- a process that makes nothing
-pub idle_since : (s : Setup) (past : List Tenure) (asked : List (List (List ℕ))) (ended : Ending) (history : History) (since : ℕ) → IsKeptSince s past history since
-    → IsKeptSince s (past ++ tenure_of asked [] ended ∷ []) history since
-idle_since s past asked ended history since kept left from = idle asked ended (kept left from)
+pub idle_since : (s : Setup) (past : List Tenure) (found : List ℕ) (asked : List (List (List ℕ))) (ended : Ending) (history : History) (since : ℕ) → IsKeptSince s past history since
+    → IsKeptSince s (past ++ tenure_of found asked [] ended ∷ []) history since
+idle_since s past found asked ended history since kept left from = idle found asked ended (kept left from)
 
 -- a process that makes nothing is over
-pub over_idle : (s : Setup) (past more : List Tenure) (asked : List (List (List ℕ))) (ended : Ending) (replies : List Outcome) (file : List ℕ) (old new next : History) (since : ℕ)
+pub over_idle : (s : Setup) (past more : List Tenure) (found : List ℕ) (asked : List (List (List ℕ))) (ended : Ending) (replies : List Outcome) (file : List ℕ) (old new next : History) (since : ℕ)
     → old.leaves file → IsKept s past old → AlwaysLeaves old new (λ left. StandsFor (lines_of file) left ⊎ old.leaves left) → since ≡ old.now → replies ≡ []
-    → more ≡ past ++ tenure_of asked replies ended ∷ [] → ((left : List ℕ) → next.leaves left → new.left_since since left) → IsKept s more next
-over_idle s past more asked ended replies file old new next since there kept always begins none is left found leaves =
-    subst (λ (ts : List Tenure). Keeps s ts found) (sym (is ∙ ap (λ (os : List Outcome). past ++ tenure_of asked os ended ∷ []) none))
-    (idle asked ended (opened s past file old new there kept always found (subst (λ (n : ℕ). new.left_since n found) begins (left found leaves))))
+    → more ≡ past ++ tenure_of found asked replies ended ∷ [] → ((left : List ℕ) → next.leaves left → new.left_since since left) → IsKept s more next
+over_idle s past more found asked ended replies file old new next since there kept always begins none is left at leaves =
+    subst (λ (ts : List Tenure). Keeps s ts at) (sym (is ∙ ap (λ (os : List Outcome). past ++ tenure_of found asked os ended ∷ []) none))
+    (idle found asked ended (opened s past file old new there kept always at (subst (λ (n : ℕ). new.left_since n at) begins (left at leaves))))
 
 -- a process is over
-pub over_answered : (s t : Setup) (past before more : List Tenure) (asked : List (List (List ℕ))) (ended : Ending) (replies : List Outcome) (history next : History) (since : ℕ)
-    → t ≡ s → IsKeptSince t (past ++ tenure_of asked replies ended ∷ []) history since → before ≡ past → more ≡ before ++ tenure_of asked replies ended ∷ []
+pub over_answered : (s t : Setup) (past before more : List Tenure) (found : List ℕ) (asked : List (List (List ℕ))) (ended : Ending) (replies : List Outcome) (history next : History) (since : ℕ)
+    → t ≡ s → IsKeptSince t (past ++ tenure_of found asked replies ended ∷ []) history since → before ≡ past → more ≡ before ++ tenure_of found asked replies ended ∷ []
     → ((left : List ℕ) → next.leaves left → history.left_since since left) → IsKept s more next
-over_answered s t past before more asked ended replies history next since same kept is grows left found leaves =
-    subst (λ (ts : List Tenure). Keeps s ts found) (sym (grows ∙ ap (λ (ts : List Tenure). ts ++ tenure_of asked replies ended ∷ []) is))
-    (subst (λ (v : Setup). Keeps v (past ++ tenure_of asked replies ended ∷ []) found) same (kept found (left found leaves)))
+over_answered s t past before more found asked ended replies history next since same kept is grows left at leaves =
+    subst (λ (ts : List Tenure). Keeps s ts at) (sym (grows ∙ ap (λ (ts : List Tenure). ts ++ tenure_of found asked replies ended ∷ []) is))
+    (subst (λ (v : Setup). Keeps v (past ++ tenure_of found asked replies ended ∷ []) at) same (kept at (left at leaves)))
 
 not_both : {h : Held} → None ≡ Some h → ⊥
 not_both is = grind (arith, is)

@@ -2,7 +2,6 @@
 use Rattle.std.specs.Prelude.{◌≡◌, ◌⊎◌, ◌≤◌, ◌+◌, ℕ, List, [], ◌∷◌, length, Result, Ok, Err, None, OnOk, IsErrOf, All}
 use Rattle.line_journal.specs.declared.device.DeviceError.TheVariants as device_error
 use Rattle.line_journal.specs.declared.recovery.Repair.{Repair}
-use Rattle.line_journal.specs.declared.recovery.Repair.TheVariants.{Cut}
 use Rattle.line_journal.specs.Lines.{behind}
 use Rattle.line_journal.specs.Journal.{MayCut}
 use Rattle.modprobe.specs.Setup.{Setup}
@@ -55,15 +54,20 @@ HasNoTable s repair file = (table_of s file ≡ None) ⊎ (MayCut repair (behind
 abbrev pub IsWhole : Tenure → Type 0
 IsWhole tenure = OnOk tenure.ended (length tenure.replies ≡ length (one_by_one tenure.asked))
 
--- a tenure has found a table
-abbrev pub HasFound : Tenure → Type 0
-HasFound tenure = IsErrOf tenure.ended NoTable → ⊥
+-- a tenure that found no table found a file in which more stood behind the lines than may be cut off
+abbrev pub HasFound : Repair → Tenure → Type 0
+HasFound repair tenure = IsErrOf tenure.ended NoTable → MayCut repair (behind tenure.found) → ⊥
 
--- Each of these tenures ended by itself, with all replies, but for those that were cut off, whose device failed, or for which
--- there was no memory: no more were cut off than the world has cut off meanwhile, and no more failed than calls of the device
--- did. Where everything may be cut off behind the lines, each finds a table.
+-- a tenure that ended by itself found a file in which no more stood there
+abbrev pub MightCut : Repair → Tenure → Type 0
+MightCut repair tenure = OnOk tenure.ended (MayCut repair (behind tenure.found))
+
+-- Each of these tenures ended by itself, with all replies, but for those that were cut off, whose device failed, that found no
+-- table, or for which there was no memory: no more were cut off than the world has cut off meanwhile, and no more failed than
+-- calls of the device did.
 pub record HaveEnded (repair : Repair) (cut_offs cut_offs_new faults faults_new : ℕ) (tenures : List Tenure) : Type 0 where
   pub whole : All IsWhole tenures
   pub cut_off : cut_offs_among tenures + cut_offs ≤ cut_offs_new
   pub failed : failures_among tenures + faults ≤ faults_new
-  pub found : repair ≡ Cut → All HasFound tenures
+  pub found : All (HasFound repair) tenures
+  pub might_cut : All (MightCut repair) tenures

@@ -8,9 +8,10 @@ use Rattle.held_lines.specs.Outcomes.{after}
 use Rattle.durable_table.specs.Groups.{replies_of}
 use Rattle.tenures.specs.declared.ending.Stopped.{Stopped}
 
--- One process from lock to unlock: the groups of commands that it was asked, one group after another; the replies that it
--- began, to the first of these commands; and how it ended.
+-- One process from lock to unlock: the file that it found; the groups of commands that it was asked, one group after another;
+-- the replies that it began, to the first of these commands; and how it ended.
 pub record Tenure : Type 0 where
+  pub found : List ℕ
   pub asked : List (List (List ℕ))
   pub replies : List Outcome
   pub ended : Result (Unit {0}) Stopped

@@ -34,6 +34,7 @@ fn begin_replies<D: Device, W: World<D>>(
     world: &mut W,
 ) -> Result<(), Stopped>
     ensures past { W.past world.new ≡ W.past world.old }
+    ensures file { W.found world.new ≡ W.found world.old }
     ensures begun { HasBegun (outcomes_of replies.now) (D.history device.now).now (W.replies world.old) (W.replies world.new) (W.since world.old) (W.since world.new) }
     ensures answered { OnOk result (W.replies world.new ≡ W.replies world.old ++ outcomes_of replies.now) }
     ensures cut_off { cut_offs_in result + W.cut_offs world.old ≤ W.cut_offs world.new }
@@ -58,6 +59,7 @@ fn make_group<D: Device, W: World<D>>(
     requires stands { Stands D.content D.history table.old.session.setup.now (held_of table.old.session.holders) table.old.journal }
     requires lines { AreLines (bytes_of lines.now) }
     ensures past { W.past world.new ≡ W.past world.old }
+    ensures file { W.found world.new ≡ W.found world.old }
     ensures made { IsMade table.old.session.setup.now (held_of table.old.session.holders) (bytes_of lines.now) (D.history table.old.journal.device) (D.history table.new.journal.device)
         (W.replies world.old) (W.replies world.new) (W.since world.old) (W.since world.new) }
     ensures whole { OnOk result (IsMadeWhole table.old.session.setup.now (held_of table.old.session.holders) (held_of table.new.session.holders) (bytes_of lines.now)
@@ -111,6 +113,7 @@ pub(crate) fn make<D: Device, W: World<D>>(
     requires stands { Stands D.content D.history table.old.session.setup.now (held_of table.old.session.holders) table.old.journal }
     requires lines { AreLines (commands_of step.now) }
     ensures past { W.past world.new ≡ W.past world.old }
+    ensures file { W.found world.new ≡ W.found world.old }
     ensures made { IsMade table.old.session.setup.now (held_of table.old.session.holders) (commands_of step.now) (D.history table.old.journal.device) (D.history table.new.journal.device)
         (W.replies world.old) (W.replies world.new) (W.since world.old) (W.since world.new) }
     ensures whole { OnOk result (IsMadeWhole table.old.session.setup.now (held_of table.old.session.holders) (held_of table.new.session.holders) (commands_of step.now)

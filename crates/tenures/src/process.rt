@@ -40,6 +40,7 @@ fn open_table<'s, D: Device>(
     ensures failed { IfErr result (λ e. failures_of e.0 + D.faults device ≤ D.faults e.1) }
     ensures alive { IfErr result (λ e. cut_offs_of e.0 ≡ 0) }
     ensures no_table { IfErr result (λ e. e.0 ≡ NoTable → HasNoTable setup.now repair (D.content device)) }
+    ensures may_cut { IfOk result (λ _. MayCut repair (behind (D.content device))) }
 {
     let Ok(holders) = empty_table(alloc, setup) else {
         return Err((Stopped::OutOfMemory, device));
@@ -70,8 +71,9 @@ fn answer<D: Device, W: World<D>>(
     requires since { W.since world.old ≤ (D.history table.old.journal.device).now }
     requires kept { IsKeptSince table.old.session.setup.now (W.past world.old) (D.history table.old.journal.device) (W.since world.old) }
     ensures past { W.past world.new ≡ W.past world.old }
+    ensures file { W.found world.new ≡ W.found world.old }
     ensures since { W.since world.new ≤ (D.history table.new.journal.device).now }
-    ensures kept { IsKeptSince table.old.session.setup.now (W.past world.old ++ record { asked = groups_of steps.now; replies = W.replies world.new; ended = result } ∷ [])
+    ensures kept { IsKeptSince table.old.session.setup.now (W.past world.old ++ record { found = W.found world.old; asked = groups_of steps.now; replies = W.replies world.new; ended = result } ∷ [])
         (D.history table.new.journal.device) (W.since world.new) }
     ensures answered { OnOk result (length (W.replies world.new) ≡ length (one_by_one (groups_of steps.now))) }
     ensures cut_off { cut_offs_in result + W.cut_offs world.old ≤ W.cut_offs world.new }
@@ -100,15 +102,18 @@ pub fn tenure<D: Device, W: World<D>>(
     requires lines { AreSteps steps.now }
     requires none { W.replies world.old ≡ [] }
     requires since { W.since world.old ≡ (D.history device).now }
+    requires file { W.found world.old ≡ D.content device }
     requires kept { IsKept setup.now (W.past world.old) (D.history device) }
-    ensures past { (replies : List Outcome) × (W.past world.new ≡ W.past world.old ++ record { asked = groups_of steps.now; replies = replies; ended = result.1 } ∷ [])
+    ensures past { (replies : List Outcome) × (W.past world.new ≡ W.past world.old ++ record { found = D.content device; asked = groups_of steps.now; replies = replies; ended = result.1 } ∷ [])
         × (OnOk result.1 (length replies ≡ length (one_by_one (groups_of steps.now)))) }
     ensures cut_off { cut_offs_in result.1 + W.cut_offs world.old ≤ W.cut_offs world.new }
     ensures failed { failures_in result.1 + D.faults device ≤ D.faults result.0 }
     ensures found { IsErrOf result.1 NoTable → MayCut repair (behind (D.content device)) → ⊥ }
+    ensures may_cut { OnOk result.1 (MayCut repair (behind (D.content device))) }
     ensures kept { IsKept setup.now (W.past world.new) (D.history result.0) }
     ensures none { W.replies world.new ≡ [] }
     ensures since { W.since world.new ≡ (D.history result.0).now }
+    ensures file { W.found world.new ≡ D.content result.0 }
 {
     match open_table(alloc, setup, device, repair) {
         Ok(mut table) => {

@@ -25,6 +25,7 @@ pub fn run<D: Device, W: World<D>>(
     requires lines { All (λ steps. AreSteps steps.items) processes.now }
     requires none { W.replies world.old ≡ [] }
     requires since { W.since world.old ≡ (D.history device).now }
+    requires file { W.found world.old ≡ D.content device }
     requires kept { IsKept setup.now (W.past world.old) (D.history device) }
     ensures asked { asked_of (W.past world.new) ≡ asked_of (W.past world.old) ++ map (λ steps. groups_of steps.items) processes.now }
     ensures ended { (tenures : List Tenure) × (W.past world.new ≡ W.past world.old ++ tenures)

@@ -22,8 +22,9 @@ use tenures::{Step, World};
 /// durable linearizability (Izraelevitz, Mendes, Scott, DISC 2016).
 ///
 /// Nor does it hold because nothing is done: each process has begun a reply to each line, but for those that were cut off, those
-/// whose device failed, and those for which memory was short (`HaveEnded`). No more are told as cut off than `world` cut off, and
-/// no more as failed than calls of the device failed. With `Repair::Cut` each process finds a table.
+/// whose device failed, those that found no table, and those for which memory was short (`HaveEnded`). No more are told as cut
+/// off than `world` cut off, and no more as failed than calls of the device failed. None finds no table but where more stands
+/// behind the lines of its file than `repair` lets be cut off.
 ///
 /// Premises: one process at a time has the table open (flock(2)). What was synced is on the disk (fsync(2)), and a rename is done
 /// whole or not at all (rename(2)): that is the contract of `Device`. A reply is begun after `perform_all` returned it. The
@@ -40,6 +41,7 @@ pub fn tenures_are_durably_linearizable<D: Device, W: World<D>>(
     requires first { W.past world.old ≡ [] }
     requires none { W.replies world.old ≡ [] }
     requires since { W.since world.old ≡ (D.history device).now }
+    requires file { W.found world.old ≡ D.content device }
     requires new { (file : List ℕ) → (D.history device).leaves file → FileStands setup.now (opening_of setup.now) file }
     ensures asked { asked_of (W.past world.new) ≡ map (λ steps. groups_of steps.items) processes.now }
     ensures ended { HaveEnded repair (W.cut_offs world.old) (W.cut_offs world.new) (D.faults device) (D.faults result) (W.past world.new) }

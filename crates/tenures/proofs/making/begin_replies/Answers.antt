@@ -3,13 +3,14 @@ use Rattle.tenures.proofs.ReplyLemmas.{begun_more, begun_first}
 use Rattle.tenures.proofs.making.begin_replies.Goals as goal
 
 pub loop-reply-init : goal.loop-reply-init
-loop-reply-init g c = record { past = refl; alive = refl; grows = sym (append-nil (g.W.World.replies c.args.world.now)); moment = inl (refl, refl) }
+loop-reply-init g c = record { past = refl; file = refl; alive = refl; grows = sym (append-nil (g.W.World.replies c.args.world.now)); moment = inl (refl, refl) }
 
 pub loop-reply-preserved : goal.loop-reply-preserved
 loop-reply-preserved g c =
     let alive : c.is_alive.result ≡ true = search rules in
     record {
       past = c.begin_reply.ensures.past ∙ (c.is_alive.ensures.past ∙ c.loop-reply.invariant.past);
+      file = c.begin_reply.ensures.found ∙ (c.is_alive.ensures.found ∙ c.loop-reply.invariant.file);
       alive = c.begin_reply.ensures.cut_offs ∙ (c.is_alive.ensures.alive alive ∙ c.loop-reply.invariant.alive);
       grows = begun_more c.args.replies.now c.loop-reply.reply-index c.reply-item.result (g.W.World.replies c.args.world.now) (g.W.World.replies c.is_alive.new.self)
           (g.W.World.replies c.begin_reply.new.self) c.loop-reply-test.true c.reply-item.is (c.is_alive.ensures.replies ∙ c.loop-reply.invariant.grows) c.begin_reply.ensures.replies;

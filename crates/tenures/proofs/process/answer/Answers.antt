@@ -20,13 +20,14 @@ loop-step-init g c =
     record {
       setup = refl;
       past = refl;
+      file = refl;
       goes = subst (λ (os : List Outcome). GoesOn s before asked asked os h) none (begins asked c.requires.leads.1);
       stands = c.requires.stands;
       since = c.requires.since;
       cut_off = omega arith;
       failed = omega arith;
-      kept = λ (ended : Ending). subst (λ (os : List Outcome). IsKeptSince s (before ++ tenure_of asked os ended ∷ []) (g.D.Device.history c.args.table.now.journal.device) (g.W.World.since c.args.world.now)) none
-          (idle_since s before asked ended (g.D.Device.history c.args.table.now.journal.device) (g.W.World.since c.args.world.now) c.requires.kept);
+      kept = λ (ended : Ending). subst (λ (os : List Outcome). IsKeptSince s (before ++ tenure_of (g.W.World.found c.args.world.now) asked os ended ∷ []) (g.D.Device.history c.args.table.now.journal.device) (g.W.World.since c.args.world.now)) none
+          (idle_since s before (g.W.World.found c.args.world.now) asked ended (g.D.Device.history c.args.table.now.journal.device) (g.W.World.since c.args.world.now) c.requires.kept);
     }
 
 pub make-requires-clause-setup : goal.make-requires-clause-setup
@@ -64,12 +65,13 @@ loop-step-preserved g c =
     record {
       setup = c.make.ensures.setup ∙ c.loop-step.invariant.setup;
       past = c.make.ensures.past ∙ c.loop-step.invariant.past;
+      file = c.make.ensures.file ∙ c.loop-step.invariant.file;
       goes = goes_on goes (subst (λ (v : Setup). IsMadeWhole v h new group replies begun) same c.in_ok-make.ensures.whole);
       stands = subst (λ (v : Setup). Stands g.D.Device.content g.D.Device.history v new c.make.new.table.journal) same c.in_ok-make.ensures.stands;
       since = made_since s group replies begun h old_history new_history since since_new c.loop-step.invariant.since made;
       cut_off = omega (arith, c.loop-step.invariant.cut_off, c.make.ensures.cut_off);
       failed = omega (arith, c.loop-step.invariant.failed, c.make.ensures.failed);
-      kept = λ (ended : Ending). made_kept s before asked rest group replies begun h old_history new_history since since_new goes c.loop-step.invariant.since ended made (c.loop-step.invariant.kept ended);
+      kept = λ (ended : Ending). made_kept s before asked rest group replies begun h old_history new_history since since_new goes c.loop-step.invariant.since (g.W.World.found c.args.world.now) ended made (c.loop-step.invariant.kept ended);
     }
 
 pub returns-in_err-make-clause-kept : goal.returns-in_err-make-clause-kept
@@ -92,7 +94,7 @@ returns-in_err-make-clause-kept g c =
     c.loop-step.invariant.goes in
     let made : IsMade s h group old_history new_history replies begun since since_new =
     subst (λ (v : Setup). IsMade v h group old_history new_history replies begun since since_new) same c.make.ensures.made in
-    made_kept s before asked rest group replies begun h old_history new_history since since_new goes c.loop-step.invariant.since _ made (c.loop-step.invariant.kept _)
+    made_kept s before asked rest group replies begun h old_history new_history since since_new goes c.loop-step.invariant.since _ _ made (c.loop-step.invariant.kept _)
 
 pub returns-clause-answered : goal.returns-clause-answered
 returns-clause-answered g c = answered_all c.loop-step.invariant.goes (none_left c.args.steps.now c.loop-step.step-index c.loop-step-test.false)

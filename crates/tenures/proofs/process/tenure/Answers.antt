@@ -34,22 +34,37 @@ answer-answered-requires-clause-kept g c =
     (opened c.args.setup.now past (g.D.Device.content c.args.device) old new (g.met.D.Device.kill_leaves c.args.device) c.requires.kept c.in-Ok.ensures.any_moment))
 
 pub returns-in-Ok-clause-past : goal.returns-in-Ok-clause-past
-returns-in-Ok-clause-past g c = (
-  g.W.World.replies c.answer-answered.new.world,
-  c.next.ensures.past ∙ ap (λ (ts : List Tenure). ts ++ tenure_of (groups_of c.args.steps.now) (g.W.World.replies c.answer-answered.new.world) c.answer-answered.result ∷ []) c.answer-answered.ensures.past,
-  c.answer-answered.ensures.answered,
-)
+returns-in-Ok-clause-past g c =
+    let asked = groups_of c.args.steps.now in
+    let replies = g.W.World.replies c.answer-answered.new.world in
+    let ended = c.answer-answered.result in
+    let past = g.W.World.past c.answer-answered.new.world in (
+      replies,
+      c.next.ensures.past ∙ ap (λ (file : List ℕ). past ++ tenure_of file asked replies ended ∷ []) (c.answer-answered.ensures.file ∙ c.requires.file)
+          ∙ ap (λ (ts : List Tenure). ts ++ tenure_of (g.D.Device.content c.args.device) asked replies ended ∷ []) c.answer-answered.ensures.past,
+      c.answer-answered.ensures.answered,
+    )
+
+pub returns-in-Err-clause-past : goal.returns-in-Err-clause-past
+returns-in-Err-clause-past g c =
+    let asked = groups_of c.args.steps.now in
+    let replies = g.W.World.replies c.args.world.now in (
+      replies,
+      c.next-in-Err.ensures.past ∙ ap (λ (file : List ℕ). g.W.World.past c.args.world.now ++ tenure_of file asked replies (Err c.in-Err.stopped) ∷ []) c.requires.file,
+      tt,
+    )
 
 pub returns-in-Ok-clause-kept : goal.returns-in-Ok-clause-kept
 returns-in-Ok-clause-kept g c =
     over_answered c.args.setup.now c.in-Ok.table.session.setup.now (g.W.World.past c.args.world.now) (g.W.World.past c.answer-answered.new.world) (g.W.World.past c.next.new.self)
-    (groups_of c.args.steps.now) c.answer-answered.result (g.W.World.replies c.answer-answered.new.world) (g.D.Device.history c.answer-answered.new.table.journal.device) (g.D.Device.history c.next.result) (g.W.World.since c.answer-answered.new.world)
-    c.in-Ok.ensures.setup c.answer-answered.ensures.kept c.answer-answered.ensures.past c.next.ensures.past
+    (g.W.World.found c.args.world.now) (groups_of c.args.steps.now) c.answer-answered.result (g.W.World.replies c.answer-answered.new.world) (g.D.Device.history c.answer-answered.new.table.journal.device) (g.D.Device.history c.next.result) (g.W.World.since c.answer-answered.new.world)
+    c.in-Ok.ensures.setup c.answer-answered.ensures.kept c.answer-answered.ensures.past
+    (c.next.ensures.past ∙ ap (λ (file : List ℕ). g.W.World.past c.answer-answered.new.world ++ tenure_of file (groups_of c.args.steps.now) (g.W.World.replies c.answer-answered.new.world) c.answer-answered.result ∷ []) c.answer-answered.ensures.file)
     (subst (λ (d : g.row.D.Denot). (left : List ℕ) → (g.D.Device.history c.next.result).leaves left → (g.D.Device.history d).left_since (g.W.World.since c.answer-answered.new.world) left)
     c.into_device.ensures c.next.ensures.left)
 
 pub returns-in-Err-clause-kept : goal.returns-in-Err-clause-kept
 returns-in-Err-clause-kept g c =
-    over_idle c.args.setup.now (g.W.World.past c.args.world.now) (g.W.World.past c.next-in-Err.new.self) (groups_of c.args.steps.now) (Err c.in-Err.stopped) (g.W.World.replies c.args.world.now)
+    over_idle c.args.setup.now (g.W.World.past c.args.world.now) (g.W.World.past c.next-in-Err.new.self) (g.W.World.found c.args.world.now) (groups_of c.args.steps.now) (Err c.in-Err.stopped) (g.W.World.replies c.args.world.now)
     (g.D.Device.content c.args.device) (g.D.Device.history c.args.device) (g.D.Device.history c.in-Err.device) (g.D.Device.history c.next-in-Err.result) (g.W.World.since c.args.world.now)
     (g.met.D.Device.kill_leaves c.args.device) c.requires.kept c.in-Err.ensures.refused c.requires.since c.requires.none c.next-in-Err.ensures.past c.next-in-Err.ensures.left

@@ -1,5 +1,4 @@
 use Rattle.std.proofs.Common.{refl, sym, ap, ◌∙◌, List, [], ◌∷◌, ◌++◌, append_assoc, append-nil}
-use Rattle.line_journal.specs.Lines.{behind}
 use Rattle.tenures.specs.Tenures.{Tenure}
 use Rattle.tenures.specs.Steps.{groups_of}
 use Rattle.tenures.proofs.KeptLemmas.{tenure_of}
@@ -15,6 +14,7 @@ loop-steps-init g c =
       kept = c.requires.kept;
       none = c.requires.none;
       since = c.requires.since;
+      file = c.requires.file;
     }
 
 pub loop-steps-preserved : goal.loop-steps-preserved
@@ -23,7 +23,7 @@ loop-steps-preserved g c =
     let old = g.W.World.past c.loop-steps.world in
     let more = g.W.World.past c.tenure.new.world in
     let asked = groups_of c.deref.result.now in
-    let tenure : Tenure = tenure_of asked c.tenure.ensures.past.0 c.tenure.result.1 in
+    let tenure : Tenure = tenure_of (g.D.Device.content c.loop-steps.device) asked c.tenure.ensures.past.0 c.tenure.result.1 in
     let before = c.loop-steps.invariant.ended in
     record {
       asked = asked_more first old more tenure c.args.processes.now c.loop-steps.steps-index c.steps-item.result c.deref.result.now
@@ -33,9 +33,10 @@ loop-steps-preserved g c =
         c.tenure.ensures.past.1 ∙ ap (λ (ts : List Tenure). ts ++ tenure ∷ []) before.1 ∙ append_assoc first before.0 (tenure ∷ []),
         one_more_ended c.args.repair (g.W.World.cut_offs c.args.world.now) (g.W.World.cut_offs c.loop-steps.world) (g.W.World.cut_offs c.tenure.new.world)
             (g.D.Device.faults c.args.device) (g.D.Device.faults c.loop-steps.device) (g.D.Device.faults c.tenure.result.0) before.0 tenure
-            (behind (g.D.Device.content c.loop-steps.device)) before.2 c.tenure.ensures.past.2 c.tenure.ensures.cut_off c.tenure.ensures.failed c.tenure.ensures.found,
+            before.2 c.tenure.ensures.past.2 c.tenure.ensures.cut_off c.tenure.ensures.failed c.tenure.ensures.found c.tenure.ensures.may_cut,
       );
       kept = c.tenure.ensures.kept;
       none = c.tenure.ensures.none;
       since = c.tenure.ensures.since;
+      file = c.tenure.ensures.file;
     }

@@ -14,4 +14,5 @@ invariant-loop-steps g l =
       kept : IsKept l.setup (g.W.World.past l.world) (g.D.Device.history l.device);
       none : g.W.World.replies l.world ≡ [];
       since : g.W.World.since l.world ≡ (g.D.Device.history l.device).now;
+      file : g.W.World.found l.world ≡ g.D.Device.content l.device;
     }
