@@ -23,8 +23,8 @@ use tenures::{Step, World};
 ///
 /// Nor does it hold because nothing is done: each process has begun a reply to each line, but for those that were cut off, those
 /// whose device failed, those that found no table, and those for which memory was short (`HaveEnded`). No more are told as cut
-/// off than `world` cut off, and no more as failed than calls of the device failed. None finds no table but where more stands
-/// behind the lines of its file than `repair` lets be cut off.
+/// off than `world` cut off, and no more as failed than calls of the device failed. One finds no table only if more stands behind
+/// the lines of its file than `repair` lets be cut off.
 ///
 /// Premises: one process at a time has the table open (flock(2)). What was synced is on the disk (fsync(2)), and a rename is done
 /// whole or not at all (rename(2)): that is the contract of `Device`. A reply is begun after `perform_all` returned it. The
