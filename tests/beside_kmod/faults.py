@@ -69,10 +69,15 @@ def is_configuration(path):
     return path.endswith((b".conf", b".alias", b"/modules.softdep", b"/modules.weakdep", b"/modprobe.d")) or path.startswith(b"/own")
 
 
+def changed(files, mend):
+    """The files of the configuration that change when each text is mended."""
+    texts = {path: it for path, it in files.items() if is_configuration(path) and isinstance(it, bytes)}
+    return {path: text for path, it in texts.items() if (text := mend(it)) != it}
+
+
 def with_right_softdeps(files, version):
     """The files that change when the faults of soft items are mended."""
-    texts = {path: it for path, it in files.items() if is_configuration(path) and isinstance(it, bytes)}
-    return {path: mended(it, version) for path, it in texts.items() if mended(it, version) != it}
+    return changed(files, lambda text: mended(text, version))
 
 
 def without_odd_names(files, version):
@@ -87,8 +92,7 @@ def with_both(files, version):
 def modules_of_patterns(files):
     """The patterns of modules.alias that have a ? or a *, with the module of each."""
     texts = [it for path, it in files.items() if path.endswith(b"/modules.alias") and isinstance(it, bytes)]
-    found = re.findall(rb"^alias (\S*[?*]\S*) (\S+)$", b"\n".join(texts), flags=re.M)
-    return {pattern: module for pattern, module in found}
+    return dict(re.findall(rb"^alias (\S*[?*]\S*) (\S+)$", b"\n".join(texts), flags=re.M))
 
 
 def with_modules(line, modules):
@@ -101,9 +105,7 @@ def with_modules(line, modules):
 def found_once(files, version):
     """The files that change when each soft item that is a pattern of modules.alias is its module."""
     modules = modules_of_patterns(files)
-    texts = {path: it for path, it in files.items() if is_configuration(path) and isinstance(it, bytes)}
-    changed = {path: b"\n".join(with_modules(line, modules) for line in it.split(b"\n")) for path, it in texts.items()}
-    return {path: it for path, it in changed.items() if it != texts[path]}
+    return changed(files, lambda text: b"\n".join(with_modules(line, modules) for line in text.split(b"\n")))
 
 
 # What kmod is asked over once more, and what is known if it then answers as gz-modprobe does.
