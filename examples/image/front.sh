@@ -1,4 +1,4 @@
-# What scripts rest on: the status, the variable MODPROBE_OPTIONS, words of any length, and which files count. It needs bash, setpriv(1) if root runs it, and gz-modprobe on the path.
+# What scripts rest on: the status, the variable MODPROBE_OPTIONS, words and lines of any length, and which files count. It needs bash, setpriv(1) if root runs it, and gz-modprobe on the path.
 mkdir -p machine/lib/modules/6.1.0 machine/lib/modules/6.2.0 machine/etc/modprobe.d/folder.conf machine/lib/modprobe.d conf.d
 printf 'kernel/loop.ko:\n' | tee machine/lib/modules/6.1.0/modules.dep >machine/lib/modules/6.2.0/modules.dep
 touch machine/lib/modules/6.{1,2}.0/modules.{alias,symbols,builtin,builtin.modinfo}
@@ -19,6 +19,9 @@ printf 'options loop max_loop=64\n' >machine/lib/modprobe.d/loop.conf
 printf 'options loop max_part=4\nnonsense\n' >machine/lib/modprobe.d/part.conf
 printf 'options loop hidden=1\n' >machine/lib/modprobe.d/.hidden.conf
 ask -D loop
+# A line may have any length: here the first has 70,000 digits, and the second is told by its number.
+printf 'options loop max_loop=%070000d\nblacklist none\n' 8 >machine/etc/long.conf
+ask --lint -C /etc/long.conf
 # A file that is there and cannot be read is told, and the others count.
 ln -s /proc/self/mem conf.d/mem.conf
 ln -s "$PWD/machine/etc/modprobe.d/loop.conf" conf.d/link.conf
