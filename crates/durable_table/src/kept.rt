@@ -1,5 +1,5 @@
 //! A table that a process keeps while others use its journal.
-ghost use Rattle.std.specs.Prelude.{◌≡◌, Ok, map, true, IfOk, OnOk};
+ghost use Rattle.std.specs.Prelude.{◌≡◌, ◌<◌, Ok, map, true, IfOk, OnOk};
 ghost use Rattle.std.specs.List.{list_all};
 ghost use Rattle.line_journal.specs.Device.{Unchanged, Goes, TellsFaults};
 ghost use Rattle.line_journal.specs.Lines.{bytes_of, AreLines};
@@ -34,6 +34,7 @@ impl<'s, H: Holders, D: Renewable> DurableTable<'s, H, D> {
         ensures reads { result ≡ Ok CaughtUp.Ready → Reads D.content self.old.session.setup.now (holding (H.table self.new.session.holders) (H.names self.new.session.holders)) self.new.journal }
         ensures anew { result ≡ Ok CaughtUp.Anew → ContinuesSealed (D.content self.old.journal.device) (D.content self.new.journal.device) → ⊥ }
         ensures writes { D.writes self.new.journal.device ≡ D.writes self.old.journal.device }
+        ensures looks { OnOk result (D.looks self.old.journal.device < D.looks self.new.journal.device) }
         ensures setup { self.new.session.setup ≡ self.old.session.setup }
         ensures faults { TellsFaults (D.faults self.old.journal.device) (D.faults self.new.journal.device) result }
     {

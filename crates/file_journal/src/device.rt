@@ -69,6 +69,8 @@ pub struct FileDevice<R: Files + Drop> {
     fault: Option<FileFault>,
     /// How many calls have written, cut or replaced, or were to; 2^64 - 1 at most.
     writes: u64,
+    /// How often it was looked at what others made of it.
+    looks: u64,
 }
 
 impl<R: Files + Drop> FileDevice<R> {
@@ -121,6 +123,7 @@ impl<R: Files + Drop> FileDevice<R> {
             faults: 0,
             fault: None,
             writes: 0,
+            looks: 0,
         }
     }
 
@@ -130,7 +133,9 @@ impl<R: Files + Drop> FileDevice<R> {
         ensures renewed { IfOk result (IsRenewedTo kept self.old.belief self.new.belief) }
         ensures faults { self.new.faults ≡ self.old.faults }
         ensures writes { self.new.writes ≡ self.old.writes }
+        ensures looks { OnOk result (self.old.looks < self.new.looks) }
     {
+        self.looks = self.looks.checked_add(1).ok_or(OpenError::OutOfMemory)?;
         if !self.disk.is_there(kept)? {
             self.disk.reopen()?;
             let bytes = self.disk.read(self.alloc, 0, 0)?;
@@ -152,6 +157,7 @@ impl<R: Files + Drop> FileDevice<R> {
     fn fail(&mut self, fault: FileFault) -> DeviceError
         ensures belief { self.new.belief ≡ self.old.belief }
         ensures writes { self.new.writes ≡ self.old.writes }
+        ensures looks { self.new.looks ≡ self.old.looks }
         ensures later { self.old.faults ≤ self.new.faults }
         ensures failed { result ≡ Failed → self.old.faults < self.new.faults }
         ensures fails { self.new.fault ≢ None }
@@ -170,6 +176,7 @@ impl<R: Files + Drop> FileDevice<R> {
     fn refuse_failed(&mut self) -> Result<(), DeviceError>
         ensures belief { self.new.belief ≡ self.old.belief }
         ensures writes { self.new.writes ≡ self.old.writes }
+        ensures looks { self.new.looks ≡ self.old.looks }
         ensures ok { OnOk result (self.new.faults ≡ self.old.faults) }
         ensures later { self.old.faults ≤ self.new.faults }
         ensures failed { IsErrOf result Failed → self.old.faults < self.new.faults }
@@ -189,6 +196,8 @@ impl<R: Files + Drop> Device for FileDevice<R> {
     ghost faults = { λ file. file.faults };
 
     ghost writes = { λ file. file.writes };
+
+    ghost looks = { λ file. file.looks };
 
     ghost kill_leaves = { λ file. inl refl };
 
@@ -261,6 +270,7 @@ impl<R: Files + Drop> Renewable for FileDevice<R> {
         ensures works { OnOk result (self.new.fault ≡ None) }
         ensures fails { OnErr result (self.new.fault ≢ None) }
         ensures writes { self.new.writes ≡ self.old.writes }
+        ensures looks { OnOk result (self.old.looks < self.new.looks) }
         ensures faults { TellsFaults self.old.faults self.new.faults result }
     {
         match self.read_anew(kept) {

@@ -54,6 +54,9 @@ pub trait Device {
     /// How many calls have written, cut or replaced, or were to. No other call changes it.
     ghost writes: { Self → ℕ };
 
+    /// How often it was looked at what others made of the file. None of these calls changes it.
+    ghost looks: { Self → ℕ };
+
     /// The bytes from `place` on.
     fn read_from(&mut self, alloc: Global, place: usize) -> Result<Vec<u8>, DeviceError>
         requires { place ≤ length (content self.old) }
@@ -62,6 +65,7 @@ pub trait Device {
         ensures content { content self.new ≡ content self.old }
         ensures writes { writes self.new ≡ writes self.old }
         ensures crash { Goes Unchanged (history self.old) (history self.new) }
+        ensures looks { looks self.new ≡ looks self.old }
         ensures faults { TellsFaults (faults self.old) (faults self.new) result };
 
     /// Writes over what is there and past the end. Until the next `sync`, a crash may leave any bytes in the range.
@@ -70,6 +74,7 @@ pub trait Device {
         ensures written { OnOk result (content self.new ≡ overwritten (content self.old) place bytes.now) }
         ensures fits { OnOk result (place + length bytes.now < 2 ^ 64) }
         ensures crash { Goes (Torn place (length bytes.now)) (history self.old) (history self.new) }
+        ensures looks { looks self.new ≡ looks self.old }
         ensures faults { TellsFaults (faults self.old) (faults self.new) result };
 
     /// Cuts off what stands behind the first `size` bytes.
@@ -77,6 +82,7 @@ pub trait Device {
         requires { size ≤ length (content self.old) }
         ensures cut { OnOk result (content self.new ≡ take size (content self.old)) }
         ensures crash { Goes (Shortened size) (history self.old) (history self.new) }
+        ensures looks { looks self.new ≡ looks self.old }
         ensures faults { TellsFaults (faults self.old) (faults self.new) result };
 
     /// Waits until what a read returns is on the disk: fsync(2).
@@ -85,6 +91,7 @@ pub trait Device {
         ensures content { content self.new ≡ content self.old }
         ensures writes { writes self.new ≡ writes self.old }
         ensures crash { Goes Unchanged (history self.old) (history self.new) }
+        ensures looks { looks self.new ≡ looks self.old }
         ensures faults { TellsFaults (faults self.old) (faults self.new) result };
 
     /// Puts a file of these bytes in the place of this one, all at once: a new file is written and synced, renamed over
@@ -94,6 +101,7 @@ pub trait Device {
         ensures fits { OnOk result (length bytes.now < 2 ^ 64) }
         ensures on_disk { OnOk result (IsOnDisk bytes.now (history self.new)) }
         ensures crash { Goes (UnchangedOr bytes.now) (history self.old) (history self.new) }
+        ensures looks { looks self.new ≡ looks self.old }
         ensures faults { TellsFaults (faults self.old) (faults self.new) result };
 
     /// A process that is killed leaves what a read returns. A crash may leave that too.

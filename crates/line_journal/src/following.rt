@@ -1,5 +1,5 @@
 //! A journal whose file other processes write to as well.
-ghost use Rattle.std.specs.Prelude.{◌≡◌, ◌≤◌, length, take, IfOk, OnOk};
+ghost use Rattle.std.specs.Prelude.{◌≡◌, ◌<◌, ◌≤◌, length, take, IfOk, OnOk};
 ghost use Rattle.line_journal.specs.Device.{Unchanged, Goes, TellsFaults};
 ghost use Rattle.line_journal.specs.Journal.{IsReady};
 ghost use Rattle.line_journal.specs.Lines.{IsWhole};
@@ -27,6 +27,7 @@ impl<D: Renewable> Journal<D> {
         requires read { IsRead D.content self.old }
         ensures followed { IfOk result (IsFollowed D.content self.old self.new) }
         ensures writes { D.writes self.new.device ≡ D.writes self.old.device }
+        ensures looks { OnOk result (D.looks self.old.device < D.looks self.new.device) }
         ensures faults { TellsFaults (D.faults self.old.device) (D.faults self.new.device) result }
     {
         match self.device.renew(self.end)? {
@@ -42,6 +43,7 @@ impl<D: Renewable> Journal<D> {
         requires whole { IsWhole (take self.old.end (D.content self.old.device)) }
         ensures added { IfOk result (IsAdded D.content self.old self.new) }
         ensures writes { D.writes self.new.device ≡ D.writes self.old.device }
+        ensures looks { D.looks self.new.device ≡ D.looks self.old.device }
         ensures faults { TellsFaults (D.faults self.old.device) (D.faults self.new.device) result }
     {
         let found = peek_from(alloc, &mut self.device, self.end)?;

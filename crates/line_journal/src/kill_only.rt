@@ -71,6 +71,8 @@ impl Device for KillOnly {
 
     ghost writes = { writes_of };
 
+    ghost looks = { λ _. 0 };
+
     ghost kill_leaves = { λ _. refl };
 
     fn read_from(&mut self, alloc: Global, place: usize) -> Result<Vec<u8>, DeviceError> {

@@ -79,6 +79,7 @@ pub fn peek_from<D: Device>(
     ensures fits { OnOk result (length (D.content device.old) < 2 ^ 64) }
     ensures content { D.content device.new ≡ D.content device.old }
     ensures writes { D.writes device.new ≡ D.writes device.old }
+    ensures looks { D.looks device.new ≡ D.looks device.old }
     ensures crash { Goes Unchanged (D.history device.old) (D.history device.new) }
     ensures faults { TellsFaults (D.faults device.old) (D.faults device.new) result }
 {

@@ -1,5 +1,5 @@
 //! A file that other processes write to as well.
-ghost use Rattle.std.specs.Prelude.{◌≡◌, ◌≤◌, length, IfOk};
+ghost use Rattle.std.specs.Prelude.{◌≡◌, ◌<◌, ◌≤◌, length, IfOk, OnOk};
 ghost use Rattle.line_journal.specs.Device.{TellsFaults};
 ghost use Rattle.line_journal.specs.Renewed.{IsRenewed};
 
@@ -24,5 +24,6 @@ pub trait Renewable: Device {
         requires within { kept ≤ length (Self.content self.old) }
         ensures renewed { IfOk result (IsRenewed kept (Self.content self.old) (Self.content self.new)) }
         ensures writes { Self.writes self.new ≡ Self.writes self.old }
+        ensures looks { OnOk result (Self.looks self.old < Self.looks self.new) }
         ensures faults { TellsFaults (Self.faults self.old) (Self.faults self.new) result };
 }

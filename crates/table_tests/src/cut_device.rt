@@ -69,6 +69,8 @@ impl Device for CutDevice {
 
     ghost writes = { λ device. writes_of device.file };
 
+    ghost looks = { λ _. 0 };
+
     ghost kill_leaves = { λ _. refl };
 
     fn read_from(&mut self, alloc: Global, place: usize) -> Result<Vec<u8>, DeviceError> {
