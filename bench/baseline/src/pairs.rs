@@ -16,6 +16,8 @@ const TURNS: usize = 64;
 
 const TURN: Duration = Duration::from_millis(5);
 
+const LONGEST: Duration = Duration::from_secs(1);
+
 /// A value on cache lines of its own.
 #[repr(align(128))]
 pub struct Padded<T>(pub T);
@@ -175,13 +177,14 @@ fn time_pairs<T: Table>(name: &str, kind: &str, table: &T, workers: &mut [T::Wor
     while time_rounds(table, workers, modules, rounds) < TURN {
         rounds *= 2;
     }
-    let mut time = Duration::ZERO;
-    for _ in 0..TURNS / 2 {
+    let (mut turns, mut time) = (0, Duration::ZERO);
+    while turns < TURNS && time < LONGEST {
         give_turn();
         time += time_rounds(table, workers, modules, rounds);
         time += time_rounds(table, workers, modules, rounds);
+        turns += 2;
     }
-    let pairs = rounds as usize * TURNS * modules.slots(0).len() * workers.len();
+    let pairs = rounds as usize * turns * modules.slots(0).len() * workers.len();
     let rate = pairs as f64 / time.as_secs_f64();
     let (modules, workers) = (modules.name(), workers.len());
     println!("{name}/{modules}/{workers}@{kind} {rate:.0} pairs/s");
