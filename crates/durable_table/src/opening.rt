@@ -1,10 +1,11 @@
 //! How a journal begins, and how a table is made of one that is there.
-ghost use Rattle.std.specs.Prelude.{◌≡◌, ◌⊎◌, ◌<◌, ◌≤◌, [], ◌∷◌, Some, IfOk, IfErr, OnOk};
+ghost use Rattle.std.specs.Prelude.{◌≡◌, ◌⊎◌, ◌<◌, ◌≤◌, [], ◌∷◌, None, Some, IfOk, IfErr, OnOk};
 ghost use Rattle.dep_index.specs.Catalogue.{modules_of};
 ghost use Rattle.modprobe.specs.Setup.{Setup as AnySetup};
 ghost use Rattle.line_journal.specs.Device.{IsOnDisk, AlwaysLeaves, Goes, Unchanged, UnchangedOr, TellsFaults};
 ghost use Rattle.line_journal.specs.declared.device.DeviceError.TheVariants.{Failed};
-ghost use Rattle.line_journal.specs.Lines.{lines_of, at_rest, bytes_of, StandsFor};
+ghost use Rattle.line_journal.specs.Lines.{lines_of, at_rest, behind, bytes_of, StandsFor};
+ghost use Rattle.line_journal.specs.Journal.{IsLeft};
 ghost use Rattle.held_lines.specs.Held.{holding};
 ghost use Rattle.durable_table.specs.Tables.{opening_of, table_of};
 ghost use Rattle.durable_table.specs.Commands.{head};
@@ -79,8 +80,8 @@ fn read_table<'s, H: Holders>(
 }
 
 /// Makes the table that a journal stands for, over holders of which none is there yet. The file is read once, and waited for
-/// once. If a crash left the journal torn, its end is repaired, as `line_journal::open` says; but nothing is written before all
-/// lines were read and found whole.
+/// once. If a crash left the journal torn, its end is repaired, as `line_journal::open` says. Nothing else is written, and that
+/// only once all lines were read and found whole.
 ///
 /// A crash at any moment leaves the same lines, or what it might have left before the call. An error hands the device back.
 pub fn open<'s, H: Holders, D: Device>(
@@ -95,6 +96,8 @@ pub fn open<'s, H: Holders, D: Device>(
     ensures opened { IfOk result (IsOpenedAs D.content D.history setup.now repair (D.content device)) }
     ensures any_moment { AlwaysLeaves (D.history device) (D.history (device_after result))
         (λ file. StandsFor (lines_of (D.content device)) file ⊎ (D.history device).leaves file) }
+    ensures unread { table_of setup.now (D.content device) ≡ None → D.writes (device_after result) ≡ D.writes device }
+    ensures left { IsLeft repair (behind (D.content device)) → D.writes (device_after result) ≡ D.writes device }
     ensures faults { IfErr result (λ error. error.0 ≡ Failed → D.faults device < D.faults error.1) }
     ensures no_fewer { D.faults device ≤ D.faults (device_after result) }
 {
@@ -135,6 +138,7 @@ pub fn open_reading<'s, H: Holders, D: Device>(
     requires over { H.catalogue holders ≡ modules_of setup.now.catalogue }
     requires opening { holding (H.table holders) (H.names holders) ≡ opening_of setup.now }
     ensures read { IfOk result (IsTableRead D.content setup.now (D.content device)) }
+    ensures writes { D.writes (device_read result) ≡ D.writes device }
     ensures crash { Goes Unchanged (D.history device) (D.history (device_read result)) }
     ensures faults { IfErr result (λ error. error.0 ≡ Failed → D.faults device < D.faults error.1) }
     ensures no_fewer { D.faults device ≤ D.faults (device_read result) }

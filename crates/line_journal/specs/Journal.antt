@@ -1,5 +1,5 @@
 -- A journal that is ready for the next line, and what was found in its file.
-use Rattle.std.specs.Prelude.{⊤, ◌≡◌, ℕ, Bool, true, false, ◌+◌, ◌<◌, ◌≤◌, ◌^◌, List, length}
+use Rattle.std.specs.Prelude.{⊤, ◌≡◌, ◌⊎◌, ℕ, Bool, true, false, ◌+◌, ◌<◌, ◌≤◌, ◌^◌, List, [], ◌∷◌, length}
 use Rattle.line_journal.specs.Device.{History, IsOnDisk}
 use Rattle.line_journal.specs.Lines.{lines_of, open_text, at_rest, behind, bytes_of, open_gates, StandsFor}
 use Rattle.line_journal.specs.declared.journal.Journal.{Journal}
@@ -34,6 +34,10 @@ pub record IsFound (file : List ℕ) (found : Found) : Type 0 where
 abbrev pub MayCut : Repair → List ℕ → Type 0
 MayCut Cut bytes = ⊤
 MayCut (CutAtMost lines) bytes = open_gates bytes ≤ lines
+
+-- what stands behind the lines is left there: a closed gate, or more than may be cut off
+abbrev pub IsLeft : Repair → List ℕ → Type 0
+IsLeft repair bytes = (bytes ≡ 32 ∷ []) ⊎ (MayCut repair bytes → ⊥)
 
 -- a file in which this was found was brought to rest, or not, because more would be cut off than may
 abbrev pub IsRested : Repair → List ℕ → List ℕ → History → Found → Bool → Type 0

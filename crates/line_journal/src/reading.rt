@@ -35,13 +35,15 @@ impl Found {
     }
 }
 
-/// Reads the lines of a file, and changes nothing. It syncs first: what a killed process wrote may be read, and still
+/// Reads the lines of a file, and writes nothing. It syncs first: what a killed process wrote may be read, and still
 /// be lost in a crash.
 pub fn look<D: Device>(alloc: Global, device: &mut D) -> Result<Found, DeviceError>
     ensures found { IfOk result (λ found. IsFound (D.content device.old) found) }
     ensures content { D.content device.new ≡ D.content device.old }
     ensures on_disk { OnOk result (IsOnDisk (D.content device.old) (D.history device.new)) }
     ensures fits { OnOk result (length (D.content device.old) < 2 ^ 64) }
+
+    ensures writes { D.writes device.new ≡ D.writes device.old }
 
     // A crash at any moment leaves what it might have left before the call.
     ensures any_moment { AlwaysLeaves (D.history device.old) (D.history device.new) (D.history device.old).leaves }
@@ -58,6 +60,7 @@ pub fn peek<D: Device>(alloc: Global, device: &mut D) -> Result<Found, DeviceErr
     ensures found { IfOk result (λ found. IsFound (D.content device.old) found) }
     ensures fits { OnOk result (length (D.content device.old) < 2 ^ 64) }
     ensures content { D.content device.new ≡ D.content device.old }
+    ensures writes { D.writes device.new ≡ D.writes device.old }
     ensures crash { Goes Unchanged (D.history device.old) (D.history device.new) }
     ensures faults { TellsFaults (D.faults device.old) (D.faults device.new) result }
 {

@@ -1,9 +1,9 @@
 ghost use Rattle.std.specs.Prelude.{◌≡◌, ◌⊎◌, ◌↔◌, true, ◌<◌, ◌≤◌, ◌^◌, length, IfOk, IfErr, OnOk};
 ghost use Rattle.line_journal.specs.declared.device.DeviceError.TheVariants.{Failed};
 ghost use Rattle.line_journal.specs.Device.{IsOnDisk, AlwaysLeaves, TellsFaults};
-ghost use Rattle.line_journal.specs.Journal.{IsFound, IsAtRest, IsRested, IsRecovered, MayCut};
+ghost use Rattle.line_journal.specs.Journal.{IsFound, IsAtRest, IsLeft, IsRested, IsRecovered, MayCut};
 ghost use Rattle.line_journal.specs.Opened.{IsOpened, device_after};
-ghost use Rattle.line_journal.specs.Lines.{lines_of, open_text, at_rest, StandsFor};
+ghost use Rattle.line_journal.specs.Lines.{lines_of, open_text, at_rest, behind, StandsFor};
 
 use crate::device::{cut_through, write_through};
 use crate::reading::look;
@@ -47,6 +47,9 @@ pub fn recover<D: Device>(
     ensures after_restart { IsOnDisk (D.content device.old) (D.history device.old)
         → AlwaysLeaves (D.history device.old) (D.history device.new) (StandsFor (lines_of (D.content device.old))) }
 
+    // What is at rest, or refused, is not written to.
+    ensures writes { IsLeft repair (behind (D.content device.old)) → D.writes device.new ≡ D.writes device.old }
+
     ensures faults { TellsFaults (D.faults device.old) (D.faults device.new) result }
 {
     let found = look(alloc, device)?;
@@ -64,6 +67,7 @@ fn rest<D: Device>(device: &mut D, found: &Found, repair: Repair) -> Result<bool
     requires fits { length (D.content device.old) < 2 ^ 64 }
     ensures rests { IfOk result (IsRested repair (D.content device.old) (D.content device.new) (D.history device.new) found.now) }
     ensures any_moment { AlwaysLeaves (D.history device.old) (D.history device.new) (StandsFor (lines_of (D.content device.old))) }
+    ensures writes { IsLeft repair found.now.behind.items → D.writes device.new ≡ D.writes device.old }
     ensures faults { TellsFaults (D.faults device.old) (D.faults device.new) result }
 {
     if found.is_at_rest() {
@@ -120,6 +124,7 @@ pub fn open<D: Device>(
         (λ file. StandsFor (lines_of (D.content device)) file ⊎ (D.history device).leaves file) }
     ensures after_restart { IsOnDisk (D.content device) (D.history device)
         → AlwaysLeaves (D.history device) (D.history (device_after result)) (StandsFor (lines_of (D.content device))) }
+    ensures writes { IsLeft repair (behind (D.content device)) → D.writes (device_after result) ≡ D.writes device }
     ensures faults { IfErr result (λ error. error.0 ≡ Failed → D.faults device < D.faults error.1) }
     ensures no_fewer { D.faults device ≤ D.faults (device_after result) }
 {
@@ -141,6 +146,7 @@ pub fn open_found<D: Device>(
     requires fits { length (D.content device) < 2 ^ 64 }
     ensures opened { IfOk result (IsOpened D.content D.history repair device) }
     ensures any_moment { AlwaysLeaves (D.history device) (D.history (device_after result)) (StandsFor (lines_of (D.content device))) }
+    ensures writes { IsLeft repair (behind (D.content device)) → D.writes (device_after result) ≡ D.writes device }
     ensures faults { IfErr result (λ error. error.0 ≡ Failed → D.faults device < D.faults error.1) }
     ensures no_fewer { D.faults device ≤ D.faults (device_after result) }
 {

@@ -1,6 +1,7 @@
 //! The file of a folder's journal, and what stands in it.
 ghost use Rattle.std.specs.Prelude.{◌≡◌, ◌+◌, None, IfOk, length};
 ghost use Rattle.file_journal.specs.Belief.{history_of, MayBeAnything};
+ghost use Rattle.line_journal.specs.Device.{Goes, Unchanged};
 ghost use Rattle.line_journal.specs.Journal.{IsFound};
 ghost use Rattle.line_journal.specs.Lines.{open_gates};
 
@@ -59,6 +60,8 @@ pub fn found_in<R: Files + Drop>(
 ) -> Result<Found, TableFault>
     ensures found { IfOk result (IsFound (⟦<FileDevice<R> as Device>⟧.content device.old)) }
     ensures content { ⟦<FileDevice<R> as Device>⟧.content device.new ≡ ⟦<FileDevice<R> as Device>⟧.content device.old }
+    ensures writes { ⟦<FileDevice<R> as Device>⟧.writes device.new ≡ ⟦<FileDevice<R> as Device>⟧.writes device.old }
+    ensures crash { Goes Unchanged (⟦<FileDevice<R> as Device>⟧.history device.old) (⟦<FileDevice<R> as Device>⟧.history device.new) }
 {
     match peek(alloc, device) {
         Ok(found) => Ok(found),
