@@ -19,7 +19,7 @@ none_ended repair cut_offs faults = record { whole = All-nil IsWhole; cut_off = 
 
 -- one more has ended
 pub one_more_ended : (repair : Repair) (cut_offs then now faults faults_then faults_now : ℕ) (tenures : List Tenure) (tenure : Tenure)
-    → HaveEnded repair cut_offs then faults faults_then tenures → IsWhole tenure → cut_offs_in tenure.ended + then ≤ now
+    → HaveEnded repair cut_offs then faults faults_then tenures → IsWhole tenure → cut_offs_in tenure.ended + then ≡ now
     → failures_in tenure.ended + faults_then ≤ faults_now → HasFound repair tenure → MightCut repair tenure
     → HaveEnded repair cut_offs now faults faults_now (tenures ++ tenure ∷ [])
 one_more_ended repair cut_offs then now faults faults_then faults_now tenures tenure so_far whole cut failed found might = record {

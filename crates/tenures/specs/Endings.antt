@@ -63,11 +63,11 @@ abbrev pub MightCut : Repair → Tenure → Type 0
 MightCut repair tenure = OnOk tenure.ended (MayCut repair (behind tenure.found))
 
 -- Each of these tenures ended by itself, with all replies, but for those that were cut off, whose device failed, that found no
--- table, or for which there was no memory: no more were cut off than the world has cut off meanwhile, and no more failed than
+-- table, or for which there was no memory: as many were cut off as the world has cut off meanwhile, and no more failed than
 -- calls of the device did.
 pub record HaveEnded (repair : Repair) (cut_offs cut_offs_new faults faults_new : ℕ) (tenures : List Tenure) : Type 0 where
   pub whole : All IsWhole tenures
-  pub cut_off : cut_offs_among tenures + cut_offs ≤ cut_offs_new
+  pub cut_off : cut_offs_among tenures + cut_offs ≡ cut_offs_new
   pub failed : failures_among tenures + faults ≤ faults_new
   pub found : All (HasFound repair) tenures
   pub might_cut : All (MightCut repair) tenures

@@ -37,7 +37,7 @@ fn begin_replies<D: Device, W: World<D>>(
     ensures file { W.found world.new ≡ W.found world.old }
     ensures begun { HasBegun (outcomes_of replies.now) (D.history device.now).now (W.replies world.old) (W.replies world.new) (W.since world.old) (W.since world.new) }
     ensures answered { OnOk result (W.replies world.new ≡ W.replies world.old ++ outcomes_of replies.now) }
-    ensures cut_off { cut_offs_in result + W.cut_offs world.old ≤ W.cut_offs world.new }
+    ensures cut_off { cut_offs_in result + W.cut_offs world.old ≡ W.cut_offs world.new }
     ensures only_cut_off { IfErr result (λ stopped. stopped ≡ CutOff) }
 {
     for reply in replies {
@@ -66,7 +66,7 @@ fn make_group<D: Device, W: World<D>>(
         (W.replies world.old) (W.replies world.new)) }
     ensures stands { OnOk result (Stands D.content D.history table.old.session.setup.now (held_of table.new.session.holders) table.new.journal) }
     ensures setup { table.new.session.setup ≡ table.old.session.setup }
-    ensures cut_off { cut_offs_in result + W.cut_offs world.old ≤ W.cut_offs world.new }
+    ensures cut_off { cut_offs_in result + W.cut_offs world.old ≡ W.cut_offs world.new }
     ensures failed { failures_in result + D.faults table.old.journal.device ≤ D.faults table.new.journal.device }
     ensures found { IsErrOf result NoTable → ⊥ }
 {
@@ -120,7 +120,7 @@ pub(crate) fn make<D: Device, W: World<D>>(
         (W.replies world.old) (W.replies world.new)) }
     ensures stands { OnOk result (Stands D.content D.history table.old.session.setup.now (held_of table.new.session.holders) table.new.journal) }
     ensures setup { table.new.session.setup ≡ table.old.session.setup }
-    ensures cut_off { cut_offs_in result + W.cut_offs world.old ≤ W.cut_offs world.new }
+    ensures cut_off { cut_offs_in result + W.cut_offs world.old ≡ W.cut_offs world.new }
     ensures failed { failures_in result + D.faults table.old.journal.device ≤ D.faults table.new.journal.device }
     ensures found { IsErrOf result NoTable → ⊥ }
 {

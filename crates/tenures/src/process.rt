@@ -76,7 +76,7 @@ fn answer<D: Device, W: World<D>>(
     ensures kept { IsKeptSince table.old.session.setup.now (W.past world.old ++ record { found = W.found world.old; asked = groups_of steps.now; replies = W.replies world.new; ended = result } ∷ [])
         (D.history table.new.journal.device) (W.since world.new) }
     ensures answered { OnOk result (length (W.replies world.new) ≡ length (one_by_one (groups_of steps.now))) }
-    ensures cut_off { cut_offs_in result + W.cut_offs world.old ≤ W.cut_offs world.new }
+    ensures cut_off { cut_offs_in result + W.cut_offs world.old ≡ W.cut_offs world.new }
     ensures failed { failures_in result + D.faults table.old.journal.device ≤ D.faults table.new.journal.device }
     ensures found { IsErrOf result NoTable → ⊥ }
 {
@@ -106,7 +106,7 @@ pub fn tenure<D: Device, W: World<D>>(
     requires kept { IsKept setup.now (W.past world.old) (D.history device) }
     ensures past { (replies : List Outcome) × (W.past world.new ≡ W.past world.old ++ record { found = D.content device; asked = groups_of steps.now; replies = replies; ended = result.1 } ∷ [])
         × (OnOk result.1 (length replies ≡ length (one_by_one (groups_of steps.now)))) }
-    ensures cut_off { cut_offs_in result.1 + W.cut_offs world.old ≤ W.cut_offs world.new }
+    ensures cut_off { cut_offs_in result.1 + W.cut_offs world.old ≡ W.cut_offs world.new }
     ensures failed { failures_in result.1 + D.faults device ≤ D.faults result.0 }
     ensures found { IsErrOf result.1 NoTable → MayCut repair (behind (D.content device)) → ⊥ }
     ensures may_cut { OnOk result.1 (MayCut repair (behind (D.content device))) }

@@ -31,6 +31,9 @@ pub fn run<D: Device, W: World<D>>(
     ensures ended { (tenures : List Tenure) × (W.past world.new ≡ W.past world.old ++ tenures)
         × HaveEnded repair (W.cut_offs world.old) (W.cut_offs world.new) (D.faults device) (D.faults result) tenures }
     ensures kept { IsKept setup.now (W.past world.new) (D.history result) }
+    ensures none { W.replies world.new ≡ [] }
+    ensures since { W.since world.new ≡ (D.history result).now }
+    ensures file { W.found world.new ≡ D.content result }
 {
     for steps in processes {
         device = tenure(alloc, setup, device, repair, steps, world).0;

@@ -3,6 +3,7 @@ use Rattle.modprobe.specs.Setup.{Setup}
 use Rattle.modprobe.specs.Outcomes.{Outcome}
 use Rattle.held_table.specs.Held.{Held}
 use Rattle.durable_table.specs.Durable.{Stands}
+use Rattle.tenures.specs.Endings.{cut_offs_in}
 use Rattle.tenures.specs.Steps.{commands_of, groups_of, held_of, IsMade, IsMadeWhole}
 use Rattle.tenures.specs.Kept.{IsKeptSince}
 use Rattle.tenures.proofs.KeptLemmas.{GoesOn, Ending, tenure_of, begins, goes_on, answered_all}
@@ -24,7 +25,7 @@ loop-step-init g c =
       goes = subst (λ (os : List Outcome). GoesOn s before asked asked os h) none (begins asked c.requires.leads.1);
       stands = c.requires.stands;
       since = c.requires.since;
-      cut_off = omega arith;
+      cut_off = refl;
       failed = omega arith;
       kept = λ (ended : Ending). subst (λ (os : List Outcome). IsKeptSince s (before ++ tenure_of (g.W.World.found c.args.world.now) asked os ended ∷ []) (g.D.Device.history c.args.table.now.journal.device) (g.W.World.since c.args.world.now)) none
           (idle_since s before (g.W.World.found c.args.world.now) asked ended (g.D.Device.history c.args.table.now.journal.device) (g.W.World.since c.args.world.now) c.requires.kept);
@@ -69,7 +70,7 @@ loop-step-preserved g c =
       goes = goes_on goes (subst (λ (v : Setup). IsMadeWhole v h new group replies begun) same c.in_ok-make.ensures.whole);
       stands = subst (λ (v : Setup). Stands g.D.Device.content g.D.Device.history v new c.make.new.table.journal) same c.in_ok-make.ensures.stands;
       since = made_since s group replies begun h old_history new_history since since_new c.loop-step.invariant.since made;
-      cut_off = omega (arith, c.loop-step.invariant.cut_off, c.make.ensures.cut_off);
+      cut_off = omega (arith, c.loop-step.invariant.cut_off, c.make.ensures.cut_off, ap cut_offs_in c.in_ok-make.was);
       failed = omega (arith, c.loop-step.invariant.failed, c.make.ensures.failed);
       kept = λ (ended : Ending). made_kept s before asked rest group replies begun h old_history new_history since since_new goes c.loop-step.invariant.since (g.W.World.found c.args.world.now) ended made (c.loop-step.invariant.kept ended);
     }
