@@ -205,6 +205,7 @@ pub fn adopt_modules<H: Holders, D: Device>(
     ensures holders { OnOk result (HoldsTheSame (holding (H.table table.old.session.holders) (H.names table.old.session.holders)) (holding (H.table table.new.session.holders) (H.names table.new.session.holders))) }
     ensures held { OnOk result (KeepsHeld (H.table table.old.session.holders) (H.table table.new.session.holders)) }
     ensures unchanged { IsErrOf result AdoptError.BadName → table.new ≡ table.old }
+    ensures silent { IsErrOf result AdoptError.BadName → replies.new ≡ replies.old }
     ensures any_moment { AlwaysLeaves (D.history table.old.journal.device) (D.history table.new.journal.device)
         (AfterFirstOf table.old.session.setup.now (holding (H.table table.old.session.holders) (H.names table.old.session.holders))
         (adopting_lines table.old.session.setup.now (holding (H.table table.old.session.holders) (H.names table.old.session.holders)) kernel.now)) }

@@ -143,6 +143,7 @@ pub fn answer_lines<H: Holders, D: Device>(
     requires lines { AreLines (bytes_of lines.now) }
     ensures within { IfOk result (λ count. count ≤ length lines.now) }
     ensures some { IfOk result (λ count. 0 < length lines.now → 0 < count) }
+    ensures enough { IfOk result (λ count. count < length lines.now → 1048576 < length replies.new.text.items) }
     ensures answered { IfOk result (λ count. HasAnswered table.old.session.setup.now (holding (H.table table.old.session.holders) (H.names table.old.session.holders)) (take count (bytes_of lines.now)) replies.old replies.new) }
     ensures becomes { IfOk result (λ count. holding (H.table table.new.session.holders) (H.names table.new.session.holders)
         ≡ after table.old.session.setup.now (holding (H.table table.old.session.holders) (H.names table.old.session.holders)) (take count (bytes_of lines.now))) }

@@ -245,7 +245,7 @@ fn asked_folder<'a, E: Write>(
 ) -> Result<&'a str, TableFault>
     ensures ok { OnOk result (¬ IsMisplaced (text_of table.entry) (asked_view asked.now)) }
     ensures err { OnErr result (IsMisplaced (text_of table.entry) (asked_view asked.now)) }
-    ensures told { IfErr result (λ fault. fault ≡ TableFault.Told Ending.Unasked) }
+    ensures told { IfErr result (λ fault. fault ≡ TableFault.Told) }
 {
     if let Some(word) = second_folder(table, asked) {
         let advice = "GZ_TABLE is set and names the folder, so no word does";

@@ -35,7 +35,7 @@ ending_of_fault (fault.Damaged damage) = Unasked
 ending_of_fault fault.ThereAlready = Exists
 ending_of_fault fault.UsedJournal = Exists
 ending_of_fault (fault.Lock error) = ending_of_lock error
-ending_of_fault (fault.Told ending) = ending
+ending_of_fault fault.Told = Unasked
 ending_of_fault _ = Fault
 
 -- a file for which there was no memory did not fail

@@ -59,8 +59,10 @@ pub enum TableFault {
     Input,
     /// Standard output was not written.
     Output,
-    /// People were told already, and the run ends so.
-    Told(Ending),
+    /// People were told already what there is not of what is asked for.
+    Told,
+    /// The journal is as it was, since no shorter lines make its table. People were told already.
+    Kept,
 }
 
 impl TableFault {
@@ -76,10 +78,10 @@ impl TableFault {
             | TableFault::Sections(_)
             | TableFault::Foreign
             | TableFault::Changed(_)
-            | TableFault::Damaged(_) => Ending::Unasked,
+            | TableFault::Damaged(_)
+            | TableFault::Told => Ending::Unasked,
             TableFault::ThereAlready | TableFault::UsedJournal => Ending::Exists,
             TableFault::Lock(LockError::Held) => Ending::Locked,
-            TableFault::Told(ending) => ending,
             _ => Ending::Fault,
         }
     }

@@ -19,7 +19,7 @@ use std::io::{self, Write};
 use std::rt::Files;
 use std::time::Clock;
 use table_setup::seal;
-use table_words::{Ending, Machine, Origin};
+use table_words::{Machine, Origin};
 
 /// The version of kmod as which a machine's files are read: the newest, if none is named.
 fn kmod_of<E: Write>(machine: Machine<'_>, teller: &mut Teller<'_, E>) -> Result<Kmod, TableFault> {
@@ -44,7 +44,7 @@ fn sections_of<R: Files + Env + AllocGlobal, E: Write>(
             let kmod = kmod_of(machine, teller)?;
             match sections_of_machine(rt, machine, kmod, teller.errors())? {
                 Some(text) => Ok(text),
-                None => Err(TableFault::Told(Ending::Unasked)),
+                None => Err(TableFault::Told),
             }
         }
     }

@@ -1,7 +1,6 @@
 //! Files that are read are regular files.
 
 ghost use Rattle.std.specs.Prelude.{◌≡◌, ◌⊎◌, IfErr};
-ghost use Rattle.table_words.specs.declared.ending.Ending.TheVariants.{Unasked};
 ghost use Rattle.table_folder.specs.declared.fault.TableFault.TheVariants.{OutOfMemory, Told};
 
 use crate::fault::TableFault;
@@ -26,7 +25,7 @@ pub fn refuse_others<R: Files<File = File> + Clock + AllocGlobal, E: Write>(
     shared: &Shared<'_, R>,
     teller: &mut Teller<'_, E>,
 ) -> Result<(), TableFault>
-    ensures { IfErr result (λ fault. (fault ≡ OutOfMemory) ⊎ (fault ≡ Told Unasked)) }
+    ensures { IfErr result (λ fault. (fault ≡ OutOfMemory) ⊎ (fault ≡ Told)) }
 {
     for name in &FILES {
         if is_other_than_file(shared.rt, &shared.path(*name)?) {

@@ -1,7 +1,6 @@
 //! Where people are told why a run ends, and how it ends then.
 ghost use Rattle.std.specs.Prelude.{◌≡◌};
-ghost use Rattle.table_words.specs.declared.ending.Ending.TheVariants as ending;
-ghost use Rattle.table_folder.specs.declared.fault.TableFault.TheVariants.{Told};
+ghost use Rattle.table_folder.specs.declared.fault.TableFault.TheVariants.{Told, Kept};
 ghost use Rattle.table_folder.specs.Faults.{ending_of_fault};
 
 use crate::fault::{Damage, TableFault};
@@ -61,11 +60,11 @@ impl<'e, E: Write> Teller<'e, E> {
 
     /// What is said of some bytes that the words have.
     pub fn say(&mut self, what: &str, bytes: &[u8], advice: &str) -> TableFault
-        ensures { result ≡ Told ending.Unasked }
+        ensures { result ≡ Told }
     {
         let bytes = Shown(bytes);
         let _ = writeln!(self.errors, "gz-table: {what} {bytes}: {advice}");
-        TableFault::Told(Ending::Unasked)
+        TableFault::Told
     }
 
     /// A path that the words name is not read.
@@ -74,40 +73,40 @@ impl<'e, E: Write> Teller<'e, E> {
             return TableFault::OutOfMemory;
         }
         let _ = writeln!(self.errors, "gz-table: cannot read {path}: {why}");
-        TableFault::Told(Ending::Unasked)
+        TableFault::Told
     }
 
     /// A path that the words name is no regular file.
     pub(crate) fn no_file(&mut self, path: &str) -> TableFault
-        ensures { result ≡ Told ending.Unasked }
+        ensures { result ≡ Told }
     {
         let _ = writeln!(
             self.errors,
             "gz-table: {path} is no regular file: name one, or give its lines on standard input, for -"
         );
-        TableFault::Told(Ending::Unasked)
+        TableFault::Told
     }
 
     /// A file does not list a kernel's modules.
     pub(crate) fn no_listing(&mut self, fault: KernelFault) -> TableFault
-        ensures { result ≡ Told ending.Unasked }
+        ensures { result ≡ Told }
     {
         let _ = writeln!(
             self.errors,
             "gz-table: these are no lines of /proc/modules: {fault}; nothing was done"
         );
-        TableFault::Told(Ending::Unasked)
+        TableFault::Told
     }
 
     /// The folder has something else in the place of one of its files.
     pub(crate) fn other_than_file(&mut self, folder: &str, name: &str) -> TableFault
-        ensures { result ≡ Told ending.Unasked }
+        ensures { result ≡ Told }
     {
         let _ = writeln!(
             self.errors,
             "gz-table: {folder}/{name} is no regular file, and nothing was done: restore it, or make the table in another folder"
         );
-        TableFault::Told(Ending::Unasked)
+        TableFault::Told
     }
 
     /// What stood behind the journal's lines is cut off.
@@ -136,13 +135,13 @@ impl<'e, E: Write> Teller<'e, E> {
 
     /// The journal is not written anew, and is as it was.
     pub fn kept(&mut self, folder: &str) -> TableFault
-        ensures { result ≡ Told ending.Fault }
+        ensures { result ≡ Kept }
     {
         let _ = writeln!(
             self.errors,
             "gz-table: {folder}/journal is as it was: no shorter lines were found that make its table; go on with it"
         );
-        TableFault::Told(Ending::Fault)
+        TableFault::Kept
     }
 
     /// So many lines were too long. If none was, nothing is told.
@@ -175,7 +174,7 @@ impl<'e, E: Write> Teller<'e, E> {
                 );
             }
         }
-        TableFault::Told(Ending::Unasked)
+        TableFault::Told
     }
 
     fn tell_lock(&mut self, folder: &str, wait: u32, error: LockError) {
