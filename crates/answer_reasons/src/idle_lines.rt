@@ -10,9 +10,10 @@ use modprobe_files::COMMAND_LINE;
 use std::alloc::AllocError;
 use text_parts::is_same;
 
-/// Whether a name holds a mark of a pattern.
+/// Whether a name holds a mark of a pattern: `*`, `?`, `[` or a backslash (glob(7)).
 pub(crate) fn is_pattern(name: &[u8]) -> bool {
-    name.contains(&b'*') || name.contains(&b'?') || name.contains(&b'[')
+    name.iter()
+        .any(|byte| matches!(*byte, b'*' | b'?' | b'[' | b'\\'))
 }
 
 /// Whether the lines of a file are a person's: neither what depmod(8) writes into the folder of modules nor what the kernel was
