@@ -1,3 +1,5 @@
 pub mod AnswerLemmas
+pub mod BegunLemmas
 pub mod EndLemmas
 pub mod LintLemmas
+pub mod OutputLemmas

@@ -30,16 +30,19 @@ pub record IsReadBy (kmod : Kmod) (known : Known) : Type 0 where
   pub version : texts.kmod ≡ kmod
   pub is : known.conf ≡ conf_of texts
 
--- A query was answered well: standard output has grown by the answer to it of a machine, in which no name failed. The
--- machine's configuration is as this version of kmod reads it, and so are the words that are paths. With --whole a removal is
--- answered as it is made.
-pub record WasAnswered (kmod : Kmod) (whole : Bool) (query : Query) (before after : Option (List ℕ)) : Type 0 where
+-- An answer to a query is that of a machine, whose configuration is as this version of kmod reads it, and so are the words
+-- that are paths. With --whole a removal is answered as it is made.
+pub record IsAnswerBy (kmod : Kmod) (whole : Bool) (query : Query) (answer : Answer) : Type 0 where
   pub known : Known
   pub holders : List Holders
   pub read : IsReadBy kmod known
   pub paths : path_words known.paths ≡ paths_of kmod query
-  pub answer : Answer
   pub is : IsAnswer known (record { whole = whole; holders = holders }) query answer
+
+-- A query was answered well: standard output has grown by such an answer, in which no name failed.
+pub record WasAnswered (kmod : Kmod) (whole : Bool) (query : Query) (before after : Option (List ℕ)) : Type 0 where
+  pub answer : Answer
+  pub is : IsAnswerBy kmod whole query answer
   pub well : answer.failed ≡ false
   pub written : Appends before after answer.output
 

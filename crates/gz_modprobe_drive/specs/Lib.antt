@@ -1,10 +1,12 @@
 pub mod Answered
 pub mod LintFacts
 pub mod Linted
+pub mod Begun
 pub mod Ends
 pub mod Evidence
 pub mod Formed
 pub mod Leads
+pub mod Outputs
 pub mod Paths
 pub mod Queries
 pub mod Sys

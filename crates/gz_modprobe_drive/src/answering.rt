@@ -2,6 +2,7 @@
 ghost use Rattle.std.specs.Prelude.{◌≡◌, ◌≤◌, None, IfOk};
 ghost use Rattle.gz_modprobe_drive.specs.Answered.{IsEnough, status_of};
 ghost use Rattle.gz_modprobe_drive.specs.Ends.{WasAnswered};
+ghost use Rattle.gz_modprobe_drive.specs.Outputs.{WasBegun, WritesAnswer};
 ghost use Rattle.gz_modprobe_drive.specs.Paths.{paths_of, words_of};
 ghost use Rattle.gz_modprobe_drive.specs.Texts.{IsConfOf};
 
@@ -80,6 +81,7 @@ fn answer_read<S: System, O: Write, E: Write>(
     requires paths { words_of machine.now.paths.now ≡ paths_of machine.now.conf.now.kmod query.now }
     ensures status { IfOk result (λ status. status ≤ 1) }
     ensures well { IfOk result (λ status. status ≡ 0 → WasAnswered machine.now.conf.now.kmod machine.now.whole query.now (O.contents output.old) (O.contents output.new)) }
+    ensures begun { WritesAnswer machine.now.conf.now.kmod machine.now.whole query.now (O.contents output.old) (O.contents output.new) }
 {
     let answered = answer_machine(host.alloc(), machine, conf, query, output, messages)?;
     tell_answered(host, machine, &answered, query, messages)
@@ -100,6 +102,7 @@ fn answer_by<S: System, O: Write, E: Write>(
     requires paths { words_of machine.now.paths.now ≡ paths_of machine.now.conf.now.kmod query.now }
     ensures status { IfOk result (λ status. status ≤ 1) }
     ensures well { IfOk result (λ status. status ≡ 0 → WasAnswered machine.now.conf.now.kmod machine.now.whole query.now (O.contents output.old) (O.contents output.new)) }
+    ensures begun { WritesAnswer machine.now.conf.now.kmod machine.now.whole query.now (O.contents output.old) (O.contents output.new) }
 {
     let alloc = host.alloc();
     if is_answered_early(alloc, machine, conf, query, messages.explains)? {
@@ -126,6 +129,7 @@ fn answer_configured<S: System, O: Write, E: Write>(
     requires paths { words_of machine.now.paths.now ≡ paths_of machine.now.conf.now.kmod query.now }
     ensures status { IfOk result (λ status. status ≤ 1) }
     ensures well { IfOk result (λ status. status ≡ 0 → WasAnswered machine.now.conf.now.kmod machine.now.whole query.now (O.contents output.old) (O.contents output.new)) }
+    ensures begun { WritesAnswer machine.now.conf.now.kmod machine.now.whole query.now (O.contents output.old) (O.contents output.new) }
 {
     let conf = conf_of(host.alloc(), machine.conf)?;
     tell_bad_lines(host.alloc(), machine.conf, &conf, messages)?;
@@ -145,6 +149,7 @@ fn answer_from<S: System, O: Write, E: Write>(
 ) -> Result<u8, AllocError>
     ensures status { IfOk result (λ status. status ≤ 1) }
     ensures well { IfOk result (λ status. status ≡ 0 → WasAnswered conf.now.kmod asked.now.switches.whole query.now (O.contents output.old) (O.contents output.new)) }
+    ensures begun { WritesAnswer conf.now.kmod asked.now.switches.whole query.now (O.contents output.old) (O.contents output.new) }
 {
     let mut states = States::new(host.alloc());
     if asks_states(query.ask) {
@@ -181,6 +186,7 @@ fn answer_in<S: System, O: Write, E: Write>(
 ) -> Result<u8, AllocError>
     ensures status { IfOk result (λ status. status ≤ 1) }
     ensures well { IfOk result (λ status. status ≡ 0 → WasAnswered asked.now.kmod asked.now.switches.whole query.now (O.contents output.old) (O.contents output.new)) }
+    ensures begun { WritesAnswer asked.now.kmod asked.now.switches.whole query.now (O.contents output.old) (O.contents output.new) }
 {
     let named = asked.configurations.as_slice();
     let conf = read_configuration(host, asked.kmod, directory, named, messages)?;
@@ -200,6 +206,7 @@ pub(crate) fn answer_query<S: System, O: Write, E: Write>(
 ) -> Result<u8, AllocError>
     ensures status { IfOk result (λ status. status ≤ 1) }
     ensures well { IfOk result (λ status. status ≡ 0 → WasAnswered asked.now.kmod asked.now.switches.whole query.now (O.contents output.old) (O.contents output.new)) }
+    ensures begun { WritesAnswer asked.now.kmod asked.now.switches.whole query.now (O.contents output.old) (O.contents output.new) }
 {
     if is_rootless(host, asked.root.unwrap_or(b""), messages)? {
         return Ok(1);

@@ -3,10 +3,12 @@ ghost use Rattle.std.specs.Prelude.{◌≡◌, IfOk, true};
 ghost use Rattle.std.specs.List.{list_all};
 ghost use Rattle.answer_facts.specs.Shown.{is_shown};
 ghost use Rattle.modprobe_words.specs.declared.written.Written.TheVariants.{Whole};
+ghost use Rattle.gz_modprobe_drive.specs.Begun.{AreBegun, WritesFacts};
 ghost use Rattle.gz_modprobe_drive.specs.Formed.{AreWritten, form_by, lines_by};
 
+use crate::written::write_text;
 use answer_facts::{Fact, json_lines, text_lines};
-use modprobe_words::{Form, Written, write_whole};
+use modprobe_words::{Form, Written};
 use std::alloc::{AllocError, Global};
 use std::io::Write;
 
@@ -35,8 +37,9 @@ pub(crate) fn write_facts<O: Write>(
     facts: &[Fact],
     output: &mut O,
 ) -> Result<Written, AllocError>
-    ensures { IfOk result (λ written. written ≡ Whole → AreWritten form facts.now (O.contents output.old) (O.contents output.new)) }
+    ensures whole { IfOk result (λ written. written ≡ Whole → AreWritten form facts.now (O.contents output.old) (O.contents output.new)) }
+    ensures begun { WritesFacts form (O.contents output.old) (O.contents output.new) }
 {
     let lines = lines_by(alloc, form, facts)?;
-    Ok(write_whole(output, &lines))
+    Ok(write_text(output, &lines))
 }

@@ -24,6 +24,7 @@ mod sys;
 mod texts;
 mod unread;
 mod why;
+mod written;
 
 pub use configuration::conf_of;
 pub use folder::index_of;

@@ -1,5 +1,7 @@
 //! Which lines of a machine's configuration have no effect, and which of its files are not read.
 ghost use Rattle.std.specs.Prelude.{◌≡◌, ◌≤◌, IfOk, IsSome};
+ghost use Rattle.gz_modprobe_drive.specs.Begun.{AreBegun, WritesFacts};
+ghost use Rattle.gz_modprobe_drive.specs.Formed.{form_by};
 ghost use Rattle.gz_modprobe_drive.specs.Linted.{IsSilent, WasLinted, WereFound, is_of_depmod, is_of_package, origin_by, origins_of};
 
 use crate::answering::tell_unwritten;
@@ -75,6 +77,7 @@ fn write_found<O: Write, E: Write>(
 ) -> Result<u8, AllocError>
     ensures status { IfOk result (λ status. status ≤ 1) }
     ensures silent { IfOk result (λ status. status ≡ 0 → IsSilent facts.now (O.contents output.old) (O.contents output.new)) }
+    ensures begun { WritesFacts form (O.contents output.old) (O.contents output.new) }
 {
     if facts.is_empty() {
         return Ok(0);
@@ -114,6 +117,7 @@ fn lint_texts<S: System, O: Write, E: Write>(
     requires symbols { IsSome later.now.symbols }
     ensures status { IfOk result (λ status. status ≤ 1) }
     ensures well { IfOk result (λ status. status ≡ 0 → WasLinted texts.now.kmod (O.contents output.old) (O.contents output.new)) }
+    ensures begun { WritesFacts (form_by asked.now.switches.explain) (O.contents output.old) (O.contents output.new) }
 {
     let alloc = host.alloc();
     let conf = conf_of(alloc, texts)?;
@@ -141,6 +145,7 @@ fn lint_in<S: System, O: Write, E: Write>(
 ) -> Result<u8, AllocError>
     ensures status { IfOk result (λ status. status ≤ 1) }
     ensures well { IfOk result (λ status. status ≡ 0 → WasLinted asked.now.kmod (O.contents output.old) (O.contents output.new)) }
+    ensures begun { WritesFacts (form_by asked.now.switches.explain) (O.contents output.old) (O.contents output.new) }
 {
     let named = asked.configurations.as_slice();
     let texts = read_configuration(host, asked.kmod, directory, named, messages)?;
@@ -161,6 +166,7 @@ pub(crate) fn lint_machine<S: System, O: Write, E: Write>(
 ) -> Result<u8, AllocError>
     ensures status { IfOk result (λ status. status ≤ 1) }
     ensures well { IfOk result (λ status. status ≡ 0 → WasLinted asked.now.kmod (O.contents output.old) (O.contents output.new)) }
+    ensures begun { WritesFacts (form_by asked.now.switches.explain) (O.contents output.old) (O.contents output.new) }
 {
     if is_rootless(host, asked.root.unwrap_or(b""), messages)? {
         return Ok(1);

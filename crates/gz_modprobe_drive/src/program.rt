@@ -4,6 +4,7 @@ ghost use Rattle.text_parts.specs.Text.{texts_of};
 ghost use Rattle.modprobe_words.specs.Asked.{asked_of, text_of};
 ghost use Rattle.modprobe_words.specs.Variable.{bytes_of};
 ghost use Rattle.gz_modprobe_drive.specs.Ends.{IsDone, IsEndOf, given, wish_by};
+ghost use Rattle.gz_modprobe_drive.specs.Outputs.{IsOutput, IsOutputFor, IsOutputOf};
 
 use crate::answering::answer_query;
 use crate::linting::lint_machine;
@@ -41,6 +42,7 @@ fn answer_asked<R: Files + Env + AllocGlobal, O: Write, E: Write>(
 ) -> Result<u8, AllocError>
     ensures status { IfOk result (λ status. status ≤ 1) }
     ensures well { IfOk result (λ status. status ≡ 0 → IsDone (asked_of asked.now) (O.contents output.old) (O.contents output.new)) }
+    ensures written { IsOutput (asked_of asked.now) (O.contents output.old) (O.contents output.new) }
 {
     let wish = wish_asked(asked);
     let disk = Disk {
@@ -100,6 +102,7 @@ fn run_words<R: Files + Env + AllocGlobal, O: Write, E: Write>(
 ) -> Result<u8, AllocError>
     ensures status { IfOk result (λ status. status ≤ 1) }
     ensures end { IfOk result (IsEndOf (texts_of words.now) (O.contents output.old) (O.contents output.new)) }
+    ensures written { IsOutputOf (texts_of words.now) (O.contents output.old) (O.contents output.new) }
 {
     let items = read_words(rt.alloc(), words)?;
     if let Some(ending) = first_ending(&items) {
@@ -119,6 +122,7 @@ fn run<R: Files + Env + AllocGlobal, O: Write, E: Write>(
 ) -> Result<u8, AllocError>
     ensures status { IfOk result (λ status. status ≤ 1) }
     ensures end { IfOk result (IsEndOf (given (text_of options.entry) (bytes_of words.now)) (O.contents output.old) (O.contents output.new)) }
+    ensures written { IsOutputOf (given (text_of options.entry) (bytes_of words.now)) (O.contents output.old) (O.contents output.new) }
 {
     let alloc = rt.alloc();
     let own = variable_words(alloc, options.unwrap_or(b""))?;
@@ -127,7 +131,8 @@ fn run<R: Files + Env + AllocGlobal, O: Write, E: Write>(
 }
 
 /// Runs the program on its words, without its own name, and the text of MODPROBE_OPTIONS. It writes the answer to
-/// `output`, and messages to `errors`. Returns the exit status: 0, or 1 if something failed or was refused.
+/// `output`, and messages to `errors`. Returns the exit status: 0, or 1 if something failed or was refused. Nothing is
+/// written to `output` if the words or what they wish for are refused; and never more than the answer.
 pub fn drive<R: Files + Env + AllocGlobal, O: Write, E: Write>(
     rt: &R,
     words: &[Vec<u8>],
@@ -137,6 +142,7 @@ pub fn drive<R: Files + Env + AllocGlobal, O: Write, E: Write>(
 ) -> u8
     ensures status { result ≤ 1 }
     ensures end { IsEndOf (given (text_of options.entry) (bytes_of words.now)) (O.contents output.old) (O.contents output.new) result }
+    ensures written { IsOutputOf (given (text_of options.entry) (bytes_of words.now)) (O.contents output.old) (O.contents output.new) }
 {
     match run(rt, words, options, output, errors) {
         Ok(status) => status,

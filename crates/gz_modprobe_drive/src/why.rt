@@ -1,5 +1,6 @@
 //! What leads to names, from the files of a machine.
 ghost use Rattle.std.specs.Prelude.{◌≡◌, ◌≤◌, IfOk};
+ghost use Rattle.gz_modprobe_drive.specs.Begun.{AreBegun, WritesFacts};
 ghost use Rattle.gz_modprobe_drive.specs.Formed.{form_by};
 ghost use Rattle.gz_modprobe_drive.specs.Leads.{WasTold};
 
@@ -92,6 +93,7 @@ fn write_leads<O: Write, E: Write>(
 ) -> Result<u8, AllocError>
     ensures status { IfOk result (λ status. status ≤ 1) }
     ensures told { IfOk result (λ status. status ≡ 0 → WasTold form (O.contents output.old) (O.contents output.new)) }
+    ensures begun { WritesFacts form (O.contents output.old) (O.contents output.new) }
 {
     let written = write_facts(alloc, form, &leads.facts, output)?;
     tell_unwritten(written, messages);
@@ -111,6 +113,7 @@ fn tell_known<O: Write, E: Write>(
 ) -> Result<u8, AllocError>
     ensures status { IfOk result (λ status. status ≤ 1) }
     ensures told { IfOk result (λ status. status ≡ 0 → WasTold (form_by asked.now.switches.explain) (O.contents output.old) (O.contents output.new)) }
+    ensures begun { WritesFacts (form_by asked.now.switches.explain) (O.contents output.old) (O.contents output.new) }
 {
     let conf = conf_of(alloc, known.conf)?;
     tell_bad_lines(alloc, known.conf, &conf, messages)?;
@@ -129,6 +132,7 @@ fn tell_in<S: System, O: Write, E: Write>(
 ) -> Result<u8, AllocError>
     ensures status { IfOk result (λ status. status ≤ 1) }
     ensures told { IfOk result (λ status. status ≡ 0 → WasTold (form_by asked.now.switches.explain) (O.contents output.old) (O.contents output.new)) }
+    ensures begun { WritesFacts (form_by asked.now.switches.explain) (O.contents output.old) (O.contents output.new) }
 {
     let named = asked.configurations.as_slice();
     let conf = read_configuration(host, asked.kmod, directory, named, messages)?;
@@ -155,6 +159,7 @@ pub(crate) fn tell_why<S: System, O: Write, E: Write>(
 ) -> Result<u8, AllocError>
     ensures status { IfOk result (λ status. status ≤ 1) }
     ensures told { IfOk result (λ status. status ≡ 0 → WasTold (form_by asked.now.switches.explain) (O.contents output.old) (O.contents output.new)) }
+    ensures begun { WritesFacts (form_by asked.now.switches.explain) (O.contents output.old) (O.contents output.new) }
 {
     if is_rootless(host, asked.root.unwrap_or(b""), messages)? {
         return Ok(1);

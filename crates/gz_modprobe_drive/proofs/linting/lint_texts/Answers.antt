@@ -1,4 +1,4 @@
-use Rattle.std.proofs.Common.{rules}
+use Rattle.std.proofs.Common.{rules, sym}
 use Rattle.std.proofs.lemmas.Result.{IfOk-weaker}
 use Rattle.gz_modprobe_drive.proofs.LintLemmas.{was-linted}
 use Rattle.gz_modprobe_drive.proofs.linting.lint_texts.Goals as goal
@@ -10,3 +10,6 @@ returns-clause-well g c =
     (record { conf = search rules; index = search rules; files = search rules; alias = c.requires.alias; symbols = c.requires.symbols })
     c.in_ok-facts.ensures (cc) (silent zero))
     c.write_found.ensures.silent
+
+pub returns-clause-begun : goal.returns-clause-begun
+returns-clause-begun g c = rw (sym c.form_by-form.ensures) c.write_found.ensures.begun

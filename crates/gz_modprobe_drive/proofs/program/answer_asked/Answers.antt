@@ -3,6 +3,7 @@ use Rattle.std.proofs.lemmas.Result.{IfOk-weaker}
 use Rattle.text_parts.specs.Text.{texts_of}
 use Rattle.modprobe_words.specs.Asked.{asked_of}
 use Rattle.gz_modprobe_drive.proofs.LintLemmas.{lint-done, query-done, same-query, why-done}
+use Rattle.gz_modprobe_drive.proofs.OutputLemmas.{lint-output, query-output, why-output}
 use Rattle.gz_modprobe_drive.proofs.program.answer_asked.Goals as goal
 
 pub returns-then-is_lint-clause-well : goal.returns-then-is_lint-clause-well
@@ -24,3 +25,16 @@ returns-clause-well g c =
     (λ status well zero. query-done (asked_of c.args.asked.now) _ _ _ c.wish_asked-wish.ensures (sym c.is_lint.ensures ∙ c.if-is_lint.false)
     (sym c.is_why.ensures ∙ c.if-is_why.false) (record { query = c.in-Some.query; asks = same-query _ _ _ _ _ _ c.wish_asked-wish.ensures (ap texts_of c.deref.ensures.value) c.in-Some.ensures.query; answered = well zero }))
     c.answer_query.ensures.well
+
+pub returns-then-is_lint-clause-written : goal.returns-then-is_lint-clause-written
+returns-then-is_lint-clause-written g c =
+    lint-output (asked_of c.args.asked.now) _ _ _ c.wish_asked-wish.ensures (sym c.is_lint.ensures ∙ c.if-is_lint.true) c.lint_machine.ensures.begun
+
+pub returns-then-is_why-clause-written : goal.returns-then-is_why-clause-written
+returns-then-is_why-clause-written g c =
+    why-output (asked_of c.args.asked.now) _ _ _ c.wish_asked-wish.ensures (sym c.is_why.ensures ∙ c.if-is_why.true) c.tell_why.ensures.begun
+
+pub returns-clause-written : goal.returns-clause-written
+returns-clause-written g c =
+    query-output (asked_of c.args.asked.now) _ _ _ c.in-Some.query c.wish_asked-wish.ensures (sym c.is_lint.ensures ∙ c.if-is_lint.false) (sym c.is_why.ensures ∙ c.if-is_why.false)
+    (same-query _ _ _ _ _ _ c.wish_asked-wish.ensures (ap texts_of c.deref.ensures.value) c.in-Some.ensures.query) c.answer_query.ensures.begun
