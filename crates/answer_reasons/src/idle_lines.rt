@@ -6,15 +6,10 @@ use answer_facts::{IdleFact, Setting, What};
 use kmod_conf::TextLine;
 use kmod_names::{AliasEntry, Place};
 use kmod_query::{Finding, find_name};
+use machine_lint::has_pattern;
 use modprobe_files::COMMAND_LINE;
 use std::alloc::AllocError;
 use text_parts::is_same;
-
-/// Whether a name holds a mark of a pattern: `*`, `?`, `[` or a backslash (glob(7)).
-pub(crate) fn is_pattern(name: &[u8]) -> bool {
-    name.iter()
-        .any(|byte| matches!(*byte, b'*' | b'?' | b'[' | b'\\'))
-}
 
 /// Whether the lines of a file are a person's: neither what depmod(8) writes into the folder of modules nor what the kernel was
 /// booted with.
@@ -74,7 +69,8 @@ impl Told<'_> {
         setting: Setting,
     ) -> Result<(), AllocError> {
         for line in lines {
-            let passes = (has_patterns && is_pattern(line.name)) || self.known.is_target(line.name);
+            let passes = (has_patterns && has_pattern(line.name))
+                || self.known.is_target(line.name);
             if !passes && !self.known.is_module(self.alloc, line.name)? {
                 self.say_idle(line.name, IdleFact::Unknown(setting), line.place)?;
             }

@@ -1,12 +1,12 @@
 //! Which softdep lines lead to a module: those that have it, and count for a module themselves.
 
 use crate::heads::Heads;
-use crate::idle_lines::is_pattern;
 use crate::told::Told;
 use answer_facts::{LeadFact, Side, What};
 use kmod_conf::SoftdepLine;
 use kmod_names::{Place, Text, name_of_path};
 use kmod_query::{Finding, find_name};
+use machine_lint::has_pattern;
 use std::alloc::AllocError;
 use text_parts::is_same;
 
@@ -121,7 +121,7 @@ impl Told<'_> {
     /// Whether a softdep line counts for a module: that of its very name, or one that its pattern matches and no earlier line.
     fn counts(&self, line: &SoftdepLine) -> Result<bool, AllocError> {
         let name = line.name.as_bytes();
-        if !is_pattern(name) {
+        if !has_pattern(name) {
             return Ok(self.may_be_module(name)? && self.is_first(line, name)?);
         }
         let named = self.known.named;

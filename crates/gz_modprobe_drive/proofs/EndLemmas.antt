@@ -9,7 +9,7 @@ use Rattle.modprobe_files.specs.declared.texts.ModuleTexts.{ModuleTexts}
 use Rattle.gz_modprobe_drive.specs.declared.texts.Machine.{Machine}
 use Rattle.gz_modprobe_drive.specs.Answered.{IsAnswerOf, is_whole, said_by, status_of, texts_of_folder}
 use Rattle.gz_modprobe_drive.specs.Texts.{AreRead, IsThis, Large, large_texts, or_empty, texts_with}
-use Rattle.gz_modprobe_drive.specs.Begun.{IsBegun}
+use Rattle.modprobe_words.specs.Begun.{IsBegun}
 use Rattle.gz_modprobe_drive.specs.Ends.{IsAnswerBy, IsReadBy, WasAnswered}
 use Rattle.gz_modprobe_drive.specs.Outputs.{WritesAnswer}
 use Rattle.gz_modprobe_drive.specs.Paths.{paths_of, words_of as path_words}

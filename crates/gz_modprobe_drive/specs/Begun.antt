@@ -1,14 +1,9 @@
--- What was written of a text, if writes may fail.
-use Rattle.std.specs.Prelude.{◌≢◌, ℕ, List, take, Option}
-use Rattle.std.specs.Io.KnownBytes.{Appends}
+-- What was written of facts, if writes may fail.
+use Rattle.std.specs.Prelude.{◌≢◌, ℕ, List, Option}
 use Rattle.answer_facts.specs.declared.fact.Fact.{Fact}
 use Rattle.modprobe_words.specs.declared.form.Form.{Form}
+use Rattle.modprobe_words.specs.Begun.{IsBegun}
 use Rattle.gz_modprobe_drive.specs.Formed.{lines_by}
-
--- a beginning of a text was written: all of it, or what writes took before one failed
-pub record IsBegun (before after : Option (List ℕ)) (text : List ℕ) : Type 0 where
-  pub count : ℕ
-  pub written : Appends before after (take count text)
 
 -- a beginning of the lines of some facts was written
 pub record AreBegun (form : Form) (before after : Option (List ℕ)) : Type 0 where

@@ -5,9 +5,10 @@ use Rattle.kmod_query.specs.Answers.{Answer}
 use Rattle.kmod_query.specs.declared.query.Ask.{Ask}
 use Rattle.kmod_query.specs.declared.query.Query.{Query}
 use Rattle.modprobe_words.specs.Asked.{Asked, asked_by}
-use Rattle.modprobe_words.specs.Endings.{Ending, first_ending, shown_by}
+use Rattle.modprobe_words.specs.Begun.{IsBegun}
+use Rattle.modprobe_words.specs.Endings.{Ending, IsShownPart, first_ending, shown_by}
 use Rattle.modprobe_words.specs.Words.{items}
-use Rattle.gz_modprobe_drive.specs.Begun.{IsBegun, WritesFacts}
+use Rattle.gz_modprobe_drive.specs.Begun.{WritesFacts}
 use Rattle.gz_modprobe_drive.specs.Ends.{IsAnswerBy, wish_by}
 use Rattle.gz_modprobe_drive.specs.Formed.{form_by}
 use Rattle.gz_modprobe_drive.specs.Queries.{IsQueryOf, ask_of, is_lint, is_why}
@@ -38,9 +39,9 @@ IsOutputFor false (Some ask) asked before after = after ≢ before → WereBegun
 abbrev pub IsOutput : Asked → Option (List ℕ) → Option (List ℕ) → Type 0
 IsOutput asked before after = IsOutputFor (is_lint (wish_by asked) || is_why (wish_by asked)) (ask_of (wish_by asked)) asked before after
 
--- words that are refused write nothing
+-- words that end early write no more than the text that they ask for, if they ask for one
 abbrev pub IsOutputBy : Option Ending → Asked → Option (List ℕ) → Option (List ℕ) → Type 0
-IsOutputBy (Some ending) asked before after = shown_by ending ≡ None → after ≡ before
+IsOutputBy (Some ending) asked before after = IsShownPart (shown_by ending) before after
 IsOutputBy None asked before after = IsOutput asked before after
 
 -- what words have a run write, by what standard output has before and after

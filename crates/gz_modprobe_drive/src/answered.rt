@@ -1,19 +1,18 @@
 //! An answer, from the texts of a machine to a stream.
 ghost use Rattle.std.specs.Prelude.{◌≡◌, IfOk, OnErr};
 ghost use Rattle.std.specs.Io.KnownBytes.{Appends};
+ghost use Rattle.modprobe_words.specs.Begun.{IsBegun};
 ghost use Rattle.modprobe_words.specs.declared.written.Written.TheVariants.{Whole};
 ghost use Rattle.gz_modprobe_drive.specs.Answered.{IsAnswerOf, IsEnough, answer_for, manner_of, status_of};
-ghost use Rattle.gz_modprobe_drive.specs.Begun.{IsBegun};
 ghost use Rattle.gz_modprobe_drive.specs.Texts.{IsConfOf};
 
 use crate::explained::explain;
 use crate::folder::index_of;
 use crate::queries::is_removal;
 use crate::texts::{Machine, world_of};
-use crate::written::write_text;
 use kmod_conf::Conf;
 use kmod_query::{Answer, Asked, Query, World, answer_to, whole_removal};
-use modprobe_words::{Messages, Written};
+use modprobe_words::{Messages, Written, write_whole};
 use std::alloc::{AllocError, Global};
 use std::io::Write;
 
@@ -72,7 +71,7 @@ fn answer_world<O: Write, E: Write>(
     ensures kept { OnErr result (O.contents output.new ≡ O.contents output.old) }
 {
     let answer = answer_for(alloc, machine, world, query)?;
-    let written = write_text(output, answer.output());
+    let written = write_whole(output, answer.output());
     explain(alloc, machine, world, query, messages);
     Ok(Answered { answer, written })
 }

@@ -6,9 +6,8 @@ ghost use Rattle.modprobe_words.specs.declared.written.Written.TheVariants.{Whol
 ghost use Rattle.gz_modprobe_drive.specs.Begun.{AreBegun, WritesFacts};
 ghost use Rattle.gz_modprobe_drive.specs.Formed.{AreWritten, form_by, lines_by};
 
-use crate::written::write_text;
 use answer_facts::{Fact, json_lines, text_lines};
-use modprobe_words::{Form, Written};
+use modprobe_words::{Form, Written, write_whole};
 use std::alloc::{AllocError, Global};
 use std::io::Write;
 
@@ -41,5 +40,5 @@ pub(crate) fn write_facts<O: Write>(
     ensures begun { WritesFacts form (O.contents output.old) (O.contents output.new) }
 {
     let lines = lines_by(alloc, form, facts)?;
-    Ok(write_text(output, &lines))
+    Ok(write_whole(output, &lines))
 }

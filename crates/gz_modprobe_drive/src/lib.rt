@@ -24,7 +24,6 @@ mod sys;
 mod texts;
 mod unread;
 mod why;
-mod written;
 
 pub use configuration::conf_of;
 pub use folder::index_of;

@@ -22,3 +22,4 @@ pub use known::{Known, ModuleParameters, Origin};
 pub use note::{Note, NoteKind};
 pub use notes::lint;
 pub use setting::Setting;
+pub use words::has_pattern;

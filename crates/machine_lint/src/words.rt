@@ -14,8 +14,8 @@ fn is_pattern_byte(byte: u8) -> bool
     byte == b'*' || byte == b'?' || byte == b'[' || byte == b'\\'
 }
 
-/// Whether a name has a byte by which it may match others.
-pub(crate) fn has_pattern(name: &[u8]) -> bool
+/// Whether a name holds a mark of a pattern: `*`, `?`, `[` or a backslash (glob(7)).
+pub fn has_pattern(name: &[u8]) -> bool
     ensures { result ≡ has_pattern name.now }
 {
     name.iter().any(|byte| is_pattern_byte(*byte))

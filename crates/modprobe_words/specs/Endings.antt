@@ -7,6 +7,7 @@ use Rattle.modprobe_words.specs.declared.options.Switch.TheVariants as switch
 use Rattle.modprobe_words.specs.declared.options.Valued.TheVariants as valued
 use Rattle.modprobe_words.specs.declared.endings.Ending.{Ending as CodeEnding}
 use Rattle.modprobe_words.specs.declared.endings.Ending.TheVariants as code_ending
+use Rattle.modprobe_words.specs.Begun.{IsBegun}
 use Rattle.modprobe_words.specs.Forms.{form_of}
 use Rattle.modprobe_words.specs.Numbers.{is_number}
 use Rattle.modprobe_words.specs.Words.{Item, plain, with_value, operand, fault, Fault, fault_of}
@@ -61,6 +62,11 @@ IsShown (Some text) before after status = status ≡ 0 → Appends before after 
 -- how an ending ends the program, by what standard output has before and after, and the status
 abbrev pub IsEnded : Ending → Option (List ℕ) → Option (List ℕ) → ℕ → Type 0
 IsEnded ending before after status = IsShown (shown_by ending) before after status
+
+-- what is to be shown was written, or a beginning of it; if nothing is to be shown, nothing was
+abbrev pub IsShownPart : Option (List ℕ) → Option (List ℕ) → Option (List ℕ) → Type 0
+IsShownPart None before after = after ≡ before
+IsShownPart (Some text) before after = IsBegun before after text
 
 -- how contracts see the code's
 abbrev pub seen : CodeEnding → Ending

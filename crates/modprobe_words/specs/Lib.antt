@@ -4,6 +4,7 @@ pub mod Found
 pub mod Words
 pub mod Numbers
 pub mod Asked
+pub mod Begun
 pub mod Endings
 pub mod Variable
 pub mod Readings

@@ -1,6 +1,6 @@
 //! What people are told if a command line ends before a query is answered.
 ghost use Rattle.std.specs.Prelude.{◌≡◌, ◌≤◌, None, option_map};
-ghost use Rattle.modprobe_words.specs.Endings.{IsEnded, seen, shown_by};
+ghost use Rattle.modprobe_words.specs.Endings.{IsEnded, IsShownPart, seen, shown_by};
 
 use crate::endings::Ending;
 use crate::found::{is_alike, is_near};
@@ -105,6 +105,7 @@ fn tell_why<E: Write>(ending: Ending<'_>, errors: &mut E) {
 pub fn end_early<O: Write, E: Write>(ending: Ending<'_>, output: &mut O, errors: &mut E) -> u8
     ensures status { result ≤ 1 }
     ensures end { IsEnded (seen ending.entry) (O.contents output.old) (O.contents output.new) result }
+    ensures part { IsShownPart (shown_by (seen ending.entry)) (O.contents output.old) (O.contents output.new) }
     ensures silent { shown_by (seen ending.entry) ≡ None → output.new ≡ output.old }
 {
     match shown_by(ending) {

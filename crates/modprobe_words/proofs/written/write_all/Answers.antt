@@ -1,5 +1,5 @@
-use Rattle.gz_modprobe_drive.proofs.BegunLemmas.{more-begun}
-use Rattle.gz_modprobe_drive.proofs.written.write_all.Goals as goal
+use Rattle.modprobe_words.proofs.BegunLemmas.{more-begun}
+use Rattle.modprobe_words.proofs.written.write_all.Goals as goal
 
 pub loop-turn-preserved : goal.loop-turn-preserved
 loop-turn-preserved g c =
