@@ -15,6 +15,7 @@ pub mod Removals
 pub mod Shown
 pub mod KeyOrder
 pub mod World
+pub mod CommandLines
 pub mod Listed
 pub mod AnswerOf
 pub mod Reasons

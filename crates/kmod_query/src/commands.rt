@@ -2,6 +2,7 @@
 #![tactic(auto, unfolding(crate::specs::World::facts_of))]
 
 ghost use Rattle.std.specs.Prelude.{◌≡◌, ◌&&◌, IfOk, is_none, option_copied, option_map};
+ghost use Rattle.kmod_query.specs.CommandLines.{install_line, own_install_line, own_remove_line, remove_line};
 ghost use Rattle.kmod_query.specs.Commands.{install_of, is_unlisted, own_install, own_remove, remove_of};
 ghost use Rattle.kmod_query.specs.World.{facts_of, text_of};
 
@@ -18,7 +19,8 @@ fn is_unlisted(world: &World, name: &[u8], alias: Option<&[u8]>) -> bool
 
 /// The install line by which a module was found. Few names have one, so modules.dep is asked last.
 fn own_install<'a>(world: &World<'a>, name: &[u8], alias: Option<&[u8]>) -> Option<&'a TextLine>
-    ensures { option_map text_of (option_copied result) ≡ own_install (facts_of world.now) name.now (option_map (λ own. own.now) alias.entry) }
+    ensures line { option_copied result ≡ own_install_line world.now name.now (option_map (λ own. own.now) alias.entry) }
+    ensures text { option_map text_of (option_copied result) ≡ own_install (facts_of world.now) name.now (option_map (λ own. own.now) alias.entry) }
 {
     match world.conf.install_named(name) {
         Some(line) if is_unlisted(world, name, alias) => Some(line),
@@ -35,7 +37,8 @@ fn is_own_remove(world: &World, name: &[u8], alias: Option<&[u8]>) -> bool
 
 /// The remove line by which a module was found, if no install line has its name.
 fn own_remove<'a>(world: &World<'a>, name: &[u8], alias: Option<&[u8]>) -> Option<&'a TextLine>
-    ensures { option_map text_of (option_copied result) ≡ own_remove (facts_of world.now) name.now (option_map (λ own. own.now) alias.entry) }
+    ensures line { option_copied result ≡ own_remove_line world.now name.now (option_map (λ own. own.now) alias.entry) }
+    ensures text { option_map text_of (option_copied result) ≡ own_remove (facts_of world.now) name.now (option_map (λ own. own.now) alias.entry) }
 {
     match world.conf.remove_named(name) {
         Some(line) if is_own_remove(world, name, alias) => Some(line),
@@ -52,7 +55,8 @@ pub fn install_line<'a>(
     name: &[u8],
     alias: Option<&[u8]>,
 ) -> Result<Option<&'a TextLine>, AllocError>
-    ensures { IfOk result (λ line. option_map text_of (option_copied line)
+    ensures line { IfOk result (λ line. option_copied line ≡ install_line world.now name.now (option_map (λ own. own.now) alias.entry)) }
+    ensures text { IfOk result (λ line. option_map text_of (option_copied line)
         ≡ install_of (facts_of world.now) name.now (option_map (λ own. own.now) alias.entry)) }
 {
     match own_install(world, name, alias) {
@@ -69,7 +73,8 @@ pub fn remove_line<'a>(
     name: &[u8],
     alias: Option<&[u8]>,
 ) -> Result<Option<&'a TextLine>, AllocError>
-    ensures { IfOk result (λ line. option_map text_of (option_copied line)
+    ensures line { IfOk result (λ line. option_copied line ≡ remove_line world.now name.now (option_map (λ own. own.now) alias.entry)) }
+    ensures text { IfOk result (λ line. option_map text_of (option_copied line)
         ≡ remove_of (facts_of world.now) name.now (option_map (λ own. own.now) alias.entry)) }
 {
     match own_remove(world, name, alias) {
