@@ -57,6 +57,8 @@ impl<'s, H: Holders, D: Device> DurableTable<'s, H, D> {
         requires reads { Reads D.content self.old.session.setup.now (holding (H.table self.old.session.holders) (H.names self.old.session.holders)) self.old.journal }
         ensures stands { OnOk result (Stands D.content D.history self.old.session.setup.now (holding (H.table self.new.session.holders) (H.names self.new.session.holders)) self.new.journal) }
         ensures session { self.new.session ≡ self.old.session }
+        ensures content { D.content self.new.journal.device ≡ D.content self.old.journal.device }
+        ensures end { self.new.journal.end ≡ self.old.journal.end }
         ensures crash { Goes Unchanged (D.history self.old.journal.device) (D.history self.new.journal.device) }
         ensures faults { TellsFaults (D.faults self.old.journal.device) (D.faults self.new.journal.device) result }
     {

@@ -1,4 +1,5 @@
 pub mod Belief
 pub mod Calls
 pub mod Faults
+pub mod Opening
 pub mod Renewed

@@ -31,12 +31,20 @@ impl fmt::Display for OpenError {
 impl std::error::Error for OpenError {}
 
 impl From<AllocError> for OpenError {
+    ghost use Rattle.file_journal.specs.declared.device.OpenError.TheVariants.{OutOfMemory};
+
+    ghost from_gives = { λ _ error. error ≡ OutOfMemory };
+
     fn from(_: AllocError) -> Self {
         OpenError::OutOfMemory
     }
 }
 
 impl From<FileFault> for OpenError {
+    ghost use Rattle.file_journal.specs.Opening.{open_error_of};
+
+    ghost from_gives = { λ fault error. error ≡ open_error_of fault };
+
     fn from(fault: FileFault) -> Self {
         match fault.cause {
             Cause::OutOfMemory => OpenError::OutOfMemory,

@@ -38,6 +38,11 @@ impl fmt::Display for LockError {
 impl std::error::Error for LockError {}
 
 impl From<AllocError> for LockError {
+    ghost use Rattle.std.specs.Prelude.{◌≡◌};
+    ghost use Rattle.file_journal.specs.declared.lock.LockError.TheVariants.{OutOfMemory};
+
+    ghost from_gives = { λ _ error. error ≡ OutOfMemory };
+
     fn from(_: AllocError) -> Self {
         LockError::OutOfMemory
     }

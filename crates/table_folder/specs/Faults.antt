@@ -1,5 +1,6 @@
 -- How a run ends that did not do what was asked.
-use Rattle.std.specs.Prelude.{◌≡◌, ℕ, List, codes, ⊤, Option, Some, None}
+use Rattle.std.specs.Prelude.{◌≡◌, ◌≢◌, ◌⊎◌, ℕ, true, List, codes, ⊤, Option, Some, None, IsUtf8}
+use Rattle.std.specs.Str.{bytes_eq}
 use Rattle.std.specs.Borrow.{Bor}
 use Rattle.std.specs.declared.io.ErrorKind.{ErrorKind}
 use Rattle.std.specs.declared.io.ErrorKind.TheVariants as kind
@@ -15,6 +16,8 @@ use Rattle.file_journal.specs.declared.lock.LockError.TheVariants as lock_error
 use Rattle.table_words.specs.declared.ending.Ending.{Ending}
 use Rattle.table_words.specs.declared.ending.Ending.TheVariants.{Unasked, Fault, Locked, Exists}
 use Rattle.table_folder.specs.declared.fault.TableFault.{TableFault}
+use Rattle.table_folder.specs.declared.setup.SectionsFault.{SectionsFault}
+use Rattle.table_folder.specs.declared.setup.SectionsFault.TheVariants.{Memory}
 use Rattle.table_folder.specs.declared.fault.TableFault.TheVariants as fault
 
 -- a lock that others hold is no failure of the disk
@@ -66,6 +69,35 @@ IsUnread name fault.NoTable = name ≡ codes "setup"
 IsUnread name fault.NoJournal = name ≡ codes "journal"
 IsUnread name (fault.Unread file why) = file.now ≡ name
 IsUnread name _ = ⊥
+
+-- sections for which there was no memory are not refused
+abbrev pub fault_of_sections : SectionsFault → TableFault
+fault_of_sections Memory = fault.OutOfMemory
+fault_of_sections why = fault.Sections why
+
+-- bytes are no setup: they are cut off, or their sections are refused; or there was no memory
+abbrev pub IsRefused : TableFault → Type 0
+IsRefused fault.OutOfMemory = ⊤
+IsRefused fault.CutSetup = ⊤
+IsRefused (fault.Sections why) = why ≢ Memory
+IsRefused _ = ⊥
+
+-- no setup was read: its file was not, or its bytes are none
+abbrev pub IsNoSetup : TableFault → Type 0
+IsNoSetup fault = IsUnread (codes "setup") fault ⊎ IsRefused fault
+
+-- people were told why, or there was no memory
+abbrev pub IsTold : TableFault → Type 0
+IsTold fault.OutOfMemory = ⊤
+IsTold fault.Told = ⊤
+IsTold _ = ⊥
+
+-- a word names no listing: the input failed that it names, or a path is no UTF-8, which is told; or there was no memory
+abbrev pub IsUnlisted : List ℕ → TableFault → Type 0
+IsUnlisted word fault.OutOfMemory = ⊤
+IsUnlisted word fault.Input = bytes_eq word (codes "-") ≡ true
+IsUnlisted word fault.Told = ¬ IsUtf8 word
+IsUnlisted word _ = ⊥
 
 -- the folder was not made
 abbrev pub IsNoFolder : TableFault → Type 0

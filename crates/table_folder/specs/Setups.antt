@@ -4,7 +4,12 @@ use Rattle.table_setup.specs.Sealed.{IsSealed, sealed as sealed_text}
 use Rattle.table_setup.specs.Sums.{adler32}
 use Rattle.modprobe.specs.Setup.{Setup}
 use Rattle.modprobe.specs.SetupInput.{setup_of}
+use Rattle.modprobe.specs.declared.fault.SetupCode.{SetupCode}
+use Rattle.modprobe.specs.declared.fault.SetupCode.TheVariants as code
+use Rattle.modprobe.specs.declared.fault.SetupFault.{SetupFault}
 use Rattle.table_folder.specs.declared.folder_setup.FolderSetup.{FolderSetup}
+use Rattle.table_folder.specs.declared.setup.SectionsFault.{SectionsFault}
+use Rattle.table_folder.specs.declared.setup.SectionsFault.TheVariants.{Memory, Setup as Refused}
 
 -- The bytes of the file are a text, and a last line with its length and a sum. The text says this.
 pub record IsReadFrom (bytes : List ℕ) (found : FolderSetup) : Type 0 where
@@ -21,3 +26,11 @@ pub record IsNewSetup (bytes : List ℕ) : Type 0 where
   pub setup : Setup
   pub says : setup_of text ≡ Ok (setup, [])
   pub whole : bytes ≡ sealed_text text
+
+abbrev pub fault_by_code : SetupFault → SetupCode → SectionsFault
+fault_by_code why code.Memory = Memory
+fault_by_code why other = Refused why
+
+-- sections for which there was no memory are not refused
+abbrev pub sections_fault_of : SetupFault → SectionsFault
+sections_fault_of why = fault_by_code why why.code

@@ -97,6 +97,19 @@ impl From<AllocError> for TableFault {
     }
 }
 
+impl From<SectionsFault> for TableFault {
+    ghost use Rattle.table_folder.specs.Faults.{fault_of_sections};
+
+    ghost from_gives = { λ why fault. fault ≡ fault_of_sections why };
+
+    fn from(why: SectionsFault) -> TableFault {
+        match why {
+            SectionsFault::Memory => TableFault::OutOfMemory,
+            _ => TableFault::Sections(why),
+        }
+    }
+}
+
 impl From<LockError> for TableFault {
     ghost use Rattle.table_folder.specs.Faults.{fault_of_lock};
 

@@ -1,5 +1,6 @@
 //! The setup of a folder: what it says, and whether it was changed since it was written.
-ghost use Rattle.std.specs.Prelude.{◌≡◌, ℕ, List, IfOk};
+ghost use Rattle.std.specs.Prelude.{◌≡◌, ℕ, List, IfOk, IfErr};
+ghost use Rattle.table_folder.specs.Faults.{IsRefused};
 ghost use Rattle.table_folder.specs.Setups.{is_sound, IsReadFrom};
 
 use crate::fault::TableFault;
@@ -26,7 +27,8 @@ impl FolderSetup {
         bytes: Vec<u8>,
         form: AliasForm,
     ) -> Result<FolderSetup, TableFault>
-        ensures { IfOk result (IsReadFrom bytes.items) }
+        ensures found { IfOk result (IsReadFrom bytes.items) }
+        ensures fault { IfErr result IsRefused }
     {
         let Some(sealed) = Sealed::read(&bytes) else {
             return Err(TableFault::CutSetup);
@@ -34,21 +36,18 @@ impl FolderSetup {
         let (length, sum) = (sealed.text.len(), sealed.sum);
         let mut text = bytes;
         text.truncate(length);
-        match setup_of(alloc, &text, form) {
-            Ok(setup) => Ok(FolderSetup { setup, text, sum }),
-            Err(fault) => Err(TableFault::Sections(fault)),
-        }
+        let setup = setup_of(alloc, &text, form)?;
+        Ok(FolderSetup { setup, text, sum })
     }
 
     /// The same setup, with its aliases in another form.
     pub(crate) fn in_form(self, alloc: Global, form: AliasForm) -> Result<FolderSetup, TableFault>
-        ensures { (bytes : List ℕ) → IsReadFrom bytes self → IfOk result (IsReadFrom bytes) }
+        ensures found { (bytes : List ℕ) → IsReadFrom bytes self → IfOk result (IsReadFrom bytes) }
+        ensures fault { IfErr result IsRefused }
     {
         let FolderSetup { text, sum, .. } = self;
-        match setup_of(alloc, &text, form) {
-            Ok(setup) => Ok(FolderSetup { setup, text, sum }),
-            Err(fault) => Err(TableFault::Sections(fault)),
-        }
+        let setup = setup_of(alloc, &text, form)?;
+        Ok(FolderSetup { setup, text, sum })
     }
 
     /// Whether the text has the sum that the last line says. If not, the file was changed since it was written. It takes a

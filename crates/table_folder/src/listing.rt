@@ -1,5 +1,6 @@
 //! The modules that a kernel has, as a file or standard input lists them.
-ghost use Rattle.std.specs.Prelude.{IfOk};
+ghost use Rattle.std.specs.Prelude.{IfOk, IfErr};
+ghost use Rattle.table_folder.specs.Faults.{IsTold, IsUnlisted};
 ghost use Rattle.table_folder.specs.Listings.{IsListing, AreModulesOf};
 
 use crate::fault::TableFault;
@@ -30,7 +31,8 @@ pub fn listing_of<'a, I: Read, E: Write>(
     input: &mut I,
     teller: &mut Teller<'_, E>,
 ) -> Result<Listing<'a>, TableFault>
-    ensures { IfOk result (IsListing file.now (I.remaining input.old)) }
+    ensures listing { IfOk result (IsListing file.now (I.remaining input.old)) }
+    ensures fault { IfErr result (IsUnlisted file.now) }
 {
     if is_same(file, b"-") {
         return match read_input(alloc, input) {
@@ -50,7 +52,9 @@ fn read_regular<R: Files + AllocGlobal, E: Write>(
     rt: &R,
     path: &str,
     teller: &mut Teller<'_, E>,
-) -> Result<Vec<u8>, TableFault> {
+) -> Result<Vec<u8>, TableFault>
+    ensures { IfErr result IsTold }
+{
     if is_other_than_file(rt, path) && !is_folder(rt, path) {
         return Err(teller.no_file(path));
     }
@@ -67,7 +71,8 @@ pub fn modules_of<R: Files + AllocGlobal, E: Write>(
     listing: Listing<'_>,
     teller: &mut Teller<'_, E>,
 ) -> Result<Vec<KernelModule>, TableFault>
-    ensures { IfOk result (λ kernel. AreModulesOf listing.entry kernel.items) }
+    ensures modules { IfOk result (λ kernel. AreModulesOf listing.entry kernel.items) }
+    ensures fault { IfErr result IsTold }
 {
     let text = match listing {
         Listing::Given(text) => text,

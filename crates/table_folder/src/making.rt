@@ -1,6 +1,6 @@
 //! The setup of a new table: how it is made, and how it is written.
 ghost use Rattle.std.specs.Prelude.{codes, IfOk, IfErr};
-ghost use Rattle.table_folder.specs.Faults.{IsNoFolder, IsUnwritten};
+ghost use Rattle.table_folder.specs.Faults.{IsNoFolder, IsTold, IsUnwritten};
 ghost use Rattle.table_folder.specs.Setups.{IsNewSetup};
 
 use crate::fault::{TableFault, unwritten};
@@ -22,7 +22,9 @@ use table_setup::seal;
 use table_words::{Machine, Origin};
 
 /// The version of kmod as which a machine's files are read: the newest, if none is named.
-fn kmod_of<E: Write>(machine: Machine<'_>, teller: &mut Teller<'_, E>) -> Result<Kmod, TableFault> {
+fn kmod_of<E: Write>(machine: Machine<'_>, teller: &mut Teller<'_, E>) -> Result<Kmod, TableFault>
+    ensures { IfErr result IsTold }
+{
     let Some(number) = machine.kmod else {
         return Ok(Kmod::Version34);
     };
@@ -37,7 +39,9 @@ fn sections_of<R: Files + Env + AllocGlobal, E: Write>(
     rt: &R,
     origin: Origin<'_, '_>,
     teller: &mut Teller<'_, E>,
-) -> Result<Vec<u8>, TableFault> {
+) -> Result<Vec<u8>, TableFault>
+    ensures { IfErr result IsTold }
+{
     match origin {
         Origin::Sections(words) => named_sections(rt, words, teller),
         Origin::Host(machine) => {
@@ -57,7 +61,8 @@ pub fn new_setup<R: Files + Env + AllocGlobal, E: Write>(
     origin: Origin<'_, '_>,
     teller: &mut Teller<'_, E>,
 ) -> Result<Vec<u8>, TableFault>
-    ensures { IfOk result (λ bytes. IsNewSetup bytes.items) }
+    ensures setup { IfOk result (λ bytes. IsNewSetup bytes.items) }
+    ensures fault { IfErr result IsTold }
 {
     let text = sections_of(rt, origin, teller)?;
     if let Err(fault) = setup_of(rt.alloc(), &text, AliasForm::Text) {

@@ -1,6 +1,6 @@
 //! How the files of a folder are read.
 ghost use Rattle.std.specs.Prelude.{ℕ, List, codes, IfOk, IfErr};
-ghost use Rattle.table_folder.specs.Faults.{IsUnread};
+ghost use Rattle.table_folder.specs.Faults.{IsNoSetup, IsUnread};
 ghost use Rattle.table_folder.specs.Setups.{IsReadFrom};
 
 use crate::alias_form::form_for;
@@ -72,7 +72,8 @@ pub fn read_journal<R: Files<File = File> + Clock + AllocGlobal>(
 pub fn read_setup<R: Files<File = File> + Clock + AllocGlobal>(
     shared: &Shared<'_, R>,
 ) -> Result<ManuallyDrop<FolderSetup>, TableFault>
-    ensures { IfOk result (λ found. (bytes : List ℕ) × IsReadFrom bytes found.value) }
+    ensures found { IfOk result (λ found. (bytes : List ℕ) × IsReadFrom bytes found.value) }
+    ensures fault { IfErr result IsNoSetup }
 {
     let bytes = read_file(shared, SETUP)?;
     let setup = FolderSetup::read(shared.alloc(), bytes, AliasForm::Table)?;
@@ -85,7 +86,8 @@ pub fn read_setup_for_command<R: Files<File = File> + Clock + AllocGlobal>(
     shared: &Shared<'_, R>,
     words: &[&[u8]],
 ) -> Result<ManuallyDrop<FolderSetup>, TableFault>
-    ensures { IfOk result (λ found. (bytes : List ℕ) × IsReadFrom bytes found.value) }
+    ensures found { IfOk result (λ found. (bytes : List ℕ) × IsReadFrom bytes found.value) }
+    ensures fault { IfErr result IsNoSetup }
 {
     let alloc = shared.alloc();
     let bytes = read_file(shared, SETUP)?;

@@ -1,4 +1,6 @@
 //! The sections of a new table, of the files that words name.
+ghost use Rattle.std.specs.Prelude.{IfErr};
+ghost use Rattle.table_folder.specs.Faults.{IsTold};
 
 use crate::fault::TableFault;
 use crate::teller::Teller;
@@ -16,7 +18,9 @@ fn add_file<R: Files, E: Write>(
     text: &mut Vec<u8>,
     file: NamedFile<'_>,
     teller: &mut Teller<'_, E>,
-) -> Result<(), TableFault> {
+) -> Result<(), TableFault>
+    ensures { IfErr result IsTold }
+{
     let added = match File::open(rt, file.path) {
         Ok(mut opened) => add_section(text, file.section, &mut opened),
         Err(error) => Err(error),
@@ -33,7 +37,9 @@ fn add_folder<R: Files + AllocGlobal, E: Write>(
     text: &mut Vec<u8>,
     folder: &str,
     teller: &mut Teller<'_, E>,
-) -> Result<(), TableFault> {
+) -> Result<(), TableFault>
+    ensures { IfErr result IsTold }
+{
     let paths = match paths_in(rt.alloc(), rt, folder) {
         Ok(paths) => paths,
         Err(why) => return Err(teller.unread(folder, why)),
@@ -56,7 +62,9 @@ fn add_word<R: Files + AllocGlobal, E: Write>(
     text: &mut Vec<u8>,
     word: &[u8],
     teller: &mut Teller<'_, E>,
-) -> Result<(), TableFault> {
+) -> Result<(), TableFault>
+    ensures { IfErr result IsTold }
+{
     let advice = "write catalogue=PATH, dep=PATH, alias=PATH or conf=PATH";
     let Some(file) = str::from_utf8(word).ok().and_then(NamedFile::of) else {
         return Err(teller.say("bad word", word, advice));
@@ -72,7 +80,9 @@ pub(crate) fn named_sections<R: Files + AllocGlobal, E: Write>(
     rt: &R,
     words: &[&[u8]],
     teller: &mut Teller<'_, E>,
-) -> Result<Vec<u8>, TableFault> {
+) -> Result<Vec<u8>, TableFault>
+    ensures { IfErr result IsTold }
+{
     let mut text = Vec::new(rt.alloc());
     for word in words {
         add_word(rt, &mut text, *word, teller)?;

@@ -37,6 +37,10 @@ impl From<AllocError> for SectionsFault {
 }
 
 impl From<SetupFault> for SectionsFault {
+    ghost use Rattle.table_folder.specs.Setups.{sections_fault_of};
+
+    ghost from_gives = { λ why fault. fault ≡ sections_fault_of why };
+
     fn from(fault: SetupFault) -> SectionsFault {
         match fault.code {
             SetupCode::Memory => SectionsFault::Memory,

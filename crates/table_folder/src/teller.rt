@@ -1,7 +1,7 @@
 //! Where people are told why a run ends, and how it ends then.
 ghost use Rattle.std.specs.Prelude.{◌≡◌};
 ghost use Rattle.table_folder.specs.declared.fault.TableFault.TheVariants.{Told, Kept};
-ghost use Rattle.table_folder.specs.Faults.{ending_of_fault};
+ghost use Rattle.table_folder.specs.Faults.{ending_of_fault, IsTold};
 
 use crate::fault::{Damage, TableFault};
 use crate::setup::SectionsFault;
@@ -68,7 +68,9 @@ impl<'e, E: Write> Teller<'e, E> {
     }
 
     /// A path that the words name is not read.
-    pub(crate) fn unread(&mut self, path: &str, why: PathFault) -> TableFault {
+    pub(crate) fn unread(&mut self, path: &str, why: PathFault) -> TableFault
+        ensures { IsTold result }
+    {
         if why == PathFault::Memory {
             return TableFault::OutOfMemory;
         }
@@ -158,7 +160,9 @@ impl<'e, E: Write> Teller<'e, E> {
     }
 
     /// The sections of a new table are refused.
-    pub(crate) fn refused_sections(&mut self, fault: SectionsFault) -> TableFault {
+    pub(crate) fn refused_sections(&mut self, fault: SectionsFault) -> TableFault
+        ensures { IsTold result }
+    {
         match fault {
             SectionsFault::Memory => return TableFault::OutOfMemory,
             SectionsFault::Setup(fault) => {

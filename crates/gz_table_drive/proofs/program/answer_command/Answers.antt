@@ -17,8 +17,8 @@ returns g c =
     let count = c.in_ok-answer_in_tenure.field-0 in
     let one : bytes_of lines ≡ line ∷ [] = ap bytes_of c.deref-2.ensures.value ∙ c.in_ok-lines.ensures.one in
     let some : 0 < count = c.in_ok-answer_in_tenure.ensures.some (omega (arith, ap length one, length-map lines (λ (v : Vec ℕ Global). v.items))) in
-    line_written c.in_ok-setup.ensures.0 c.in_ok-setup.setup.value line (take count (bytes_of lines)) (g.O.Write.contents c.args.output.now) (g.O.Write.contents c.write_whole.new.output)
-    c.new-replies.result c.answer_in_tenure.new.replies c.first_ending.result c.in_ok-setup.ensures.1 (alone_answered line (bytes_of lines) count one some)
+    line_written c.in_ok-setup.ensures.found.0 c.in_ok-setup.setup.value line (take count (bytes_of lines)) (g.O.Write.contents c.args.output.now) (g.O.Write.contents c.write_whole.new.output)
+    c.new-replies.result c.answer_in_tenure.new.replies c.first_ending.result c.in_ok-setup.ensures.found.1 (alone_answered line (bytes_of lines) count one some)
     c.new-replies.ensures.text c.new-replies.ensures.endings
     (subst (λ (f : FolderSetup). HasAnsweredOver f.setup (take count (bytes_of lines)) c.new-replies.result c.answer_in_tenure.new.replies)
     (c.new.ensures ∙ c.deref.ensures) c.in_ok-answer_in_tenure.ensures.answered)
