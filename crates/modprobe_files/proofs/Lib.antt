@@ -1,3 +1,4 @@
+pub mod ChosenLemmas
 pub mod FileLemmas
 pub mod HiddenLemmas
 pub mod RootLemmas

@@ -1,5 +1,5 @@
 //! What is told of files and folders that are missing or are not read.
-ghost use Rattle.std.specs.Prelude.{◌≡◌};
+ghost use Rattle.std.specs.Prelude.{◌≡◌, [], false, Ok};
 ghost use Rattle.modprobe_files.specs.Texts.{is_cut};
 
 use crate::host::{Host, folder_of, joined};
@@ -100,7 +100,10 @@ pub fn is_rootless<S: System, E: Write>(
     host: &Host<'_, S>,
     root: &[u8],
     messages: &mut Messages<'_, E>,
-) -> Result<bool, AllocError> {
+) -> Result<bool, AllocError>
+    ensures empty { root.now ≡ [] → result ≡ Ok false }
+    ensures silent { result ≡ Ok false → messages.new ≡ messages.old }
+{
     if root.is_empty() || matches!(host.kind(b"/")?, Kind::Folder) {
         return Ok(false);
     }

@@ -1,5 +1,5 @@
 //! The files of the machine that is asked.
-ghost use Rattle.std.specs.Prelude.{◌≡◌, ◌≤◌, ◌++◌, length, IfOk};
+ghost use Rattle.std.specs.Prelude.{◌≡◌, ◌≤◌, ◌++◌, length, true, IfOk, None, Ok};
 ghost use Rattle.modprobe_files.specs.Places.{IsAllowed};
 
 use crate::system::{Kind, Place, System};
@@ -41,7 +41,9 @@ impl<S: System> Host<'_, S> {
     }
 
     /// The current folder, if there is no root.
-    pub fn current_folder(&self) -> io::Result<Option<Vec<u8>>> {
+    pub fn current_folder(&self) -> io::Result<Option<Vec<u8>>>
+        ensures { S.is_rooted self.now.system.now ≡ true → result ≡ Ok None }
+    {
         if self.system.is_rooted() {
             return Ok(None);
         }

@@ -1,5 +1,10 @@
 //! The texts of the machine that is asked.
-ghost use Rattle.std.specs.Prelude.{◌≡◌, true, IfOk, IsSome};
+ghost use Rattle.std.specs.Prelude.{◌≡◌, [], false, true, map, IfOk, IfSome, IsSome};
+ghost use Rattle.text_parts.specs.Text.{texts_of};
+ghost use Rattle.modprobe_words.specs.Asked.{text_of};
+ghost use Rattle.modprobe_files.specs.Chosen.{AreCounted, AreRead, AreSomeOf, IsDirectory, IsPrinted, paths_of_files};
+ghost use Rattle.modprobe_files.specs.Files.{files_of};
+ghost use Rattle.modprobe_files.specs.Paths.{path_in};
 
 use crate::faults::tell_unread;
 use crate::files::{File, counted_files};
@@ -64,7 +69,9 @@ fn own_release<S: System, E: Write>(
 
 /// A path as it is printed. One that does not begin at the root stands below the current folder, which below another root is
 /// `/`. The empty path stays empty.
-pub fn absolute_path<S: System>(host: &Host<'_, S>, path: &[u8]) -> Result<Vec<u8>, AllocError> {
+pub fn absolute_path<S: System>(host: &Host<'_, S>, path: &[u8]) -> Result<Vec<u8>, AllocError>
+    ensures { IfOk result (λ printed. IsPrinted (S.is_rooted host.now.system.now) path.now printed.items) }
+{
     let alloc = host.alloc();
     if path.is_empty() || path.starts_with(b"/") {
         return Vec::from_slice(alloc, path);
@@ -81,7 +88,11 @@ pub fn directory<S: System, E: Write>(
     host: &Host<'_, S>,
     asked: &Asked<'_>,
     messages: &mut Messages<'_, E>,
-) -> Result<Option<Vec<u8>>, AllocError> {
+) -> Result<Option<Vec<u8>>, AllocError>
+    ensures folder { IfOk result (λ found. IfSome found (λ folder.
+        IsDirectory (S.is_rooted host.now.system.now) (text_of asked.now.directory) (text_of asked.now.release) folder.items)) }
+    ensures asked { IfOk result (λ found. IsSome asked.now.release → IsSome found) }
+{
     let alloc = host.alloc();
     let parent = absolute_path(host, asked.directory.unwrap_or(b""))?;
     let folder = joined(alloc, &parent, b"/lib/modules", b"")?;
@@ -99,7 +110,9 @@ fn read_files<S: System, E: Write>(
     host: &Host<'_, S>,
     files: Vec<File>,
     messages: &mut Messages<'_, E>,
-) -> Result<Vec<TextFile>, AllocError> {
+) -> Result<Vec<TextFile>, AllocError>
+    ensures { IfOk result (λ texts. AreSomeOf (map path_in texts.items) (paths_of_files (files_of files.items))) }
+{
     let mut texts = Vec::new(host.alloc());
     for file in files.into_iter() {
         if let Some(text) = text_of(host, &file.path, messages)? {
@@ -117,11 +130,15 @@ fn chosen_files<S: System, E: Write>(
     directory: &[u8],
     paths: &[&[u8]],
     messages: &mut Messages<'_, E>,
-) -> Result<(Vec<File>, Vec<HiddenFile>), AllocError> {
+) -> Result<(Vec<File>, Vec<HiddenFile>), AllocError>
+    ensures files { IfOk result (λ chosen. AreCounted kmod directory.now (texts_of paths.now) (files_of chosen.0.items)) }
+    ensures hidden { IfOk result (λ chosen. messages.old.explains ≡ false → chosen.1.items ≡ []) }
+{
     let alloc = host.alloc();
+    let explains = messages.explains;
     let sources = configuration_sources(host, kmod, directory, paths, messages)?;
     let files = counted_files(alloc, kmod, &sources)?;
-    let hidden = if messages.explains {
+    let hidden = if explains {
         hidden_files(alloc, kmod, &sources, &files)?
     } else {
         Vec::new(alloc)
@@ -137,7 +154,9 @@ pub fn read_configuration<S: System, E: Write>(
     paths: &[&[u8]],
     messages: &mut Messages<'_, E>,
 ) -> Result<ConfTexts, AllocError>
-    ensures { IfOk result (λ texts. texts.kmod ≡ kmod) }
+    ensures kmod { IfOk result (λ texts. texts.kmod ≡ kmod) }
+    ensures files { IfOk result (λ texts. AreRead kmod directory.now (texts_of paths.now) (map path_in texts.files.items)) }
+    ensures hidden { IfOk result (λ texts. messages.old.explains ≡ false → texts.hidden.items ≡ []) }
 {
     let (files, hidden) = chosen_files(host, kmod, directory, paths, messages)?;
     Ok(ConfTexts {

@@ -1,6 +1,7 @@
 //! The files of the configuration, as they lie on the machine.
 ghost use Rattle.std.specs.Prelude.{◌≡◌, IfOk, IfSome};
 ghost use Rattle.text_parts.specs.Text.{texts_of};
+ghost use Rattle.modprobe_files.specs.Chosen.{AreSources};
 ghost use Rattle.modprobe_files.specs.Files.{path_of, single_in, source_of, sources_of};
 ghost use Rattle.modprobe_files.specs.Folders.{own_sources, paths_by_rank};
 
@@ -155,7 +156,9 @@ pub(crate) fn configuration_sources<S: System, E: Write>(
     directory: &[u8],
     paths: &[&[u8]],
     messages: &mut Messages<'_, E>,
-) -> Result<Vec<Source>, AllocError> {
+) -> Result<Vec<Source>, AllocError>
+    ensures { IfOk result (λ sources. AreSources kmod directory.now (texts_of paths.now) (sources_of sources.items)) }
+{
     let mut sources = own_sources(host.alloc(), kmod, directory)?;
     for path in paths_by_rank(kmod, paths) {
         if let Some(source) = source_at(host, kmod, *path, !paths.is_empty(), messages)? {
