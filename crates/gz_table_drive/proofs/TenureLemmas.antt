@@ -56,6 +56,11 @@ pub stands_err : {E D : Type 0} {content : D → List ℕ} {history : D → Hist
     → Stands content history s h journal → OnErr result (HasAnsweredFirst s h lines old new) → OnErr result (HasStopped s lines old new)
 stands_err {content = content} {journal = journal} s h lines old new result stands = over_err s h (content journal.device) lines old new result stands.same
 
+-- some file stands for such a table
+pub stands_for : {D : Type 0} {content : D → List ℕ} {history : D → History} {journal : Journal D} (s other : Setup) (h : Held)
+    → Stands content history s h journal → s ≡ other → (file : List ℕ) × FileStands other h file
+stands_for {content = content} {journal = journal} s other h stands same = (content journal.device, subst (λ own. FileStands own h (content journal.device)) same stands.same)
+
 -- the replies to the first lines, of which not all are there
 pub asked_first : (s : Setup) (h : Held) (count : ℕ) (lines : List (Vec ℕ Global)) (there : ℕ) (made answered : List HeldReply) (old new : Replies)
     → answered ≡ made → map (λ r. r.reply) made ≡ replies_of s h (bytes_of (take count lines)) → there ≤ length answered

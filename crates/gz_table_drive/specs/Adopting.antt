@@ -1,5 +1,5 @@
 -- A table that is brought to a kernel's modules.
-use Rattle.std.specs.Prelude.{◌≡◌, ℕ, Bool, true, false, nat_eq, if◌then◌else◌, List, [], ◌∷◌, ◌++◌, length, map, filter, take, codes}
+use Rattle.std.specs.Prelude.{◌≡◌, ℕ, Option, Bool, true, false, nat_eq, if◌then◌else◌, List, [], ◌∷◌, ◌++◌, length, map, filter, take, codes}
 use Rattle.std.specs.List.{flat_map, starts_with}
 use Rattle.dep_index.specs.Catalogue.{modules_of}
 use Rattle.dep_index.specs.Laws.{IsShaped, IsLawful}
@@ -8,6 +8,7 @@ use Rattle.modprobe.specs.Outcomes.{Outcome, says, refuses, text_of}
 use Rattle.held_table.specs.Held.{Held}
 use Rattle.held_lines.specs.Laws.{KeepsHeld}
 use Rattle.held_lines.specs.Outcomes.{after}
+use Rattle.durable_table.specs.Durable.{FileStands}
 use Rattle.durable_table.specs.Groups.{replies_of}
 use Rattle.table_adopt.specs.declared.kernel.KernelModule.{KernelModule}
 use Rattle.table_adopt.specs.Steps.{line_of}
@@ -16,6 +17,10 @@ use Rattle.table_adopt.specs.Reports.{report_of}
 use Rattle.table_words.specs.declared.ending.Ending.{Ending}
 use Rattle.table_words.specs.declared.ending.Ending.TheVariants as ending
 use Rattle.table_folder.specs.Endings.{ending_of_outcome}
+use Rattle.table_folder.specs.Listings.{IsListing, AreModulesOf}
+use Rattle.table_folder.specs.Setups.{IsReadFrom}
+use Rattle.table_folder.specs.declared.folder_setup.FolderSetup.{FolderSetup}
+use Rattle.table_folder.specs.declared.listing.Listing.{Listing}
 use Rattle.durable_table.specs.declared.durable.PerformError.{PerformError}
 use Rattle.durable_table.specs.declared.durable.PerformError.TheVariants as perform_error
 use Rattle.gz_table_drive.specs.Answers.{HasMore}
@@ -50,6 +55,30 @@ pub record HasAdopted (s : Setup) (h : Held) (kernel : List KernelModule) (old n
       ≡ old.text.items ++ (report_of s.catalogue h.table kernel ++ flat_map text_of (refused_of (replies_of s h (adopting_lines s h kernel))))
   pub endings : new.endings.items
       ≡ old.endings.items ++ (ending_of_report (report_of s.catalogue h.table kernel) ∷ map ending_of_outcome (refused_of (replies_of s h (adopting_lines s h kernel))))
+
+-- What is answered of a table that some journal stands for, as the setup of some file has it, and of the modules that a
+-- listing has: the one that a word names.
+pub record HasAdoptedListing (word : List ℕ) (input : Option (List ℕ)) (old new : Replies) : Type 0 where
+  pub file : List ℕ
+  pub found : FolderSetup
+  pub read : IsReadFrom file found
+  pub listing : Listing
+  pub named : IsListing word input listing
+  pub kernel : List KernelModule
+  pub listed : AreModulesOf listing kernel
+  pub journal : List ℕ
+  pub held : Held
+  pub stands : FileStands found.setup held journal
+  pub answered : HasAdopted found.setup held kernel old new
+
+-- no reply yet
+pub record AreNone (replies : Replies) : Type 0 where
+  pub text : replies.text.items ≡ []
+  pub endings : replies.endings.items ≡ []
+
+-- such an answer, from the first reply on
+abbrev pub AdoptsListing : List ℕ → Option (List ℕ) → Replies → Type 0
+AdoptsListing word input replies = (none : Replies) × AreNone none × HasAdoptedListing word input none replies
 
 -- why a table was not brought to a kernel's modules, by why lines were not performed
 abbrev pub adopt_error_of : PerformError → AdoptError

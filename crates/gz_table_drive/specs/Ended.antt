@@ -1,11 +1,16 @@
--- How a run ends that does no work: words that ask for none, that are refused, or that name no folder or two.
-use Rattle.std.specs.Prelude.{◌≡◌, ◌⊎◌, ℕ, List, [], ◌∷◌, Contains, Option, Some, Result, Ok, Err, IsUtf8}
+-- How a run ends: with help or the version, with words that are refused or name no folder or two, or with work.
+use Rattle.std.specs.Prelude.{⊤, ◌≡◌, ◌⊎◌, ℕ, Bool, true, false, List, [], ◌∷◌, Contains, Option, Some, Result, Ok, Err, IsUtf8}
 use Rattle.std.specs.Io.KnownBytes.{Appends}
-use Rattle.table_words.specs.Asked.{Asked, Job, command, asked}
+use Rattle.table_words.specs.Asked.{Asked, Job, create, command, lines, adopt, compact, check, repair, asked}
+use Rattle.table_words.specs.Lines.{line_of}
 use Rattle.table_words.specs.Options.{Stop, help, version, refused}
 use Rattle.table_words.specs.declared.ending.Ending.{Ending}
 use Rattle.table_words.specs.declared.ending.Ending.TheVariants.{Done, Unasked, Fault}
 use Rattle.table_words.specs.declared.help.TheConstants.{HELP, VERSION}
+use Rattle.table_folder.specs.Faults.{ending_of_fault}
+use Rattle.table_folder.specs.declared.fault.TableFault.{TableFault}
+use Rattle.table_folder.specs.declared.fault.TableFault.TheVariants.{Output}
+use Rattle.gz_table_drive.specs.Written.{IsWritten, IsInputAnswered, IsAdoptionWritten}
 
 -- a text is written whole, and the run is done; or the output failed
 abbrev pub IsShown : List ℕ → Option (List ℕ) → Option (List ℕ) → Ending → Type 0
@@ -42,11 +47,50 @@ HasSecondFolder _ _ = ⊥
 abbrev pub IsMisplaced : Option (List ℕ) → Asked → Type 0
 IsMisplaced table asked = HasSecondFolder table asked.job ⊎ IsNoFolder asked.folder
 
+-- a job was done: the reply to a command is written, or those to the lines of an input, or what is answered of a listing;
+-- where a table or its journal is made, nothing is written
+abbrev pub IsPerformed : Job → Option (List ℕ) → Option (List ℕ) → Option (List ℕ) → Ending → Type 0
+IsPerformed (command words) input old new ending = IsWritten (line_of words) old new ending
+IsPerformed lines input old new ending = IsInputAnswered input old new ending
+IsPerformed (create origin) input old new ending = (ending ≡ Done) × (new ≡ old)
+IsPerformed compact input old new ending = (ending ≡ Done) × (new ≡ old)
+IsPerformed check input old new ending = ending ≡ Done
+IsPerformed repair input old new ending = ending ≡ Done
+IsPerformed (adopt word) input old new ending = IsAdoptionWritten word input old new ending
+
+-- nothing was written; or the output failed, and nobody knows what was
+abbrev pub IsSilent : Option (List ℕ) → Option (List ℕ) → TableFault → Type 0
+IsSilent old new fault = (fault ≡ Output) ⊎ (new ≡ old)
+
+-- a job was not done, and nothing is written of it, but for the replies to lines that were answered
+abbrev pub IsUndone : Job → Option (List ℕ) → Option (List ℕ) → TableFault → Type 0
+IsUndone lines old new fault = ⊤
+IsUndone job old new fault = IsSilent old new fault
+
+-- a run whose job was not done ends so
+abbrev pub HasFailed : Job → Option (List ℕ) → Option (List ℕ) → Ending → Type 0
+HasFailed job old new ending = (fault : TableFault) × (ending ≡ ending_of_fault fault) × IsUndone job old new fault
+
+-- a job was done, or has failed
+abbrev pub IsWork : Job → Option (List ℕ) → Option (List ℕ) → Option (List ℕ) → Ending → Type 0
+IsWork job input old new ending = IsPerformed job input old new ending ⊎ HasFailed job old new ending
+
+-- the lines of an input are read from it, and so may be those of a kernel
+abbrev pub reads_input : Job → Bool
+reads_input lines = true
+reads_input (adopt file) = true
+reads_input _ = false
+
+-- the words ask for a job that may read the input
+abbrev pub may_read : Result Asked Stop → Bool
+may_read (Ok asked) = reads_input asked.job
+may_read (Err stop) = false
+
 -- how a run ends by what its words ask for
-abbrev pub IsRunOf : Result Asked Stop → Option (List ℕ) → Option (List ℕ) → Option (List ℕ) → Ending → Type 0
-IsRunOf (Ok asked) table old new ending = IsMisplaced table asked → IsUnasked old new ending
-IsRunOf (Err stop) table old new ending = IsStopped stop old new ending
+abbrev pub IsRunOf : Result Asked Stop → Option (List ℕ) → Option (List ℕ) → Option (List ℕ) → Option (List ℕ) → Ending → Type 0
+IsRunOf (Ok asked) table input old new ending = (IsMisplaced table asked → IsUnasked old new ending) × IsWork asked.job input old new ending
+IsRunOf (Err stop) table input old new ending = IsStopped stop old new ending
 
 -- the words are read; or memory ran out before that
-abbrev pub IsRun : List (List ℕ) → Option (List ℕ) → Option (List ℕ) → Option (List ℕ) → Ending → Type 0
-IsRun words table old new ending = IsRunOf (asked table words) table old new ending ⊎ IsUnread old new ending
+abbrev pub IsRun : List (List ℕ) → Option (List ℕ) → Option (List ℕ) → Option (List ℕ) → Option (List ℕ) → Ending → Type 0
+IsRun words table input old new ending = IsRunOf (asked table words) table input old new ending ⊎ IsUnread old new ending

@@ -13,6 +13,8 @@ use Rattle.table_folder.specs.Endings.{ending_of_outcome}
 use Rattle.table_folder.specs.InputLines.{brought_lines, BringsLines}
 use Rattle.table_folder.specs.Setups.{IsReadFrom}
 use Rattle.table_folder.specs.declared.folder_setup.FolderSetup.{FolderSetup}
+use Rattle.gz_table_drive.specs.Adopting.{AdoptsListing}
+use Rattle.gz_table_drive.specs.declared.answering.Replies.{Replies}
 
 -- how the first of some lines ended
 abbrev pub first_ending : List Ending → Ending
@@ -54,6 +56,20 @@ AreBrought input lines = IfSome input (λ text. lines ≡ brought_lines text)
 -- What is written is the replies to the lines that an input brings, and they end together so.
 abbrev pub AnswersInput : Setup → Option (List ℕ) → Option (List ℕ) → Option (List ℕ) → Ending → Type 0
 AnswersInput s input old new ending = (lines : List (List ℕ)) × AreBrought input lines × AreWritten s lines old new ending
+
+-- What is answered of a listing is written, and the run ends as it does.
+pub record IsAdoptionWritten (word : List ℕ) (input old new : Option (List ℕ)) (ending : Ending) : Type 0 where
+  pub replies : Replies
+  pub answered : AdoptsListing word input replies
+  pub text : Appends old new replies.text.items
+  pub ends : ending ≡ ending_of_lines replies.endings.items
+
+-- The lines of an input are answered so, as the setup of some file has it.
+pub record IsInputAnswered (input old new : Option (List ℕ)) (ending : Ending) : Type 0 where
+  pub file : List ℕ
+  pub found : FolderSetup
+  pub read : IsReadFrom file found
+  pub answers : AnswersInput found.setup input old new ending
 
 -- The same of the lines that the input has brought so far: behind them comes what is left of it.
 abbrev pub AnswersSoFar : Setup → Option (List ℕ) → Option (List ℕ) → Option (List ℕ) → Option (List ℕ) → Ending → Type 0

@@ -1,6 +1,8 @@
 //! The table of a folder is brought to the modules that a kernel has, as a file lists them.
+ghost use Rattle.std.specs.Prelude.{◌≡◌, [], OnOk, IfOk};
 ghost use Rattle.held_lines.specs.Held.{holding};
 ghost use Rattle.durable_table.specs.Durable.{Stands};
+ghost use Rattle.gz_table_drive.specs.Adopting.{AdoptsListing, HasAdopted};
 
 use crate::adopting::{AdoptError, adopt_modules};
 use crate::answering::Replies;
@@ -21,12 +23,13 @@ fn adopt_file<R: Files + Drop>(
     alloc: Global,
     table: &mut FileTable<'_, R>,
     kernel: &[KernelModule],
-) -> Result<Replies, TableFault>
+    replies: &mut Replies,
+) -> Result<(), TableFault>
     requires { Stands ⟦<FileDevice<R> as Device>⟧.content ⟦<FileDevice<R> as Device>⟧.history table.old.session.setup.now (holding table.old.session.holders.held.table table.old.session.holders.held.names) table.old.journal }
+    ensures { OnOk result (HasAdopted table.old.session.setup.now (holding table.old.session.holders.held.table table.old.session.holders.held.names) kernel.now replies.old replies.new) }
 {
-    let mut replies = Replies::new(alloc);
-    match adopt_modules(alloc, table, kernel, &mut replies) {
-        Ok(()) => Ok(replies),
+    match adopt_modules(alloc, table, kernel, replies) {
+        Ok(()) => Ok(()),
         Err(AdoptError::BadName) => Err(TableFault::CutSetup),
         Err(AdoptError::Device(DeviceError::Failed)) => Err(journal_fault(table.device().fault())),
         Err(_) => Err(TableFault::OutOfMemory),
@@ -40,14 +43,18 @@ pub(crate) fn adopt<R: Files<File = File> + Clock + AllocGlobal, I: Read, E: Wri
     file: &[u8],
     input: &mut I,
     teller: &mut Teller<'_, E>,
-) -> Result<Replies, TableFault> {
+) -> Result<Replies, TableFault>
+    ensures { IfOk result (AdoptsListing file.now (I.remaining input.old)) }
+{
     let alloc = shared.alloc();
     let setup = read_setup(shared)?;
     let listing = listing_of(alloc, file, input, teller)?;
     let lock = shared.lock(LockKind::Exclusive)?;
     let kernel = modules_of(shared.rt, listing, teller)?;
     let mut table = changing_table(shared, &mut Kept::new(&setup), teller)?;
-    let adopted = adopt_file(alloc, &mut table, &kernel);
+    let mut replies = Replies::new(alloc);
+    let adopted = adopt_file(alloc, &mut table, &kernel, &mut replies);
     lock.release();
-    adopted
+    adopted?;
+    Ok(replies)
 }

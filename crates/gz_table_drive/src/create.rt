@@ -1,4 +1,5 @@
 //! How a table is made.
+ghost use Rattle.std.specs.Prelude.{◌≡◌, IfOk};
 
 use file_journal::LockKind;
 use line_journal::DeviceError;
@@ -50,7 +51,9 @@ pub(crate) fn create<R: Files<File = File> + Env + Clock + AllocGlobal, E: Write
     shared: &Shared<'_, R>,
     origin: Origin<'_, '_>,
     teller: &mut Teller<'_, E>,
-) -> Result<Ending, TableFault> {
+) -> Result<Ending, TableFault>
+    ensures { IfOk result (λ ending. ending ≡ Ending.Done) }
+{
     if shared.has_setup()? {
         return Err(TableFault::ThereAlready);
     }

@@ -1,5 +1,5 @@
 //! The program over any words and streams.
-ghost use Rattle.std.specs.Prelude.{◌≡◌, ◌+◌, ◌≤◌, [], ◌∷◌, ◌↔◌, drop, length, IfOk, IfErr, IfNone, IfSome, IsNone, IsTrue, OnOk, OnErr, OnSome};
+ghost use Rattle.std.specs.Prelude.{◌≡◌, ◌+◌, ◌≤◌, [], ◌∷◌, ◌↔◌, false, drop, length, IfOk, IfErr, IfNone, IfSome, IsNone, IsTrue, OnOk, OnErr, OnSome};
 ghost use Rattle.std.specs.Io.KnownBytes.{Appends};
 ghost use Rattle.text_parts.specs.Text.{texts_of};
 ghost use Rattle.line_journal.specs.Lines.{AreLines, bytes_of};
@@ -8,8 +8,8 @@ ghost use Rattle.table_words.specs.Endings.{number_of};
 ghost use Rattle.table_words.specs.Lines.{line_of};
 ghost use Rattle.table_words.specs.Options.{stop_of, text_of};
 ghost use Rattle.table_words.specs.declared.ending.Ending.{Ending as AnyEnding};
-ghost use Rattle.gz_table_drive.specs.Ended.{HasSecondFolder, HasSlash, IsMisplaced, IsNoFolder, IsRun, IsRunOf, IsShown, IsStopped, IsUnasked};
-ghost use Rattle.gz_table_drive.specs.Written.{first_ending, AnswersInput, AreWritten, IsWritten};
+ghost use Rattle.gz_table_drive.specs.Ended.{HasSecondFolder, HasSlash, IsMisplaced, IsNoFolder, IsPerformed, IsRun, IsRunOf, IsShown, IsSilent, IsStopped, IsUnasked, IsUndone, IsWork, may_read, reads_input};
+ghost use Rattle.gz_table_drive.specs.Written.{first_ending, AnswersInput, AreWritten, IsAdoptionWritten, IsInputAnswered, IsWritten};
 
 use crate::adopt::adopt;
 use crate::answering::Replies;
@@ -114,7 +114,8 @@ fn answer_command<R: Files<File = File> + Clock + AllocGlobal, O: Write, E: Writ
     output: &mut O,
     teller: &mut Teller<'_, E>,
 ) -> Result<Ending, TableFault>
-    ensures { IfOk result (IsWritten (line_of (texts_of words.now)) (O.contents output.old) (O.contents output.new)) }
+    ensures written { IfOk result (IsWritten (line_of (texts_of words.now)) (O.contents output.old) (O.contents output.new)) }
+    ensures failed { IfErr result (IsSilent (O.contents output.old) (O.contents output.new)) }
 {
     let alloc = shared.alloc();
     let setup = read_setup_for_command(shared, words)?;
@@ -160,7 +161,10 @@ fn answer_adopt<R: Files<File = File> + Clock + AllocGlobal, I: Read, O: Write, 
     input: &mut I,
     output: &mut O,
     teller: &mut Teller<'_, E>,
-) -> Result<Ending, TableFault> {
+) -> Result<Ending, TableFault>
+    ensures written { IfOk result (IsAdoptionWritten file.now (I.remaining input.old) (O.contents output.old) (O.contents output.new)) }
+    ensures failed { IfErr result (IsSilent (O.contents output.old) (O.contents output.new)) }
+{
     let replies = adopt(shared, file, input, teller)?;
     write_whole(&replies.text, output)?;
     Ok(replies.ending())
@@ -170,10 +174,27 @@ fn answer_adopt<R: Files<File = File> + Clock + AllocGlobal, I: Read, O: Write, 
 fn answer_check<R: Files<File = File> + Clock + AllocGlobal, O: Write>(
     shared: &Shared<'_, R>,
     output: &mut O,
-) -> Result<Ending, TableFault> {
+) -> Result<Ending, TableFault>
+    ensures done { IfOk result (λ ending. ending ≡ Ending.Done) }
+    ensures failed { IfErr result (IsSilent (O.contents output.old) (O.contents output.new)) }
+{
     let text = check(shared)?.text(shared.alloc())?;
     write_whole(text.as_bytes(), output)?;
     Ok(Ending::Done)
+}
+
+/// Answers the lines of an input by the setup of the folder.
+fn answer_lines_of<R: Files<File = File> + Clock + AllocGlobal, I: Read, O: Write, E: Write>(
+    shared: &Shared<'_, R>,
+    input: &mut I,
+    output: &mut O,
+    teller: &mut Teller<'_, E>,
+) -> Result<Ending, TableFault>
+    ensures { IfOk result (IsInputAnswered (I.remaining input.old) (O.contents output.old) (O.contents output.new)) }
+{
+    let setup = read_setup(shared)?;
+    let ending = answer_input(shared, &mut Kept::new(&setup), input, output, teller)?;
+    Ok(ending)
 }
 
 /// Does a job.
@@ -183,15 +204,16 @@ fn perform<R: Files<File = File> + Env + Clock + AllocGlobal, I: Read, O: Write,
     input: &mut I,
     output: &mut O,
     teller: &mut Teller<'_, E>,
-) -> Result<Ending, TableFault> {
+) -> Result<Ending, TableFault>
+    ensures performed { IfOk result (IsPerformed (job_view job.entry) (I.remaining input.old) (O.contents output.old) (O.contents output.new)) }
+    ensures failed { IfErr result (IsUndone (job_view job.entry) (O.contents output.old) (O.contents output.new)) }
+    ensures input { reads_input (job_view job.entry) ≡ false → input.new ≡ input.old }
+{
     refuse_others(shared, teller)?;
     match job {
         Job::Create(origin) => create(shared, origin, teller),
         Job::Command(words) => answer_command(shared, words, output, teller),
-        Job::Lines => {
-            let setup = read_setup(shared)?;
-            answer_input(shared, &mut Kept::new(&setup), input, output, teller)
-        }
+        Job::Lines => answer_lines_of(shared, input, output, teller),
         Job::Adopt(file) => answer_adopt(shared, file, input, output, teller),
         Job::Check => answer_check(shared, output),
         Job::Repair => {
@@ -258,7 +280,8 @@ fn asked_folder<'a, E: Write>(
     Ok(folder)
 }
 
-/// Does what is asked, and tells why if it is not done. Of words that name no folder, or two, nothing is written: status 2.
+/// Does what is asked, and tells why if it is not done. Of words that name no folder, or two, nothing is written: status 2. A run
+/// that ends as work does has done the job.
 fn answer_asked<R: Files<File = File> + Env + Clock + AllocGlobal, I: Read, O: Write, E: Write>(
     rt: &R,
     table: Option<&[u8]>,
@@ -267,7 +290,9 @@ fn answer_asked<R: Files<File = File> + Env + Clock + AllocGlobal, I: Read, O: W
     output: &mut O,
     teller: &mut Teller<'_, E>,
 ) -> Ending
-    ensures { IsMisplaced (text_of table.entry) (asked_view asked.now) → IsUnasked (O.contents output.old) (O.contents output.new) result }
+    ensures misplaced { IsMisplaced (text_of table.entry) (asked_view asked.now) → IsUnasked (O.contents output.old) (O.contents output.new) result }
+    ensures work { IsWork (job_view asked.now.job) (I.remaining input.old) (O.contents output.old) (O.contents output.new) result }
+    ensures input { reads_input (job_view asked.now.job) ≡ false → input.new ≡ input.old }
 {
     let folder = match asked_folder(table, asked, teller) {
         Ok(folder) => folder,
@@ -327,7 +352,8 @@ fn run_words<R: Files<File = File> + Env + Clock + AllocGlobal, I: Read, O: Writ
     output: &mut O,
     teller: &mut Teller<'_, E>,
 ) -> Ending
-    ensures { IsRunOf (asked (text_of table.entry) (texts_of words.entry.now)) (text_of table.entry) (O.contents output.old) (O.contents output.new) result }
+    ensures run { IsRunOf (asked (text_of table.entry) (texts_of words.entry.now)) (text_of table.entry) (I.remaining input.old) (O.contents output.old) (O.contents output.new) result }
+    ensures input { may_read (asked (text_of table.entry) (texts_of words.entry.now)) ≡ false → input.new ≡ input.old }
 {
     match read_words(table, words) {
         Ok(asked) => answer_asked(rt, table, &asked, input, output, teller),
@@ -347,8 +373,11 @@ fn slices(alloc: Global, words: &[Vec<u8>]) -> Result<Vec<&[u8]>, AllocError>
 }
 
 /// Runs the program on its words and the text of GZ_TABLE. Returns the status: 0 once help or the version is written; 2 if
-/// words are refused, or name no folder or two, and nothing is written then; 3 if memory ran out or the output failed. The
-/// status of work that is done is that of its replies.
+/// words are refused, or name no folder or two, and nothing is written then; 3 if memory ran out or the output failed. Work
+/// that is done has the status of its replies: of a command its own, of the lines of an input that of the first that was
+/// refused. A status that no fault has (0, 1, 10 to 12, 15 to 18) is that of work that was done, and its replies are written.
+/// Work that was not done writes nothing, but for the lines that it has answered, and an output that failed. Only the lines of an
+/// input, and `adopt`, which may be given one, read `input`.
 pub fn drive<R: Files<File = File> + Env + Clock + AllocGlobal, I: Read, O: Write, E: Write>(
     rt: &R,
     words: &[Vec<u8>],
@@ -357,8 +386,9 @@ pub fn drive<R: Files<File = File> + Env + Clock + AllocGlobal, I: Read, O: Writ
     output: &mut O,
     errors: &mut E,
 ) -> u8
-    ensures { (ending : AnyEnding) × (result ≡ number_of ending)
-        × IsRun (bytes_of words.entry.now) (text_of table.entry) (O.contents output.old) (O.contents output.new) ending }
+    ensures run { (ending : AnyEnding) × (result ≡ number_of ending)
+        × IsRun (bytes_of words.entry.now) (text_of table.entry) (I.remaining input.old) (O.contents output.old) (O.contents output.new) ending }
+    ensures input { may_read (asked (text_of table.entry) (bytes_of words.entry.now)) ≡ false → input.new ≡ input.old }
 {
     let mut teller = Teller::new(errors);
     let Ok(words) = slices(rt.alloc(), words) else {

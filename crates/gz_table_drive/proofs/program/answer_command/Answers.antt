@@ -10,8 +10,8 @@ use Rattle.table_folder.specs.declared.folder_setup.FolderSetup.{FolderSetup}
 use Rattle.gz_table_drive.proofs.WrittenLemmas.{alone_answered, line_written}
 use Rattle.gz_table_drive.proofs.program.answer_command.Goals as goal
 
-pub returns : goal.returns
-returns g c =
+pub returns-clause-written : goal.returns-clause-written
+returns-clause-written g c =
     let line = line_of (texts_of c.args.words.now) in
     let lines = c.deref-2.result.now in
     let count = c.in_ok-answer_in_tenure.field-0 in
