@@ -76,7 +76,7 @@ pub record AreNone (replies : Replies) : Type 0 where
   pub text : replies.text.items ≡ []
   pub endings : replies.endings.items ≡ []
 
--- such an answer, from the first reply on
+-- such an answer, and no reply stands before it
 abbrev pub AdoptsListing : List ℕ → Option (List ℕ) → Replies → Type 0
 AdoptsListing word input replies = (none : Replies) × AreNone none × HasAdoptedListing word input none replies
 

@@ -47,8 +47,8 @@ HasSecondFolder _ _ = ⊥
 abbrev pub IsMisplaced : Option (List ℕ) → Asked → Type 0
 IsMisplaced table asked = HasSecondFolder table asked.job ⊎ IsNoFolder asked.folder
 
--- a job was done: the reply to a command is written, or those to the lines of an input, or what is answered of a listing;
--- where a table or its journal is made, nothing is written
+-- a job was done: the reply to a command is written, or those to the lines of an input, or what is answered of a listing; of a
+-- table that is made, or a journal that is written anew, nothing is written
 abbrev pub IsPerformed : Job → Option (List ℕ) → Option (List ℕ) → Option (List ℕ) → Ending → Type 0
 IsPerformed (command words) input old new ending = IsWritten (line_of words) old new ending
 IsPerformed lines input old new ending = IsInputAnswered input old new ending
@@ -62,7 +62,7 @@ IsPerformed (adopt word) input old new ending = IsAdoptionWritten word input old
 abbrev pub IsSilent : Option (List ℕ) → Option (List ℕ) → TableFault → Type 0
 IsSilent old new fault = (fault ≡ Output) ⊎ (new ≡ old)
 
--- a job was not done, and nothing is written of it, but for the replies to lines that were answered
+-- a job was not done, and nothing is written of it; of the lines of an input some may be answered, and nothing is said
 abbrev pub IsUndone : Job → Option (List ℕ) → Option (List ℕ) → TableFault → Type 0
 IsUndone lines old new fault = ⊤
 IsUndone job old new fault = IsSilent old new fault

@@ -280,8 +280,7 @@ fn asked_folder<'a, E: Write>(
     Ok(folder)
 }
 
-/// Does what is asked, and tells why if it is not done. Of words that name no folder, or two, nothing is written: status 2. A run
-/// that ends as work does has done the job.
+/// Does what is asked, and tells why if it is not done. Of words that name no folder, or two, nothing is written: status 2.
 fn answer_asked<R: Files<File = File> + Env + Clock + AllocGlobal, I: Read, O: Write, E: Write>(
     rt: &R,
     table: Option<&[u8]>,
@@ -375,9 +374,8 @@ fn slices(alloc: Global, words: &[Vec<u8>]) -> Result<Vec<&[u8]>, AllocError>
 /// Runs the program on its words and the text of GZ_TABLE. Returns the status: 0 once help or the version is written; 2 if
 /// words are refused, or name no folder or two, and nothing is written then; 3 if memory ran out or the output failed. Work
 /// that is done has the status of its replies: of a command its own, of the lines of an input that of the first that was
-/// refused. A status that no fault has (0, 1, 10 to 12, 15 to 18) is that of work that was done, and its replies are written.
-/// Work that was not done writes nothing, but for the lines that it has answered, and an output that failed. Only the lines of an
-/// input, and `adopt`, which may be given one, read `input`.
+/// refused. No fault has 0, 1, 10 to 12 or 15 to 18. If work was not done nothing is written, but for replies to lines of an
+/// input; with 3 the output may have failed, and have taken a part. `input` is read for its lines and by `adopt` alone.
 pub fn drive<R: Files<File = File> + Env + Clock + AllocGlobal, I: Read, O: Write, E: Write>(
     rt: &R,
     words: &[Vec<u8>],

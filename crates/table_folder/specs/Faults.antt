@@ -82,11 +82,11 @@ IsRefused fault.CutSetup = ⊤
 IsRefused (fault.Sections why) = why ≢ Memory
 IsRefused _ = ⊥
 
--- no setup was read: its file was not, or its bytes are none
+-- no setup was read: its file was not, or what stands in it is none
 abbrev pub IsNoSetup : TableFault → Type 0
 IsNoSetup fault = IsUnread (codes "setup") fault ⊎ IsRefused fault
 
--- people were told why, or there was no memory
+-- the fault of what people were told already, or of no memory
 abbrev pub IsTold : TableFault → Type 0
 IsTold fault.OutOfMemory = ⊤
 IsTold fault.Told = ⊤
