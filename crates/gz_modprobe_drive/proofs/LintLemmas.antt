@@ -30,7 +30,7 @@ without-length (note ∷ notes) e = absurd (omega arith)
 nothing : (all notes : List Note) → IsPermutation all notes → notes ≡ [] → all ≡ []
 nothing all notes same none = without-length all (sym (length_permutation all notes same) ∙ ap length none)
 
--- where nothing is told, nothing is noted
+-- if nothing is told, nothing is noted
 no-notes : (texts : ConfTexts) (notes : List Note) (hidden : List HiddenFile) (rest : List Fact)
     → map (fact_of_note texts) notes ++ map fact_of_hidden hidden ++ rest ≡ [] → notes ≡ []
 no-notes texts [] hidden rest e = refl
