@@ -7,3 +7,5 @@ pub mod BaseLemmas
 pub mod FrontLemmas
 pub mod ScanLemmas
 pub mod KeyLemmas
+pub mod PassLemmas
+pub mod FeedLemmas

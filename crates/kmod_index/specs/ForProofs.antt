@@ -1,5 +1,5 @@
 -- How contracts see values of the code.
-use Rattle.std.specs.Prelude.{◌≡◌, ℕ, Bool, true, false, ◌==◌, ◌||◌, if◌then◌else◌, List, [], ◌∷◌, map, Option, Some, None}
+use Rattle.std.specs.Prelude.{◌≡◌, ℕ, Bool, false, not, ◌==◌, ◌||◌, if◌then◌else◌, List, [], ◌∷◌, map, Option, Some, None}
 use Rattle.std.specs.Borrow.{Bor}
 use Rattle.kmod_names.specs.ForProofs.{is_special}
 use Rattle.kmod_index.specs.Dependencies.{Dependencies}
@@ -48,10 +48,9 @@ AreTables (Some tables) indexes = TabledOf tables indexes
 abbrev pub is_stop : ℕ → Bool
 is_stop byte = is_special byte || byte == 32
 
--- whether a name has another byte where a key and what follows it have one that stands for itself, with only such bytes
--- before it
+-- whether a text has another byte than a front somewhere, and the first such byte stands for itself
 abbrev pub parts_early : List ℕ → List ℕ → Bool
-parts_early [] name = false
+parts_early [] front = false
 parts_early (byte ∷ text) [] = false
-parts_early (byte ∷ text) (other ∷ name) =
-    if is_stop byte then false else (if byte == other then parts_early text name else true)
+parts_early (byte ∷ text) (other ∷ front) =
+    if byte == other then parts_early text front else not (is_stop byte)

@@ -1,16 +1,19 @@
 //! Lines of a modules.alias text, found in the text itself.
-ghost use Rattle.std.specs.Prelude.{◌≡◌, ◌∷◌, ◌++◌, [], ℕ, None, drop, IfOk, IsTrue, MatchOption, OnOk};
+ghost use Rattle.std.specs.Prelude.{◌≡◌, ◌<◌, ◌≤◌, ◌∷◌, ◌++◌, [], drop, length, position, take, IfOk, OnOk};
+ghost use Rattle.std.specs.List.{before_first, enumerate_from, filter_map};
 ghost use Rattle.std.specs.Option.{option_to_list};
+ghost use Rattle.std.specs.Str.Lines.{lines};
+ghost use Rattle.memchr.specs.Find.{IsFirst, IsFirstByte, Passes, is_byte};
 ghost use Rattle.kmod_index.specs.Aliases.{alias_of_line, aliases_of};
 ghost use Rattle.kmod_index.specs.ForProofs.{is_stop, parts_early};
-ghost use Rattle.kmod_index.specs.Lines.{alias_parts};
-ghost use Rattle.kmod_index.specs.Parts.{at_last};
 ghost use Rattle.kmod_index.specs.Tries.{matches_key, matching_lines};
 
 use crate::aliases::push_key;
 use crate::index_line::IndexLine;
 use kmod_names::PatternList;
+use memchr::memchr;
 use std::alloc::{AllocError, Global};
+use std::simd::prelude::*;
 use text_parts::whole_lines;
 
 /// Whether a key may end at a byte, or the byte may stand for another than itself.
@@ -20,22 +23,35 @@ fn is_stop(byte: u8) -> bool
     matches!(byte, b'*' | b'-' | b'?' | b'[' | b'\\' | b' ')
 }
 
-/// Whether a name has another byte where a key and what follows it have one that stands for itself, with only such bytes
-/// before it.
-fn parts_early(text: &[u8], name: &[u8]) -> bool
-    ensures { result ≡ parts_early text.now name.now }
+/// The place of a name's first stop byte.
+fn first_stop(name: &[u8]) -> Option<usize>
+    ensures { result ≡ position is_stop name.now }
+{
+    name.iter().position(|byte| is_stop(*byte))
+}
+
+/// The front of a name, before its first stop byte.
+fn plain_front(name: &[u8]) -> &[u8]
+    ensures { result.now ≡ before_first is_stop name.now }
+{
+    match first_stop(name) {
+        Some(end) => &name[..end],
+        None => name,
+    }
+}
+
+/// Whether a text has another byte than a front somewhere, and the first such byte is no stop byte.
+fn parts_early(text: &[u8], front: &[u8]) -> bool
+    ensures { result ≡ parts_early text.now front.now }
 {
     let mut rest = text;
-    let mut others = name;
+    let mut others = front;
     while let Some((byte, later)) = rest.split_first() {
         let Some((other, other_later)) = others.split_first() else {
             return false;
         };
-        if is_stop(*byte) {
-            return false;
-        }
         if *byte != *other {
-            return true;
+            return !is_stop(*byte);
         }
         rest = later;
         others = other_later;
@@ -43,32 +59,47 @@ fn parts_early(text: &[u8], name: &[u8]) -> bool
     false
 }
 
-/// What stands behind `alias` and a blank.
-fn alias_text(line: &[u8]) -> Option<&[u8]>
-    ensures { MatchOption result
-        (alias_parts line.entry.now ≡ None)
-        (λ text. alias_parts line.entry.now ≡ at_last 32 text.now) }
+/// Whether what stands in the place of a key, behind `alias` and a blank, parts early from the front of a name.
+fn key_parts_early(text: &[u8], front: &[u8]) -> bool
+    ensures { result ≡ parts_early (drop 6 text.now) front.now }
 {
-    line.strip_prefix(b"alias ")
+    text.len() > 6 && parts_early(&text[6..], front)
 }
 
-/// Whether a name parts early from what stands in the place of a line's key, behind `alias` and a blank.
-fn key_parts_early(line: &[u8], name: &[u8]) -> bool
-    ensures { result ≡ parts_early (drop 6 line.now) name.now }
+/// The place of the first line feed among the first 64 bytes.
+fn near_feed(text: &[u8]) -> Option<usize>
+    requires { 64 ≤ length text.now }
+    ensures { IsFirst (Passes (is_byte 10) text.now) 0 64 result }
 {
-    line.len() > 6 && parts_early(&line[6..], name)
-}
-
-/// Whether a line is seen at once to be no alias that a name matches. Most lines part early, so that is tried first.
-fn is_other(line: &[u8], name: &[u8]) -> bool
-    ensures { IsTrue result → (number : ℕ) → matching_lines (option_to_list (alias_of_line (number, line.now))) name.now ≡ [] }
-{
-    if key_parts_early(line, name) {
-        return true;
+    let feeds = u8x64::from_slice(text)
+        .simd_eq(u8x64::splat(b'\n'))
+        .to_bitmask();
+    if feeds == 0 {
+        return None;
     }
-    match alias_text(line) {
-        Some(_) => false,
-        None => true,
+    Some(feeds.trailing_zeros() as usize)
+}
+
+/// The place of the first line feed. Most lines are short, so the first 64 bytes are looked at together.
+fn first_feed(text: &[u8]) -> Option<usize>
+    ensures { IsFirstByte (is_byte 10) text.now result }
+{
+    if text.len() >= 64 {
+        if let Some(end) = near_feed(text) {
+            return Some(end);
+        }
+    }
+    memchr(b'\n', text)
+}
+
+/// What stands behind the first line of a text.
+fn after_line(text: &[u8]) -> &[u8]
+    ensures lines { lines result.now ≡ drop 1 (lines text.now) }
+    ensures shorter { 0 < length text.now → length result.now < length text.now }
+{
+    match first_feed(text) {
+        Some(end) => &text[end + 1..],
+        None => &[],
     }
 }
 
@@ -106,11 +137,30 @@ fn add_line(
 ) -> Result<(), AllocError>
     ensures { OnOk result (found.new.items ≡ found.old.items ++ matching_lines (option_to_list (alias_of_line (number, line.now))) name.now) }
 {
-    if is_other(line, name) {
-        return Ok(());
-    }
     match IndexLine::read_alias(alloc, number, line)? {
         Some(alias) => add_match(alloc, found, alias, name),
+        None => Ok(()),
+    }
+}
+
+/// Adds the alias that the first line of a text is, if a name of this front matches its key. Most lines part early, so that
+/// is tried before it is known where the line ends.
+fn add_first_line(
+    alloc: Global,
+    found: &mut Vec<IndexLine>,
+    number: usize,
+    text: &[u8],
+    name: &[u8],
+    front: &[u8],
+) -> Result<(), AllocError>
+    requires { front.now ≡ before_first is_stop name.now }
+    ensures { OnOk result (found.new.items ≡ found.old.items ++ matching_lines (filter_map alias_of_line (enumerate_from number (take 1 (lines text.now)))) name.now) }
+{
+    if key_parts_early(text, front) {
+        return Ok(());
+    }
+    match whole_lines(text).next() {
+        Some(line) => add_line(alloc, found, number, line, name),
         None => Ok(()),
     }
 }
@@ -124,10 +174,12 @@ pub(crate) fn matching_aliases(
     ensures { IfOk result (λ found. found.items ≡ matching_lines (aliases_of text.now) name.now) }
 {
     let mut found = Vec::new(alloc);
-    let mut lines = whole_lines(text);
+    let mut rest = text;
     let mut number = 1usize;
-    'lines: while let Some(line) = lines.next() {
-        add_line(alloc, &mut found, number, line, name)?;
+    let front = plain_front(name);
+    'lines: while !rest.is_empty() {
+        add_first_line(alloc, &mut found, number, rest, name, front)?;
+        rest = after_line(rest);
         number += 1;
     }
     Ok(found)
