@@ -7,5 +7,7 @@ pub mod BaseLemmas
 pub mod FrontLemmas
 pub mod ScanLemmas
 pub mod KeyLemmas
+pub mod SumLemmas
+pub mod ColonLemmas
 pub mod PassLemmas
 pub mod FeedLemmas

@@ -39,11 +39,6 @@ pub record TabledOf (tables : Tabled) (indexes : Indexes) : Type 0 where
   pub builtin_names : tables.builtin_names ≡ indexes.builtin_names
   pub builtin_aliases : tables.builtin_aliases ≡ indexes.builtin_aliases
 
--- there are no tables, or they have what the texts say
-abbrev pub AreTables : Option Tabled → Indexes → Type 0
-AreTables None indexes = Unit {0}
-AreTables (Some tables) indexes = TabledOf tables indexes
-
 -- a byte at which a key may end, or that may stand for another byte than itself
 abbrev pub is_stop : ℕ → Bool
 is_stop byte = is_special byte || byte == 32

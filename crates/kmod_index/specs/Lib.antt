@@ -1,5 +1,6 @@
 pub mod Parts
 pub mod Dependencies
+pub mod Sums
 pub mod Lines
 pub mod Aliases
 pub mod Builtins
@@ -8,3 +9,4 @@ pub mod Indexes
 pub mod Index
 pub mod Needs
 pub mod ForProofs
+pub mod Prepared

@@ -51,6 +51,17 @@ impl<'a> DepLine<'a> {
         })
     }
 
+    /// The same line.
+    pub(crate) fn again(&self) -> DepLine<'a>
+        ensures { result ≡ self.now }
+    {
+        DepLine {
+            path: self.path,
+            needs: self.needs,
+            number: self.number,
+        }
+    }
+
     /// The path of the module's file, as it stands: below the folder of modules.dep, or from the root if it begins
     /// with `/`.
     pub fn path(&self) -> &'a [u8]

@@ -24,6 +24,10 @@ fn named_line<'a>(number: usize, line: &'a [u8], name: &[u8]) -> Option<DepLine<
 pub(crate) fn find_line<'a>(text: &'a [u8], name: &[u8]) -> Option<DepLine<'a>>
     ensures { result ≡ line_of (dependencies_of text.entry.now) name.now }
 {
+    // A path ends before a colon, so that a device's alias is no name of a module.
+    if name.contains(&b':') {
+        return None;
+    }
     let mut lines = whole_lines(text);
     let mut number = 1usize;
     'lines: while let Some(line) = lines.next() {

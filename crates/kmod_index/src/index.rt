@@ -3,8 +3,8 @@
 
 ghost use Rattle.std.specs.Prelude.{◌≡◌, IfOk, IfSome};
 ghost use Rattle.kmod_index.specs.Builtins.{is_among};
-ghost use Rattle.kmod_index.specs.Dependencies.{hard_needs, line_of};
-ghost use Rattle.kmod_index.specs.ForProofs.{AreTables};
+ghost use Rattle.kmod_index.specs.Dependencies.{dependencies_of, hard_needs, line_of};
+ghost use Rattle.kmod_index.specs.Prepared.{IsMadeOf};
 ghost use Rattle.kmod_index.specs.Index.{indexes_of, texts_in};
 ghost use Rattle.kmod_index.specs.Lines.{lines_of_key};
 ghost use Rattle.kmod_index.specs.Tries.{in_order, matching_lines};
@@ -14,6 +14,7 @@ use crate::aliases::Aliases;
 use crate::builtins::is_builtin_in;
 use crate::dep_line::DepLine;
 use crate::dep_scan::{dep_lines, find_line};
+use crate::dep_table::DepTable;
 use crate::index_line::{IndexLine, copied};
 use crate::modinfo::matching_builtins;
 use crate::symbol_scan::{symbol_lines, symbols_of_key};
@@ -38,11 +39,31 @@ pub struct IndexTexts<'a> {
     pub builtin_modinfo: &'a [u8],
 }
 
-/// What the texts of a folder of modules say. A name is looked up in the texts themselves, or, for many names, in tables
-/// that were made of them.
+/// What was made of the texts before names are looked up.
+pub(crate) enum Prepared<'a> {
+    /// Nothing.
+    Nothing,
+    /// The lines of modules.dep, for some look-ups.
+    Lines(&'a DepTable<'a>),
+    /// Tables of the texts, for many.
+    Tables(Tables),
+}
+
+// By hand, since a derived drop is written out, and proved, at each place where a value is let go.
+impl Drop for Prepared<'_> {
+    fn drop(self) {
+        match self {
+            Prepared::Nothing => {}
+            Prepared::Lines(_) => {}
+            Prepared::Tables(_) => {}
+        }
+    }
+}
+
+/// What the texts of a folder of modules say. A name is looked up in the texts themselves, or in what was made of them.
 pub struct Index<'a> {
     texts: IndexTexts<'a>,
-    tables: Option<Tables>,
+    prepared: Prepared<'a>,
 }
 
 // By hand, since a derived drop is written out, and proved, at each place where a value is let go.
@@ -50,21 +71,21 @@ impl Drop for Index<'_> {
     fn drop(self) {
         let Index {
             texts: _,
-            tables: _,
+            prepared: _,
         } = self;
     }
 }
 
 impl<'a> Model for Index<'a> {
-    ghost use Rattle.kmod_index.specs.ForProofs.{AreTables};
     ghost use Rattle.kmod_index.specs.Index.{indexes_of, texts_in};
     ghost use Rattle.kmod_index.specs.Indexes.{Indexes};
+    ghost use Rattle.kmod_index.specs.Prepared.{IsMadeOf};
 
     ghost Value = { Indexes };
 
     ghost view = { λ index. indexes_of (texts_in index.texts) };
 
-    ghost invariant = { λ index. AreTables index.tables (indexes_of (texts_in index.texts)) };
+    ghost invariant = { λ index. IsMadeOf (indexes_of (texts_in index.texts)) index.prepared };
 }
 
 impl<'a> Index<'a> {
@@ -74,8 +95,17 @@ impl<'a> Index<'a> {
     {
         Index {
             texts,
-            tables: None,
+            prepared: Prepared::Nothing,
         }
+    }
+
+    /// What the texts say, for the look-up of some names: `lines` are those of modules.dep.
+    pub fn with_lines(texts: IndexTexts<'a>, lines: &'a DepTable<'a>) -> Index<'a>
+        requires { lines.now ≡ dependencies_of texts.dep.now }
+        ensures { result ≡ indexes_of (texts_in texts.entry) }
+    {
+        let prepared = Prepared::Lines(lines);
+        Index { texts, prepared }
     }
 
     /// What the texts say, in tables: the look-up of many names is faster so. modules.alias has a table if one of these names is
@@ -87,17 +117,17 @@ impl<'a> Index<'a> {
     ) -> Result<Index<'a>, AllocError>
         ensures { IfOk result (λ index. index ≡ indexes_of (texts_in texts.entry)) }
     {
-        let tables = Some(Tables::read(alloc, &texts, names)?);
-        Ok(Index { texts, tables })
+        let prepared = Prepared::Tables(Tables::read(alloc, &texts, names)?);
+        Ok(Index { texts, prepared })
     }
 
     /// The table of modules.alias, if there is one.
     fn alias_table(&self) -> Option<&Aliases>
         ensures { IfSome result (λ table. table.now ≡ self.now.aliases) }
     {
-        match &self.tables {
-            Some(tables) => tables.aliases(),
-            None => None,
+        match &self.prepared {
+            Prepared::Tables(tables) => tables.aliases(),
+            _ => None,
         }
     }
 
@@ -105,9 +135,9 @@ impl<'a> Index<'a> {
     fn symbol_table(&self) -> Option<&Symbols>
         ensures { IfSome result (λ table. table.now ≡ self.now.symbols) }
     {
-        match &self.tables {
-            Some(tables) => tables.symbols(),
-            None => None,
+        match &self.prepared {
+            Prepared::Tables(tables) => tables.symbols(),
+            _ => None,
         }
     }
 
@@ -115,9 +145,10 @@ impl<'a> Index<'a> {
     pub fn find(&self, name: &[u8]) -> Option<DepLine<'_>>
         ensures { result ≡ line_of self.now.dependencies name.now }
     {
-        match &self.tables {
-            Some(tables) => tables.find(name),
-            None => find_line(self.texts.dep, name),
+        match &self.prepared {
+            Prepared::Tables(tables) => tables.find(name),
+            Prepared::Lines(lines) => lines.find(name),
+            Prepared::Nothing => find_line(self.texts.dep, name),
         }
     }
 
@@ -177,9 +208,9 @@ impl<'a> Index<'a> {
     pub fn is_builtin(&self, name: &[u8]) -> bool
         ensures { result ≡ is_among self.now.builtin_names name.now }
     {
-        match &self.tables {
-            Some(tables) => tables.is_builtin(name),
-            None => is_builtin_in(self.texts.builtin, name),
+        match &self.prepared {
+            Prepared::Tables(tables) => tables.is_builtin(name),
+            _ => is_builtin_in(self.texts.builtin, name),
         }
     }
 
@@ -188,9 +219,9 @@ impl<'a> Index<'a> {
     pub fn builtin_aliases(&self, alloc: Global, name: &[u8]) -> Result<Vec<IndexLine>, AllocError>
         ensures { IfOk result (λ found. found.items ≡ in_order (matching_lines self.now.builtin_aliases name.now)) }
     {
-        match &self.tables {
-            Some(tables) => tables.builtin_aliases(alloc, name),
-            None => matching_builtins(alloc, self.texts.builtin_modinfo, name),
+        match &self.prepared {
+            Prepared::Tables(tables) => tables.builtin_aliases(alloc, name),
+            _ => matching_builtins(alloc, self.texts.builtin_modinfo, name),
         }
     }
 }

@@ -6,6 +6,7 @@ mod aliases;
 mod builtins;
 mod dep_line;
 mod dep_scan;
+mod dep_table;
 mod index;
 mod index_line;
 mod modinfo;
@@ -19,5 +20,6 @@ mod tables;
 mod trie_order;
 
 pub use dep_line::DepLine;
+pub use dep_table::DepTable;
 pub use index::{Index, IndexTexts};
 pub use index_line::IndexLine;

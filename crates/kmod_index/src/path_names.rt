@@ -3,6 +3,7 @@ ghost use Rattle.std.specs.Prelude.{◌≡◌, map};
 ghost use Rattle.std.specs.Str.{bytes_eq};
 ghost use Rattle.text_parts.specs.Text.{normal_byte};
 ghost use Rattle.kmod_names.specs.Names.{base_of, name_of_path, stem};
+ghost use Rattle.kmod_index.specs.Sums.{sum_of};
 
 use memchr::memrchr;
 
@@ -39,6 +40,35 @@ fn is_stem(name: &[u8], base: &[u8]) -> bool
         others = other_later;
     }
     matches!(others.first(), None | Some(b'.'))
+}
+
+/// The sum of a name's bytes.
+pub(crate) fn sum_of(name: &[u8]) -> u32
+    ensures { result ≡ sum_of name.now }
+{
+    let mut sum = 0u32;
+    let mut rest = name;
+    while let Some((byte, later)) = rest.split_first() {
+        sum = sum.wrapping_add(*byte as u32);
+        rest = later;
+    }
+    sum
+}
+
+/// The sum of a name that is told by the path of a file.
+pub(crate) fn sum_of_path(path: &[u8]) -> u32
+    ensures { result ≡ sum_of (name_of_path path.now) }
+{
+    let mut sum = 0u32;
+    let mut rest = base_of(path);
+    while let Some((byte, later)) = rest.split_first() {
+        if *byte == b'.' {
+            return sum;
+        }
+        sum = sum.wrapping_add(normal_byte(*byte) as u32);
+        rest = later;
+    }
+    sum
 }
 
 /// Whether a module has the name that its file gives it, as `name_of_path` tells it.
