@@ -9,7 +9,6 @@ pub mod KeyOrderLemmas
 pub mod WayLemmas
 pub mod LawLemmas
 pub mod ReasonLemmas
-pub mod ListedLemmas
 pub mod OrderLemmas
 pub mod EarlyLemmas
 pub mod SymbolLemmas

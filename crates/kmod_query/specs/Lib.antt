@@ -16,7 +16,6 @@ pub mod Shown
 pub mod KeyOrder
 pub mod World
 pub mod CommandLines
-pub mod Listed
 pub mod AnswerOf
 pub mod Reasons
 pub mod Order

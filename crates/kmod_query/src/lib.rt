@@ -11,7 +11,6 @@ mod fronts;
 mod key_order;
 mod laws;
 mod lines;
-mod listed;
 mod loaded_names;
 mod loading;
 mod look_up;

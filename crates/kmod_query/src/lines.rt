@@ -3,12 +3,10 @@ ghost use Rattle.std.specs.Prelude.{◌≡◌, ◌++◌, ◌∷◌, [], fold, ma
 ghost use Rattle.kmod_query.specs.Facts.{Facts};
 ghost use Rattle.kmod_query.specs.Lines.{command_of, has_soft_items, is_built_in, is_commandless, is_in_kernel, is_live};
 ghost use Rattle.kmod_query.specs.Lines.{joined, line, line_by, load_line, option_text, own_parameters};
-ghost use Rattle.kmod_query.specs.Listed.{AreListed};
 ghost use Rattle.kmod_query.specs.Objects.{alias_of, object_of};
 ghost use Rattle.kmod_query.specs.World.{facts_of, text_of};
 
 use crate::commands::{install_line, text_in};
-use crate::listed::Listed;
 use crate::object::Object;
 use crate::parameters::push_joined;
 use crate::states::{ModuleState, ModuleStatus};
@@ -174,19 +172,17 @@ fn own_parameters<'a>(top: &Object, object: &Object, parameters: &'a [u8]) -> &'
 pub(crate) fn load_line<'a>(
     alloc: Global,
     world: &World<'a>,
-    listed: &Listed<'a>,
     bare: bool,
     parameters: &[u8],
     top: &Object,
     object: &Object,
     has_soft: bool,
 ) -> Result<Vec<u8>, AllocError>
-    requires soft { has_soft ≡ has_soft_items (facts_of world.now) (object_of object.now).name }
-    requires listed { AreListed world.now.index.now.dependencies listed.now }
+    requires { has_soft ≡ has_soft_items (facts_of world.now) (object_of object.now).name }
     ensures { IfOk result (λ text. text.items ≡ load_line (facts_of world.now) bare parameters.now (object_of top.now) (object_of object.now)) }
 {
     let command = command_of(alloc, world, bare, top, object, has_soft)?;
-    let path = path_of(alloc, world, listed, object)?;
+    let path = path_of(alloc, world, object)?;
     let options = option_text(
         alloc,
         world,

@@ -2,7 +2,6 @@
 ghost use Rattle.std.specs.Prelude.{◌≡◌, IfOk, OnOk};
 ghost use Rattle.std.specs.List.{flat_map};
 ghost use Rattle.kmod_query.specs.Lines.{has_soft_items};
-ghost use Rattle.kmod_query.specs.Listed.{AreListed};
 ghost use Rattle.kmod_query.specs.Loading.{already, answer_object};
 ghost use Rattle.kmod_query.specs.Loading.{is_barred, is_passed, is_show_depends, line_unless_passed, load, load_lines};
 ghost use Rattle.kmod_query.specs.Loading.{shows_lines};
@@ -13,7 +12,6 @@ ghost use Rattle.kmod_query.specs.World.{facts_of};
 use crate::answer::{Answer, Failure};
 use crate::asked::Asked;
 use crate::lines::{is_in_kernel, load_line, name_line};
-use crate::listed::Listed;
 use crate::object::Object;
 use crate::probes::{Course, probe_list, start};
 use crate::query::{Ask, Query};
@@ -50,16 +48,14 @@ pub fn is_barred(world: &World, query: &Query, object: &Object) -> bool
     is_blacklisted(world, &object.name) && (object.alias.is_some() || query.use_blacklist)
 }
 
-fn line_unless_passed<'a>(
-    asked: &Asked<'a>,
-    listed: &Listed<'a>,
+fn line_unless_passed(
+    asked: &Asked,
     parameters: &[u8],
     top: &Object,
     object: &Object,
     has_soft: bool,
 ) -> Result<Vec<u8>, AllocError>
-    requires soft { has_soft ≡ has_soft_items (facts_of asked.now.world) (object_of object.now).name }
-    requires listed { AreListed asked.now.world.index.now.dependencies listed.now }
+    requires { has_soft ≡ has_soft_items (facts_of asked.now.world) (object_of object.now).name }
     ensures { IfOk result (λ text. text.items ≡ line_unless_passed (facts_of asked.now.world) asked.now.query parameters.now (object_of top.now) (object_of object.now)) }
 {
     if is_passed(&asked.world, &asked.query, object) {
@@ -68,18 +64,12 @@ fn line_unless_passed<'a>(
     load_line(
         asked.alloc,
         &asked.world,
-        listed,
         asked.query.ignore_commands,
         parameters,
         top,
         object,
         has_soft,
     )
-}
-
-/// How many objects are looked up at once. Under `--all` the index may have tables of its own.
-fn count_of(query: &Query, list: &[Object]) -> usize {
-    if query.all { 0 } else { list.len() }
 }
 
 /// The lines of the objects, in the load of one, by the soft items that were looked up.
@@ -94,11 +84,10 @@ fn lines_of(
     ensures soft { OnOk result (AreSoftLists (facts_of asked.now.world) soft.new) }
     ensures lines { IfOk result (λ text. text.items ≡ flat_map (line_unless_passed (facts_of asked.now.world) asked.now.query parameters.now (object_of top.now)) (objects_of list.now)) }
 {
-    let listed = Listed::of(asked.alloc, &asked.world, count_of(&asked.query, list))?;
     let mut lines = Vec::new(asked.alloc);
     'objects: for object in list {
         let has_soft = soft.has_items(asked.alloc, &asked.world, &object.name)?;
-        let mut own = line_unless_passed(asked, &listed, parameters, top, object, has_soft)?;
+        let mut own = line_unless_passed(asked, parameters, top, object, has_soft)?;
         lines.append(&mut own)?;
     }
     Ok(lines)

@@ -4,12 +4,10 @@
 ghost use Rattle.std.specs.Prelude.{◌≡◌, IfOk, option_copied, option_map};
 ghost use Rattle.kmod_query.specs.Facts.{with_own};
 ghost use Rattle.kmod_query.specs.Lines.{file_of as file_of_object};
-ghost use Rattle.kmod_query.specs.Listed.{AreListed};
 ghost use Rattle.kmod_query.specs.Objects.{alias_of, names_of, object_of};
 ghost use Rattle.kmod_query.specs.Paths.{own_file};
 ghost use Rattle.kmod_query.specs.World.{facts_of, file_of};
 
-use crate::listed::Listed;
 use crate::object::Object;
 use crate::paths::{AtPath, OwnFile, PathWord};
 use crate::states::{ModuleStatus, States};
@@ -133,14 +131,12 @@ pub fn file_of(alloc: Global, directory: &[u8], path: &[u8]) -> Result<Vec<u8>, 
 fn listed_path_of<'a>(
     alloc: Global,
     world: &World<'a>,
-    listed: &Listed<'a>,
     name: &[u8],
 ) -> Result<Option<Vec<u8>>, AllocError>
-    requires { AreListed world.now.index.now.dependencies listed.now }
     ensures { IfOk result (λ path. alias_of path ≡ (facts_of world.now).path name.now) }
 {
-    match listed.path(world, name) {
-        Some(path) => Ok(Some(file_of(alloc, world.directory, path)?)),
+    match world.index.find(name) {
+        Some(line) => Ok(Some(file_of(alloc, world.directory, line.path())?)),
         None => Ok(None),
     }
 }
@@ -149,14 +145,12 @@ fn listed_path_of<'a>(
 pub(crate) fn path_of<'a>(
     alloc: Global,
     world: &World<'a>,
-    listed: &Listed<'a>,
     object: &Object,
 ) -> Result<Option<Vec<u8>>, AllocError>
-    requires { AreListed world.now.index.now.dependencies listed.now }
     ensures { IfOk result (λ path. alias_of path ≡ file_of_object (facts_of world.now) (object_of object.now)) }
 {
     match own_file(world, &object.name, alias_bytes(object)) {
         Some(file) => Ok(Some(Vec::from_slice(alloc, file)?)),
-        None => listed_path_of(alloc, world, listed, &object.name),
+        None => listed_path_of(alloc, world, &object.name),
     }
 }

@@ -12,4 +12,4 @@ returns-clause-lines c =
     c.objects.invariant.lines ∙ flat_map-all object_of (line_unless_passed (facts_of c.args.asked.now.world) c.args.asked.now.query c.args.parameters.now (object_of c.args.top.now)) c.objects.object-index c.args.list.now over
 
 pub objects-preserved : goal.objects-preserved
-objects-preserved c = record { soft = search rules; listed = search rules; lines = grind (arith, common_steps) }
+objects-preserved c = record { soft = search rules; lines = grind (arith, common_steps) }

@@ -1,6 +1,5 @@
 use Rattle.std.proofs.Common.{◌≡◌, take}
 use Rattle.std.specs.List.{flat_map}
-use Rattle.kmod_query.specs.Listed.{AreListed}
 use Rattle.kmod_query.specs.Loading.{line_unless_passed}
 use Rattle.kmod_query.specs.Objects.{object_of}
 use Rattle.kmod_query.specs.Stacks.{AreSoftLists}
@@ -11,6 +10,5 @@ abbrev pub invariant-objects : goal.invariant-objects
 invariant-objects l =
     record {
       soft : AreSoftLists (facts_of l.asked.world) l.soft;
-      listed : AreListed l.asked.world.index.now.dependencies l.listed;
       lines : l.lines.items ≡ flat_map (λ object. line_unless_passed (facts_of l.asked.world) l.asked.query l.parameters (object_of l.top) (object_of object)) (take l.object-index l.list);
     }
