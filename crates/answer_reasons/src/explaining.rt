@@ -270,11 +270,11 @@ fn explained<'a>(
 }
 
 /// Why a query of a world is answered as it is. It fails only if memory runs out.
-pub fn explanation(
+pub fn explanation<'a>(
     alloc: Global,
-    sources: &Sources<'_>,
-    world: &World<'_>,
-    query: &Query<'_>,
+    sources: &Sources<'a>,
+    world: &World<'a>,
+    query: &Query<'a>,
 ) -> Result<Vec<Fact>, AllocError> {
     let mut named = NamedLines::new(alloc);
     let asked = Asked {

@@ -197,11 +197,11 @@ fn told_leads<'a>(
 
 /// What leads to the modules of names: the modules that need them, soft and weak dependencies, lines of the configuration,
 /// devices whose alias stands for them, and their lines of modules.alias. It fails only if memory runs out.
-pub fn leads_to(
+pub fn leads_to<'a>(
     alloc: Global,
-    sources: &Sources<'_>,
-    world: &World<'_>,
-    query: &Query<'_>,
+    sources: &Sources<'a>,
+    world: &World<'a>,
+    query: &Query<'a>,
     devices: &[Device],
 ) -> Result<Leads, AllocError> {
     let mut named = NamedLines::new(alloc);
