@@ -3,14 +3,14 @@ ghost use Rattle.std.specs.Prelude.{◌≡◌, IfOk, OnErr};
 ghost use Rattle.std.specs.Io.KnownBytes.{Appends};
 ghost use Rattle.modprobe_words.specs.Begun.{IsBegun};
 ghost use Rattle.modprobe_words.specs.declared.written.Written.TheVariants.{Whole};
-ghost use Rattle.gz_modprobe_drive.specs.Answered.{IsAnswerOf, IsEnough, answer_for, manner_of, status_of};
+ghost use Rattle.gz_modprobe_drive.specs.Answered.{IsAnswerOf, IsEnough, IsIndexOf, answer_for, manner_of, status_of};
 ghost use Rattle.gz_modprobe_drive.specs.Texts.{IsConfOf};
 
 use crate::explained::explain;
-use crate::folder::index_of;
 use crate::queries::is_removal;
 use crate::texts::{Machine, world_of};
 use kmod_conf::Conf;
+use kmod_index::Index;
 use kmod_query::{Answer, Asked, Query, World, answer_to, whole_removal};
 use modprobe_words::{Messages, Written, write_whole};
 use std::alloc::{AllocError, Global};
@@ -77,27 +77,28 @@ fn answer_world<O: Write, E: Write>(
 }
 
 /// Answers a query from the texts and states of a machine, and writes the answer's output, whether it is explained or not.
-/// `conf` is what the machine's configuration says. Texts that were not read do not matter. It fails only if memory runs
-/// out.
+/// `conf` is what the machine's configuration says, `index` what its folder of modules does. Texts that were not read do not
+/// matter. It fails only if memory runs out.
 pub(crate) fn answer_machine<O: Write, E: Write>(
     alloc: Global,
     machine: &Machine<'_>,
     conf: &Conf,
+    index: &Index<'_>,
     query: &Query<'_>,
     output: &mut O,
     messages: &mut Messages<'_, E>,
 ) -> Result<Answered, AllocError>
     requires conf { IsConfOf machine.now.conf.now conf.now }
+    requires index { IsIndexOf machine.now index.now }
     requires enough { IsEnough machine.now query.now }
     ensures answer { IfOk result (λ own. IsAnswerOf machine.now query.now own.answer) }
     ensures written { IfOk result (λ own. own.written ≡ Whole → Appends (O.contents output.old) (O.contents output.new) own.answer.output) }
     ensures begun { IfOk result (λ own. IsBegun (O.contents output.old) (O.contents output.new) own.answer.output) }
     ensures kept { OnErr result (O.contents output.new ≡ O.contents output.old) }
 {
-    let index = index_of(alloc, machine.modules, machine.later, query.words)?;
     let world = world_of(
         conf,
-        &index,
+        index,
         machine.states,
         machine.directory,
         machine.paths,

@@ -1,6 +1,7 @@
 //! How a query is answered: what is read for it, and what is reported.
-ghost use Rattle.std.specs.Prelude.{◌≡◌, ◌≤◌, None, IfOk};
-ghost use Rattle.gz_modprobe_drive.specs.Answered.{IsEnough, status_of};
+ghost use Rattle.std.specs.Prelude.{◌≡◌, ◌≤◌, None, IfOk, IfSome};
+ghost use Rattle.kmod_index.specs.Dependencies.{dependencies_of};
+ghost use Rattle.gz_modprobe_drive.specs.Answered.{IsEnough, IsIndexOf, status_of};
 ghost use Rattle.gz_modprobe_drive.specs.Ends.{WasAnswered};
 ghost use Rattle.gz_modprobe_drive.specs.Outputs.{WasBegun, WritesAnswer};
 ghost use Rattle.gz_modprobe_drive.specs.Paths.{paths_of, words_of};
@@ -11,11 +12,13 @@ use crate::configuration::conf_of;
 use crate::early::{asks_symbols, is_answered_early};
 use crate::evidence::Evidence;
 use crate::failures::tell_failures;
+use crate::folder::{FEW_NAMES, few_index, later_index};
 use crate::paths::read_paths;
-use crate::queries::{asks_states, is_removal};
+use crate::queries::{asks_states, is_removal, resolves_devices};
 use crate::sys::add_states;
 use crate::texts::Machine;
 use kmod_conf::Conf;
+use kmod_index::{DepTable, Index};
 use kmod_query::{Query, States};
 use modprobe_files::{
     ConfTexts, Host, LaterTexts, ModuleTexts, System, directory, is_rootless, read_configuration,
@@ -72,23 +75,101 @@ fn answer_read<S: System, O: Write, E: Write>(
     host: &Host<'_, S>,
     machine: &Machine<'_>,
     conf: &Conf,
+    index: &Index<'_>,
     query: &Query<'_>,
     output: &mut O,
     messages: &mut Messages<'_, E>,
 ) -> Result<u8, AllocError>
     requires conf { IsConfOf machine.now.conf.now conf.now }
+    requires index { IsIndexOf machine.now index.now }
     requires enough { IsEnough machine.now query.now }
     requires paths { words_of machine.now.paths.now ≡ paths_of machine.now.conf.now.kmod query.now }
     ensures status { IfOk result (λ status. status ≤ 1) }
     ensures well { IfOk result (λ status. status ≡ 0 → WasAnswered machine.now.conf.now.kmod machine.now.whole query.now (O.contents output.old) (O.contents output.new)) }
     ensures begun { WritesAnswer machine.now.conf.now.kmod machine.now.whole query.now (O.contents output.old) (O.contents output.new) }
 {
-    let answered = answer_machine(host.alloc(), machine, conf, query, output, messages)?;
+    let answered = answer_machine(host.alloc(), machine, conf, index, query, output, messages)?;
     tell_answered(host, machine, &answered, query, messages)
 }
 
-/// Answers a query, early if it can be and is not explained. Else modules.alias is read for it, and modules.symbols if it may
-/// matter. Returns the status.
+/// Answers a query after modules.alias was read for it, and modules.symbols if it may matter. `lines` are those of modules.dep,
+/// if they were found already. Returns the status.
+fn answer_late<S: System, O: Write, E: Write>(
+    host: &Host<'_, S>,
+    machine: &Machine<'_>,
+    conf: &Conf,
+    lines: Option<&DepTable<'_>>,
+    query: &Query<'_>,
+    output: &mut O,
+    messages: &mut Messages<'_, E>,
+) -> Result<u8, AllocError>
+    requires conf { IsConfOf machine.now.conf.now conf.now }
+    requires lines { IfSome lines (λ lines. lines.now ≡ dependencies_of machine.now.modules.now.dep.items) }
+    requires paths { words_of machine.now.paths.now ≡ paths_of machine.now.conf.now.kmod query.now }
+    ensures status { IfOk result (λ status. status ≤ 1) }
+    ensures well { IfOk result (λ status. status ≡ 0 → WasAnswered machine.now.conf.now.kmod machine.now.whole query.now (O.contents output.old) (O.contents output.new)) }
+    ensures begun { WritesAnswer machine.now.conf.now.kmod machine.now.whole query.now (O.contents output.old) (O.contents output.new) }
+{
+    let alloc = host.alloc();
+    let has_symbols = asks_symbols(alloc, query, messages.explains)?;
+    let later = read_later(host, machine.directory, has_symbols, messages)?;
+    let whole = Machine {
+        later: &later,
+        ..*machine
+    };
+    let index = later_index(alloc, machine.modules, &later, query.words, lines)?;
+    answer_read(host, &whole, conf, &index, query, output, messages)
+}
+
+/// Answers a query early, from what was read. `lines` are those of modules.dep. Returns the status.
+fn answer_early<S: System, O: Write, E: Write>(
+    host: &Host<'_, S>,
+    machine: &Machine<'_>,
+    conf: &Conf,
+    lines: &DepTable<'_>,
+    query: &Query<'_>,
+    output: &mut O,
+    messages: &mut Messages<'_, E>,
+) -> Result<u8, AllocError>
+    requires conf { IsConfOf machine.now.conf.now conf.now }
+    requires lines { lines.now ≡ dependencies_of machine.now.modules.now.dep.items }
+    requires enough { IsEnough machine.now query.now }
+    requires paths { words_of machine.now.paths.now ≡ paths_of machine.now.conf.now.kmod query.now }
+    ensures status { IfOk result (λ status. status ≤ 1) }
+    ensures well { IfOk result (λ status. status ≡ 0 → WasAnswered machine.now.conf.now.kmod machine.now.whole query.now (O.contents output.old) (O.contents output.new)) }
+    ensures begun { WritesAnswer machine.now.conf.now.kmod machine.now.whole query.now (O.contents output.old) (O.contents output.new) }
+{
+    let index = few_index(machine.modules, machine.later, lines);
+    answer_read(host, machine, conf, &index, query, output, messages)
+}
+
+/// Answers a query of few names, early if it can be. Else modules.alias is read for it, and modules.symbols if it may matter.
+/// `lines` are those of modules.dep. Returns the status.
+fn answer_few<S: System, O: Write, E: Write>(
+    host: &Host<'_, S>,
+    machine: &Machine<'_>,
+    conf: &Conf,
+    lines: &DepTable<'_>,
+    query: &Query<'_>,
+    output: &mut O,
+    messages: &mut Messages<'_, E>,
+) -> Result<u8, AllocError>
+    requires conf { IsConfOf machine.now.conf.now conf.now }
+    requires lines { lines.now ≡ dependencies_of machine.now.modules.now.dep.items }
+    requires unread { machine.now.later.now.alias ≡ None }
+    requires paths { words_of machine.now.paths.now ≡ paths_of machine.now.conf.now.kmod query.now }
+    ensures status { IfOk result (λ status. status ≤ 1) }
+    ensures well { IfOk result (λ status. status ≡ 0 → WasAnswered machine.now.conf.now.kmod machine.now.whole query.now (O.contents output.old) (O.contents output.new)) }
+    ensures begun { WritesAnswer machine.now.conf.now.kmod machine.now.whole query.now (O.contents output.old) (O.contents output.new) }
+{
+    if is_answered_early(host.alloc(), machine, conf, lines, query)? {
+        return answer_early(host, machine, conf, lines, query, output, messages);
+    }
+    answer_late(host, machine, conf, Some(lines), query, output, messages)
+}
+
+/// Answers a query; one that is explained, of many names or of aliases that no module has as its name, from all texts. Returns
+/// the status.
 fn answer_by<S: System, O: Write, E: Write>(
     host: &Host<'_, S>,
     machine: &Machine<'_>,
@@ -104,17 +185,11 @@ fn answer_by<S: System, O: Write, E: Write>(
     ensures well { IfOk result (λ status. status ≡ 0 → WasAnswered machine.now.conf.now.kmod machine.now.whole query.now (O.contents output.old) (O.contents output.new)) }
     ensures begun { WritesAnswer machine.now.conf.now.kmod machine.now.whole query.now (O.contents output.old) (O.contents output.new) }
 {
-    let alloc = host.alloc();
-    if is_answered_early(alloc, machine, conf, query, messages.explains)? {
-        return answer_read(host, machine, conf, query, output, messages);
+    if messages.explains || query.words.len() > FEW_NAMES || resolves_devices(query) {
+        return answer_late(host, machine, conf, None, query, output, messages);
     }
-    let has_symbols = asks_symbols(alloc, query, messages.explains)?;
-    let later = read_later(host, machine.directory, has_symbols, messages)?;
-    let whole = Machine {
-        later: &later,
-        ..*machine
-    };
-    answer_read(host, &whole, conf, query, output, messages)
+    let lines = DepTable::read(host.alloc(), &machine.modules.dep)?;
+    answer_few(host, machine, conf, &lines, query, output, messages)
 }
 
 /// Takes the configuration from its texts and tells what is wrong with it, and answers a query. Returns the status.

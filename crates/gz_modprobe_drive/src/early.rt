@@ -1,35 +1,33 @@
 //! Which of the large texts are read for a query.
 ghost use Rattle.std.specs.Prelude.{◌≡◌, false, true, IfOk};
 ghost use Rattle.text_parts.specs.Text.{texts_of};
+ghost use Rattle.kmod_index.specs.Dependencies.{dependencies_of};
 ghost use Rattle.kmod_query.specs.Early.{is_symbolless};
 ghost use Rattle.gz_modprobe_drive.specs.Answered.{IsEarly, said_by, texts_of_folder};
 ghost use Rattle.gz_modprobe_drive.specs.Texts.{IsConfOf};
 
-use crate::folder::{FEW_NAMES, folder_texts};
+use crate::folder::few_index;
 use crate::texts::{Machine, world_of};
 use kmod_conf::Conf;
-use kmod_index::Index;
+use kmod_index::DepTable;
 use kmod_query::{Query, is_early, is_symbolless};
 use std::alloc::{AllocError, Global};
 
 /// Whether the answer to a query is seen to be the same whatever stands in modules.alias and modules.symbols. `conf` is what
-/// the machine's configuration says. It is not tried for many names, nor if the answer is explained. It fails only if memory
-/// runs out.
+/// the machine's configuration says, `lines` are those of modules.dep. It fails only if memory runs out.
 #[tactic(auto, unfolding(crate::specs::Answered::said_by))]
 pub(crate) fn is_answered_early(
     alloc: Global,
     machine: &Machine<'_>,
     conf: &Conf,
+    lines: &DepTable<'_>,
     query: &Query<'_>,
-    explains: bool,
 ) -> Result<bool, AllocError>
-    requires { IsConfOf machine.now.conf.now conf.now }
+    requires conf { IsConfOf machine.now.conf.now conf.now }
+    requires lines { lines.now ≡ dependencies_of machine.now.modules.now.dep.items }
     ensures { IfOk result (λ early. early ≡ true → IsEarly (said_by machine.now (texts_of_folder machine.now)) query.now) }
 {
-    if explains || query.words.len() > FEW_NAMES {
-        return Ok(false);
-    }
-    let index = Index::read(folder_texts(machine.modules, machine.later));
+    let index = few_index(machine.modules, machine.later, lines);
     let world = world_of(
         conf,
         &index,

@@ -82,3 +82,8 @@ pub(crate) fn is_removal(ask: Ask) -> bool
         Ask::DryRun | Ask::ShowDepends | Ask::Resolve | Ask::ShowConfig => false,
     }
 }
+
+/// Whether a query resolves aliases of devices alone. These have colons, and are no names of modules.
+pub(crate) fn resolves_devices(query: &Query<'_>) -> bool {
+    matches!(query.ask, Ask::Resolve) && query.words.iter().all(|word| word.contains(&b':'))
+}
