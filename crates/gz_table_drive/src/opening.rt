@@ -34,6 +34,11 @@ pub(crate) enum OpenFault<D> {
 }
 
 impl<D> From<AllocError> for OpenFault<D> {
+    ghost use Rattle.std.specs.Prelude.{◌≡◌};
+    ghost use Rattle.gz_table_drive.specs.declared.opening.OpenFault.TheVariants.{OutOfMemory};
+
+    ghost from_gives = { λ _ fault. fault ≡ OutOfMemory };
+
     fn from(_: AllocError) -> OpenFault<D> {
         OpenFault::OutOfMemory
     }
