@@ -2,6 +2,7 @@
 ghost use Rattle.std.specs.Prelude.{◌≡◌, ◌≤◌, IfOk, IsSome};
 ghost use Rattle.gz_modprobe_drive.specs.Begun.{AreBegun, WritesFacts};
 ghost use Rattle.gz_modprobe_drive.specs.Formed.{form_by};
+ghost use Rattle.gz_modprobe_drive.specs.Texts.{index_of};
 ghost use Rattle.gz_modprobe_drive.specs.Linted.{IsSilent, WasLinted, WereFound, is_of_depmod, is_of_package, origin_by, origins_of};
 
 use crate::answering::tell_unwritten;
@@ -12,6 +13,7 @@ use crate::lint_facts::lint_facts;
 use crate::parameters::known_parameters;
 use crate::unread::unread_files;
 use answer_facts::Fact;
+use kmod_index::Index;
 use machine_lint::{Known, Origin, lint};
 use modprobe_files::{
     ConfTexts, Host, LaterTexts, ModuleTexts, System, TextFile, directory, is_rootless,
@@ -102,17 +104,19 @@ fn found_by<S: System>(
     lint_facts(alloc, texts, notes, &unread)
 }
 
-/// Looks at the lines of a configuration, over the texts of a folder of modules. Returns the status.
+/// Looks at the lines of a configuration, over the texts of a folder of modules, and what they say. Returns the status.
 fn lint_texts<S: System, O: Write, E: Write>(
     host: &Host<'_, S>,
     texts: &ConfTexts,
     modules: &ModuleTexts,
     later: &LaterTexts,
+    index: &Index<'_>,
     directory: &[u8],
     asked: &Asked<'_>,
     output: &mut O,
     messages: &mut Messages<'_, E>,
 ) -> Result<u8, AllocError>
+    requires index { index.now ≡ index_of modules.now later.now }
     requires alias { IsSome later.now.alias }
     requires symbols { IsSome later.now.symbols }
     ensures status { IfOk result (λ status. status ≤ 1) }
@@ -121,12 +125,11 @@ fn lint_texts<S: System, O: Write, E: Write>(
 {
     let alloc = host.alloc();
     let conf = conf_of(alloc, texts)?;
-    let index = whole_index(alloc, modules, later)?;
     let files = origins_of(alloc, directory, &texts.files)?;
-    let parameters = known_parameters(host, directory, &conf, &index)?;
+    let parameters = known_parameters(host, directory, &conf, index)?;
     let known = Known {
         conf: &conf,
-        index: &index,
+        index,
         files: &files,
         parameters: &parameters,
     };
@@ -151,8 +154,9 @@ fn lint_in<S: System, O: Write, E: Write>(
     let texts = read_configuration(host, asked.kmod, directory, named, messages)?;
     let modules = read_modules(host, directory, messages)?;
     let later = read_later(host, directory, true, messages)?;
+    let index = whole_index(host.alloc(), &modules, &later)?;
     lint_texts(
-        host, &texts, &modules, &later, directory, asked, output, messages,
+        host, &texts, &modules, &later, &index, directory, asked, output, messages,
     )
 }
 

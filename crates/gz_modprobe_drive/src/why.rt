@@ -12,6 +12,7 @@ use crate::formed::{form_by, write_facts};
 use crate::texts::world_of;
 use answer_reasons::{Device, Leads, Sources, leads_to};
 use kmod_conf::Conf;
+use kmod_index::Index;
 use kmod_query::{Ask, Query, States};
 use modprobe_files::{
     ConfTexts, Host, LaterTexts, ModuleTexts, System, directory, is_rootless, read_configuration,
@@ -58,17 +59,16 @@ fn query_of<'a>(names: &'a [&'a [u8]]) -> Query<'a> {
     }
 }
 
-/// What leads to names, by what was read.
-fn leads_of(
+/// What leads to names, by what was read. `index` is what the folder of modules says.
+fn leads_in(
     alloc: Global,
     known: &Known<'_>,
     conf: &Conf,
+    index: &Index<'_>,
     names: &[&[u8]],
 ) -> Result<Leads, AllocError> {
-    let words = looked_up(alloc, names, known.devices)?;
-    let index = index_of(alloc, known.modules, known.later, &words)?;
     let states = States::new(alloc);
-    let world = world_of(conf, &index, &states, known.directory, &[]);
+    let world = world_of(conf, index, &states, known.directory, &[]);
     let paths = known.conf.paths(alloc)?;
     let sources = Sources {
         paths: &paths,
@@ -81,6 +81,18 @@ fn leads_of(
         builtin: &known.modules.builtin,
     };
     leads_to(alloc, &sources, &world, &query_of(names), known.devices)
+}
+
+/// What leads to names, by what was read.
+fn leads_of(
+    alloc: Global,
+    known: &Known<'_>,
+    conf: &Conf,
+    names: &[&[u8]],
+) -> Result<Leads, AllocError> {
+    let words = looked_up(alloc, names, known.devices)?;
+    let index = index_of(alloc, known.modules, known.later, &words)?;
+    leads_in(alloc, known, conf, &index, names)
 }
 
 /// Writes what leads to names, and tells if it cannot be written. Returns the status.
