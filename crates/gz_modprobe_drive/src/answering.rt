@@ -1,7 +1,7 @@
 //! How a query is answered: what is read for it, and what is reported.
 ghost use Rattle.std.specs.Prelude.{◌≡◌, ◌≤◌, None, IfOk, IfSome};
 ghost use Rattle.kmod_index.specs.Dependencies.{dependencies_of};
-ghost use Rattle.gz_modprobe_drive.specs.Answered.{IsEnough, IsIndexOf, status_of};
+ghost use Rattle.gz_modprobe_drive.specs.Answered.{IsEnough, status_of};
 ghost use Rattle.gz_modprobe_drive.specs.Ends.{WasAnswered};
 ghost use Rattle.gz_modprobe_drive.specs.Outputs.{WasBegun, WritesAnswer};
 ghost use Rattle.gz_modprobe_drive.specs.Paths.{paths_of, words_of};
@@ -12,13 +12,13 @@ use crate::configuration::conf_of;
 use crate::early::{asks_symbols, is_answered_early};
 use crate::evidence::Evidence;
 use crate::failures::tell_failures;
-use crate::folder::{FEW_NAMES, few_index, later_index};
+use crate::folder::{FEW_NAMES, later_index};
 use crate::paths::read_paths;
-use crate::queries::{asks_states, is_removal, resolves_devices};
+use crate::queries::{asks_states, is_removal, looks_up_modules};
 use crate::sys::add_states;
 use crate::texts::Machine;
 use kmod_conf::Conf;
-use kmod_index::{DepTable, Index};
+use kmod_index::DepTable;
 use kmod_query::{Query, States};
 use modprobe_files::{
     ConfTexts, Host, LaterTexts, ModuleTexts, System, directory, is_rootless, read_configuration,
@@ -70,25 +70,28 @@ fn tell_answered<S: System, E: Write>(
     Ok(answered.status())
 }
 
-/// Answers a query from what was read, and tells what failed. Returns the status.
+/// Answers a query from what was read, and tells what failed. `lines` are those of modules.dep, if they were found already.
+/// Returns the status.
 fn answer_read<S: System, O: Write, E: Write>(
     host: &Host<'_, S>,
     machine: &Machine<'_>,
     conf: &Conf,
-    index: &Index<'_>,
+    lines: Option<&DepTable<'_>>,
     query: &Query<'_>,
     output: &mut O,
     messages: &mut Messages<'_, E>,
 ) -> Result<u8, AllocError>
     requires conf { IsConfOf machine.now.conf.now conf.now }
-    requires index { IsIndexOf machine.now index.now }
+    requires lines { IfSome lines (λ lines. lines.now ≡ dependencies_of machine.now.modules.now.dep.items) }
     requires enough { IsEnough machine.now query.now }
     requires paths { words_of machine.now.paths.now ≡ paths_of machine.now.conf.now.kmod query.now }
     ensures status { IfOk result (λ status. status ≤ 1) }
     ensures well { IfOk result (λ status. status ≡ 0 → WasAnswered machine.now.conf.now.kmod machine.now.whole query.now (O.contents output.old) (O.contents output.new)) }
     ensures begun { WritesAnswer machine.now.conf.now.kmod machine.now.whole query.now (O.contents output.old) (O.contents output.new) }
 {
-    let answered = answer_machine(host.alloc(), machine, conf, index, query, output, messages)?;
+    let alloc = host.alloc();
+    let index = later_index(alloc, machine.modules, machine.later, query.words, lines)?;
+    let answered = answer_machine(alloc, machine, conf, &index, query, output, messages)?;
     tell_answered(host, machine, &answered, query, messages)
 }
 
@@ -117,30 +120,7 @@ fn answer_late<S: System, O: Write, E: Write>(
         later: &later,
         ..*machine
     };
-    let index = later_index(alloc, machine.modules, &later, query.words, lines)?;
-    answer_read(host, &whole, conf, &index, query, output, messages)
-}
-
-/// Answers a query early, from what was read. `lines` are those of modules.dep. Returns the status.
-fn answer_early<S: System, O: Write, E: Write>(
-    host: &Host<'_, S>,
-    machine: &Machine<'_>,
-    conf: &Conf,
-    lines: &DepTable<'_>,
-    query: &Query<'_>,
-    output: &mut O,
-    messages: &mut Messages<'_, E>,
-) -> Result<u8, AllocError>
-    requires conf { IsConfOf machine.now.conf.now conf.now }
-    requires lines { lines.now ≡ dependencies_of machine.now.modules.now.dep.items }
-    requires enough { IsEnough machine.now query.now }
-    requires paths { words_of machine.now.paths.now ≡ paths_of machine.now.conf.now.kmod query.now }
-    ensures status { IfOk result (λ status. status ≤ 1) }
-    ensures well { IfOk result (λ status. status ≡ 0 → WasAnswered machine.now.conf.now.kmod machine.now.whole query.now (O.contents output.old) (O.contents output.new)) }
-    ensures begun { WritesAnswer machine.now.conf.now.kmod machine.now.whole query.now (O.contents output.old) (O.contents output.new) }
-{
-    let index = few_index(machine.modules, machine.later, lines);
-    answer_read(host, machine, conf, &index, query, output, messages)
+    answer_read(host, &whole, conf, lines, query, output, messages)
 }
 
 /// Answers a query of few names, early if it can be. Else modules.alias is read for it, and modules.symbols if it may matter.
@@ -163,13 +143,12 @@ fn answer_few<S: System, O: Write, E: Write>(
     ensures begun { WritesAnswer machine.now.conf.now.kmod machine.now.whole query.now (O.contents output.old) (O.contents output.new) }
 {
     if is_answered_early(host.alloc(), machine, conf, lines, query)? {
-        return answer_early(host, machine, conf, lines, query, output, messages);
+        return answer_read(host, machine, conf, Some(lines), query, output, messages);
     }
     answer_late(host, machine, conf, Some(lines), query, output, messages)
 }
 
-/// Answers a query; one that is explained, of many names or of aliases that no module has as its name, from all texts. Returns
-/// the status.
+/// Answers a query; one that is explained, of many names or of none that a module may have, from all texts. Returns the status.
 fn answer_by<S: System, O: Write, E: Write>(
     host: &Host<'_, S>,
     machine: &Machine<'_>,
@@ -185,7 +164,7 @@ fn answer_by<S: System, O: Write, E: Write>(
     ensures well { IfOk result (λ status. status ≡ 0 → WasAnswered machine.now.conf.now.kmod machine.now.whole query.now (O.contents output.old) (O.contents output.new)) }
     ensures begun { WritesAnswer machine.now.conf.now.kmod machine.now.whole query.now (O.contents output.old) (O.contents output.new) }
 {
-    if messages.explains || query.words.len() > FEW_NAMES || resolves_devices(query) {
+    if messages.explains || query.words.len() > FEW_NAMES || !looks_up_modules(query) {
         return answer_late(host, machine, conf, None, query, output, messages);
     }
     let lines = DepTable::read(host.alloc(), &machine.modules.dep)?;

@@ -83,7 +83,11 @@ pub(crate) fn is_removal(ask: Ask) -> bool
     }
 }
 
-/// Whether a query resolves aliases of devices alone. These have colons, and are no names of modules.
-pub(crate) fn resolves_devices(query: &Query<'_>) -> bool {
-    matches!(query.ask, Ask::Resolve) && query.words.iter().all(|word| word.contains(&b':'))
+/// Whether names that a module may have are looked up for a query. An alias of a device has a colon, and is none.
+pub(crate) fn looks_up_modules(query: &Query<'_>) -> bool {
+    match query.ask {
+        Ask::ShowConfig => false,
+        Ask::Resolve => query.words.iter().any(|word| !word.contains(&b':')),
+        Ask::ShowDepends | Ask::DryRun | Ask::Remove | Ask::ShowRemoval => true,
+    }
 }
