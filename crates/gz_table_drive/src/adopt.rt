@@ -16,7 +16,9 @@ use std::io::{Read, Write};
 use std::rt::Files;
 use std::time::Clock;
 use table_adopt::KernelModule;
-use table_folder::{Shared, TableFault, Teller, journal_fault, listing_of, modules_of, read_setup};
+use table_folder::{
+    Shared, TableFault, Teller, journal_fault, listed_text, listing_of, modules_of, read_setup,
+};
 
 /// Brings the table of a journal's file to these modules.
 fn adopt_file<R: Files + Drop>(
@@ -50,7 +52,8 @@ pub(crate) fn adopt<R: Files<File = File> + Clock + AllocGlobal, I: Read, E: Wri
     let setup = read_setup(shared)?;
     let listing = listing_of(alloc, file, input, teller)?;
     let lock = shared.lock(LockKind::Exclusive)?;
-    let kernel = modules_of(shared.rt, listing, teller)?;
+    let text = listed_text(shared.rt, listing, teller)?;
+    let kernel = modules_of(alloc, &text, teller)?;
     let mut table = changing_table(shared, &mut Kept::new(&setup), teller)?;
     let mut replies = Replies::new(alloc);
     let adopted = adopt_file(alloc, &mut table, &kernel, &mut replies);

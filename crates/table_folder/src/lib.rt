@@ -25,7 +25,7 @@ pub use fault::{Damage, TableFault, journal_fault};
 pub use folder_setup::FolderSetup;
 pub use input::{InputFault, InputLines, alone};
 pub use journal::{damage_of, found_in, make_journal, open_journal};
-pub use listing::{Listing, listing_of, modules_of};
+pub use listing::{Listing, listed_text, listing_of, modules_of};
 pub use making::{make_folder, new_setup, write_setup};
 pub use reading::{read_journal, read_setup, read_setup_for_command};
 pub use regular::refuse_others;

@@ -1,7 +1,8 @@
 //! The modules that a kernel has, as a file or standard input lists them.
-ghost use Rattle.std.specs.Prelude.{IfOk, IfErr};
+ghost use Rattle.std.specs.Prelude.{◌≡◌, Ok, IfOk, IfErr};
+ghost use Rattle.table_adopt.specs.Kernel.{modules_of_text};
 ghost use Rattle.table_folder.specs.Faults.{IsTold, IsUnlisted};
-ghost use Rattle.table_folder.specs.Listings.{IsListing, AreModulesOf};
+ghost use Rattle.table_folder.specs.Listings.{IsListing, IsTextOf};
 
 use crate::fault::TableFault;
 use crate::regular::is_other_than_file;
@@ -64,21 +65,32 @@ fn read_regular<R: Files + AllocGlobal, E: Write>(
     }
 }
 
-/// The modules of a listing, in the order of its lines. A file is read now. One that is not regular, or not read, and a text
-/// that has another line than proc(5)'s are refused, which is told.
-pub fn modules_of<R: Files + AllocGlobal, E: Write>(
+/// The text of a listing. A file is read now. One that is not regular, or not read, is refused, which is told.
+pub fn listed_text<R: Files + AllocGlobal, E: Write>(
     rt: &R,
     listing: Listing<'_>,
     teller: &mut Teller<'_, E>,
-) -> Result<Vec<KernelModule>, TableFault>
-    ensures modules { IfOk result (λ kernel. AreModulesOf listing.entry kernel.items) }
+) -> Result<Vec<u8>, TableFault>
+    ensures text { IfOk result (λ text. IsTextOf listing.entry text.items) }
     ensures fault { IfErr result IsTold }
 {
-    let text = match listing {
-        Listing::Given(text) => text,
-        Listing::File(path) => read_regular(rt, path, teller)?,
-    };
-    match read_modules(rt.alloc(), &text) {
+    match listing {
+        Listing::Given(text) => Ok(text),
+        Listing::File(path) => read_regular(rt, path, teller),
+    }
+}
+
+/// The modules of a listing's text, in the order of its lines. A text that has another line than proc(5)'s is refused, which
+/// is told.
+pub fn modules_of<E: Write>(
+    alloc: Global,
+    text: &[u8],
+    teller: &mut Teller<'_, E>,
+) -> Result<Vec<KernelModule>, TableFault>
+    ensures modules { IfOk result (λ kernel. modules_of_text text.now ≡ Ok kernel.items) }
+    ensures fault { IfErr result IsTold }
+{
+    match read_modules(alloc, text) {
         Ok(modules) => Ok(modules),
         Err(KernelFault::Memory) => Err(TableFault::OutOfMemory),
         Err(fault) => Err(teller.no_listing(fault)),

@@ -1,6 +1,7 @@
-use Rattle.std.proofs.Common.{◌≡◌, ◌∙◌, ap, subst, List}
+use Rattle.std.proofs.Common.{◌≡◌, ◌∙◌, ap, subst, ℕ, List, Ok}
 use Rattle.modprobe.specs.Setup.{Setup}
 use Rattle.held_lines.specs.Held.{holding}
+use Rattle.table_adopt.specs.Kernel.{modules_of_text}
 use Rattle.table_adopt.specs.declared.kernel.KernelModule.{KernelModule}
 use Rattle.table_folder.specs.declared.folder_setup.FolderSetup.{FolderSetup}
 use Rattle.gz_table_drive.specs.Adopting.{HasAdopted}
@@ -13,7 +14,7 @@ returns g c =
     let table = c.in_ok-table.table in
     let held = holding table.session.holders.held.table table.session.holders.held.names in
     let kernel = c.in_ok-kernel.kernel.items in
-    let same : c.new.result.setup.now ≡ found = c.new.ensures ∙ c.deref.ensures in
+    let same : c.new.result.setup.now ≡ found = c.new.ensures ∙ c.deref-2.ensures in
     let own = stands_for c.new.result.setup.now.setup found.setup held c.in_ok-table.ensures.stands (ap (λ (f : FolderSetup). f.setup) same) in (
       c.new-replies.result,
       record { text = c.new-replies.ensures.text; endings = c.new-replies.ensures.endings },
@@ -24,11 +25,11 @@ returns g c =
         listing = c.in_ok-listing.listing;
         named = c.in_ok-listing.ensures.listing;
         kernel = kernel;
-        listed = c.in_ok-kernel.ensures.modules;
+        listed = (c.in_ok-text.text.items, c.in_ok-text.ensures.text, subst (λ (text : List ℕ). modules_of_text text ≡ Ok kernel) c.deref.ensures.value c.in_ok-kernel.ensures.modules);
         journal = own.0;
         held = held;
         stands = own.1;
         answered = subst (λ (s : Setup). HasAdopted s held kernel c.new-replies.result c.adopt_file-adopted.new.replies) (c.in_ok-table.ensures.of_setup ∙ ap (λ (f : FolderSetup). f.setup) same)
-            (subst (λ (ks : List KernelModule). HasAdopted table.session.setup.now held ks c.new-replies.result c.adopt_file-adopted.new.replies) c.deref-2.ensures.value c.in_ok-adopted.ensures);
+            (subst (λ (ks : List KernelModule). HasAdopted table.session.setup.now held ks c.new-replies.result c.adopt_file-adopted.new.replies) c.deref-3.ensures.value c.in_ok-adopted.ensures);
       },
     )
