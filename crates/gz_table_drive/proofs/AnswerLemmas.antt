@@ -65,7 +65,7 @@ answered_more s h lines more old mid new first second =
     subst (λ replies. HasMore replies old new) (sym (replies_more s h lines more)) (has_more (replies_of s h lines) (replies_of s (after s h lines) more) old mid new first second)
 
 -- the first lines, behind others
-first_behind : (front group rest : List (List ℕ)) (count : ℕ) → count ≤ length group → take (length front + count) (front ++ (group ++ rest)) ≡ front ++ take count group
+pub first_behind : (front group rest : List (List ℕ)) (count : ℕ) → count ≤ length group → take (length front + count) (front ++ (group ++ rest)) ≡ front ++ take count group
 first_behind front group rest count within =
     take-append-add front (group ++ rest) count ∙ ap (λ more. front ++ more) (take-append-le count group rest within)
 

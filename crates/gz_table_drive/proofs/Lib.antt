@@ -4,3 +4,4 @@ mod AskLemmas
 mod TenureLemmas
 mod WrittenLemmas
 mod InputLemmas
+mod SentLemmas

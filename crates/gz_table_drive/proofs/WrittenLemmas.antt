@@ -43,12 +43,12 @@ are_answers s (line ∷ lines) commands = (
   subst (λ h. AreAnswersTo s lines (replies_of s h lines)) (after_more s (opening_of s) commands (line ∷ [])) (are_answers s lines (commands ++ line ∷ [])),
 )
 
-answers_over : (s : Setup) (h : Held) (file : List ℕ) (lines : List (List ℕ)) → FileStands s h file → AreAnswersTo s lines (replies_of s h lines)
+pub answers_over : (s : Setup) (h : Held) (file : List ℕ) (lines : List (List ℕ)) → FileStands s h file → AreAnswersTo s lines (replies_of s h lines)
 answers_over s h file lines stands =
     let there = commands_there s h file stands in
     subst (λ found. AreAnswersTo s lines (replies_of s found lines)) (sym there.1) (are_answers s lines there.0)
 
-answers_more : (s : Setup) (lines more : List (List ℕ)) (first second : List Outcome) → AreAnswersTo s lines first → AreAnswersTo s more second → AreAnswersTo s (lines ++ more) (first ++ second)
+pub answers_more : (s : Setup) (lines more : List (List ℕ)) (first second : List Outcome) → AreAnswersTo s lines first → AreAnswersTo s more second → AreAnswersTo s (lines ++ more) (first ++ second)
 answers_more s [] more [] second one other = other
 answers_more s [] more (reply ∷ first) second one other = absurd one
 answers_more s (line ∷ lines) more [] second one other = absurd one

@@ -1,6 +1,7 @@
 -- How a run ends: with help or the version, with words that are refused or name no folder or two, or with work.
-use Rattle.std.specs.Prelude.{⊤, ◌≡◌, ◌⊎◌, ℕ, Bool, true, false, List, [], ◌∷◌, Contains, Option, Some, Result, Ok, Err, IsUtf8}
+use Rattle.std.specs.Prelude.{◌≡◌, ◌⊎◌, ℕ, Bool, true, false, List, [], ◌∷◌, Contains, Option, Some, Result, Ok, Err, IsUtf8}
 use Rattle.std.specs.Io.KnownBytes.{Appends}
+use Rattle.modprobe_words.specs.Begun.{IsBegun}
 use Rattle.table_words.specs.Asked.{Asked, Job, create, command, lines, adopt, compact, check, repair, asked}
 use Rattle.table_words.specs.Lines.{line_of}
 use Rattle.table_words.specs.Options.{Stop, help, version, refused}
@@ -10,11 +11,12 @@ use Rattle.table_words.specs.declared.help.TheConstants.{HELP, VERSION}
 use Rattle.table_folder.specs.Faults.{ending_of_fault}
 use Rattle.table_folder.specs.declared.fault.TableFault.{TableFault}
 use Rattle.table_folder.specs.declared.fault.TableFault.TheVariants.{Output}
-use Rattle.gz_table_drive.specs.Written.{IsWritten, IsInputAnswered, IsAdoptionWritten}
+use Rattle.gz_table_drive.specs.Counted.{AreCountsWritten}
+use Rattle.gz_table_drive.specs.Written.{IsWritten, IsInputAnswered, IsInputSent, IsAdoptionWritten}
 
--- a text is written whole, and the run is done; or the output failed
+-- a text is written whole, and the run is done; or the output failed, and has a beginning of it
 abbrev pub IsShown : List ℕ → Option (List ℕ) → Option (List ℕ) → Ending → Type 0
-IsShown text old new ending = ((ending ≡ Done) × Appends old new text) ⊎ (ending ≡ Fault)
+IsShown text old new ending = ((ending ≡ Done) × Appends old new text) ⊎ ((ending ≡ Fault) × IsBegun old new text)
 
 -- nothing is written, and the words were not asked rightly
 abbrev pub IsUnasked : Option (List ℕ) → Option (List ℕ) → Ending → Type 0
@@ -47,33 +49,37 @@ HasSecondFolder _ _ = ⊥
 abbrev pub IsMisplaced : Option (List ℕ) → Asked → Type 0
 IsMisplaced table asked = HasSecondFolder table asked.job ⊎ IsNoFolder asked.folder
 
--- a job was done: the reply to a command is written, or those to the lines of an input, or what is answered of a listing; of a
--- table that is made, or a journal that is written anew, nothing is written
+-- a job was done: the reply to a command is written, or those to the lines of an input, or what is answered of a listing, or what
+-- is counted in a folder; of a table that is made, or a journal that is written anew, nothing is written
 abbrev pub IsPerformed : Job → Option (List ℕ) → Option (List ℕ) → Option (List ℕ) → Ending → Type 0
 IsPerformed (command words) input old new ending = IsWritten (line_of words) old new ending
 IsPerformed lines input old new ending = IsInputAnswered input old new ending
 IsPerformed (create origin) input old new ending = (ending ≡ Done) × (new ≡ old)
 IsPerformed compact input old new ending = (ending ≡ Done) × (new ≡ old)
-IsPerformed check input old new ending = ending ≡ Done
-IsPerformed repair input old new ending = ending ≡ Done
+IsPerformed check input old new ending = AreCountsWritten old new ending
+IsPerformed repair input old new ending = AreCountsWritten old new ending
 IsPerformed (adopt word) input old new ending = IsAdoptionWritten word input old new ending
 
--- nothing was written; or the output failed, and nobody knows what was
-abbrev pub IsSilent : Option (List ℕ) → Option (List ℕ) → TableFault → Type 0
-IsSilent old new fault = (fault ≡ Output) ⊎ (new ≡ old)
+-- a beginning is written of a text that such a run writes, behind what stood there before
+abbrev pub HasBeginning : (Option (List ℕ) → Option (List ℕ) → Ending → Type 0) → Option (List ℕ) → Option (List ℕ) → Type 0
+HasBeginning Writes old new = (text : List ℕ) × (ending : Ending) × Writes (Some []) (Some text) ending × IsBegun old new text
 
--- a job was not done, and nothing is written of it; of the lines of an input some may be answered, and nothing is said
-abbrev pub IsUndone : Job → Option (List ℕ) → Option (List ℕ) → TableFault → Type 0
-IsUndone lines old new fault = ⊤
-IsUndone job old new fault = IsSilent old new fault
+-- nothing was written; or the output failed, and it has a beginning of such a text
+abbrev pub IsCutShort : (Option (List ℕ) → Option (List ℕ) → Ending → Type 0) → Option (List ℕ) → Option (List ℕ) → TableFault → Type 0
+IsCutShort Writes old new fault = (new ≡ old) ⊎ ((fault ≡ Output) × HasBeginning Writes old new)
+
+-- a job was not done, and nothing is written of it; of the lines of an input the first may be answered, and no others
+abbrev pub IsUndone : Job → Option (List ℕ) → Option (List ℕ) → Option (List ℕ) → TableFault → Type 0
+IsUndone lines input old new fault = (new ≡ old) ⊎ IsInputSent input old new fault
+IsUndone job input old new fault = IsCutShort (IsPerformed job input) old new fault
 
 -- a run whose job was not done ends so
-abbrev pub HasFailed : Job → Option (List ℕ) → Option (List ℕ) → Ending → Type 0
-HasFailed job old new ending = (fault : TableFault) × (ending ≡ ending_of_fault fault) × IsUndone job old new fault
+abbrev pub HasFailed : Job → Option (List ℕ) → Option (List ℕ) → Option (List ℕ) → Ending → Type 0
+HasFailed job input old new ending = (fault : TableFault) × (ending ≡ ending_of_fault fault) × IsUndone job input old new fault
 
 -- a job was done, or has failed
 abbrev pub IsWork : Job → Option (List ℕ) → Option (List ℕ) → Option (List ℕ) → Ending → Type 0
-IsWork job input old new ending = IsPerformed job input old new ending ⊎ HasFailed job old new ending
+IsWork job input old new ending = IsPerformed job input old new ending ⊎ HasFailed job input old new ending
 
 -- the lines of an input are read from it, and so may be those of a kernel
 abbrev pub reads_input : Job → Bool

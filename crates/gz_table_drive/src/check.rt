@@ -1,9 +1,12 @@
 //! What stands in a folder.
+ghost use Rattle.std.specs.Prelude.{◌≡◌, ◌++◌, IfOk, OnOk};
 ghost use Rattle.line_journal.specs.Lines.{IsLine};
+ghost use Rattle.gz_table_drive.specs.Counted.{count_line, counts_text};
 
 use crate::answering::Replies;
 use crate::reading::answer_copy;
 use file_journal::LockKind;
+use itoa::Buffer;
 use line_journal::{Found, KillOnly, look};
 use modprobe::Setup;
 use program_frame::first_word;
@@ -30,20 +33,30 @@ pub(crate) struct Counts {
     cut: u64,
 }
 
+/// Adds a line of a word and a number.
+fn push_count(text: &mut Vec<u8>, word: &[u8], count: u64) -> Result<(), AllocError>
+    ensures { OnOk result (text.new.items ≡ text.old.items ++ count_line word.now count) }
+{
+    text.extend_from_slice(word)?;
+    text.push(b' ')?;
+    text.extend_from_slice(Buffer::new().format(count).as_bytes())?;
+    text.push(b'\n')?;
+    Ok(())
+}
+
 impl Counts {
     /// What is written of them, a word and a number each line.
-    pub(crate) fn text(&self, alloc: Global) -> Result<String, AllocError> {
-        let Counts {
-            modules,
-            loaded,
-            holders,
-            lines,
-            torn,
-            cut,
-        } = *self;
-        format!(in alloc;
-            "modules {modules}\nloaded {loaded}\nholders {holders}\nlines {lines}\ntorn {torn}\ncut {cut}\n"
-        )
+    pub(crate) fn text(&self, alloc: Global) -> Result<Vec<u8>, AllocError>
+        ensures { IfOk result (λ text. text.items ≡ counts_text self.now) }
+    {
+        let mut text = Vec::new(alloc);
+        push_count(&mut text, b"modules", self.modules as u64)?;
+        push_count(&mut text, b"loaded", self.loaded as u64)?;
+        push_count(&mut text, b"holders", self.holders as u64)?;
+        push_count(&mut text, b"lines", self.lines as u64)?;
+        push_count(&mut text, b"torn", self.torn as u64)?;
+        push_count(&mut text, b"cut", self.cut)?;
+        Ok(text)
     }
 }
 

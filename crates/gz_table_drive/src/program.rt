@@ -1,15 +1,17 @@
 //! The program over any words and streams.
-ghost use Rattle.std.specs.Prelude.{◌≡◌, ◌+◌, ◌≤◌, [], ◌∷◌, ◌↔◌, false, drop, length, IfOk, IfErr, IfNone, IfSome, IsNone, IsTrue, OnOk, OnErr, OnSome};
+ghost use Rattle.std.specs.Prelude.{◌≡◌, ◌⊎◌, ◌+◌, ◌≤◌, [], ◌∷◌, ◌↔◌, false, drop, length, IfOk, IfErr, IfNone, IfSome, IsNone, IsTrue, OnOk, OnErr, OnSome};
 ghost use Rattle.std.specs.Io.KnownBytes.{Appends};
 ghost use Rattle.text_parts.specs.Text.{texts_of};
+ghost use Rattle.modprobe_words.specs.Begun.{IsBegun};
 ghost use Rattle.line_journal.specs.Lines.{AreLines, bytes_of};
 ghost use Rattle.table_words.specs.Asked.{asked, asked_view, job_view};
 ghost use Rattle.table_words.specs.Endings.{number_of};
 ghost use Rattle.table_words.specs.Lines.{line_of};
 ghost use Rattle.table_words.specs.Options.{stop_of, text_of};
 ghost use Rattle.table_words.specs.declared.ending.Ending.{Ending as AnyEnding};
-ghost use Rattle.gz_table_drive.specs.Ended.{HasSecondFolder, HasSlash, IsMisplaced, IsNoFolder, IsPerformed, IsRun, IsRunOf, IsShown, IsSilent, IsStopped, IsUnasked, IsUndone, IsWork, may_read, reads_input};
-ghost use Rattle.gz_table_drive.specs.Written.{first_ending, AnswersInput, AreWritten, IsAdoptionWritten, IsInputAnswered, IsWritten};
+ghost use Rattle.gz_table_drive.specs.Ended.{HasSecondFolder, HasSlash, IsMisplaced, IsNoFolder, IsPerformed, IsRun, IsRunOf, IsShown, IsCutShort, IsStopped, IsUnasked, IsUndone, IsWork, may_read, reads_input};
+ghost use Rattle.gz_table_drive.specs.Counted.{AreCountsWritten};
+ghost use Rattle.gz_table_drive.specs.Written.{first_ending, AnswersInput, AreFirstSent, AreWritten, IsAdoptionWritten, IsInputAnswered, IsInputSent, IsWritten, SendsInput};
 
 use crate::adopt::adopt;
 use crate::answering::Replies;
@@ -23,6 +25,7 @@ use durable_table::Compacted;
 use file_journal::{FileDevice, Syncs};
 use line_journal::is_line;
 use memchr::memchr;
+use modprobe_words::Written;
 use std::alloc::{AllocError, Global};
 use std::env::Env;
 use std::fs::File;
@@ -36,15 +39,16 @@ use table_folder::{
 };
 use table_words::{Asked, Ending, HELP, Job, Stop, VERSION, line_of, read_words};
 
-/// Writes a text, and waits until the stream has it.
+/// Writes a text, and waits until the stream has it. If the output fails, it has a beginning of the text.
 fn write_whole<O: Write>(text: &[u8], output: &mut O) -> Result<(), TableFault>
     ensures written { OnOk result (Appends (O.contents output.old) (O.contents output.new) text.now) }
+    ensures begun { IsBegun (O.contents output.old) (O.contents output.new) text.now }
     ensures failed { IfErr result (λ fault. fault ≡ TableFault.Output) }
 {
-    if output.write_all(text).is_err() || output.flush().is_err() {
-        return Err(TableFault::Output);
+    match modprobe_words::write_whole(output, text) {
+        Written::Whole => Ok(()),
+        _ => Err(TableFault::Output),
     }
-    Ok(())
 }
 
 /// The lines behind the first of them.
@@ -68,6 +72,7 @@ fn answer_group<'s, 'r, R: Files<File = File> + Clock + AllocGlobal, O: Write, E
 ) -> Result<Ending, TableFault>
     requires { AreLines (bytes_of lines.now) }
     ensures written { IfOk result (AreWritten kept.old.setup.now.setup (bytes_of lines.now) (O.contents output.old) (O.contents output.new)) }
+    ensures stopped { IfErr result (AreFirstSent kept.old.setup.now.setup (bytes_of lines.now) (O.contents output.old) (O.contents output.new)) }
     ensures setup { kept.new.setup.now ≡ kept.old.setup.now }
 {
     let (mut rest, mut ending) = (lines, Ending::Done);
@@ -115,7 +120,7 @@ fn answer_command<R: Files<File = File> + Clock + AllocGlobal, O: Write, E: Writ
     teller: &mut Teller<'_, E>,
 ) -> Result<Ending, TableFault>
     ensures written { IfOk result (IsWritten (line_of (texts_of words.now)) (O.contents output.old) (O.contents output.new)) }
-    ensures failed { IfErr result (IsSilent (O.contents output.old) (O.contents output.new)) }
+    ensures failed { IfErr result (IsCutShort (IsWritten (line_of (texts_of words.now))) (O.contents output.old) (O.contents output.new)) }
 {
     let alloc = shared.alloc();
     let setup = read_setup_for_command(shared, words)?;
@@ -135,6 +140,7 @@ fn answer_input<'s, 'r, R: Files<File = File> + Clock + AllocGlobal, I: Read, O:
     teller: &mut Teller<'_, E>,
 ) -> Result<Ending, TableFault>
     ensures written { IfOk result (AnswersInput kept.old.setup.now.setup (I.remaining input.old) (O.contents output.old) (O.contents output.new)) }
+    ensures stopped { IfErr result (SendsInput kept.old.setup.now.setup (I.remaining input.old) (O.contents output.old) (O.contents output.new)) }
     ensures setup { kept.new.setup.now ≡ kept.old.setup.now }
 {
     let mut reader = InputLines::new(shared.alloc(), input);
@@ -163,7 +169,7 @@ fn answer_adopt<R: Files<File = File> + Clock + AllocGlobal, I: Read, O: Write, 
     teller: &mut Teller<'_, E>,
 ) -> Result<Ending, TableFault>
     ensures written { IfOk result (IsAdoptionWritten file.now (I.remaining input.old) (O.contents output.old) (O.contents output.new)) }
-    ensures failed { IfErr result (IsSilent (O.contents output.old) (O.contents output.new)) }
+    ensures failed { IfErr result (IsCutShort (IsAdoptionWritten file.now (I.remaining input.old)) (O.contents output.old) (O.contents output.new)) }
 {
     let replies = adopt(shared, file, input, teller)?;
     write_whole(&replies.text, output)?;
@@ -175,11 +181,11 @@ fn answer_check<R: Files<File = File> + Clock + AllocGlobal, O: Write>(
     shared: &Shared<'_, R>,
     output: &mut O,
 ) -> Result<Ending, TableFault>
-    ensures done { IfOk result (λ ending. ending ≡ Ending.Done) }
-    ensures failed { IfErr result (IsSilent (O.contents output.old) (O.contents output.new)) }
+    ensures written { IfOk result (AreCountsWritten (O.contents output.old) (O.contents output.new)) }
+    ensures failed { IfErr result (IsCutShort AreCountsWritten (O.contents output.old) (O.contents output.new)) }
 {
     let text = check(shared)?.text(shared.alloc())?;
-    write_whole(text.as_bytes(), output)?;
+    write_whole(&text, output)?;
     Ok(Ending::Done)
 }
 
@@ -190,7 +196,8 @@ fn answer_lines_of<R: Files<File = File> + Clock + AllocGlobal, I: Read, O: Writ
     output: &mut O,
     teller: &mut Teller<'_, E>,
 ) -> Result<Ending, TableFault>
-    ensures { IfOk result (IsInputAnswered (I.remaining input.old) (O.contents output.old) (O.contents output.new)) }
+    ensures written { IfOk result (IsInputAnswered (I.remaining input.old) (O.contents output.old) (O.contents output.new)) }
+    ensures stopped { IfErr result (λ fault. (O.contents output.new ≡ O.contents output.old) ⊎ IsInputSent (I.remaining input.old) (O.contents output.old) (O.contents output.new) fault) }
 {
     let setup = read_setup(shared)?;
     let ending = answer_input(shared, &mut Kept::new(&setup), input, output, teller)?;
@@ -206,7 +213,7 @@ fn perform<R: Files<File = File> + Env + Clock + AllocGlobal, I: Read, O: Write,
     teller: &mut Teller<'_, E>,
 ) -> Result<Ending, TableFault>
     ensures performed { IfOk result (IsPerformed (job_view job.entry) (I.remaining input.old) (O.contents output.old) (O.contents output.new)) }
-    ensures failed { IfErr result (IsUndone (job_view job.entry) (O.contents output.old) (O.contents output.new)) }
+    ensures failed { IfErr result (IsUndone (job_view job.entry) (I.remaining input.old) (O.contents output.old) (O.contents output.new)) }
     ensures input { reads_input (job_view job.entry) ≡ false → input.new ≡ input.old }
 {
     refuse_others(shared, teller)?;
@@ -374,8 +381,9 @@ fn slices(alloc: Global, words: &[Vec<u8>]) -> Result<Vec<&[u8]>, AllocError>
 /// Runs the program on its words and the text of GZ_TABLE. Returns the status: 0 once help or the version is written; 2 if
 /// words are refused, or name no folder or two, and nothing is written then; 3 if memory ran out or the output failed. Work
 /// that is done has the status of its replies: of a command its own, of the lines of an input that of the first that was
-/// refused. No fault has 0, 1, 10 to 12 or 15 to 18. If work was not done nothing is written, but for replies to lines of an
-/// input; with 3 the output may have failed, and have taken a part. `input` is read for its lines and by `adopt` alone.
+/// refused. No fault has 0, 1, 10 to 12 or 15 to 18. If work was not done nothing is written, but for the replies to the first
+/// lines of an input. If the output failed, with 3, it has a beginning of what is written otherwise. `input` is read for its
+/// lines and by `adopt` alone.
 pub fn drive<R: Files<File = File> + Env + Clock + AllocGlobal, I: Read, O: Write, E: Write>(
     rt: &R,
     words: &[Vec<u8>],

@@ -1,9 +1,11 @@
 use Rattle.std.proofs.Common.{arith, ◌≡◌, length, rules, refl, sym, ap, subst, ◌∙◌}
 use Rattle.std.proofs.lemmas.List.{nil_from_length}
+use Rattle.std.proofs.lemmas.Result.{err_from_is_err_and}
 use Rattle.line_journal.specs.Lines.{bytes_of}
 use Rattle.table_folder.specs.declared.folder_setup.FolderSetup.{FolderSetup}
 use Rattle.table_folder.specs.InputLines.{text_left, BringsLines}
-use Rattle.gz_table_drive.specs.Written.{AreWritten, AnswersSoFar}
+use Rattle.gz_table_drive.specs.Written.{AreFirstSent, AreWritten, AnswersSoFar}
+use Rattle.gz_table_drive.proofs.SentLemmas.{group_stopped, input_stopped}
 use Rattle.gz_table_drive.proofs.InputLemmas.{none_answered, answered_more, answered_all}
 use Rattle.gz_table_drive.proofs.program.answer_input.Goals as goal
 
@@ -40,3 +42,32 @@ returns-then-is_empty-clause-written g c =
     answered_all s (bytes_of c.in-Ok.lines.items) (g.I.Read.remaining c.args.input.now) (text_left g.I.Read.remaining c.loop.reader)
     (text_left g.I.Read.remaining c.next_lines.new.self) (g.O.Write.contents c.args.output.now) (g.O.Write.contents c.loop.output) c.loop.ending
     c.loop.invariant.written c.in-Ok.ensures.brings (ap bytes_of none) (c.in-Ok.ensures.end none)
+
+pub returns-in-Err-OutOfMemory-clause-stopped : goal.returns-in-Err-OutOfMemory-clause-stopped
+returns-in-Err-OutOfMemory-clause-stopped g c =
+    input_stopped c.args.kept.now.setup.now.setup (g.I.Read.remaining c.args.input.now) (text_left g.I.Read.remaining c.loop.reader)
+    (g.O.Write.contents c.args.output.now) (g.O.Write.contents c.loop.output) c.loop.ending _ c.loop.invariant.written
+
+pub returns-in-Err-Failed-clause-stopped : goal.returns-in-Err-Failed-clause-stopped
+returns-in-Err-Failed-clause-stopped g c =
+    input_stopped c.args.kept.now.setup.now.setup (g.I.Read.remaining c.args.input.now) (text_left g.I.Read.remaining c.loop.reader)
+    (g.O.Write.contents c.args.output.now) (g.O.Write.contents c.loop.output) c.loop.ending _ c.loop.invariant.written
+
+pub returns-in_err-answer_group-clause-stopped : goal.returns-in_err-answer_group-clause-stopped
+returns-in_err-answer_group-clause-stopped g c =
+    let s = c.args.kept.now.setup.now.setup in
+    let inv = c.loop.invariant in
+    let mid = g.O.Write.contents c.loop.output in
+    let new = g.O.Write.contents c.answer_group.new.output in
+    let group = bytes_of c.deref.result.now in
+    let before = text_left g.I.Read.remaining c.loop.reader in
+    let left = text_left g.I.Read.remaining c.next_lines.new.self in
+    let brings : BringsLines before left group = subst (BringsLines before left) (ap bytes_of (sym c.deref.ensures.value)) c.in-Ok.ensures.brings in
+    let p = err_from_is_err_and c.from_residual.result c.from_residual.ensures.1 in
+    rw (p.1, p.2) (group_stopped s group (g.I.Read.remaining c.args.input.now) before left (g.O.Write.contents c.args.output.now) mid new c.loop.ending c.in_err-answer_group.field-0.0
+    inv.written brings (subst (λ (f : FolderSetup). AreFirstSent f.setup group mid new c.in_err-answer_group.field-0.0) inv.setup c.in_err-answer_group.ensures.stopped))
+
+pub returns-clause-stopped : goal.returns-clause-stopped
+returns-clause-stopped g c =
+    input_stopped c.args.kept.now.setup.now.setup (g.I.Read.remaining c.args.input.now) (text_left g.I.Read.remaining c.loop.reader)
+    (g.O.Write.contents c.args.output.now) (g.O.Write.contents c.loop.output) c.loop.ending _ c.loop.invariant.written
