@@ -1,32 +1,16 @@
 -- How a run ends.
-use Rattle.std.proofs.Common.{◌≡◌, ℕ, Bool, true, false, true≢false, cond, ◌||◌, not, Option, Some, None, List, refl, sym, ◌∙◌, arith}
-use Rattle.std.specs.Io.KnownBytes.{Appends}
+use Rattle.std.proofs.Common.{◌≡◌, ℕ, Option, Some, None, List, refl, sym, subst, ◌∙◌}
 use Rattle.kmod_query.specs.Answers.{Answer}
 use Rattle.kmod_query.specs.declared.query.Query.{Query}
-use Rattle.modprobe_words.specs.declared.written.Written.{Written}
-use Rattle.modprobe_words.specs.declared.written.Written.TheVariants.{Whole, Closed, Failed}
 use Rattle.modprobe_files.specs.declared.texts.ModuleTexts.{ModuleTexts}
 use Rattle.gz_modprobe_drive.specs.declared.texts.Machine.{Machine}
-use Rattle.gz_modprobe_drive.specs.Answered.{IsAnswerOf, is_whole, said_by, status_of, texts_of_folder}
+use Rattle.gz_modprobe_drive.specs.Answered.{IsAnswer, IsAnswerOf, IsAnswerWith, manner_of, said_by}
 use Rattle.gz_modprobe_drive.specs.Texts.{AreRead, IsThis, Large, large_texts, or_empty, texts_with}
 use Rattle.modprobe_words.specs.Begun.{IsBegun}
-use Rattle.gz_modprobe_drive.specs.Ends.{IsAnswerBy, IsReadBy, WasAnswered}
+use Rattle.gz_modprobe_drive.specs.Ends.{IsAnswerBy, IsReadBy}
 use Rattle.gz_modprobe_drive.specs.Outputs.{WritesAnswer}
 use Rattle.gz_modprobe_drive.specs.Paths.{paths_of, words_of as path_words}
 use Rattle.kmod_index.specs.Index.{Texts}
-
-one-is-not-zero : ◌≡◌ {A = ℕ} 1 0 → ⊥
-one-is-not-zero e = omega arith
-
-both-well : (failed whole : Bool) → ◌≡◌ {A = ℕ} (cond (failed || not whole) 1 0) 0 → (failed ≡ false) × (whole ≡ true)
-both-well true whole e = absurd (one-is-not-zero e)
-both-well false true e = (refl, refl)
-both-well false false e = absurd (one-is-not-zero e)
-
-whole-is : (how : Written) → is_whole how ≡ true → how ≡ Whole
-whole-is Whole h = refl
-whole-is Closed h = absurd (true≢false (sym h))
-whole-is Failed h = absurd (true≢false (sym h))
 
 -- what was read is among the texts that have it
 own_text : (text : Option (List ℕ)) → IsThis text (or_empty text)
@@ -51,27 +35,34 @@ known-paths : (machine : Machine) (whole : Texts) → path_words (said_by machin
 unfolding said_by
 known-paths machine whole = refl
 
--- the answer of a machine that was read
-answer-by : (machine : Machine) (query : Query) (answer : Answer) → path_words machine.paths.now ≡ paths_of machine.conf.now.kmod query
-    → IsAnswerOf machine query answer → IsAnswerBy machine.conf.now.kmod machine.whole query answer
-answer-by machine query answer paths is = record {
-  known = said_by machine (texts_of_folder machine);
-  holders = machine.evidence.now.holders.items;
-  read = read-by machine (texts_of_folder machine);
-  paths = known-paths machine (texts_of_folder machine) ∙ paths;
-  is = is.is (texts_of_folder machine) (own_texts machine.modules.now (large_texts machine.later.now));
+-- the answer of a machine that was read is one with the large texts that were read
+pub read-with : (machine : Machine) (query : Query) (answer : Answer) → IsAnswerOf machine query answer → IsAnswerWith machine query answer
+read-with machine query answer is = record { large = large_texts machine.later.now; is = is.is }
+
+-- which large texts were read before does not matter
+pub later-with : (machine own : Machine) (query : Query) (answer : Answer) → own.modules ≡ machine.modules → manner_of own ≡ manner_of machine
+    → ((whole : Texts) → said_by own whole ≡ said_by machine whole) → IsAnswerWith own query answer → IsAnswerWith machine query answer
+later-with machine own query answer modules manner said is = record {
+  large = is.large;
+  is = λ whole read.
+      subst (λ m. IsAnswer (said_by machine whole) m query answer) manner
+      (subst (λ k. IsAnswer k (manner_of own) query answer) (said whole) (is.is whole (subst (λ m. AreRead m.now is.large whole) (sym modules) read)));
 }
 
--- an answer with the status 0 was an answer without a failure, and was written whole
-pub well-answered : (machine : Machine) (query : Query) (answer : Answer) (how : Written) (before after : Option (List ℕ)) (status : ℕ)
-    → path_words machine.paths.now ≡ paths_of machine.conf.now.kmod query → IsAnswerOf machine query answer → (how ≡ Whole → Appends before after answer.output)
-    → status ≡ status_of answer how → status ≡ 0 → WasAnswered machine.conf.now.kmod machine.whole query before after
-well-answered machine query answer how before after status paths is grew told zero =
-    let ends = both-well answer.failed (is_whole how) (sym told ∙ zero) in
-    record { answer = answer; is = answer-by machine query answer paths is; well = ends.0; written = grew (whole-is how ends.1) }
+-- and an answer with large texts is one of such a machine
+pub answer-by : (machine : Machine) (query : Query) (answer : Answer) → path_words machine.paths.now ≡ paths_of machine.conf.now.kmod query
+    → IsAnswerWith machine query answer → IsAnswerBy machine.conf.now.kmod machine.whole query answer
+answer-by machine query answer paths is = record {
+  known = said_by machine (texts_with machine.modules.now is.large);
+  holders = machine.evidence.now.holders.items;
+  read = read-by machine (texts_with machine.modules.now is.large);
+  paths = known-paths machine (texts_with machine.modules.now is.large) ∙ paths;
+  is = is.is (texts_with machine.modules.now is.large) (own_texts machine.modules.now is.large);
+}
 
 -- with any status, a beginning of it was written
 pub answer-begun : (machine : Machine) (query : Query) (answer : Answer) (before after : Option (List ℕ))
     → path_words machine.paths.now ≡ paths_of machine.conf.now.kmod query → IsAnswerOf machine query answer → IsBegun before after answer.output
     → WritesAnswer machine.conf.now.kmod machine.whole query before after
-answer-begun machine query answer before after paths is begun changed = record { answer = answer; is = answer-by machine query answer paths is; begun = begun }
+answer-begun machine query answer before after paths is begun changed =
+    record { answer = answer; is = answer-by machine query answer paths (read-with machine query answer is); begun = begun }

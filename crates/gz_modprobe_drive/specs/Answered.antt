@@ -1,5 +1,6 @@
 -- What a query is answered, by the texts and the states of a machine.
 use Rattle.std.specs.Prelude.{◌≡◌, ℕ, Bool, true, false, not, ◌||◌, ◌&&◌, List, Option, Some, None, if◌then◌else◌}
+use Rattle.std.specs.Io.KnownBytes.{Appends}
 use Rattle.text_parts.specs.Text.{texts_of}
 use Rattle.kmod_conf.specs.Configuration.{Configuration}
 use Rattle.kmod_index.specs.Index.{Texts, indexes_of}
@@ -17,9 +18,11 @@ use Rattle.kmod_query.specs.Whole.{answer_by, whole_of}
 use Rattle.kmod_query.specs.World.{facts_of}
 use Rattle.modprobe_words.specs.declared.written.Written.{Written}
 use Rattle.modprobe_words.specs.declared.written.Written.TheVariants as written
+use Rattle.modprobe_words.specs.Begun.{IsBegun}
+use Rattle.gz_modprobe_drive.specs.declared.answered.Answered.{Answered}
 use Rattle.gz_modprobe_drive.specs.declared.texts.Machine.{Machine}
 use Rattle.gz_modprobe_drive.specs.Queries.{is_removal}
-use Rattle.gz_modprobe_drive.specs.Texts.{AreRead, conf_of, folder_texts, large_texts}
+use Rattle.gz_modprobe_drive.specs.Texts.{AreRead, Large, conf_of, folder_texts, large_texts}
 
 -- what is known of a machine; no module has a file of its own at first
 pub record Known : Type 0 where
@@ -110,6 +113,12 @@ pub record IsEnough (machine : Machine) (query : Query) : Type 0 where
 pub record IsAnswerOf (machine : Machine) (query : Query) (answer : Answer) : Type 0 where
   pub is : (whole : Texts) → AreRead machine.modules.now (large_texts machine.later.now) whole → IsAnswer (said_by machine whole) (manner_of machine) query answer
 
+-- an answer is that of the machine's texts and states, once large texts of its folder were read, whatever stands in those
+-- that were not
+pub record IsAnswerWith (machine : Machine) (query : Query) (answer : Answer) : Type 0 where
+  pub large : Large
+  pub is : (whole : Texts) → AreRead machine.modules.now large whole → IsAnswer (said_by machine whole) (manner_of machine) query answer
+
 abbrev pub is_whole : Written → Bool
 is_whole written.Whole = true
 is_whole written.Closed = false
@@ -118,3 +127,8 @@ is_whole written.Failed = false
 -- 1 if a name failed, or the answer was not written whole
 abbrev pub status_of : Answer → Written → ℕ
 status_of answer how = if answer.failed || not (is_whole how) then 1 else 0
+
+-- what was written of an answer: a beginning of its output, and all of it if no write failed
+pub record IsWritten (before after : Option (List ℕ)) (own : Answered) : Type 0 where
+  pub begun : IsBegun before after own.answer.output
+  pub whole : own.written ≡ written.Whole → Appends before after own.answer.output

@@ -1,8 +1,8 @@
 //! How a query is answered: what is read for it, and what is reported.
 ghost use Rattle.std.specs.Prelude.{◌≡◌, ◌≤◌, None, IfOk, IfSome};
 ghost use Rattle.kmod_index.specs.Dependencies.{dependencies_of};
-ghost use Rattle.gz_modprobe_drive.specs.Answered.{IsEnough, status_of};
-ghost use Rattle.gz_modprobe_drive.specs.Ends.{WasAnswered};
+ghost use Rattle.gz_modprobe_drive.specs.Answered.{IsAnswerOf, IsAnswerWith, IsEnough, IsWritten};
+ghost use Rattle.gz_modprobe_drive.specs.Ends.{IsAnswerBy, WasAnswered};
 ghost use Rattle.gz_modprobe_drive.specs.Outputs.{WasBegun, WritesAnswer};
 ghost use Rattle.gz_modprobe_drive.specs.Paths.{paths_of, words_of};
 ghost use Rattle.gz_modprobe_drive.specs.Texts.{IsConfOf};
@@ -12,7 +12,7 @@ use crate::configuration::conf_of;
 use crate::early::{asks_symbols, is_answered_early};
 use crate::evidence::Evidence;
 use crate::failures::tell_failures;
-use crate::folder::{FEW_NAMES, later_index};
+use crate::folder::{FEW_NAMES, index_by};
 use crate::paths::read_paths;
 use crate::queries::{asks_states, is_removal, looks_up_modules};
 use crate::sys::add_states;
@@ -54,24 +54,19 @@ pub(crate) fn tell_unwritten<E: Write>(written: Written, messages: &mut Messages
     }
 }
 
-/// Tells what is wrong with an answer. Returns the status.
+/// Tells what is wrong with an answer.
 fn tell_answered<S: System, E: Write>(
     host: &Host<'_, S>,
     machine: &Machine<'_>,
     answered: &Answered,
     query: &Query<'_>,
     messages: &mut Messages<'_, E>,
-) -> Result<u8, AllocError>
-    ensures status { IfOk result (λ status. status ≤ 1) }
-    ensures told { IfOk result (λ status. status ≡ status_of answered.now.answer answered.now.written) }
-{
+) -> Result<(), AllocError> {
     tell_unwritten(answered.written, messages);
-    tell_failures(host, machine, &answered.answer, query, messages)?;
-    Ok(answered.status())
+    tell_failures(host, machine, &answered.answer, query, messages)
 }
 
 /// Answers a query from what was read, and tells what failed. `lines` are those of modules.dep, if they were found already.
-/// Returns the status.
 fn answer_read<S: System, O: Write, E: Write>(
     host: &Host<'_, S>,
     machine: &Machine<'_>,
@@ -80,23 +75,24 @@ fn answer_read<S: System, O: Write, E: Write>(
     query: &Query<'_>,
     output: &mut O,
     messages: &mut Messages<'_, E>,
-) -> Result<u8, AllocError>
+) -> Result<Answered, AllocError>
     requires conf { IsConfOf machine.now.conf.now conf.now }
     requires lines { IfSome lines (λ lines. lines.now ≡ dependencies_of machine.now.modules.now.dep.items) }
     requires enough { IsEnough machine.now query.now }
     requires paths { words_of machine.now.paths.now ≡ paths_of machine.now.conf.now.kmod query.now }
-    ensures status { IfOk result (λ status. status ≤ 1) }
-    ensures well { IfOk result (λ status. status ≡ 0 → WasAnswered machine.now.conf.now.kmod machine.now.whole query.now (O.contents output.old) (O.contents output.new)) }
+    ensures answer { IfOk result (λ own. IsAnswerOf machine.now query.now own.answer) }
+    ensures written { IfOk result (IsWritten (O.contents output.old) (O.contents output.new)) }
     ensures begun { WritesAnswer machine.now.conf.now.kmod machine.now.whole query.now (O.contents output.old) (O.contents output.new) }
 {
     let alloc = host.alloc();
-    let index = later_index(alloc, machine.modules, machine.later, query.words, lines)?;
+    let index = index_by(alloc, machine.modules, machine.later, query.words, lines)?;
     let answered = answer_machine(alloc, machine, conf, &index, query, output, messages)?;
-    tell_answered(host, machine, &answered, query, messages)
+    tell_answered(host, machine, &answered, query, messages)?;
+    Ok(answered)
 }
 
 /// Answers a query after modules.alias was read for it, and modules.symbols if it may matter. `lines` are those of modules.dep,
-/// if they were found already. Returns the status.
+/// if they were found already.
 fn answer_late<S: System, O: Write, E: Write>(
     host: &Host<'_, S>,
     machine: &Machine<'_>,
@@ -105,12 +101,12 @@ fn answer_late<S: System, O: Write, E: Write>(
     query: &Query<'_>,
     output: &mut O,
     messages: &mut Messages<'_, E>,
-) -> Result<u8, AllocError>
+) -> Result<Answered, AllocError>
     requires conf { IsConfOf machine.now.conf.now conf.now }
     requires lines { IfSome lines (λ lines. lines.now ≡ dependencies_of machine.now.modules.now.dep.items) }
     requires paths { words_of machine.now.paths.now ≡ paths_of machine.now.conf.now.kmod query.now }
-    ensures status { IfOk result (λ status. status ≤ 1) }
-    ensures well { IfOk result (λ status. status ≡ 0 → WasAnswered machine.now.conf.now.kmod machine.now.whole query.now (O.contents output.old) (O.contents output.new)) }
+    ensures answer { IfOk result (λ own. IsAnswerWith machine.now query.now own.answer) }
+    ensures written { IfOk result (IsWritten (O.contents output.old) (O.contents output.new)) }
     ensures begun { WritesAnswer machine.now.conf.now.kmod machine.now.whole query.now (O.contents output.old) (O.contents output.new) }
 {
     let alloc = host.alloc();
@@ -124,7 +120,7 @@ fn answer_late<S: System, O: Write, E: Write>(
 }
 
 /// Answers a query of few names, early if it can be. Else modules.alias is read for it, and modules.symbols if it may matter.
-/// `lines` are those of modules.dep. Returns the status.
+/// `lines` are those of modules.dep.
 fn answer_few<S: System, O: Write, E: Write>(
     host: &Host<'_, S>,
     machine: &Machine<'_>,
@@ -133,13 +129,13 @@ fn answer_few<S: System, O: Write, E: Write>(
     query: &Query<'_>,
     output: &mut O,
     messages: &mut Messages<'_, E>,
-) -> Result<u8, AllocError>
+) -> Result<Answered, AllocError>
     requires conf { IsConfOf machine.now.conf.now conf.now }
     requires lines { lines.now ≡ dependencies_of machine.now.modules.now.dep.items }
     requires unread { machine.now.later.now.alias ≡ None }
     requires paths { words_of machine.now.paths.now ≡ paths_of machine.now.conf.now.kmod query.now }
-    ensures status { IfOk result (λ status. status ≤ 1) }
-    ensures well { IfOk result (λ status. status ≡ 0 → WasAnswered machine.now.conf.now.kmod machine.now.whole query.now (O.contents output.old) (O.contents output.new)) }
+    ensures answer { IfOk result (λ own. IsAnswerWith machine.now query.now own.answer) }
+    ensures written { IfOk result (IsWritten (O.contents output.old) (O.contents output.new)) }
     ensures begun { WritesAnswer machine.now.conf.now.kmod machine.now.whole query.now (O.contents output.old) (O.contents output.new) }
 {
     if is_answered_early(host.alloc(), machine, conf, lines, query)? {
@@ -148,7 +144,7 @@ fn answer_few<S: System, O: Write, E: Write>(
     answer_late(host, machine, conf, Some(lines), query, output, messages)
 }
 
-/// Answers a query; one that is explained, of many names or of none that a module may have, from all texts. Returns the status.
+/// Answers a query. One that is explained, of many names or of none that a module may have is not tried early.
 fn answer_by<S: System, O: Write, E: Write>(
     host: &Host<'_, S>,
     machine: &Machine<'_>,
@@ -156,12 +152,12 @@ fn answer_by<S: System, O: Write, E: Write>(
     query: &Query<'_>,
     output: &mut O,
     messages: &mut Messages<'_, E>,
-) -> Result<u8, AllocError>
+) -> Result<Answered, AllocError>
     requires conf { IsConfOf machine.now.conf.now conf.now }
     requires unread { machine.now.later.now.alias ≡ None }
     requires paths { words_of machine.now.paths.now ≡ paths_of machine.now.conf.now.kmod query.now }
-    ensures status { IfOk result (λ status. status ≤ 1) }
-    ensures well { IfOk result (λ status. status ≡ 0 → WasAnswered machine.now.conf.now.kmod machine.now.whole query.now (O.contents output.old) (O.contents output.new)) }
+    ensures answer { IfOk result (λ own. IsAnswerWith machine.now query.now own.answer) }
+    ensures written { IfOk result (IsWritten (O.contents output.old) (O.contents output.new)) }
     ensures begun { WritesAnswer machine.now.conf.now.kmod machine.now.whole query.now (O.contents output.old) (O.contents output.new) }
 {
     if messages.explains || query.words.len() > FEW_NAMES || !looks_up_modules(query) {
@@ -171,18 +167,18 @@ fn answer_by<S: System, O: Write, E: Write>(
     answer_few(host, machine, conf, &lines, query, output, messages)
 }
 
-/// Takes the configuration from its texts and tells what is wrong with it, and answers a query. Returns the status.
+/// Takes the configuration from its texts and tells what is wrong with it, and answers a query.
 fn answer_configured<S: System, O: Write, E: Write>(
     host: &Host<'_, S>,
     machine: &Machine<'_>,
     query: &Query<'_>,
     output: &mut O,
     messages: &mut Messages<'_, E>,
-) -> Result<u8, AllocError>
+) -> Result<Answered, AllocError>
     requires unread { machine.now.later.now.alias ≡ None }
     requires paths { words_of machine.now.paths.now ≡ paths_of machine.now.conf.now.kmod query.now }
-    ensures status { IfOk result (λ status. status ≤ 1) }
-    ensures well { IfOk result (λ status. status ≡ 0 → WasAnswered machine.now.conf.now.kmod machine.now.whole query.now (O.contents output.old) (O.contents output.new)) }
+    ensures answer { IfOk result (λ own. IsAnswerBy machine.now.conf.now.kmod machine.now.whole query.now own.answer) }
+    ensures written { IfOk result (IsWritten (O.contents output.old) (O.contents output.new)) }
     ensures begun { WritesAnswer machine.now.conf.now.kmod machine.now.whole query.now (O.contents output.old) (O.contents output.new) }
 {
     let conf = conf_of(host.alloc(), machine.conf)?;
@@ -190,7 +186,7 @@ fn answer_configured<S: System, O: Write, E: Write>(
     answer_by(host, machine, &conf, query, output, messages)
 }
 
-/// Reads the states and looks at the paths that a query asks of, and answers it. Returns the status.
+/// Reads the states and looks at the paths that a query asks of, and answers it.
 fn answer_from<S: System, O: Write, E: Write>(
     host: &Host<'_, S>,
     asked: &Asked<'_>,
@@ -200,9 +196,9 @@ fn answer_from<S: System, O: Write, E: Write>(
     query: &Query<'_>,
     output: &mut O,
     messages: &mut Messages<'_, E>,
-) -> Result<u8, AllocError>
-    ensures status { IfOk result (λ status. status ≤ 1) }
-    ensures well { IfOk result (λ status. status ≡ 0 → WasAnswered conf.now.kmod asked.now.switches.whole query.now (O.contents output.old) (O.contents output.new)) }
+) -> Result<Answered, AllocError>
+    ensures answer { IfOk result (λ own. IsAnswerBy conf.now.kmod asked.now.switches.whole query.now own.answer) }
+    ensures written { IfOk result (IsWritten (O.contents output.old) (O.contents output.new)) }
     ensures begun { WritesAnswer conf.now.kmod asked.now.switches.whole query.now (O.contents output.old) (O.contents output.new) }
 {
     let mut states = States::new(host.alloc());
@@ -229,7 +225,6 @@ fn answer_from<S: System, O: Write, E: Write>(
 }
 
 /// Reads what counts for a folder of modules: the configuration and the folder's texts. Then it answers a query from them.
-/// Returns the status.
 fn answer_in<S: System, O: Write, E: Write>(
     host: &Host<'_, S>,
     asked: &Asked<'_>,
@@ -237,9 +232,9 @@ fn answer_in<S: System, O: Write, E: Write>(
     query: &Query<'_>,
     output: &mut O,
     messages: &mut Messages<'_, E>,
-) -> Result<u8, AllocError>
-    ensures status { IfOk result (λ status. status ≤ 1) }
-    ensures well { IfOk result (λ status. status ≡ 0 → WasAnswered asked.now.kmod asked.now.switches.whole query.now (O.contents output.old) (O.contents output.new)) }
+) -> Result<Answered, AllocError>
+    ensures answer { IfOk result (λ own. IsAnswerBy asked.now.kmod asked.now.switches.whole query.now own.answer) }
+    ensures written { IfOk result (IsWritten (O.contents output.old) (O.contents output.new)) }
     ensures begun { WritesAnswer asked.now.kmod asked.now.switches.whole query.now (O.contents output.old) (O.contents output.new) }
 {
     let named = asked.configurations.as_slice();
@@ -266,7 +261,10 @@ pub(crate) fn answer_query<S: System, O: Write, E: Write>(
         return Ok(1);
     }
     match directory(host, asked, messages)? {
-        Some(directory) => answer_in(host, asked, &directory, query, output, messages),
+        Some(directory) => {
+            let answered = answer_in(host, asked, &directory, query, output, messages)?;
+            Ok(answered.status())
+        }
         None => Ok(1),
     }
 }

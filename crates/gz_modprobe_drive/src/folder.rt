@@ -51,7 +51,7 @@ pub(crate) fn few_index<'a>(
 
 /// What the texts of a folder of modules say, for a query of these names, after all that it needs was read. `lines` are
 /// those of modules.dep, if they were found already. It fails only if memory runs out.
-pub(crate) fn later_index<'a>(
+pub(crate) fn index_by<'a>(
     alloc: Global,
     texts: &'a ModuleTexts,
     later: &'a LaterTexts,

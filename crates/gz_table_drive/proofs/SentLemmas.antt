@@ -1,20 +1,18 @@
 -- What is written of lines if the rest of them is not answered.
-use Rattle.std.proofs.Common.{arith, ◌≡◌, refl, sym, ap, subst, ◌∙◌, ◌⊎◌, inl, inr, ℕ, ◌+◌, ◌-◌, ◌≤◌, List, [], ◌++◌, length, map, take, drop, take-add, append_assoc, append-nil, Vec, Option, Some, None, Result, Ok, Err, IfOk, IfErr, OnErr}
+use Rattle.std.proofs.Common.{arith, ◌≡◌, sym, ap, subst, ◌∙◌, inl, inr, ℕ, ◌+◌, ◌-◌, ◌≤◌, List, [], ◌++◌, length, take, drop, take-add, Vec, Option, Some, None, Result, Ok, Err, IfOk, OnErr}
 use Rattle.std.specs.declared.alloc.Global.{Global}
 use Rattle.std.specs.List.{flat_map}
 use Rattle.std.specs.Io.KnownBytes.{Appends}
-use Rattle.std.proofs.KnownBytes.{Appends-nil, Appends-trans}
+use Rattle.std.proofs.KnownBytes.{Appends-trans}
 use Rattle.std.proofs.lemmas.List.{drop-map, length-drop, length-map, take-append-le}
 use Rattle.std.proofs.Math.Seq.{take-append-add, take-length}
 use Rattle.modprobe.specs.Setup.{Setup}
 use Rattle.modprobe.specs.Outcomes.{Outcome, text_of}
-use Rattle.modprobe_words.specs.Begun.{IsBegun}
 use Rattle.line_journal.specs.Lines.{bytes_of}
 use Rattle.durable_table.specs.Groups.{replies_of}
 use Rattle.table_words.specs.declared.ending.Ending.{Ending}
 use Rattle.table_folder.specs.InputLines.{brought_lines, BringsLines}
 use Rattle.table_folder.specs.declared.fault.TableFault.{TableFault}
-use Rattle.table_folder.specs.declared.fault.TableFault.TheVariants.{Output}
 use Rattle.gz_table_drive.specs.declared.answering.Replies.{Replies}
 use Rattle.gz_table_drive.specs.Answers.{HasAnsweredOver, HasStopped}
 use Rattle.gz_table_drive.specs.Written.{AreAnswersTo, AreFirstBrought, AreFirstSent, AreSent, AreWritten, AnswersSoFar, IsSent, SendsInput}
