@@ -1,8 +1,8 @@
 use crate::fault::{Action, Cause, FileFault, Target};
 use std::alloc::{AllocError, Global};
-use std::fs::{self, File, OpenFile};
+use std::fs::{self, File, Metadata, OpenFile};
 use std::io::{self, Read, Seek, SeekFrom, Write};
-use std::os::unix::fs::MetadataExt;
+use std::os::unix::fs::{MetadataExt, chown};
 use std::rt::Files;
 
 /// Whether what was written is waited for until it is on the disk.
@@ -154,12 +154,23 @@ impl<R: Files + Drop> DiskFile<R> {
         }
     }
 
-    /// Writes a new file, with the rights of the one that is there, and brings it to the disk.
+    /// Gives the new file the owner and the group of the one that is there, as far as the system lets this process: root may
+    /// give a file to anybody, others only to a group of theirs.
+    fn give_new(&self, known: &Metadata) {
+        let path = self.paths.new_journal.as_str();
+        if chown(&self.rt, path, Some(known.uid()), Some(known.gid())).is_err() {
+            let _ = chown(&self.rt, path, None, Some(known.gid()));
+        }
+    }
+
+    /// Writes a new file, with the owner and the rights of the one that is there, and brings it to the disk.
     fn write_new(&self, bytes: &[u8]) -> io::Result<R::File> {
         let mut options = File::options();
         options.read(true).write(true).create(true).truncate(true);
         let mut new = options.open(&self.rt, self.paths.new_journal.as_str())?;
-        new.set_permissions(self.file.metadata()?.permissions())?;
+        let known = self.file.metadata()?;
+        self.give_new(&known);
+        new.set_permissions(known.permissions())?;
         new.write_all(bytes)?;
         if self.syncs == Syncs::Kept {
             new.sync_all()?;
