@@ -35,7 +35,7 @@ fn write_table<R: Files<File = File> + Clock + AllocGlobal>(
     shared: &Shared<'_, R>,
     setup: &[u8],
 ) -> Result<(), TableFault> {
-    make_folder(shared.rt, shared.folder)?;
+    make_folder(shared)?;
     let lock = shared.lock(LockKind::Exclusive)?;
     if shared.has_setup()? {
         return Err(TableFault::ThereAlready);

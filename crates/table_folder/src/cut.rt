@@ -11,12 +11,21 @@ use std::io::{self, Write};
 use std::rt::Files;
 use std::time::Clock;
 
-/// Adds what is to be cut off to the file of a path, with a line feed behind it, and waits until it is on the disk.
-fn add_cut<R: Files<File = File>>(rt: &R, path: &str, behind: &[u8]) -> io::Result<()> {
-    let mut file = File::options().append(true).create(true).open(rt, path)?;
+/// Adds what is to be cut off to the file of a path, with a line feed behind it, and waits until the file and its name are on
+/// the disk.
+fn add_cut<R: Files<File = File> + Clock + AllocGlobal>(
+    shared: &Shared<'_, R>,
+    path: &str,
+    behind: &[u8],
+) -> io::Result<()> {
+    let mut file = File::options()
+        .append(true)
+        .create(true)
+        .open(shared.rt, path)?;
     file.write_all(behind)?;
     file.write_all(b"\n")?;
-    file.sync_all()
+    file.sync_all()?;
+    shared.sync_names(shared.folder)
 }
 
 /// Adds what is about to be cut off behind the lines of the folder's journal to `journal.cut`. It is on the disk then.
@@ -28,7 +37,7 @@ pub fn keep_cut<R: Files<File = File> + Clock + AllocGlobal>(
     ensures { IfErr result (IsUnwritten (codes "journal.cut")) }
 {
     let path = shared.path(CUT)?;
-    match add_cut(shared.rt, &path, behind) {
+    match add_cut(shared, &path, behind) {
         Ok(()) => Ok(()),
         Err(error) => Err(unwritten(CUT, &error)),
     }

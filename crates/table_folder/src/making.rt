@@ -71,14 +71,25 @@ pub fn new_setup<R: Files + Env + AllocGlobal, E: Write>(
     Ok(seal(text)?)
 }
 
-/// Makes a folder, if there is none of this path. `NoFolder` with the cause if it cannot be made.
-pub fn make_folder<R: Files>(rt: &R, folder: &str) -> Result<(), TableFault>
+/// Makes the folder, and brings its name to the disk.
+fn put_folder<R: Files<File = File> + Clock + AllocGlobal>(
+    shared: &Shared<'_, R>,
+) -> io::Result<()> {
+    fs::create_dir(shared.rt, shared.folder)?;
+    shared.sync_names(&shared.path("..")?)
+}
+
+/// Makes the folder, if there is none of this path. It is on the disk then, unless `syncs` leaves that out. `NoFolder` with the
+/// cause if it cannot be made.
+pub fn make_folder<R: Files<File = File> + Clock + AllocGlobal>(
+    shared: &Shared<'_, R>,
+) -> Result<(), TableFault>
     ensures { IfErr result IsNoFolder }
 {
-    if is_folder(rt, folder) {
+    if is_folder(shared.rt, shared.folder) {
         return Ok(());
     }
-    match fs::create_dir(rt, folder) {
+    match put_folder(shared) {
         Ok(()) => Ok(()),
         Err(error) => Err(TableFault::NoFolder(error.kind())),
     }
@@ -102,10 +113,7 @@ fn put_setup<R: Files<File = File> + Clock + AllocGlobal>(
     let early = shared.path("setup.new")?;
     write_file(shared.rt, &early, bytes, shared.syncs)?;
     fs::rename(shared.rt, &early, &shared.path(SETUP)?)?;
-    match shared.syncs {
-        Syncs::Kept => fs::open(shared.rt, shared.folder)?.sync_all(),
-        Syncs::LeftOut => Ok(()),
-    }
+    shared.sync_names(shared.folder)
 }
 
 /// Writes the setup of the folder, all at once: a crash leaves the whole of it, or none. It is on the disk then, unless `syncs`

@@ -5,6 +5,7 @@ ghost use Rattle.std.specs.Prelude.{◌≡◌, ◌++◌, codes, string_bytes, If
 use file_journal::{FolderLock, LockError, LockKind, Syncs};
 use std::alloc::{AllocError, Global};
 use std::fs::{self, File};
+use std::io;
 use std::rt::Files;
 use std::time::Clock;
 
@@ -44,6 +45,14 @@ impl<R: Files<File = File> + Clock + AllocGlobal> Shared<'_, R> {
     /// Whether the folder has a setup: it is written last, so there is a table then. Fails only out of memory.
     pub fn has_setup(&self) -> Result<bool, AllocError> {
         Ok(fs::metadata(self.rt, &self.path(SETUP)?).is_ok())
+    }
+
+    /// Brings the names in a folder to the disk, unless `syncs` leaves that out.
+    pub(crate) fn sync_names(&self, folder: &str) -> io::Result<()> {
+        match self.syncs {
+            Syncs::Kept => fs::open(self.rt, folder)?.sync_all(),
+            Syncs::LeftOut => Ok(()),
+        }
     }
 
     /// Takes the lock of the folder (flock(2)). Another process that has it is waited for, `wait` seconds at the most.

@@ -104,9 +104,14 @@ impl<'e, E: Write> Teller<'e, E> {
     pub(crate) fn other_than_file(&mut self, folder: &str, name: &str) -> TableFault
         ensures { result ≡ Told }
     {
+        let advice = if name.ends_with(".new") {
+            "remove it"
+        } else {
+            "restore it, or make the table in another folder"
+        };
         let _ = writeln!(
             self.errors,
-            "gz-table: {folder}/{name} is no regular file, and nothing was done: restore it, or make the table in another folder"
+            "gz-table: {folder}/{name} is no regular file, and nothing was done: {advice}"
         );
         TableFault::Told
     }
@@ -205,7 +210,7 @@ impl<'e, E: Write> Teller<'e, E> {
         let _ = match fault {
             TableFault::NoTable => writeln!(
                 self.errors,
-                "gz-table: there is no table in {folder}: make one with create --host; if GZ_TABLE is set, it names the folder, and no word does"
+                "gz-table: there is no table in {folder}: make one with create --host, or restore the setup of one that was there; if GZ_TABLE is set, it names the folder, and no word does"
             ),
             TableFault::NoJournal => writeln!(
                 self.errors,
@@ -268,10 +273,14 @@ impl<'e, E: Write> Teller<'e, E> {
                 writeln!(self.errors, "gz-table: cannot write {folder}/{name}: {why}")
             }
             TableFault::Journal => writeln!(self.errors, "gz-table: {folder}/journal failed"),
-            TableFault::Input => writeln!(self.errors, "gz-table: standard input was not read"),
-            TableFault::Output => {
-                writeln!(self.errors, "gz-table: standard output was not written")
-            }
+            TableFault::Input => writeln!(
+                self.errors,
+                "gz-table: standard input was not read; the lines before that are answered"
+            ),
+            TableFault::Output => writeln!(
+                self.errors,
+                "gz-table: standard output was not written; changes until then are made: see lsmod and held"
+            ),
             _ => Ok(()),
         };
         match fault {
