@@ -98,9 +98,6 @@ pub(crate) fn check<R: Files<File = File> + Clock + AllocGlobal>(
 ) -> Result<Counts, TableFault> {
     let alloc = shared.alloc();
     let found = read_setup(shared)?;
-    if !found.is_sound() {
-        return Err(TableFault::ChangedSetup);
-    }
     let setup = &found.setup;
     let lock = shared.lock(LockKind::Shared)?;
     let bytes = read_journal(shared)?;

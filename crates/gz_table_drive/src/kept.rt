@@ -3,7 +3,6 @@ ghost use Rattle.std.specs.Prelude.{◌≡◌, IfSome};
 ghost use Rattle.std.proofs.Props.{props};
 ghost use Rattle.held_lines.specs.Held.{holding};
 ghost use Rattle.durable_table.specs.Durable.{Reads};
-ghost use Rattle.table_folder.specs.Setups.{is_sound};
 ghost use Rattle.gz_table_drive.specs.Taken.{IsTaken};
 
 use durable_table::{CaughtUp, DurableTable};
@@ -17,10 +16,7 @@ use table_folder::FolderSetup;
 #[derive(Drop)]
 pub(crate) struct Kept<'s, D: Device + Drop> {
     setup: &'s FolderSetup,
-    /// Whether the setup is sound, if that was tested.
-    sound: Option<bool>,
     table: Option<DurableTable<'s, HeldTable, D>>,
-    ghost tested: { IfSome sound (λ sound. sound ≡ is_sound setup.now) } by { Prim.hlevel props },
     ghost of_setup: { IfSome table (λ t. t.session.setup.now ≡ setup.now.setup) } by { Prim.hlevel props },
     ghost reads: { IfSome table (λ t. Reads D.content setup.now.setup (holding t.session.holders.held.table t.session.holders.held.names) t.journal) } by { Prim.hlevel props },
 }
@@ -41,11 +37,7 @@ impl<'s, D: Renewable + Drop> Kept<'s, D> {
     pub(crate) fn new(setup: &'s FolderSetup) -> Kept<'s, D>
         ensures { result.setup.now ≡ setup.now }
     {
-        Kept {
-            setup,
-            sound: None,
-            table: None,
-        }
+        Kept { setup, table: None }
     }
 
     /// What the setup says.
@@ -53,19 +45,6 @@ impl<'s, D: Renewable + Drop> Kept<'s, D> {
         ensures { result.now ≡ self.now.setup.now.setup }
     {
         &self.setup.setup
-    }
-
-    /// Whether the setup is as it was written. That is tested once, since it takes a millisecond or more.
-    pub(crate) fn is_sound(&mut self) -> bool
-        ensures sound { result ≡ is_sound self.old.setup.now }
-        ensures setup { self.new.setup.now ≡ self.old.setup.now }
-    {
-        if let Some(sound) = self.sound {
-            return sound;
-        }
-        let sound = self.setup.is_sound();
-        self.sound = Some(sound);
-        sound
     }
 
     /// Takes the table. None is kept then.

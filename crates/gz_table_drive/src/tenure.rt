@@ -200,7 +200,7 @@ fn answer_table<'s, R: Files + Drop>(
 {
     match answer_lines(alloc, &mut table, lines, replies) {
         Ok(count) => {
-            if shorten(alloc, kept, &mut table) {
+            if shorten(alloc, kept.setup(), &mut table) {
                 kept.keep(table);
             }
             Ok(count)

@@ -75,10 +75,11 @@ abbrev pub fault_of_sections : SectionsFault → TableFault
 fault_of_sections Memory = fault.OutOfMemory
 fault_of_sections why = fault.Sections why
 
--- bytes are no setup: they are cut off, or their sections are refused; or there was no memory
+-- bytes are no setup: they were cut off or changed, or their sections are refused; or there was no memory
 abbrev pub IsRefused : TableFault → Type 0
 IsRefused fault.OutOfMemory = ⊤
 IsRefused fault.CutSetup = ⊤
+IsRefused fault.ChangedSetup = ⊤
 IsRefused (fault.Sections why) = why ≢ Memory
 IsRefused _ = ⊥
 

@@ -1,5 +1,5 @@
--- The setup of a folder, and whether it was changed since it was written.
-use Rattle.std.specs.Prelude.{◌≡◌, ◌==◌, ℕ, Bool, List, [], Ok}
+-- The setup of a folder, as it was written.
+use Rattle.std.specs.Prelude.{◌≡◌, ◌==◌, ℕ, false, List, [], Ok}
 use Rattle.table_setup.specs.Sealed.{IsSealed, sealed as sealed_text}
 use Rattle.table_setup.specs.Sums.{adler32}
 use Rattle.modprobe.specs.Setup.{Setup}
@@ -11,14 +11,17 @@ use Rattle.table_folder.specs.declared.folder_setup.FolderSetup.{FolderSetup}
 use Rattle.table_folder.specs.declared.setup.SectionsFault.{SectionsFault}
 use Rattle.table_folder.specs.declared.setup.SectionsFault.TheVariants.{Memory, Setup as Refused}
 
--- The bytes of the file are a text, and a last line with its length and a sum. The text says this.
+-- The bytes of the file are a text, and a last line with its length and its sum. The text says this.
 pub record IsReadFrom (bytes : List ℕ) (found : FolderSetup) : Type 0 where
-  pub sealed : IsSealed bytes found.text.items found.sum
+  pub sealed : IsSealed bytes found.text.items (adler32 found.text.items)
   pub says : setup_of found.text.items ≡ Ok (found.setup, [])
 
--- the text has the sum that its last line says
-abbrev pub is_sound : FolderSetup → Bool
-is_sound found = adler32 found.text.items == found.sum
+-- The bytes of the file are a text, and a last line with its length and another sum.
+pub record IsChanged (bytes : List ℕ) : Type 0 where
+  pub text : List ℕ
+  pub sum : ℕ
+  pub sealed : IsSealed bytes text sum
+  pub other : (adler32 text == sum) ≡ false
 
 -- The bytes of a setup that is to be written: a text that says something, and a last line with its length and its sum.
 pub record IsNewSetup (bytes : List ℕ) : Type 0 where

@@ -1,7 +1,8 @@
-//! The setup of a folder: what it says, and whether it was changed since it was written.
-ghost use Rattle.std.specs.Prelude.{◌≡◌, ℕ, List, IfOk, IfErr};
+//! The setup of a folder: what it says, if it is as it was written.
+ghost use Rattle.std.specs.Prelude.{ℕ, List, IfOk, IfErr, IsErrOf};
 ghost use Rattle.table_folder.specs.Faults.{IsRefused};
-ghost use Rattle.table_folder.specs.Setups.{is_sound, IsReadFrom};
+ghost use Rattle.table_setup.specs.Sealed.{IsSealed};
+ghost use Rattle.table_folder.specs.Setups.{IsChanged, IsReadFrom};
 
 use crate::fault::TableFault;
 use crate::setup::setup_of;
@@ -16,28 +17,33 @@ pub struct FolderSetup {
     pub setup: Setup,
     /// All before the last line of the file.
     text: Vec<u8>,
-    /// The sum that the last line says.
-    sum: u64,
 }
 
 impl FolderSetup {
-    /// What the bytes of a setup's file say, with its aliases in a form. The sum is not tested.
+    /// What the bytes of a setup's file say, with its aliases in a form. `CutSetup` if they do not end with a last line of
+    /// their length, and `ChangedSetup` if their text has another sum than that line says.
+    #[tactic(auto, using(crate::proofs::SetupLemmas::cut_sealed))]
     pub(crate) fn read(
         alloc: Global,
         bytes: Vec<u8>,
         form: AliasForm,
     ) -> Result<FolderSetup, TableFault>
         ensures found { IfOk result (IsReadFrom bytes.items) }
+        ensures cut { IsErrOf result TableFault.CutSetup → (text : List ℕ) (sum : ℕ) → IsSealed bytes.items text sum → ⊥ }
+        ensures changed { IsErrOf result TableFault.ChangedSetup → IsChanged bytes.items }
         ensures fault { IfErr result IsRefused }
     {
         let Some(sealed) = Sealed::read(&bytes) else {
             return Err(TableFault::CutSetup);
         };
-        let (length, sum) = (sealed.text.len(), sealed.sum);
+        if !sealed.is_sound() {
+            return Err(TableFault::ChangedSetup);
+        }
+        let length = sealed.text.len();
         let mut text = bytes;
         text.truncate(length);
         let setup = setup_of(alloc, &text, form)?;
-        Ok(FolderSetup { setup, text, sum })
+        Ok(FolderSetup { setup, text })
     }
 
     /// The same setup, with its aliases in another form.
@@ -45,20 +51,8 @@ impl FolderSetup {
         ensures found { (bytes : List ℕ) → IsReadFrom bytes self → IfOk result (IsReadFrom bytes) }
         ensures fault { IfErr result IsRefused }
     {
-        let FolderSetup { text, sum, .. } = self;
+        let FolderSetup { text, .. } = self;
         let setup = setup_of(alloc, &text, form)?;
-        Ok(FolderSetup { setup, text, sum })
-    }
-
-    /// Whether the text has the sum that the last line says. If not, the file was changed since it was written. It takes a
-    /// millisecond or more.
-    pub fn is_sound(&self) -> bool
-        ensures { result ≡ is_sound self.now }
-    {
-        let sealed = Sealed {
-            text: &self.text,
-            sum: self.sum,
-        };
-        sealed.is_sound()
+        Ok(FolderSetup { setup, text })
     }
 }

@@ -67,8 +67,8 @@ pub fn read_journal<R: Files<File = File> + Clock + AllocGlobal>(
 /// What the table of the folder was made of, for many lines. It is kept until the process ends, which takes less time than to
 /// give back each part of it.
 ///
-/// `NoTable` if the folder has no setup, `CutSetup` if it does not end with a last line of its length, `Sections` if its text
-/// is no setup, and `Unread` with the cause if it cannot be read. Its sum is not tested.
+/// `NoTable` if the folder has no setup, `CutSetup` if it does not end with a last line of its length, `ChangedSetup` if it has
+/// another sum than that line says, `Sections` if its text is no setup, and `Unread` with the cause if it cannot be read.
 pub fn read_setup<R: Files<File = File> + Clock + AllocGlobal>(
     shared: &Shared<'_, R>,
 ) -> Result<ManuallyDrop<FolderSetup>, TableFault>
