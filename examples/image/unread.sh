@@ -53,6 +53,23 @@ ask_with quiet.d -q -D loop
 : >odd.d/$'\xe9.conf'
 ask_with odd.d -D loop | LC_ALL=C sed 's|cannot read .*: |cannot read it: |'
 
+# A lint that could not look at all does not end well, also if -q leaves out why.
+mkdir machine/closed.d machine/odd.d
+echo 'options loop closed=1' >machine/closed.d/x.conf
+: >machine/odd.d/$'\xe9.conf'
+chmod 0 machine/closed.d/x.conf
+ask --root=machine -S 6.1.0 -C /closed.d --lint
+ask --root=machine -S 6.1.0 -C /closed.d/x.conf -q --lint
+chmod 0 machine/closed.d
+ask --root=machine -S 6.1.0 -C /closed.d --lint
+chmod 755 machine/closed.d
+ask --root=machine -S 6.1.0 -C /odd.d --lint | LC_ALL=C sed 's|cannot read .*: |cannot read it: |'
+mv machine/closed.d machine/etc/modprobe.d
+chmod 0 machine/etc
+ask --root=machine -S 6.1.0 --lint
+chmod 755 machine/etc
+rm -r machine/etc/modprobe.d machine/odd.d
+
 # A file in the place of a folder of the configuration counts, and beside the folders of releases a file is none.
 echo 'options loop own=1' >machine/etc/modprobe.d
 touch machine/lib/modules/README

@@ -1,5 +1,5 @@
 -- How a run ends, by its words.
-use Rattle.std.specs.Prelude.{◌≡◌, ℕ, Bool, true, false, nat_lt, List, [], ◌++◌, length, Option, Some, None, unwrap_or}
+use Rattle.std.specs.Prelude.{◌≡◌, ℕ, Bool, true, false, not, nat_lt, List, [], ◌++◌, length, Option, Some, None, unwrap_or}
 use Rattle.std.specs.Io.KnownBytes.{Appends}
 use Rattle.kmod_version.specs.declared.kmod.Kmod.{Kmod}
 use Rattle.kmod_query.specs.Answers.{Answer}
@@ -66,10 +66,20 @@ EndsWell false false asked before after = WereAnswered asked before after
 abbrev pub IsDone : Asked → Option (List ℕ) → Option (List ℕ) → Type 0
 IsDone asked before after = EndsWell (is_lint (wish_by asked)) (is_why (wish_by asked)) asked before after
 
+-- `--root` has an empty value, which names no folder
+abbrev pub is_root_empty : Option (List ℕ) → Bool
+is_root_empty None = false
+is_root_empty (Some root) = not (nat_lt 0 (length root))
+
+-- what is asked for ended well, of the machine itself or of one below a root that was named
+pub record IsDoneWithin (asked : Asked) (before after : Option (List ℕ)) : Type 0 where
+  pub root : is_root_empty asked.root ≡ false
+  pub done : IsDone asked before after
+
 -- words that ask for an end before a query end so; other ones end with 0 only if what they ask for ended well
 abbrev pub IsEndBy : Option Ending → Asked → Option (List ℕ) → Option (List ℕ) → ℕ → Type 0
 IsEndBy (Some ending) asked before after status = IsEnded ending before after status
-IsEndBy None asked before after status = status ≡ 0 → IsDone asked before after
+IsEndBy None asked before after status = status ≡ 0 → IsDoneWithin asked before after
 
 -- how words end a run, by what standard output has before and after, and the status
 abbrev pub IsEndOf : List (List ℕ) → Option (List ℕ) → Option (List ℕ) → ℕ → Type 0

@@ -1,6 +1,7 @@
 pub mod Answered
 pub mod LintFacts
 pub mod Linted
+pub mod Missed
 pub mod Begun
 pub mod Ends
 pub mod Evidence

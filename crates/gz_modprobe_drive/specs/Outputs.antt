@@ -9,7 +9,7 @@ use Rattle.modprobe_words.specs.Begun.{IsBegun}
 use Rattle.modprobe_words.specs.Endings.{Ending, IsShownPart, first_ending, shown_by}
 use Rattle.modprobe_words.specs.Words.{items}
 use Rattle.gz_modprobe_drive.specs.Begun.{WritesFacts}
-use Rattle.gz_modprobe_drive.specs.Ends.{IsAnswerBy, wish_by}
+use Rattle.gz_modprobe_drive.specs.Ends.{IsAnswerBy, is_root_empty, wish_by}
 use Rattle.gz_modprobe_drive.specs.Formed.{form_by}
 use Rattle.gz_modprobe_drive.specs.Queries.{IsQueryOf, ask_of, is_lint, is_why}
 
@@ -39,10 +39,15 @@ IsOutputFor false (Some ask) asked before after = after ≢ before → WereBegun
 abbrev pub IsOutput : Asked → Option (List ℕ) → Option (List ℕ) → Type 0
 IsOutput asked before after = IsOutputFor (is_lint (wish_by asked) || is_why (wish_by asked)) (ask_of (wish_by asked)) asked before after
 
+-- with an empty root nothing is written
+pub record IsOutputWithin (asked : Asked) (before after : Option (List ℕ)) : Type 0 where
+  pub root : is_root_empty asked.root ≡ true → after ≡ before
+  pub output : IsOutput asked before after
+
 -- words that end early write no more than the text that they ask for, if they ask for one
 abbrev pub IsOutputBy : Option Ending → Asked → Option (List ℕ) → Option (List ℕ) → Type 0
 IsOutputBy (Some ending) asked before after = IsShownPart (shown_by ending) before after
-IsOutputBy None asked before after = IsOutput asked before after
+IsOutputBy None asked before after = IsOutputWithin asked before after
 
 -- what words have a run write, by what standard output has before and after
 abbrev pub IsOutputOf : List (List ℕ) → Option (List ℕ) → Option (List ℕ) → Type 0

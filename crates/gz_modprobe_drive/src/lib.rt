@@ -15,6 +15,7 @@ mod holders;
 mod lint_facts;
 mod linting;
 mod listing;
+mod missed;
 mod parameters;
 mod paths;
 mod program;

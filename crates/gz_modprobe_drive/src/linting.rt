@@ -1,5 +1,5 @@
 //! Which lines of a machine's configuration have no effect, and which of its files are not read.
-ghost use Rattle.std.specs.Prelude.{◌≡◌, ◌≤◌, IfOk, IsSome};
+ghost use Rattle.std.specs.Prelude.{◌≡◌, ◌≤◌, true, IfOk, IsSome};
 ghost use Rattle.gz_modprobe_drive.specs.Begun.{AreBegun, WritesFacts};
 ghost use Rattle.gz_modprobe_drive.specs.Formed.{form_by};
 ghost use Rattle.gz_modprobe_drive.specs.Texts.{index_of};
@@ -10,6 +10,7 @@ use crate::configuration::conf_of;
 use crate::folder::whole_index;
 use crate::formed::{form_by, write_facts};
 use crate::lint_facts::lint_facts;
+use crate::missed::is_all_read;
 use crate::parameters::known_parameters;
 use crate::unread::unread_files;
 use answer_facts::Fact;
@@ -138,6 +139,16 @@ fn lint_texts<S: System, O: Write, E: Write>(
     write_found(alloc, form, &facts, output, messages)
 }
 
+/// The status of a lint whose lines have this one: 1 too if it does not look at all that there is.
+fn status_by(status: u8, is_whole: bool) -> u8
+    ensures status { status ≤ 1 → result ≤ 1 }
+    ensures well { result ≡ 0 → status ≡ 0 }
+    ensures whole { result ≡ 0 → is_whole ≡ true }
+    ensures kept { is_whole ≡ true → result ≡ status }
+{
+    if is_whole { status } else { 1 }
+}
+
 /// Reads the configuration and the texts of a folder of modules, and looks at the lines. Returns the status.
 fn lint_in<S: System, O: Write, E: Write>(
     host: &Host<'_, S>,
@@ -155,13 +166,16 @@ fn lint_in<S: System, O: Write, E: Write>(
     let modules = read_modules(host, directory, messages)?;
     let later = read_later(host, directory, true, messages)?;
     let index = whole_index(host.alloc(), &modules, &later)?;
-    lint_texts(
+    let status = lint_texts(
         host, &texts, &modules, &later, &index, directory, asked, output, messages,
-    )
+    )?;
+    let is_whole = is_all_read(host, &texts, directory, named, messages)?;
+    Ok(status_by(status, is_whole))
 }
 
 /// Looks for lines of the machine's configuration that have no effect, and for files that are not read, and writes them in
-/// the form that is asked for. Returns the status: 0 if there are none. `messages` explains, so that hidden files are known.
+/// the form that is asked for. Returns the status: 0 if there are none, and all was read that is looked at. `messages`
+/// explains, so that hidden files are known.
 pub(crate) fn lint_machine<S: System, O: Write, E: Write>(
     host: &Host<'_, S>,
     asked: &Asked<'_>,

@@ -3,8 +3,8 @@ ghost use Rattle.std.specs.Prelude.{◌≡◌, ◌≤◌, ◌++◌, IfOk, OnOk};
 ghost use Rattle.text_parts.specs.Text.{texts_of};
 ghost use Rattle.modprobe_words.specs.Asked.{asked_of, text_of};
 ghost use Rattle.modprobe_words.specs.Variable.{bytes_of};
-ghost use Rattle.gz_modprobe_drive.specs.Ends.{IsDone, IsEndOf, given, wish_by};
-ghost use Rattle.gz_modprobe_drive.specs.Outputs.{IsOutput, IsOutputFor, IsOutputOf};
+ghost use Rattle.gz_modprobe_drive.specs.Ends.{IsDone, IsDoneWithin, IsEndOf, given, is_root_empty, wish_by};
+ghost use Rattle.gz_modprobe_drive.specs.Outputs.{IsOutput, IsOutputFor, IsOutputOf, IsOutputWithin};
 
 use crate::answering::answer_query;
 use crate::linting::lint_machine;
@@ -13,7 +13,7 @@ use crate::refusals::tell_refusal;
 use crate::why::tell_why;
 use modprobe_files::{Disk, Host};
 use modprobe_words::{
-    Asked, Messages, Switches, Wish, end_early, first_ending, read_words, variable_words,
+    Asked, Messages, Switches, Wish, end_early, first_ending, read_words, tell_line, variable_words,
 };
 use std::alloc::{AllocError, Global};
 use std::env::Env;
@@ -69,6 +69,35 @@ fn answer_asked<R: Files + Env + AllocGlobal, O: Write, E: Write>(
     answer_query(&host, asked, &query, output, &mut messages)
 }
 
+/// Whether `--root` has an empty value, as where a script's variable is unset. It is not to stand for the machine itself.
+fn is_root_empty(root: Option<&[u8]>) -> bool
+    ensures { result ≡ is_root_empty (text_of root.entry) }
+{
+    match root {
+        Some(root) => root.is_empty(),
+        None => false,
+    }
+}
+
+/// Answers what is asked, if no empty root is named: that is told, and nothing is read. Returns the status.
+fn answer_within<R: Files + Env + AllocGlobal, O: Write, E: Write>(
+    rt: &R,
+    asked: &Asked<'_>,
+    output: &mut O,
+    errors: &mut E,
+) -> Result<u8, AllocError>
+    ensures status { IfOk result (λ status. status ≤ 1) }
+    ensures well { IfOk result (λ status. status ≡ 0 → IsDoneWithin (asked_of asked.now) (O.contents output.old) (O.contents output.new)) }
+    ensures written { IsOutputWithin (asked_of asked.now) (O.contents output.old) (O.contents output.new) }
+{
+    if is_root_empty(asked.root) {
+        tell_line(errors, b"FATAL: ", b"--root names no folder", b"");
+        Ok(1)
+    } else {
+        answer_asked(rt, asked, output, errors)
+    }
+}
+
 /// Adds words after those that are there.
 fn push_words<'a>(all: &mut Vec<&'a [u8]>, words: &'a [Vec<u8>]) -> Result<(), AllocError>
     ensures { OnOk result (texts_of all.new.items ≡ texts_of all.old.items ++ bytes_of words.entry.now) }
@@ -109,7 +138,7 @@ fn run_words<R: Files + Env + AllocGlobal, O: Write, E: Write>(
         return Ok(end_early(ending, output, errors));
     }
     let asked = Asked::by(rt.alloc(), &items)?;
-    answer_asked(rt, &asked, output, errors)
+    answer_within(rt, &asked, output, errors)
 }
 
 /// Runs the program on its words and the text of MODPROBE_OPTIONS. Returns the status.
