@@ -70,6 +70,21 @@ ask --root=machine -S 6.1.0 --lint
 chmod 755 machine/etc
 rm -r machine/etc/modprobe.d machine/odd.d
 
+# Where the current folder was removed, or is no UTF-8, nobody can tell where a relative -d and ./NAME are.
+top=$PWD
+touch loop.ko
+for folder in gone $'\xe9'; do
+    mkdir "$folder"
+    cp loop.ko "$folder"
+    cd "$folder" || exit
+    [ "$folder" != gone ] || rm -r ../gone
+    ask -d ../machine -S 6.1.0 -D loop
+    ask -d "$top/machine" -S 6.1.0 -C /dev/null -D ./loop.ko | sed "s|$top/||"
+    ask -d "$top/machine" -S 6.1.0 -C /dev/null -D loop | sed "s|$top/||"
+    cd "$top" || exit
+done
+rm -r $'\xe9' loop.ko
+
 # A file in the place of a folder of the configuration counts, and beside the folders of releases a file is none.
 echo 'options loop own=1' >machine/etc/modprobe.d
 touch machine/lib/modules/README

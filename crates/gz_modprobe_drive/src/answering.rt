@@ -9,6 +9,7 @@ ghost use Rattle.gz_modprobe_drive.specs.Texts.{IsConfOf};
 
 use crate::answered::{Answered, answer_machine};
 use crate::configuration::conf_of;
+use crate::current::known_directory;
 use crate::early::{asks_symbols, is_answered_early};
 use crate::evidence::Evidence;
 use crate::failures::tell_failures;
@@ -21,8 +22,8 @@ use kmod_conf::Conf;
 use kmod_index::DepTable;
 use kmod_query::{Query, States};
 use modprobe_files::{
-    ConfTexts, Host, LaterTexts, ModuleTexts, System, directory, is_rootless, read_configuration,
-    read_later, read_modules,
+    ConfTexts, Host, LaterTexts, ModuleTexts, System, is_rootless, read_configuration, read_later,
+    read_modules,
 };
 use modprobe_words::{Asked, Level, Messages, Written};
 use std::alloc::{AllocError, Global};
@@ -260,7 +261,7 @@ pub(crate) fn answer_query<S: System, O: Write, E: Write>(
     if is_rootless(host, asked.root.unwrap_or(b""), messages)? {
         return Ok(1);
     }
-    match directory(host, asked, messages)? {
+    match known_directory(host, asked, messages)? {
         Some(directory) => {
             let answered = answer_in(host, asked, &directory, query, output, messages)?;
             Ok(answered.status())

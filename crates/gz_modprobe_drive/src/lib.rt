@@ -4,6 +4,7 @@
 mod answered;
 mod answering;
 mod configuration;
+mod current;
 mod devices;
 mod early;
 mod evidence;

@@ -7,6 +7,7 @@ ghost use Rattle.gz_modprobe_drive.specs.Linted.{IsSilent, WasLinted, WereFound,
 
 use crate::answering::tell_unwritten;
 use crate::configuration::conf_of;
+use crate::current::known_directory;
 use crate::folder::whole_index;
 use crate::formed::{form_by, write_facts};
 use crate::lint_facts::lint_facts;
@@ -17,8 +18,8 @@ use answer_facts::Fact;
 use kmod_index::Index;
 use machine_lint::{Known, Origin, lint};
 use modprobe_files::{
-    ConfTexts, Host, LaterTexts, ModuleTexts, System, TextFile, directory, is_rootless,
-    read_configuration, read_later, read_modules,
+    ConfTexts, Host, LaterTexts, ModuleTexts, System, TextFile, is_rootless, read_configuration,
+    read_later, read_modules,
 };
 use modprobe_words::{Asked, Form, Messages};
 use std::alloc::{AllocError, Global};
@@ -189,7 +190,7 @@ pub(crate) fn lint_machine<S: System, O: Write, E: Write>(
     if is_rootless(host, asked.root.unwrap_or(b""), messages)? {
         return Ok(1);
     }
-    match directory(host, asked, messages)? {
+    match known_directory(host, asked, messages)? {
         Some(directory) => lint_in(host, asked, &directory, output, messages),
         None => Ok(1),
     }

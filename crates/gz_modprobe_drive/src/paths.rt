@@ -3,6 +3,7 @@ ghost use Rattle.std.specs.Prelude.{◌≡◌, IfOk};
 ghost use Rattle.text_parts.specs.Text.{texts_of};
 ghost use Rattle.gz_modprobe_drive.specs.Paths.{is_path, names_of, paths_of, words_of};
 
+use crate::current::is_adrift;
 use kmod_names::Text;
 use kmod_query::{Ask, AtPath, PathWord, Query};
 use kmod_version::Kmod;
@@ -11,6 +12,8 @@ use std::alloc::AllocError;
 use std::io::ErrorKind;
 
 const NO_FILE: &[u8] = b"No such file or directory";
+
+const NO_CURRENT_FOLDER: &[u8] = b"The current folder is not known";
 
 /// Whether a word is a path, and no name.
 fn is_path(kmod: Kmod, word: &[u8]) -> bool
@@ -38,6 +41,9 @@ fn names_of<'a>(query: &Query<'a>) -> &'a [&'a [u8]]
 /// What stands at a path. A folder is taken for a file; what ends with a slash has no name.
 fn at_path<S: System>(host: &Host<'_, S>, word: &[u8]) -> Result<AtPath, AllocError> {
     let alloc = host.alloc();
+    if is_adrift(host, word)? {
+        return Ok(AtPath::Nothing(Text::new(alloc, NO_CURRENT_FOLDER)?));
+    }
     match host.look(word) {
         Ok(_) if word.ends_with(b"/") => Ok(AtPath::Nothing(Text::new(alloc, NO_FILE)?)),
         Ok(_) => Ok(AtPath::File(Text::of(absolute_path(host, word)?))),

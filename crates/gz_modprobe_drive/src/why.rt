@@ -6,6 +6,7 @@ ghost use Rattle.gz_modprobe_drive.specs.Leads.{WasTold};
 
 use crate::answering::{tell_bad_lines, tell_unwritten};
 use crate::configuration::conf_of;
+use crate::current::known_directory;
 use crate::devices::read_devices;
 use crate::folder::index_of;
 use crate::formed::{form_by, write_facts};
@@ -15,8 +16,8 @@ use kmod_conf::Conf;
 use kmod_index::Index;
 use kmod_query::{Ask, Query, States};
 use modprobe_files::{
-    ConfTexts, Host, LaterTexts, ModuleTexts, System, directory, is_rootless, read_configuration,
-    read_later, read_modules,
+    ConfTexts, Host, LaterTexts, ModuleTexts, System, is_rootless, read_configuration, read_later,
+    read_modules,
 };
 use modprobe_words::{Asked, Form, Messages, Written};
 use std::alloc::{AllocError, Global};
@@ -176,7 +177,7 @@ pub(crate) fn tell_why<S: System, O: Write, E: Write>(
     if is_rootless(host, asked.root.unwrap_or(b""), messages)? {
         return Ok(1);
     }
-    match directory(host, asked, messages)? {
+    match known_directory(host, asked, messages)? {
         Some(directory) => tell_in(host, asked, &directory, output, messages),
         None => Ok(1),
     }
