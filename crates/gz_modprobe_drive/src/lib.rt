@@ -7,6 +7,7 @@ mod configuration;
 mod current;
 mod devices;
 mod early;
+mod ended;
 mod evidence;
 mod explained;
 mod failures;

@@ -7,13 +7,14 @@ ghost use Rattle.gz_modprobe_drive.specs.Ends.{IsDone, IsDoneWithin, IsEndOf, gi
 ghost use Rattle.gz_modprobe_drive.specs.Outputs.{IsOutput, IsOutputFor, IsOutputOf, IsOutputWithin};
 
 use crate::answering::answer_query;
+use crate::ended::end_words;
 use crate::linting::lint_machine;
 use crate::queries::{is_lint, is_why, query_of};
 use crate::refusals::tell_refusal;
 use crate::why::tell_why;
 use modprobe_files::{Disk, Host};
 use modprobe_words::{
-    Asked, Messages, Switches, Wish, end_early, first_ending, read_words, tell_line, variable_words,
+    Asked, Messages, Switches, Wish, first_ending, read_words, tell_line, variable_words,
 };
 use std::alloc::{AllocError, Global};
 use std::env::Env;
@@ -135,7 +136,7 @@ fn run_words<R: Files + Env + AllocGlobal, O: Write, E: Write>(
 {
     let items = read_words(rt.alloc(), words)?;
     if let Some(ending) = first_ending(&items) {
-        return Ok(end_early(ending, output, errors));
+        return Ok(end_words(rt.alloc(), ending, output, errors));
     }
     let asked = Asked::by(rt.alloc(), &items)?;
     answer_within(rt, &asked, output, errors)
