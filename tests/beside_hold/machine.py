@@ -73,12 +73,15 @@ class Machine:
         output, _ = process.communicate(timeout=60)
         return output, process.returncode
 
-    def hold(self, words, wait=10):
-        """What a call of gz-hold writes, its status, and what it says as errors, line by line."""
-        words = ["env", f"GZ_HOLD_WAIT={wait}", "gz-hold", *(words.split() if isinstance(words, str) else words)]
+    def call(self, *words):
+        """What a call writes, its status, and what it says as errors, line by line."""
         process = self.begin(*words, stderr=subprocess.PIPE)
         output, errors = process.communicate(timeout=60)
         return output, process.returncode, errors.splitlines()
+
+    def hold(self, words, wait=10):
+        """The same of a call of gz-hold."""
+        return self.call("env", f"GZ_HOLD_WAIT={wait}", "gz-hold", *(words.split() if isinstance(words, str) else words))
 
     def locks(self):
         """The names of the locks that there are."""

@@ -13,6 +13,8 @@ from pathlib import Path
 ODD_NAME = os.fsdecode(b"a) Z 1 (\n\xff")
 WAITERS = 6
 MENDS = 12
+# At how many moments a call gets signals.
+MOMENTS = 6
 
 
 def until(holds, seconds=20):
@@ -65,11 +67,14 @@ def faults_of_holders(machine):
     return faults
 
 
-def begin_upgrade(machine, words):
-    """An upgrade of overlay that runs beside."""
-    words = ["gz-hold", "upgrade", "overlay", *words]
+def begin_beside(machine, words):
+    """A call of gz-hold that runs beside, with a group of its own."""
     how = {"stdin": subprocess.DEVNULL, "stdout": subprocess.DEVNULL, "stderr": subprocess.DEVNULL}
-    return subprocess.Popen(words, env=machine.surroundings, start_new_session=True, **how)
+    return subprocess.Popen(["gz-hold", *words], env=machine.surroundings, start_new_session=True, **how)
+
+
+def begin_upgrade(machine, words):
+    return begin_beside(machine, ["upgrade", "overlay", *words])
 
 
 def faults_of_command(machine):
@@ -93,19 +98,101 @@ def faults_of_command(machine):
     return faults + [f"after it, {it}" for it in [machine.hold("check")] if it != ("", 0, [])]
 
 
-def faults_of_wait(machine):
-    """gz-hold alone is killed while an upgrade waits: nothing is removed later."""
+def faults_of_signal(machine, number, send):
+    """An upgrade that gets a signal while its command runs waits for the command, and loads the module again."""
     machine.anew()
     machine.hold("get one overlay")
-    upgrade = begin_upgrade(machine, ["--wait", "30", "--", "touch", str(machine.room / "upgraded")])
-    time.sleep(1)
-    upgrade.kill()
-    upgrade.wait()
     machine.hold("put one")
-    time.sleep(2.5)
-    if machine.there() != ["overlay"] or (machine.room / "upgraded").exists():
-        return ["an upgrade whose gz-hold was killed was done nevertheless"]
-    return []
+    begun, may_end, ended = files = [machine.room / name for name in ("begun", "may_end", "ended")]
+    for file in files:
+        file.unlink(missing_ok=True)
+    command = f"echo >{begun}; until [ -e {may_end} ]; do sleep 0.05; done; echo >{ended}"
+    upgrade = begin_upgrade(machine, ["--", "sh", "-c", command])
+    if not until(begun.exists):
+        return ["an upgrade has not begun"]
+    send(upgrade.pid, number)
+    # The command gets the signal too if it is for all of the group.
+    if send is os.killpg:
+        until(lambda: upgrade.poll() is not None)
+    may_end.touch()
+    wanted = (143, send is os.kill, ["overlay"], ("", 0, []))
+    found = (upgrade.wait(), ended.exists(), machine.there(), machine.hold("check"))
+    return [] if found == wanted else [f"an upgrade that got signal {number} by {send.__name__}: {found}"]
+
+
+def faults_of_signals(machine):
+    """Each signal, to gz-hold alone and to all of its group."""
+    # (in the background of a shell the one, and below nohup(1) the other would be ignored, also by what is called)
+    signal.signal(signal.SIGINT, signal.default_int_handler)
+    signal.signal(signal.SIGHUP, signal.SIG_DFL)
+    numbers = (signal.SIGTERM, signal.SIGINT, signal.SIGHUP)
+    return [it for number in numbers for send in (os.kill, os.killpg) for it in faults_of_signal(machine, number, send)]
+
+
+def faults_of_moments(machine):
+    """All of the group get two signals, at any moment of a call whose gz-table is slow: all is then as it was before."""
+    program, slow = machine.room / "path/gz-table", machine.room / "slow"
+    target = os.readlink(program)
+    program.unlink()
+    machine.script(program, f'{target} "$@"; status=$?; [ ! -e {slow} ] || sleep 0.1; exit $status')
+    faults = []
+    for words in (["upgrade", "overlay", "--", "sleep", "0.2"], ["run", "job", "overlay", "--", "sleep", "0.2"]):
+        for moment in range(MOMENTS):
+            machine.anew()
+            machine.hold("get one overlay")
+            machine.hold("put one")
+            slow.touch()
+            process = begin_beside(machine, words)
+            for wait in (0.15 * moment, 0.05):
+                time.sleep(wait)
+                os.killpg(process.pid, signal.SIGINT)
+            process.wait()
+            slow.unlink()
+            found = (machine.there(), machine.hold("list"), machine.hold("check"))
+            if found != (["overlay"], ("", 0, []), ("", 0, [])):
+                faults.append(f"after signals at moment {moment} of `{' '.join(words)}`: {found}")
+    program.unlink()
+    program.symlink_to(target)
+    return faults
+
+
+def faults_of_killed(machine):
+    """All of an upgrade is killed while its command runs: what is left is listed, and what is to be done is said."""
+    machine.anew()
+    machine.hold("get one overlay")
+    machine.hold("put one")
+    begun = machine.room / "begun"
+    begun.unlink(missing_ok=True)
+    upgrade = begin_upgrade(machine, ["--", "sh", "-c", f"echo >{begun}; sleep 60"])
+    if not until(begun.exists):
+        return ["an upgrade has not begun"]
+    os.killpg(upgrade.pid, signal.SIGKILL)
+    upgrade.wait()
+    wanted = {
+        "check": ("overlay: Unloading in the table, Absent in the kernel\n", 1, []),
+        "upgrade overlay": ("error ENOENT overlay\n", 10, ["gz-hold: overlay is not loaded, and nothing was done; gz-hold get loads it"]),
+        "mend": ("", 0, []),
+        "get two overlay": ("ok overlay\n", 0, []),
+    }
+    found = {words: machine.hold(words) for words in wanted}
+    return [f"after an upgrade was killed, `{words}`: {found[words]}" for words in wanted if found[words] != wanted[words]]
+
+
+def faults_of_wait(machine):
+    """gz-hold alone is ended while an upgrade waits: nothing is removed later."""
+    faults = []
+    for number, status in ((signal.SIGKILL, -signal.SIGKILL), (signal.SIGTERM, 143)):
+        machine.anew()
+        machine.hold("get one overlay")
+        upgrade = begin_upgrade(machine, ["--wait", "30", "--", "touch", str(machine.room / "upgraded")])
+        time.sleep(1)
+        upgrade.send_signal(number)
+        ended = upgrade.wait(10)
+        machine.hold("put one")
+        time.sleep(2.5)
+        if ended != status or machine.there() != ["overlay"] or (machine.room / "upgraded").exists():
+            faults.append(f"an upgrade that got signal {number} while it waited ended with {ended}, and was perhaps done")
+    return faults
 
 
 def faults_of_plain_flock(machine):
@@ -171,5 +258,6 @@ def faults_of_mend_in_vain(machine):
 
 def faults_of_processes(machine):
     """What is wrong, each as a line."""
-    parts = [faults_of_holders, faults_of_command, faults_of_wait, faults_of_patience, faults_of_plain_flock, faults_of_turns, faults_of_mend_in_vain]
+    parts = [faults_of_holders, faults_of_command, faults_of_signals, faults_of_moments, faults_of_killed, faults_of_wait]
+    parts += [faults_of_patience, faults_of_plain_flock, faults_of_turns, faults_of_mend_in_vain]
     return [fault for part in parts for fault in part(machine)]

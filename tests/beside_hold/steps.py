@@ -70,7 +70,7 @@ STEPS = [
     Step("gz-hold put web17", "ok\n", 0, "llc stp bridge loop overlay"),
     Step("gz-table TABLE begin_remove overlay", "ok\n", 0, "llc stp bridge loop overlay"),
     Step("gz-hold mend", "", 0, "llc stp bridge loop overlay"),
-    Step("gz-hold remove overlay loop", "ok\nok\n", 0, "llc stp bridge"),
+    Step("gz-hold remove overlay loop overlay", "ok\nok\n", 0, "llc stp bridge"),
     # What is no module, no command, no holder; what is built in needs no hold.
     Step("gz-hold get web17 nosuch", "error ENOENT nosuch\n", 10, "llc stp bridge"),
     Step("gz-hold get web17 ext4", "ok\n", 0, "llc stp bridge"),

@@ -21,6 +21,8 @@ def no_holder(process):
     return [f"pid:{process} is no holder: a process is named pid:PID or pid:PID:START"]
 
 
+INSTALLED = ["installed has an install line in modprobe.d: load it by modprobe(8), and run gz-hold mend"]
+SECONDS = "a number of seconds, 999999999 at most"
 REFUSED = [
     Refused("get EMPTY overlay", 2, "", ["an empty word is no holder"]),
     Refused("get -x overlay", 2, "", ["-x is no holder: a holder does not begin with -"]),
@@ -41,7 +43,8 @@ REFUSED = [
     Refused("get pid:999999999 overlay", 2, "", ["no living process has the number 999999999; gz-hold reap gives back what was held by one that is gone"]),
     Refused("run web17 overlay -- /dev/null", 127, "", ["/dev/null is no program, and nothing was done"]),
     Refused("upgrade overlay -- check", 127, "", ["check is no program, and nothing was done"]),
-    Refused("upgrade overlay --wait x", 2, "", ["--wait takes a number of seconds; gz-hold --help says more"]),
+    Refused("upgrade overlay --wait x", 2, "", [f"--wait takes {SECONDS}; gz-hold --help says more"]),
+    Refused("upgrade --wait 1000000000 overlay", 2, "", [f"--wait takes {SECONDS}; gz-hold --help says more"]),
     Refused("get", 2, "", ["a holder is missing; gz-hold --help says more"]),
     Refused("frob", 2, "", ["no such command: frob; gz-hold --help says more"]),
     Refused("remove EMPTY", 2, "", ["an empty word is no name"]),
@@ -50,10 +53,16 @@ REFUSED = [
     Refused("remove .", 10, "error ENOENT .\n", []),
     Refused("remove .. nosuch", 10, "error ENOENT ..\nerror ENOENT nosuch\n", []),
     Refused("remove LONG", 10, f"error ENOENT {LONG}\n", []),
+    # The path of a file is no name.
+    Refused("remove x/overlay.ko overlay.ko", 10, "error ENOENT x/overlay.ko\nerror ENOENT overlay.ko\n", []),
+    Refused("upgrade x/overlay.ko -- true", 10, "error ENOENT x/overlay.ko\n", []),
     Refused("upgrade ovrelay -- true", 10, "error ENOENT ovrelay\n", []),
     Refused("get web17 ovrelay", 10, "error ENOENT ovrelay\n", []),
-    # Once, though the holder asks for it again.
-    Refused("get web17 installed", 12, "error NOTLIVE installed\n", ["installed has an install line in modprobe.d: load it by modprobe(8), and run gz-hold mend"]),
+    # Once, though the holder asks for it again, and though the name stands again.
+    Refused("get web17 installed", 12, "error NOTLIVE installed\n", INSTALLED),
+    Refused("get web17 installed installed", 12, "error NOTLIVE installed\n", INSTALLED),
+    Refused("run web17 installed installed -- true", 12, "error NOTLIVE installed\n", INSTALLED),
+    Refused("remove nosuch . nosuch", 10, "error ENOENT nosuch\nerror ENOENT .\n", []),
 ]
 
 
@@ -68,7 +77,17 @@ def faults_of_words(machine):
             faults.append(f"`{case.words}`: wanted {wanted}, found {found}")
     if machine.locks() or machine.hold("list")[0]:
         faults.append(f"refused words left {machine.locks()} and {machine.hold('list')}")
-    return faults + faults_of_lists(machine)
+    return faults + faults_of_seconds(machine) + faults_of_lists(machine)
+
+
+def faults_of_seconds(machine):
+    """How long others are waited for is a number within its limit."""
+    faults = []
+    for wait, refused in (("08", False), ("999999999", False), ("1000000000", True), ("1.5", True)):
+        found = machine.hold("list", wait=wait)
+        if found != (("", 2, [f"gz-hold: GZ_HOLD_WAIT is {SECONDS}"]) if refused else ("", 0, [])):
+            faults.append(f"with GZ_HOLD_WAIT={wait}: {found}")
+    return faults
 
 
 def faults_of_lists(machine):
