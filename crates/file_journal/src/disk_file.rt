@@ -1,8 +1,8 @@
 use crate::fault::{Action, Cause, FileFault, Target};
 use std::alloc::{AllocError, Global};
 use std::fs::{self, File, Metadata, OpenFile};
-use std::io::{self, Read, Seek, SeekFrom, Write};
-use std::os::unix::fs::{MetadataExt, chown};
+use std::io::{self, ErrorKind, Read, Seek, SeekFrom, Write};
+use std::os::unix::fs::{MetadataExt, lchown};
 use std::rt::Files;
 
 /// Whether what was written is waited for until it is on the disk.
@@ -158,16 +158,14 @@ impl<R: Files + Drop> DiskFile<R> {
     /// give a file to anybody, others only to a group of theirs.
     fn give_new(&self, known: &Metadata) {
         let path = self.paths.new_journal.as_str();
-        if chown(&self.rt, path, Some(known.uid()), Some(known.gid())).is_err() {
-            let _ = chown(&self.rt, path, None, Some(known.gid()));
+        if lchown(&self.rt, path, Some(known.uid()), Some(known.gid())).is_err() {
+            let _ = lchown(&self.rt, path, None, Some(known.gid()));
         }
     }
 
     /// Writes a new file, with the owner and the rights of the one that is there, and brings it to the disk.
     fn write_new(&self, bytes: &[u8]) -> io::Result<R::File> {
-        let mut options = File::options();
-        options.read(true).write(true).create(true).truncate(true);
-        let mut new = options.open(&self.rt, self.paths.new_journal.as_str())?;
+        let mut new = create_anew(&self.rt, self.paths.new_journal.as_str())?;
         let known = self.file.metadata()?;
         self.give_new(&known);
         new.set_permissions(known.permissions())?;
@@ -187,6 +185,15 @@ impl<R: Files + Drop> DiskFile<R> {
         renamed.map_err(|error| FileFault::of(Action::Rename, Target::NewJournal, &error))?;
         self.file = new;
         self.sync_folder()
+    }
+}
+
+/// Makes a file of this path, to read and to write. What stands there is first removed: a process that was killed may have
+/// left it, and where it is a link, what that leads to is not touched.
+pub fn create_anew<R: Files>(rt: &R, path: &str) -> io::Result<R::File> {
+    match fs::remove_file(rt, path) {
+        Err(error) if error.kind() != ErrorKind::NotFound => Err(error),
+        _ => File::create_new(rt, path),
     }
 }
 

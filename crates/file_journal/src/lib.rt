@@ -10,6 +10,6 @@ mod lock;
 mod overwrite;
 
 pub use device::{FileDevice, OpenError};
-pub use disk_file::Syncs;
+pub use disk_file::{Syncs, create_anew};
 pub use fault::{Action, Cause, FileFault, Target};
 pub use lock::{FolderLock, LockError, LockKind};

@@ -9,7 +9,7 @@ use crate::sections::named_sections;
 use crate::setup::setup_of;
 use crate::shared::{SETUP, Shared};
 use crate::teller::Teller;
-use file_journal::Syncs;
+use file_journal::{Syncs, create_anew};
 use kmod_version::Kmod;
 use modprobe::AliasForm;
 use program_frame::is_folder;
@@ -71,11 +71,13 @@ pub fn new_setup<R: Files + Env + AllocGlobal, E: Write>(
     Ok(seal(text)?)
 }
 
-/// Makes the folder, and brings its name to the disk.
+/// Makes the folder, if there is none, and brings its name to the disk: whoever made it may have been killed before that.
 fn put_folder<R: Files<File = File> + Clock + AllocGlobal>(
     shared: &Shared<'_, R>,
 ) -> io::Result<()> {
-    fs::create_dir(shared.rt, shared.folder)?;
+    if !is_folder(shared.rt, shared.folder) {
+        fs::create_dir(shared.rt, shared.folder)?;
+    }
     shared.sync_names(&shared.path("..")?)
 }
 
@@ -86,9 +88,6 @@ pub fn make_folder<R: Files<File = File> + Clock + AllocGlobal>(
 ) -> Result<(), TableFault>
     ensures { IfErr result IsNoFolder }
 {
-    if is_folder(shared.rt, shared.folder) {
-        return Ok(());
-    }
     match put_folder(shared) {
         Ok(()) => Ok(()),
         Err(error) => Err(TableFault::NoFolder(error.kind())),
@@ -97,7 +96,7 @@ pub fn make_folder<R: Files<File = File> + Clock + AllocGlobal>(
 
 /// Writes a file anew, and waits until it is on the disk.
 fn write_file<R: Files>(rt: &R, path: &str, bytes: &[u8], syncs: Syncs) -> io::Result<()> {
-    let mut file = fs::create(rt, path)?;
+    let mut file = create_anew(rt, path)?;
     file.write_all(bytes)?;
     match syncs {
         Syncs::Kept => file.sync_all(),

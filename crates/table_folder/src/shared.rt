@@ -5,7 +5,7 @@ ghost use Rattle.std.specs.Prelude.{◌≡◌, ◌++◌, codes, string_bytes, If
 use file_journal::{FolderLock, LockError, LockKind, Syncs};
 use std::alloc::{AllocError, Global};
 use std::fs::{self, File};
-use std::io;
+use std::io::{self, ErrorKind};
 use std::rt::Files;
 use std::time::Clock;
 
@@ -47,11 +47,16 @@ impl<R: Files<File = File> + Clock + AllocGlobal> Shared<'_, R> {
         Ok(fs::metadata(self.rt, &self.path(SETUP)?).is_ok())
     }
 
-    /// Brings the names in a folder to the disk, unless `syncs` leaves that out.
+    /// Brings the names in a folder to the disk, unless `syncs` leaves that out. Who may not list the folder cannot open it:
+    /// then that is left to the system.
     pub(crate) fn sync_names(&self, folder: &str) -> io::Result<()> {
-        match self.syncs {
-            Syncs::Kept => fs::open(self.rt, folder)?.sync_all(),
-            Syncs::LeftOut => Ok(()),
+        if self.syncs == Syncs::LeftOut {
+            return Ok(());
+        }
+        match fs::open(self.rt, folder) {
+            Ok(names) => names.sync_all(),
+            Err(error) if error.kind() == ErrorKind::PermissionDenied => Ok(()),
+            Err(error) => Err(error),
         }
     }
 

@@ -5,6 +5,7 @@ ghost use Rattle.table_folder.specs.Faults.{ending_of_fault, IsTold};
 
 use crate::fault::{Damage, TableFault};
 use crate::setup::SectionsFault;
+use crate::shared::CUT;
 use file_journal::{Cause, FileFault, LockError};
 use line_journal::Found;
 use program_frame::{PathFault, Shown};
@@ -104,7 +105,7 @@ impl<'e, E: Write> Teller<'e, E> {
     pub(crate) fn other_than_file(&mut self, folder: &str, name: &str) -> TableFault
         ensures { result ≡ Told }
     {
-        let advice = if name.ends_with(".new") {
+        let advice = if name.ends_with(".new") || name == CUT {
             "remove it"
         } else {
             "restore it, or make the table in another folder"
@@ -273,10 +274,7 @@ impl<'e, E: Write> Teller<'e, E> {
                 writeln!(self.errors, "gz-table: cannot write {folder}/{name}: {why}")
             }
             TableFault::Journal => writeln!(self.errors, "gz-table: {folder}/journal failed"),
-            TableFault::Input => writeln!(
-                self.errors,
-                "gz-table: standard input was not read; the lines before that are answered"
-            ),
+            TableFault::Input => writeln!(self.errors, "gz-table: standard input was not read"),
             TableFault::Output => writeln!(
                 self.errors,
                 "gz-table: standard output was not written; changes until then are made: see lsmod and held"
