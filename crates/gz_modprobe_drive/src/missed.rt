@@ -131,10 +131,14 @@ pub(crate) fn is_all_read<S: System, E: Write>(
     named: &[&[u8]],
     messages: &mut Messages<'_, E>,
 ) -> Result<bool, AllocError> {
+    let mut is_whole = true;
     for path in paths_by_rank(texts.kmod, named) {
         if !is_path_read(host, texts, *path, !named.is_empty(), messages)? {
-            return Ok(false);
+            is_whole = false;
         }
+    }
+    if !is_whole {
+        return Ok(false);
     }
     if texts.command_line.is_none() && is_kept_back(host, COMMAND_LINE)? {
         return Ok(false);
