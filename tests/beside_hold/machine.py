@@ -73,9 +73,9 @@ class Machine:
         output, _ = process.communicate(timeout=60)
         return output, process.returncode
 
-    def call(self, *words):
+    def call(self, *words, **how):
         """What a call writes, its status, and what it says as errors, line by line."""
-        process = self.begin(*words, stderr=subprocess.PIPE)
+        process = self.begin(*words, stderr=subprocess.PIPE, **how)
         output, errors = process.communicate(timeout=60)
         return output, process.returncode, errors.splitlines()
 

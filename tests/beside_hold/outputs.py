@@ -1,11 +1,12 @@
 """Standard output that cannot be written: what gz-hold says then, and what it has done."""
 
+import os
 from dataclasses import dataclass
 
 LOST = "gz-hold: standard output could not be written"
 DONE = f"{LOST}; what was asked was done"
-# How a shell calls gz-hold so that nothing can be written.
-OUTPUTS = (">/dev/full", ">&-")
+# How a shell calls gz-hold so that nothing can be written. Descriptor 9 is a pipe that nobody reads.
+OUTPUTS = (">/dev/full", ">&-", ">&9")
 
 
 @dataclass
@@ -38,13 +39,16 @@ UNWRITTEN = [
 def faults_of_outputs(machine):
     """What differs, each as a line."""
     faults = []
+    reader, writer = os.pipe()
+    os.close(reader)
     for case in UNWRITTEN:
         for output in OUTPUTS:
             machine.anew()
             for words in case.before:
                 machine.run(*words.split())
-            found = (*machine.call("sh", "-c", f"gz-hold {case.words} {output}"), machine.there(), machine.run("gz-hold", "list")[0])
+            found = (*machine.call("sh", "-c", f"gz-hold {case.words} {output}", close_fds=False, preexec_fn=lambda: os.dup2(writer, 9)), machine.there(), machine.run("gz-hold", "list")[0])
             wanted = ("", 3, [case.error], case.there.split(), case.held)
             if found != wanted:
                 faults.append(f"`{case.words} {output}`: wanted {wanted}, found {found}")
+    os.close(writer)
     return faults
