@@ -122,6 +122,9 @@ STEPS = [
     Step("gz-hold upgrade br_netfilter --wait 08 -- sh -c false", "", 1, "llc stp bridge loop overlay br_netfilter"),
     Step("gz-hold upgrade overlay -- nosuch", "", 127, "llc stp bridge loop overlay br_netfilter"),
     Step("gz-hold run job overlay -- ./nosuch", "", 127, "llc stp bridge loop overlay br_netfilter"),
+    # A module that is named twice is one, however it is spelled.
+    Step("gz-hold remove br-netfilter br_netfilter", "ok\n", 0, "llc stp bridge loop overlay"),
+    Step("gz-hold get web18 br-netfilter br_netfilter", "ok br_netfilter\n", 0, "llc stp bridge loop overlay br_netfilter"),
     Step("gz-hold check", "", 0, "llc stp bridge loop overlay br_netfilter"),
 ]
 # What the steps have a shell do, with the file that plays /proc/modules.
