@@ -37,7 +37,7 @@ class Machine:
     """A folder that plays a machine: the texts of its modules, its kernel's list, its table. A shell of these words runs gz-hold."""
 
     def __init__(self, room, programs, shell=("/bin/sh",)):
-        self.room, self.modules = room, room / "modules"
+        self.room, self.modules, self.shell = room, room / "modules", shell
         room.mkdir()
         self.modules.write_text("")
         texts = room / f"lib/modules/{VERSION}"
@@ -76,7 +76,7 @@ class Machine:
     def call(self, *words, **how):
         """What a call writes, its status, and what it says as errors, line by line."""
         process = self.begin(*words, stderr=subprocess.PIPE, **how)
-        output, errors = process.communicate(timeout=60)
+        output, errors = process.communicate(timeout=600)
         return output, process.returncode, errors.splitlines()
 
     def hold(self, words, wait=10):

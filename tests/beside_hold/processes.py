@@ -15,6 +15,7 @@ WAITERS = 6
 MENDS = 12
 # At how many moments a call gets signals.
 MOMENTS = 6
+SIGNALS = (signal.SIGTERM, signal.SIGINT, signal.SIGHUP, signal.SIGQUIT)
 
 
 def until(holds, seconds=20):
@@ -91,7 +92,7 @@ def faults_of_command(machine):
     early, was_ended = machine.hold("get one overlay", wait=0), ended.exists()
     late = machine.hold("get one overlay")
     faults = []
-    if early[:2] != ("error NOTLIVE overlay\n", 4) and not was_ended:
+    if early[:2] != ("", 4) and not was_ended:
         faults.append(f"a get while an upgrade's command ran: {early}")
     if late != ("ok overlay\n", 0, []) or not ended.exists():
         faults.append(f"a get after an upgrade's command: {late}, and it had {'' if ended.exists() else 'not '}ended")
@@ -111,22 +112,23 @@ def faults_of_signal(machine, number, send):
     if not until(begun.exists):
         return ["an upgrade has not begun"]
     send(upgrade.pid, number)
-    # The command gets the signal too if it is for all of the group.
-    if send is os.killpg:
+    # The command gets the signal too if it is for all of the group, and not if busybox's shell goes on to ignore SIGQUIT for it.
+    gets_it = send is os.killpg and not (number == signal.SIGQUIT and "busybox" in machine.shell)
+    if gets_it:
         until(lambda: upgrade.poll() is not None)
     may_end.touch()
-    wanted = (143, send is os.kill, ["overlay"], ("", 0, []))
+    wanted = (143, not gets_it, ["overlay"], ("", 0, []))
     found = (upgrade.wait(), ended.exists(), machine.there(), machine.hold("check"))
     return [] if found == wanted else [f"an upgrade that got signal {number} by {send.__name__}: {found}"]
 
 
 def faults_of_signals(machine):
     """Each signal, to gz-hold alone and to all of its group."""
-    # (in the background of a shell the one, and below nohup(1) the other would be ignored, also by what is called)
+    # (in the background of a shell two of them, and below nohup(1) one would be ignored, also by what is called)
     signal.signal(signal.SIGINT, signal.default_int_handler)
     signal.signal(signal.SIGHUP, signal.SIG_DFL)
-    numbers = (signal.SIGTERM, signal.SIGINT, signal.SIGHUP)
-    return [it for number in numbers for send in (os.kill, os.killpg) for it in faults_of_signal(machine, number, send)]
+    signal.signal(signal.SIGQUIT, signal.SIG_DFL)
+    return [it for number in SIGNALS for send in (os.kill, os.killpg) for it in faults_of_signal(machine, number, send)]
 
 
 def faults_of_moments(machine):
@@ -145,7 +147,7 @@ def faults_of_moments(machine):
             process = begin_beside(machine, words)
             for wait in (0.15 * moment, 0.05):
                 time.sleep(wait)
-                os.killpg(process.pid, signal.SIGINT)
+                os.killpg(process.pid, SIGNALS[1 + moment % 3])
             process.wait()
             slow.unlink()
             found = (machine.there(), machine.hold("list"), machine.hold("check"))
@@ -193,6 +195,24 @@ def faults_of_wait(machine):
         if ended != status or machine.there() != ["overlay"] or (machine.room / "upgraded").exists():
             faults.append(f"an upgrade that got signal {number} while it waited ended with {ended}, and was perhaps done")
     return faults
+
+
+def faults_of_waiting(machine):
+    """While an upgrade waits, others load, remove and mend."""
+    machine.anew()
+    machine.hold("get one overlay")
+    upgrade = begin_upgrade(machine, ["--wait", "60"])
+    time.sleep(0.5)
+    wanted = {
+        "remove overlay": ("error EWOULDBLOCK overlay\n", 11, []),
+        "mend": ("", 0, []),
+        "get two overlay": ("ok overlay\n", 0, []),
+        "put --remove one": ("ok\n", 0, []),
+        "put two": ("ok\n", 0, []),
+    }
+    found = {words: machine.hold(words, wait=5) for words in wanted}
+    found["upgrade"], wanted["upgrade"] = upgrade.wait(60), 0
+    return [f"while an upgrade waited, `{words}`: {found[words]}" for words in wanted if found[words] != wanted[words]]
 
 
 def faults_of_plain_flock(machine):
@@ -258,6 +278,6 @@ def faults_of_mend_in_vain(machine):
 
 def faults_of_processes(machine):
     """What is wrong, each as a line."""
-    parts = [faults_of_holders, faults_of_command, faults_of_signals, faults_of_moments, faults_of_killed, faults_of_wait]
+    parts = [faults_of_holders, faults_of_command, faults_of_signals, faults_of_moments, faults_of_killed, faults_of_wait, faults_of_waiting]
     parts += [faults_of_patience, faults_of_plain_flock, faults_of_turns, faults_of_mend_in_vain]
     return [fault for part in parts for fault in part(machine)]

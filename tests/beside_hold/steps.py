@@ -86,6 +86,15 @@ STEPS = [
     Step("gz-hold remove loop", "error KEPT loop\n", 1, "llc stp bridge loop"),
     Step("gz-hold upgrade loop --wait 1", "error KEPT loop\n", 1, "llc stp bridge loop"),
     Step("gz-hold check", "", 0, "llc stp bridge loop"),
+    # The kernel removes it meanwhile: the half stays until that has ended, or was given up.
+    Step("sh -c UNLOADING", "", 0, "llc stp bridge loop"),
+    Step("gz-hold remove loop", "error KEPT loop\n", 1, "llc stp bridge loop"),
+    Step("gz-hold remove loop", "error EBUSY loop\n", 12, "llc stp bridge loop"),
+    Step("gz-hold check", "", 0, "llc stp bridge loop"),
+    Step("sh -c LIVE", "", 0, "llc stp bridge loop"),
+    Step("gz-hold check", "loop: Unloading in the table, Live in the kernel\n", 1, "llc stp bridge loop"),
+    Step("gz-hold remove loop", "error KEPT loop\n", 1, "llc stp bridge loop"),
+    Step("gz-hold check", "", 0, "llc stp bridge loop"),
     # A process that is gone holds nothing any more.
     Step("gz-hold get pid:1:1 overlay", "ok overlay\n", 0, "llc stp bridge loop overlay"),
     Step("gz-hold reap", "pid:1:1 ok\n", 0, "llc stp bridge loop overlay"),
@@ -130,6 +139,8 @@ STEPS = [
 # What the steps have a shell do, with the file that plays /proc/modules.
 COMMANDS = {
     "USED": "echo loop >{}.used",
+    "UNLOADING": "sed -i '/^loop /s/Live/Unloading/' {}",
+    "LIVE": "sed -i s/Unloading/Live/ {}",
     "REFUSED": "echo overlay >{}.refused",
     "ACCEPTED": "rm {}.refused",
     "OWN": "gz-hold get pid:$$ overlay && gz-hold reap && gz-hold list | sed s/pid:$$:[1-9][0-9]*/PROCESS/",

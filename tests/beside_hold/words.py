@@ -1,6 +1,10 @@
-"""Words that are refused: what gz-hold says, and that nothing is left behind."""
+"""Words that are refused, and programs that are missing: what gz-hold says, and that nothing is left behind."""
 
+import os
+import shutil
 from dataclasses import dataclass
+
+from beside_hold.machine import GZ_HOLD
 
 LONG = "x" * 300
 # What cannot stand in a line of words.
@@ -43,6 +47,11 @@ REFUSED = [
     Refused("get pid:999999999 overlay", 2, "", ["no living process has the number 999999999; gz-hold reap gives back what was held by one that is gone"]),
     Refused("run web17 overlay -- /dev/null", 127, "", ["/dev/null is no program, and nothing was done"]),
     Refused("upgrade overlay -- check", 127, "", ["check is no program, and nothing was done"]),
+    # What only a shell knows.
+    Refused("run web17 overlay -- export", 127, "", ["export is no program, and nothing was done"]),
+    Refused("upgrade overlay -- if", 127, "", ["if is no program, and nothing was done"]),
+    Refused("upgrade overlay -- -v", 127, "", ["-v is no program, and nothing was done"]),
+    Refused("run web17 overlay -- EMPTY", 127, "", [" is no program, and nothing was done"]),
     Refused("upgrade overlay --wait x", 2, "", [f"--wait takes {SECONDS}; gz-hold --help says more"]),
     Refused("upgrade --wait 1000000000 overlay", 2, "", [f"--wait takes {SECONDS}; gz-hold --help says more"]),
     Refused("get", 2, "", ["a holder is missing; gz-hold --help says more"]),
@@ -64,6 +73,10 @@ REFUSED = [
     Refused("run web17 installed installed -- true", 12, "error NOTLIVE installed\n", INSTALLED),
     Refused("remove nosuch . nosuch", 10, "error ENOENT nosuch\nerror ENOENT .\n", []),
 ]
+# The programs that a call needs. Those of the kernel's modules are stand-ins, which need STAND_INS_NEED.
+MODULES_NEED = "awk flock grep gz-modprobe gz-table insmod mkdir rmmod sed sleep tr wc".split()
+NEEDED = {"get one overlay": MODULES_NEED, "put --remove one": MODULES_NEED, "reap": ["awk", "gz-table", "sed"], "list": ["gz-table"], "-h": ["cat"]}
+STAND_INS_NEED = ["basename", "cat", "mv"]
 
 
 def faults_of_words(machine):
@@ -77,7 +90,7 @@ def faults_of_words(machine):
             faults.append(f"`{case.words}`: wanted {wanted}, found {found}")
     if machine.locks() or machine.hold("list")[0]:
         faults.append(f"refused words left {machine.locks()} and {machine.hold('list')}")
-    return faults + faults_of_seconds(machine) + faults_of_lists(machine)
+    return faults + faults_of_seconds(machine) + faults_of_lists(machine) + faults_of_missing(machine)
 
 
 def faults_of_seconds(machine):
@@ -99,4 +112,32 @@ def faults_of_lists(machine):
         if found != ("", 2, [f"gz-hold: line 2 of {machine.modules} is none of /proc/modules, and nothing was done"]):
             faults.append(f"`{words}` over another text: {found}")
     machine.modules.write_text(list_of_kernel)
+    return faults
+
+
+def faults_of_missing(machine):
+    """A program that is missing is named before anything is done, and no other is needed. The shell of busybox has most of them."""
+    if machine.shell[0] == "busybox":
+        return []
+    machine.anew()
+    shell, few = shutil.which(machine.shell[0]), machine.room / "few"
+    few.mkdir()
+    for program in MODULES_NEED + STAND_INS_NEED:
+        (few / program).symlink_to(shutil.which(program, path=machine.surroundings["PATH"]))
+
+    def call(words):
+        return machine.call("env", f"PATH={few}", shell, GZ_HOLD, *words.split())
+
+    faults = []
+    for words, programs in NEEDED.items():
+        for program in programs:
+            target = os.readlink(few / program)
+            (few / program).unlink()
+            found = call(words)
+            (few / program).symlink_to(target)
+            if found != ("", 3, [f"gz-hold: {program} is not on the path, and nothing was done"]):
+                faults.append(f"`{words}` without {program}: {found}")
+        found = call(words)
+        if found[1] != 0 or found[2]:
+            faults.append(f"`{words}` with few programs: {found}")
     return faults

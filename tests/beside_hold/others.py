@@ -1,0 +1,96 @@
+"""Others that remove at the same moment, modules that only the kernel knows, and what a command gets of its caller."""
+
+import os
+import re
+from contextlib import contextmanager
+
+from beside_hold.machine import GZ_HOLD
+
+# How often a need is taken away: more often than gz-hold tries at the least.
+TAKEN_AWAY = 4
+ODD = "a\n'b' \"c\" $d `e` \\ *\n"
+# Where a script assigns a variable.
+ASSIGNED = re.compile(r"(?:^|[\s;({])([a-z_]+)=|\bfor ([a-z_]+)\b")
+KERNEL_ALONE = "gz-hold: the kernel alone has stp; gz-hold mend tells the table"
+
+
+@contextmanager
+def before_table(machine, lines):
+    """Before gz-table answers, these lines of a shell are run, where $table is the program."""
+    program = machine.room / "path/gz-table"
+    target = os.readlink(program)
+    program.unlink()
+    machine.script(program, f'table={target}\n{lines}\nexec $table "$@"')
+    yield
+    program.unlink()
+    program.symlink_to(target)
+
+
+def faults_of_needs(machine):
+    """What a module needs is removed just before the module is loaded: it is tried again, but not for ever."""
+    folder, left = machine.room / "table", machine.room / "left"
+    take_away = f"$table {folder} begin_remove llc && rmmod llc && $table {folder} end_remove llc"
+    lines = f'case "$*" in *"begin_load stp") [ ! -s {left} ] || {{ sed -i 1d {left}; {take_away}; }} >/dev/null ;; esac'
+    machine.anew()
+    faults = []
+    with before_table(machine, lines):
+        for words, times, wait, wanted in (
+            ("get one stp", TAKEN_AWAY, 600, ("ok stp\n", 0, [])),
+            ("put one", 0, 600, ("ok\n", 0, [])),
+            ("upgrade stp -- true", TAKEN_AWAY, 600, ("", 0, [])),
+            ("remove stp", 0, 600, ("ok\n", 0, [])),
+            ("get one stp", 1000, 1, ("error NOTLIVE stp\n", 12, [])),
+        ):
+            left.write_text("\n" * times)
+            found = machine.hold(words, wait=wait)
+            if found != wanted:
+                faults.append(f"`{words}` while a need is removed {times} times: {found}")
+    return faults
+
+
+def faults_of_slow_tries(machine):
+    """An upgrade waits for seconds, however long a try takes."""
+    machine.anew()
+    machine.hold("get one loop")
+    tries = machine.room / "tries"
+    with before_table(machine, f'sleep 0.5; case "$*" in *"begin_remove loop") echo >>{tries} ;; esac'):
+        found = machine.hold("upgrade loop --wait 2")
+    count = len(tries.read_text())
+    return [] if found == ("error EWOULDBLOCK loop\n", 11, []) and count in (1, 2) else [f"slow tries of an upgrade: {count}, {found}"]
+
+
+def faults_of_kernel_alone(machine):
+    """A module that was loaded by hand with what it needs is not in the table, which is said."""
+    machine.anew()
+    machine.run("insmod", "llc.ko")
+    machine.run("insmod", "stp.ko")
+    wanted = {
+        "remove stp": ("error ENOENT stp\n", 10, [KERNEL_ALONE]),
+        "upgrade stp -- true": ("error ENOENT stp\n", 10, [KERNEL_ALONE]),
+        "mend": ("", 0, []),
+        "upgrade stp": ("", 0, []),
+    }
+    found = {words: machine.hold(words) for words in wanted}
+    return [f"of a module that only the kernel had, `{words}`: {found[words]}" for words in wanted if found[words] != wanted[words]]
+
+
+def faults_of_environment(machine):
+    """A command gets its caller's variables, though the script has some of their names."""
+    machine.anew()
+    names = sorted({one or other for one, other in ASSIGNED.findall(GZ_HOLD.read_text())})
+    given = [f"{name}={ODD}" for name in names]
+    faults = []
+    for words in (["run", "job", "loop", "--"], ["upgrade", "loop", "--"]):
+        output, status, errors = machine.call("env", *given, "gz-hold", *words, "cat", "/proc/self/environ")
+        lost = sorted(set(given) - set(output.split("\0")))
+        if lost or status or errors:
+            faults.append(f"`{' '.join(words)}` changed {lost}: {status}, {errors}")
+    file = machine.room / "given"
+    machine.call("sh", "-c", f"name=given gz-hold run job loop -- sh -c 'echo $name >{file}' >&- 2>&-")
+    return faults + ["without outputs, a command's variable was changed"] * (file.read_text() != "given\n")
+
+
+def faults_of_others(machine):
+    """What is wrong, each as a line."""
+    parts = [faults_of_needs, faults_of_slow_tries, faults_of_kernel_alone, faults_of_environment]
+    return [fault for part in parts for fault in part(machine)]
