@@ -5,24 +5,28 @@ ghost use Rattle.table_setup.specs.Sums.{adler32, after_byte, joined, no_bytes};
 use std::marker::Model;
 
 /// The greatest prime below 2^16.
-const MODULUS: u32 = 65_521;
+const MODULUS: u64 = 65_521;
 
-/// The two sums of Adler-32: of the bytes, and of what the first sum was after each byte.
+/// What a sum is kept below, with ample room for one more byte.
+const LARGE: u64 = 1 << 62;
+
+/// The two sums of Adler-32: of the bytes, and of what the first sum was after each byte. They count modulo the prime, and
+/// are brought below it only when they are large: a division for each byte would take longer than all else.
 #[derive(Drop)]
 struct Sums {
-    low: u32,
-    high: u32,
+    low: u64,
+    high: u64,
 }
 
 impl Model for Sums {
-    ghost use Rattle.std.specs.Prelude.{◌<◌};
+    ghost use Rattle.std.specs.Prelude.{◌<◌, ◌%◌, ◌^◌};
     ghost use Rattle.table_setup.specs.Sums as sums;
 
     ghost Value = { sums.Sums };
 
-    ghost view = { λ s. record { low = s.low; high = s.high } };
+    ghost view = { λ s. record { low = s.low % 65521; high = s.high % 65521 } };
 
-    ghost invariant = { λ s. (s.low < 65521) × (s.high < 65521) };
+    ghost invariant = { λ s. (s.low < 2 ^ 62) × (s.high < 2 ^ 62) };
 }
 
 impl Sums {
@@ -35,14 +39,19 @@ impl Sums {
     fn add(&mut self, byte: u8)
         ensures { self.new ≡ after_byte self.old byte }
     {
-        self.low = (self.low + byte as u32) % MODULUS;
-        self.high = (self.high + self.low) % MODULUS;
+        self.low += byte as u64;
+        self.high += self.low;
+        if self.high >= LARGE {
+            self.low %= MODULUS;
+            self.high %= MODULUS;
+        }
     }
 
     fn joined(&self) -> u32
         ensures { result ≡ joined self.now }
     {
-        self.high * 65_536 + self.low
+        let (low, high) = (self.low % MODULUS, self.high % MODULUS);
+        (high * 65_536 + low) as u32
     }
 }
 
