@@ -37,7 +37,7 @@ pub(crate) fn replay<H: Holders>(
     ensures setup { session.new.setup ≡ session.old.setup }
 {
     for line in lines {
-        session.perform(alloc, command_of(line))?;
+        session.replay(alloc, command_of(line))?;
     }
     Ok(())
 }

@@ -12,7 +12,7 @@ use crate::reply::{HeldReply, refuse};
 use crate::same::is_same;
 use crate::snapshot::snapshot;
 use crate::takes::hold;
-use crate::through::{as_session, make_half};
+use crate::through::{as_session, make_half, reply_to, reply_to_half};
 use modprobe::{Code, Reply, Setup};
 use seq_table::Modules;
 use std::alloc::{AllocError, Global};
@@ -91,6 +91,54 @@ impl<'s, H: Holders> HeldSession<'s, H> {
         let answer = self.answer_line(alloc, line);
         self.holders.laws();
         answer
+    }
+
+    /// Makes what a line asks for, as `perform` does, for whoever has no use for its reply. What the table was is not kept
+    /// beside it, so that a line takes no longer if more modules are loaded.
+    ///
+    /// Out of memory, all is as before.
+    #[tactic(auto, unfolding(crate::specs::Outcomes::held_line_outcome))]
+    pub fn replay(&mut self, alloc: Global, line: &[u8]) -> Result<(), AllocError>
+        ensures leaves { OnOk result (holding (H.table self.new.holders) (H.names self.new.holders)
+            ≡ (held_line_outcome self.old.setup.now (holding (H.table self.old.holders) (H.names self.old.holders)) line.now).1) }
+        ensures unchanged { OnErr result (holding (H.table self.new.holders) (H.names self.new.holders) ≡ holding (H.table self.old.holders) (H.names self.old.holders)) }
+        ensures setup { self.new.setup ≡ self.old.setup }
+    {
+        if is_comment(line) {
+            reply_to(alloc, self.setup, &mut self.holders, line)?;
+            return Ok(());
+        }
+        let words = words(alloc, line)?;
+        let asked = parse(alloc, &words)?;
+        self.replay_asked(alloc, line, asked)
+    }
+
+    /// Makes what is asked for.
+    fn replay_asked(
+        &mut self,
+        alloc: Global,
+        line: &[u8],
+        asked: Asked<'_>,
+    ) -> Result<(), AllocError>
+        requires { asked_from asked ≡ asked_of line.now }
+        ensures leaves { OnOk result (holding (H.table self.new.holders) (H.names self.new.holders)
+            ≡ (asked_outcome self.old.setup.now (holding (H.table self.old.holders) (H.names self.old.holders)) line.now (asked_from asked.entry)).1) }
+        ensures unchanged { OnErr result (holding (H.table self.new.holders) (H.names self.new.holders) ≡ holding (H.table self.old.holders) (H.names self.old.holders)) }
+        ensures setup { self.new.setup ≡ self.old.setup }
+    {
+        let (setup, holders) = (self.setup, &mut self.holders);
+        match asked {
+            Asked::AsSession => {
+                reply_to(alloc, setup, holders, line)?;
+            }
+            Asked::Half(half, name) => {
+                reply_to_half(alloc, setup, holders, half, &name)?;
+            }
+            asked => {
+                self.answer(alloc, line, asked)?;
+            }
+        }
+        Ok(())
     }
 
     /// Makes what a line asks for.

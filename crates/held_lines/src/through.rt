@@ -1,5 +1,5 @@
 //! What a session answers over the table: its lines, and halves of loads and removals.
-ghost use Rattle.std.specs.Prelude.{◌≡◌, false, IfOk, OnErr};
+ghost use Rattle.std.specs.Prelude.{◌≡◌, false, IfOk, OnOk, OnErr};
 ghost use Rattle.dep_index.specs.Catalogue.{modules_of};
 ghost use Rattle.modprobe.specs.Session.{half_outcome, line_outcome};
 ghost use Rattle.held_lines.specs.Held.{holding};
@@ -10,10 +10,27 @@ ghost use Rattle.held_lines.specs.ForProofs.{Answers};
 use crate::book_copy::BookCopy;
 use crate::holders::Holders;
 use crate::reply::HeldReply;
-use modprobe::{Half, Session, Setup};
+use modprobe::{Half, Reply, Session, Setup};
 use seq_table::Modules;
 use std::alloc::{AllocError, Global};
 use text_parts::Name;
+
+/// What a session replies to a line, which it makes. The holders stay.
+pub(crate) fn reply_to<H: Holders>(
+    alloc: Global,
+    setup: &Setup,
+    holders: &mut H,
+    line: &[u8],
+) -> Result<Reply, AllocError>
+    requires { H.catalogue holders.old ≡ modules_of setup.now.catalogue }
+    ensures says { IfOk result (λ reply. reply ≡ (line_outcome setup.now (H.table holders.old) line.now).0) }
+    ensures table { OnOk result (H.table holders.new ≡ (line_outcome setup.now (H.table holders.old) line.now).1) }
+    ensures names { OnOk result (H.names holders.new ≡ H.names holders.old) }
+    ensures unchanged { OnErr result (holding (H.table holders.new) (H.names holders.new) ≡ holding (H.table holders.old) (H.names holders.old)) }
+    ensures over { H.catalogue holders.new ≡ H.catalogue holders.old }
+{
+    Session::new(setup, holders).reply(alloc, line)
+}
 
 /// What a session answers to a line.
 pub(crate) fn as_session<H: Holders>(
@@ -31,10 +48,27 @@ pub(crate) fn as_session<H: Holders>(
     ensures over { H.catalogue holders.new ≡ H.catalogue holders.old }
 {
     let before = BookCopy::of(alloc, holders)?;
-    let mut session = Session::new(setup, holders);
-    let reply = session.reply(alloc, line)?;
-    let changed = !before.is_of(session.table());
+    let reply = reply_to(alloc, setup, holders, line)?;
+    let changed = !before.is_of(holders);
     Ok(HeldReply { reply, changed })
+}
+
+/// What a session replies to half of a load or of a removal, which it makes. The holders stay.
+pub(crate) fn reply_to_half<H: Holders>(
+    alloc: Global,
+    setup: &Setup,
+    holders: &mut H,
+    half: Half,
+    name: &Name,
+) -> Result<Reply, AllocError>
+    requires { H.catalogue holders.old ≡ modules_of setup.now.catalogue }
+    ensures says { IfOk result (λ reply. reply ≡ (half_outcome setup.now name.now half (H.table holders.old)).0) }
+    ensures table { OnOk result (H.table holders.new ≡ (half_outcome setup.now name.now half (H.table holders.old)).1) }
+    ensures names { OnOk result (H.names holders.new ≡ H.names holders.old) }
+    ensures unchanged { OnErr result (holding (H.table holders.new) (H.names holders.new) ≡ holding (H.table holders.old) (H.names holders.old)) }
+    ensures over { H.catalogue holders.new ≡ H.catalogue holders.old }
+{
+    Session::new(setup, holders).make_half(alloc, name, half)
 }
 
 /// Half of a load or of a removal of the module of a name.
@@ -53,8 +87,7 @@ pub(crate) fn make_half<H: Holders>(
     ensures over { H.catalogue holders.new ≡ H.catalogue holders.old }
 {
     let before = BookCopy::of(alloc, holders)?;
-    let mut session = Session::new(setup, holders);
-    let reply = session.make_half(alloc, name, half)?;
-    let changed = !before.is_of(session.table());
+    let reply = reply_to_half(alloc, setup, holders, half, name)?;
+    let changed = !before.is_of(holders);
     Ok(HeldReply { reply, changed })
 }

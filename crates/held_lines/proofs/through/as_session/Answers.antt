@@ -1,4 +1,4 @@
-use Rattle.std.proofs.Common.{subst, sym, ap, ◌∙◌, not, rules}
+use Rattle.std.proofs.Common.{subst, sym, ap, ◌∙◌, not}
 use Rattle.std.proofs.lemmas.Bool.{not-false}
 use Rattle.modprobe.specs.Session.{line_outcome}
 use Rattle.held_lines.specs.declared.reply.HeldReply.{HeldReply}
@@ -14,23 +14,13 @@ returns-clause-answers g c =
     let s = c.args.setup.now in
     let t = g.H.Modules.table c.args.holders.now in
     let names = g.H.Modules.names c.args.holders.now in
-    let after = c.reply.new.self.table.now in
-    let meant = line_outcome s t c.args.line.now in
-    let made = c.in_ok-reply.ensures.reply in
+    let after = c.reply_to.new.holders in
     let r : HeldReply = record { reply = c.in_ok-reply.reply; changed = not c.is_of-changed.result } in
-    let done : Answers r (holding t names) (holding (g.H.Modules.table after) (g.H.Modules.names after)) (on_table (holding t names) meant) =
-    answers_through t (g.H.Modules.table after) names (g.H.Modules.names after) meant r c.in_ok-before.before
-    (rw (c.new-session.ensures.setup, c.new-session.ensures.table) at made.answers)
-    (rw (c.new-session.ensures.setup, c.new-session.ensures.table) at made.becomes)
-    (rw c.new-session.ensures.table at made.same_names)
+    answers_through t (g.H.Modules.table after) names (g.H.Modules.names after) (line_outcome s t c.args.line.now) r c.in_ok-before.before
+    c.in_ok-reply.ensures.says c.in_ok-reply.ensures.table c.in_ok-reply.ensures.names
     (line_rows s t c.args.line.now c.requires.asked) c.in_ok-before.ensures
-    (λ unchanged. rw c.table.ensures at (c.is_of-changed.ensures.is (not-false c.is_of-changed.result unchanged))) in
-    let P : g.row.H.Denot → Type 0 = λ u. Answers r (holding t names) (holding (g.H.Modules.table u) (g.H.Modules.names u)) (on_table (holding t names) meant) in
-    subst P (search rules) done
+    (λ unchanged. c.is_of-changed.ensures.is (not-false c.is_of-changed.result unchanged))
 
 pub returns-clause-idle : goal.returns-clause-idle
-returns-clause-idle g c =
-    let t = g.H.Modules.table c.args.holders.now in
-    let becomes = rw (c.new-session.ensures.setup, c.new-session.ensures.table) at c.in_ok-reply.ensures.reply.becomes in
-    λ same.
-    ap not (c.is_of-changed.ensures.all (subst (IsBookOf c.in_ok-before.before) (sym (ap g.H.Modules.table c.table.ensures ∙ becomes ∙ same)) c.in_ok-before.ensures))
+returns-clause-idle g c = λ same.
+    ap not (c.is_of-changed.ensures.all (subst (IsBookOf c.in_ok-before.before) (sym (c.in_ok-reply.ensures.table ∙ same)) c.in_ok-before.ensures))
