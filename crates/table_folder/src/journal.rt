@@ -1,9 +1,11 @@
 //! The file of a folder's journal, and what stands in it.
-ghost use Rattle.std.specs.Prelude.{◌≡◌, ◌+◌, None, IfOk, length};
+ghost use Rattle.std.specs.Prelude.{◌≡◌, ◌⊎◌, ◌+◌, None, IfOk, IfErr, length};
 ghost use Rattle.file_journal.specs.Belief.{history_of, MayBeAnything};
 ghost use Rattle.line_journal.specs.Device.{Goes, Unchanged};
 ghost use Rattle.line_journal.specs.Journal.{IsFound};
 ghost use Rattle.line_journal.specs.Lines.{open_gates};
+ghost use Rattle.table_folder.specs.Faults.{fault_of_file};
+ghost use Rattle.table_folder.specs.declared.fault.TableFault.TheVariants.{OutOfMemory};
 
 use crate::fault::{Damage, TableFault, journal_fault};
 use crate::shared::{JOURNAL, Shared};
@@ -52,13 +54,14 @@ pub fn make_journal<'r, R: Files<File = File> + Clock + AllocGlobal>(
     }
 }
 
-/// What stands in the file of a journal. Nothing is written, and nothing is waited for. At an error the file was not read, and
-/// the fault says why.
+/// What stands in the file of a journal. Nothing is written, and nothing is waited for. At an error the file was not read:
+/// there was no memory, or its fault is that of the device.
 pub fn found_in<R: Files + Drop>(
     alloc: Global,
     device: &mut FileDevice<R>,
 ) -> Result<Found, TableFault>
     ensures found { IfOk result (IsFound (⟦<FileDevice<R> as Device>⟧.content device.old)) }
+    ensures fault { IfErr result (λ fault. fault ≡ OutOfMemory ⊎ fault ≡ fault_of_file device.new.fault) }
     ensures content { ⟦<FileDevice<R> as Device>⟧.content device.new ≡ ⟦<FileDevice<R> as Device>⟧.content device.old }
     ensures writes { ⟦<FileDevice<R> as Device>⟧.writes device.new ≡ ⟦<FileDevice<R> as Device>⟧.writes device.old }
     ensures crash { Goes Unchanged (⟦<FileDevice<R> as Device>⟧.history device.old) (⟦<FileDevice<R> as Device>⟧.history device.new) }
