@@ -1,8 +1,10 @@
 use crate::fault::{Action, Cause, FileFault, Target};
+use crate::folder_names::FolderNames;
+use crate::new_file::create_like;
 use std::alloc::{AllocError, Global};
-use std::fs::{self, File, Metadata, OpenFile};
-use std::io::{self, ErrorKind, Read, Seek, SeekFrom, Write};
-use std::os::unix::fs::{MetadataExt, lchown};
+use std::fs::{self, File, OpenFile};
+use std::io::{self, Read, Seek, SeekFrom, Write};
+use std::os::unix::fs::MetadataExt;
 use std::rt::Files;
 
 /// Whether what was written is waited for until it is on the disk.
@@ -49,6 +51,21 @@ pub(crate) struct DiskFile<R: Files + Drop> {
     file: R::File,
     paths: Paths,
     syncs: Syncs,
+}
+
+/// The names in the folder of a journal.
+fn open_names<R: Files>(
+    rt: &R,
+    paths: &Paths,
+    syncs: Syncs,
+) -> Result<FolderNames<R::File>, FileFault> {
+    let opened = FolderNames::open(rt, paths.folder.as_str(), syncs);
+    opened.map_err(|error| FileFault::of(Action::Open, Target::Folder, &error))
+}
+
+/// The names in the folder of a journal did not come to the disk.
+fn unsynced(error: io::Error) -> FileFault {
+    FileFault::of(Action::Sync, Target::Folder, &error)
 }
 
 fn read_bytes<F: Read + Seek>(
@@ -98,6 +115,7 @@ impl<R: Files + Drop> DiskFile<R> {
 
     /// Makes an empty file, if none is there.
     pub(crate) fn create(rt: R, paths: Paths, syncs: Syncs) -> Result<Self, FileFault> {
+        let names = open_names(&rt, &paths, syncs)?;
         let made = File::create_new(&rt, paths.journal.as_str());
         let file = made.map_err(|error| FileFault::of(Action::Create, Target::Journal, &error))?;
         let made = DiskFile {
@@ -107,7 +125,7 @@ impl<R: Files + Drop> DiskFile<R> {
             syncs,
         };
         made.sync()?;
-        made.sync_folder()?;
+        names.sync().map_err(unsynced)?;
         Ok(made)
     }
 
@@ -143,32 +161,10 @@ impl<R: Files + Drop> DiskFile<R> {
         }
     }
 
-    /// Brings the names in the folder to the disk.
-    fn sync_folder(&self) -> Result<(), FileFault> {
-        match self.syncs {
-            Syncs::Kept => {
-                let synced = sync_path(&self.rt, self.paths.folder.as_str());
-                synced.map_err(|error| FileFault::of(Action::Sync, Target::Folder, &error))
-            }
-            Syncs::LeftOut => Ok(()),
-        }
-    }
-
-    /// Gives the new file the owner and the group of the one that is there, as far as the system lets this process: root may
-    /// give a file to anybody, others only to a group of theirs.
-    fn give_new(&self, known: &Metadata) {
-        let path = self.paths.new_journal.as_str();
-        if lchown(&self.rt, path, Some(known.uid()), Some(known.gid())).is_err() {
-            let _ = lchown(&self.rt, path, None, Some(known.gid()));
-        }
-    }
-
     /// Writes a new file, with the owner and the rights of the one that is there, and brings it to the disk.
     fn write_new(&self, bytes: &[u8]) -> io::Result<R::File> {
-        let mut new = create_anew(&self.rt, self.paths.new_journal.as_str())?;
         let known = self.file.metadata()?;
-        self.give_new(&known);
-        new.set_permissions(known.permissions())?;
+        let mut new = create_like(&self.rt, self.paths.new_journal.as_str(), &known)?;
         new.write_all(bytes)?;
         if self.syncs == Syncs::Kept {
             new.sync_all()?;
@@ -176,24 +172,28 @@ impl<R: Files + Drop> DiskFile<R> {
         Ok(new)
     }
 
-    /// Puts a new file of these bytes in the place of this one.
-    pub(crate) fn replace(&mut self, bytes: &[u8]) -> Result<(), FileFault> {
+    /// Writes a new file of these bytes, and gives it the path of this one.
+    fn put_new(&self, bytes: &[u8]) -> Result<R::File, FileFault> {
         let new = self.write_new(bytes);
         let new = new.map_err(|error| FileFault::of(Action::Write, Target::NewJournal, &error))?;
         let (from, to) = (self.paths.new_journal.as_str(), self.paths.journal.as_str());
         let renamed = fs::rename(&self.rt, from, to);
         renamed.map_err(|error| FileFault::of(Action::Rename, Target::NewJournal, &error))?;
-        self.file = new;
-        self.sync_folder()
+        Ok(new)
     }
-}
 
-/// Makes a file of this path, to read and to write. What stands there is first removed: a process that was killed may have
-/// left it, and where it is a link, what that leads to is not touched.
-pub fn create_anew<R: Files>(rt: &R, path: &str) -> io::Result<R::File> {
-    match fs::remove_file(rt, path) {
-        Err(error) if error.kind() != ErrorKind::NotFound => Err(error),
-        _ => File::create_new(rt, path),
+    /// Puts a new file of these bytes in the place of this one. Nothing is done if the folder cannot be opened, which would
+    /// leave the new name to a crash. What was written of a new file that does not come to its place is removed.
+    pub(crate) fn replace(&mut self, bytes: &[u8]) -> Result<(), FileFault> {
+        let names = open_names(&self.rt, &self.paths, self.syncs)?;
+        match self.put_new(bytes) {
+            Ok(new) => self.file = new,
+            Err(fault) => {
+                let _ = fs::remove_file(&self.rt, self.paths.new_journal.as_str());
+                return Err(fault);
+            }
+        }
+        names.sync().map_err(unsynced)
     }
 }
 
@@ -212,8 +212,4 @@ fn open_file<R: Files>(rt: &R, path: &str) -> Result<R::File, FileFault> {
             cause: Cause::NoFile,
         })
     }
-}
-
-fn sync_path<R: Files>(rt: &R, path: &str) -> io::Result<()> {
-    fs::open(rt, path)?.sync_all()
 }

@@ -2,7 +2,7 @@
 
 ghost use Rattle.std.specs.Prelude.{◌≡◌, ◌++◌, codes, string_bytes, IfOk};
 
-use file_journal::{FolderLock, LockError, LockKind, Syncs};
+use file_journal::{FolderLock, FolderNames, LockError, LockKind, Syncs};
 use std::alloc::{AllocError, Global};
 use std::fs::{self, File};
 use std::io::{self, ErrorKind};
@@ -50,11 +50,8 @@ impl<R: Files<File = File> + Clock + AllocGlobal> Shared<'_, R> {
     /// Brings the names in a folder to the disk, unless `syncs` leaves that out. Who may not list the folder cannot open it:
     /// then that is left to the system.
     pub(crate) fn sync_names(&self, folder: &str) -> io::Result<()> {
-        if self.syncs == Syncs::LeftOut {
-            return Ok(());
-        }
-        match fs::open(self.rt, folder) {
-            Ok(names) => names.sync_all(),
+        match FolderNames::open(self.rt, folder, self.syncs) {
+            Ok(names) => names.sync(),
             Err(error) if error.kind() == ErrorKind::PermissionDenied => Ok(()),
             Err(error) => Err(error),
         }

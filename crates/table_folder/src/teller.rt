@@ -6,7 +6,7 @@ ghost use Rattle.table_folder.specs.Faults.{ending_of_fault, IsTold};
 use crate::fault::{Damage, TableFault};
 use crate::setup::SectionsFault;
 use crate::shared::CUT;
-use file_journal::{Cause, FileFault, LockError};
+use file_journal::{Cause, FileFault, LockError, Target};
 use line_journal::Found;
 use program_frame::{PathFault, Shown};
 use std::io::{ErrorKind, Write};
@@ -19,10 +19,21 @@ pub struct Teller<'e, E> {
     errors: &'e mut E,
 }
 
-/// What may be done about a cause.
-fn advice_on(cause: Cause) -> &'static str {
-    match cause {
-        Cause::NotAllowed => "; run it as one who may write to the folder",
+/// Who may do what was not allowed.
+fn advice_on_rights(target: Target) -> &'static str {
+    match target {
+        Target::Journal => "; run it as one who may write to the journal and to the folder",
+        Target::NewJournal =>
+            "; run it as root, or as the journal's owner, who may write to the folder",
+        Target::Folder => "; run it as one who may list the folder, and write to it",
+        Target::Lock => "; run it as one who may read the lock, and make it in the folder",
+    }
+}
+
+/// What may be done about a fault.
+fn advice_on(fault: FileFault) -> &'static str {
+    match fault.cause {
+        Cause::NotAllowed => advice_on_rights(fault.target),
         Cause::ReadOnly => "; mount it for writing, or make the table in another folder",
         Cause::Full => "; free some room and ask again: what was answered is kept",
         Cause::NotThere => "; restore it, or make the table in another folder",
@@ -193,16 +204,13 @@ impl<'e, E: Write> Teller<'e, E> {
                 self.errors,
                 "gz-table: {folder}: another process has held the table for {wait} seconds; ask again, or wait longer with --wait"
             ),
-            LockError::Failed(fault) => {
-                let advice = advice_on(fault.cause);
-                writeln!(self.errors, "gz-table: {folder}: {fault}{advice}")
-            }
+            LockError::Failed(fault) => return self.tell_file(folder, fault),
             LockError::OutOfMemory => writeln!(self.errors, "gz-table: out of memory"),
         };
     }
 
     fn tell_file(&mut self, folder: &str, fault: FileFault) {
-        let advice = advice_on(fault.cause);
+        let advice = advice_on(fault);
         let _ = writeln!(self.errors, "gz-table: {folder}: {fault}{advice}");
     }
 
