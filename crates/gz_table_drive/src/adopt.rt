@@ -54,7 +54,7 @@ pub(crate) fn adopt<R: Files<File = File> + Clock + AllocGlobal, I: Read, E: Wri
     let lock = shared.lock(LockKind::Exclusive)?;
     let text = listed_text(shared.rt, listing, teller)?;
     let kernel = modules_of(alloc, &text, teller)?;
-    let mut table = changing_table(shared, &mut Kept::new(&setup), teller)?;
+    let mut table = changing_table(shared, &mut Kept::new(&setup.setup), teller)?;
     let mut replies = Replies::new(alloc);
     let adopted = adopt_file(alloc, &mut table, &kernel, &mut replies);
     lock.release();

@@ -71,7 +71,7 @@ pub(crate) fn compact<R: Files<File = File> + Clock + AllocGlobal, E: Write>(
 ) -> Result<Compacted, TableFault> {
     let alloc = shared.alloc();
     let setup = read_setup(shared)?;
-    let mut kept = Kept::new(&setup);
+    let mut kept = Kept::new(&setup.setup);
     let lock = shared.lock(LockKind::Exclusive)?;
     let mut table = changing_table(shared, &mut kept, teller)?;
     let compacted = compact_table(alloc, kept.setup(), &mut table);

@@ -10,15 +10,14 @@ use held_table::HeldTable;
 use line_journal::{Device, Renewable};
 use modprobe::Setup;
 use std::alloc::Global;
-use table_folder::FolderSetup;
 
 /// A table that is kept, if there is one. It read as its journal did when it was put here.
 #[derive(Drop)]
 pub(crate) struct Kept<'s, D: Device + Drop> {
-    setup: &'s FolderSetup,
+    setup: &'s Setup,
     table: Option<DurableTable<'s, HeldTable, D>>,
-    ghost of_setup: { IfSome table (λ t. t.session.setup.now ≡ setup.now.setup) } by { Prim.hlevel props },
-    ghost reads: { IfSome table (λ t. Reads D.content setup.now.setup (holding t.session.holders.held.table t.session.holders.held.names) t.journal) } by { Prim.hlevel props },
+    ghost of_setup: { IfSome table (λ t. t.session.setup.now ≡ setup.now) } by { Prim.hlevel props },
+    ghost reads: { IfSome table (λ t. Reads D.content setup.now (holding t.session.holders.held.table t.session.holders.held.names) t.journal) } by { Prim.hlevel props },
 }
 
 /// What there is of a table that is kept, once it is taken.
@@ -34,7 +33,7 @@ pub(crate) enum Taken<'s, D: Device + Drop> {
 
 impl<'s, D: Renewable + Drop> Kept<'s, D> {
     /// No table is kept yet.
-    pub(crate) fn new(setup: &'s FolderSetup) -> Kept<'s, D>
+    pub(crate) fn new(setup: &'s Setup) -> Kept<'s, D>
         ensures { result.setup.now ≡ setup.now }
     {
         Kept { setup, table: None }
@@ -42,14 +41,14 @@ impl<'s, D: Renewable + Drop> Kept<'s, D> {
 
     /// What the setup says.
     pub(crate) fn setup(&self) -> &'s Setup
-        ensures { result.now ≡ self.now.setup.now.setup }
+        ensures { result.now ≡ self.now.setup.now }
     {
-        &self.setup.setup
+        self.setup
     }
 
     /// Takes the table. None is kept then.
     pub(crate) fn take(&mut self, alloc: Global) -> Taken<'s, D>
-        ensures taken { IsTaken D.content self.old.setup.now.setup result }
+        ensures taken { IsTaken D.content self.old.setup.now result }
         ensures setup { self.new.setup.now ≡ self.old.setup.now }
     {
         let Some(mut table) = self.table.take() else {
@@ -64,8 +63,8 @@ impl<'s, D: Renewable + Drop> Kept<'s, D> {
 
     /// Keeps a table that reads as its journal does.
     pub(crate) fn keep(&mut self, table: DurableTable<'s, HeldTable, D>)
-        requires of_setup { table.session.setup.now ≡ self.old.setup.now.setup }
-        requires reads { Reads D.content self.old.setup.now.setup (holding table.session.holders.held.table table.session.holders.held.names) table.journal }
+        requires of_setup { table.session.setup.now ≡ self.old.setup.now }
+        requires reads { Reads D.content self.old.setup.now (holding table.session.holders.held.table table.session.holders.held.names) table.journal }
         ensures { self.new.setup.now ≡ self.old.setup.now }
     {
         self.table = Some(table);

@@ -71,8 +71,8 @@ fn answer_group<'s, 'r, R: Files<File = File> + Clock + AllocGlobal, O: Write, E
     teller: &mut Teller<'_, E>,
 ) -> Result<Ending, TableFault>
     requires { AreLines (bytes_of lines.now) }
-    ensures written { IfOk result (AreWritten kept.old.setup.now.setup (bytes_of lines.now) (O.contents output.old) (O.contents output.new)) }
-    ensures stopped { IfErr result (AreFirstSent kept.old.setup.now.setup (bytes_of lines.now) (O.contents output.old) (O.contents output.new)) }
+    ensures written { IfOk result (AreWritten kept.old.setup.now (bytes_of lines.now) (O.contents output.old) (O.contents output.new)) }
+    ensures stopped { IfErr result (AreFirstSent kept.old.setup.now (bytes_of lines.now) (O.contents output.old) (O.contents output.new)) }
     ensures setup { kept.new.setup.now ≡ kept.old.setup.now }
 {
     let (mut rest, mut ending) = (lines, Ending::Done);
@@ -126,7 +126,13 @@ fn answer_command<R: Files<File = File> + Clock + AllocGlobal, O: Write, E: Writ
     let setup = read_setup_for_command(shared, words)?;
     let lines = command_line(alloc, words, teller)?;
     let mut replies = Replies::new(alloc);
-    answer_in_tenure(shared, &mut Kept::new(&setup), &lines, &mut replies, teller)?;
+    answer_in_tenure(
+        shared,
+        &mut Kept::new(&setup.setup),
+        &lines,
+        &mut replies,
+        teller,
+    )?;
     write_whole(&replies.text, output)?;
     Ok(first_ending(&replies))
 }
@@ -139,8 +145,8 @@ fn answer_input<'s, 'r, R: Files<File = File> + Clock + AllocGlobal, I: Read, O:
     output: &mut O,
     teller: &mut Teller<'_, E>,
 ) -> Result<Ending, TableFault>
-    ensures written { IfOk result (AnswersInput kept.old.setup.now.setup (I.remaining input.old) (O.contents output.old) (O.contents output.new)) }
-    ensures stopped { IfErr result (SendsInput kept.old.setup.now.setup (I.remaining input.old) (O.contents output.old) (O.contents output.new)) }
+    ensures written { IfOk result (AnswersInput kept.old.setup.now (I.remaining input.old) (O.contents output.old) (O.contents output.new)) }
+    ensures stopped { IfErr result (SendsInput kept.old.setup.now (I.remaining input.old) (O.contents output.old) (O.contents output.new)) }
     ensures setup { kept.new.setup.now ≡ kept.old.setup.now }
 {
     let mut reader = InputLines::new(shared.alloc(), input);
@@ -200,7 +206,7 @@ fn answer_lines_of<R: Files<File = File> + Clock + AllocGlobal, I: Read, O: Writ
     ensures stopped { IfErr result (λ fault. (O.contents output.new ≡ O.contents output.old) ⊎ IsInputSent (I.remaining input.old) (O.contents output.old) (O.contents output.new) fault) }
 {
     let setup = read_setup(shared)?;
-    let ending = answer_input(shared, &mut Kept::new(&setup), input, output, teller)?;
+    let ending = answer_input(shared, &mut Kept::new(&setup.setup), input, output, teller)?;
     Ok(ending)
 }
 

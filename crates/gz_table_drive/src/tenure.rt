@@ -42,8 +42,8 @@ fn reading_table<'s, 'r, R: Files<File = File> + Clock + AllocGlobal>(
     shared: &Shared<'r, R>,
     kept: &mut Kept<'s, FileDevice<&'r R>>,
 ) -> Option<FileTable<'s, &'r R>>
-    ensures of_setup { IfSome result (λ t. t.session.setup.now ≡ kept.old.setup.now.setup) }
-    ensures reads { IfSome result (λ t. Reads ⟦<FileDevice<&'r R> as Device>⟧.content kept.old.setup.now.setup (holding t.session.holders.held.table t.session.holders.held.names) t.journal) }
+    ensures of_setup { IfSome result (λ t. t.session.setup.now ≡ kept.old.setup.now) }
+    ensures reads { IfSome result (λ t. Reads ⟦<FileDevice<&'r R> as Device>⟧.content kept.old.setup.now (holding t.session.holders.held.table t.session.holders.held.names) t.journal) }
     ensures setup { kept.new.setup.now ≡ kept.old.setup.now }
 {
     let alloc = shared.alloc();
@@ -87,10 +87,10 @@ fn ask_table<'s, R: Files + Drop>(
 ) -> Result<usize, TableFault>
     requires lines { AreLines (bytes_of lines.now) }
     requires asks { All (λ line. is_reading line ≡ true) (bytes_of lines.now) }
-    requires of_setup { table.session.setup.now ≡ kept.old.setup.now.setup }
-    requires reads { Reads ⟦<FileDevice<R> as Device>⟧.content kept.old.setup.now.setup (holding table.session.holders.held.table table.session.holders.held.names) table.journal }
-    ensures answered { IfOk result (λ count. HasAnswered kept.old.setup.now.setup (holding table.entry.session.holders.held.table table.entry.session.holders.held.names) (take count (bytes_of lines.now)) replies.old replies.new) }
-    ensures stopped { OnErr result (HasAnsweredFirst kept.old.setup.now.setup (holding table.entry.session.holders.held.table table.entry.session.holders.held.names) (bytes_of lines.now) replies.old replies.new) }
+    requires of_setup { table.session.setup.now ≡ kept.old.setup.now }
+    requires reads { Reads ⟦<FileDevice<R> as Device>⟧.content kept.old.setup.now (holding table.session.holders.held.table table.session.holders.held.names) table.journal }
+    ensures answered { IfOk result (λ count. HasAnswered kept.old.setup.now (holding table.entry.session.holders.held.table table.entry.session.holders.held.names) (take count (bytes_of lines.now)) replies.old replies.new) }
+    ensures stopped { OnErr result (HasAnsweredFirst kept.old.setup.now (holding table.entry.session.holders.held.table table.entry.session.holders.held.names) (bytes_of lines.now) replies.old replies.new) }
     ensures some { IfOk result (λ count. 0 < length lines.now → 0 < count) }
     ensures within { IfOk result (λ count. count ≤ length lines.now) }
     ensures setup { kept.new.setup.now ≡ kept.old.setup.now }
@@ -109,8 +109,8 @@ fn answer_reading<'s, 'r, R: Files<File = File> + Clock + AllocGlobal>(
 ) -> Result<usize, TableFault>
     requires lines { AreLines (bytes_of lines.now) }
     requires asks { All (λ line. is_reading line ≡ true) (bytes_of lines.now) }
-    ensures answered { IfOk result (λ count. HasAnsweredOver kept.old.setup.now.setup (take count (bytes_of lines.now)) replies.old replies.new) }
-    ensures stopped { OnErr result (HasStopped kept.old.setup.now.setup (bytes_of lines.now) replies.old replies.new) }
+    ensures answered { IfOk result (λ count. HasAnsweredOver kept.old.setup.now (take count (bytes_of lines.now)) replies.old replies.new) }
+    ensures stopped { OnErr result (HasStopped kept.old.setup.now (bytes_of lines.now) replies.old replies.new) }
     ensures some { IfOk result (λ count. 0 < length lines.now → 0 < count) }
     ensures within { IfOk result (λ count. count ≤ length lines.now) }
     ensures setup { kept.new.setup.now ≡ kept.old.setup.now }
@@ -163,8 +163,8 @@ pub(crate) fn changing_table<'s, 'r, R: Files<File = File> + Clock + AllocGlobal
     kept: &mut Kept<'s, FileDevice<&'r R>>,
     teller: &mut Teller<'_, E>,
 ) -> Result<FileTable<'s, &'r R>, TableFault>
-    ensures of_setup { IfOk result (λ t. t.session.setup.now ≡ kept.old.setup.now.setup) }
-    ensures stands { IfOk result (λ t. Stands ⟦<FileDevice<&'r R> as Device>⟧.content ⟦<FileDevice<&'r R> as Device>⟧.history kept.old.setup.now.setup (holding t.session.holders.held.table t.session.holders.held.names) t.journal) }
+    ensures of_setup { IfOk result (λ t. t.session.setup.now ≡ kept.old.setup.now) }
+    ensures stands { IfOk result (λ t. Stands ⟦<FileDevice<&'r R> as Device>⟧.content ⟦<FileDevice<&'r R> as Device>⟧.history kept.old.setup.now (holding t.session.holders.held.table t.session.holders.held.names) t.journal) }
     ensures setup { kept.new.setup.now ≡ kept.old.setup.now }
 {
     let alloc = shared.alloc();
@@ -190,10 +190,10 @@ fn answer_table<'s, R: Files + Drop>(
     replies: &mut Replies,
 ) -> Result<usize, TableFault>
     requires lines { AreLines (bytes_of lines.now) }
-    requires of_setup { table.session.setup.now ≡ kept.old.setup.now.setup }
-    requires stands { Stands ⟦<FileDevice<R> as Device>⟧.content ⟦<FileDevice<R> as Device>⟧.history kept.old.setup.now.setup (holding table.session.holders.held.table table.session.holders.held.names) table.journal }
-    ensures answered { IfOk result (λ count. HasAnswered kept.old.setup.now.setup (holding table.entry.session.holders.held.table table.entry.session.holders.held.names) (take count (bytes_of lines.now)) replies.old replies.new) }
-    ensures stopped { OnErr result (HasAnsweredFirst kept.old.setup.now.setup (holding table.entry.session.holders.held.table table.entry.session.holders.held.names) (bytes_of lines.now) replies.old replies.new) }
+    requires of_setup { table.session.setup.now ≡ kept.old.setup.now }
+    requires stands { Stands ⟦<FileDevice<R> as Device>⟧.content ⟦<FileDevice<R> as Device>⟧.history kept.old.setup.now (holding table.session.holders.held.table table.session.holders.held.names) table.journal }
+    ensures answered { IfOk result (λ count. HasAnswered kept.old.setup.now (holding table.entry.session.holders.held.table table.entry.session.holders.held.names) (take count (bytes_of lines.now)) replies.old replies.new) }
+    ensures stopped { OnErr result (HasAnsweredFirst kept.old.setup.now (holding table.entry.session.holders.held.table table.entry.session.holders.held.names) (bytes_of lines.now) replies.old replies.new) }
     ensures some { IfOk result (λ count. 0 < length lines.now → 0 < count) }
     ensures within { IfOk result (λ count. count ≤ length lines.now) }
     ensures setup { kept.new.setup.now ≡ kept.old.setup.now }
@@ -219,8 +219,8 @@ fn answer_changing<'s, 'r, R: Files<File = File> + Clock + AllocGlobal, E: Write
     teller: &mut Teller<'_, E>,
 ) -> Result<usize, TableFault>
     requires { AreLines (bytes_of lines.now) }
-    ensures answered { IfOk result (λ count. HasAnsweredOver kept.old.setup.now.setup (take count (bytes_of lines.now)) replies.old replies.new) }
-    ensures stopped { OnErr result (HasStopped kept.old.setup.now.setup (bytes_of lines.now) replies.old replies.new) }
+    ensures answered { IfOk result (λ count. HasAnsweredOver kept.old.setup.now (take count (bytes_of lines.now)) replies.old replies.new) }
+    ensures stopped { OnErr result (HasStopped kept.old.setup.now (bytes_of lines.now) replies.old replies.new) }
     ensures some { IfOk result (λ count. 0 < length lines.now → 0 < count) }
     ensures within { IfOk result (λ count. count ≤ length lines.now) }
     ensures setup { kept.new.setup.now ≡ kept.old.setup.now }
@@ -241,8 +241,8 @@ pub(crate) fn answer_in_tenure<'s, 'r, R: Files<File = File> + Clock + AllocGlob
     teller: &mut Teller<'_, E>,
 ) -> Result<usize, TableFault>
     requires { AreLines (bytes_of lines.now) }
-    ensures answered { IfOk result (λ count. HasAnsweredOver kept.old.setup.now.setup (take count (bytes_of lines.now)) replies.old replies.new) }
-    ensures stopped { OnErr result (HasStopped kept.old.setup.now.setup (bytes_of lines.now) replies.old replies.new) }
+    ensures answered { IfOk result (λ count. HasAnsweredOver kept.old.setup.now (take count (bytes_of lines.now)) replies.old replies.new) }
+    ensures stopped { OnErr result (HasStopped kept.old.setup.now (bytes_of lines.now) replies.old replies.new) }
     ensures some { IfOk result (λ count. 0 < length lines.now → 0 < count) }
     ensures within { IfOk result (λ count. count ≤ length lines.now) }
     ensures setup { kept.new.setup.now ≡ kept.old.setup.now }

@@ -3,8 +3,8 @@ use Rattle.modprobe.specs.Setup.{Setup}
 use Rattle.held_lines.specs.Held.{holding}
 use Rattle.table_adopt.specs.Kernel.{modules_of_text}
 use Rattle.table_adopt.specs.declared.kernel.KernelModule.{KernelModule}
-use Rattle.table_folder.specs.declared.folder_setup.FolderSetup.{FolderSetup}
 use Rattle.gz_table_drive.specs.Adopting.{HasAdopted}
+use Rattle.table_folder.specs.declared.folder_setup.FolderSetup.{FolderSetup}
 use Rattle.gz_table_drive.proofs.TenureLemmas.{stands_for}
 use Rattle.gz_table_drive.proofs.adopt.adopt.Goals as goal
 
@@ -14,8 +14,8 @@ returns g c =
     let table = c.in_ok-table.table in
     let held = holding table.session.holders.held.table table.session.holders.held.names in
     let kernel = c.in_ok-kernel.kernel.items in
-    let same : c.new.result.setup.now ≡ found = c.new.ensures ∙ c.deref-2.ensures in
-    let own = stands_for c.new.result.setup.now.setup found.setup held c.in_ok-table.ensures.stands (ap (λ (f : FolderSetup). f.setup) same) in (
+    let same : c.new.result.setup.now ≡ found.setup = c.new.ensures ∙ ap (λ (f : FolderSetup). f.setup) c.deref-2.ensures in
+    let own = stands_for c.new.result.setup.now found.setup held c.in_ok-table.ensures.stands same in (
       c.new-replies.result,
       record { text = c.new-replies.ensures.text; endings = c.new-replies.ensures.endings },
       record {
@@ -29,7 +29,7 @@ returns g c =
         journal = own.0;
         held = held;
         stands = own.1;
-        answered = subst (λ (s : Setup). HasAdopted s held kernel c.new-replies.result c.adopt_file-adopted.new.replies) (c.in_ok-table.ensures.of_setup ∙ ap (λ (f : FolderSetup). f.setup) same)
+        answered = subst (λ (s : Setup). HasAdopted s held kernel c.new-replies.result c.adopt_file-adopted.new.replies) (c.in_ok-table.ensures.of_setup ∙ same)
             (subst (λ (ks : List KernelModule). HasAdopted table.session.setup.now held ks c.new-replies.result c.adopt_file-adopted.new.replies) c.deref-3.ensures.value c.in_ok-adopted.ensures);
       },
     )

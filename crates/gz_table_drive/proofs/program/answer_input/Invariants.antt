@@ -9,7 +9,7 @@ abbrev pub invariant-loop : goal.invariant-loop
 invariant-loop g l =
     record {
       begun : IsLine l.reader.begun.items;
-      written : AnswersSoFar l.initial.kept.setup.now.setup (g.I.Read.remaining l.fn.input) (text_left g.I.Read.remaining l.reader)
+      written : AnswersSoFar l.initial.kept.setup.now (g.I.Read.remaining l.fn.input) (text_left g.I.Read.remaining l.reader)
           (g.O.Write.contents l.initial.output) (g.O.Write.contents l.output) l.ending;
       setup : l.kept.setup.now ≡ l.initial.kept.setup.now;
     }
