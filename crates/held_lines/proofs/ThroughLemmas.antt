@@ -1,5 +1,5 @@
 -- What a session makes of the table.
-use Rattle.std.proofs.Common.{◌≡◌, ℕ, false, List, sym, ap, ◌∙◌}
+use Rattle.std.proofs.Common.{◌≡◌, ℕ, true, false, true≢false, List, sym, ap, ◌∙◌}
 use Rattle.dep_index.specs.Table.{Book, Table}
 use Rattle.modprobe.specs.Outcomes.{Outcome}
 use Rattle.held_lines.specs.declared.reply.HeldReply.{HeldReply}
@@ -26,4 +26,14 @@ answers_through t u names others meant r copy says becomes lists rows old new =
       says = says;
       leaves = same_holding meant.1 u names others becomes lists;
       same = λ unchanged. same_holding t u names others (same_table t u (same_book copy t u old (new unchanged)) (ap (λ (w : Table). w.rows) becomes ∙ rows)) lists;
+    }
+
+-- The same, where nobody looked whether the table is another.
+pub answers_unwatched : (t u : Table) (names others : List (List ℕ)) (meant : Outcome × Table) (reply : Outcome) (r : HeldReply) → reply ≡ meant.0 → u ≡ meant.1 → others ≡ names
+    → r ≡ record { reply = reply; changed = true } → Answers r (holding t names) (holding u others) (on_table (holding t names) meant)
+answers_unwatched t u names others meant reply r says becomes lists is =
+    record {
+      says = ap (λ (s : HeldReply). s.reply) is ∙ says;
+      leaves = same_holding meant.1 u names others becomes lists;
+      same = λ unchanged. absurd (true≢false (sym (ap (λ (s : HeldReply). s.changed) is) ∙ unchanged));
     }

@@ -12,7 +12,7 @@ use crate::reply::{HeldReply, refuse};
 use crate::same::is_same;
 use crate::snapshot::snapshot;
 use crate::takes::hold;
-use crate::through::{as_session, make_half, reply_to, reply_to_half};
+use crate::through::{Watch, as_session, make_half};
 use modprobe::{Code, Reply, Setup};
 use seq_table::Modules;
 use std::alloc::{AllocError, Global};
@@ -30,6 +30,7 @@ impl<'s, H: Holders> HeldSession<'s, H> {
     ghost use Rattle.held_lines.specs.Lines.{asked_of};
     ghost use Rattle.held_lines.specs.Outcomes.{asked_outcome, held_line_outcome};
     ghost use Rattle.held_lines.specs.ForProofs.{Answers, asked_from};
+    ghost use Rattle.held_lines.specs.declared.through.Watch.TheVariants.{Changes};
     ghost use Rattle.held_lines.specs.Laws.{KeepsHeld};
     ghost use Rattle.held_lines.specs.Reading.{is_reading};
     ghost use Rattle.held_lines.specs.Snapshots.{texts_in, snapshot_of};
@@ -88,74 +89,45 @@ impl<'s, H: Holders> HeldSession<'s, H> {
         ensures setup { self.new.setup ≡ self.old.setup }
     {
         self.holders.laws();
-        let answer = self.answer_line(alloc, line);
+        let answer = self.answer_line(alloc, line, Watch::Changes);
         self.holders.laws();
         answer
     }
 
-    /// Makes what a line asks for, as `perform` does, for whoever has no use for its reply. What the table was is not kept
-    /// beside it, so that a line takes no longer if more modules are loaded.
+    /// Makes what a line asks for, as `perform` does, for whoever has no use for its reply. It copies no book: only `perform` tells
+    /// whether anything changed.
     ///
     /// Out of memory, all is as before.
-    #[tactic(auto, unfolding(crate::specs::Outcomes::held_line_outcome))]
     pub fn replay(&mut self, alloc: Global, line: &[u8]) -> Result<(), AllocError>
         ensures leaves { OnOk result (holding (H.table self.new.holders) (H.names self.new.holders)
             ≡ (held_line_outcome self.old.setup.now (holding (H.table self.old.holders) (H.names self.old.holders)) line.now).1) }
         ensures unchanged { OnErr result (holding (H.table self.new.holders) (H.names self.new.holders) ≡ holding (H.table self.old.holders) (H.names self.old.holders)) }
         ensures setup { self.new.setup ≡ self.old.setup }
     {
-        if is_comment(line) {
-            reply_to(alloc, self.setup, &mut self.holders, line)?;
-            return Ok(());
-        }
-        let words = words(alloc, line)?;
-        let asked = parse(alloc, &words)?;
-        self.replay_asked(alloc, line, asked)
-    }
-
-    /// Makes what is asked for.
-    fn replay_asked(
-        &mut self,
-        alloc: Global,
-        line: &[u8],
-        asked: Asked<'_>,
-    ) -> Result<(), AllocError>
-        requires { asked_from asked ≡ asked_of line.now }
-        ensures leaves { OnOk result (holding (H.table self.new.holders) (H.names self.new.holders)
-            ≡ (asked_outcome self.old.setup.now (holding (H.table self.old.holders) (H.names self.old.holders)) line.now (asked_from asked.entry)).1) }
-        ensures unchanged { OnErr result (holding (H.table self.new.holders) (H.names self.new.holders) ≡ holding (H.table self.old.holders) (H.names self.old.holders)) }
-        ensures setup { self.new.setup ≡ self.old.setup }
-    {
-        let (setup, holders) = (self.setup, &mut self.holders);
-        match asked {
-            Asked::AsSession => {
-                reply_to(alloc, setup, holders, line)?;
-            }
-            Asked::Half(half, name) => {
-                reply_to_half(alloc, setup, holders, half, &name)?;
-            }
-            asked => {
-                self.answer(alloc, line, asked)?;
-            }
-        }
+        self.answer_line(alloc, line, Watch::Nothing)?;
         Ok(())
     }
 
     /// Makes what a line asks for.
     #[tactic(auto, unfolding(crate::specs::Outcomes::held_line_outcome))]
-    fn answer_line(&mut self, alloc: Global, line: &[u8]) -> Result<HeldReply, AllocError>
+    fn answer_line(
+        &mut self,
+        alloc: Global,
+        line: &[u8],
+        watch: Watch,
+    ) -> Result<HeldReply, AllocError>
         ensures answers { IfOk result (λ r. Answers r (holding (H.table self.old.holders) (H.names self.old.holders)) (holding (H.table self.new.holders) (H.names self.new.holders))
             (held_line_outcome self.old.setup.now (holding (H.table self.old.holders) (H.names self.old.holders)) line.now)) }
-        ensures asking { IfOk result (λ r. is_reading line.now ≡ true → r.changed ≡ false) }
+        ensures asking { watch ≡ Changes → IfOk result (λ r. is_reading line.now ≡ true → r.changed ≡ false) }
         ensures unchanged { OnErr result (holding (H.table self.new.holders) (H.names self.new.holders) ≡ holding (H.table self.old.holders) (H.names self.old.holders)) }
         ensures setup { self.new.setup ≡ self.old.setup }
     {
         if is_comment(line) {
-            return as_session(alloc, self.setup, &mut self.holders, line);
+            return as_session(alloc, self.setup, &mut self.holders, line, watch);
         }
         let words = words(alloc, line)?;
         let asked = parse(alloc, &words)?;
-        self.answer(alloc, line, asked)
+        self.answer(alloc, line, asked, watch)
     }
 
     /// Makes what is asked for.
@@ -164,22 +136,23 @@ impl<'s, H: Holders> HeldSession<'s, H> {
         alloc: Global,
         line: &[u8],
         asked: Asked<'_>,
+        watch: Watch,
     ) -> Result<HeldReply, AllocError>
         requires { asked_from asked ≡ asked_of line.now }
         ensures answers { IfOk result (λ r. Answers r (holding (H.table self.old.holders) (H.names self.old.holders)) (holding (H.table self.new.holders) (H.names self.new.holders))
             (asked_outcome self.old.setup.now (holding (H.table self.old.holders) (H.names self.old.holders)) line.now (asked_from asked.entry))) }
-        ensures asking { IfOk result (λ r. is_reading line.now ≡ true → r.changed ≡ false) }
+        ensures asking { watch ≡ Changes → IfOk result (λ r. is_reading line.now ≡ true → r.changed ≡ false) }
         ensures unchanged { OnErr result (holding (H.table self.new.holders) (H.names self.new.holders) ≡ holding (H.table self.old.holders) (H.names self.old.holders)) }
         ensures setup { self.new.setup ≡ self.old.setup }
     {
         let (setup, holders) = (self.setup, &mut self.holders);
         match asked {
-            Asked::AsSession => as_session(alloc, setup, holders, line),
+            Asked::AsSession => as_session(alloc, setup, holders, line, watch),
             Asked::Malformed(first) => refuse(alloc, Code::Syntax, first),
             Asked::Refer(reference, holder, name) => {
                 refer(alloc, setup, holders, reference, holder, &name)
             }
-            Asked::Half(half, name) => make_half(alloc, setup, holders, half, &name),
+            Asked::Half(half, name) => make_half(alloc, setup, holders, half, &name, watch),
             Asked::Hold(again, holder, names) => {
                 hold(alloc, setup, holders, again, holder, names)
             }

@@ -1,11 +1,12 @@
 //! What a session answers over the table: its lines, and halves of loads and removals.
-ghost use Rattle.std.specs.Prelude.{◌≡◌, false, IfOk, OnOk, OnErr};
+ghost use Rattle.std.specs.Prelude.{◌≡◌, true, false, IfOk, OnOk, OnErr};
 ghost use Rattle.dep_index.specs.Catalogue.{modules_of};
 ghost use Rattle.modprobe.specs.Session.{half_outcome, line_outcome};
 ghost use Rattle.held_lines.specs.Held.{holding};
 ghost use Rattle.held_lines.specs.Lines.{as_session, asked_of};
 ghost use Rattle.held_lines.specs.Outcomes.{on_table};
 ghost use Rattle.held_lines.specs.ForProofs.{Answers};
+ghost use Rattle.held_lines.specs.declared.through.Watch.TheVariants.{Changes};
 
 use crate::book_copy::BookCopy;
 use crate::holders::Holders;
@@ -14,6 +15,23 @@ use modprobe::{Half, Reply, Session, Setup};
 use seq_table::Modules;
 use std::alloc::{AllocError, Global};
 use text_parts::Name;
+
+/// What is looked at to tell whether a line changed the table: its book, before and after, or nothing.
+#[derive(Clone, Copy, Debug, PartialEq, Eq, Drop)]
+pub(crate) enum Watch {
+    Changes,
+    Nothing,
+}
+
+/// The reply to a line that may have changed the table: nobody looked.
+fn unwatched(reply: Reply) -> HeldReply
+    ensures { result ≡ record { reply = reply; changed = true } }
+{
+    HeldReply {
+        reply,
+        changed: true,
+    }
+}
 
 /// What a session replies to a line, which it makes. The holders stay.
 pub(crate) fn reply_to<H: Holders>(
@@ -38,19 +56,28 @@ pub(crate) fn as_session<H: Holders>(
     setup: &Setup,
     holders: &mut H,
     line: &[u8],
+    watch: Watch,
 ) -> Result<HeldReply, AllocError>
     requires over { H.catalogue holders.old ≡ modules_of setup.now.catalogue }
     requires asked { asked_of line.now ≡ as_session }
     ensures answers { IfOk result (λ r. Answers r (holding (H.table holders.old) (H.names holders.old)) (holding (H.table holders.new) (H.names holders.new))
         (on_table (holding (H.table holders.old) (H.names holders.old)) (line_outcome setup.now (H.table holders.old) line.now))) }
-    ensures idle { IfOk result (λ r. (line_outcome setup.now (H.table holders.old) line.now).1 ≡ H.table holders.old → r.changed ≡ false) }
+    ensures idle { watch ≡ Changes → IfOk result (λ r. (line_outcome setup.now (H.table holders.old) line.now).1 ≡ H.table holders.old → r.changed ≡ false) }
     ensures unchanged { OnErr result (holding (H.table holders.new) (H.names holders.new) ≡ holding (H.table holders.old) (H.names holders.old)) }
     ensures over { H.catalogue holders.new ≡ H.catalogue holders.old }
 {
-    let before = BookCopy::of(alloc, holders)?;
-    let reply = reply_to(alloc, setup, holders, line)?;
-    let changed = !before.is_of(holders);
-    Ok(HeldReply { reply, changed })
+    match watch {
+        Watch::Changes => {
+            let before = BookCopy::of(alloc, holders)?;
+            let reply = reply_to(alloc, setup, holders, line)?;
+            let changed = !before.is_of(holders);
+            Ok(HeldReply { reply, changed })
+        }
+        Watch::Nothing => {
+            let reply = reply_to(alloc, setup, holders, line)?;
+            Ok(unwatched(reply))
+        }
+    }
 }
 
 /// What a session replies to half of a load or of a removal, which it makes. The holders stay.
@@ -78,16 +105,25 @@ pub(crate) fn make_half<H: Holders>(
     holders: &mut H,
     half: Half,
     name: &Name,
+    watch: Watch,
 ) -> Result<HeldReply, AllocError>
     requires over { H.catalogue holders.old ≡ modules_of setup.now.catalogue }
     ensures answers { IfOk result (λ r. Answers r (holding (H.table holders.old) (H.names holders.old)) (holding (H.table holders.new) (H.names holders.new))
         (on_table (holding (H.table holders.old) (H.names holders.old)) (half_outcome setup.now name.now half (H.table holders.old)))) }
-    ensures idle { IfOk result (λ r. (half_outcome setup.now name.now half (H.table holders.old)).1 ≡ H.table holders.old → r.changed ≡ false) }
+    ensures idle { watch ≡ Changes → IfOk result (λ r. (half_outcome setup.now name.now half (H.table holders.old)).1 ≡ H.table holders.old → r.changed ≡ false) }
     ensures unchanged { OnErr result (holding (H.table holders.new) (H.names holders.new) ≡ holding (H.table holders.old) (H.names holders.old)) }
     ensures over { H.catalogue holders.new ≡ H.catalogue holders.old }
 {
-    let before = BookCopy::of(alloc, holders)?;
-    let reply = reply_to_half(alloc, setup, holders, half, name)?;
-    let changed = !before.is_of(holders);
-    Ok(HeldReply { reply, changed })
+    match watch {
+        Watch::Changes => {
+            let before = BookCopy::of(alloc, holders)?;
+            let reply = reply_to_half(alloc, setup, holders, half, name)?;
+            let changed = !before.is_of(holders);
+            Ok(HeldReply { reply, changed })
+        }
+        Watch::Nothing => {
+            let reply = reply_to_half(alloc, setup, holders, half, name)?;
+            Ok(unwatched(reply))
+        }
+    }
 }
