@@ -44,15 +44,6 @@ impl Paths {
     }
 }
 
-/// A journal's file, by the calls of the system. Each method makes its call, and reports what failed.
-#[derive(Drop)]
-pub(crate) struct DiskFile<R: Files + Drop> {
-    rt: R,
-    file: R::File,
-    paths: Paths,
-    syncs: Syncs,
-}
-
 /// The names in the folder of a journal.
 fn open_names<R: Files>(
     rt: &R,
@@ -83,6 +74,32 @@ fn read_bytes<F: Read + Seek>(
 fn write_bytes<F: Write + Seek>(file: &mut F, place: u64, bytes: &[u8]) -> io::Result<()> {
     file.seek(SeekFrom::Start(place))?;
     file.write_all(bytes)
+}
+
+/// Opens a journal's file, to read and to write.
+fn open_file<R: Files>(rt: &R, path: &str) -> Result<R::File, FileFault> {
+    let opened = File::options().read(true).write(true).open(rt, path);
+    let file = opened.map_err(|error| FileFault::of(Action::Open, Target::Journal, &error))?;
+    let known = file.metadata();
+    let known = known.map_err(|error| FileFault::of(Action::Open, Target::Journal, &error))?;
+    if known.is_file() {
+        Ok(file)
+    } else {
+        Err(FileFault {
+            action: Action::Open,
+            target: Target::Journal,
+            cause: Cause::NoFile,
+        })
+    }
+}
+
+/// A journal's file, by the calls of the system. Each method makes its call, and reports what failed.
+#[derive(Drop)]
+pub(crate) struct DiskFile<R: Files + Drop> {
+    rt: R,
+    file: R::File,
+    paths: Paths,
+    syncs: Syncs,
 }
 
 impl<R: Files + Drop> DiskFile<R> {
@@ -194,22 +211,5 @@ impl<R: Files + Drop> DiskFile<R> {
             }
         }
         names.sync().map_err(unsynced)
-    }
-}
-
-/// Opens a journal's file, to read and to write.
-fn open_file<R: Files>(rt: &R, path: &str) -> Result<R::File, FileFault> {
-    let opened = File::options().read(true).write(true).open(rt, path);
-    let file = opened.map_err(|error| FileFault::of(Action::Open, Target::Journal, &error))?;
-    let known = file.metadata();
-    let known = known.map_err(|error| FileFault::of(Action::Open, Target::Journal, &error))?;
-    if known.is_file() {
-        Ok(file)
-    } else {
-        Err(FileFault {
-            action: Action::Open,
-            target: Target::Journal,
-            cause: Cause::NoFile,
-        })
     }
 }
