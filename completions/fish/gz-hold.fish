@@ -58,6 +58,7 @@ end
 
 complete -c gz-hold -f -a '(__gz_hold_follow)'
 complete -c gz-hold -n 'test (count (__gz_hold_words)) = 0' -s h -l help -d 'Show a help text'
+complete -c gz-hold -n 'test (count (__gz_hold_words)) = 0' -s V -l version -d 'Show the version'
 complete -c gz-hold -n '__gz_hold_at 1 put' -l remove -d 'Remove what nobody holds then'
 complete -c gz-hold -n '__gz_hold_at 1 upgrade' -l wait -x -d 'How long it is tried'
 complete -c gz-hold -n '__gz_hold_ends' -a -- -d 'The command follows'

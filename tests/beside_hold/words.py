@@ -74,8 +74,17 @@ REFUSED = [
     Refused("remove nosuch . nosuch", 10, "error ENOENT nosuch\nerror ENOENT .\n", []),
 ]
 # The programs that a call needs. Those of the kernel's modules are stand-ins, which need STAND_INS_NEED.
-MODULES_NEED = "awk flock grep gz-modprobe gz-table insmod mkdir rmmod sed sleep tr wc".split()
-NEEDED = {"get one overlay": MODULES_NEED, "put --remove one": MODULES_NEED, "reap": ["awk", "gz-table", "sed"], "list": ["gz-table"], "-h": ["cat"]}
+TABLE_NEEDS = "awk flock grep gz-table mkdir sed sleep tr wc".split()
+NEEDED = {
+    "get one overlay": ["gz-modprobe", "insmod", *TABLE_NEEDS],
+    "check": TABLE_NEEDS,
+    "put --remove one": ["rmmod", *TABLE_NEEDS],
+    "put one": TABLE_NEEDS,
+    "reap": ["awk", "gz-table", "sed"],
+    "list": ["gz-table"],
+    "-h": ["cat"],
+    "--version": ["gz-table", "sed"],
+}
 STAND_INS_NEED = ["basename", "cat", "mv"]
 
 
@@ -115,29 +124,34 @@ def faults_of_lists(machine):
     return faults
 
 
+def faults_of_needs(machine, words, programs):
+    """What differs if a call has these programs alone, and if it has each but one."""
+    few = machine.room / f"needs of {words.split()[0]}"
+    few.mkdir()
+    for program in {*programs, *STAND_INS_NEED}:
+        (few / program).symlink_to(shutil.which(program, path=machine.surroundings["PATH"]))
+
+    def call():
+        return machine.call("env", f"PATH={few}", shutil.which(machine.shell[0]), GZ_HOLD, *words.split())
+
+    faults = []
+    for program in programs:
+        target = os.readlink(few / program)
+        (few / program).unlink()
+        found = call()
+        (few / program).symlink_to(target)
+        if found != ("", 3, [f"gz-hold: {program} is not on the path, and nothing was done"]):
+            faults.append(f"`{words}` without {program}: {found}")
+    found = call()
+    if found[1] != 0 or found[2]:
+        faults.append(f"`{words}` with few programs: {found}")
+    shutil.rmtree(few)
+    return faults
+
+
 def faults_of_missing(machine):
     """A program that is missing is named before anything is done, and no other is needed. The shell of busybox has most of them."""
     if machine.shell[0] == "busybox":
         return []
     machine.anew()
-    shell, few = shutil.which(machine.shell[0]), machine.room / "few"
-    few.mkdir()
-    for program in MODULES_NEED + STAND_INS_NEED:
-        (few / program).symlink_to(shutil.which(program, path=machine.surroundings["PATH"]))
-
-    def call(words):
-        return machine.call("env", f"PATH={few}", shell, GZ_HOLD, *words.split())
-
-    faults = []
-    for words, programs in NEEDED.items():
-        for program in programs:
-            target = os.readlink(few / program)
-            (few / program).unlink()
-            found = call(words)
-            (few / program).symlink_to(target)
-            if found != ("", 3, [f"gz-hold: {program} is not on the path, and nothing was done"]):
-                faults.append(f"`{words}` without {program}: {found}")
-        found = call(words)
-        if found[1] != 0 or found[2]:
-            faults.append(f"`{words}` with few programs: {found}")
-    return faults
+    return [fault for words, programs in NEEDED.items() for fault in faults_of_needs(machine, words, programs)]
