@@ -5,6 +5,7 @@ import os
 import shutil
 import signal
 import subprocess
+import sys
 import threading
 import time
 from pathlib import Path
@@ -16,6 +17,14 @@ MENDS = 12
 # At how many moments a call gets signals.
 MOMENTS = 6
 SIGNALS = (signal.SIGTERM, signal.SIGINT, signal.SIGHUP, signal.SIGQUIT)
+# A command that makes a file, waits for one, and makes another. It is no shell: that of busybox ignores SIGQUIT.
+COMMAND = """import sys, time
+from pathlib import Path
+begun, may_end, ended = map(Path, sys.argv[1:])
+begun.touch()
+while not may_end.exists():
+    time.sleep(0.05)
+ended.touch()"""
 
 
 def until(holds, seconds=20):
@@ -107,13 +116,12 @@ def faults_of_signal(machine, number, send):
     begun, may_end, ended = files = [machine.room / name for name in ("begun", "may_end", "ended")]
     for file in files:
         file.unlink(missing_ok=True)
-    command = f"echo >{begun}; until [ -e {may_end} ]; do sleep 0.05; done; echo >{ended}"
-    upgrade = begin_upgrade(machine, ["--", "sh", "-c", command])
+    upgrade = begin_upgrade(machine, ["--", sys.executable, "-c", COMMAND, *map(str, files)])
     if not until(begun.exists):
         return ["an upgrade has not begun"]
     send(upgrade.pid, number)
-    # The command gets the signal too if it is for all of the group, and not if busybox's shell goes on to ignore SIGQUIT for it.
-    gets_it = send is os.killpg and not (number == signal.SIGQUIT and "busybox" in machine.shell)
+    # The command gets the signal too if it is for all of the group.
+    gets_it = send is os.killpg
     if gets_it:
         until(lambda: upgrade.poll() is not None)
     may_end.touch()
