@@ -1,10 +1,19 @@
 """A disk that may lose what was not synced: it follows a program's calls, and says what a power cut may leave of a folder."""
 
+import os.path
 import re
 from dataclasses import dataclass, field
 
-CALL = re.compile(r"^(?:\[pid +\d+\] )?(\w+)\((.*)\) += (-?\d+)")
-CALLS = "openat,read,write,lseek,fsync,fdatasync,ftruncate,rename,mkdir,unlink,close"
+CALL = re.compile(r"^(\w+)\((.*)\) += (-?\d+)")
+# What strace(1) shows: each call with a path or a descriptor.
+CALLS = "%file,%desc"
+# Calls that change nothing of what files and folders hold, nor the place in a file.
+HARMLESS = set("execve access faccessat2 stat lstat fstat newfstatat statx readlink chmod fchmod lchown fchown".split())
+HARMLESS |= set("fchownat flock pread64 getdents64 fadvise64".split())
+
+
+class Unfollowed(Exception):
+    """A call that changes the folder, or may, and is not followed here."""
 
 
 def strings(arguments):
@@ -50,74 +59,134 @@ def changed(content, change):
     return content.ljust(place, b"\0")[:place] + data + content[place + len(data) :]
 
 
+@dataclass
+class Folder:
+    """What has a name in a folder, and what had it since the names were synced last: one of these a power cut leaves."""
+
+    names: dict = field(default_factory=dict)
+    since: dict = field(default_factory=dict)
+
+    def put(self, name, what):
+        """Gives a name to a file or a folder, or to none."""
+        self.since.setdefault(name, [None]).append(what)
+        self.names[name] = what
+
+    def sync(self):
+        self.since = {name: [what] for name, what in self.names.items()}
+
+    def left(self, rng):
+        """What a power cut may leave, by its names."""
+        chosen = {name: rng.choice(self.since[name]) for name in sorted(self.since)}
+        return {name: what.left(rng) for name, what in chosen.items() if what is not None}
+
+
 class Disk:
-    """The files of one folder by their names, and which of them the disk has under these names for sure."""
+    """One folder, with its files, in the folder above it, of which nothing else is followed."""
 
-    def __init__(self, folder):
-        self.folder, self.names, self.kept, self.open = str(folder), {}, {}, {}
+    def __init__(self, folder, files=None, unsynced=None):
+        """The folder is not there, or it is, with these files, all on the disk. Syncs of the name `unsynced` are not followed."""
+        self.folder, self.above, self.open, self.unsynced = str(folder), Folder(), {}, unsynced
+        if files is not None:
+            own = Folder({name: File(content, content) for name, content in files.items()})
+            own.sync()
+            self.above.put(os.path.basename(folder), own)
+            self.above.sync()
 
-    def name_of(self, path):
-        path = path.decode()
-        return path[len(self.folder) + 1 :] if path.startswith(self.folder + "/") else None
+    def place_of(self, path):
+        """The folder that a path's last name stands in, and that name; None if it is not followed."""
+        path = os.path.abspath(path.decode())
+        above, name = os.path.split(path)
+        if path == self.folder:
+            return self.above, name
+        if above == self.folder:
+            return self.above.names.get(os.path.basename(above)), name
+        return None
 
     def follow(self, line):
         """One line of strace. Returns the bytes that were written to standard output by it."""
-        call = CALL.match(line)
-        if not call or int(call[3]) < 0:
+        if line.startswith(("---", "+++")):
             return b""
+        call = CALL.match(line)
+        if not call:
+            raise Unfollowed(line)
         name, arguments, result = call[1], call[2], int(call[3])
+        if result < 0 or name in HARMLESS:
+            return b""
         texts = strings(arguments)
-        descriptor = int(arguments.split(",")[0]) if re.match(r"\d+", arguments) else None
-        if name == "openat":
-            self.opened(texts[0], arguments, result)
-        elif name == "close":
-            self.open.pop(descriptor, None)
-        elif name == "rename":
-            source, target = (self.name_of(it) for it in texts)
-            self.names[target] = self.names.pop(source)
-        elif name == "unlink" and self.name_of(texts[0]):
-            self.names.pop(self.name_of(texts[0]))
-        elif name == "write" and descriptor == 1:
+        if name == "write" and arguments.startswith("1,"):
             return texts[0][:result]
-        elif descriptor in self.open:
-            self.at_file(name, descriptor, texts, arguments, result)
+        if how := getattr(self, f"at_{name}", None):
+            how(arguments, texts, result)
+        elif any(map(self.place_of, texts)) or any(int(it) in self.open for it in re.findall(r"\b\d+\b", arguments)):
+            raise Unfollowed(line)
         return b""
 
-    def opened(self, path, arguments, descriptor):
-        if path.decode() == self.folder:
-            self.open[descriptor] = [None, 0]
-        name = self.name_of(path)
-        if name is None:
+    def at_openat(self, arguments, texts, descriptor):
+        if not arguments.startswith("AT_FDCWD,"):
+            raise Unfollowed(f"openat({arguments})")
+        if os.path.abspath(texts[0].decode()) == os.path.dirname(self.folder):
+            self.open[descriptor] = [self.above, 0, "above"]
             return
-        if name not in self.names:
-            self.names[name] = File()
-        file = self.names[name]
-        if "O_TRUNC" in arguments and file.seen:
-            file.change((0, None))
-        self.open[descriptor] = [file, len(file.seen) if "O_APPEND" in arguments else 0]
+        place = self.place_of(texts[0])
+        if place is None:
+            return
+        folder, name = place
+        if folder.names.get(name) is None:
+            folder.put(name, File())
+        what = folder.names[name]
+        if "O_TRUNC" in arguments and what.seen:
+            what.change((0, None))
+        self.open[descriptor] = [what, len(what.seen) if "O_APPEND" in arguments else 0, name]
 
-    def at_file(self, name, descriptor, texts, arguments, result):
-        file, place = self.open[descriptor]
-        if name in ("fsync", "fdatasync"):
-            if file is None:
-                self.kept = dict(self.names)
-            else:
-                file.sync()
-        elif name == "lseek":
-            self.open[descriptor][1] = result
-        elif name == "read":
-            self.open[descriptor][1] += result
-        elif name == "write":
-            file.change((place, texts[0][:result]))
-            self.open[descriptor][1] += result
-        elif name == "ftruncate":
-            file.change((int(arguments.split(",")[1]), None))
+    def at_close(self, arguments, _, __):
+        self.open.pop(int(arguments), None)
+
+    def at_mkdir(self, _, texts, __):
+        if place := self.place_of(texts[0]):
+            place[0].put(place[1], Folder())
+
+    def at_rename(self, _, texts, __):
+        places = [self.place_of(it) for it in texts]
+        if None in places:
+            raise Unfollowed(f"rename({texts})")
+        (folder, source), (target_folder, target) = places
+        target_folder.put(target, folder.names[source])
+        folder.put(source, None)
+
+    def at_unlink(self, _, texts, __):
+        if place := self.place_of(texts[0]):
+            place[0].put(place[1], None)
+
+    def at_fsync(self, arguments, _, __):
+        opened = self.open.get(int(arguments))
+        if opened and opened[2] != self.unsynced:
+            opened[0].sync()
+
+    at_fdatasync = at_fsync
+
+    def at_lseek(self, arguments, _, result):
+        if opened := self.open.get(int(arguments.split(",")[0])):
+            opened[1] = result
+
+    def at_read(self, arguments, _, result):
+        if opened := self.open.get(int(arguments.split(",")[0])):
+            opened[1] += result
+
+    def at_write(self, arguments, texts, result):
+        if opened := self.open.get(int(arguments.split(",")[0])):
+            opened[0].change((opened[1], texts[0][:result]))
+            opened[1] += result
+
+    def at_ftruncate(self, arguments, _, __):
+        descriptor, length = arguments.split(", ")
+        if opened := self.open.get(int(descriptor)):
+            opened[0].change((int(length), None))
 
     def left(self, rng):
-        """The files that a power cut may leave, by their names. Each name is as it is now or as it is kept."""
-        found = {}
-        for name in sorted({*self.names, *self.kept}):
-            file = rng.choice([self.names, self.kept]).get(name)
-            if file is not None:
-                found[name] = file.left(rng)
-        return found
+        """The files that a power cut may leave in the folder, by their names; None if it leaves no folder."""
+        return self.above.left(rng).get(os.path.basename(self.folder))
+
+    def content(self, name):
+        """What a reader sees of a file in the folder; nothing if it is not there."""
+        file = self.above.names[os.path.basename(self.folder)].names.get(name)
+        return file.seen if file else b""
