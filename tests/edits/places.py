@@ -1,7 +1,7 @@
 """Must-fail edits: their texts, and the functions whose bodies they change."""
 
 import re
-from dataclasses import dataclass
+from dataclasses import dataclass, field
 from pathlib import Path
 
 PARTS = ("src", "specs", "proofs")
@@ -15,12 +15,13 @@ class BadEdit(Exception):
 
 @dataclass
 class Crate:
-    """A crate's folder, its line of crates.txt, and the libraries of the repository below it, lowest first."""
+    """A crate's folder, its line of crates.txt, what it uses, and the libraries of the repository below it, lowest first."""
 
     name: str
     line: str
-    below: list
+    uses: list
     folder: Path
+    below: list = field(default_factory=list)
 
     def texts(self):
         """The texts of the crate, by their paths."""
@@ -64,7 +65,7 @@ def crates_of(root):
 
 
 def all_below(crates, name):
-    uses = {it for it in crates[name].below if it in crates}
+    uses = {it for it in crates[name].uses if it in crates}
     return uses.union(*(all_below(crates, it) for it in uses))
 
 

@@ -24,10 +24,12 @@ class Report:
         self.checked = set(re.findall(r"(?m)^checked ([^\s,]+)", said))
 
     def has_verdict(self):
-        return re.search("(?m)^logic=", self.said) is not None
+        return re.search("(?m)^(logic|only)=", self.said) is not None
 
     def is_refused(self):
-        return re.search("(?m)^logic=not-proved", self.said) is not None
+        """Whether the crate, or one of the functions asked for, is not proved."""
+        only = re.search(r"(?m)^only=(\d+) proved=(\d+)$", self.said)
+        return only[1] != only[2] if only else re.search("(?m)^logic=not-proved", self.said) is not None
 
     def refused(self):
         """The functions that are not proved."""
