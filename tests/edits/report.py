@@ -3,7 +3,8 @@
 import re
 
 FUNCTION_LINE = re.compile(r"fn (\S+): (.*)")
-PROVED = re.compile(r"(?:proved|assumed)(?:[,;:].*)?")
+# (the last two where another function's proof is a hole)
+PROVED = re.compile(r"(?:proved|assumed|no holes|depends on a hole)(?:[ ,;:].*)?")
 ERROR_LINE = re.compile(r"(?:\./)?(\S+?):\d+:\d+: error(?:\[[\w-]+\])?: (?:(`[^`]*`): )?(.*)")
 CALLS = re.compile(r"(?:; )?it calls ((?:`[^`]+`(?: and )?)+), which (?:is|are) not proved")
 STANDS_ON = re.compile(r"it stands on (.*?), which antt refuses")
@@ -28,8 +29,7 @@ class Report:
 
     def is_refused(self):
         """Whether the crate, or one of the functions asked for, is not proved."""
-        only = re.search(r"(?m)^only=(\d+) proved=(\d+)$", self.said)
-        return only[1] != only[2] if only else re.search("(?m)^logic=not-proved", self.said) is not None
+        return bool(self.refused()) or re.search("(?m)^logic=not-proved", self.said) is not None
 
     def refused(self):
         """The functions that are not proved."""
@@ -86,5 +86,6 @@ def judged(edit, report, is_alone):
     cause = next(filter(None, (own_cause(name, report) for name in own)), None)
     if is_alone:
         return True, cause or report.verdicts[own[0]]
-    others = {it for name in own for it in called(report.verdicts[name]) if not belongs(it, edit.functions)}
+    calls = {it for name in own for it in called(report.verdicts[name])}
+    others = {it for it in calls & report.refused() if not belongs(it, edit.functions)}
     return (None, "") if others or not cause else (True, cause)

@@ -5,6 +5,7 @@ import shutil
 import subprocess
 from pathlib import Path
 
+from edits.cut import cut_others
 from edits.places import PARTS
 from edits.report import Report
 
@@ -67,7 +68,7 @@ class ProvingRoom(Room):
             if status:
                 raise NotProved(f"without an edit it is not proved, so none was tried:\n{said[-2000:]}")
 
-    def check(self, crate, changed, _asked):
+    def check(self, crate, changed, _asked, _kept):
         """Checks a copy of the proved crate in which these files are changed."""
         copy = self.repository(crate, "changed")
         copy_parts(self.proved(crate.name), copy)
@@ -93,7 +94,8 @@ class ProvingRoom(Room):
 
 
 class BuiltRoom(Room):
-    """Checks the functions that edits change, and no others, over the libraries that rt ci built in this working tree."""
+    """Checks the functions that edits change, over the contracts of the others and the libraries that rt ci built in this
+    working tree."""
 
     # each round goes on from the one before it
     begins_anew = False
@@ -106,15 +108,19 @@ class BuiltRoom(Room):
         """Proves nothing, since rt ci did: the libraries below the crate have only to be there."""
         missing = [name for name in crate.below if not (library_of(self.crates[name]) / "format").is_file()]
         if missing:
-            raise NotProved(f"rt ci has not built {missing[0]} here, so no edit was tried")
+            raise NotProved(f"rt ci has not built {missing[0]} here: run rt ci first")
 
-    def check(self, crate, changed, asked):
-        """Checks the functions asked for, or all where none is, of a copy of the crate in which these files are changed."""
+    def check(self, crate, changed, asked, kept):
+        """Checks a copy of the crate in which these files are changed: the functions or modules asked for, over the contracts of
+        all functions but those kept, or with none asked for the whole crate."""
         copy = self.folder / "changed" / crate.name
         shutil.rmtree(copy, ignore_errors=True)
         copy_parts(crate.folder, copy)
         write_all(copy, changed)
         only = [word for it in sorted(asked) for word in ("--only", it)]
+        if only:
+            cut_others(crate, copy, {**crate.texts(), **changed}, lambda path, name: path in kept or name in kept)
+            only.append("--allow-holes")
         return Report(self.run(copy, *self.words(crate), *only)[1])
 
     def words(self, crate):
