@@ -12,13 +12,13 @@ pub {name}_spec : {{M : Type 1}} → statement M
 """
 
 
-def cut_others(crate, folder, texts, stays):
+def cut_others(crate, folder, texts, kept):
     """Takes away the bodies and the proofs of the functions in the folder, a copy of the crate with these texts, but of those
-    for which stays(path, name) holds. Each has a hole for its proof, so that its callers are checked over its contract."""
+    kept. Each has a hole for its proof, so that its callers are checked over its contract."""
     for path in (it for it in texts if it.startswith("src/")):
         lines = texts[path].split("\n")
         for start, end, name in reversed(list(bodies_in(crate, texts, path))):
-            if not stays(path, name):
+            if name not in kept:
                 lines[start + 1 : end] = [lines[end][:-1] + "    unreachable!()"]
                 leave_hole(folder, *name.split("::"))
         (folder / path).write_text("\n".join(lines), encoding="utf-8")

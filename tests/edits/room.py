@@ -111,15 +111,15 @@ class BuiltRoom(Room):
             raise NotProved(f"rt ci has not built {missing[0]} here: run rt ci first")
 
     def check(self, crate, changed, asked, kept):
-        """Checks a copy of the crate in which these files are changed: the functions or modules asked for, over the contracts of
-        all functions but those kept, or with none asked for the whole crate."""
+        """Checks a copy of the crate in which these files are changed: the functions asked for, over the contracts of all
+        others but those kept, or with none asked for the whole crate."""
         copy = self.folder / "changed" / crate.name
         shutil.rmtree(copy, ignore_errors=True)
         copy_parts(crate.folder, copy)
         write_all(copy, changed)
         only = [word for it in sorted(asked) for word in ("--only", it)]
         if only:
-            cut_others(crate, copy, {**crate.texts(), **changed}, lambda path, name: path in kept or name in kept)
+            cut_others(crate, copy, {**crate.texts(), **changed}, kept)
             only.append("--allow-holes")
         return Report(self.run(copy, *self.words(crate), *only)[1])
 
