@@ -1,6 +1,8 @@
 //! Catalogues and modules.dep texts: what is read of them, their first faults, their limits.
 
-use crate::texts::{CIRCLE, Rest, behind, behind_name_lines, behind_names, holds, holds_at};
+use crate::texts::{
+    CIRCLE, Rest, SOUND, behind, behind_name_lines, behind_names, holds, holds_at, holds_or_short,
+};
 use dep_index::{
     CatError, Catalogue, DepError, DepIndex, Param, ParamKind, Scalar, Slots, read_catalogue,
     read_dep,
@@ -50,14 +52,12 @@ fn behind_module<'a>(
     rest: Rest<'a>,
     catalogue: &Catalogue,
     slot: usize,
-) -> Rest<'a> {
+) -> Result<Rest<'a>, AllocError> {
     if slot >= catalogue.len() {
-        return None;
+        return Ok(None);
     }
     let (size, needs) = (catalogue.size(slot), catalogue.needs(slot));
-    let Ok(numbers) = format!(in alloc; ": size {size}, needs {needs:?}, softneeds") else {
-        return None;
-    };
+    let numbers = format!(in alloc; ": size {size}, needs {needs:?}, softneeds")?;
     let rest = behind(rest, &[catalogue.name(slot), numbers.as_bytes()]);
     let rest = behind_names(rest, catalogue.softneeds(slot));
     let unknown = if catalogue.unknown_symbol(slot) {
@@ -70,26 +70,34 @@ fn behind_module<'a>(
     } else {
         b""
     };
-    behind_params(behind(rest, &[unknown, permanent]), catalogue.params(slot))
+    let rest = behind(rest, &[unknown, permanent]);
+    Ok(behind_params(rest, catalogue.params(slot)))
 }
 
-/// Whether these are all modules of the catalogue, one a line.
-fn are_modules(alloc: Global, read: Result<Catalogue, CatError>, wanted: &[u8]) -> bool {
-    let Ok(catalogue) = read else {
-        return false;
-    };
+/// Whether these are all modules of the catalogue, one a line, and it has as many slots.
+fn are_modules(alloc: Global, catalogue: &Catalogue, wanted: &[u8]) -> Result<bool, AllocError> {
     let mut rest = Some(wanted);
     for slot in 0..catalogue.len() {
-        rest = behind_module(alloc, rest, &catalogue, slot);
+        rest = behind_module(alloc, rest, catalogue, slot)?;
     }
-    matches!(rest, Some([]))
+    let is_all = catalogue.slots(alloc)?.len() == catalogue.len();
+    Ok(is_all && matches!(rest, Some([])))
 }
 
-const SOUND: &[u8] =
-    b"module snd\nsize 114688\nexports snd_card_new\nmodule snd-pcm\nsize 143360\nexports snd_pcm_new\nneeds snd_card_new\nparam debug bool\n";
+/// Whether the text is read as these modules.
+fn is_read(alloc: Global, text: &[u8], wanted: &[u8]) -> Result<bool, AllocError> {
+    match read_catalogue(alloc, text) {
+        Ok(catalogue) => are_modules(alloc, &catalogue, wanted),
+        Err(CatError::Memory) => Err(AllocError),
+        Err(_) => Ok(false),
+    }
+}
+
+const SOFT: &[u8] =
+    b"version 2\nmodule a\nsoftneeds d b\nmodule c\nneeds x y z\nmodule d\nexports x y\nmodule e\nexports z\n";
 
 /// What a row shows, a text, and what is read of it.
-static MODULES: [(&str, &[u8], &[u8]); 7] = [
+static MODULES: [(&str, &[u8], &[u8]); 9] = [
     (
         "a module with a parameter needs another, whose names have `_` for each `-`",
         SOUND,
@@ -116,6 +124,16 @@ static MODULES: [(&str, &[u8], &[u8]); 7] = [
         b"a: size 0, needs [], softneeds d b\nc: size 0, needs [], softneeds a\nd: size 0, needs [], softneeds\n",
     ),
     (
+        "a module with softneeds is permanent",
+        b"version 2\nmodule a\nsoftneeds d b\nmodule c\nsoftneeds a\npermanent\nmodule d\n",
+        b"a: size 0, needs [], softneeds d b\nc: size 0, needs [], softneeds a, permanent\nd: size 0, needs [], softneeds\n",
+    ),
+    (
+        "two needs of one module stand once",
+        SOFT,
+        b"a: size 0, needs [], softneeds d b\nc: size 0, needs [2, 3], softneeds\nd: size 0, needs [], softneeds\ne: size 0, needs [], softneeds\n",
+    ),
+    (
         "version 3 has softneeds, and all kinds of parameters",
         b"version 3\nmodule a\nsoftneeds b\nparam c charp\nparam b byte\nparam s short\nparam t ushort\nparam i int\nparam u uint\nparam l long\nparam m ulong\nparam n ullong\nparam h hexint\nparam f bool\nparam j bint\nparam g invbool\n",
         b"a: size 0, needs [], softneeds b, param c charp, param b byte, param s short, param t ushort, param i int, param u uint, param l long, param m ulong, param n ullong, param h hexint, param f bool, param j bint, param g invbool\n",
@@ -128,11 +146,13 @@ static MODULES: [(&str, &[u8], &[u8]); 7] = [
 ];
 
 #[test]
-fn modules(rt: HostRuntime) {
+fn modules(rt: HostRuntime) -> Result<(), AllocError> {
+    let mut whole = Ok(());
     for (shows, text, wanted) in &MODULES {
-        let read = read_catalogue(rt.alloc(), text);
-        holds(&rt, shows, are_modules(rt.alloc(), read, wanted));
+        let fact = is_read(rt.alloc(), text, wanted);
+        whole = whole.and(holds_or_short(&rt, shows, fact));
     }
+    whole
 }
 
 /// A name, and the slot of the module that has it in normal form.
@@ -142,180 +162,39 @@ static SLOTS: [(&str, Option<usize>); 3] = [
     ("snd-pcm", None),
 ];
 
-fn has_slot(read: Result<Catalogue, CatError>, name: &[u8], slot: Option<usize>) -> bool {
-    match read {
-        Ok(catalogue) => catalogue.slot(name) == slot,
-        Err(_) => false,
-    }
-}
-
 #[test]
-fn slots_of_names(rt: HostRuntime) {
+fn slots_of_names(rt: HostRuntime) -> Result<(), CatError> {
+    let catalogue = read_catalogue(rt.alloc(), SOUND)?;
     for (name, slot) in &SLOTS {
-        let read = read_catalogue(rt.alloc(), SOUND);
-        holds(&rt, name, has_slot(read, name.as_bytes(), *slot));
+        holds(&rt, name, catalogue.slot(name.as_bytes()) == *slot);
     }
+    Ok(())
 }
 
-fn is_second_over_first(made: Result<Slots, AllocError>) -> bool {
-    match made {
-        Ok(slots) => slots.len() == 2 && slots.needs(1) == [0u16].as_slice(),
-        Err(_) => false,
-    }
+/// Whether there are two modules, of which the second needs the first.
+fn is_second_over_first(slots: &Slots) -> bool {
+    slots.len() == 2 && slots.needs(0).is_empty() && slots.needs(1) == [0u16].as_slice()
+}
+
+/// Whether the slots of the catalogue and a copy of them are so.
+fn have_slots(alloc: Global, catalogue: &Catalogue) -> Result<bool, AllocError> {
+    let slots = catalogue.slots(alloc)?;
+    Ok(is_second_over_first(&slots) && is_second_over_first(&slots.copy(alloc)?))
+}
+
+/// Whether slots that are added one by one are so.
+fn are_added(alloc: Global) -> Result<bool, AllocError> {
+    let mut slots = Slots::new(alloc);
+    slots.push(Vec::new(alloc), false, true)?;
+    slots.push(vec![in alloc; 0u16]?, false, false)?;
+    Ok(is_second_over_first(&slots))
 }
 
 #[test]
 fn slots_of_a_catalogue(rt: HostRuntime) -> Result<(), CatError> {
     let catalogue = read_catalogue(rt.alloc(), SOUND)?;
-    assert!(rt; is_second_over_first(catalogue.slots(rt.alloc())));
+    assert!(rt; have_slots(rt.alloc(), &catalogue)? && are_added(rt.alloc())?);
     Ok(())
-}
-
-/// What a row shows, a text that is refused, and its first fault.
-static FAULTS: [(&str, &[u8], CatError); 27] = [
-    (
-        "two names are one in normal form",
-        b"module q\nmodule a-b\nmodule a_b\n",
-        CatError::Duplicate { line: 3 },
-    ),
-    (
-        "a module exports a symbol on two lines",
-        b"module q\nexports x\n# x\nexports y x\n",
-        CatError::TwiceExported { line: 4 },
-    ),
-    (
-        "a line exports a symbol twice",
-        b"module q\nexports x x\n",
-        CatError::TwiceExported { line: 2 },
-    ),
-    (
-        "two modules export a symbol",
-        b"module p\nexports x\nmodule q\nexports x\n",
-        CatError::TwiceExported { line: 4 },
-    ),
-    (
-        "softneeds want version 2",
-        b"module a\nsoftneeds d b\nmodule c\nsoftneeds a\nmodule d\n",
-        CatError::Bad { line: 2 },
-    ),
-    (
-        "a second version",
-        b"version 2\nversion 2\n",
-        CatError::Bad { line: 2 },
-    ),
-    (
-        "a version behind a module",
-        b"module a\nversion 2\n",
-        CatError::Bad { line: 2 },
-    ),
-    (
-        "a version with a leading zero",
-        b"version 02\n",
-        CatError::Bad { line: 1 },
-    ),
-    (
-        "a size before any module",
-        b"size 1\n",
-        CatError::Bad { line: 1 },
-    ),
-    (
-        "a second size",
-        b"module a\nsize 1\nsize 1\n",
-        CatError::Bad { line: 3 },
-    ),
-    (
-        "a size past 32 bits",
-        b"module a\nsize 4294967296\n",
-        CatError::Bad { line: 2 },
-    ),
-    (
-        "a size with leading zeros",
-        b"module a\nsize 00000000007\n",
-        CatError::Bad { line: 2 },
-    ),
-    (
-        "two parameters are one in normal form",
-        b"module a\nparam x-y int\nparam x_y bool\n",
-        CatError::Bad { line: 3 },
-    ),
-    (
-        "a kind of version 3 in version 1",
-        b"module a\nparam x long\n",
-        CatError::Bad { line: 2 },
-    ),
-    (
-        "a kind of version 3 in version 2",
-        b"version 2\nmodule a\nparam x uint\n",
-        CatError::Bad { line: 3 },
-    ),
-    (
-        "an array in version 1",
-        b"module a\nparam x int[]\n",
-        CatError::Bad { line: 2 },
-    ),
-    (
-        "an array in version 2",
-        b"version 2\nmodule a\nparam x bool[]\n",
-        CatError::Bad { line: 3 },
-    ),
-    (
-        "a kind of version 3 before any module",
-        b"version 3\nparam x uint\n",
-        CatError::Bad { line: 2 },
-    ),
-    (
-        "an array of texts",
-        b"version 3\nmodule a\nparam x charp[]\n",
-        CatError::Bad { line: 3 },
-    ),
-    (
-        "an array of arrays",
-        b"version 3\nmodule a\nparam x int[][]\n",
-        CatError::Bad { line: 3 },
-    ),
-    (
-        "an array of nothing",
-        b"version 3\nmodule a\nparam x []\n",
-        CatError::Bad { line: 3 },
-    ),
-    (
-        "an array with a blank in its word",
-        b"version 3\nmodule a\nparam x int []\n",
-        CatError::Bad { line: 3 },
-    ),
-    (
-        "a kind that no version has",
-        b"version 3\nmodule a\nparam x u64\n",
-        CatError::Bad { line: 3 },
-    ),
-    (
-        "a version that is not there",
-        b"version 4\n",
-        CatError::Bad { line: 1 },
-    ),
-    (
-        "two versions",
-        b"version 2\nversion 3\n",
-        CatError::Bad { line: 2 },
-    ),
-    (
-        "a word behind `permanent`",
-        b"module a\npermanent yes\n",
-        CatError::Bad { line: 2 },
-    ),
-    (
-        "two names of a module",
-        b"module a b\nmodule a\n",
-        CatError::Bad { line: 1 },
-    ),
-];
-
-#[test]
-fn first_faults(rt: HostRuntime) {
-    for (shows, text, fault) in &FAULTS {
-        let found = read_catalogue(rt.alloc(), text).err();
-        holds(&rt, shows, found == Some(*fault));
-    }
 }
 
 /// Behind this head, so many modules, each on a line of its own.
@@ -365,10 +244,7 @@ static DEPS: [(&str, &[u8]); 4] = [
     ("x-1", b"no line\n"),
 ];
 
-fn has_deps(read: Result<DepIndex, DepError>, name: &[u8], wanted: &[u8]) -> bool {
-    let Ok(index) = read else {
-        return false;
-    };
+fn has_deps(index: &DepIndex, name: &[u8], wanted: &[u8]) -> bool {
     match index.deps(name) {
         Some(names) => matches!(behind_name_lines(Some(wanted), names), Some([])),
         None => wanted == b"no line\n".as_slice(),
@@ -376,53 +252,12 @@ fn has_deps(read: Result<DepIndex, DepError>, name: &[u8], wanted: &[u8]) -> boo
 }
 
 #[test]
-fn dependencies(rt: HostRuntime) {
+fn dependencies(rt: HostRuntime) -> Result<(), DepError> {
+    let index = read_dep(rt.alloc(), DEPENDENCIES)?;
     for (name, wanted) in &DEPS {
-        let read = read_dep(rt.alloc(), DEPENDENCIES);
-        holds(&rt, name, has_deps(read, name.as_bytes(), wanted));
+        holds(&rt, name, has_deps(&index, name.as_bytes(), wanted));
     }
-}
-
-/// What a row shows, a modules.dep text that is refused, and its first fault.
-static DEP_FAULTS: [(&str, &[u8], DepError); 6] = [
-    (
-        "no colon",
-        b"kernel/a.ko kernel/b.ko\n",
-        DepError::NoColon { line: 1 },
-    ),
-    (
-        "nothing before the colon",
-        b"a.ko:\n:\n",
-        DepError::EmptyName { line: 2 },
-    ),
-    (
-        "nothing before the ending",
-        b"kernel/.ko: a.ko\n",
-        DepError::EmptyName { line: 1 },
-    ),
-    (
-        "nothing behind the last slash",
-        b"a.ko: b.ko kernel/\n",
-        DepError::EmptyName { line: 1 },
-    ),
-    (
-        "a second line of a name in normal form",
-        b"a-b.ko:\n\nx/a_b.ko.gz: c.ko\n",
-        DepError::SecondLine { line: 3 },
-    ),
-    (
-        "an empty name comes before a second line",
-        b"a.ko:\na.ko: .ko\n",
-        DepError::EmptyName { line: 2 },
-    ),
-];
-
-#[test]
-fn first_dep_faults(rt: HostRuntime) {
-    for (shows, text, fault) in &DEP_FAULTS {
-        let found = read_dep(rt.alloc(), text).err();
-        holds(&rt, shows, found == Some(*fault));
-    }
+    Ok(())
 }
 
 /// A catalogue that is cut anywhere has a meaning or a first fault, and never wants memory.
@@ -441,39 +276,4 @@ fn prefixes_of_dependencies(rt: HostRuntime) {
         let fault = read_dep(rt.alloc(), &DEPENDENCIES[..end]).err();
         holds_at(&rt, end, fault != Some(DepError::Memory));
     }
-}
-
-const SOFT: &[u8] =
-    b"version 2\nmodule a\nsoftneeds d b\nmodule c\nneeds x y z\nmodule d\nexports x y\nmodule e\nexports z\n";
-
-/// The text is read and its slots are as many as its modules, or memory is wanting.
-fn is_read_or_memory(alloc: Global, text: &[u8]) -> bool {
-    match read_catalogue(alloc, text) {
-        Ok(catalogue) => match catalogue.slots(alloc) {
-            Ok(slots) => slots.len() == catalogue.len(),
-            Err(_) => true,
-        },
-        Err(error) => error == CatError::Memory,
-    }
-}
-
-fn has_line_or_memory(alloc: Global, text: &[u8], name: &[u8]) -> bool {
-    match read_dep(alloc, text) {
-        Ok(index) => index.deps(name).is_some(),
-        Err(error) => error == DepError::Memory,
-    }
-}
-
-/// With ample memory all is read. Under an allocator that refuses, out of memory is the one fault.
-#[test]
-fn no_other_fault(rt: HostRuntime) {
-    for text in [SOUND, SOFT] {
-        assert!(rt; is_read_or_memory(rt.alloc(), text));
-    }
-}
-
-/// As `no_other_fault`, of a modules.dep text.
-#[test]
-fn no_other_dep_fault(rt: HostRuntime) {
-    assert!(rt; has_line_or_memory(rt.alloc(), DEPENDENCIES, b"a"));
 }

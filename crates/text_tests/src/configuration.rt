@@ -1,6 +1,6 @@
 //! Configurations: what their lines say of a name, lines that are joined, lines without effect.
 
-use crate::texts::{Rest, behind, behind_names, holds, holds_at};
+use crate::texts::{CONFIGURATION, Rest, behind, behind_names, holds, holds_at, holds_or_short};
 use modprobe_conf::{Conf, Softdep, Word, read_conf};
 use std::alloc::{AllocError, Global};
 
@@ -31,10 +31,7 @@ fn line_if(is_said: bool, line: &'static [u8]) -> &'static [u8] {
 }
 
 /// Whether this is all that the configuration says of a name, as its lines would say it without the name.
-fn says(read: Result<Conf, AllocError>, name: &[u8], wanted: &[u8]) -> bool {
-    let Ok(conf) = read else {
-        return false;
-    };
+fn says(conf: &Conf, name: &[u8], wanted: &[u8]) -> bool {
     let rest = behind_options(Some(wanted), conf.options(name));
     let rest = behind_softdep(rest, conf.softdep(name));
     let install = line_if(conf.install_line(name), b"install\n");
@@ -63,7 +60,7 @@ const OTHER_BYTES: &[u8] =
 const CARRIAGE_RETURNS: &[u8] = b"options a p \\\r\nq\\\r\r\noptions b r \\ s\n";
 
 /// What a row shows, a text, a name, and what the text says of it.
-static SAID: [(&str, &[u8], &[u8], &[u8]); 24] = [
+static SAID: [(&str, &[u8], &[u8], &[u8]); 28] = [
     (
         "a softdep line and an options line of one name",
         ITEMS,
@@ -188,18 +185,49 @@ static SAID: [(&str, &[u8], &[u8], &[u8]); 24] = [
         b"b",
         b"options r \\ s\n",
     ),
+    (
+        "options beside lines of all kinds",
+        CONFIGURATION,
+        b"y",
+        b"options debug=1 level=3\n",
+    ),
+    (
+        "a softdep line beside lines of all kinds",
+        CONFIGURATION,
+        b"z",
+        b"softdep pre: y post:\ninstall\n",
+    ),
+    (
+        "an install line beside lines of all kinds",
+        CONFIGURATION,
+        b"x",
+        b"install\n",
+    ),
+    (
+        "a blacklist line beside lines of all kinds",
+        CONFIGURATION,
+        b"w",
+        b"blacklist\n",
+    ),
 ];
 
+/// Whether the text says this of the name.
+fn is_said(alloc: Global, text: &[u8], name: &[u8], wanted: &[u8]) -> Result<bool, AllocError> {
+    Ok(says(&read_conf(alloc, text)?, name, wanted))
+}
+
 #[test]
-fn says_of_names(rt: HostRuntime) {
+fn says_of_names(rt: HostRuntime) -> Result<(), AllocError> {
+    let mut whole = Ok(());
     for (shows, text, name, wanted) in &SAID {
-        let fact = says(read_conf(rt.alloc(), text), name, wanted);
-        holds(&rt, shows, fact);
+        let fact = is_said(rt.alloc(), text, name, wanted);
+        whole = whole.and(holds_or_short(&rt, shows, fact));
     }
+    whole
 }
 
 /// What a row shows, a text, and the numbers of its lines without effect.
-static SKIPPED: [(&str, &[u8], &[usize]); 7] = [
+static SKIPPED: [(&str, &[u8], &[usize]); 8] = [
     ("lines with items", ITEMS, &[]),
     ("joined lines", JOINED, &[]),
     (
@@ -219,6 +247,7 @@ static SKIPPED: [(&str, &[u8], &[usize]); 7] = [
         &[2, 3],
     ),
     ("carriage returns", CARRIAGE_RETURNS, &[]),
+    ("lines of all kinds", CONFIGURATION, &[]),
 ];
 
 fn skips(read: Result<Conf, AllocError>, lines: &[usize]) -> bool {
@@ -236,18 +265,20 @@ fn lines_without_effect(rt: HostRuntime) {
 }
 
 /// There is one alias, and it leads from `a_b` to `snd_pcm`.
-fn has_one_alias(read: Result<Conf, AllocError>) -> bool {
-    let Ok(conf) = read else {
-        return false;
-    };
-    conf.alias_len() == 1
-        && conf.alias_pattern(0).matches(b"a_b")
-        && conf.alias_target(0).as_bytes() == b"snd_pcm".as_slice()
+fn has_one_alias(alloc: Global, text: &[u8]) -> Result<bool, AllocError> {
+    let conf = read_conf(alloc, text)?;
+    Ok(
+        conf.alias_len() == 1
+            && conf.alias_pattern(0).matches(b"a_b")
+            && conf.alias_target(0).as_bytes() == b"snd_pcm".as_slice(),
+    )
 }
 
 #[test]
-fn aliases(rt: HostRuntime) {
-    assert!(rt; has_one_alias(read_conf(rt.alloc(), WITHOUT_EFFECT)));
+fn aliases(rt: HostRuntime) -> Result<(), AllocError> {
+    assert!(rt; has_one_alias(rt.alloc(), WITHOUT_EFFECT)?);
+    assert!(rt; has_one_alias(rt.alloc(), CONFIGURATION)?);
+    Ok(())
 }
 
 /// `x` has its install line, and `w` is blacklisted, from the length on that they stand at; at most one line has no effect.

@@ -13,3 +13,5 @@ mod load_plans;
 mod patterns;
 #[cfg(test)]
 mod texts;
+#[cfg(test)]
+mod values;

@@ -1,20 +1,21 @@
-//! Look-ups, plans and removal plans: a row has texts, what is asked over them, and the lines of the answer.
+//! Look-ups, plans and removal plans, and texts that are refused: a row has texts, what is asked over them, and the lines
+//! of the answer.
 
 mod chains;
+mod faults;
 mod look_ups;
 mod parameters;
 mod plans;
 mod prefixes;
 mod removals;
 mod soft_items;
-mod texts;
 
-use crate::texts::{Rest, behind, behind_name_lines, holds};
+use crate::texts::{Rest, behind, behind_name_lines, holds_or_short};
 use alias_match::{Aliases, read_aliases};
 use dep_index::{CatError, Catalogue, DepError, DepIndex, read_catalogue, read_dep};
 use load_plan::{FindError, Item, PlanError, Sources, find, plan, removal_plan};
 use modprobe_conf::read_conf;
-use std::alloc::Global;
+use std::alloc::{AllocError, Global};
 use std::process::Abort;
 use text_parts::Name;
 
@@ -29,34 +30,28 @@ const CONFIGURATION: usize = 2;
 
 const ALIAS_TEXT: usize = 3;
 
-/// What is asked of a name.
-enum Asked {
-    LookUp(&'static [u8]),
-    /// A plan with these words of the command.
-    Plan(&'static [u8], &'static [&'static [u8]]),
-    Removal(&'static [u8]),
+/// The text that a section of a row is.
+fn place_of(section: &str) -> Option<usize> {
+    match section {
+        "catalogue" => Some(CATALOGUE),
+        "dep" => Some(DEPENDENCIES),
+        "conf" => Some(CONFIGURATION),
+        "alias" => Some(ALIAS_TEXT),
+        _ => None,
+    }
 }
 
-/// What a row shows, its texts, what is asked, and the lines of the answer.
-type Row = (&'static str, Texts<'static>, Asked, &'static [u8]);
-
-/// What a row shows, its texts, which of them is cut at each length in turn, what is asked, and the lines of each
-/// answer behind `@` and the length from which on it holds.
-type CutRow = (&'static str, Texts<'static>, usize, Asked, &'static str);
-
 /// Whether the error is told so: its cause and the name.
-fn is_refusal(error: &PlanError, wanted: &[u8]) -> bool {
+fn is_refusal(error: &PlanError, wanted: &[u8]) -> Result<bool, AllocError> {
     let (cause, name) = match error {
         PlanError::Cycle(name) => (b"cycle ".as_slice(), name),
         PlanError::Install(name) => (b"install ".as_slice(), name),
         PlanError::Unknown(name) => (b"unknown ".as_slice(), name),
         PlanError::Remove(name) => (b"remove ".as_slice(), name),
-        PlanError::Memory => return false,
+        PlanError::Memory => return Err(AllocError),
     };
-    matches!(
-        behind(Some(wanted), &[cause, name.as_bytes(), b"\n"]),
-        Some([])
-    )
+    let rest = behind(Some(wanted), &[cause, name.as_bytes(), b"\n"]);
+    Ok(matches!(rest, Some([])))
 }
 
 /// What is left behind the line of an item: its module, whether only soft items ask for it, its words.
@@ -81,9 +76,13 @@ fn are_items(items: &[Item], catalogue: &Catalogue, wanted: &[u8]) -> bool {
     matches!(rest, Some([]))
 }
 
-fn is_plan(made: Result<Vec<Item>, PlanError>, catalogue: &Catalogue, wanted: &[u8]) -> bool {
+fn is_plan(
+    made: Result<Vec<Item>, PlanError>,
+    catalogue: &Catalogue,
+    wanted: &[u8],
+) -> Result<bool, AllocError> {
     match made {
-        Ok(items) => are_items(&items, catalogue, wanted),
+        Ok(items) => Ok(are_items(&items, catalogue, wanted)),
         Err(error) => is_refusal(&error, wanted),
     }
 }
@@ -105,49 +104,72 @@ fn are_modules(slots: &[usize], catalogue: &Catalogue, wanted: &[u8]) -> bool {
     matches!(rest, Some([]))
 }
 
-fn is_order(made: Result<Vec<usize>, PlanError>, catalogue: &Catalogue, wanted: &[u8]) -> bool {
+fn is_order(
+    made: Result<Vec<usize>, PlanError>,
+    catalogue: &Catalogue,
+    wanted: &[u8],
+) -> Result<bool, AllocError> {
     match made {
-        Ok(slots) => are_modules(&slots, catalogue, wanted),
+        Ok(slots) => Ok(are_modules(&slots, catalogue, wanted)),
         Err(error) => is_refusal(&error, wanted),
     }
 }
 
-fn is_found(made: Result<Vec<Name>, FindError>, wanted: &[u8]) -> bool {
+fn is_found(made: Result<Vec<Name>, FindError>, wanted: &[u8]) -> Result<bool, AllocError> {
     match made {
-        Ok(names) => matches!(behind_name_lines(Some(wanted), &names), Some([])),
-        Err(error) => error == FindError::NotFound && wanted == b"not found\n".as_slice(),
+        Ok(names) => Ok(matches!(behind_name_lines(Some(wanted), &names), Some([]))),
+        Err(FindError::NotFound) => Ok(wanted == b"not found\n".as_slice()),
+        Err(FindError::Memory) => Err(AllocError),
     }
 }
 
-fn is_answer(
+/// Whether this is the plan of a module, with a word of the command if there is one.
+fn is_plan_of<'a>(
     alloc: Global,
-    sources: &Sources,
-    aliases: &Aliases,
-    asked: &Asked,
+    sources: &Sources<'a>,
+    asked: &'a str,
     wanted: &[u8],
-) -> bool {
+) -> Result<bool, AllocError> {
+    let made = match asked.split_once(' ') {
+        Some((name, word)) => plan(alloc, name.as_bytes(), &[word.as_bytes()], sources),
+        None => plan(alloc, asked.as_bytes(), &[], sources),
+    };
+    is_plan(made, sources.catalogue, wanted)
+}
+
+fn is_answer<'a>(
+    alloc: Global,
+    sources: &Sources<'a>,
+    aliases: &Aliases,
+    asked: &'a str,
+    wanted: &[u8],
+) -> Result<bool, AllocError> {
     let (catalogue, configuration) = (sources.catalogue, sources.configuration);
-    match asked {
-        Asked::LookUp(name) => {
-            is_found(find(alloc, name, catalogue, configuration, aliases), wanted)
+    let (what, name) = asked.split_once(' ').unwrap_or((asked, ""));
+    match what {
+        "find" => {
+            let made = find(alloc, name.as_bytes(), catalogue, configuration, aliases);
+            is_found(made, wanted)
         }
-        Asked::Plan(name, words) => is_plan(plan(alloc, name, words, sources), catalogue, wanted),
-        Asked::Removal(name) => is_order(removal_plan(alloc, name, sources), catalogue, wanted),
+        "plan" => is_plan_of(alloc, sources, name, wanted),
+        "remove" => {
+            let made = removal_plan(alloc, name.as_bytes(), sources);
+            is_order(made, catalogue, wanted)
+        }
+        _ => Ok(false),
     }
 }
 
 /// The answer over texts of which two are still to be read.
-fn is_answer_over(
+fn is_answer_over<'a>(
     alloc: Global,
-    catalogue: &Catalogue,
-    dependencies: &DepIndex,
+    catalogue: &'a Catalogue,
+    dependencies: &'a DepIndex,
     texts: &Texts,
-    asked: &Asked,
+    asked: &'a str,
     wanted: &[u8],
-) -> bool {
-    let Ok(configuration) = read_conf(alloc, texts[CONFIGURATION]) else {
-        return false;
-    };
+) -> Result<bool, AllocError> {
+    let configuration = read_conf(alloc, texts[CONFIGURATION])?;
     let sources = Sources {
         catalogue,
         dependencies,
@@ -155,7 +177,7 @@ fn is_answer_over(
     };
     match read_aliases(alloc, texts[ALIAS_TEXT]) {
         Ok(aliases) => is_answer(alloc, &sources, &aliases, asked, wanted),
-        Err(_) => false,
+        Err(error) => Err(error),
     }
 }
 
@@ -164,61 +186,28 @@ fn is_answer_in(
     alloc: Global,
     catalogue: &Catalogue,
     texts: &Texts,
-    asked: &Asked,
+    asked: &str,
     wanted: &[u8],
-) -> bool {
+) -> Result<bool, AllocError> {
     match read_dep(alloc, texts[DEPENDENCIES]) {
         Ok(dependencies) => is_answer_over(alloc, catalogue, &dependencies, texts, asked, wanted),
-        Err(DepError::NoColon { .. }) => wanted == b"no colon\n".as_slice(),
-        Err(DepError::EmptyName { .. }) => wanted == b"empty name\n".as_slice(),
-        Err(_) => false,
+        Err(DepError::Memory) => Err(AllocError),
+        Err(error) => Ok(format!(in alloc; "{error:?}\n")?.as_bytes() == wanted),
     }
 }
 
 /// Whether this is the answer over the texts, or why one of them is refused.
-fn is_answered(alloc: Global, texts: &Texts, asked: &Asked, wanted: &[u8]) -> bool {
+fn is_answered(
+    alloc: Global,
+    texts: &Texts,
+    asked: &str,
+    wanted: &[u8],
+) -> Result<bool, AllocError> {
     match read_catalogue(alloc, texts[CATALOGUE]) {
         Ok(catalogue) => is_answer_in(alloc, &catalogue, texts, asked, wanted),
-        Err(CatError::Bad { .. }) => wanted == b"bad line\n".as_slice(),
-        Err(_) => false,
+        Err(CatError::Memory) => Err(AllocError),
+        Err(error) => Ok(format!(in alloc; "{error:?}\n")?.as_bytes() == wanted),
     }
-}
-
-fn are_answered(rt: &impl Abort, alloc: Global, rows: &[Row]) {
-    for (shows, texts, asked, wanted) in rows {
-        holds(rt, shows, is_answered(alloc, texts, asked, wanted));
-    }
-}
-
-#[test]
-fn rows_of_look_ups(rt: HostRuntime) {
-    are_answered(&rt, rt.alloc(), &look_ups::ROWS);
-}
-
-#[test]
-fn rows_of_plans(rt: HostRuntime) {
-    are_answered(&rt, rt.alloc(), &plans::ROWS);
-}
-
-#[test]
-fn rows_of_soft_items(rt: HostRuntime) {
-    are_answered(&rt, rt.alloc(), &soft_items::ROWS);
-}
-
-#[test]
-fn rows_of_removals(rt: HostRuntime) {
-    are_answered(&rt, rt.alloc(), &removals::ROWS);
-}
-
-/// The texts, of which one is cut at the length.
-fn cut_at<'a>(texts: &Texts<'a>, place: usize, length: usize) -> Texts<'a> {
-    let mut cut = *texts;
-    if let Some(text) = cut.get_mut(place) {
-        if length < text.len() {
-            *text = &text[..length];
-        }
-    }
-    cut
 }
 
 /// The answer that holds at the length: what stands behind the last `@` with a number up to it.
@@ -235,26 +224,106 @@ fn answer_at(answers: &str, length: usize) -> &[u8] {
     found
 }
 
-/// The row has its answer at each length of the text that it cuts, else it and the length are told.
-fn is_answered_at_each(rt: &impl Abort, alloc: Global, row: &CutRow, text: &[u8]) {
-    let (shows, texts, place, asked, answers) = row;
+/// The texts have their answer at each length of the one in this place, else what is asked and the length are told.
+fn are_answered_at_each(
+    rt: &impl Abort,
+    alloc: Global,
+    texts: &Texts,
+    place: usize,
+    asked: &str,
+    answers: &str,
+) {
+    let text = texts.get(place).copied().unwrap_or(b"");
     for length in 0..=text.len() {
-        let cut = cut_at(texts, *place, length);
+        let mut cut = *texts;
+        if let Some(part) = cut.get_mut(place) {
+            *part = &text[..length];
+        }
         let fact = is_answered(alloc, &cut, asked, answer_at(answers, length));
-        assert!(rt; fact, "at {length}: {shows}");
+        assert!(rt; fact == Ok(true), "at {length}: {asked}");
     }
 }
 
-fn are_answered_at_each(rt: &impl Abort, alloc: Global, rows: &[CutRow]) {
-    for row in rows {
-        match row.1.get(row.2) {
-            Some(text) => is_answered_at_each(rt, alloc, row, text),
-            None => holds(rt, row.0, false),
+/// Whether the texts have this answer, or each beginning of one of them has its own.
+fn is_right(
+    rt: &impl Abort,
+    alloc: Global,
+    texts: &Texts,
+    asked: &str,
+    wanted: &str,
+) -> Result<bool, AllocError> {
+    let Some(("each", asked)) = asked.split_once(' ') else {
+        return is_answered(alloc, texts, asked, wanted.as_bytes());
+    };
+    match asked.split_once(' ') {
+        Some((section, asked)) => {
+            let place = place_of(section).unwrap_or(CATALOGUE);
+            are_answered_at_each(rt, alloc, texts, place, asked, wanted);
+            Ok(true)
+        }
+        None => Ok(false),
+    }
+}
+
+/// Adds a text. A catalogue takes the others away.
+fn add_text<'a>(texts: &mut Texts<'a>, place: usize, text: &'a str) {
+    if place == CATALOGUE {
+        *texts = [b"", b"", b"", b""];
+    }
+    if let Some(place) = texts.get_mut(place) {
+        *place = text.as_bytes();
+    }
+}
+
+/// A row is right, else its own words are told.
+fn row_holds<'a>(
+    rt: &impl Abort,
+    alloc: Global,
+    texts: &mut Texts<'a>,
+    shows: &str,
+    parts: &'a str,
+) -> Result<(), AllocError> {
+    for part in parts.split('%') {
+        let (head, body) = part.split_once('\n').unwrap_or((part, ""));
+        match place_of(head) {
+            Some(place) => add_text(texts, place, body),
+            None => holds_or_short(rt, shows, is_right(rt, alloc, texts, head, body))?,
         }
     }
+    Ok(())
+}
+
+/// Each row is right, if there was memory for all. Behind `~` stands what a row shows, and behind each `%` a text, which
+/// further rows have too, or what is asked and the lines of the answer.
+fn rows_hold(rt: &impl Abort, alloc: Global, rows: &str) -> Result<(), AllocError> {
+    let mut whole = Ok(());
+    let mut texts: Texts = [b"", b"", b"", b""];
+    for row in rows.split('~') {
+        if let Some((shows, parts)) = row.split_once('%') {
+            whole = whole.and(row_holds(rt, alloc, &mut texts, shows, parts));
+        }
+    }
+    whole
+}
+
+static ROWS: [&str; 5] = [
+    faults::ROWS,
+    look_ups::ROWS,
+    plans::ROWS,
+    removals::ROWS,
+    soft_items::ROWS,
+];
+
+#[test]
+fn each_row(rt: HostRuntime) -> Result<(), AllocError> {
+    let mut whole = Ok(());
+    for rows in &ROWS {
+        whole = whole.and(rows_hold(&rt, rt.alloc(), rows));
+    }
+    whole
 }
 
 #[test]
-fn rows_of_prefixes(rt: HostRuntime) {
-    are_answered_at_each(&rt, rt.alloc(), &prefixes::ROWS);
+fn each_beginning(rt: HostRuntime) -> Result<(), AllocError> {
+    rows_hold(&rt, rt.alloc(), prefixes::ROWS)
 }

@@ -1,6 +1,6 @@
 //! Patterns, and modules.alias texts.
 
-use crate::texts::{behind, holds, holds_at};
+use crate::texts::{behind, holds_at, holds_or_short};
 use alias_match::{Aliases, Pattern, PatternError, read_aliases};
 use std::alloc::{AllocError, Global};
 use std::process::Abort;
@@ -66,11 +66,15 @@ fn is_row(rt: &impl Abort, pattern: &str, text: &str, fact: bool) {
 }
 
 #[test]
-fn answers(rt: HostRuntime) {
+fn answers(rt: HostRuntime) -> Result<(), PatternError> {
+    let mut whole = Ok(());
     for (pattern, text, wanted) in &ANSWERS {
-        let found = answer(rt.alloc(), pattern, text);
-        is_row(&rt, pattern, text, found == *wanted);
+        match answer(rt.alloc(), pattern, text) {
+            Err(PatternError::Memory) => whole = Err(PatternError::Memory),
+            found => is_row(&rt, pattern, text, found == *wanted),
+        }
     }
+    whole
 }
 
 fn repeated(alloc: Global, word: &[u8], count: usize) -> Result<Vec<u8>, AllocError> {
@@ -93,30 +97,48 @@ fn many_runs_end_at_once(rt: HostRuntime) -> Result<(), Fail> {
 const ALIASES: &[u8] =
     b"# alias a b\n\nalias usb:v[0-9A-F]*p?? usbx\r\nalias x\nalias [ y\n\talias snd-* snd-pcm more\noptions q r";
 
-/// A text, and the targets of the aliases that match it, one a line.
-static TARGETS: [(&str, &[u8]); 2] = [("usb:v0Ap12", b"usbx\n"), ("snd_hda", b"snd_pcm\n")];
+/// The same aliases, with a line between them that is none.
+const TWO_ALIASES: &[u8] = b"alias usb:v[0-9A-F]*p?? usbx\noptions q r\nalias snd-* snd-pcm more\n";
 
-/// Whether there are two aliases, the lines 4, 5 and 7 are none, and these are the targets of those that match the name,
-/// one a line.
-fn are_targets(read: Result<Aliases, AllocError>, name: &[u8], wanted: &[u8]) -> bool {
-    let Ok(aliases) = read else {
-        return false;
-    };
+/// A name, a text of two aliases, the targets of those that match the name, one a line, and which lines are none.
+static TARGETS: [(&str, &[u8], &[u8], &[usize]); 4] = [
+    ("usb:v0Ap12", ALIASES, b"usbx\n", &[4, 5, 7]),
+    ("snd_hda", ALIASES, b"snd_pcm\n", &[4, 5, 7]),
+    ("usb:v0pp12", TWO_ALIASES, b"usbx\n", &[2]),
+    ("snd_hda", TWO_ALIASES, b"snd_pcm\n", &[2]),
+];
+
+/// Whether there are two aliases, and these are the targets of those that match the name, one a line.
+fn are_targets(aliases: &Aliases, name: &[u8], wanted: &[u8]) -> bool {
     let mut rest = Some(wanted);
     for i in 0..aliases.len() {
         if aliases.pattern(i).matches(name) {
             rest = behind(rest, &[aliases.target(i).as_bytes(), b"\n"]);
         }
     }
-    matches!(rest, Some([])) && aliases.len() == 2 && aliases.skipped() == [4, 5, 7].as_slice()
+    matches!(rest, Some([])) && aliases.len() == 2
+}
+
+/// Whether the text has these aliases, and these lines that are none.
+fn have_targets(
+    alloc: Global,
+    text: &[u8],
+    name: &[u8],
+    wanted: &[u8],
+    none: &[usize],
+) -> Result<bool, AllocError> {
+    let aliases = read_aliases(alloc, text)?;
+    Ok(are_targets(&aliases, name, wanted) && aliases.skipped() == none)
 }
 
 #[test]
-fn targets_of_aliases(rt: HostRuntime) {
-    for (name, wanted) in &TARGETS {
-        let read = read_aliases(rt.alloc(), ALIASES);
-        holds(&rt, name, are_targets(read, name.as_bytes(), wanted));
+fn targets_of_aliases(rt: HostRuntime) -> Result<(), AllocError> {
+    let mut whole = Ok(());
+    for (name, text, wanted, none) in &TARGETS {
+        let fact = have_targets(rt.alloc(), text, name.as_bytes(), wanted, none);
+        whole = whole.and(holds_or_short(&rt, name, fact));
     }
+    whole
 }
 
 /// How many aliases a text has, and how many lines that are none.

@@ -1,6 +1,7 @@
 //! What tests of several crates share: a text, how the parts of an answer are compared with a wanted text, and what is
 //! told of a row.
 
+use std::alloc::AllocError;
 use std::process::Abort;
 use text_parts::Name;
 
@@ -8,9 +9,32 @@ use text_parts::Name;
 pub(crate) const CIRCLE: &[u8] =
     b"module a\nexports fa\nneeds fb\nmodule b\nexports fb\nneeds fa\n";
 
+/// A sound card and its PCM layer, which needs it.
+pub(crate) const SOUND: &[u8] =
+    b"module snd\nsize 114688\nexports snd_card_new\nmodule snd-pcm\nsize 143360\nexports snd_pcm_new\nneeds snd_card_new\nparam debug bool\n";
+
+/// Lines of all kinds, of which the first and the last are joined with the next.
+pub(crate) const CONFIGURATION: &[u8] = b"options y debug=1 \\
+ level=3
+install x /bin/true
+softdep z pre: y
+install z /bin/true
+alias a-* snd-pcm
+blacklist w \\";
+
 /// A row's fact holds, else its own words tell which row it is.
 pub(crate) fn holds(rt: &impl Abort, shows: &str, fact: bool) {
     assert!(rt; fact, "{shows}");
+}
+
+/// A row's fact holds, if there was memory to find it.
+pub(crate) fn holds_or_short(
+    rt: &impl Abort,
+    shows: &str,
+    fact: Result<bool, AllocError>,
+) -> Result<(), AllocError> {
+    holds(rt, shows, fact?);
+    Ok(())
 }
 
 /// A prefix's fact holds, else its length is told.

@@ -1,6 +1,6 @@
 //! Long chains of hard dependencies, up to the limits: with ample memory all modules stand in one plan.
 
-use super::{Asked, is_answered};
+use super::is_answered;
 use crate::texts::holds;
 use std::alloc::{AllocError, Global};
 use std::process::Abort;
@@ -13,7 +13,7 @@ struct Chain {
     count: usize,
     /// Whether each module but the last needs the next one, or else each but the first the one before it.
     needs_next: bool,
-    asked: Asked,
+    asked: &'static str,
     /// What stands behind each name of the answer.
     ending: &'static str,
     /// Whether the first module comes first in the answer.
@@ -26,7 +26,7 @@ static CHAINS: [Chain; 3] = [
         head: "",
         count: 256,
         needs_next: true,
-        asked: Asked::Plan(b"m0", &[]),
+        asked: "plan m0",
         ending: " hard",
         is_upward: false,
     },
@@ -35,7 +35,7 @@ static CHAINS: [Chain; 3] = [
         head: "version 2\n",
         count: 1024,
         needs_next: true,
-        asked: Asked::Plan(b"m0", &[]),
+        asked: "plan m0",
         ending: " hard",
         is_upward: false,
     },
@@ -44,7 +44,7 @@ static CHAINS: [Chain; 3] = [
         head: "version 3\n",
         count: 4096,
         needs_next: true,
-        asked: Asked::Plan(b"m0", &[]),
+        asked: "plan m0",
         ending: " hard",
         is_upward: false,
     },
@@ -55,7 +55,7 @@ static PLAN_OF_ALL: Chain = Chain {
     head: "version 3\n",
     count: 65_535,
     needs_next: false,
-    asked: Asked::Plan(b"m65534", &[]),
+    asked: "plan m65534",
     ending: " hard",
     is_upward: true,
 };
@@ -65,7 +65,7 @@ static REMOVAL_OF_ALL: Chain = Chain {
     head: "version 3\n",
     count: 65_535,
     needs_next: false,
-    asked: Asked::Removal(b"m65534"),
+    asked: "remove m65534",
     ending: "",
     is_upward: false,
 };
@@ -110,7 +110,7 @@ fn is_whole(alloc: Global, chain: &Chain, text: &str) -> Result<bool, AllocError
     let wanted = lines_of(alloc, chain)?;
     let texts = [text.as_bytes(), b"", b"", b""];
     let is_long = text.len() / 77 > chain.count;
-    Ok(is_long && is_answered(alloc, &texts, &chain.asked, wanted.as_bytes()))
+    Ok(is_long && is_answered(alloc, &texts, chain.asked, wanted.as_bytes())?)
 }
 
 /// The answer over the chain has all its modules.

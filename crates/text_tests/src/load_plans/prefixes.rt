@@ -1,109 +1,114 @@
-//! Rows of which one text is cut at each length: the answer is what the part of the text says that is there.
+//! Rows of which one text is cut at each length: the answer is what the part of the text says that is there, behind
+//! `@` and the length from which on it holds.
 
-use super::texts::{ALIAS, BOTH_WAYS, SETTINGS, SND, SOFT, XYZW};
-use super::{ALIAS_TEXT, Asked, CATALOGUE, CONFIGURATION, CutRow, DEPENDENCIES};
-use crate::texts::CIRCLE;
-
-pub(super) static ROWS: [CutRow; 14] = [
-    (
-        "the catalogue of one module",
-        [b"module usbx\n", b"", b"", b""],
-        CATALOGUE,
-        Asked::Plan(b"usbx", &[]),
-        "@0
+pub(super) const ROWS: &str = r"
+~ the catalogue of one module
+%catalogue
+module usbx
+%each catalogue plan usbx
+@0
 unknown usbx
 @1
-bad line
+Bad { line: 1 }
 @8
 unknown usbx
 @11
 usbx hard
-",
-    ),
-    (
-        "the catalogue of a circle",
-        [CIRCLE, b"", b"", b""],
-        CATALOGUE,
-        Asked::Plan(b"a", &[]),
-        "@0
+~ the catalogue of a circle
+%catalogue
+module a
+exports fa
+needs fb
+module b
+exports fb
+needs fa
+%each catalogue plan a
+@0
 unknown a
 @1
-bad line
+Bad { line: 1 }
 @8
 a hard
 @10
-bad line
+Bad { line: 2 }
 @18
 a hard
 @21
-bad line
+Bad { line: 3 }
 @27
 a hard
 @30
-bad line
+Bad { line: 4 }
 @37
 a hard
 @39
-bad line
+Bad { line: 5 }
 @47
 a hard
 @48
 b hard
 a hard
 @50
-bad line
+Bad { line: 6 }
 @56
 b hard
 a hard
 @57
 cycle a
-",
-    ),
-    (
-        "a catalogue with softneeds",
-        [SOFT, b"", b"", b""],
-        CATALOGUE,
-        Asked::Plan(b"c", &[]),
-        "@0
+~ a catalogue with softneeds
+%catalogue
+version 2
+module a
+softneeds d b
+module c
+softneeds a
+module d
+%each catalogue plan c
+@0
 unknown c
 @1
-bad line
+Bad { line: 1 }
 @9
 unknown c
 @11
-bad line
+Bad { line: 2 }
 @18
 unknown c
 @20
-bad line
+Bad { line: 3 }
 @30
 unknown c
 @34
-bad line
+Bad { line: 4 }
 @41
 c hard
 @43
-bad line
+Bad { line: 5 }
 @53
 a soft
 c hard
 @55
-bad line
+Bad { line: 6 }
 @62
 d soft
 a soft
 c hard
-",
-    ),
-    (
-        "modules.dep",
-        [CIRCLE, BOTH_WAYS, b"", b""],
-        DEPENDENCIES,
-        Asked::Plan(b"a", &[]),
-        "@0
+~ modules.dep
+%catalogue
+module a
+exports fa
+needs fb
+module b
+exports fb
+needs fa
+%dep
+kernel/a.ko: kernel/b.ko
+kernel/b.ko.xz: kernel/a.ko
+%each dep plan a
+@0
 cycle a
 @1
-no colon
+NoColon { line: 1 }
 @12
 a hard
 @14
@@ -119,11 +124,11 @@ unknown kerne
 @19
 unknown kernel
 @20
-empty name
+EmptyName { line: 1 }
 @21
 cycle a
 @26
-no colon
+NoColon { line: 2 }
 @40
 b hard
 a hard
@@ -140,17 +145,16 @@ unknown kerne
 @47
 unknown kernel
 @48
-empty name
+EmptyName { line: 2 }
 @49
 cycle a
-",
-    ),
-    (
-        "modules.alias",
-        [b"module usbx\n", b"", b"", ALIAS],
-        ALIAS_TEXT,
-        Asked::LookUp(b"usb:v0pp12"),
-        "@0
+~ modules.alias
+%catalogue
+module usbx
+%alias
+alias usb:v[0-9A-F]*p?? usbx
+%each alias find usb:v0pp12
+@0
 not found
 @25
 u
@@ -160,48 +164,48 @@ us
 usb
 @28
 usbx
-",
-    ),
-    (
-        "a blacklist line",
-        [b"module usbx\n", b"", b"blacklist usbx\n", ALIAS],
-        CONFIGURATION,
-        Asked::LookUp(b"usb:v0pp12"),
-        "@0
+~ a blacklist line
+%catalogue
+module usbx
+%conf
+blacklist usbx
+%alias
+alias usb:v[0-9A-F]*p?? usbx
+%each conf find usb:v0pp12
+@0
 usbx
 @14
 not found
-",
-    ),
-    (
-        "an install line",
-        [XYZW, b"", SETTINGS, b""],
-        CONFIGURATION,
-        Asked::Plan(b"x", &[]),
-        "@0
+~ an install line
+%catalogue
+module x
+module y
+param debug bool
+param level int
+module z
+module w
+%conf
+options y debug=1 \
+ level=3
+install x /bin/true
+softdep z pre: y
+install z /bin/true
+blacklist w \
+%each conf plan x
+@0
 x hard
 @40
 install x
-",
-    ),
-    (
-        "a softdep line behind options lines",
-        [XYZW, b"", SETTINGS, b""],
-        CONFIGURATION,
-        Asked::Plan(b"z", &[]),
-        "@0
+~ a softdep line behind options lines
+%each conf plan z
+@0
 z hard
 @65
 y soft debug=1 level=3
 z hard
-",
-    ),
-    (
-        "options lines",
-        [XYZW, b"", SETTINGS, b""],
-        CONFIGURATION,
-        Asked::Plan(b"y", &[]),
-        "@0
+~ options lines
+%each conf plan y
+@0
 y hard
 @11
 y hard d
@@ -231,48 +235,44 @@ y hard debug=1 level
 y hard debug=1 level=
 @28
 y hard debug=1 level=3
-",
-    ),
-    (
-        "pre items of two softdep lines that name each other",
-        [
-            b"module a\nmodule b\n",
-            b"",
-            b"softdep a pre: b\nsoftdep b pre: a\n",
-            b"",
-        ],
-        CONFIGURATION,
-        Asked::Plan(b"a", &[]),
-        "@0
+~ pre items of two softdep lines that name each other
+%catalogue
+module a
+module b
+%conf
+softdep a pre: b
+softdep b pre: a
+%each conf plan a
+@0
 a hard
 @16
 b soft
 a hard
-",
-    ),
-    (
-        "post items of two softdep lines that name each other",
-        [
-            b"module a\nmodule b\n",
-            b"",
-            b"softdep a post: b\nsoftdep b post: a\n",
-            b"",
-        ],
-        CONFIGURATION,
-        Asked::Plan(b"a", &[]),
-        "@0
+~ post items of two softdep lines that name each other
+%catalogue
+module a
+module b
+%conf
+softdep a post: b
+softdep b post: a
+%each conf plan a
+@0
 a hard
 @17
 a hard
 b soft
-",
-    ),
-    (
-        "a softdep line in place of softneeds",
-        [SOFT, b"", b"softdep c post: d\n", b""],
-        CONFIGURATION,
-        Asked::Plan(b"c", &[]),
-        "@0
+~ a softdep line in place of softneeds
+%catalogue
+version 2
+module a
+softneeds d b
+module c
+softneeds a
+module d
+%conf
+softdep c post: d
+%each conf plan c
+@0
 d soft
 a soft
 c hard
@@ -281,27 +281,23 @@ c hard
 @17
 c hard
 d soft
-",
-    ),
-    (
-        "a remove line of the module",
-        [SND, b"", b"remove snd /bin/true\n", b""],
-        CONFIGURATION,
-        Asked::Removal(b"snd"),
-        "@0
+~ a remove line of the module
+%catalogue
+module snd
+exports snd_card_new
+module snd-pcm
+needs snd_card_new
+param debug bool
+%conf
+remove snd /bin/true
+%each conf remove snd
+@0
 snd
 @12
 remove snd
-",
-    ),
-    (
-        "a remove line of a dependency",
-        [SND, b"", b"remove snd /bin/true\n", b""],
-        CONFIGURATION,
-        Asked::Removal(b"snd-pcm"),
-        "@0
+~ a remove line of a dependency
+%each conf remove snd-pcm
+@0
 snd_pcm
 snd
-",
-    ),
-];
+";

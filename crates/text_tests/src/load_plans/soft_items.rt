@@ -1,122 +1,189 @@
 //! Soft items: which are taken, where they stand, and how they are marked.
 
-use super::texts::{ABC, SOFT};
-use super::{Asked, Row};
-
-pub(super) static ROWS: [Row; 15] = [
-    (
-        "soft items stand before and after their module",
-        [
-            b"module a\nmodule c\nmodule d\nmodule e\n",
-            b"",
-            b"softdep c pre: a b post: d e\noptions c debug=1\n",
-            b"",
-        ],
-        Asked::Plan(b"c", &[]),
-        b"a soft\nc hard debug=1\nd soft\ne soft\n",
-    ),
-    (
-        "two name each other as pre items",
-        [
-            b"module a\nmodule b\n",
-            b"",
-            b"softdep a pre: b\nsoftdep b pre: a\n",
-            b"",
-        ],
-        Asked::Plan(b"a", &[]),
-        b"b soft\na hard\n",
-    ),
-    (
-        "two name each other as post items",
-        [
-            b"module a\nmodule b\n",
-            b"",
-            b"softdep a post: b\nsoftdep b post: a\n",
-            b"",
-        ],
-        Asked::Plan(b"a", &[]),
-        b"a hard\nb soft\n",
-    ),
-    (
-        "the first softdep line counts",
-        [
-            ABC,
-            b"",
-            b"softdep a pre: b\nsoftdep a pre: c post: c\n",
-            b"",
-        ],
-        Asked::Plan(b"a", &[]),
-        b"b soft\na hard\n",
-    ),
-    (
-        "a soft item brings its dependencies",
-        [ABC, b"b.ko: c.ko\n", b"softdep a pre: b\n", b""],
-        Asked::Plan(b"a", &[]),
-        b"c soft\nb soft\na hard\n",
-    ),
-    (
-        "a soft item over an install line is passed over",
-        [
-            ABC,
-            b"b.ko: c.ko\n",
-            b"softdep a pre: b c\ninstall c /bin/true\n",
-            b"",
-        ],
-        Asked::Plan(b"a", &[]),
-        b"a hard\n",
-    ),
-    (
-        "a soft item over a missing module is passed over",
-        [ABC, b"b.ko: gone.ko\n", b"softdep a pre: b\n", b""],
-        Asked::Plan(b"a", &[]),
-        b"a hard\n",
-    ),
-    (
-        "a soft item in a circle is passed over",
-        [ABC, b"b.ko: c.ko\nc.ko: b.ko\n", b"softdep a pre: b\n", b""],
-        Asked::Plan(b"a", &[]),
-        b"a hard\n",
-    ),
-    (
-        "a pre item that needs its user is passed over",
-        [ABC, b"b.ko: a.ko\n", b"softdep a pre: b\n", b""],
-        Asked::Plan(b"a", &[]),
-        b"a hard\n",
-    ),
-    (
-        "a post item that needs its user comes after it",
-        [ABC, b"b.ko: a.ko\n", b"softdep a post: b\n", b""],
-        Asked::Plan(b"a", &[]),
-        b"a hard\nb soft\n",
-    ),
-    (
-        "what is reached hard too is hard",
-        [ABC, b"a.ko: b.ko\nb.ko: c.ko\n", b"softdep a pre: b\n", b""],
-        Asked::Plan(b"a", &[]),
-        b"c hard\nb hard\na hard\n",
-    ),
-    (
-        "softneeds are soft items, in turn",
-        [SOFT, b"", b"", b""],
-        Asked::Plan(b"c", &[]),
-        b"d soft\na soft\nc hard\n",
-    ),
-    (
-        "a softdep line stands in for softneeds",
-        [SOFT, b"", b"softdep c post: d\n", b""],
-        Asked::Plan(b"c", &[]),
-        b"c hard\nd soft\n",
-    ),
-    (
-        "a softdep line without marks stands in for softneeds",
-        [SOFT, b"", b"softdep c d\n", b""],
-        Asked::Plan(b"c", &[]),
-        b"c hard\n",
-    ),
-    (
-        "softneeds lift no install line",
-        [SOFT, b"", b"install c /bin/true\n", b""],
-        Asked::Plan(b"c", &[]),
-        b"install c\n",
-    ),
-];
+pub(super) const ROWS: &str = r"
+~ soft items stand before and after their module
+%catalogue
+module a
+module c
+module d
+module e
+%conf
+softdep c pre: a b post: d e
+options c debug=1
+%plan c
+a soft
+c hard debug=1
+d soft
+e soft
+~ the words of the command stand between soft items
+%plan c level=4
+a soft
+c hard debug=1 level=4
+d soft
+e soft
+~ two name each other as pre items
+%catalogue
+module a
+module b
+%conf
+softdep a pre: b
+softdep b pre: a
+%plan a
+b soft
+a hard
+~ two name each other as post items
+%catalogue
+module a
+module b
+%conf
+softdep a post: b
+softdep b post: a
+%plan a
+a hard
+b soft
+~ the first softdep line counts
+%catalogue
+module a
+module b
+module c
+%conf
+softdep a pre: b
+softdep a pre: c post: c
+%plan a
+b soft
+a hard
+~ a soft item brings its dependencies
+%catalogue
+module a
+module b
+module c
+%dep
+b.ko: c.ko
+%conf
+softdep a pre: b
+%plan a
+c soft
+b soft
+a hard
+~ a soft item over an install line is passed over
+%catalogue
+module a
+module b
+module c
+%dep
+b.ko: c.ko
+%conf
+softdep a pre: b c
+install c /bin/true
+%plan a
+a hard
+~ a soft item over a missing module is passed over
+%catalogue
+module a
+module b
+module c
+%dep
+b.ko: gone.ko
+%conf
+softdep a pre: b
+%plan a
+a hard
+~ a soft item in a circle is passed over
+%catalogue
+module a
+module b
+module c
+%dep
+b.ko: c.ko
+c.ko: b.ko
+%conf
+softdep a pre: b
+%plan a
+a hard
+~ a pre item that needs its user is passed over
+%catalogue
+module a
+module b
+module c
+%dep
+b.ko: a.ko
+%conf
+softdep a pre: b
+%plan a
+a hard
+~ a post item that needs its user comes after it
+%catalogue
+module a
+module b
+module c
+%dep
+b.ko: a.ko
+%conf
+softdep a post: b
+%plan a
+a hard
+b soft
+~ what is reached hard too is hard
+%catalogue
+module a
+module b
+module c
+%dep
+a.ko: b.ko
+b.ko: c.ko
+%conf
+softdep a pre: b
+%plan a
+c hard
+b hard
+a hard
+~ softneeds are soft items, in turn
+%catalogue
+version 2
+module a
+softneeds d b
+module c
+softneeds a
+module d
+%plan c
+d soft
+a soft
+c hard
+~ a softdep line stands in for softneeds
+%catalogue
+version 2
+module a
+softneeds d b
+module c
+softneeds a
+module d
+%conf
+softdep c post: d
+%plan c
+c hard
+d soft
+~ a softdep line without marks stands in for softneeds
+%catalogue
+version 2
+module a
+softneeds d b
+module c
+softneeds a
+module d
+%conf
+softdep c d
+%plan c
+c hard
+~ softneeds lift no install line
+%catalogue
+version 2
+module a
+softneeds d b
+module c
+softneeds a
+module d
+%conf
+install c /bin/true
+%plan c
+install c
+";
