@@ -56,7 +56,7 @@ impl Read for Trickling<'_> {
 /// Takes one byte a call, as long as it has room, and then fails, or takes none.
 #[derive(Drop)]
 pub(crate) struct Narrow {
-    taken: [u8; 256],
+    taken: [u8; 1024],
     len: usize,
     room: usize,
     fails: bool,
@@ -65,7 +65,7 @@ pub(crate) struct Narrow {
 impl Narrow {
     pub(crate) fn new(room: usize, fails: bool) -> Narrow {
         Narrow {
-            taken: [0; 256],
+            taken: [0; 1024],
             len: 0,
             room,
             fails,

@@ -4,8 +4,8 @@ ghost use Rattle.std.specs.Prelude.{◌≡◌, false};
 use crate::devices::{Broken, Dripping, Narrow, Trickling};
 use dep_index::ModuleState;
 use modprobe::{
-    Buffer, FromRead, FromWrite, Lines, RunFault, ServeFault, SetupCode, SetupFault, Sink, Source,
-    read_setup, run, serve,
+    Buffer, FromRead, FromWrite, LineFault, Lines, RunFault, ServeFault, SetupCode, SetupFault,
+    Sink, Source, read_setup, run, serve,
 };
 use seq_table::{Modules, Table};
 use std::alloc::{AllocError, Global};
@@ -152,10 +152,78 @@ const CARD_RUN: &[u8] =
 const CARD_ANSWER: &[u8] =
     b"ok\nsnd_pcm 0 0 - Live 0x0000000000000000\nsnd 0 1 snd_pcm, Live 0x0000000000000000\nerror EWOULDBLOCK snd\nok\n";
 
+/// Each section, and most commands.
+const LONG_RUN: &[u8] = b"%dep
+snd-pcm.ko: snd.ko
+%catalogue
+module snd
+size 114688
+exports snd_card_new
+module snd-pcm
+size 143360
+needs snd_card_new
+param debug bool
+%alias
+alias snd-card-* snd
+%conf
+options snd debug=1
+%session
+insmod snd-pcm
+insmod snd
+insmod snd_pcm
+rmmod snd
+get 0 snd_pcm
+query snd-pcm
+drain snd_pcm
+put 0 snd_pcm
+rmmod snd_pcm
+frob x
+rmmod nosuch
+modprobe -r snd
+plan snd-pcm
+modprobe snd-card-7
+modprobe snd-pcm debug=maybe
+modprobe snd-pcm
+lsmod
+proc
+modinfo snd-pcm
+modprobe -r snd-pcm
+";
+
+/// What it is answered.
+const LONG_ANSWER_TEXT: &[u8] = b"error NEEDNOTLIVE snd
+ok
+ok
+error EWOULDBLOCK snd
+ok
+yes
+ok
+ok
+ok
+error SYNTAX frob
+error ENOENT nosuch
+ok
+load snd hard debug=1
+load snd_pcm hard
+ok
+error EINVAL snd_pcm
+ok
+Module                  Size  Used by
+snd_pcm               143360  0
+snd                   114688  1 snd_pcm
+snd_pcm 143360 0 - Live 0x0000000000000000
+snd 114688 1 snd_pcm, Live 0x0000000000000000
+name:           snd_pcm
+size:           143360
+depends:        snd
+parm:           debug:bool
+ok
+";
+
 /// Whether a session ends with this answer or, if an allocation is refused, says so after a beginning of it.
 fn is_answered_or_out_of_memory(alloc: Global, input: &[u8], wanted: &[u8]) -> bool {
     let mut reader = FromRead::new(input);
-    let mut output = FromWrite::new(Narrow::new(256, false));
+    let mut output = FromWrite::new(Narrow::new(1024, false));
     match serve(alloc, 1, &mut reader, &mut output) {
         Ok(()) => output.writer.text() == wanted,
         Err(ServeFault::Setup(fault)) => {
@@ -168,14 +236,49 @@ fn is_answered_or_out_of_memory(alloc: Global, input: &[u8], wanted: &[u8]) -> b
     }
 }
 
+/// Sessions with their answers.
+static SESSIONS: [(&[u8], &[u8]); 3] = [
+    (FIRST_RUN, FIRST_ANSWER),
+    (CARD_RUN, CARD_ANSWER),
+    (LONG_RUN, LONG_ANSWER_TEXT),
+];
+
 #[test]
-fn memory_runs_out_in_a_session(rt: HostRuntime) {
-    assert!(rt; is_answered_or_out_of_memory(rt.alloc(), FIRST_RUN, FIRST_ANSWER));
+fn memory_runs_out_in_sessions(rt: HostRuntime) {
+    for (input, wanted) in &SESSIONS {
+        assert!(rt; is_answered_or_out_of_memory(rt.alloc(), input, wanted));
+    }
+}
+
+/// How many modules the setup of an input has.
+fn modules_in(alloc: Global, input: &[u8]) -> Result<usize, ServeFault> {
+    let mut reader = FromRead::new(input);
+    let buffer = Buffer::new(alloc)?;
+    let mut lines = Lines::new(alloc, buffer, &mut reader, 9);
+    Ok(read_setup(alloc, &mut lines)?.catalogue().len())
 }
 
 #[test]
-fn memory_runs_out_in_a_session_of_cards(rt: HostRuntime) {
-    assert!(rt; is_answered_or_out_of_memory(rt.alloc(), CARD_RUN, CARD_ANSWER));
+fn a_setup_of_two_modules(rt: HostRuntime) {
+    assert!(rt; modules_in(rt.alloc(), LONG_RUN) == Ok(2));
+}
+
+/// Whether these are the two lines and no other.
+fn are_both<R: Source>(lines: &mut Lines<'_, R>) -> Result<bool, LineFault>
+    requires { R.has_failed lines.old.reader.now ≡ false }
+{
+    let is_first = lines.next_line()? && lines.line() == b"insmod snd".as_slice();
+    let is_last = lines.next_line()? && lines.line() == b"query".as_slice();
+    Ok(is_first && is_last && !lines.next_line()?)
+}
+
+#[test]
+fn lines_of_a_text(rt: HostRuntime) -> Result<(), Fail> {
+    let mut reader = FromRead::new(b"insmod snd\nquery".as_slice());
+    let buffer = Buffer::new(rt.alloc())?;
+    let mut lines = Lines::new(rt.alloc(), buffer, &mut reader, 9);
+    assert!(rt; are_both(&mut lines) == Ok(true));
+    Ok(())
 }
 
 /// A session of 16,777,216 reads takes too long for a test. So this shows only what the program would say of it.

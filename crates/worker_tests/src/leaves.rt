@@ -117,3 +117,20 @@ fn goes_well<R: AllocGlobal + Wait>(rt: &R, course: &Course) -> Result<bool, Fai
         Course::Guesses => are_guesses_right(&row, &mut users),
     })
 }
+
+/// What is done, and what that shows.
+static COURSES: [(&str, Course); 5] = [
+    ("loads, holds and removes", Course::Removal),
+    ("drains", Course::Drain),
+    ("calls a drain off", Course::DrainCalledOff),
+    ("calls a removal off", Course::RemovalCalledOff),
+    ("guesses hold where nobody holds it", Course::Guesses),
+];
+
+#[test]
+fn courses_go_well(rt: HostRuntime) -> Result<(), Fail> {
+    for (shows, course) in &COURSES {
+        assert!(rt; goes_well(&rt, course)?, "{shows}");
+    }
+    Ok(())
+}

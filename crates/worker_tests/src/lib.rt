@@ -8,6 +8,8 @@ mod machine;
 #[cfg(test)]
 mod manager;
 #[cfg(test)]
+mod opens;
+#[cfg(test)]
 mod plays;
 #[cfg(test)]
 mod points;

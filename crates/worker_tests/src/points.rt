@@ -3,11 +3,11 @@ ghost use Rattle.std.specs.Prelude.{◌≤◌};
 
 mod judged;
 
-use crate::plays::{ANOTHER_LIFE, SERVED, STOPPED, schedules};
+use crate::plays::{ANOTHER_LIFE, NOT_WRITTEN, SERVED, STOPPED, schedules};
 use crate::rows::none_is_wrong;
 use crate::schedule::{Schedule, steps_of};
 use crate::sound::{SND, sound};
-use Reply::No;
+use Reply::{Done, No};
 use dep_index::{Call, Catalogue, Reply};
 use linear_points::{End, Interval, Point, PointsError, call_intervals, check_points, points};
 use std::alloc::{AllocError, Global};
@@ -127,6 +127,24 @@ const ASKED: Interval = Interval {
         reply: No,
     }),
 };
+
+/// The get beside a removal.
+const WRITTEN: Interval = Interval {
+    call: Call::Get(0, SND),
+    first: 10,
+    end: Some(End {
+        index: 19,
+        reply: Done,
+    }),
+};
+
+#[test]
+fn intervals_end_with_their_calls(rt: HostRuntime) -> Result<(), Fail> {
+    let steps = steps_of(rt.alloc(), NOT_WRITTEN.plays)?;
+    let found = call_intervals(rt.alloc(), &sound(rt.alloc())?, 2, 2, &steps)?;
+    assert!(rt; found.len() == 4 && found.get(2) == Some(&WRITTEN));
+    Ok(())
+}
 
 /// Thread 0 stops with the lock of leaf 0: thread 1 waits for it, and no other thread does.
 #[test]

@@ -6,14 +6,13 @@ ghost use Rattle.root_row.specs.Views.{book_of, state_in};
 ghost use Rattle.root_row.specs.BookSteps.{MayLeave};
 
 use super::steps::{close_and_reopen, drain, finish, remove, undrain};
-use super::{Course, Users, goes_well};
+use super::Users;
 use Call::{Get, InUse, Put};
 use Reply::{Done, No, NotHeld, NotLive, Yes};
 use dep_index::words::{CLOSED, DRAINED};
 use dep_index::{Call, ModuleState, Reply};
 use root_row::{BookSeat, Row};
 use std::sync::Wait;
-use std::test::Fail;
 
 /// A leaf takes two references, and the other has none to give back.
 static TAKEN: [(Call, Reply); 4] = [
@@ -195,28 +194,4 @@ pub(super) fn is_closed_and_reopened<R: Wait>(
     let taken = answers(rt, row, users, &TAKEN);
     let given = answers(rt, row, users, &GIVEN);
     taken && given && word == Some(CLOSED)
-}
-
-#[test]
-fn loads_holds_and_removes(rt: HostRuntime) -> Result<(), Fail> {
-    assert!(rt; goes_well(&rt, &Course::Removal)?);
-    Ok(())
-}
-
-#[test]
-fn drains(rt: HostRuntime) -> Result<(), Fail> {
-    assert!(rt; goes_well(&rt, &Course::Drain)?);
-    Ok(())
-}
-
-#[test]
-fn calls_a_drain_off(rt: HostRuntime) -> Result<(), Fail> {
-    assert!(rt; goes_well(&rt, &Course::DrainCalledOff)?);
-    Ok(())
-}
-
-#[test]
-fn calls_a_removal_off(rt: HostRuntime) -> Result<(), Fail> {
-    assert!(rt; goes_well(&rt, &Course::RemovalCalledOff)?);
-    Ok(())
 }

@@ -3,11 +3,10 @@ ghost use Rattle.std.specs.Prelude.{◌<◌};
 ghost use Rattle.root_row.specs.World.{slots};
 ghost use Rattle.root_row.specs.Seats.{IsOf};
 
-use super::{Course, Users, goes_well};
+use super::Users;
 use Reply::{Done, NotLive};
 use dep_index::Reply;
 use root_row::Row;
-use std::test::Fail;
 use use_indicator::Leaf;
 
 /// What such a get of so many tries answers; None if it gave up.
@@ -50,10 +49,4 @@ pub(super) fn are_guesses_right(row: &Row, users: &mut Users) -> bool
     requires other { IsOf row.now users.old.other }
 {
     needs_no_try(row, &mut users.leaf) && needs_a_try(row, &mut users.other)
-}
-
-#[test]
-fn guesses_hold_where_nobody_holds_it(rt: HostRuntime) -> Result<(), Fail> {
-    assert!(rt; goes_well(&rt, &Course::Guesses)?);
-    Ok(())
 }

@@ -1,6 +1,6 @@
 //! What the checker says of points that others hand in.
 
-use crate::plays::{LEAVING, SERVED};
+use crate::plays::{LEAVING, NOT_WRITTEN, SERVED};
 use crate::rows::none_is_wrong;
 use crate::schedule::{Schedule, steps_of};
 use crate::sound::sound;
@@ -120,6 +120,12 @@ static LISTS: [(&[Mark], bool); 4] = [
     ),
 ];
 
+/// The removal that is refused has no point.
+static TOO_FEW: [(&[Mark], bool); 2] = [
+    (&[(2, 13, Done)], false),
+    (&[(2, 13, Done), (3, 16, InUse)], true),
+];
+
 /// The point of an open call is judged by the replay alone. Calls 2 and 4 are open; the steps are 0 to 22.
 static OPEN: [(&[Mark], bool); 6] = [
     (&[(2, 12, Done), (3, 15, NotLive)], true),
@@ -173,20 +179,12 @@ fn wrong_row(
     Ok(None)
 }
 
+/// Each point is judged by its interval, the list as a whole, and open calls by the replay.
 #[test]
-fn judges_each_point_by_its_interval(rt: HostRuntime) -> Result<(), Fail> {
+fn judges_points(rt: HostRuntime) -> Result<(), Fail> {
     none_is_wrong(&rt, wrong_row(rt.alloc(), &SERVED, &QUERIES)?);
-    Ok(())
-}
-
-#[test]
-fn judges_the_list_as_a_whole(rt: HostRuntime) -> Result<(), Fail> {
     none_is_wrong(&rt, wrong_row(rt.alloc(), &SERVED, &LISTS)?);
-    Ok(())
-}
-
-#[test]
-fn judges_open_calls_by_the_replay(rt: HostRuntime) -> Result<(), Fail> {
+    none_is_wrong(&rt, wrong_row(rt.alloc(), &NOT_WRITTEN, &TOO_FEW)?);
     none_is_wrong(&rt, wrong_row(rt.alloc(), &LEAVING, &OPEN)?);
     Ok(())
 }
