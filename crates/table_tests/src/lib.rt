@@ -1,4 +1,5 @@
-//! Tests of a table whose journal is on the disk: in memory, over files of the system, and of processes that are cut off.
+//! Tests of journals, and of a table whose journal is on the disk: in memory, over files of the system, and of processes
+//! that are cut off.
 #![tactic(auto)]
 
 #[cfg(test)]
@@ -7,6 +8,8 @@ mod compacting;
 mod cut_device;
 #[cfg(test)]
 mod cutting;
+#[cfg(test)]
+mod journals;
 #[cfg(test)]
 mod keeping;
 #[cfg(test)]

@@ -3,8 +3,8 @@ ghost use Rattle.std.specs.Prelude.{IfOk, OnOk};
 ghost use Rattle.line_journal.specs.Journal.{IsReady};
 ghost use Rattle.line_journal.specs.Renewed.{IsRead};
 
-use crate::files::{folder, put as put_once, rewrite};
-use crate::lines::put;
+use super::files::{folder, put as put_once, rewrite};
+use super::lines::put;
 use file_journal::{FileDevice, Syncs};
 use line_journal::{Device, Followed, Journal, Opened, Renewable, Repair, look, open_found};
 use std::alloc::Global;
