@@ -4,11 +4,13 @@ import contextlib
 import hashlib
 import os
 import tempfile
+import time
 from pathlib import Path
 
 from edits.places import PARTS
 from edits.room import library_of
 
+DAYS = 30
 STORE = Path(os.environ.get("XDG_CACHE_HOME") or Path.home() / ".cache") / "gourzhiel-edits"
 
 
@@ -37,9 +39,13 @@ class Kept:
             return []
 
     def keep(self, file, lines):
-        """Keeps the lines, in a file that is whole or not there. If that cannot be done, the next run tries the edits again."""
+        """Keeps the lines for some days, in a file that is whole or not there. If that cannot be done, the next run tries the
+        edits again."""
         with contextlib.suppress(OSError):
             STORE.mkdir(mode=0o700, parents=True, exist_ok=True)
             with tempfile.NamedTemporaryFile("w", dir=STORE, delete=False, encoding="utf-8") as it:
                 it.write("".join(f"{line}\n" for line in lines))
             os.replace(it.name, file)
+            for old in STORE.iterdir():
+                if old.stat().st_mtime < time.time() - DAYS * 86400:
+                    old.unlink()
