@@ -5,8 +5,8 @@ ghost use Rattle.root_row.specs.Seats.{IsOf};
 ghost use Rattle.root_row.specs.Views.{book_of, state_in};
 ghost use Rattle.root_row.specs.BookSteps.{MayLeave};
 
-use super::steps::{close_and_reopen, drain, finish, remove, undrain};
 use super::Users;
+use super::steps::{close_and_reopen, drain, finish, remove, undrain};
 use Call::{Get, InUse, Put};
 use Reply::{Done, No, NotHeld, NotLive, Yes};
 use dep_index::words::{CLOSED, DRAINED};
