@@ -2,6 +2,7 @@
 use Rattle.std.specs.Prelude.{ℕ, Bool, ◌==◌, if◌then◌else◌, List, [], ◌∷◌, ◌++◌, codes, Option, Some, None}
 use Rattle.std.specs.List.{list_any}
 use Rattle.kmod_names.specs.declared.place.Place.{Place}
+use Rattle.machine_lint.specs.declared.note.Note.{Note}
 use Rattle.machine_lint.specs.declared.note.NoteKind.{NoteKind}
 use Rattle.machine_lint.specs.declared.note.NoteKind.TheVariants as of_kind
 use Rattle.machine_lint.specs.declared.setting.Setting.{Setting}
@@ -116,11 +117,14 @@ abbrev pub counting_pieces : List ℕ → Option Place → List Piece
 counting_pieces file None = []
 counting_pieces file (Some place) = field (codes "by_file") file ∷ words (codes ":") ∷ number (codes "by_line") place.line ∷ []
 
--- what is noted of a line of a file
+-- what is noted of a line of a file; `other` is the file of the line that counts in its place
+abbrev pub note_pieces : List ℕ → Note → List ℕ → List Piece
+note_pieces file note other =
+    kind (codes "note") ∷ field (codes "file") file ∷ words (codes ":") ∷ number (codes "line") note.place.line ∷ words (codes ": ")
+    ∷ words (line_word note.setting) ∷ words (space_behind (line_word note.setting)) ∷ field (codes "name") note.name
+    ∷ words (codes ": ") ∷ tag (codes "setting") (line_word note.setting) ∷ tag (codes "because") (because note.kind)
+    ∷ words (words_before note.setting note.kind) ∷ named_piece note.kind ∷ words (words_after note.name note.kind)
+    ∷ counting_pieces other (counting_place note.kind)
+
 abbrev pub note_fact_pieces : List ℕ → NoteFact → List Piece
-note_fact_pieces file fact =
-    kind (codes "note") ∷ field (codes "file") file ∷ words (codes ":") ∷ number (codes "line") fact.note.place.line ∷ words (codes ": ")
-    ∷ words (line_word fact.note.setting) ∷ words (space_behind (line_word fact.note.setting)) ∷ field (codes "name") fact.note.name
-    ∷ words (codes ": ") ∷ tag (codes "setting") (line_word fact.note.setting) ∷ tag (codes "because") (because fact.note.kind)
-    ∷ words (words_before fact.note.setting fact.note.kind) ∷ named_piece fact.note.kind ∷ words (words_after fact.note.name fact.note.kind)
-    ∷ counting_pieces fact.other (counting_place fact.note.kind)
+note_fact_pieces file fact = note_pieces file fact.note.now fact.other.now

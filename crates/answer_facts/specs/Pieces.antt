@@ -1,5 +1,6 @@
 -- The parts of what a line says: for people, and for programs.
 use Rattle.std.specs.Prelude.{ℕ, Bool, true, false, List, [], ◌∷◌, ◌++◌, map, codes, decimal}
+use Rattle.std.specs.Borrow.{Bor}
 use Rattle.std.specs.List.{flat_map}
 use Rattle.answer_facts.specs.declared.piece.Piece.{Piece as CodePiece}
 use Rattle.answer_facts.specs.declared.piece.Piece.TheVariants as code_piece
@@ -78,6 +79,10 @@ json_piece (through names) = json_through names
 abbrev pub json_of : List Piece → List ℕ
 json_of pieces = 123 ∷ (flat_map json_piece pieces ++ (125 ∷ []))
 
+-- names that stand elsewhere
+abbrev pub names_of : List (Bor (List ℕ)) → List (List ℕ)
+names_of names = map (λ name. name.now) names
+
 -- how contracts see the code's
 abbrev pub piece_of : CodePiece → Piece
 piece_of (code_piece.Kind word) = kind word.now
@@ -86,7 +91,7 @@ piece_of (code_piece.Field key value) = field key.now value.now
 piece_of (code_piece.Tag key value) = tag key.now value.now
 piece_of (code_piece.Flag key value) = flag key.now value
 piece_of (code_piece.Number key value) = number key.now value
-piece_of (code_piece.Through names) = through names.now
+piece_of (code_piece.Through names) = through (names_of names.now)
 
 abbrev pub pieces_of : List CodePiece → List Piece
 pieces_of pieces = map piece_of pieces

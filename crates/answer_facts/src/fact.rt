@@ -15,36 +15,35 @@ use crate::piece::Piece;
 use crate::removal_fact::RemovalFact;
 use crate::spot::Spot;
 use crate::state_fact::StateFact;
-use kmod_names::Text;
 use std::alloc::{AllocError, Global};
 
 /// What is said of somebody.
-#[derive(Drop)]
-pub enum What {
-    Name(NameFact),
-    Missing(MissingFact),
-    Lead(LeadFact),
-    Idle(IdleFact),
-    Module(ModuleFact),
-    Line(LineFact),
-    State(StateFact),
-    Removal(RemovalFact),
-    File(FileFact),
-    Note(NoteFact),
+#[derive(Clone, Copy)]
+pub enum What<'a> {
+    Name(NameFact<'a>),
+    Missing(MissingFact<'a>),
+    Lead(LeadFact<'a>),
+    Idle(IdleFact<'a>),
+    Module(ModuleFact<'a>),
+    Line(LineFact<'a>),
+    State(StateFact<'a>),
+    Removal(RemovalFact<'a>),
+    File(FileFact<'a>),
+    Note(NoteFact<'a>),
 }
 
 /// A fact: of whom something is said, what, and where that stands.
-#[derive(Drop)]
-pub struct Fact {
+#[derive(Clone, Copy)]
+pub struct Fact<'a> {
     /// A module, a name or a file.
-    pub whom: Text,
-    pub what: What,
-    pub spot: Spot,
+    pub whom: &'a [u8],
+    pub what: What<'a>,
+    pub spot: Spot<'a>,
 }
 
-impl What {
-    fn pieces<'a>(&'a self, alloc: Global, whom: &'a [u8]) -> Result<Vec<Piece<'a>>, AllocError>
-        ensures { IfOk result (λ pieces. pieces_of pieces.items ≡ what_pieces whom.entry.now self.entry.now) }
+impl<'a> What<'a> {
+    fn pieces(self, alloc: Global, whom: &'a [u8]) -> Result<Vec<Piece<'a>>, AllocError>
+        ensures { IfOk result (λ pieces. pieces_of pieces.items ≡ what_pieces whom.entry.now self.entry) }
     {
         match self {
             What::Name(fact) => fact.pieces(alloc, whom),
@@ -61,12 +60,12 @@ impl What {
     }
 }
 
-impl Fact {
+impl<'a> Fact<'a> {
     /// The parts of its line.
-    pub(crate) fn pieces<'a>(&'a self, alloc: Global) -> Result<Vec<Piece<'a>>, AllocError>
-        ensures { IfOk result (λ pieces. pieces_of pieces.items ≡ pieces_of_fact self.entry.now) }
+    pub(crate) fn pieces(self, alloc: Global) -> Result<Vec<Piece<'a>>, AllocError>
+        ensures { IfOk result (λ pieces. pieces_of pieces.items ≡ pieces_of_fact self.entry) }
     {
-        let mut pieces = self.what.pieces(alloc, self.whom.as_bytes())?;
+        let mut pieces = self.what.pieces(alloc, self.whom)?;
         self.spot.push_to(&mut pieces)?;
         Ok(pieces)
     }

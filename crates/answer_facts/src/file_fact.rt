@@ -6,7 +6,6 @@ ghost use Rattle.answer_facts.specs.Words.{unread_why, unread_word};
 
 use crate::piece::Piece;
 use crate::sentence::sentence;
-use kmod_names::Text;
 use std::alloc::{AllocError, Global};
 
 /// Why a file is not read (modprobe.d(5)).
@@ -25,10 +24,10 @@ pub enum Unread {
 }
 
 /// What is so of a file of the configuration.
-#[derive(Drop)]
-pub enum FileFact {
+#[derive(Clone, Copy)]
+pub enum FileFact<'a> {
     /// It is not read, since this file of its name comes first.
-    Hidden(Text),
+    Hidden(&'a [u8]),
     /// It is not read.
     Unread(Unread),
     /// Its lines end with a carriage return.
@@ -63,14 +62,10 @@ impl Unread {
     }
 }
 
-impl FileFact {
+impl<'a> FileFact<'a> {
     /// What is said.
-    pub(crate) fn pieces<'a>(
-        &'a self,
-        alloc: Global,
-        whom: &'a [u8],
-    ) -> Result<Vec<Piece<'a>>, AllocError>
-        ensures { IfOk result (λ pieces. pieces_of pieces.items ≡ file_fact_pieces whom.entry.now self.entry.now) }
+    pub(crate) fn pieces(self, alloc: Global, whom: &'a [u8]) -> Result<Vec<Piece<'a>>, AllocError>
+        ensures { IfOk result (λ pieces. pieces_of pieces.items ≡ file_fact_pieces whom.entry.now self.entry) }
     {
         let file = Piece::Field(b"file", whom);
         match self {
@@ -80,7 +75,7 @@ impl FileFact {
                 file,
                 &[
                     Piece::Words(b"not read, since a file of its name comes first ("),
-                    Piece::Field(b"by", by.as_bytes()),
+                    Piece::Field(b"by", by),
                     Piece::Words(b")"),
                     Piece::Tag(b"because", b"hidden"),
                 ],

@@ -6,7 +6,6 @@ ghost use Rattle.answer_facts.specs.Words.{setting_unknown, setting_word};
 
 use crate::piece::Piece;
 use crate::sentence::sentence;
-use kmod_names::Text;
 use std::alloc::{AllocError, Global};
 
 /// Of which kind a line of the configuration is.
@@ -20,10 +19,10 @@ pub enum Setting {
 }
 
 /// That a line of a name has no effect.
-#[derive(Drop)]
-pub enum IdleFact {
+#[derive(Clone, Copy)]
+pub enum IdleFact<'a> {
     /// An alias of what no module is.
-    Alias(Text),
+    Alias(&'a [u8]),
     /// A line whose name nothing has.
     Unknown(Setting),
     /// A line that does not count, since another one of its kind and name comes first.
@@ -60,14 +59,10 @@ impl Setting {
     }
 }
 
-impl IdleFact {
+impl<'a> IdleFact<'a> {
     /// What is said.
-    pub(crate) fn pieces<'a>(
-        &'a self,
-        alloc: Global,
-        whom: &'a [u8],
-    ) -> Result<Vec<Piece<'a>>, AllocError>
-        ensures { IfOk result (λ pieces. pieces_of pieces.items ≡ idle_fact_pieces whom.entry.now self.entry.now) }
+    pub(crate) fn pieces(self, alloc: Global, whom: &'a [u8]) -> Result<Vec<Piece<'a>>, AllocError>
+        ensures { IfOk result (λ pieces. pieces_of pieces.items ≡ idle_fact_pieces whom.entry.now self.entry) }
     {
         let name = Piece::Field(b"name", whom);
         match self {
@@ -77,7 +72,7 @@ impl IdleFact {
                 name,
                 &[
                     Piece::Words(b"alias of "),
-                    Piece::Field(b"of", of.as_bytes()),
+                    Piece::Field(b"of", of),
                     Piece::Words(b", but no module has that name"),
                     Piece::Tag(b"setting", b"alias"),
                     Piece::Tag(b"because", b"unknown"),

@@ -6,7 +6,6 @@ ghost use Rattle.answer_facts.specs.Words.{side_word, side_words};
 
 use crate::piece::Piece;
 use crate::sentence::sentence;
-use kmod_names::Text;
 use std::alloc::{AllocError, Global};
 
 /// On which side of its module a soft item stands.
@@ -17,16 +16,16 @@ pub enum Side {
 }
 
 /// What leads from a name to a module.
-#[derive(Drop)]
-pub enum LeadFact {
+#[derive(Clone, Copy)]
+pub enum LeadFact<'a> {
     /// It is a soft item of this module.
-    Softdep { side: Side, of: Text },
+    Softdep { side: Side, of: &'a [u8] },
     /// It is a weak item of this module.
-    Weakdep(Text),
+    Weakdep(&'a [u8]),
     /// It is an alias of this module.
-    Alias(Text),
+    Alias(&'a [u8]),
     /// It is an alias of this module that a device has.
-    Device(Text),
+    Device(&'a [u8]),
 }
 
 impl Side {
@@ -51,14 +50,10 @@ impl Side {
     }
 }
 
-impl LeadFact {
+impl<'a> LeadFact<'a> {
     /// What is said.
-    pub(crate) fn pieces<'a>(
-        &'a self,
-        alloc: Global,
-        whom: &'a [u8],
-    ) -> Result<Vec<Piece<'a>>, AllocError>
-        ensures { IfOk result (λ pieces. pieces_of pieces.items ≡ lead_fact_pieces whom.entry.now self.entry.now) }
+    pub(crate) fn pieces(self, alloc: Global, whom: &'a [u8]) -> Result<Vec<Piece<'a>>, AllocError>
+        ensures { IfOk result (λ pieces. pieces_of pieces.items ≡ lead_fact_pieces whom.entry.now self.entry) }
     {
         let name = Piece::Field(b"name", whom);
         match self {
@@ -68,7 +63,7 @@ impl LeadFact {
                 name,
                 &[
                     Piece::Words(side.words()),
-                    Piece::Field(b"of", of.as_bytes()),
+                    Piece::Field(b"of", of),
                     Piece::Tag(b"side", side.word()),
                 ],
             ),
@@ -76,19 +71,13 @@ impl LeadFact {
                 alloc,
                 b"weakdep",
                 name,
-                &[
-                    Piece::Words(b"weakdep of "),
-                    Piece::Field(b"of", of.as_bytes()),
-                ],
+                &[Piece::Words(b"weakdep of "), Piece::Field(b"of", of)],
             ),
             LeadFact::Alias(of) => sentence(
                 alloc,
                 b"alias",
                 name,
-                &[
-                    Piece::Words(b"alias of "),
-                    Piece::Field(b"of", of.as_bytes()),
-                ],
+                &[Piece::Words(b"alias of "), Piece::Field(b"of", of)],
             ),
             LeadFact::Device(of) => sentence(
                 alloc,
@@ -96,7 +85,7 @@ impl LeadFact {
                 name,
                 &[
                     Piece::Words(b"alias of "),
-                    Piece::Field(b"of", of.as_bytes()),
+                    Piece::Field(b"of", of),
                     Piece::Words(b" that a device has"),
                 ],
             ),

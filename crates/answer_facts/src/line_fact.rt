@@ -6,7 +6,6 @@ ghost use Rattle.answer_facts.specs.Words.{command_named, command_word, passed_w
 
 use crate::piece::Piece;
 use crate::sentence::sentence;
-use kmod_names::Text;
 use std::alloc::{AllocError, Global};
 
 /// Which command a line has.
@@ -28,19 +27,19 @@ pub enum Passed {
 }
 
 /// A line of the configuration that counts for a module, or is passed over.
-#[derive(Drop)]
-pub enum LineFact {
+#[derive(Clone, Copy)]
+pub enum LineFact<'a> {
     /// Its options.
-    Options(Text),
+    Options(&'a [u8]),
     /// Options of the alias by which it came.
     AliasOptions {
-        text: Text,
-        alias: Text,
+        text: &'a [u8],
+        alias: &'a [u8],
     },
     /// A command in its place.
     Command {
         command: Command,
-        text: Text,
+        text: &'a [u8],
         passed: Passed,
     },
     /// Its soft items, which `-i` passes over.
@@ -93,14 +92,10 @@ impl Passed {
     }
 }
 
-impl LineFact {
+impl<'a> LineFact<'a> {
     /// What is said.
-    pub(crate) fn pieces<'a>(
-        &'a self,
-        alloc: Global,
-        whom: &'a [u8],
-    ) -> Result<Vec<Piece<'a>>, AllocError>
-        ensures { IfOk result (λ pieces. pieces_of pieces.items ≡ line_fact_pieces whom.entry.now self.entry.now) }
+    pub(crate) fn pieces(self, alloc: Global, whom: &'a [u8]) -> Result<Vec<Piece<'a>>, AllocError>
+        ensures { IfOk result (λ pieces. pieces_of pieces.items ≡ line_fact_pieces whom.entry.now self.entry) }
     {
         let module = Piece::Field(b"module", whom);
         match self {
@@ -108,10 +103,7 @@ impl LineFact {
                 alloc,
                 b"options",
                 module,
-                &[
-                    Piece::Words(b"options "),
-                    Piece::Field(b"options", text.as_bytes()),
-                ],
+                &[Piece::Words(b"options "), Piece::Field(b"options", text)],
             ),
             LineFact::AliasOptions { text, alias } => sentence(
                 alloc,
@@ -119,9 +111,9 @@ impl LineFact {
                 module,
                 &[
                     Piece::Words(b"options "),
-                    Piece::Field(b"options", text.as_bytes()),
+                    Piece::Field(b"options", text),
                     Piece::Words(b", of the alias "),
-                    Piece::Field(b"alias", alias.as_bytes()),
+                    Piece::Field(b"alias", alias),
                 ],
             ),
             LineFact::Command {
@@ -135,7 +127,7 @@ impl LineFact {
                 &[
                     Piece::Words(command.word()),
                     Piece::Words(b" "),
-                    Piece::Field(b"command", text.as_bytes()),
+                    Piece::Field(b"command", text),
                     Piece::Words(passed.words()),
                     Piece::Tag(b"setting", command.word()),
                     Piece::Tag(b"passed_over", passed.word()),

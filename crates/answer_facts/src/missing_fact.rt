@@ -5,30 +5,25 @@ ghost use Rattle.answer_facts.specs.Facts.{missing_fact_pieces};
 
 use crate::piece::Piece;
 use crate::sentence::sentence;
-use kmod_names::Text;
 use std::alloc::{AllocError, Global};
 
 /// That a name stands for nothing.
-#[derive(Drop)]
-pub enum MissingFact {
+#[derive(Clone, Copy)]
+pub enum MissingFact<'a> {
     /// Nothing has this name.
     NotFound,
     /// It is no name.
     NoName,
     /// It is a path at which no module can be read.
-    BadPath(Text),
+    BadPath(&'a [u8]),
     /// There is a module of nearly this name.
-    Near(Text),
+    Near(&'a [u8]),
 }
 
-impl MissingFact {
+impl<'a> MissingFact<'a> {
     /// What is said.
-    pub(crate) fn pieces<'a>(
-        &'a self,
-        alloc: Global,
-        whom: &'a [u8],
-    ) -> Result<Vec<Piece<'a>>, AllocError>
-        ensures { IfOk result (λ pieces. pieces_of pieces.items ≡ missing_fact_pieces whom.entry.now self.entry.now) }
+    pub(crate) fn pieces(self, alloc: Global, whom: &'a [u8]) -> Result<Vec<Piece<'a>>, AllocError>
+        ensures { IfOk result (λ pieces. pieces_of pieces.items ≡ missing_fact_pieces whom.entry.now self.entry) }
     {
         let name = Piece::Field(b"name", whom);
         match self {
@@ -48,19 +43,13 @@ impl MissingFact {
                 alloc,
                 b"bad_path",
                 name,
-                &[
-                    Piece::Words(b"a path: "),
-                    Piece::Field(b"because", because.as_bytes()),
-                ],
+                &[Piece::Words(b"a path: "), Piece::Field(b"because", because)],
             ),
             MissingFact::Near(near) => sentence(
                 alloc,
                 b"near_name",
                 name,
-                &[
-                    Piece::Words(b"there is "),
-                    Piece::Field(b"near", near.as_bytes()),
-                ],
+                &[Piece::Words(b"there is "), Piece::Field(b"near", near)],
             ),
         }
     }

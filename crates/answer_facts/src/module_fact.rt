@@ -6,20 +6,25 @@ ghost use Rattle.answer_facts.specs.Facts.{module_fact_pieces};
 use crate::blacklist::Blacklist;
 use crate::piece::Piece;
 use crate::sentence::sentence;
-use kmod_names::Text;
 use std::alloc::{AllocError, Global};
 
 /// What leads to a module, or keeps it away.
-#[derive(Drop)]
-pub enum ModuleFact {
+#[derive(Clone, Copy)]
+pub enum ModuleFact<'a> {
     /// This module needs it, by itself or through these.
-    NeededBy { by: Text, through: Vec<Text> },
+    NeededBy {
+        by: &'a [u8],
+        through: &'a [&'a [u8]],
+    },
     /// It needs this module.
-    Needs { needs: Text, through: Vec<Text> },
+    Needs {
+        needs: &'a [u8],
+        through: &'a [&'a [u8]],
+    },
     /// A blacklist line has its name.
     Blacklisted(Blacklist),
     /// A blacklist line has its name with `-` for `_`.
-    Misspelt(Text),
+    Misspelt(&'a [u8]),
     /// The kernel refuses it.
     KernelRefuses,
     /// No module has this name.
@@ -28,14 +33,10 @@ pub enum ModuleFact {
     SwitchedOff,
 }
 
-impl ModuleFact {
+impl<'a> ModuleFact<'a> {
     /// What is said.
-    pub(crate) fn pieces<'a>(
-        &'a self,
-        alloc: Global,
-        whom: &'a [u8],
-    ) -> Result<Vec<Piece<'a>>, AllocError>
-        ensures { IfOk result (λ pieces. pieces_of pieces.items ≡ module_fact_pieces whom.entry.now self.entry.now) }
+    pub(crate) fn pieces(self, alloc: Global, whom: &'a [u8]) -> Result<Vec<Piece<'a>>, AllocError>
+        ensures { IfOk result (λ pieces. pieces_of pieces.items ≡ module_fact_pieces whom.entry.now self.entry) }
     {
         let module = Piece::Field(b"module", whom);
         match self {
@@ -45,7 +46,7 @@ impl ModuleFact {
                 module,
                 &[
                     Piece::Words(b"needed by "),
-                    Piece::Field(b"by", by.as_bytes()),
+                    Piece::Field(b"by", by),
                     Piece::Through(through),
                 ],
             ),
@@ -55,7 +56,7 @@ impl ModuleFact {
                 module,
                 &[
                     Piece::Words(b"needs "),
-                    Piece::Field(b"needs", needs.as_bytes()),
+                    Piece::Field(b"needs", needs),
                     Piece::Through(through),
                 ],
             ),
@@ -76,7 +77,7 @@ impl ModuleFact {
                 module,
                 &[
                     Piece::Words(b"blacklisted as "),
-                    Piece::Field(b"as", written.as_bytes()),
+                    Piece::Field(b"as", written),
                     Piece::Words(b", which does not hold: only "),
                     Piece::Words(whom),
                     Piece::Words(b" would"),

@@ -6,38 +6,33 @@ ghost use Rattle.answer_facts.specs.Facts.{name_fact_pieces};
 use crate::line_fact::Command;
 use crate::piece::Piece;
 use crate::sentence::sentence;
-use kmod_names::Text;
 use std::alloc::{AllocError, Global};
 
 /// What a name stands for.
-#[derive(Drop)]
-pub enum NameFact {
+#[derive(Clone, Copy)]
+pub enum NameFact<'a> {
     /// A module, by this line of modules.dep.
-    Module(Text),
+    Module(&'a [u8]),
     /// An alias of this, by a line that has this pattern.
-    Alias { of: Text, pattern: Text },
+    Alias { of: &'a [u8], pattern: &'a [u8] },
     /// The same, of a module that is built in.
-    BuiltInAlias { of: Text, pattern: Text },
+    BuiltInAlias { of: &'a [u8], pattern: &'a [u8] },
     /// A symbol that this module exports.
-    Exported(Text),
+    Exported(&'a [u8]),
     /// The very name of a line with a command.
     Named(Command),
     /// A module that is built in.
     BuiltIn,
     /// The file of this module.
-    File(Text),
+    File(&'a [u8]),
     /// It is not asked for, since what has this name is not removed.
-    LeftOut(Text),
+    LeftOut(&'a [u8]),
 }
 
-impl NameFact {
+impl<'a> NameFact<'a> {
     /// What is said.
-    pub(crate) fn pieces<'a>(
-        &'a self,
-        alloc: Global,
-        whom: &'a [u8],
-    ) -> Result<Vec<Piece<'a>>, AllocError>
-        ensures { IfOk result (λ pieces. pieces_of pieces.items ≡ name_fact_pieces whom.entry.now self.entry.now) }
+    pub(crate) fn pieces(self, alloc: Global, whom: &'a [u8]) -> Result<Vec<Piece<'a>>, AllocError>
+        ensures { IfOk result (λ pieces. pieces_of pieces.items ≡ name_fact_pieces whom.entry.now self.entry) }
     {
         let name = Piece::Field(b"name", whom);
         match self {
@@ -45,10 +40,7 @@ impl NameFact {
                 alloc,
                 b"module",
                 name,
-                &[
-                    Piece::Words(b"module "),
-                    Piece::Field(b"path", path.as_bytes()),
-                ],
+                &[Piece::Words(b"module "), Piece::Field(b"path", path)],
             ),
             NameFact::Alias { of, pattern } => sentence(
                 alloc,
@@ -56,9 +48,9 @@ impl NameFact {
                 name,
                 &[
                     Piece::Words(b"alias of "),
-                    Piece::Field(b"of", of.as_bytes()),
+                    Piece::Field(b"of", of),
                     Piece::Words(b", as "),
-                    Piece::Field(b"pattern", pattern.as_bytes()),
+                    Piece::Field(b"pattern", pattern),
                 ],
             ),
             NameFact::BuiltInAlias { of, pattern } => sentence(
@@ -67,9 +59,9 @@ impl NameFact {
                 name,
                 &[
                     Piece::Words(b"alias of the built-in "),
-                    Piece::Field(b"of", of.as_bytes()),
+                    Piece::Field(b"of", of),
                     Piece::Words(b", as "),
-                    Piece::Field(b"pattern", pattern.as_bytes()),
+                    Piece::Field(b"pattern", pattern),
                     Piece::Flag(b"built_in", true),
                 ],
             ),
@@ -77,10 +69,7 @@ impl NameFact {
                 alloc,
                 b"symbol",
                 name,
-                &[
-                    Piece::Words(b"exported by "),
-                    Piece::Field(b"by", by.as_bytes()),
-                ],
+                &[Piece::Words(b"exported by "), Piece::Field(b"by", by)],
             ),
             NameFact::Named(command) => sentence(
                 alloc,
@@ -96,10 +85,7 @@ impl NameFact {
                 alloc,
                 b"path",
                 name,
-                &[
-                    Piece::Words(b"the file of "),
-                    Piece::Field(b"of", of.as_bytes()),
-                ],
+                &[Piece::Words(b"the file of "), Piece::Field(b"of", of)],
             ),
             NameFact::LeftOut(refused) => sentence(
                 alloc,
@@ -107,7 +93,7 @@ impl NameFact {
                 name,
                 &[
                     Piece::Words(b"not asked for, since "),
-                    Piece::Field(b"refused", refused.as_bytes()),
+                    Piece::Field(b"refused", refused),
                     Piece::Words(b" is not removed"),
                 ],
             ),

@@ -5,16 +5,16 @@ ghost use Rattle.answer_facts.specs.Pieces.{piece_of, pieces_of};
 ghost use Rattle.answer_facts.specs.NoteFacts.{because, built_in_words, counting_pieces, counting_place, hyphen_words, is_hyphen, line_word, named_piece, note_fact_pieces, space_behind, unknown_words, words_after, words_before};
 
 use crate::piece::Piece;
-use kmod_names::{Place, Text};
+use kmod_names::Place;
 use machine_lint::{Note, NoteKind, Setting};
 use std::alloc::{AllocError, Global};
 
 /// A note of a line of a file.
-#[derive(Drop)]
-pub struct NoteFact {
-    pub note: Note,
+#[derive(Clone, Copy)]
+pub struct NoteFact<'a> {
+    pub note: &'a Note,
     /// The file of the line that counts in its place; empty if the note names none.
-    pub other: Text,
+    pub other: &'a [u8],
 }
 
 /// The place of the line that counts in place of the one that is noted, if the note names it.
@@ -180,14 +180,14 @@ fn words_after(name: &[u8], kind: &NoteKind) -> &'static [u8]
     }
 }
 
-impl NoteFact {
+impl<'a> NoteFact<'a> {
     /// Adds where the line stands that counts in its place, if the note names it.
-    fn push_counting<'a>(&'a self, pieces: &mut Vec<Piece<'a>>) -> Result<(), AllocError>
-        ensures { OnOk result (pieces_of pieces.new.items ≡ pieces_of pieces.old.items ++ counting_pieces self.entry.now.other (counting_place self.entry.now.note.kind)) }
+    fn push_counting(self, pieces: &mut Vec<Piece<'a>>) -> Result<(), AllocError>
+        ensures { OnOk result (pieces_of pieces.new.items ≡ pieces_of pieces.old.items ++ counting_pieces self.entry.other.now (counting_place self.entry.note.now.kind)) }
     {
         match counting_place(&self.note.kind) {
             Some(place) => pieces.extend_from_slice(&[
-                Piece::Field(b"by_file", self.other.as_bytes()),
+                Piece::Field(b"by_file", self.other),
                 Piece::Words(b":"),
                 Piece::Number(b"by_line", place.line as u64),
             ]),
@@ -196,14 +196,10 @@ impl NoteFact {
     }
 
     /// What is said, of a line of this file.
-    pub(crate) fn pieces<'a>(
-        &'a self,
-        alloc: Global,
-        file: &'a [u8],
-    ) -> Result<Vec<Piece<'a>>, AllocError>
-        ensures { IfOk result (λ pieces. pieces_of pieces.items ≡ note_fact_pieces file.entry.now self.entry.now) }
+    pub(crate) fn pieces(self, alloc: Global, file: &'a [u8]) -> Result<Vec<Piece<'a>>, AllocError>
+        ensures { IfOk result (λ pieces. pieces_of pieces.items ≡ note_fact_pieces file.entry.now self.entry) }
     {
-        let note = &self.note;
+        let note = self.note;
         let word = line_word(note.setting);
         let mut pieces = Vec::from_slice(
             alloc,

@@ -2,11 +2,10 @@
 ghost use Rattle.std.specs.Prelude.{◌≡◌, ◌++◌, decimal, OnOk};
 ghost use Rattle.std.specs.List.{flat_map};
 ghost use Rattle.answer_facts.specs.Quoted.{quoted};
-ghost use Rattle.answer_facts.specs.Pieces.{comma_name, comma_quoted, flag_text, json_list, json_of, json_piece, json_tag, json_through, key_text, piece_of, pieces_of, text_of, text_piece, text_through, truth_text};
+ghost use Rattle.answer_facts.specs.Pieces.{comma_name, comma_quoted, flag_text, json_list, json_of, json_piece, json_tag, json_through, key_text, names_of, piece_of, pieces_of, text_of, text_piece, text_through, truth_text};
 
 use crate::quoted::push_quoted;
 use itoa::Buffer;
-use kmod_names::Text;
 use std::alloc::AllocError;
 
 /// A part of what a line says. A field has its key first; the text has what is no field, too.
@@ -25,7 +24,7 @@ pub(crate) enum Piece<'a> {
     /// A number that stands in the text too.
     Number(&'a [u8], u64),
     /// How a module is needed: by itself if there are no names, else through these modules.
-    Through(&'a [Text]),
+    Through(&'a [&'a [u8]]),
 }
 
 fn push_number(text: &mut Vec<u8>, number: u64) -> Result<(), AllocError>
@@ -36,24 +35,24 @@ fn push_number(text: &mut Vec<u8>, number: u64) -> Result<(), AllocError>
 }
 
 /// Adds names to a text, each after a comma.
-fn push_names(text: &mut Vec<u8>, names: &[Text]) -> Result<(), AllocError>
-    ensures { OnOk result (text.new.items ≡ text.old.items ++ flat_map comma_name names.now) }
+fn push_names(text: &mut Vec<u8>, names: &[&[u8]]) -> Result<(), AllocError>
+    ensures { OnOk result (text.new.items ≡ text.old.items ++ flat_map comma_name (names_of names.now)) }
 {
     for name in names {
         text.extend_from_slice(b", ")?;
-        text.extend_from_slice(name.as_bytes())?;
+        text.extend_from_slice(*name)?;
     }
     Ok(())
 }
 
 /// Adds to a text how a module is needed.
-fn push_through(text: &mut Vec<u8>, names: &[Text]) -> Result<(), AllocError>
-    ensures { OnOk result (text.new.items ≡ text.old.items ++ text_through names.now) }
+fn push_through(text: &mut Vec<u8>, names: &[&[u8]]) -> Result<(), AllocError>
+    ensures { OnOk result (text.new.items ≡ text.old.items ++ text_through (names_of names.now)) }
 {
     match names.split_first() {
         Some((first, others)) => {
             text.extend_from_slice(b" through ")?;
-            text.extend_from_slice(first.as_bytes())?;
+            text.extend_from_slice(*first)?;
             push_names(text, others)
         }
         None => text.extend_from_slice(b", direct"),
@@ -120,20 +119,20 @@ fn push_flag(text: &mut Vec<u8>, key: &[u8], value: bool) -> Result<(), AllocErr
 }
 
 /// Adds names as strings, each after a comma.
-fn push_quoted_names(text: &mut Vec<u8>, names: &[Text]) -> Result<(), AllocError>
-    ensures { OnOk result (text.new.items ≡ text.old.items ++ flat_map comma_quoted names.now) }
+fn push_quoted_names(text: &mut Vec<u8>, names: &[&[u8]]) -> Result<(), AllocError>
+    ensures { OnOk result (text.new.items ≡ text.old.items ++ flat_map comma_quoted (names_of names.now)) }
 {
     for name in names {
         text.push(b',')?;
-        push_quoted(text, name.as_bytes())?;
+        push_quoted(text, *name)?;
     }
     Ok(())
 }
 
 /// Adds a list of strings.
 #[tactic(auto, unfolding(crate::specs::Pieces::json_list))]
-fn push_list(text: &mut Vec<u8>, first: &[u8], others: &[Text]) -> Result<(), AllocError>
-    ensures { OnOk result (text.new.items ≡ text.old.items ++ json_list first.now others.now) }
+fn push_list(text: &mut Vec<u8>, first: &[u8], others: &[&[u8]]) -> Result<(), AllocError>
+    ensures { OnOk result (text.new.items ≡ text.old.items ++ json_list first.now (names_of others.now)) }
 {
     text.push(b'[')?;
     push_quoted(text, first)?;
@@ -143,14 +142,14 @@ fn push_list(text: &mut Vec<u8>, first: &[u8], others: &[Text]) -> Result<(), Al
 }
 
 /// Adds the fields of how a module is needed.
-fn push_through_fields(text: &mut Vec<u8>, names: &[Text]) -> Result<(), AllocError>
-    ensures { OnOk result (text.new.items ≡ text.old.items ++ json_through names.now) }
+fn push_through_fields(text: &mut Vec<u8>, names: &[&[u8]]) -> Result<(), AllocError>
+    ensures { OnOk result (text.new.items ≡ text.old.items ++ json_through (names_of names.now)) }
 {
     match names.split_first() {
         Some((first, others)) => {
             push_flag(text, b"direct", false)?;
             push_key(text, b"through")?;
-            push_list(text, first.as_bytes(), others)
+            push_list(text, *first, others)
         }
         None => push_flag(text, b"direct", true),
     }

@@ -6,7 +6,6 @@ ghost use Rattle.answer_facts.specs.Words.{shows_word, shows_words};
 
 use crate::piece::Piece;
 use crate::sentence::sentence;
-use kmod_names::Text;
 use std::alloc::{AllocError, Global};
 
 /// Which dry run shows a removal.
@@ -18,12 +17,12 @@ pub enum Shows {
 }
 
 /// What becomes of a module in a removal.
-#[derive(Drop)]
-pub enum RemovalFact {
+#[derive(Clone, Copy)]
+pub enum RemovalFact<'a> {
     /// It is removed too, since nothing uses it.
     Unused,
     /// It is removed too once this module is gone, as a dry run shows or only a whole one.
-    Freed { after: Text, shown: Shows },
+    Freed { after: &'a [u8], shown: Shows },
     /// Nothing uses it once those are gone that were removed before.
     Free,
     /// It was removed before.
@@ -31,7 +30,7 @@ pub enum RemovalFact {
     /// It stays, and ends the removal.
     Ends,
     /// It is left out, since this module is not removed.
-    LeftOut(Text),
+    LeftOut(&'a [u8]),
 }
 
 impl Shows {
@@ -56,14 +55,10 @@ impl Shows {
     }
 }
 
-impl RemovalFact {
+impl<'a> RemovalFact<'a> {
     /// What is said.
-    pub(crate) fn pieces<'a>(
-        &'a self,
-        alloc: Global,
-        whom: &'a [u8],
-    ) -> Result<Vec<Piece<'a>>, AllocError>
-        ensures { IfOk result (λ pieces. pieces_of pieces.items ≡ removal_fact_pieces whom.entry.now self.entry.now) }
+    pub(crate) fn pieces(self, alloc: Global, whom: &'a [u8]) -> Result<Vec<Piece<'a>>, AllocError>
+        ensures { IfOk result (λ pieces. pieces_of pieces.items ≡ removal_fact_pieces whom.entry.now self.entry) }
     {
         let module = Piece::Field(b"module", whom);
         match self {
@@ -82,7 +77,7 @@ impl RemovalFact {
                 module,
                 &[
                     Piece::Words(b"nothing uses it once "),
-                    Piece::Field(b"after", after.as_bytes()),
+                    Piece::Field(b"after", after),
                     Piece::Words(b" is gone, so it is removed too"),
                     Piece::Words(shown.words()),
                     Piece::Tag(b"outcome", b"removed"),
@@ -108,7 +103,7 @@ impl RemovalFact {
                 module,
                 &[
                     Piece::Words(b"not asked for, since "),
-                    Piece::Field(b"refused", refused.as_bytes()),
+                    Piece::Field(b"refused", refused),
                     Piece::Words(b" is not removed"),
                 ],
             ),

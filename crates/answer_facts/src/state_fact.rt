@@ -6,7 +6,6 @@ ghost use Rattle.answer_facts.specs.Words.{outcome_word, outcome_words};
 
 use crate::piece::Piece;
 use crate::sentence::sentence;
-use kmod_names::Text;
 use std::alloc::{AllocError, Global};
 
 /// What follows from what the kernel has.
@@ -19,8 +18,8 @@ pub enum Outcome {
 }
 
 /// What the kernel has of a module.
-#[derive(Drop)]
-pub enum StateFact {
+#[derive(Clone, Copy)]
+pub enum StateFact<'a> {
     /// It is loaded.
     Loaded(Outcome),
     /// It is built in.
@@ -34,7 +33,7 @@ pub enum StateFact {
     /// It has so many users that are no modules.
     OtherUsers(u64),
     /// This module uses it.
-    HeldBy(Text),
+    HeldBy(&'a [u8]),
 }
 
 impl Outcome {
@@ -61,14 +60,10 @@ impl Outcome {
     }
 }
 
-impl StateFact {
+impl<'a> StateFact<'a> {
     /// What is said.
-    pub(crate) fn pieces<'a>(
-        &'a self,
-        alloc: Global,
-        whom: &'a [u8],
-    ) -> Result<Vec<Piece<'a>>, AllocError>
-        ensures { IfOk result (λ pieces. pieces_of pieces.items ≡ state_fact_pieces whom.entry.now self.entry.now) }
+    pub(crate) fn pieces(self, alloc: Global, whom: &'a [u8]) -> Result<Vec<Piece<'a>>, AllocError>
+        ensures { IfOk result (λ pieces. pieces_of pieces.items ≡ state_fact_pieces whom.entry.now self.entry) }
     {
         let module = Piece::Field(b"module", whom);
         match self {
@@ -104,7 +99,7 @@ impl StateFact {
                 module,
                 &[
                     Piece::Words(b"its count of users is "),
-                    Piece::Number(b"count", *count),
+                    Piece::Number(b"count", count),
                 ],
             ),
             StateFact::UsersUnknown => sentence(
@@ -119,17 +114,14 @@ impl StateFact {
                 module,
                 &[
                     Piece::Words(b"its count of users that are no modules is "),
-                    Piece::Number(b"count", *count),
+                    Piece::Number(b"count", count),
                 ],
             ),
             StateFact::HeldBy(by) => sentence(
                 alloc,
                 b"held_by",
                 module,
-                &[
-                    Piece::Words(b"held by "),
-                    Piece::Field(b"by", by.as_bytes()),
-                ],
+                &[Piece::Words(b"held by "), Piece::Field(b"by", by)],
             ),
         }
     }

@@ -1,15 +1,14 @@
 -- Files that are not read, as facts.
-use Rattle.answer_facts.specs.declared.fact.Fact.{Fact}
-use Rattle.answer_facts.specs.declared.fact.What.TheVariants as of
-use Rattle.answer_facts.specs.declared.file_fact.FileFact.TheVariants as of_file
-use Rattle.answer_facts.specs.declared.spot.Spot.TheVariants.{Nowhere}
+use Rattle.std.specs.Prelude.{List}
+use Rattle.answer_facts.specs.Facts.{hidden_pieces, unread_pieces}
+use Rattle.answer_facts.specs.Pieces.{Piece}
 use Rattle.modprobe_files.specs.declared.texts.HiddenFile.{HiddenFile}
 use Rattle.answer_reasons.specs.declared.sources.UnreadFile.{UnreadFile}
 
--- a file that another one of its name hides
-abbrev pub fact_of_hidden : HiddenFile → Fact
-fact_of_hidden file = record { whom = file.path.items; what = of.File (of_file.Hidden file.by.items); spot = Nowhere }
+-- what is said of a file that another one of its name hides
+abbrev pub hidden_file : HiddenFile → List Piece
+hidden_file file = hidden_pieces file.path.items file.by.items
 
--- a file beside the configuration that is not read
-abbrev pub fact_of_unread : UnreadFile → Fact
-fact_of_unread file = record { whom = file.path.items; what = of.File (of_file.Unread file.reason); spot = Nowhere }
+-- what is said of a file beside the configuration that is not read
+abbrev pub unread_file : UnreadFile → List Piece
+unread_file file = unread_pieces file.path.items file.reason

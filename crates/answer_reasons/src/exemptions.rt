@@ -4,8 +4,8 @@ ghost use Rattle.kmod_query.specs.Objects.{object_of};
 ghost use Rattle.answer_reasons.specs.Exemptions.{asked_exemption, exemption_of};
 
 use crate::tasks::Tasks;
-use crate::told::{OfEach, Told};
-use answer_facts::{Blacklist, ModuleFact, What};
+use crate::told::Told;
+use answer_facts::{Blacklist, IdleFact, ModuleFact, What};
 use kmod_names::normal_alias;
 use kmod_query::{Ask, Object, Query, World, is_barred};
 use std::alloc::AllocError;
@@ -59,30 +59,31 @@ fn exemption_of(world: &World<'_>, query: &Query<'_>, object: &Object) -> Option
     }
 }
 
-impl Told<'_> {
+impl<'a> Told<'_, 'a> {
     /// Tells the blacklist lines of a module that do not hold, once for each reason.
     pub(crate) fn tell_exempt(
         &mut self,
-        tasks: &mut Tasks,
-        name: &[u8],
+        tasks: &mut Tasks<'a>,
+        name: &'a [u8],
         exemption: Exemption,
     ) -> Result<(), AllocError> {
         let asked = self.known.asked;
-        if asked.world.conf.is_blacklisted(name) && tasks.add_exempt(self.alloc, name, exemption)? {
+        if asked.world.conf.is_blacklisted(name) && tasks.add_exempt(name, exemption)? {
             return self.tell_blacklist(name, exemption.effect());
         }
         Ok(())
     }
 
-    /// Tells the blacklist lines that do not hold for a module for which a name stands.
+    /// Tells the blacklist lines that do not hold for a module for which a name stands. `name` is that of the module.
     pub(crate) fn tell_exempt_object(
         &mut self,
-        tasks: &mut Tasks,
+        tasks: &mut Tasks<'a>,
         world: &World<'_>,
         object: &Object,
+        name: &'a [u8],
     ) -> Result<(), AllocError> {
         match exemption_of(world, &self.known.asked.query, object) {
-            Some(exemption) => self.tell_exempt(tasks, &object.name, exemption),
+            Some(exemption) => self.tell_exempt(tasks, name, exemption),
             None => Ok(()),
         }
     }
@@ -90,7 +91,7 @@ impl Told<'_> {
     /// Tells the blacklist lines of a name that stands for other modules alone, once.
     pub(crate) fn tell_blacklisted_alias(
         &mut self,
-        name: &[u8],
+        name: &'a [u8],
         objects: &[Object],
     ) -> Result<(), AllocError> {
         let is_alias = !objects.is_empty()
@@ -99,8 +100,8 @@ impl Told<'_> {
             return Ok(());
         }
         let named = self.known.named;
-        let what = OfEach::BlacklistedAlias;
-        self.say_of_each(name, what, &named.blacklist, name, None)
+        let what = What::Idle(IdleFact::BlacklistedAlias);
+        self.say_of_each(name, what, &named.blacklist, None)
     }
 
     /// Whether a blacklist line has a name of a module with `-` for `_`. That of the kernel's command line may, and does not
@@ -117,11 +118,11 @@ impl Told<'_> {
 
     /// Tells the names of a module with `-` for `_` that blacklist lines have, each once: all stand on the kernel's command
     /// line.
-    pub(crate) fn tell_misspelt(&mut self, name: &[u8]) -> Result<(), AllocError> {
+    pub(crate) fn tell_misspelt(&mut self, name: &'a [u8]) -> Result<(), AllocError> {
         let named = self.known.named;
         for line in named.blacklist.all() {
             if self.is_misspelt(line.name, name)? && self.begin_unheld(line.name)? {
-                let what = What::Module(ModuleFact::Misspelt(self.text(line.name)?));
+                let what = What::Module(ModuleFact::Misspelt(line.name));
                 self.say_of(name, what, line.place)?;
             }
         }

@@ -1,5 +1,6 @@
 //! Why an answer is as it is: which line of which file says so.
 
+use crate::kept::kept;
 use crate::kernel_list::{kernel_list, kernel_words, unquoted};
 use crate::known::Known;
 use crate::named_lines::NamedLines;
@@ -7,6 +8,7 @@ use crate::sources::Sources;
 use crate::tasks::{Subject, Task, Tasks};
 use crate::told::Told;
 use answer_facts::{Blacklist, Fact, MissingFact, NameFact, Outcome, RemovalFact, Spot, What};
+use bumpalo::Bump;
 use kmod_names::name_of_path;
 use kmod_query::{
     Ask, Asked, AtPath, Object, OwnFile, Query, World, is_barred, is_fatal, is_passed,
@@ -25,35 +27,42 @@ fn name_count(query: &Query<'_>) -> usize {
     }
 }
 
-impl Told<'_> {
+impl<'a> Told<'_, 'a> {
     /// Tells whether a module is loaded in a world, and what that leads to.
     fn begin_load(
         &mut self,
-        tasks: &mut Tasks,
+        tasks: &mut Tasks<'a>,
         world: &World<'_>,
         object: &Object,
+        subject: Subject<'a>,
     ) -> Result<(), AllocError> {
         let query = &self.known.asked.query;
         if is_passed(world, query, object) {
-            return self.tell_in_kernel(&object.name, Outcome::NothingLoaded);
+            return self.tell_in_kernel(subject.name, Outcome::NothingLoaded);
         }
         if is_barred(world, query, object) {
-            return self.tell_blacklist(&object.name, Blacklist::Holds);
+            return self.tell_blacklist(subject.name, Blacklist::Holds);
         }
-        self.tell_exempt_object(tasks, world, object)?;
-        if object.alias.is_some() || query.use_blacklist {
-            self.tell_misspelt(&object.name)?;
+        self.tell_exempt_object(tasks, world, object, subject.name)?;
+        if subject.alias.is_some() || query.use_blacklist {
+            self.tell_misspelt(subject.name)?;
         }
-        let subject = Subject::of(self.alloc, object, query.ignore_commands)?;
-        tasks.begin_list(&subject)?;
-        tasks.push(Task::Load(subject))?;
+        let asked = Subject {
+            bare: query.ignore_commands,
+            ..subject
+        };
+        tasks.begin_list(asked);
+        tasks.push(Task::Load(asked))?;
         self.tell_tasks(tasks)
     }
 
     /// Tells what becomes of a module that is to be removed, and what that leads to. Returns whether it is refused.
-    fn tell_whole(&mut self, tasks: &mut Tasks, object: &Object) -> Result<bool, AllocError> {
+    fn tell_whole(
+        &mut self,
+        tasks: &mut Tasks<'a>,
+        subject: Subject<'a>,
+    ) -> Result<bool, AllocError> {
         tasks.begin_module();
-        let subject = Subject::of(self.alloc, object, false)?;
         tasks.push(Task::Remove {
             soft: false,
             subject,
@@ -63,28 +72,33 @@ impl Told<'_> {
     }
 
     /// Tells what becomes of a module that a name stands for. Returns whether it is refused.
-    fn begin(&mut self, tasks: &mut Tasks, object: &Object) -> Result<bool, AllocError> {
+    fn begin(
+        &mut self,
+        tasks: &mut Tasks<'a>,
+        object: &Object,
+        subject: Subject<'a>,
+    ) -> Result<bool, AllocError> {
         let asked = self.known.asked;
         match asked.query.ask {
             Ask::ShowDepends | Ask::DryRun => {
-                self.begin_load(tasks, &asked.world, object)?;
+                self.begin_load(tasks, &asked.world, object, subject)?;
                 Ok(false)
             }
             Ask::Resolve => {
-                self.tell_exempt_object(tasks, &asked.world, object)?;
+                self.tell_exempt_object(tasks, &asked.world, object, subject.name)?;
                 Ok(false)
             }
-            Ask::Remove | Ask::ShowRemoval => self.tell_whole(tasks, object),
+            Ask::Remove | Ask::ShowRemoval => self.tell_whole(tasks, subject),
             Ask::ShowConfig => Ok(false),
         }
     }
 
     /// Tells the modules of a name that are left out, since one is refused.
-    fn tell_left_out(&mut self, refused: &[u8], objects: &[Object]) -> Result<(), AllocError> {
+    fn tell_left_out(&mut self, refused: &'a [u8], objects: &[Object]) -> Result<(), AllocError> {
         for object in objects {
             if !is_same(&object.name, refused) {
-                let fact = RemovalFact::LeftOut(self.text(refused)?);
-                self.say_removal(&object.name, fact)?;
+                let name = self.kept(&object.name)?;
+                self.say_removal(name, RemovalFact::LeftOut(refused))?;
             }
         }
         Ok(())
@@ -92,10 +106,15 @@ impl Told<'_> {
 
     /// Tells what becomes of the modules of a name, up to one that is refused, or with which all ends. Returns whether one is
     /// refused.
-    fn begin_each(&mut self, tasks: &mut Tasks, objects: &[Object]) -> Result<bool, AllocError> {
+    fn begin_each(
+        &mut self,
+        tasks: &mut Tasks<'a>,
+        objects: &[Object],
+    ) -> Result<bool, AllocError> {
         for (at, object) in objects.iter().enumerate() {
-            let is_refused = self.begin(tasks, object)?;
-            let refused = tasks.ended_by().unwrap_or(&object.name);
+            let subject = Subject::of(self.texts, object)?;
+            let is_refused = self.begin(tasks, object, subject)?;
+            let refused = tasks.ended_by().unwrap_or(subject.name);
             if is_refused || tasks.ended_by().is_some() {
                 let later = objects.get(at.saturating_add(1)..);
                 self.tell_left_out(refused, later.unwrap_or(&[]))?;
@@ -106,7 +125,7 @@ impl Told<'_> {
     }
 
     /// Tells why a name of the command line stands for modules, and what becomes of them. Returns whether it is refused.
-    fn begin_word(&mut self, tasks: &mut Tasks, word: &[u8]) -> Result<bool, AllocError> {
+    fn begin_word(&mut self, tasks: &mut Tasks<'a>, word: &'a [u8]) -> Result<bool, AllocError> {
         let found = self.tell_word(word)?;
         let objects = found.as_deref().unwrap_or(&[]);
         if objects.is_empty() {
@@ -119,43 +138,57 @@ impl Told<'_> {
     /// Tells the file of a path, and what becomes of its module.
     fn begin_file(
         &mut self,
-        tasks: &mut Tasks,
-        word: &[u8],
-        file: &[u8],
+        tasks: &mut Tasks<'a>,
+        word: &'a [u8],
+        file: &'a [u8],
     ) -> Result<(), AllocError> {
-        let name = name_of_path(self.alloc, word)?;
-        let name = name.as_bytes();
-        let what = What::Name(NameFact::File(self.text(name)?));
-        let spot = self.whole(file)?;
-        self.say(word, what, spot)?;
-        let world = self.known.asked.world.with_own(OwnFile { name, file });
+        let name = self.name_at(word)?;
+        let what = What::Name(NameFact::File(name));
+        self.say(word, what, Spot::Whole(file))?;
         let object = Object::by_name(self.alloc, name)?;
+        self.begin_own(tasks, &object, OwnFile { name, file })
+    }
+
+    /// The name of the module of a path.
+    pub(crate) fn name_at(&self, path: &[u8]) -> Result<&'a [u8], AllocError> {
+        let name = name_of_path(self.alloc, path)?;
+        self.kept(name.as_bytes())
+    }
+
+    /// Tells what becomes of the module that has this file.
+    fn begin_own(
+        &mut self,
+        tasks: &mut Tasks<'a>,
+        object: &Object,
+        own: OwnFile<'a>,
+    ) -> Result<(), AllocError> {
+        let world = self.known.asked.world.with_own(own);
         if matches!(self.known.asked.query.ask, Ask::Resolve) {
-            return self.tell_exempt_object(tasks, &world, &object);
+            return self.tell_exempt_object(tasks, &world, object, own.name);
         }
-        tasks.add_file(self.alloc, name)?;
-        self.begin_load(tasks, &world, &object)
+        tasks.add_file(own.name)?;
+        self.begin_load(tasks, &world, object, Subject::by_name(own.name))
     }
 
     /// Tells what stands at a path, and what becomes of its module.
     fn begin_path(
         &mut self,
-        tasks: &mut Tasks,
-        word: &[u8],
-        at: &AtPath,
+        tasks: &mut Tasks<'a>,
+        word: &'a [u8],
+        at: &'a AtPath,
     ) -> Result<(), AllocError> {
         match at {
             AtPath::File(file) => self.begin_file(tasks, word, file.as_bytes()),
             AtPath::Nothing(reason) => {
-                let fact = MissingFact::BadPath(self.text(reason.as_bytes())?);
+                let fact = MissingFact::BadPath(reason.as_bytes());
                 self.say(word, What::Missing(fact), Spot::Nowhere)
             }
         }
     }
 
     /// Tells a word of the command line: a path or a name. A removal has no paths.
-    fn tell_asked(&mut self, tasks: &mut Tasks, word: &[u8]) -> Result<(), AllocError> {
-        tasks.begin_name(self.alloc);
+    fn tell_asked(&mut self, tasks: &mut Tasks<'a>, word: &'a [u8]) -> Result<(), AllocError> {
+        tasks.begin_name();
         let asked = self.known.asked;
         let paths = asked.world.paths;
         match paths.iter().find(|own| is_same(own.word.as_bytes(), word)) {
@@ -165,29 +198,28 @@ impl Told<'_> {
     }
 
     /// Tells a name. Its refusal may end a removal.
-    fn tell_name(&mut self, tasks: &mut Tasks, word: &[u8]) -> Result<(), AllocError> {
+    fn tell_name(&mut self, tasks: &mut Tasks<'a>, word: &'a [u8]) -> Result<(), AllocError> {
         tasks.begin_module();
         let refused = self.begin_word(tasks, word)?;
         let ends = refused && !tasks.is_gone() && is_fatal(&self.known.asked.query);
         if self.known.is_removal() && ends && tasks.ended_by().is_none() {
-            tasks.end(self.alloc, word)?;
+            tasks.end(word);
         }
         Ok(())
     }
 
     /// Tells a name that is left out, since one is refused. It is told as a module if it is just the name of one.
-    fn tell_left_out_name(&mut self, word: &[u8], refused: &[u8]) -> Result<(), AllocError> {
-        let by = self.text(refused)?;
+    fn tell_left_out_name(&mut self, word: &'a [u8], refused: &'a [u8]) -> Result<(), AllocError> {
         let what = if self.leads_to(word, word)? {
-            What::Removal(RemovalFact::LeftOut(by))
+            What::Removal(RemovalFact::LeftOut(refused))
         } else {
-            What::Name(NameFact::LeftOut(by))
+            What::Name(NameFact::LeftOut(refused))
         };
         self.say(word, what, Spot::Nowhere)
     }
 
     /// Tells the names, as far as they are asked for, and what they lead to.
-    fn tell_names(&mut self, tasks: &mut Tasks) -> Result<(), AllocError> {
+    fn tell_names(&mut self, tasks: &mut Tasks<'a>) -> Result<(), AllocError> {
         let query = &self.known.asked.query;
         for word in query.words.iter().take(name_count(query)) {
             match tasks.ended_by() {
@@ -198,15 +230,15 @@ impl Told<'_> {
         Ok(())
     }
 
-    fn tell_task(&mut self, tasks: &mut Tasks, task: Task) -> Result<(), AllocError> {
+    fn tell_task(&mut self, tasks: &mut Tasks<'a>, task: Task<'a>) -> Result<(), AllocError> {
         match task {
             Task::Load(subject) => self.tell_load(tasks, subject),
-            Task::Need(need) => self.tell_need(tasks, &need),
+            Task::Need(need) => self.tell_need(tasks, need),
             Task::Fill(subject) => self.tell_fill(tasks, subject),
-            Task::Soft(word) => self.tell_soft(tasks, &word),
+            Task::Soft(word) => self.tell_soft(tasks, word),
             Task::Own(subject) => self.tell_own(tasks, subject),
             Task::Remove { soft, subject } => self.tell_removal(tasks, soft, subject),
-            Task::Release { soft, subject } => self.tell_release(tasks, soft, &subject),
+            Task::Release { soft, subject } => self.tell_release(tasks, soft, subject),
             Task::Leave => {
                 tasks.leave();
                 Ok(())
@@ -215,7 +247,7 @@ impl Told<'_> {
     }
 
     /// Tells what is to be told, and what that leads to.
-    fn tell_tasks(&mut self, tasks: &mut Tasks) -> Result<(), AllocError> {
+    fn tell_tasks(&mut self, tasks: &mut Tasks<'a>) -> Result<(), AllocError> {
         // Each task may add others. The bound is for the proof that it ends, and is never met.
         for _task in 0..usize::MAX {
             let Some(task) = tasks.next() else {
@@ -244,6 +276,29 @@ impl Told<'_> {
     }
 }
 
+/// The names of `module_blacklist=` of the kernel's command line, with commas between them.
+fn refused_by<'a>(
+    alloc: Global,
+    texts: &'a Bump,
+    command_line: &[u8],
+) -> Result<&'a [u8], AllocError> {
+    let words = kernel_words(alloc, command_line)?;
+    kept_list(alloc, texts, &words)
+}
+
+/// A copy of the list of the last `module_blacklist=` among words.
+fn kept_list<'a>(
+    alloc: Global,
+    texts: &'a Bump,
+    words: &[Vec<u8>],
+) -> Result<&'a [u8], AllocError> {
+    let mut given = Vec::new(alloc);
+    for word in words {
+        given.push(unquoted(word))?;
+    }
+    kept(texts, unquoted(kernel_list(&given)))
+}
+
 /// The facts of an explanation. They are told over `named`, which has no lines yet: the caller has it, so that no step
 /// that may be refused has to drop it.
 fn explained<'a>(
@@ -251,18 +306,13 @@ fn explained<'a>(
     sources: &Sources<'a>,
     asked: &Asked<'a>,
     named: &mut NamedLines<'a>,
-) -> Result<Vec<Fact>, AllocError> {
+) -> Result<Vec<Fact<'a>>, AllocError> {
     named.add(alloc, asked.world.conf, sources.builtin)?;
-    let words = kernel_words(alloc, sources.command_line)?;
-    let mut given = Vec::new(alloc);
-    for word in &words {
-        given.push(unquoted(word))?;
-    }
     let known = Known {
         asked,
         named,
         sources,
-        refused: unquoted(kernel_list(&given)),
+        refused: refused_by(alloc, sources.texts, sources.command_line)?,
     };
     let mut told = Told::new(alloc, &known);
     told.tell_all()?;
@@ -275,7 +325,7 @@ pub fn explanation<'a>(
     sources: &Sources<'a>,
     world: &World<'a>,
     query: &Query<'a>,
-) -> Result<Vec<Fact>, AllocError> {
+) -> Result<Vec<Fact<'a>>, AllocError> {
     let mut named = NamedLines::new(alloc);
     let asked = Asked {
         alloc,

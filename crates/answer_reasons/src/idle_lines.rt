@@ -19,9 +19,14 @@ fn is_edited(path: &[u8]) -> bool {
         && !path.ends_with(b"/modules.weakdep")
 }
 
-impl Told<'_> {
+impl<'a> Told<'_, 'a> {
     /// Says that a line has no effect, if a person can edit it.
-    fn say_idle(&mut self, name: &[u8], fact: IdleFact, place: Place) -> Result<(), AllocError> {
+    fn say_idle(
+        &mut self,
+        name: &'a [u8],
+        fact: IdleFact<'a>,
+        place: Place,
+    ) -> Result<(), AllocError> {
         if is_edited(self.known.sources.path(place.source)) {
             self.say_of(name, What::Idle(fact), place)?;
         }
@@ -41,12 +46,12 @@ impl Told<'_> {
     }
 
     /// Tells the alias lines whose module is not there. `off` stands for none on purpose.
-    fn tell_idle_aliases(&mut self, lines: &[AliasEntry]) -> Result<(), AllocError> {
+    fn tell_idle_aliases(&mut self, lines: &'a [AliasEntry]) -> Result<(), AllocError> {
         for line in lines {
             let target = line.target.as_bytes();
             let is_off = is_same(target, b"off");
             if !is_off && !self.known.is_module(self.alloc, target)? && !self.has_softdep(target)? {
-                let fact = IdleFact::Alias(self.text(target)?);
+                let fact = IdleFact::Alias(target);
                 self.say_idle(line.pattern.as_bytes(), fact, line.place)?;
             }
         }
@@ -64,7 +69,7 @@ impl Told<'_> {
     /// is skipped.
     fn tell_idle_names(
         &mut self,
-        lines: &[Head<'_>],
+        lines: &[Head<'a>],
         has_patterns: bool,
         setting: Setting,
     ) -> Result<(), AllocError> {
@@ -78,7 +83,7 @@ impl Told<'_> {
         Ok(())
     }
 
-    fn tell_idle_options(&mut self, lines: &[TextLine]) -> Result<(), AllocError> {
+    fn tell_idle_options(&mut self, lines: &'a [TextLine]) -> Result<(), AllocError> {
         for line in lines {
             let name = line.name.as_bytes();
             if !self.is_known(name)? {
@@ -89,7 +94,7 @@ impl Told<'_> {
     }
 
     /// Tells lines of a kind whose name an earlier one has.
-    fn tell_later_lines(&mut self, setting: Setting, lines: &Heads<'_>) -> Result<(), AllocError> {
+    fn tell_later_lines(&mut self, setting: Setting, lines: &Heads<'a>) -> Result<(), AllocError> {
         for (number, line) in lines.all().iter().enumerate() {
             if lines.numbers(line.name).first() != Some(&number) {
                 self.say_idle(line.name, IdleFact::Later(setting), line.place)?;

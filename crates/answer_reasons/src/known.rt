@@ -8,15 +8,15 @@ use text_parts::is_same;
 
 /// A query, the world that it asks of, the lines of that world's texts by their names, and the files that these stand in.
 #[derive(Clone, Copy)]
-pub(crate) struct Known<'a> {
-    pub(crate) asked: &'a Asked<'a>,
-    pub(crate) named: &'a NamedLines<'a>,
-    pub(crate) sources: &'a Sources<'a>,
+pub(crate) struct Known<'k, 'a> {
+    pub(crate) asked: &'k Asked<'a>,
+    pub(crate) named: &'k NamedLines<'a>,
+    pub(crate) sources: &'k Sources<'a>,
     /// The names of `module_blacklist=`, with commas between them.
     pub(crate) refused: &'a [u8],
 }
 
-impl Known<'_> {
+impl Known<'_, '_> {
     pub(crate) fn is_live(&self, name: &[u8]) -> bool {
         let asked = self.asked;
         matches!(

@@ -6,6 +6,7 @@ mod explaining;
 mod file_facts;
 mod heads;
 mod idle_lines;
+mod kept;
 mod kernel_list;
 mod known;
 mod leading;

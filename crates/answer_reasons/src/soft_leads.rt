@@ -10,7 +10,7 @@ use machine_lint::has_pattern;
 use std::alloc::AllocError;
 use text_parts::is_same;
 
-impl Told<'_> {
+impl<'a> Told<'_, 'a> {
     /// Whether a word stands for a module.
     pub(crate) fn leads_to(&self, word: &[u8], name: &[u8]) -> Result<bool, AllocError> {
         let objects = self.objects_of(word)?;
@@ -22,7 +22,7 @@ impl Told<'_> {
         &mut self,
         name: &[u8],
         side: Side,
-        line: &SoftdepLine,
+        line: &'a SoftdepLine,
     ) -> Result<(), AllocError> {
         let words = match side {
             Side::Before => line.items.pre(),
@@ -30,7 +30,7 @@ impl Told<'_> {
         };
         for word in words {
             if self.leads_to(word.as_bytes(), name)? {
-                let of = self.text(line.name.as_bytes())?;
+                let of = line.name.as_bytes();
                 let what = What::Lead(LeadFact::Softdep { side, of });
                 self.say_of(word.as_bytes(), what, line.place)?;
             }
@@ -147,7 +147,7 @@ impl Told<'_> {
     /// Tells the words of a softdep line that stand for a module, if the line counts for one.
     pub(crate) fn tell_softdep(
         &mut self,
-        line: &SoftdepLine,
+        line: &'a SoftdepLine,
         name: &[u8],
     ) -> Result<(), AllocError> {
         // Whether it counts is asked last: for a pattern that goes through all modules.

@@ -1,6 +1,7 @@
 //! What an explanation is told of files and devices.
 
 use answer_facts::Unread;
+use bumpalo::Bump;
 use kmod_query::Holders;
 use modprobe_files::{HiddenFile, TextFile};
 
@@ -18,7 +19,7 @@ pub struct Device {
     pub alias: Vec<u8>,
 }
 
-/// Where a world was read from.
+/// Where a world was read from, and what else is told of.
 #[derive(Clone, Copy)]
 pub struct Sources<'a> {
     /// The paths of the texts of the configuration, by the numbers that places of its lines have.
@@ -37,6 +38,10 @@ pub struct Sources<'a> {
     pub whole: bool,
     /// The text of modules.builtin, whose lines the index does not number.
     pub builtin: &'a [u8],
+    /// The devices that may ask for modules, if it is told what leads to these.
+    pub devices: &'a [Device],
+    /// Where texts stay that are made for what is told.
+    pub texts: &'a Bump,
 }
 
 impl<'a> Sources<'a> {

@@ -1,141 +1,149 @@
 //! What is to be told, in the order of what is done.
 
 use crate::exemptions::Exemption;
+use crate::kept::kept;
 use answer_facts::Side;
+use bumpalo::Bump;
 use indexmap::{IndexMap, IndexSet};
-use kmod_names::{Place, Text};
+use kmod_names::Place;
 use kmod_query::Object;
 use std::alloc::{AllocError, Global};
 
 /// A module, with the alias by which it came. `builtin` says that this was an alias of modules.builtin.modinfo, `bare` that
 /// a name of the query stands for it under -i, which passes its commands and soft items over.
-#[derive(Clone, PartialEq, Eq, Hash, Drop)]
-pub(crate) struct Subject {
-    pub(crate) name: Vec<u8>,
-    pub(crate) alias: Option<Vec<u8>>,
+#[derive(Clone, Copy, PartialEq, Eq, Hash)]
+pub(crate) struct Subject<'a> {
+    pub(crate) name: &'a [u8],
+    pub(crate) alias: Option<&'a [u8]>,
     pub(crate) builtin: bool,
     pub(crate) bare: bool,
 }
 
-impl Subject {
+impl<'a> Subject<'a> {
     /// Whether another one is the same module, which came by the same alias.
-    fn is_as(&self, other: &Subject) -> bool {
+    fn is_as(self, other: Subject<'_>) -> bool {
         self.name == other.name && self.alias == other.alias
     }
 
     /// A module that came by its own name.
-    pub(crate) fn by_name(alloc: Global, name: &[u8]) -> Result<Subject, AllocError> {
-        Ok(Subject {
-            name: Vec::from_slice(alloc, name)?,
+    pub(crate) fn by_name(name: &'a [u8]) -> Subject<'a> {
+        Subject {
+            name,
             alias: None,
             builtin: false,
+            bare: false,
+        }
+    }
+
+    /// A module that a name stands for.
+    pub(crate) fn of(texts: &'a Bump, object: &Object) -> Result<Subject<'a>, AllocError> {
+        let name = kept(texts, &object.name)?;
+        let alias = match &object.alias {
+            Some(alias) => Some(kept(texts, alias)?),
+            None => None,
+        };
+        Ok(Subject {
+            name,
+            alias,
+            builtin: object.builtin,
             bare: false,
         })
     }
 
-    /// A module that a name stands for.
-    pub(crate) fn of(alloc: Global, object: &Object, bare: bool) -> Result<Subject, AllocError> {
-        Ok(Subject {
-            name: Vec::from_slice(alloc, &object.name)?,
-            alias: object.alias.clone()?,
-            builtin: object.builtin,
-            bare,
-        })
-    }
-
     /// The module as queries have it.
-    pub(crate) fn object(&self, alloc: Global) -> Result<Object, AllocError> {
-        Ok(Object {
-            name: Vec::from_slice(alloc, &self.name)?,
-            alias: self.alias.clone()?,
-            builtin: self.builtin,
-        })
+    pub(crate) fn object(self, alloc: Global) -> Result<Object, AllocError> {
+        let mut object = Object::by_name(alloc, self.name)?;
+        if let Some(alias) = self.alias {
+            object.alias = Some(Vec::from_slice(alloc, alias)?);
+        }
+        object.builtin = self.builtin;
+        Ok(object)
     }
 }
 
 /// A module that another one needs: who needs it, by itself or through these, and by which line of modules.dep.
-#[derive(Drop)]
-pub(crate) struct Need {
-    pub(crate) name: Vec<u8>,
-    pub(crate) by: Vec<u8>,
-    pub(crate) through: Vec<Text>,
+#[derive(Clone, Copy)]
+pub(crate) struct Need<'a> {
+    pub(crate) name: &'a [u8],
+    pub(crate) by: &'a [u8],
+    pub(crate) through: &'a [&'a [u8]],
     pub(crate) number: usize,
 }
 
 /// A word of a softdep line of a module, and where the line stands.
-#[derive(Drop)]
-pub(crate) struct SoftWord {
-    pub(crate) word: Vec<u8>,
-    pub(crate) of: Vec<u8>,
+#[derive(Clone, Copy)]
+pub(crate) struct SoftWord<'a> {
+    pub(crate) word: &'a [u8],
+    pub(crate) of: &'a [u8],
     pub(crate) side: Side,
     pub(crate) place: Place,
 }
 
 /// What is to be told.
-#[derive(Drop)]
-pub(crate) enum Task {
+#[derive(Clone, Copy)]
+pub(crate) enum Task<'a> {
     /// A load: what the module needs, and then the module.
-    Load(Subject),
+    Load(Subject<'a>),
     /// A module that another one needs.
-    Need(Need),
+    Need(Need<'a>),
     /// A module with its soft items before and after it.
-    Fill(Subject),
+    Fill(Subject<'a>),
     /// A word of a softdep line.
-    Soft(SoftWord),
+    Soft(SoftWord<'a>),
     /// The lines of a module that is loaded.
-    Own(Subject),
+    Own(Subject<'a>),
     /// A removal, of a soft item or not: the soft items after the module, and then the module.
-    Remove { soft: bool, subject: Subject },
+    Remove { soft: bool, subject: Subject<'a> },
     /// A module that is removed, if it is not in use by then.
-    Release { soft: bool, subject: Subject },
+    Release { soft: bool, subject: Subject<'a> },
     /// The innermost module whose soft items are being removed is done.
     Leave,
 }
 
 /// Tasks, the next last, and what was told by now.
 #[derive(Drop)]
-pub(crate) struct Tasks {
-    stack: Vec<Task>,
+pub(crate) struct Tasks<'a> {
+    stack: Vec<Task<'a>>,
     /// Whether a removal that was asked for is refused.
     refused: bool,
     /// Whether it is refused since the module is gone by then, which ends nothing.
     gone: bool,
     /// The name whose refusal ended the query, so that nothing more is to be told.
-    ended: Option<Vec<u8>>,
+    ended: Option<&'a [u8]>,
     /// Whether what was told under one name is told again under the next: -i holds for the module of a name, and no further.
     forgets: bool,
     /// The modules whose needs were told.
-    loaded: IndexSet<Subject>,
+    loaded: IndexSet<Subject<'a>>,
     /// The modules that were told with their soft items.
-    filled: IndexSet<Subject>,
+    filled: IndexSet<Subject<'a>>,
     /// The modules of which their own lines were told.
-    owned: IndexSet<Subject>,
+    owned: IndexSet<Subject<'a>>,
     /// The module that is being loaded, if a name of the query stands for it under -i.
-    bare: Option<Subject>,
+    bare: Option<Subject<'a>>,
     /// The modules whose soft items are being removed, the outermost first.
-    way: IndexSet<Vec<u8>>,
+    way: IndexSet<&'a [u8]>,
     /// The modules of whose removal it was told what it frees.
-    removed: IndexSet<Vec<u8>>,
+    removed: IndexSet<&'a [u8]>,
     /// The words of softdep lines that were looked up, each with whether it stands for a module.
-    found: IndexMap<Vec<u8>, bool>,
+    found: IndexMap<&'a [u8], bool>,
     /// The words of softdep lines that were told.
-    words: IndexSet<Vec<u8>>,
+    words: IndexSet<&'a [u8]>,
     /// The modules whose files were named by paths.
-    files: IndexSet<Vec<u8>>,
+    files: IndexSet<&'a [u8]>,
     /// The modules of which it was told why blacklist lines do not hold.
-    exempt: IndexSet<Exempt>,
+    exempt: IndexSet<Exempt<'a>>,
 }
 
 /// A module whose blacklist lines do not hold, for one reason.
-#[derive(Clone, PartialEq, Eq, Hash, Drop)]
-struct Exempt {
-    name: Vec<u8>,
+#[derive(Clone, Copy, PartialEq, Eq, Hash)]
+struct Exempt<'a> {
+    name: &'a [u8],
     exemption: Exemption,
 }
 
-impl Tasks {
+impl<'a> Tasks<'a> {
     /// No tasks yet. `forgets` says that what was told under one name is told again under the next.
-    pub(crate) fn new(alloc: Global, forgets: bool) -> Tasks {
+    pub(crate) fn new(alloc: Global, forgets: bool) -> Tasks<'a> {
         Tasks {
             stack: Vec::new(alloc),
             refused: false,
@@ -156,13 +164,13 @@ impl Tasks {
     }
 
     /// Adds a task before all others.
-    pub(crate) fn push(&mut self, task: Task) -> Result<(), AllocError> {
+    pub(crate) fn push(&mut self, task: Task<'a>) -> Result<(), AllocError> {
         self.stack.push(task)?;
         Ok(())
     }
 
     /// The next task.
-    pub(crate) fn next(&mut self) -> Option<Task> {
+    pub(crate) fn next(&mut self) -> Option<Task<'a>> {
         if self.ended.is_some() {
             return None;
         }
@@ -170,55 +178,52 @@ impl Tasks {
     }
 
     /// Whether a module was told already, as that of a name or as what another one asks for: these are the same.
-    fn is_known(&self, all: &IndexSet<Subject>, subject: &Subject) -> Result<bool, AllocError> {
-        if subject.bare || all.contains(subject) {
-            return Ok(all.contains(subject));
+    fn is_known(all: &IndexSet<Subject<'a>>, subject: Subject<'a>) -> bool {
+        if subject.bare || all.contains(&subject) {
+            return all.contains(&subject);
         }
-        let mut bare = subject.clone()?;
-        bare.bare = true;
-        Ok(all.contains(&bare))
+        let bare = Subject {
+            bare: true,
+            ..subject
+        };
+        all.contains(&bare)
     }
 
     /// Whether the needs of a module are to be told; from now on they were.
-    pub(crate) fn begin_load(&mut self, subject: &Subject) -> Result<bool, AllocError> {
-        if self.is_known(&self.loaded, subject)? {
+    pub(crate) fn begin_load(&mut self, subject: Subject<'a>) -> Result<bool, AllocError> {
+        if Tasks::is_known(&self.loaded, subject) {
             return Ok(false);
         }
-        self.loaded.insert(subject.clone()?)?;
+        self.loaded.insert(subject)?;
         Ok(true)
     }
 
     /// Whether a module is to be told with its soft items; from now on it was.
-    pub(crate) fn begin_fill(&mut self, subject: &Subject) -> Result<bool, AllocError> {
-        if self.is_known(&self.filled, subject)? {
+    pub(crate) fn begin_fill(&mut self, subject: Subject<'a>) -> Result<bool, AllocError> {
+        if Tasks::is_known(&self.filled, subject) {
             return Ok(false);
         }
-        self.filled.insert(subject.clone()?)?;
+        self.filled.insert(subject)?;
         Ok(true)
     }
 
     /// Notes that a module is loaded, and what it leads to.
-    pub(crate) fn begin_list(&mut self, subject: &Subject) -> Result<(), AllocError> {
-        self.bare = if subject.bare {
-            Some(subject.clone()?)
-        } else {
-            None
-        };
-        Ok(())
+    pub(crate) fn begin_list(&mut self, subject: Subject<'a>) {
+        self.bare = if subject.bare { Some(subject) } else { None };
     }
 
     /// Whether -i passes the commands of a module over: it does so for the module of a name, wherever that stands in the list
     /// of what is loaded.
-    pub(crate) fn is_bare(&self, subject: &Subject) -> bool {
-        match &self.bare {
+    pub(crate) fn is_bare(&self, subject: Subject<'a>) -> bool {
+        match self.bare {
             Some(bare) => bare.is_as(subject),
             None => false,
         }
     }
 
     /// Whether the own lines of a module are to be told; from now on they were.
-    pub(crate) fn begin_own(&mut self, subject: &Subject) -> Result<bool, AllocError> {
-        let is_new = self.owned.insert(subject.clone()?)?;
+    pub(crate) fn begin_own(&mut self, subject: Subject<'a>) -> Result<bool, AllocError> {
+        let is_new = self.owned.insert(subject)?;
         Ok(is_new)
     }
 
@@ -228,14 +233,14 @@ impl Tasks {
     }
 
     /// Notes that the soft items of a module are being removed, until the task `Leave` is done.
-    pub(crate) fn enter(&mut self, alloc: Global, name: &[u8]) -> Result<(), AllocError> {
-        self.way.insert(Vec::from_slice(alloc, name)?)?;
+    pub(crate) fn enter(&mut self, name: &'a [u8]) -> Result<(), AllocError> {
+        self.way.insert(name)?;
         self.push(Task::Leave)
     }
 
     /// Whether it is to be told what the removal of a module frees; from now on it was.
-    pub(crate) fn begin_removed(&mut self, alloc: Global, name: &[u8]) -> Result<bool, AllocError> {
-        let is_new = self.removed.insert(Vec::from_slice(alloc, name)?)?;
+    pub(crate) fn begin_removed(&mut self, name: &'a [u8]) -> Result<bool, AllocError> {
+        let is_new = self.removed.insert(name)?;
         Ok(is_new)
     }
 
@@ -250,37 +255,30 @@ impl Tasks {
     }
 
     /// Notes whether a word of a softdep line stands for a module.
-    pub(crate) fn add_found(
-        &mut self,
-        alloc: Global,
-        word: &[u8],
-        found: bool,
-    ) -> Result<(), AllocError> {
-        self.found.insert(Vec::from_slice(alloc, word)?, found)?;
+    pub(crate) fn add_found(&mut self, word: &'a [u8], found: bool) -> Result<(), AllocError> {
+        self.found.insert(word, found)?;
         Ok(())
     }
 
     /// Whether a word of a softdep line is to be told; from now on it was.
-    pub(crate) fn begin_word(&mut self, alloc: Global, word: &[u8]) -> Result<bool, AllocError> {
-        let is_new = self.words.insert(Vec::from_slice(alloc, word)?)?;
+    pub(crate) fn begin_word(&mut self, word: &'a [u8]) -> Result<bool, AllocError> {
+        let is_new = self.words.insert(word)?;
         Ok(is_new)
     }
 
     /// Notes that blacklist lines of a module do not hold for a reason. Returns whether that is new.
     pub(crate) fn add_exempt(
         &mut self,
-        alloc: Global,
-        name: &[u8],
+        name: &'a [u8],
         exemption: Exemption,
     ) -> Result<bool, AllocError> {
-        let name = Vec::from_slice(alloc, name)?;
         let is_new = self.exempt.insert(Exempt { name, exemption })?;
         Ok(is_new)
     }
 
     /// Notes that the file of a module was named by its path.
-    pub(crate) fn add_file(&mut self, alloc: Global, name: &[u8]) -> Result<(), AllocError> {
-        self.files.insert(Vec::from_slice(alloc, name)?)?;
+    pub(crate) fn add_file(&mut self, name: &'a [u8]) -> Result<(), AllocError> {
+        self.files.insert(name)?;
         Ok(())
     }
 
@@ -296,13 +294,13 @@ impl Tasks {
     }
 
     /// Notes that another word of the query is asked for.
-    pub(crate) fn begin_name(&mut self, alloc: Global) {
+    pub(crate) fn begin_name(&mut self) {
         self.begin_module();
         if self.forgets {
-            self.loaded = IndexSet::new(alloc);
-            self.filled = IndexSet::new(alloc);
-            self.owned = IndexSet::new(alloc);
-            self.words = IndexSet::new(alloc);
+            self.loaded.clear();
+            self.filled.clear();
+            self.owned.clear();
+            self.words.clear();
         }
     }
 
@@ -328,13 +326,12 @@ impl Tasks {
     }
 
     /// Notes that the refusal of a name ended the query, so that nothing more is to be told.
-    pub(crate) fn end(&mut self, alloc: Global, name: &[u8]) -> Result<(), AllocError> {
-        self.ended = Some(Vec::from_slice(alloc, name)?);
-        Ok(())
+    pub(crate) fn end(&mut self, name: &'a [u8]) {
+        self.ended = Some(name);
     }
 
     /// The name whose refusal ended the query.
-    pub(crate) fn ended_by(&self) -> Option<&[u8]> {
-        self.ended.as_deref()
+    pub(crate) fn ended_by(&self) -> Option<&'a [u8]> {
+        self.ended
     }
 }

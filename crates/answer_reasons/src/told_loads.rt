@@ -1,116 +1,135 @@
 //! What is reported of a load, module by module in the order in which they are loaded.
 
 use crate::exemptions::Exemption;
+use crate::kept::kept_names;
 use crate::tasks::{Need, Subject, Task, Tasks};
-use crate::told::Told;
-use crate::told_soft::{push_words, soft_words};
+use crate::told::{Told, line_spot};
+use crate::told_soft::push_words_back;
 use crate::told_words::DEPENDENCIES;
 use answer_facts::{Command, LineFact, ModuleFact, Outcome, Passed, Side, What};
 use kmod_names::Text;
 use kmod_query::{Ask, install_line};
-use std::alloc::{AllocError, Global};
+use std::alloc::AllocError;
 
-/// The same names, as texts of their own.
-fn copied(alloc: Global, names: &[Text]) -> Result<Vec<Text>, AllocError> {
-    let mut all = Vec::new(alloc);
-    for name in names {
-        all.push(Text::new(alloc, name.as_bytes())?)?;
-    }
-    Ok(all)
-}
-
-impl Told<'_> {
-    /// What a module needs, in the order in which it is loaded.
-    pub(crate) fn needs_of(&self, name: &[u8]) -> Result<Vec<Need>, AllocError> {
+impl<'a> Told<'_, 'a> {
+    /// One of the needs of a module, whose line in modules.dep has this number.
+    fn need_of(
+        &self,
+        by: &'a [u8],
+        needs: &[Text],
+        need: &[u8],
+        number: usize,
+    ) -> Result<Need<'a>, AllocError> {
         let asked = self.known.asked;
         let index = asked.world.index;
+        let nearest = index.nearest(self.alloc, needs, need)?;
+        let through = kept_names(self.alloc, self.texts, &nearest)?;
+        let name = self.kept(need)?;
+        Ok(Need {
+            name,
+            by,
+            through,
+            number,
+        })
+    }
+
+    /// What a module needs by its line of modules.dep, which has this number.
+    fn needs_by(
+        &self,
+        by: &'a [u8],
+        needs: &[Text],
+        number: usize,
+    ) -> Result<Vec<Need<'a>>, AllocError> {
         let mut all = Vec::new(self.alloc);
-        let Some(line) = index.find(name) else {
-            return Ok(all);
-        };
-        let needs = line.needed_names(self.alloc)?;
-        for need in &needs {
-            all.push(Need {
-                name: Vec::from_slice(self.alloc, need.as_bytes())?,
-                by: Vec::from_slice(self.alloc, name)?,
-                through: index.nearest(self.alloc, &needs, need.as_bytes())?,
-                number: line.number(),
-            })?;
+        for need in needs {
+            all.push(self.need_of(by, needs, need.as_bytes(), number)?)?;
         }
         Ok(all)
     }
 
+    /// What a module needs, in the order in which it is loaded.
+    pub(crate) fn needs_of(&self, name: &'a [u8]) -> Result<Vec<Need<'a>>, AllocError> {
+        let asked = self.known.asked;
+        let index = asked.world.index;
+        match index.find(name) {
+            Some(line) => {
+                let needs = line.needed_names(self.alloc)?;
+                self.needs_by(name, &needs, line.number())
+            }
+            None => Ok(Vec::new(self.alloc)),
+        }
+    }
+
     /// Tells who needs a module, and how.
-    pub(crate) fn say_need(&mut self, need: &Need) -> Result<(), AllocError> {
-        let by = self.text(&need.by)?;
-        let through = copied(self.alloc, &need.through)?;
-        let what = What::Module(ModuleFact::NeededBy { by, through });
-        let spot = self.line(DEPENDENCIES, need.number)?;
-        self.say(&need.name, what, spot)
+    pub(crate) fn say_need(&mut self, need: Need<'a>) -> Result<(), AllocError> {
+        let what = What::Module(ModuleFact::NeededBy {
+            by: need.by,
+            through: need.through,
+        });
+        self.say(need.name, what, line_spot(DEPENDENCIES, need.number))
     }
 
     /// Goes on with what a module needs, and then with the module.
     pub(crate) fn tell_load(
         &mut self,
-        tasks: &mut Tasks,
-        subject: Subject,
+        tasks: &mut Tasks<'a>,
+        subject: Subject<'a>,
     ) -> Result<(), AllocError> {
-        if !tasks.begin_load(&subject)? {
+        if !tasks.begin_load(subject)? {
             return Ok(());
         }
-        let mut needs = self.needs_of(&subject.name)?;
         tasks.push(Task::Fill(subject))?;
-        needs.reverse();
-        for need in needs.into_iter() {
-            tasks.push(Task::Need(need))?;
+        let needs = self.needs_of(subject.name)?;
+        for need in needs.iter().rev() {
+            tasks.push(Task::Need(*need))?;
         }
         Ok(())
     }
 
     /// Tells who needs a module, and goes on with it.
-    pub(crate) fn tell_need(&mut self, tasks: &mut Tasks, need: &Need) -> Result<(), AllocError> {
+    pub(crate) fn tell_need(
+        &mut self,
+        tasks: &mut Tasks<'a>,
+        need: Need<'a>,
+    ) -> Result<(), AllocError> {
         self.say_need(need)?;
-        self.tell_exempt(tasks, &need.name, Exemption::Needed)?;
-        tasks.push(Task::Fill(Subject::by_name(self.alloc, &need.name)?))
+        self.tell_exempt(tasks, need.name, Exemption::Needed)?;
+        tasks.push(Task::Fill(Subject::by_name(need.name)))
     }
 
     /// Goes on with the soft items before a module, the module, and those after it. Under -i those of a name of the query are
     /// passed over.
     pub(crate) fn tell_fill(
         &mut self,
-        tasks: &mut Tasks,
-        subject: Subject,
+        tasks: &mut Tasks<'a>,
+        subject: Subject<'a>,
     ) -> Result<(), AllocError> {
-        if !tasks.begin_fill(&subject)? {
+        if !tasks.begin_fill(subject)? {
             return Ok(());
         }
-        let (alloc, asked) = (self.alloc, self.known.asked);
+        let (name, own) = (subject.name, Task::Own(subject));
+        let asked = self.known.asked;
         let conf = asked.world.conf;
-        let Some(line) = conf.softdep_of(alloc, &subject.name)? else {
-            return tasks.push(Task::Own(subject));
+        let Some(line) = conf.softdep_of(self.alloc, name)? else {
+            return tasks.push(own);
         };
-        let (items, place) = (&line.items, line.place);
         if subject.bare {
-            self.say_of(&subject.name, What::Line(LineFact::Softdep), place)?;
-            return tasks.push(Task::Own(subject));
+            self.say_of(name, What::Line(LineFact::Softdep), line.place)?;
+            return tasks.push(own);
         }
-        let mut after = soft_words(alloc, &subject.name, Side::After, items.post(), place)?;
-        let mut before = soft_words(alloc, &subject.name, Side::Before, items.pre(), place)?;
-        after.reverse();
-        before.reverse();
-        push_words(tasks, after)?;
-        tasks.push(Task::Own(subject))?;
-        push_words(tasks, before)
+        push_words_back(tasks, name, Side::After, line.items.post(), line.place)?;
+        tasks.push(own)?;
+        push_words_back(tasks, name, Side::Before, line.items.pre(), line.place)
     }
 
     /// Tells what counts for a load of a module that the kernel does not have.
     fn tell_line(
         &mut self,
-        subject: &Subject,
+        subject: Subject<'a>,
         has_file: bool,
         has_items: bool,
     ) -> Result<(), AllocError> {
-        let (name, alias) = (subject.name.as_slice(), subject.alias.as_deref());
+        let (name, alias) = (subject.name, subject.alias);
         if has_file {
             self.tell_refused(name)?;
         }
@@ -133,8 +152,12 @@ impl Told<'_> {
     }
 
     /// Tells the lines of a module that count for a load of it, and those of its name that do not.
-    fn tell_loaded(&mut self, tasks: &mut Tasks, subject: &Subject) -> Result<(), AllocError> {
-        let name = subject.name.as_slice();
+    fn tell_loaded(
+        &mut self,
+        tasks: &mut Tasks<'a>,
+        subject: Subject<'a>,
+    ) -> Result<(), AllocError> {
+        let name = subject.name;
         let has_items = !subject.bare && self.has_soft_items(tasks, name)?;
         let is_dry = matches!(self.known.asked.query.ask, Ask::DryRun);
         let is_named = subject.alias.is_none() && tasks.has_file(name);
@@ -154,14 +177,16 @@ impl Told<'_> {
     /// Tells the lines of a module of a load, unless they were told.
     pub(crate) fn tell_own(
         &mut self,
-        tasks: &mut Tasks,
-        subject: Subject,
+        tasks: &mut Tasks<'a>,
+        subject: Subject<'a>,
     ) -> Result<(), AllocError> {
-        let mut own = subject;
-        own.bare = tasks.is_bare(&own);
-        if !tasks.begin_own(&own)? {
+        let own = Subject {
+            bare: tasks.is_bare(subject),
+            ..subject
+        };
+        if !tasks.begin_own(own)? {
             return Ok(());
         }
-        self.tell_loaded(tasks, &own)
+        self.tell_loaded(tasks, own)
     }
 }

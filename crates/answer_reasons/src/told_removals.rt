@@ -4,7 +4,7 @@ ghost use Rattle.answer_reasons.specs.Users.{users_beside};
 
 use crate::tasks::{Need, Subject, Task, Tasks};
 use crate::told::Told;
-use crate::told_soft::{push_words, soft_words};
+use crate::told_soft::push_words;
 use answer_facts::{
     Command, LineFact, Outcome, Passed, RemovalFact, Shows, Side, Spot, StateFact, What,
 };
@@ -24,7 +24,7 @@ fn users_beside(users: u64, holders: usize) -> u64
     users.saturating_sub(holders as u64)
 }
 
-impl Told<'_> {
+impl<'a> Told<'_, 'a> {
     /// What counts of what a removal has taken: nothing for a dry run, which asks the modules as they are now.
     fn counted(&self) -> &[Taken] {
         if self.known.sources.whole {
@@ -35,7 +35,11 @@ impl Told<'_> {
     }
 
     /// Tells what becomes of a module, which stands nowhere.
-    pub(crate) fn say_removal(&mut self, name: &[u8], fact: RemovalFact) -> Result<(), AllocError> {
+    pub(crate) fn say_removal(
+        &mut self,
+        name: &'a [u8],
+        fact: RemovalFact<'a>,
+    ) -> Result<(), AllocError> {
         self.say(name, What::Removal(fact), Spot::Nowhere)
     }
 
@@ -44,35 +48,53 @@ impl Told<'_> {
         self.counted().get(..number).unwrap_or(&[])
     }
 
+    /// The folder of those who hold a module.
+    fn holders_spot(&self, name: &[u8]) -> Result<Spot<'a>, AllocError> {
+        let folder = holders_folder(self.alloc, name)?;
+        Ok(Spot::Whole(self.kept(&folder)?))
+    }
+
+    /// Tells that a module holds another one, or that it is gone by what was taken up to a number.
+    fn tell_holder(
+        &mut self,
+        name: &'a [u8],
+        holder: &'a [u8],
+        spot: Spot<'a>,
+        number: usize,
+    ) -> Result<(), AllocError> {
+        if is_gone(self.counted_to(number), holder) {
+            return self.say_removal(holder, RemovalFact::Gone);
+        }
+        self.say(name, What::State(StateFact::HeldBy(holder)), spot)
+    }
+
     /// Tells which modules hold a module, which of them are gone by what was taken up to a number, and how many of its users
     /// are no modules.
-    fn tell_holders(&mut self, name: &[u8], users: u64, number: usize) -> Result<(), AllocError> {
+    fn tell_holders(
+        &mut self,
+        name: &'a [u8],
+        users: u64,
+        number: usize,
+    ) -> Result<(), AllocError> {
         let all = self.known.sources.holders;
         let Some(holders) = all.iter().find(|own| is_same(&own.module, name)) else {
             return Ok(());
         };
-        let folder = holders_folder(self.alloc, name)?;
+        let spot = self.holders_spot(name)?;
         for holder in &holders.names {
-            if is_gone(self.counted_to(number), holder) {
-                self.say_removal(holder, RemovalFact::Gone)?;
-            } else {
-                let what = What::State(StateFact::HeldBy(self.text(holder)?));
-                let spot = self.whole(&folder)?;
-                self.say(name, what, spot)?;
-            }
+            self.tell_holder(name, holder, spot, number)?;
         }
         let others = users_beside(users, holders.names.len());
         if others == 0 {
             return Ok(());
         }
-        let spot = self.whole(&folder)?;
         self.say(name, What::State(StateFact::OtherUsers(others)), spot)
     }
 
     /// Tells how many use a module and which modules they are, by what was taken up to a number, unless none does.
     fn tell_users(
         &mut self,
-        name: &[u8],
+        name: &'a [u8],
         status: ModuleStatus,
         number: usize,
     ) -> Result<(), AllocError> {
@@ -87,7 +109,7 @@ impl Told<'_> {
     }
 
     /// Tells the state of a module that another one needs, and who uses it, by what was taken up to a number.
-    fn tell_need_state(&mut self, name: &[u8], number: usize) -> Result<(), AllocError> {
+    fn tell_need_state(&mut self, name: &'a [u8], number: usize) -> Result<(), AllocError> {
         if self.known.is_built_in(name, false) {
             return self.tell_built_in(name, Outcome::NotRemoved);
         }
@@ -99,7 +121,7 @@ impl Told<'_> {
     }
 
     /// Tells the soft items that -i passes over.
-    fn tell_passed_softdep(&mut self, name: &[u8]) -> Result<(), AllocError> {
+    fn tell_passed_softdep(&mut self, name: &'a [u8]) -> Result<(), AllocError> {
         let asked = self.known.asked;
         let conf = asked.world.conf;
         match conf.softdep_of(self.alloc, name)? {
@@ -111,8 +133,8 @@ impl Told<'_> {
     /// Tells the remove line of a module that counts or is passed over, and those of its very name that do not count.
     fn tell_remove_lines(
         &mut self,
-        name: &[u8],
-        line: Option<&TextLine>,
+        name: &'a [u8],
+        line: Option<&'a TextLine>,
         passed: Passed,
     ) -> Result<(), AllocError> {
         let named = self.known.named;
@@ -121,12 +143,12 @@ impl Told<'_> {
 
     /// Tells what -i passes over of a module that stays: without it a remove line counts whatever the module's state, and soft
     /// items with it.
-    fn tell_passed_over(&mut self, object: &Object) -> Result<(), AllocError> {
+    fn tell_passed_over(&mut self, subject: Subject<'a>) -> Result<(), AllocError> {
         let asked = self.known.asked;
         if !asked.query.ignore_commands {
             return Ok(());
         }
-        let (name, alias) = (object.name.as_slice(), object.alias.as_deref());
+        let (name, alias) = (subject.name, subject.alias);
         let line = remove_line(self.alloc, &asked.world, name, alias)?;
         if line.is_none() {
             return Ok(());
@@ -136,12 +158,12 @@ impl Told<'_> {
     }
 
     /// Tells that a module is gone by then, built in or not loaded.
-    fn tell_kept(&mut self, object: &Object) -> Result<(), AllocError> {
-        self.tell_passed_over(object)?;
-        let name = object.name.as_slice();
+    fn tell_kept(&mut self, subject: Subject<'a>) -> Result<(), AllocError> {
+        self.tell_passed_over(subject)?;
+        let name = subject.name;
         if is_gone(self.counted(), name) {
             self.say_removal(name, RemovalFact::Gone)
-        } else if self.known.is_built_in(name, object.builtin) {
+        } else if self.known.is_built_in(name, subject.builtin) {
             self.tell_built_in(name, Outcome::NotRemoved)
         } else {
             self.tell_state(name, StateFact::NotLoaded)
@@ -149,12 +171,17 @@ impl Told<'_> {
     }
 
     /// Notes that a module is not removed. That may end all.
-    fn refuse(&mut self, tasks: &mut Tasks, soft: bool, name: &[u8]) -> Result<(), AllocError> {
+    fn refuse(
+        &mut self,
+        tasks: &mut Tasks<'a>,
+        soft: bool,
+        name: &'a [u8],
+    ) -> Result<(), AllocError> {
         if !soft {
             tasks.refuse();
         } else if is_fatal(&self.known.asked.query) {
             self.say_removal(name, RemovalFact::Ends)?;
-            tasks.end(self.alloc, name)?;
+            tasks.end(name);
         }
         Ok(())
     }
@@ -162,71 +189,72 @@ impl Told<'_> {
     /// Goes on with the soft items after a module, the last first, and then the module.
     fn begin_removal(
         &mut self,
-        tasks: &mut Tasks,
+        tasks: &mut Tasks<'a>,
         soft: bool,
-        subject: Subject,
+        subject: Subject<'a>,
     ) -> Result<(), AllocError> {
-        let (alloc, asked) = (self.alloc, self.known.asked);
-        tasks.enter(alloc, &subject.name)?;
+        let (name, asked) = (subject.name, self.known.asked);
+        tasks.enter(name)?;
         let conf = asked.world.conf;
         if asked.query.ignore_commands {
-            self.tell_passed_softdep(&subject.name)?;
+            self.tell_passed_softdep(name)?;
             return tasks.push(Task::Release { soft, subject });
         }
-        let Some(line) = conf.softdep_of(alloc, &subject.name)? else {
-            return tasks.push(Task::Release { soft, subject });
-        };
-        let after = soft_words(
-            alloc,
-            &subject.name,
-            Side::After,
-            line.items.post(),
-            line.place,
-        )?;
+        let line = conf.softdep_of(self.alloc, name)?;
         tasks.push(Task::Release { soft, subject })?;
-        push_words(tasks, after)
+        match line {
+            Some(line) => push_words(tasks, name, Side::After, line.items.post(), line.place),
+            None => Ok(()),
+        }
     }
 
     /// Tells why a module is not removed, or goes on with it, unless its soft items are being removed already.
     pub(crate) fn tell_removal(
         &mut self,
-        tasks: &mut Tasks,
+        tasks: &mut Tasks<'a>,
         soft: bool,
-        subject: Subject,
+        subject: Subject<'a>,
     ) -> Result<(), AllocError> {
-        if tasks.is_on_way(&subject.name) {
+        if tasks.is_on_way(subject.name) {
             return Ok(());
         }
-        let object = subject.object(self.alloc)?;
-        let (asked, holders) = (self.known.asked, self.known.sources.holders);
-        match judge_after(asked, holders, self.counted(), soft, &object)? {
+        match self.judged(soft, subject)? {
             Verdict::Remove => self.begin_removal(tasks, soft, subject),
-            Verdict::Pass => self.tell_kept(&object),
+            Verdict::Pass => self.tell_kept(subject),
             Verdict::Refuse(_) => {
-                self.tell_kept(&object)?;
-                self.refuse(tasks, soft, &object.name)
+                self.tell_kept(subject)?;
+                self.refuse(tasks, soft, subject.name)
             }
         }
     }
 
+    /// What becomes of a module that is to be removed.
+    fn judged(&self, soft: bool, subject: Subject<'a>) -> Result<Verdict, AllocError> {
+        let object = subject.object(self.alloc)?;
+        let (asked, holders) = (self.known.asked, self.known.sources.holders);
+        judge_after(asked, holders, self.counted(), soft, &object)
+    }
+
     /// Tells that a need of a module that goes is removed too, since nothing uses it then. A dry run has a line for it only if
     /// nothing uses it now.
-    fn tell_unused(&mut self, need: &Need) -> Result<(), AllocError> {
+    fn tell_unused(&mut self, need: Need<'a>) -> Result<(), AllocError> {
         let asked = self.known.asked;
-        if !has_users(asked.world.states.of(&need.name)) {
-            let spot = self.whole(MODULES)?;
-            return self.say(&need.name, What::Removal(RemovalFact::Unused), spot);
+        if !has_users(asked.world.states.of(need.name)) {
+            let what = What::Removal(RemovalFact::Unused);
+            return self.say(need.name, what, Spot::Whole(MODULES));
         }
         let shown = if self.known.sources.whole {
             Shows::Each
         } else {
             Shows::WholeAlone
         };
-        let after = self.text(&need.by)?;
-        let folder = holders_folder(self.alloc, &need.name)?;
-        let spot = self.whole(&folder)?;
-        let fact = RemovalFact::Freed { after, shown };
-        self.say(&need.name, What::Removal(fact), spot)
+        let after = need.by;
+        let spot = self.holders_spot(need.name)?;
+        self.say(
+            need.name,
+            What::Removal(RemovalFact::Freed { after, shown }),
+            spot,
+        )
     }
 
     /// Whether a module was gone when only this much was taken.
@@ -255,23 +283,23 @@ impl Told<'_> {
     }
 
     /// Tells a need of a module that goes, and whether it goes too. `before` is what was taken before the module.
-    fn tell_freed_need(&mut self, need: &Need, before: usize) -> Result<(), AllocError> {
+    fn tell_freed_need(&mut self, need: Need<'a>, before: usize) -> Result<(), AllocError> {
         self.say_need(need)?;
-        if self.known.sources.whole && self.was_gone(&need.name, before) {
-            return self.say_removal(&need.name, RemovalFact::Gone);
+        if self.known.sources.whole && self.was_gone(need.name, before) {
+            return self.say_removal(need.name, RemovalFact::Gone);
         }
-        self.tell_need_state(&need.name, before)?;
-        if self.goes_since(&need.name, before) || self.goes_again(&need.name) {
+        self.tell_need_state(need.name, before)?;
+        if self.goes_since(need.name, before) || self.goes_again(need.name) {
             self.tell_unused(need)?;
         }
         Ok(())
     }
 
     /// Tells what a module that goes needs, and whether that goes too. `before` is what was taken before the module.
-    fn tell_freed(&mut self, name: &[u8], before: usize) -> Result<(), AllocError> {
+    fn tell_freed(&mut self, name: &'a [u8], before: usize) -> Result<(), AllocError> {
         let needs = self.needs_of(name)?;
         for need in &needs {
-            self.tell_freed_need(need, before)?;
+            self.tell_freed_need(*need, before)?;
         }
         Ok(())
     }
@@ -279,17 +307,18 @@ impl Told<'_> {
     /// Tells what counts for a removal of a module, for which this remove line counts.
     fn tell_removed(
         &mut self,
-        tasks: &mut Tasks,
+        tasks: &mut Tasks<'a>,
+        subject: Subject<'a>,
         object: &Object,
-        line: Option<&TextLine>,
+        line: Option<&'a TextLine>,
     ) -> Result<(), AllocError> {
-        let name = object.name.as_slice();
+        let name = subject.name;
         let asked = self.known.asked;
         let is_bare = asked.query.ignore_commands;
         if !is_bare {
             self.tell_remove_lines(name, line, Passed::Never)?;
         }
-        if !tasks.begin_removed(self.alloc, name)? {
+        if !tasks.begin_removed(name)? {
             return Ok(());
         }
         let before = self.taken.len();
@@ -303,22 +332,26 @@ impl Told<'_> {
     }
 
     /// Goes on with the soft items before a module that was removed, the last first.
-    fn follow_removal(&mut self, tasks: &mut Tasks, name: &[u8]) -> Result<(), AllocError> {
-        let (alloc, asked) = (self.alloc, self.known.asked);
+    fn follow_removal(&mut self, tasks: &mut Tasks<'a>, name: &'a [u8]) -> Result<(), AllocError> {
+        let asked = self.known.asked;
         let conf = asked.world.conf;
         if asked.query.ignore_commands {
             return Ok(());
         }
-        let Some(line) = conf.softdep_of(alloc, name)? else {
+        let Some(line) = conf.softdep_of(self.alloc, name)? else {
             return Ok(());
         };
         self.tell_later_softdeps(name, line.place)?;
-        let before = soft_words(alloc, name, Side::Before, line.items.pre(), line.place)?;
-        push_words(tasks, before)
+        push_words(tasks, name, Side::Before, line.items.pre(), line.place)
     }
 
     /// Tells that a soft dependency after a module took it along, so that its own removal fails.
-    fn tell_gone(&mut self, tasks: &mut Tasks, soft: bool, name: &[u8]) -> Result<(), AllocError> {
+    fn tell_gone(
+        &mut self,
+        tasks: &mut Tasks<'a>,
+        soft: bool,
+        name: &'a [u8],
+    ) -> Result<(), AllocError> {
         if !soft {
             tasks.refuse_gone();
         }
@@ -327,7 +360,7 @@ impl Told<'_> {
 
     /// Tells that nothing uses a module by then, if something uses it now and that is asked: not if a command is run for its
     /// removal.
-    fn tell_free(&mut self, name: &[u8], line: Option<&TextLine>) -> Result<(), AllocError> {
+    fn tell_free(&mut self, name: &'a [u8], line: Option<&TextLine>) -> Result<(), AllocError> {
         let asked = self.known.asked;
         let is_used = has_users(asked.world.states.of(name));
         let is_commanded = line.is_some() && !asked.query.ignore_commands;
@@ -341,27 +374,38 @@ impl Told<'_> {
     /// Tells what counts for a removal of a module whose soft items after it are removed, or that it is in use.
     pub(crate) fn tell_release(
         &mut self,
-        tasks: &mut Tasks,
+        tasks: &mut Tasks<'a>,
         soft: bool,
-        subject: &Subject,
+        subject: Subject<'a>,
     ) -> Result<(), AllocError> {
         let object = subject.object(self.alloc)?;
+        self.tell_released(tasks, soft, subject, &object)
+    }
+
+    /// The same, of the module as queries have it.
+    fn tell_released(
+        &mut self,
+        tasks: &mut Tasks<'a>,
+        soft: bool,
+        subject: Subject<'a>,
+        object: &Object,
+    ) -> Result<(), AllocError> {
         let (asked, holders) = (self.known.asked, self.known.sources.holders);
-        let (name, alias) = (subject.name.as_slice(), subject.alias.as_deref());
+        let (name, alias) = (subject.name, subject.alias);
         let line = remove_line(self.alloc, &asked.world, name, alias)?;
         if asked.query.ignore_commands {
             self.tell_remove_lines(name, line, Passed::ByOption)?;
         }
-        if is_in_use_after(asked, holders, self.counted(), &object)? {
+        if is_in_use_after(asked, holders, self.counted(), object)? {
             let number = self.taken.len();
-            self.tell_need_state(&subject.name, number)?;
-            return self.refuse(tasks, soft, &subject.name);
+            self.tell_need_state(name, number)?;
+            return self.refuse(tasks, soft, name);
         }
-        if is_gone_by(asked, self.counted(), &object)? {
-            return self.tell_gone(tasks, soft, &subject.name);
+        if is_gone_by(asked, self.counted(), object)? {
+            return self.tell_gone(tasks, soft, name);
         }
         self.tell_free(name, line)?;
-        self.tell_removed(tasks, &object, line)?;
-        self.follow_removal(tasks, &subject.name)
+        self.tell_removed(tasks, subject, object, line)?;
+        self.follow_removal(tasks, name)
     }
 }

@@ -2,86 +2,116 @@
 
 use crate::exemptions::Exemption;
 use crate::tasks::{SoftWord, Subject, Task, Tasks};
-use crate::told::{OfEach, Told};
-use answer_facts::{LeadFact, Setting, Side, What};
-use kmod_names::{Place, Text, normal_alias};
+use crate::told::Told;
+use answer_facts::{IdleFact, LeadFact, Setting, Side, What};
+use kmod_names::{Place, Text};
 use kmod_query::{Finding, Object, find_name};
-use std::alloc::{AllocError, Global};
+use std::alloc::AllocError;
 
-/// The words on one side of a module in its softdep line, in their order.
-pub(crate) fn soft_words(
-    alloc: Global,
-    of: &[u8],
+/// Adds a word of a softdep line of a module before all other tasks.
+fn push_word<'a>(
+    tasks: &mut Tasks<'a>,
+    of: &'a [u8],
     side: Side,
-    words: &[Text],
+    word: &'a [u8],
     place: Place,
-) -> Result<Vec<SoftWord>, AllocError> {
-    let mut all = Vec::new(alloc);
-    for word in words {
-        all.push(SoftWord {
-            word: Vec::from_slice(alloc, word.as_bytes())?,
-            of: Vec::from_slice(alloc, of)?,
-            side,
-            place,
-        })?;
-    }
-    Ok(all)
+) -> Result<(), AllocError> {
+    tasks.push(Task::Soft(SoftWord {
+        word,
+        of,
+        side,
+        place,
+    }))
 }
 
-/// Adds words before all other tasks; the last is the first of them.
-pub(crate) fn push_words(tasks: &mut Tasks, words: Vec<SoftWord>) -> Result<(), AllocError> {
-    for word in words.into_iter() {
-        tasks.push(Task::Soft(word))?;
+/// Adds the words on one side of a module in its softdep line before all other tasks; the last is the first of them.
+pub(crate) fn push_words<'a>(
+    tasks: &mut Tasks<'a>,
+    of: &'a [u8],
+    side: Side,
+    words: &'a [Text],
+    place: Place,
+) -> Result<(), AllocError> {
+    for word in words {
+        push_word(tasks, of, side, word.as_bytes(), place)?;
     }
     Ok(())
 }
 
-impl Told<'_> {
-    /// Goes on with the modules for which a word of a softdep line stands: a load with the first of them, a removal with the
-    /// last.
-    fn follow(&mut self, tasks: &mut Tasks, objects: &[Object]) -> Result<(), AllocError> {
+/// The same, in their order: the first is the first of the tasks.
+pub(crate) fn push_words_back<'a>(
+    tasks: &mut Tasks<'a>,
+    of: &'a [u8],
+    side: Side,
+    words: &'a [Text],
+    place: Place,
+) -> Result<(), AllocError> {
+    for word in words.iter().rev() {
+        push_word(tasks, of, side, word.as_bytes(), place)?;
+    }
+    Ok(())
+}
+
+impl<'a> Told<'_, 'a> {
+    /// The modules that objects are.
+    fn subjects_of(&self, objects: &[Object]) -> Result<Vec<Subject<'a>>, AllocError> {
         let mut subjects = Vec::new(self.alloc);
         for object in objects {
-            subjects.push(Subject::of(self.alloc, object, false)?)?;
+            subjects.push(Subject::of(self.texts, object)?)?;
         }
+        Ok(subjects)
+    }
+
+    /// Goes on with modules for which a word of a softdep line stands: a load with the first of them, a removal with the
+    /// last.
+    fn follow_each(
+        &mut self,
+        tasks: &mut Tasks<'a>,
+        subjects: &[Subject<'a>],
+    ) -> Result<(), AllocError> {
         if self.known.is_removal() {
-            for subject in subjects.into_iter() {
+            for subject in subjects {
                 tasks.push(Task::Remove {
                     soft: true,
-                    subject,
+                    subject: *subject,
                 })?;
             }
             return Ok(());
         }
-        for object in objects {
-            self.tell_exempt(tasks, &object.name, Exemption::SoftDependency)?;
+        for subject in subjects {
+            self.tell_exempt(tasks, subject.name, Exemption::SoftDependency)?;
         }
-        subjects.reverse();
-        for subject in subjects.into_iter() {
-            tasks.push(Task::Load(subject))?;
+        for subject in subjects.iter().rev() {
+            tasks.push(Task::Load(*subject))?;
         }
         Ok(())
+    }
+
+    /// Goes on with the modules for which a word of a softdep line stands.
+    fn follow(&mut self, tasks: &mut Tasks<'a>, objects: &[Object]) -> Result<(), AllocError> {
+        let subjects = self.subjects_of(objects)?;
+        self.follow_each(tasks, &subjects)
     }
 
     /// Tells a word of a softdep line; and why it stands for modules, with these, if that was not told.
     pub(crate) fn tell_soft(
         &mut self,
-        tasks: &mut Tasks,
-        own: &SoftWord,
+        tasks: &mut Tasks<'a>,
+        own: SoftWord<'a>,
     ) -> Result<(), AllocError> {
-        let (side, of) = (own.side, self.text(&own.of)?);
+        let (side, of) = (own.side, own.of);
         let what = What::Lead(LeadFact::Softdep { side, of });
-        self.say_of(&own.word, what, own.place)?;
-        if !tasks.begin_word(self.alloc, &own.word)? {
-            return self.follow_again(tasks, &own.word);
+        self.say_of(own.word, what, own.place)?;
+        if !tasks.begin_word(own.word)? {
+            return self.follow_again(tasks, own.word);
         }
-        let found = self.tell_word(&own.word)?;
+        let found = self.tell_word(own.word)?;
         self.follow(tasks, found.as_deref().unwrap_or(&[]))
     }
 
     /// Goes on with the modules for which a word stands, of which it was told why: a load takes them once, and a removal
     /// each time.
-    fn follow_again(&mut self, tasks: &mut Tasks, word: &[u8]) -> Result<(), AllocError> {
+    fn follow_again(&mut self, tasks: &mut Tasks<'a>, word: &[u8]) -> Result<(), AllocError> {
         if !self.known.is_removal() {
             return Ok(());
         }
@@ -92,19 +122,19 @@ impl Told<'_> {
     /// Tells the softdep lines of a module that do not count, since one at a place does.
     pub(crate) fn tell_later_softdeps(
         &mut self,
-        name: &[u8],
+        name: &'a [u8],
         place: Place,
     ) -> Result<(), AllocError> {
         let named = self.known.named;
-        let what = OfEach::Later(Setting::Softdep);
-        self.say_of_each(name, what, &named.softdeps, name, Some(place))
+        let what = What::Idle(IdleFact::Later(Setting::Softdep));
+        self.say_of_each(name, what, &named.softdeps, Some(place))
     }
 
     /// Whether a word of a softdep line stands for a module.
     fn is_found(&self, word: &[u8]) -> Result<bool, AllocError> {
-        match normal_alias(self.alloc, word)? {
+        match self.normal(word)? {
             Some(name) => {
-                let finding = find_name(self.alloc, &self.known.asked.world, name.as_bytes())?;
+                let finding = find_name(self.alloc, &self.known.asked.world, name)?;
                 Ok(!matches!(finding, Finding::Nothing))
             }
             None => Ok(false),
@@ -112,14 +142,14 @@ impl Told<'_> {
     }
 
     /// Whether a word of a softdep line that was not looked up stands for a module; from now on it was.
-    fn look_up(&self, tasks: &mut Tasks, word: &[u8]) -> Result<bool, AllocError> {
+    fn look_up(&self, tasks: &mut Tasks<'a>, word: &'a [u8]) -> Result<bool, AllocError> {
         let found = self.is_found(word)?;
-        tasks.add_found(self.alloc, word, found)?;
+        tasks.add_found(word, found)?;
         Ok(found)
     }
 
     /// Whether one of the words of a softdep line stands for a module.
-    fn is_any_found(&self, tasks: &mut Tasks, words: &[Text]) -> Result<bool, AllocError> {
+    fn is_any_found(&self, tasks: &mut Tasks<'a>, words: &'a [Text]) -> Result<bool, AllocError> {
         for word in words {
             let own = word.as_bytes();
             let found = match tasks.is_found(own) {
@@ -136,7 +166,7 @@ impl Told<'_> {
     /// Whether a module has soft items.
     pub(crate) fn has_soft_items(
         &self,
-        tasks: &mut Tasks,
+        tasks: &mut Tasks<'a>,
         name: &[u8],
     ) -> Result<bool, AllocError> {
         let asked = self.known.asked;

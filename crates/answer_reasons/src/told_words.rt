@@ -1,10 +1,10 @@
 //! What is reported of a word of a command line or of a softdep line.
 
 use crate::near_names::{NEAREST_FIRST, Nearness, nearness_of};
-use crate::told::Told;
+use crate::told::{Told, line_spot};
 use answer_facts::{Command, MissingFact, NameFact, Outcome, Spot, StateFact, What};
 use kmod_index::{DepLine, IndexLine};
-use kmod_names::{AliasEntry, name_of_path, normal_alias};
+use kmod_names::{AliasEntry, normal_alias};
 use kmod_query::{Ask, Finding, Object, find_name};
 use std::alloc::AllocError;
 
@@ -21,40 +21,43 @@ const BUILTIN_MODINFO: &[u8] = b"modules.builtin.modinfo";
 /// How many near names are told.
 const NEAR_NAMES: usize = 3;
 
-impl Told<'_> {
-    fn tell_configured(&mut self, word: &[u8], entries: &[&AliasEntry]) -> Result<(), AllocError> {
+impl<'a> Told<'_, 'a> {
+    fn tell_configured(
+        &mut self,
+        word: &'a [u8],
+        entries: &[&'a AliasEntry],
+    ) -> Result<(), AllocError> {
         for entry in entries {
-            let of = self.text(entry.target.as_bytes())?;
-            let pattern = self.text(entry.pattern.as_bytes())?;
-            let what = What::Name(NameFact::Alias { of, pattern });
-            self.say_of(word, what, entry.place)?;
-            let target = entry.target.as_bytes();
-            self.tell_if_built_in(target, target)?;
+            let (of, pattern) = (entry.target.as_bytes(), entry.pattern.as_bytes());
+            self.say_of(
+                word,
+                What::Name(NameFact::Alias { of, pattern }),
+                entry.place,
+            )?;
+            self.tell_if_built_in(of, of)?;
         }
         Ok(())
     }
 
-    fn tell_module(&mut self, word: &[u8], line: &DepLine<'_>) -> Result<(), AllocError> {
-        let what = What::Name(NameFact::Module(self.text(line.path())?));
-        let spot = self.line(DEPENDENCIES, line.number())?;
-        self.say(word, what, spot)
+    fn tell_module(&mut self, word: &'a [u8], line: &DepLine<'a>) -> Result<(), AllocError> {
+        let what = What::Name(NameFact::Module(line.path()));
+        self.say(word, what, line_spot(DEPENDENCIES, line.number()))
     }
 
-    fn tell_exported(&mut self, word: &[u8], lines: &[IndexLine]) -> Result<(), AllocError> {
+    fn tell_exported(&mut self, word: &'a [u8], lines: &[IndexLine]) -> Result<(), AllocError> {
         for line in lines {
-            let what = What::Name(NameFact::Exported(self.text(line.name())?));
-            let spot = self.line(SYMBOLS, line.number())?;
-            self.say(word, what, spot)?;
+            let what = What::Name(NameFact::Exported(self.kept(line.name())?));
+            self.say(word, what, line_spot(SYMBOLS, line.number()))?;
         }
         Ok(())
     }
 
     /// Tells the aliases of modules.
-    fn tell_aliased(&mut self, word: &[u8], lines: &[IndexLine]) -> Result<(), AllocError> {
+    fn tell_aliased(&mut self, word: &'a [u8], lines: &[IndexLine]) -> Result<(), AllocError> {
         for line in lines {
-            let (of, pattern) = (self.text(line.name())?, self.text(line.key())?);
-            let spot = self.line(ALIASES, line.number())?;
-            self.say(word, What::Name(NameFact::Alias { of, pattern }), spot)?;
+            let (of, pattern) = (self.kept(line.name())?, self.kept(line.key())?);
+            let what = What::Name(NameFact::Alias { of, pattern });
+            self.say(word, what, line_spot(ALIASES, line.number()))?;
         }
         Ok(())
     }
@@ -62,20 +65,23 @@ impl Told<'_> {
     /// Tells the aliases of modules that are built in.
     fn tell_aliased_built_in(
         &mut self,
-        word: &[u8],
+        word: &'a [u8],
         lines: &[IndexLine],
     ) -> Result<(), AllocError> {
         for line in lines {
-            let (of, pattern) = (self.text(line.name())?, self.text(line.key())?);
-            let spot = self.entry(BUILTIN_MODINFO, line.number())?;
+            let (of, pattern) = (self.kept(line.name())?, self.kept(line.key())?);
             let what = What::Name(NameFact::BuiltInAlias { of, pattern });
-            self.say(word, what, spot)?;
+            self.say(
+                word,
+                what,
+                Spot::Entry(BUILTIN_MODINFO, line.number() as u64),
+            )?;
         }
         Ok(())
     }
 
     /// Tells the line of a command by whose very name a word is found: the first install line, or else the first remove line.
-    fn tell_commanded(&mut self, word: &[u8], name: &[u8]) -> Result<(), AllocError> {
+    fn tell_commanded(&mut self, word: &'a [u8], name: &[u8]) -> Result<(), AllocError> {
         let asked = self.known.asked;
         let conf = asked.world.conf;
         let (command, line) = match conf.install_named(name) {
@@ -89,38 +95,38 @@ impl Told<'_> {
     }
 
     /// The line of a module that is built in.
-    fn built_in_spot(&self, name: &[u8]) -> Result<Spot, AllocError> {
+    fn built_in_spot(&self, name: &[u8]) -> Spot<'a> {
         match self.known.named.builtins.of(name).first() {
-            Some(number) => self.line(BUILTIN, *number),
-            None => Ok(Spot::Nowhere),
+            Some(number) => line_spot(BUILTIN, *number),
+            None => Spot::Nowhere,
         }
     }
 
     /// Tells that a module is built in, and what follows.
     pub(crate) fn tell_built_in(
         &mut self,
-        name: &[u8],
+        name: &'a [u8],
         outcome: Outcome,
     ) -> Result<(), AllocError> {
-        let spot = self.built_in_spot(name)?;
+        let spot = self.built_in_spot(name);
         self.say(name, What::State(StateFact::BuiltIn(outcome)), spot)
     }
 
     /// Tells that a word, whose normal form is a name, is that of a module which is built in.
-    fn tell_built_in_name(&mut self, word: &[u8], name: &[u8]) -> Result<(), AllocError> {
-        let spot = self.built_in_spot(name)?;
+    fn tell_built_in_name(&mut self, word: &'a [u8], name: &[u8]) -> Result<(), AllocError> {
+        let spot = self.built_in_spot(name);
         self.say(word, What::Name(NameFact::BuiltIn), spot)
     }
 
     /// Tells that a word is the name of a line with a command, and of a module that is built in, if it is.
-    fn tell_named(&mut self, word: &[u8], name: &[u8]) -> Result<(), AllocError> {
+    fn tell_named(&mut self, word: &'a [u8], name: &[u8]) -> Result<(), AllocError> {
         self.tell_commanded(word, name)?;
         self.tell_if_built_in(word, name)
     }
 
     /// Tells that a word, whose normal form is a name, is that of a module which is built in, if it is. A dry run and a
     /// removal tell that of each module.
-    fn tell_if_built_in(&mut self, word: &[u8], name: &[u8]) -> Result<(), AllocError> {
+    fn tell_if_built_in(&mut self, word: &'a [u8], name: &[u8]) -> Result<(), AllocError> {
         let is_told = matches!(self.known.asked.query.ask, Ask::DryRun) || self.known.is_removal();
         if is_told || !self.known.is_built_in(name, false) {
             return Ok(());
@@ -129,16 +135,16 @@ impl Told<'_> {
     }
 
     /// Tells what is wrong with a word.
-    fn tell_missing(&mut self, word: &[u8], fact: MissingFact) -> Result<(), AllocError> {
+    fn tell_missing(&mut self, word: &'a [u8], fact: MissingFact<'a>) -> Result<(), AllocError> {
         self.say(word, What::Missing(fact), Spot::Nowhere)
     }
 
     /// Tells why a word, whose normal form is a name, stands for modules, or that it stands for none.
     fn tell_finding(
         &mut self,
-        word: &[u8],
+        word: &'a [u8],
         name: &[u8],
-        finding: &Finding<'_>,
+        finding: &Finding<'a>,
     ) -> Result<(), AllocError> {
         match finding {
             Finding::Configured(entries) => self.tell_configured(word, entries),
@@ -152,32 +158,56 @@ impl Told<'_> {
         }
     }
 
+    /// The normal form of a word; None if it is no name.
+    pub(crate) fn normal(&self, word: &[u8]) -> Result<Option<&'a [u8]>, AllocError> {
+        match normal_alias(self.alloc, word)? {
+            Some(name) => Ok(Some(self.kept(name.as_bytes())?)),
+            None => Ok(None),
+        }
+    }
+
     /// The modules for which a word stands: none if it is no name.
     pub(crate) fn objects_of(&self, word: &[u8]) -> Result<Vec<Object>, AllocError> {
-        let Some(name) = normal_alias(self.alloc, word)? else {
-            return Ok(Vec::new(self.alloc));
-        };
-        let finding = find_name(self.alloc, &self.known.asked.world, name.as_bytes())?;
-        finding.objects(self.alloc, name.as_bytes())
+        match self.normal(word)? {
+            Some(name) => {
+                let finding = find_name(self.alloc, &self.known.asked.world, name)?;
+                finding.objects(self.alloc, name)
+            }
+            None => Ok(Vec::new(self.alloc)),
+        }
+    }
+
+    /// Tells why a word, whose normal form is a name, stands for modules, which are answered.
+    fn tell_found(
+        &mut self,
+        word: &'a [u8],
+        name: &'a [u8],
+        finding: &Finding<'a>,
+    ) -> Result<Option<Vec<Object>>, AllocError> {
+        self.tell_finding(word, name, finding)?;
+        let objects = finding.objects(self.alloc, name)?;
+        self.tell_blacklisted_alias(name, &objects)?;
+        Ok(Some(objects))
     }
 
     /// Tells why a word stands for modules, which are answered. None if it is no name.
-    pub(crate) fn tell_word(&mut self, word: &[u8]) -> Result<Option<Vec<Object>>, AllocError> {
-        let Some(name) = normal_alias(self.alloc, word)? else {
-            self.tell_missing(word, MissingFact::NoName)?;
-            return Ok(None);
-        };
-        let finding = find_name(self.alloc, &self.known.asked.world, name.as_bytes())?;
-        self.tell_finding(word, name.as_bytes(), &finding)?;
-        let objects = finding.objects(self.alloc, name.as_bytes())?;
-        self.tell_blacklisted_alias(name.as_bytes(), &objects)?;
-        Ok(Some(objects))
+    pub(crate) fn tell_word(&mut self, word: &'a [u8]) -> Result<Option<Vec<Object>>, AllocError> {
+        match self.normal(word)? {
+            Some(name) => {
+                let finding = find_name(self.alloc, &self.known.asked.world, name)?;
+                self.tell_found(word, name, &finding)
+            }
+            None => {
+                self.tell_missing(word, MissingFact::NoName)?;
+                Ok(None)
+            }
+        }
     }
 
     /// Tells at most so many modules whose names are so near to `name`. Returns how many more may be told.
     fn tell_as_near(
         &mut self,
-        word: &[u8],
+        word: &'a [u8],
         name: &[u8],
         lines: &[DepLine<'_>],
         nearness: Nearness,
@@ -188,12 +218,10 @@ impl Told<'_> {
             if left == 0 {
                 return Ok(0);
             }
-            let own = line.name(self.alloc)?;
-            let own = own.as_bytes();
+            let own = self.module_of(line)?;
             if nearness_of(self.alloc, own, name)? == Some(nearness) {
-                let what = What::Missing(MissingFact::Near(self.text(own)?));
-                let spot = self.line(DEPENDENCIES, line.number())?;
-                self.say(word, what, spot)?;
+                let what = What::Missing(MissingFact::Near(own));
+                self.say(word, what, line_spot(DEPENDENCIES, line.number()))?;
                 left -= 1;
             }
         }
@@ -201,7 +229,7 @@ impl Told<'_> {
     }
 
     /// Tells at most `NEAR_NAMES` modules whose names are `name` or near it, the nearest first.
-    fn tell_near_names(&mut self, word: &[u8], name: &[u8]) -> Result<(), AllocError> {
+    fn tell_near_names(&mut self, word: &'a [u8], name: &[u8]) -> Result<(), AllocError> {
         let asked = self.known.asked;
         let lines = asked.world.index.dep_lines(self.alloc)?;
         let mut left = NEAR_NAMES;
@@ -212,12 +240,12 @@ impl Told<'_> {
     }
 
     /// Tells modules whose names are near a word that stands for none, for the first such words.
-    pub(crate) fn tell_near(&mut self, word: &[u8]) -> Result<(), AllocError> {
+    pub(crate) fn tell_near(&mut self, word: &'a [u8]) -> Result<(), AllocError> {
         if self.searches == 0 {
             return Ok(());
         }
         self.searches -= 1;
-        let name = name_of_path(self.alloc, word)?;
-        self.tell_near_names(word, name.as_bytes())
+        let name = self.name_at(word)?;
+        self.tell_near_names(word, name)
     }
 }

@@ -1,5 +1,5 @@
 -- What a lint that finds nothing says.
-use Rattle.std.proofs.Common.{◌≡◌, ◌∙◌, ℕ, Bool, true, false, true≢false, List, [], ◌∷◌, ◌++◌, map, Option, Vec, length, refl, sym, ap, arith}
+use Rattle.std.proofs.Common.{◌≡◌, ◌∙◌, ℕ, Bool, true, false, true≢false, List, [], ◌∷◌, ◌++◌, map, Option, length, refl, sym, ap, subst, arith}
 use Rattle.std.proofs.lemmas.List.Sorted.{length_permutation}
 use Rattle.std.specs.List.Sorted.{IsPermutation}
 use Rattle.machine_lint.specs.declared.known.Known.{Known}
@@ -16,11 +16,13 @@ use Rattle.gz_modprobe_drive.specs.Ends.{EndsWell, IsDone, WereAnswered, wish_by
 use Rattle.gz_modprobe_drive.specs.Formed.{form_by}
 use Rattle.gz_modprobe_drive.specs.Leads.{WasTold}
 use Rattle.answer_facts.specs.declared.fact.Fact.{Fact}
+use Rattle.answer_facts.specs.Facts.{pieces_of_facts}
+use Rattle.answer_facts.specs.Pieces.{Piece}
 use Rattle.modprobe_files.specs.declared.texts.HiddenFile.{HiddenFile}
-use Rattle.answer_reasons.specs.FileFacts.{fact_of_hidden, fact_of_unread}
-use Rattle.gz_modprobe_drive.specs.LintFacts.{fact_of_note, lint_facts}
-use Rattle.gz_modprobe_drive.specs.Linted.{IsOfTexts, IsSilent, WasLinted, WereFound}
-use Rattle.std.specs.Global.{Global}
+use Rattle.answer_reasons.specs.declared.sources.UnreadFile.{UnreadFile}
+use Rattle.answer_reasons.specs.FileFacts.{hidden_file, unread_file}
+use Rattle.gz_modprobe_drive.specs.LintFacts.{lint_pieces, pieces_of_note}
+use Rattle.gz_modprobe_drive.specs.Linted.{FoundNothing, IsOfTexts, IsSilent, WasLinted, WereFound}
 use Rattle.gz_modprobe_drive.specs.Queries.{IsQueryOf, ask_of, is_lint, is_why}
 
 without-length : (notes : List Note) → ◌≡◌ {A = ℕ} (length notes) 0 → notes ≡ []
@@ -31,24 +33,40 @@ nothing : (all notes : List Note) → IsPermutation all notes → notes ≡ [] �
 nothing all notes same none = without-length all (sym (length_permutation all notes same) ∙ ap length none)
 
 -- if nothing is told, nothing is noted
-no-notes : (texts : ConfTexts) (notes : List Note) (hidden : List HiddenFile) (rest : List Fact)
-    → map (fact_of_note texts) notes ++ map fact_of_hidden hidden ++ rest ≡ [] → notes ≡ []
+no-notes : (texts : ConfTexts) (notes : List Note) (hidden : List HiddenFile) (rest : List (List Piece))
+    → map (pieces_of_note texts) notes ++ map hidden_file hidden ++ rest ≡ [] → notes ≡ []
 no-notes texts [] hidden rest e = refl
 no-notes texts (note ∷ notes) hidden rest e = absurd (cc)
 
 -- nor is a file hidden
-no-hidden : (texts : ConfTexts) (notes : List Note) (hidden : List HiddenFile) (rest : List Fact)
-    → map (fact_of_note texts) notes ++ map fact_of_hidden hidden ++ rest ≡ [] → hidden ≡ []
+no-hidden : (texts : ConfTexts) (notes : List Note) (hidden : List HiddenFile) (rest : List (List Piece))
+    → map (pieces_of_note texts) notes ++ map hidden_file hidden ++ rest ≡ [] → hidden ≡ []
 no-hidden texts [] [] rest e = refl
 no-hidden texts [] (file ∷ files) rest e = absurd (cc)
 no-hidden texts (note ∷ notes) hidden rest e = absurd (cc)
 
+-- silent facts of a lint are those of nothing
+pub found-nothing : (texts : ConfTexts) (known : Known) (all notes : List Note) (unread : List UnreadFile) (facts shown : List Fact)
+    (before after : Option (List ℕ)) → IsPermutation (notes_of known) all → all ≡ notes → pieces_of_facts facts ≡ lint_pieces texts notes unread
+    → facts ≡ shown → IsSilent shown before after → FoundNothing texts known before after
+found-nothing texts known all notes unread facts shown before after noted lent are written silent = record {
+  facts = shown;
+  found = record {
+    notes = notes;
+    unread = unread;
+    noted = subst (IsPermutation (notes_of known)) lent noted;
+    are = ap pieces_of_facts (sym written) ∙ are;
+  };
+  silent = silent;
+}
+
 -- a silent lint of what texts say noted no line of them
-pub was-linted : (texts : ConfTexts) (modules : ModuleTexts) (later : LaterTexts) (directory : List ℕ) (known : Known) (facts : Vec Fact Global)
-    (shown : List Fact) (before after : Option (List ℕ)) → IsOfTexts texts modules later directory known → WereFound texts known facts
-    → facts.items ≡ shown → IsSilent shown before after → WasLinted texts.kmod before after
-was-linted texts modules later directory known facts shown before after is found lent silent =
-    let empty : lint_facts texts found.notes found.unread ≡ [] = sym found.are ∙ (lent ∙ silent.none)
+pub was-linted : (texts : ConfTexts) (modules : ModuleTexts) (later : LaterTexts) (directory : List ℕ) (known : Known)
+    (before after : Option (List ℕ)) → IsOfTexts texts modules later directory known → FoundNothing texts known before after
+    → WasLinted texts.kmod before after
+was-linted texts modules later directory known before after is nothing-found =
+    let found = nothing-found.found in
+    let empty : lint_pieces texts found.notes found.unread ≡ [] = sym found.are ∙ ap pieces_of_facts nothing-found.silent.none
     in record {
       texts = texts;
       modules = modules;
@@ -57,9 +75,9 @@ was-linted texts modules later directory known facts shown before after is found
       known = known;
       version = refl;
       is = is;
-      none = nothing (notes_of known) found.notes found.noted (no-notes texts found.notes texts.hidden.items (map fact_of_unread found.unread) empty);
-      read = no-hidden texts found.notes texts.hidden.items (map fact_of_unread found.unread) empty;
-      kept = silent.kept;
+      none = nothing (notes_of known) found.notes found.noted (no-notes texts found.notes texts.hidden.items (map unread_file found.unread) empty);
+      read = no-hidden texts found.notes texts.hidden.items (map unread_file found.unread) empty;
+      kept = nothing-found.silent.kept;
     }
 
 -- how a run ends well, by what it asks for

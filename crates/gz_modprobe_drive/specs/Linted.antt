@@ -1,6 +1,5 @@
 -- What a lint of a machine's configuration finds.
-use Rattle.std.specs.Prelude.{◌≡◌, ℕ, nat_eq, Bool, if◌then◌else◌, ◌&&◌, ◌||◌, List, [], drop, length, map, codes, Option, IsPermutation, IsSome, Vec}
-use Rattle.std.specs.Global.{Global}
+use Rattle.std.specs.Prelude.{◌≡◌, ℕ, nat_eq, Bool, if◌then◌else◌, ◌&&◌, ◌||◌, List, [], drop, length, map, codes, Option, IsPermutation, IsSome}
 use Rattle.std.specs.List.{starts_with}
 use Rattle.std.specs.Str.{bytes_eq}
 use Rattle.kmod_version.specs.declared.kmod.Kmod.{Kmod}
@@ -14,8 +13,9 @@ use Rattle.modprobe_files.specs.declared.texts.ConfTexts.{ConfTexts}
 use Rattle.modprobe_files.specs.declared.texts.LaterTexts.{LaterTexts}
 use Rattle.modprobe_files.specs.declared.texts.ModuleTexts.{ModuleTexts}
 use Rattle.answer_facts.specs.declared.fact.Fact.{Fact}
+use Rattle.answer_facts.specs.Facts.{pieces_of_facts}
 use Rattle.answer_reasons.specs.declared.sources.UnreadFile.{UnreadFile}
-use Rattle.gz_modprobe_drive.specs.LintFacts.{lint_facts}
+use Rattle.gz_modprobe_drive.specs.LintFacts.{lint_pieces}
 use Rattle.gz_modprobe_drive.specs.Texts.{conf_of, index_of}
 
 abbrev pub is_dependency_file : List ℕ → Bool
@@ -46,11 +46,17 @@ pub record IsSilent (facts : List Fact) (before after : Option (List ℕ)) : Typ
   pub kept : after ≡ before
 
 -- All that a lint tells of a machine: each note of a line once, in some order, each hidden file, and files that are not read.
-pub record WereFound (texts : ConfTexts) (known : Known) (facts : Vec Fact Global) : Type 0 where
+pub record WereFound (texts : ConfTexts) (known : Known) (facts : List Fact) : Type 0 where
   pub notes : List Note
   pub unread : List UnreadFile
   pub noted : IsPermutation (notes_of known) notes
-  pub are : facts.items ≡ lint_facts texts notes unread
+  pub are : pieces_of_facts facts ≡ lint_pieces texts notes unread
+
+-- nothing was found in what is known of a machine, and nothing written
+pub record FoundNothing (texts : ConfTexts) (known : Known) (before after : Option (List ℕ)) : Type 0 where
+  pub facts : List Fact
+  pub found : WereFound texts known facts
+  pub silent : IsSilent facts before after
 
 -- What is known of a machine is what its texts say, all of which were read, and who wrote the files of its configuration.
 pub record IsOfTexts (texts : ConfTexts) (modules : ModuleTexts) (later : LaterTexts) (directory : List ℕ) (known : Known) : Type 0 where

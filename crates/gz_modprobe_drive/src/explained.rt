@@ -3,10 +3,23 @@
 use crate::formed::lines_by;
 use crate::texts::Machine;
 use answer_reasons::{Sources, explanation};
+use bumpalo::Bump;
 use kmod_query::{Query, World};
-use modprobe_words::{Level, Messages};
+use modprobe_words::{Form, Level, Messages};
 use std::alloc::{AllocError, Global};
 use std::io::Write;
+
+/// Why a query of a world is answered as it is, in a form.
+fn lines_of<'a>(
+    alloc: Global,
+    form: Form,
+    sources: &Sources<'a>,
+    world: &World<'a>,
+    query: &Query<'a>,
+) -> Result<Vec<u8>, AllocError> {
+    let facts = explanation(alloc, sources, world, query)?;
+    lines_by(alloc, form, &facts)
+}
 
 /// Why the answer to a query of a machine is as it is. It fails only if memory runs out.
 fn explained(
@@ -16,6 +29,7 @@ fn explained(
     query: &Query<'_>,
 ) -> Result<Vec<u8>, AllocError> {
     let paths = machine.conf.paths(alloc)?;
+    let texts = Bump::new(alloc);
     let sources = Sources {
         paths: &paths,
         files: &machine.conf.files,
@@ -25,9 +39,10 @@ fn explained(
         holders: &machine.evidence.holders,
         whole: machine.whole,
         builtin: &machine.modules.builtin,
+        devices: &[],
+        texts: &texts,
     };
-    let facts = explanation(alloc, &sources, world, query)?;
-    lines_by(alloc, machine.evidence.form, &facts)
+    lines_of(alloc, machine.evidence.form, &sources, world, query)
 }
 
 /// Tells why an answer is as it is, if that is asked for.

@@ -19,7 +19,7 @@ pub(crate) fn form_by(explain: Option<Form>) -> Form
 }
 
 /// Facts in a form, each once, in their order. It fails only if memory runs out.
-pub(crate) fn lines_by(alloc: Global, form: Form, facts: &[Fact]) -> Result<Vec<u8>, AllocError>
+pub(crate) fn lines_by(alloc: Global, form: Form, facts: &[Fact<'_>]) -> Result<Vec<u8>, AllocError>
     ensures lines { IfOk result (λ lines. lines.items ≡ lines_by form facts.now) }
     ensures shown { IfOk result (λ lines. list_all is_shown lines.items ≡ true) }
 {
@@ -33,7 +33,7 @@ pub(crate) fn lines_by(alloc: Global, form: Form, facts: &[Fact]) -> Result<Vec<
 pub(crate) fn write_facts<O: Write>(
     alloc: Global,
     form: Form,
-    facts: &[Fact],
+    facts: &[Fact<'_>],
     output: &mut O,
 ) -> Result<Written, AllocError>
     ensures whole { IfOk result (λ written. written ≡ Whole → AreWritten form facts.now (O.contents output.old) (O.contents output.new)) }

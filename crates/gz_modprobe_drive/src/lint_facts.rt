@@ -1,10 +1,11 @@
 //! What a lint tells, as facts.
 ghost use Rattle.std.specs.Prelude.{◌≡◌, ◌++◌, map, IfOk, OnOk};
-ghost use Rattle.gz_modprobe_drive.specs.LintFacts.{counting_path, fact_of_note, lint_facts};
+ghost use Rattle.answer_facts.specs.Facts.{pieces_of_fact, pieces_of_facts};
+ghost use Rattle.gz_modprobe_drive.specs.LintFacts.{counting_path, lint_pieces, pieces_of_note};
 
 use answer_facts::{Fact, NoteFact, Spot, What, counting_place};
 use answer_reasons::{UnreadFile, add_hidden, add_unread};
-use kmod_names::{Place, Text};
+use kmod_names::Place;
 use machine_lint::Note;
 use modprobe_files::ConfTexts;
 use std::alloc::{AllocError, Global};
@@ -20,45 +21,46 @@ fn counting_path(texts: &ConfTexts, place: Option<Place>) -> &[u8]
 }
 
 /// A note of a line, of its file.
-fn fact_of_note(alloc: Global, texts: &ConfTexts, note: Note) -> Result<Fact, AllocError>
-    ensures { IfOk result (λ fact. fact ≡ fact_of_note texts.now note) }
+#[tactic(auto, unfolding(crate::specs::LintFacts::pieces_of_note))]
+fn fact_of_note<'a>(texts: &'a ConfTexts, note: &'a Note) -> Fact<'a>
+    ensures { pieces_of_fact result ≡ pieces_of_note texts.entry.now note.entry.now }
 {
-    let whom = Text::new(alloc, texts.path(note.place.source))?;
-    let other = Text::new(alloc, counting_path(texts, counting_place(&note.kind)))?;
-    Ok(Fact {
-        whom,
-        what: What::Note(NoteFact { note, other }),
+    Fact {
+        whom: texts.path(note.place.source),
+        what: What::Note(NoteFact {
+            note,
+            other: counting_path(texts, counting_place(&note.kind)),
+        }),
         spot: Spot::Nowhere,
-    })
+    }
 }
 
-fn add_notes(
-    alloc: Global,
-    texts: &ConfTexts,
-    notes: Vec<Note>,
-    facts: &mut Vec<Fact>,
+fn add_notes<'a>(
+    texts: &'a ConfTexts,
+    notes: &'a [Note],
+    facts: &mut Vec<Fact<'a>>,
 ) -> Result<(), AllocError>
-    ensures { OnOk result (facts.new.items ≡ facts.old.items ++ map (fact_of_note texts.now) notes.items) }
+    ensures { OnOk result (pieces_of_facts facts.new.items ≡ pieces_of_facts facts.old.items ++ map (pieces_of_note texts.entry.now) notes.entry.now) }
 {
-    'notes: for note in notes.into_iter() {
-        facts.push(fact_of_note(alloc, texts, note)?)?;
+    'notes: for note in notes {
+        facts.push(fact_of_note(texts, note))?;
     }
     Ok(())
 }
 
 /// What a lint of a configuration tells: a fact for each note, and then for each file that is not read. It fails only if
 /// memory runs out.
-pub(crate) fn lint_facts(
+pub(crate) fn lint_facts<'a>(
     alloc: Global,
-    texts: &ConfTexts,
-    notes: Vec<Note>,
-    unread: &[UnreadFile],
-) -> Result<Vec<Fact>, AllocError>
-    ensures { IfOk result (λ facts. facts.items ≡ lint_facts texts.now notes.items unread.now) }
+    texts: &'a ConfTexts,
+    notes: &'a [Note],
+    unread: &'a [UnreadFile],
+) -> Result<Vec<Fact<'a>>, AllocError>
+    ensures { IfOk result (λ facts. pieces_of_facts facts.items ≡ lint_pieces texts.entry.now notes.entry.now unread.entry.now) }
 {
     let mut facts = Vec::new(alloc);
-    add_notes(alloc, texts, notes, &mut facts)?;
-    add_hidden(alloc, &texts.hidden, &mut facts)?;
-    add_unread(alloc, unread, &mut facts)?;
+    add_notes(texts, notes, &mut facts)?;
+    add_hidden(&texts.hidden, &mut facts)?;
+    add_unread(unread, &mut facts)?;
     Ok(facts)
 }

@@ -3,7 +3,7 @@ ghost use Rattle.std.specs.Prelude.{◌≡◌, ◌≤◌, true, IfOk, IsSome};
 ghost use Rattle.gz_modprobe_drive.specs.Begun.{AreBegun, WritesFacts};
 ghost use Rattle.gz_modprobe_drive.specs.Formed.{form_by};
 ghost use Rattle.gz_modprobe_drive.specs.Texts.{index_of};
-ghost use Rattle.gz_modprobe_drive.specs.Linted.{IsSilent, WasLinted, WereFound, is_of_depmod, is_of_package, origin_by, origins_of};
+ghost use Rattle.gz_modprobe_drive.specs.Linted.{FoundNothing, IsSilent, WasLinted, is_of_depmod, is_of_package, origin_by, origins_of};
 
 use crate::answering::tell_unwritten;
 use crate::configuration::conf_of;
@@ -75,7 +75,7 @@ fn origins_of(
 fn write_found<O: Write, E: Write>(
     alloc: Global,
     form: Form,
-    facts: &[Fact],
+    facts: &[Fact<'_>],
     output: &mut O,
     messages: &mut Messages<'_, E>,
 ) -> Result<u8, AllocError>
@@ -91,19 +91,25 @@ fn write_found<O: Write, E: Write>(
     Ok(1)
 }
 
-/// What is known of a machine is judged: what a lint of it tells.
-fn found_by<S: System>(
+/// What is known of a machine is judged, and what a lint of it tells is written, if anything is. Returns the status.
+fn write_lint<S: System, O: Write, E: Write>(
     host: &Host<'_, S>,
     texts: &ConfTexts,
     known: &Known<'_>,
-    named: &[&[u8]],
-) -> Result<Vec<Fact>, AllocError>
-    ensures { IfOk result (WereFound texts.now known.now) }
+    asked: &Asked<'_>,
+    output: &mut O,
+    messages: &mut Messages<'_, E>,
+) -> Result<u8, AllocError>
+    ensures status { IfOk result (λ status. status ≤ 1) }
+    ensures nothing { IfOk result (λ status. status ≡ 0 → FoundNothing texts.now known.now (O.contents output.old) (O.contents output.new)) }
+    ensures begun { WritesFacts (form_by asked.now.switches.explain) (O.contents output.old) (O.contents output.new) }
 {
     let alloc = host.alloc();
     let notes = lint(alloc, known)?;
-    let unread = unread_files(host, texts.kmod, named)?;
-    lint_facts(alloc, texts, notes, &unread)
+    let unread = unread_files(host, texts.kmod, &asked.configurations)?;
+    let facts = lint_facts(alloc, texts, &notes, &unread)?;
+    let form = form_by(asked.switches.explain);
+    write_found(alloc, form, &facts, output, messages)
 }
 
 /// Looks at the lines of a configuration, over the texts of a folder of modules, and what they say. Returns the status.
@@ -135,9 +141,7 @@ fn lint_texts<S: System, O: Write, E: Write>(
         files: &files,
         parameters: &parameters,
     };
-    let facts = found_by(host, texts, &known, &asked.configurations)?;
-    let form = form_by(asked.switches.explain);
-    write_found(alloc, form, &facts, output, messages)
+    write_lint(host, texts, &known, asked, output, messages)
 }
 
 /// The status of a lint whose lines have this one: 1 too if it does not look at all that there is.

@@ -12,9 +12,10 @@ use crate::folder::index_of;
 use crate::formed::{form_by, write_facts};
 use crate::texts::world_of;
 use answer_reasons::{Device, Leads, Sources, leads_to};
+use bumpalo::Bump;
 use kmod_conf::Conf;
 use kmod_index::Index;
-use kmod_query::{Ask, Query, States};
+use kmod_query::{Ask, Query, States, World};
 use modprobe_files::{
     ConfTexts, Host, LaterTexts, ModuleTexts, System, is_rootless, read_configuration, read_later,
     read_modules,
@@ -60,47 +61,11 @@ fn query_of<'a>(names: &'a [&'a [u8]]) -> Query<'a> {
     }
 }
 
-/// What leads to names, by what was read. `index` is what the folder of modules says.
-fn leads_in(
-    alloc: Global,
-    known: &Known<'_>,
-    conf: &Conf,
-    index: &Index<'_>,
-    names: &[&[u8]],
-) -> Result<Leads, AllocError> {
-    let states = States::new(alloc);
-    let world = world_of(conf, index, &states, known.directory, &[]);
-    let paths = known.conf.paths(alloc)?;
-    let sources = Sources {
-        paths: &paths,
-        files: &[],
-        command_line: b"",
-        hidden: &[],
-        unread: &[],
-        holders: &[],
-        whole: false,
-        builtin: &known.modules.builtin,
-    };
-    leads_to(alloc, &sources, &world, &query_of(names), known.devices)
-}
-
-/// What leads to names, by what was read.
-fn leads_of(
-    alloc: Global,
-    known: &Known<'_>,
-    conf: &Conf,
-    names: &[&[u8]],
-) -> Result<Leads, AllocError> {
-    let words = looked_up(alloc, names, known.devices)?;
-    let index = index_of(alloc, known.modules, known.later, &words)?;
-    leads_in(alloc, known, conf, &index, names)
-}
-
 /// Writes what leads to names, and tells if it cannot be written. Returns the status.
 fn write_leads<O: Write, E: Write>(
     alloc: Global,
     form: Form,
-    leads: &Leads,
+    leads: &Leads<'_>,
     output: &mut O,
     messages: &mut Messages<'_, E>,
 ) -> Result<u8, AllocError>
@@ -114,6 +79,85 @@ fn write_leads<O: Write, E: Write>(
         Written::Whole if !leads.is_missing => Ok(0),
         _ => Ok(1),
     }
+}
+
+/// Tells what leads to the names of a query of a world. Returns the status.
+fn tell_leads<'a, O: Write, E: Write>(
+    alloc: Global,
+    form: Form,
+    sources: &Sources<'a>,
+    world: &World<'a>,
+    query: &Query<'a>,
+    output: &mut O,
+    messages: &mut Messages<'_, E>,
+) -> Result<u8, AllocError>
+    ensures status { IfOk result (λ status. status ≤ 1) }
+    ensures told { IfOk result (λ status. status ≡ 0 → WasTold form (O.contents output.old) (O.contents output.new)) }
+    ensures begun { WritesFacts form (O.contents output.old) (O.contents output.new) }
+{
+    let leads = leads_to(alloc, sources, world, query)?;
+    write_leads(alloc, form, &leads, output, messages)
+}
+
+/// Tells what leads to names, by what was read. `index` is what the folder of modules says. Returns the status.
+fn tell_indexed<O: Write, E: Write>(
+    alloc: Global,
+    form: Form,
+    known: &Known<'_>,
+    conf: &Conf,
+    index: &Index<'_>,
+    names: &[&[u8]],
+    output: &mut O,
+    messages: &mut Messages<'_, E>,
+) -> Result<u8, AllocError>
+    ensures status { IfOk result (λ status. status ≤ 1) }
+    ensures told { IfOk result (λ status. status ≡ 0 → WasTold form (O.contents output.old) (O.contents output.new)) }
+    ensures begun { WritesFacts form (O.contents output.old) (O.contents output.new) }
+{
+    let states = States::new(alloc);
+    let world = world_of(conf, index, &states, known.directory, &[]);
+    let paths = known.conf.paths(alloc)?;
+    let texts = Bump::new(alloc);
+    let sources = Sources {
+        paths: &paths,
+        files: &[],
+        command_line: b"",
+        hidden: &[],
+        unread: &[],
+        holders: &[],
+        whole: false,
+        builtin: &known.modules.builtin,
+        devices: known.devices,
+        texts: &texts,
+    };
+    tell_leads(
+        alloc,
+        form,
+        &sources,
+        &world,
+        &query_of(names),
+        output,
+        messages,
+    )
+}
+
+/// Tells what leads to names, by what was read and its configuration. Returns the status.
+fn tell_names<O: Write, E: Write>(
+    alloc: Global,
+    form: Form,
+    known: &Known<'_>,
+    conf: &Conf,
+    names: &[&[u8]],
+    output: &mut O,
+    messages: &mut Messages<'_, E>,
+) -> Result<u8, AllocError>
+    ensures status { IfOk result (λ status. status ≤ 1) }
+    ensures told { IfOk result (λ status. status ≡ 0 → WasTold form (O.contents output.old) (O.contents output.new)) }
+    ensures begun { WritesFacts form (O.contents output.old) (O.contents output.new) }
+{
+    let words = looked_up(alloc, names, known.devices)?;
+    let index = index_of(alloc, known.modules, known.later, &words)?;
+    tell_indexed(alloc, form, known, conf, &index, names, output, messages)
 }
 
 /// Tells what leads to names, by what was read. Returns the status.
@@ -130,9 +174,8 @@ fn tell_known<O: Write, E: Write>(
 {
     let conf = conf_of(alloc, known.conf)?;
     tell_bad_lines(alloc, known.conf, &conf, messages)?;
-    let leads = leads_of(alloc, known, &conf, &asked.words)?;
     let form = form_by(asked.switches.explain);
-    write_leads(alloc, form, &leads, output, messages)
+    tell_names(alloc, form, known, &conf, &asked.words, output, messages)
 }
 
 /// Reads what leads to names, and tells it. Returns the status.

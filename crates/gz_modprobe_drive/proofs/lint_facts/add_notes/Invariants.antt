@@ -1,6 +1,9 @@
-use Rattle.std.proofs.Common.{◌≡◌, ◌++◌, map}
-use Rattle.gz_modprobe_drive.specs.LintFacts.{fact_of_note}
+use Rattle.std.proofs.Common.{◌≡◌, ◌++◌, map, take}
+use Rattle.answer_facts.specs.Facts.{pieces_of_facts}
+use Rattle.gz_modprobe_drive.specs.LintFacts.{pieces_of_note}
 use Rattle.gz_modprobe_drive.proofs.lint_facts.add_notes.Given as goal
 
 abbrev pub invariant-notes : goal.invariant-notes
-invariant-notes l = l.facts.items ≡ l.initial.facts.items ++ map (fact_of_note l.texts) l.yielded
+invariant-notes l =
+    pieces_of_facts l.facts.items
+    ≡ pieces_of_facts l.initial.facts.items ++ map (pieces_of_note l.texts) (take l.note-index l.notes)
