@@ -14,6 +14,7 @@ use crate::catalogue::versions::Version;
 use crate::faults::Refused;
 use indexmap::IndexMap;
 use std::alloc::{AllocError, Global};
+use std::mem::replace;
 use text_parts::{Name, find_words, is_comment, is_same};
 
 /// The modules so far: the earlier ones by name, and the one that is open.
@@ -89,6 +90,13 @@ impl<'a> Draft<'a> {
             self.earlier.insert(name, details)?;
         }
         Ok(())
+    }
+
+    /// Takes the earlier modules out.
+    pub(crate) fn take_modules(&mut self, alloc: Global) -> IndexMap<Vec<u8>, Details>
+        ensures { result ≡ self.old.earlier }
+    {
+        replace(&mut self.earlier, IndexMap::new(alloc))
     }
 
     fn set_version(&mut self, version: Version) -> Result<(), Refused>

@@ -30,18 +30,13 @@ fn read_draft<'a>(alloc: Global, text: &'a [u8]) -> Result<Draft<'a>, CatError>
 }
 
 /// The catalogue of the modules that were read.
-fn finish(alloc: Global, mut draft: Draft<'_>) -> Result<Catalogue, AllocError>
-    requires { IsSound draft }
-    ensures { IfOk result (λ catalogue. catalogue ≡ modules_read draft.entry) }
+fn finish(alloc: Global, draft: &mut Draft<'_>) -> Result<Catalogue, AllocError>
+    requires { IsSound draft.old }
+    ensures { IfOk result (λ catalogue. catalogue ≡ modules_read draft.old) }
 {
     draft.close()?;
-    let Draft {
-        earlier,
-        exporters,
-        ..
-    } = draft;
-    let slots = slots_of(alloc, &earlier, &exporters)?;
-    Ok(Catalogue::new(earlier, slots))
+    let slots = slots_of(alloc, &draft.earlier, &draft.exporters)?;
+    Ok(Catalogue::new(draft.take_modules(alloc), slots))
 }
 
 /// The catalogue that a text is, or its first fault with its line. Lines without a word and lines whose first byte
@@ -53,6 +48,6 @@ fn finish(alloc: Global, mut draft: Draft<'_>) -> Result<Catalogue, AllocError>
 pub fn read_catalogue(alloc: Global, text: &[u8]) -> Result<Catalogue, CatError>
     ensures { MatchResult result (λ catalogue. catalogue_of text.now ≡ Ok catalogue) (λ e. IsFirstFault e (catalogue_of text.now)) }
 {
-    let draft = read_draft(alloc, text)?;
-    Ok(finish(alloc, draft)?)
+    let mut draft = read_draft(alloc, text)?;
+    Ok(finish(alloc, &mut draft)?)
 }
