@@ -1,3 +1,2 @@
 pub mod Statuses
-pub mod Inputs
 pub mod Holders

@@ -1,33 +1,14 @@
 //! The files that stand before standard input.
 ghost use Rattle.std.specs.Prelude.{◌≡◌, ◌++◌, [], OnOk};
 ghost use Rattle.modprobe.specs.Lines.{IfTold};
-ghost use Rattle.modsh_drive.specs.Inputs.{section_text};
+ghost use Rattle.session_files.specs.Inputs.{section_text};
 
-use crate::words::add_section;
 use modprobe::Section;
-use program_frame::{PathFault, counted_names, folder_names};
+use session_files::add_section;
 use std::alloc::{AllocError, Global};
 use std::borrow::CowStr;
+use std::io;
 use std::io::Read;
-use std::rt::Files;
-use std::{io, str};
-
-/// The path of a name in a folder.
-fn path_in(alloc: Global, folder: &str, name: &str) -> Result<String, AllocError> {
-    let slash = if folder.ends_with('/') { "" } else { "/" };
-    format!(in alloc; "{folder}{slash}{name}")
-}
-
-/// The paths of the files of a folder that count as a configuration (modprobe.d(5)), in the order of their names' bytes.
-pub fn paths_in<R: Files>(alloc: Global, rt: &R, folder: &str) -> Result<Vec<String>, PathFault> {
-    let names = counted_names(folder_names(alloc, rt, folder)?);
-    let mut paths = Vec::new(alloc);
-    for name in &names {
-        let name = str::from_utf8(name).map_err(|_| PathFault::Name)?;
-        paths.push(path_in(alloc, folder, name)?)?;
-    }
-    Ok(paths)
-}
 
 /// A file that was read: its path, which is that of a word or of a file in the folder of a word, how many lines its
 /// section has, with its section line, whether its last line lacks a line feed, and where its section ends in the joined

@@ -21,9 +21,6 @@ mod texts;
 mod values;
 mod ways;
 mod witness;
-mod words;
 
-pub use files::paths_in;
 pub use modprobe::FromWrite;
 pub use program::drive;
-pub use words::{NamedFile, add_section};

@@ -3,7 +3,7 @@ use Rattle.std.specs.Prelude.{ℕ, List, ◌++◌}
 use Rattle.std.specs.List.{flat_map}
 use Rattle.modprobe.specs.declared.section.Section.TheVariants.{Catalogue, Dep, Alias, Conf}
 use Rattle.modprobe_files.specs.declared.texts.TextFile.{TextFile}
-use Rattle.modsh_drive.specs.Inputs.{section_text}
+use Rattle.session_files.specs.Inputs.{section_text}
 use Rattle.table_setup.specs.Host.{host_catalogue}
 
 abbrev pub conf_section : TextFile → List ℕ

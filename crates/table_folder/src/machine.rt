@@ -2,7 +2,7 @@
 ghost use Rattle.std.specs.Prelude.{◌≡◌, ◌++◌, IfOk, OnOk};
 ghost use Rattle.std.specs.List.{flat_map};
 ghost use Rattle.modprobe.specs.declared.section.Section.TheVariants as sections;
-ghost use Rattle.modsh_drive.specs.Inputs.{section_text};
+ghost use Rattle.session_files.specs.Inputs.{section_text};
 ghost use Rattle.table_folder.specs.Machine.{conf_section, machine_sections};
 
 use kmod_version::Kmod;
@@ -12,7 +12,7 @@ use modprobe_files::{
     read_modules, tell_folder,
 };
 use modprobe_words::{Asked, Level, Messages, read_words};
-use modsh_drive::add_section;
+use session_files::add_section;
 use std::alloc::{AllocError, Global};
 use std::env::Env;
 use std::io::Write;

@@ -1,13 +1,12 @@
 //! Reads the files that words name.
 
 use super::Program;
-use crate::files::paths_in;
 use crate::hints::{path_hint, word_hint};
-use crate::words::NamedFile;
 use modprobe::Section;
 use program_frame::{
     PathFault, Status, is_folder, tell_hint, tell_no_memory, tell_sentence, tell_unread,
 };
+use session_files::{NamedFile, paths_in};
 use std::borrow::CowStr;
 use std::fs::File;
 use std::io::Write;

@@ -1,9 +1,9 @@
-//! The words of the program: sections of its input that are read from files.
+//! Files as sections of a session: what a word names, and how a file joins the input.
 ghost use Rattle.std.specs.Prelude.{◌≡◌, ◌++◌, ◌⊎◌, length, IfNone, IfSome, OnOk};
 ghost use Rattle.std.specs.List.{after_first, before_first, position_or_len};
 ghost use Rattle.load_plan.specs.Parameters.{is_equals};
 ghost use Rattle.modprobe.specs.Lines.{IfTold};
-ghost use Rattle.modsh_drive.specs.Inputs.{section_named, section_line, section_text};
+ghost use Rattle.session_files.specs.Inputs.{section_named, section_line, section_text};
 
 use modprobe::Section;
 use std::io;
