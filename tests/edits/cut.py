@@ -52,9 +52,9 @@ def name_at(crate, texts, path, lines, row):
 
 
 def is_plain(lines, at):
-    """Whether a function begins in this line that is neither generic nor of a trait, and has no attribute that names its proof."""
+    """Whether a function with a body begins in this line, of a module or of an impl, that has no attribute that names its proof."""
     head = FUNCTION_HEAD.match(lines[at])
-    if not head or "const fn" in lines[at] or "extern" in lines[at] or is_generic(lines[at].partition("fn ")[2]):
+    if not head or "const fn" in lines[at] or "extern" in lines[at]:
         return False
     above = at
     while lines[above - 1].strip().startswith(("#[", "///")):
@@ -62,10 +62,5 @@ def is_plain(lines, at):
     if any(word in line for line in lines[above:at] for word in ("#[cycle", "#[test")):
         return False
     block = next(line for line in reversed(lines[: at + 1]) if re.match(r"\w", line)) if head[1] else ""
-    return not block or block.startswith("impl") and not is_generic(block.removeprefix("impl"))
-
-
-def is_generic(signature):
-    """Whether what follows a name has parameters other than lifetimes."""
-    found = re.match(r"\w*<(.*?)>", signature)
-    return found is not None and any(not it.strip().startswith("'") for it in found[1].split(","))
+    # (the prover knows a drop by its type alone)
+    return not block or block.startswith("impl") and " Drop for " not in block

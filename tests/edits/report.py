@@ -4,7 +4,7 @@ import re
 
 FUNCTION_LINE = re.compile(r"fn (\S+): (.*)")
 # (the last two where another function's proof is a hole)
-PROVED = re.compile(r"(?:proved|assumed|no holes|depends on a hole)(?:[ ,;:].*)?")
+PROVED = re.compile(r"(?:proved|assumed|no holes)(?:[,;:].*)?|depends on a hole in .*")
 ERROR_LINE = re.compile(r"(?:\./)?(\S+?):\d+:\d+: error(?:\[[\w-]+\])?: (?:(`[^`]*`): )?(.*)")
 CALLS = re.compile(r"(?:; )?it calls ((?:`[^`]+`(?: and )?)+), which (?:is|are) not proved")
 STANDS_ON = re.compile(r"it stands on (.*?), which antt refuses")
