@@ -1,6 +1,14 @@
 //! Journals that are rewritten as the lines of their table.
+ghost use Rattle.std.specs.Prelude.{◌≡◌, OnOk};
+ghost use Rattle.durable_table.specs.Durable.{Stands};
+ghost use Rattle.tenures.specs.Steps.{held_of};
 
-use crate::support::{answer, answers, compacted, lines_of, new_table, opened, setup};
+use crate::support::{are_answered, compacted, make, new_table, opened};
+use durable_table::DurableTable;
+use held_table::HeldTable;
+use line_journal::{Device, KillOnly};
+use modprobe::Setup;
+use std::alloc::Global;
 use std::test::Fail;
 
 // Modules that are live, drain, unload and load, and holders of which one has gone.
@@ -52,33 +60,67 @@ ok
 error NOTLIVE soundcore
 ";
 
-#[test]
-fn a_table_of_all_states_is_compacted(rt: HostRuntime) -> Result<(), Fail> {
-    let alloc = rt.alloc();
-    let setup = setup(alloc)?;
-    let mut table = new_table(alloc, &setup)?;
-    let lines = lines_of(alloc, LINES)?;
-    answers(&mut table, alloc, &lines)?;
-    compacted(&mut table, alloc, &setup)?;
-    let file = table.into_device();
-    assert_eq!(rt; file.bytes(), COMPACTED);
-    let mut again = opened(alloc, &setup, file)?;
-    let text = answers(&mut again, alloc, &lines_of(alloc, LATER)?)?;
-    assert_eq!(rt; text.as_bytes(), REPLIES);
-    Ok(())
+/// Fills a table with all states, and compacts its journal.
+fn fill<D: Device>(
+    table: &mut DurableTable<'_, HeldTable, D>,
+    alloc: Global,
+    setup: &Setup,
+) -> Result<(), Fail>
+    requires stands { Stands D.content D.history table.old.session.setup.now (held_of table.old.session.holders) table.old.journal }
+    requires setup { table.old.session.setup.now ≡ setup.now }
+{
+    are_answered(table, alloc, LINES, b"")?;
+    compacted(table, alloc, setup)
 }
 
-#[test]
-fn a_long_journal_is_compacted(rt: HostRuntime) -> Result<(), Fail> {
-    let alloc = rt.alloc();
-    let setup = setup(alloc)?;
-    let mut table = new_table(alloc, &setup)?;
+/// The file of that table.
+fn filled(alloc: Global, setup: &Setup) -> Result<KillOnly, Fail> {
+    let mut table = new_table(alloc, setup)?;
+    fill(&mut table, alloc, setup)?;
+    Ok(table.into_device())
+}
+
+/// Whether a table of all states is compacted, and the next process goes on from there.
+pub(crate) fn is_compacted(alloc: Global, setup: &Setup) -> Result<bool, Fail> {
+    let file = filled(alloc, setup)?;
+    let is_right = file.bytes() == COMPACTED;
+    let mut again = opened(alloc, setup, file)?;
+    Ok(are_answered(&mut again, alloc, LATER, REPLIES)? && is_right)
+}
+
+/// Makes a line that is as long as many.
+fn lengthen<D: Device>(
+    table: &mut DurableTable<'_, HeldTable, D>,
+    alloc: Global,
+) -> Result<(), Fail>
+    requires { Stands D.content D.history table.old.session.setup.now (held_of table.old.session.holders) table.old.journal }
+    ensures stands { OnOk result (Stands D.content D.history table.new.session.setup.now (held_of table.new.session.holders) table.new.journal) }
+    ensures setup { table.new.session.setup ≡ table.old.session.setup }
+{
     let mut line = b"insmod loop".to_vec(alloc)?;
     line.resize(65_600, b' ')?;
-    answer(&mut table, alloc, &line)?;
-    assert!(rt; table.is_long(alloc)?);
-    compacted(&mut table, alloc, &setup)?;
-    assert!(rt; !table.is_long(alloc)?);
-    assert_eq!(rt; table.into_device().bytes().len(), 75);
-    Ok(())
+    make(table, alloc, &line)
+}
+
+/// Whether a journal gets long, and is not when it is compacted.
+fn shortens<D: Device>(
+    table: &mut DurableTable<'_, HeldTable, D>,
+    alloc: Global,
+    setup: &Setup,
+) -> Result<bool, Fail>
+    requires stands { Stands D.content D.history table.old.session.setup.now (held_of table.old.session.holders) table.old.journal }
+    requires setup { table.old.session.setup.now ≡ setup.now }
+{
+    lengthen(table, alloc)?;
+    let was_long = table.is_long(alloc)?;
+    compacted(table, alloc, setup)?;
+    Ok(!table.is_long(alloc)? && was_long)
+}
+
+/// Whether a long journal is compacted.
+pub(crate) fn is_shortened(alloc: Global, setup: &Setup) -> Result<bool, Fail> {
+    let mut table = new_table(alloc, setup)?;
+    let is_short = shortens(&mut table, alloc, setup)?;
+    let file = table.into_device();
+    Ok(is_short && file.bytes().len() == 75)
 }

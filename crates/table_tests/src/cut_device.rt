@@ -9,11 +9,21 @@ use std::alloc::Global;
 
 /// A file in memory that lets so many calls succeed. Each later call is made too, but says that it failed: so its process ends
 /// after the first of them.
-#[derive(Drop)]
 pub(crate) struct CutDevice {
     file: KillOnly,
     calls_left: usize,
     faults: usize,
+}
+
+// By hand, since a derived drop is written out, and proved, at each place where a value is let go.
+impl Drop for CutDevice {
+    fn drop(self) {
+        let CutDevice {
+            file: _,
+            calls_left: _,
+            faults: _,
+        } = self;
+    }
 }
 
 impl CutDevice {

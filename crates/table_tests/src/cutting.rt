@@ -1,5 +1,5 @@
 //! Processes that are cut off, one after another.
-ghost use Rattle.std.specs.Prelude.{[], All, IfOk};
+ghost use Rattle.std.specs.Prelude.{[], All, IfOk, OnOk};
 ghost use Rattle.line_journal.specs.KillOnly.{history_of};
 ghost use Rattle.line_journal.specs.Lines.{AreLines};
 ghost use Rattle.tenures.specs.Steps.{AreSteps, commands_of};
@@ -11,7 +11,8 @@ use crate::watcher::{Life, Watcher};
 use durable_table::create;
 use line_journal::{KillOnly, Repair, are_lines};
 use modprobe::Setup;
-use std::alloc::Global;
+use std::alloc::{AllocError, Global};
+use std::process::Abort;
 use std::test::Fail;
 use tenures::{Step, run};
 
@@ -69,21 +70,63 @@ fn group(alloc: Global, text: &[u8]) -> Result<Step, Fail>
     Ok(Step::Group(lines))
 }
 
-/// What each process is asked.
-fn processes(alloc: Global) -> Result<Vec<Vec<Step>>, Fail>
-    ensures { IfOk result (λ processes. All (λ steps. AreSteps steps.items) processes.items) }
+/// Adds a process of these steps.
+fn add(processes: &mut Vec<Vec<Step>>, steps: Vec<Step>) -> Result<(), AllocError>
+    requires steps { AreSteps steps.items }
+    requires processes { All (λ steps. AreSteps steps.items) processes.old.items }
+    ensures { OnOk result (All (λ steps. AreSteps steps.items) processes.new.items) }
 {
-    let first = vec![in alloc;
-        group(alloc, b"modprobe floppy\nhold web17 floppy\n")?,
-        group(alloc, b"get web18 floppy\n")?,
-    ]?;
-    let second = vec![in alloc; group(alloc, b"release web17\nrelease web18\nrmmod floppy\n")?]?;
-    let third = vec![in alloc; group(alloc, b"get web19 floppy\nrmmod floppy\n")?]?;
-    let fourth = vec![in alloc; Step::Compaction]?;
-    let fifth = vec![in alloc;
-        group(alloc, b"held\nrmmod floppy\nrelease web19\nrmmod floppy\n")?,
-    ]?;
-    Ok(vec![in alloc; first, second, third, fourth, fifth]?)
+    processes.push(steps)?;
+    Ok(())
+}
+
+/// Adds a process that makes lines as one group.
+fn add_one(alloc: Global, processes: &mut Vec<Vec<Step>>, text: &[u8]) -> Result<(), Fail>
+    requires { All (λ steps. AreSteps steps.items) processes.old.items }
+    ensures { OnOk result (All (λ steps. AreSteps steps.items) processes.new.items) }
+{
+    let step = group(alloc, text)?;
+    Ok(add(processes, vec![in alloc; step]?)?)
+}
+
+/// Adds a process that makes lines as two groups.
+fn add_two(
+    alloc: Global,
+    processes: &mut Vec<Vec<Step>>,
+    text: &[u8],
+    next: &[u8],
+) -> Result<(), Fail>
+    requires { All (λ steps. AreSteps steps.items) processes.old.items }
+    ensures { OnOk result (All (λ steps. AreSteps steps.items) processes.new.items) }
+{
+    let first = group(alloc, text)?;
+    let second = group(alloc, next)?;
+    Ok(add(processes, vec![in alloc; first, second]?)?)
+}
+
+/// What each process is asked.
+fn add_all(alloc: Global, processes: &mut Vec<Vec<Step>>) -> Result<(), Fail>
+    requires { All (λ steps. AreSteps steps.items) processes.old.items }
+    ensures { OnOk result (All (λ steps. AreSteps steps.items) processes.new.items) }
+{
+    add_two(
+        alloc,
+        processes,
+        b"modprobe floppy\nhold web17 floppy\n",
+        b"get web18 floppy\n",
+    )?;
+    add_one(
+        alloc,
+        processes,
+        b"release web17\nrelease web18\nrmmod floppy\n",
+    )?;
+    add_one(alloc, processes, b"get web19 floppy\nrmmod floppy\n")?;
+    add(processes, vec![in alloc; Step::Compaction]?)?;
+    add_one(
+        alloc,
+        processes,
+        b"held\nrmmod floppy\nrelease web19\nrmmod floppy\n",
+    )
 }
 
 /// A device with the journal of a new table.
@@ -95,23 +138,54 @@ fn new_device(alloc: Global, setup: &Setup) -> Result<CutDevice, Fail>
     Ok(CutDevice::new(file))
 }
 
-#[test]
-fn processes_are_cut_off(rt: HostRuntime) -> Result<(), Fail> {
-    let alloc = rt.alloc();
-    let setup = setup(alloc)?;
-    let mut device = new_device(alloc, &setup)?;
-    let mut world = Watcher::new(&rt, alloc, &device, &LIVES);
+/// Whether the processes are answered, and leave the journal, as they ought to.
+fn end_as_wanted<R: Abort>(
+    rt: &R,
+    alloc: Global,
+    setup: &Setup,
+    mut device: CutDevice,
+    processes: &[Vec<Step>],
+) -> bool
+    requires steps { All (λ steps. AreSteps steps.items) processes.now }
+    requires kept { IsKept setup.now [] (history_of device) }
+{
+    let mut world = Watcher::new(rt, alloc, &device, &LIVES);
     world.begin_life(&mut device);
-    let processes = processes(alloc)?;
     let device = run(
         alloc,
-        &setup,
+        setup,
         device,
         Repair::CutAtMost(3),
-        &processes,
+        processes,
         &mut world,
     );
-    assert_eq!(rt; world.text(), REPLIES);
-    assert_eq!(rt; device.bytes(), JOURNAL);
+    world.text() == REPLIES && device.bytes() == JOURNAL
+}
+
+/// The same of these processes, with a new journal.
+fn are_cut_off<R: Abort>(
+    rt: &R,
+    alloc: Global,
+    setup: &Setup,
+    processes: &[Vec<Step>],
+) -> Result<bool, Fail>
+    requires { All (λ steps. AreSteps steps.items) processes.now }
+{
+    let device = new_device(alloc, setup)?;
+    Ok(end_as_wanted(rt, alloc, setup, device, processes))
+}
+
+/// The same over a setup.
+fn are_cut_off_over_setup<R: Abort>(rt: &R, alloc: Global, setup: &Setup) -> Result<bool, Fail> {
+    let mut processes = Vec::new(alloc);
+    add_all(alloc, &mut processes)?;
+    are_cut_off(rt, alloc, setup, &processes)
+}
+
+#[test]
+fn processes_are_cut_off(rt: HostRuntime) -> Result<(), Fail> {
+    let setup = setup(rt.alloc())?;
+    let is_right = are_cut_off_over_setup(&rt, rt.alloc(), &setup)?;
+    assert!(rt; is_right);
     Ok(())
 }

@@ -3,16 +3,18 @@ ghost use Rattle.std.specs.Prelude.{◌≡◌, IfOk, OnOk};
 ghost use Rattle.durable_table.specs.Durable.{Reads, Stands};
 ghost use Rattle.tenures.specs.Steps.{held_of};
 
-use crate::support::{answer, compacted, fresh, lines_of, new_table, opened, setup, text_of};
+use crate::folders::{Disk, create_in, folder, open_in};
+use crate::support::{
+    are_texts, compacted, fresh, hold_floppy, is_answered, lines_of, make, new_table, opened,
+};
 use durable_table::{CaughtUp, DurableTable, ReadTable, create, open_reading};
-use file_journal::{FileDevice, Syncs};
+use file_journal::Syncs;
 use held_table::HeldTable;
-use line_journal::{Device, Renewable, are_lines};
+use line_journal::{Device, KillOnly, Renewable, are_lines};
 use modprobe::Setup;
 use std::alloc::Global;
-use std::process::Abort;
+use std::fs;
 use std::test::Fail;
-use std::{fs, process};
 
 /// The table that a journal reads as.
 fn table_read<'s, D: Device + Drop>(
@@ -46,12 +48,13 @@ fn catch_up<D: Renewable>(
     }
 }
 
-/// The texts of the replies to lines that ask.
-fn asked<D: Device>(
+/// Whether lines that ask have these replies.
+fn are_asked<D: Device>(
     table: &mut DurableTable<'_, HeldTable, D>,
     alloc: Global,
     text: &[u8],
-) -> Result<String, Fail>
+    wanted: &[u8],
+) -> Result<bool, Fail>
     ensures journal { table.new.journal ≡ table.old.journal }
     ensures setup { table.new.session.setup ≡ table.old.session.setup }
 {
@@ -60,74 +63,108 @@ fn asked<D: Device>(
         return Err("no lines".into());
     }
     let replies = table.ask(alloc, &lines)?;
-    text_of(alloc, &replies)
+    Ok(are_texts(&replies, wanted))
 }
 
-#[test]
-fn questions_are_answered(rt: HostRuntime) -> Result<(), Fail> {
-    let alloc = rt.alloc();
-    let setup = setup(alloc)?;
-    let mut table = new_table(alloc, &setup)?;
-    answer(&mut table, alloc, b"modprobe floppy")?;
-    answer(&mut table, alloc, b"hold web17 floppy")?;
-    let mut table = table_read(alloc, &setup, table.into_device())?;
-    let text = asked(&mut table, alloc, b"held\nholders floppy\nquery floppy\n")?;
-    assert_eq!(rt; text.as_str(), "web17 floppy 1\nweb17 1\nyes\n");
-    Ok(())
+/// What a process leaves that holds a module.
+fn left(alloc: Global, setup: &Setup) -> Result<KillOnly, Fail> {
+    let mut table = new_table(alloc, setup)?;
+    hold_floppy(&mut table, alloc)?;
+    Ok(table.into_device())
 }
 
-/// Two processes use a table in turn. Each catches up before its turn.
+/// Whether questions are answered over what was left.
+pub(crate) fn answers_questions(alloc: Global, setup: &Setup) -> Result<bool, Fail> {
+    let mut table = table_read(alloc, setup, left(alloc, setup)?)?;
+    are_asked(
+        &mut table,
+        alloc,
+        b"held\nholders floppy\nquery floppy\n",
+        b"web17 floppy 1\nweb17 1\nyes\n",
+    )
+}
+
+/// Two processes use a table in turn. Each catches up before its turn. Whether each finds what the other did.
 #[tactic(auto, using(durable_table::proofs::KeptLemmas::stands_reads))]
-fn take_turns<D: Renewable, R: Abort>(
-    rt: &R,
+fn take_turns<D: Renewable>(
     alloc: Global,
     kept: &mut DurableTable<'_, HeldTable, D>,
     other: &mut DurableTable<'_, HeldTable, D>,
-) -> Result<(), Fail>
+) -> Result<bool, Fail>
     requires kept { Reads D.content kept.old.session.setup.now (held_of kept.old.session.holders) kept.old.journal }
     requires other { Stands D.content D.history other.old.session.setup.now (held_of other.old.session.holders) other.old.journal }
     ensures kept { OnOk result (Reads D.content kept.new.session.setup.now (held_of kept.new.session.holders) kept.new.journal) }
     ensures other { OnOk result (Stands D.content D.history other.new.session.setup.now (held_of other.new.session.holders) other.new.journal) }
     ensures setup { other.new.session.setup ≡ other.old.session.setup }
 {
-    answer(other, alloc, b"modprobe floppy")?;
-    answer(other, alloc, b"hold web17 floppy")?;
+    hold_floppy(other, alloc)?;
     catch_up(kept, alloc)?;
-    assert_eq!(rt; kept.session().snapshot(alloc)?.len(), 3);
+    let lines = kept.session().snapshot(alloc)?.len();
     kept.settle()?;
-    answer(kept, alloc, b"release web17")?;
+    make(kept, alloc, b"release web17")?;
     catch_up(other, alloc)?;
     other.settle()?;
-    let text = answer(other, alloc, b"rmmod floppy")?;
-    assert_eq!(rt; text.as_str(), "ok\n");
-    Ok(())
+    Ok(is_answered(other, alloc, b"rmmod floppy", b"ok\n")? && lines == 3)
 }
 
-/// A process keeps its table until another one writes the journal anew.
-fn keep<D: Renewable + Drop, R: Abort>(
-    rt: &R,
+/// Whether they take turns, until the other one writes the journal anew.
+fn take_turns_until_anew<D: Renewable>(
+    alloc: Global,
+    setup: &Setup,
+    kept: &mut DurableTable<'_, HeldTable, D>,
+    other: &mut DurableTable<'_, HeldTable, D>,
+) -> Result<bool, Fail>
+    requires kept { Reads D.content kept.old.session.setup.now (held_of kept.old.session.holders) kept.old.journal }
+    requires other { Stands D.content D.history other.old.session.setup.now (held_of other.old.session.holders) other.old.journal }
+    requires setup { other.old.session.setup.now ≡ setup.now }
+{
+    let is_right = take_turns(alloc, kept, other)?;
+    compacted(other, alloc, setup)?;
+    Ok(matches!(kept.catch_up(alloc)?, CaughtUp::Anew) && is_right)
+}
+
+/// The same of the table that a journal reads as.
+fn keep_beside<D: Renewable + Drop>(
+    alloc: Global,
+    setup: &Setup,
+    device: D,
+    other: &mut DurableTable<'_, HeldTable, D>,
+) -> Result<bool, Fail>
+    requires other { Stands D.content D.history other.old.session.setup.now (held_of other.old.session.holders) other.old.journal }
+    requires setup { other.old.session.setup.now ≡ setup.now }
+{
+    let mut kept = table_read(alloc, setup, device)?;
+    take_turns_until_anew(alloc, setup, &mut kept, other)
+}
+
+/// The same of the tables of two processes over one journal.
+fn keep<D: Renewable + Drop>(
     alloc: Global,
     setup: &Setup,
     device: D,
     of_other: D,
-) -> Result<(), Fail> {
+) -> Result<bool, Fail> {
     let mut other = opened(alloc, setup, of_other)?;
-    let mut kept = table_read(alloc, setup, device)?;
-    take_turns(rt, alloc, &mut kept, &mut other)?;
-    compacted(&mut other, alloc, setup)?;
-    assert!(rt; matches!(kept.catch_up(alloc)?, CaughtUp::Anew));
-    Ok(())
+    keep_beside(alloc, setup, device, &mut other)
 }
 
-#[test]
-fn a_table_is_kept(rt: HostRuntime) -> Result<(), Fail> {
-    let alloc = rt.alloc();
-    let setup = setup(alloc)?;
-    let folder = format!(in alloc; "/tmp/durable_table.{}.kept", process::id(rt.process()))?;
-    fs::create_dir(&rt, folder.as_str())?;
-    let mut device = FileDevice::create(&rt, alloc, &folder, "journal", Syncs::Kept)?;
+/// The journal of a new table, in a folder.
+fn new_journal<'a>(rt: &'a HostRuntime, folder: &str) -> Result<Disk<'a>, Fail> {
+    let mut device = create_in(rt, folder)?;
     create(&mut device)?;
-    let other = FileDevice::open(&rt, alloc, &folder, "journal", Syncs::Kept)?;
-    keep(&rt, alloc, &setup, device, other)?;
-    Ok(fs::remove_dir_all(&rt, folder.as_str())?)
+    Ok(device)
+}
+
+fn keep_in(rt: &HostRuntime, setup: &Setup, folder: &str) -> Result<bool, Fail> {
+    let device = new_journal(rt, folder)?;
+    let other = open_in(rt, folder, Syncs::Kept)?;
+    keep(rt.alloc(), setup, device, other)
+}
+
+/// Whether a process keeps its table until another one writes the journal anew.
+pub(crate) fn is_kept(rt: &HostRuntime, setup: &Setup) -> Result<bool, Fail> {
+    let folder = folder(rt, "kept")?;
+    let is_right = keep_in(rt, setup, &folder)?;
+    fs::remove_dir_all(rt, folder.as_str())?;
+    Ok(is_right)
 }

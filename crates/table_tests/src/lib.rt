@@ -5,9 +5,13 @@
 #[cfg(test)]
 mod compacting;
 #[cfg(test)]
+mod courses;
+#[cfg(test)]
 mod cut_device;
 #[cfg(test)]
 mod cutting;
+#[cfg(test)]
+mod folders;
 #[cfg(test)]
 mod journals;
 #[cfg(test)]

@@ -1,5 +1,48 @@
-use crate::support::{answer, answers, lines_of, new_table, opened, setup};
+//! Lines that are performed, one by one and as a group.
+ghost use Rattle.std.specs.Prelude.{◌≡◌, OnOk};
+ghost use Rattle.durable_table.specs.Durable.{Stands};
+ghost use Rattle.tenures.specs.Steps.{held_of};
+
+use crate::support::{are_answered, is_answered, make, new_table, opened};
+use durable_table::DurableTable;
+use held_table::HeldTable;
+use line_journal::{Device, KillOnly};
+use modprobe::Setup;
+use std::alloc::Global;
 use std::test::Fail;
+
+/// A module is loaded with the one that it needs, and both are held.
+fn hold_both<D: Device>(
+    table: &mut DurableTable<'_, HeldTable, D>,
+    alloc: Global,
+) -> Result<(), Fail>
+    requires { Stands D.content D.history table.old.session.setup.now (held_of table.old.session.holders) table.old.journal }
+{
+    make(table, alloc, b"modprobe snd-pcm")?;
+    make(table, alloc, b"hold web17 snd-pcm snd")
+}
+
+/// What a process leaves that holds two modules.
+fn left(alloc: Global, setup: &Setup) -> Result<KillOnly, Fail> {
+    let mut table = new_table(alloc, setup)?;
+    hold_both(&mut table, alloc)?;
+    Ok(table.into_device())
+}
+
+/// Whether the next process finds both held.
+pub(crate) fn outlives(alloc: Global, setup: &Setup) -> Result<bool, Fail> {
+    let mut again = opened(alloc, setup, left(alloc, setup)?)?;
+    is_answered(
+        &mut again,
+        alloc,
+        b"held",
+        b"web17 snd 1\nweb17 snd_pcm 1\n",
+    )
+}
+
+const LINES: &[u8] = b"modprobe floppy\nget web17 floppy\nheld\nrmmod floppy\nrelease web17\n";
+
+const REPLIES: &[u8] = b"ok\nok\nweb17 floppy 1\nerror EWOULDBLOCK floppy\nok\n";
 
 const JOURNAL: &[u8] = b"+gourzhiel journal 1
 +30730613 modprobe floppy
@@ -7,33 +50,10 @@ const JOURNAL: &[u8] = b"+gourzhiel journal 1
 +235304a8 release web17
  ";
 
-#[test]
-fn a_table_outlives_its_process(rt: HostRuntime) -> Result<(), Fail> {
-    let alloc = rt.alloc();
-    let setup = setup(alloc)?;
-    let mut table = new_table(alloc, &setup)?;
-    answer(&mut table, alloc, b"modprobe snd-pcm")?;
-    answer(&mut table, alloc, b"hold web17 snd-pcm snd")?;
-    let mut again = opened(alloc, &setup, table.into_device())?;
-    let held = answer(&mut again, alloc, b"held")?;
-    assert_eq!(rt; held.as_str(), "web17 snd 1\nweb17 snd_pcm 1\n");
-    Ok(())
-}
-
-#[test]
-fn lines_are_performed_as_a_group(rt: HostRuntime) -> Result<(), Fail> {
-    let alloc = rt.alloc();
-    let setup = setup(alloc)?;
-    let mut table = new_table(alloc, &setup)?;
-    let lines = lines_of(
-        alloc,
-        b"modprobe floppy\nget web17 floppy\nheld\nrmmod floppy\nrelease web17\n",
-    )?;
-    let text = answers(&mut table, alloc, &lines)?;
-    assert_eq!(rt;
-        text.as_str(),
-        "ok\nok\nweb17 floppy 1\nerror EWOULDBLOCK floppy\nok\n"
-    );
-    assert_eq!(rt; table.into_device().bytes(), JOURNAL);
-    Ok(())
+/// Whether lines are performed as a group, and the journal has those that change the table.
+pub(crate) fn makes_a_group(alloc: Global, setup: &Setup) -> Result<bool, Fail> {
+    let mut table = new_table(alloc, setup)?;
+    let is_right = are_answered(&mut table, alloc, LINES, REPLIES)?;
+    let file = table.into_device();
+    Ok(is_right && file.bytes() == JOURNAL)
 }

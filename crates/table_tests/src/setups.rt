@@ -18,19 +18,41 @@ needs snd
 %end 74 4271905554
 ";
 
+/// Whether it is sealed, and its text has 74 bytes.
+fn is_sound(setup: &[u8]) -> bool {
+    match Sealed::read(setup) {
+        Some(sealed) => sealed.text.len() == 74 && sealed.is_sound(),
+        None => false,
+    }
+}
+
+/// Whether it is sealed with another sum.
+fn is_unsound(setup: &[u8]) -> bool {
+    match Sealed::read(setup) {
+        Some(sealed) => !sealed.is_sound(),
+        None => false,
+    }
+}
+
+/// Whether it is no setup without its first byte, and an unsound one if its version is changed.
+fn is_told_apart(setup: &mut [u8]) -> bool {
+    if setup.len() <= 8 || Sealed::read(&setup[1..]).is_some() {
+        return false;
+    }
+    setup[8] = b'2';
+    is_unsound(setup)
+}
+
 #[test]
 fn a_setup_is_sealed(rt: HostRuntime) -> Result<(), Fail> {
     let catalogue = host_catalogue(rt.alloc(), DEPENDENCIES)?;
     let mut setup = seal(catalogue)?;
-    assert_eq!(rt; setup.as_slice(), SETUP);
-    assert!(rt; setup.len() > 8);
-    let sealed = Sealed::read(&setup).ok_or("no setup")?;
-    assert_eq!(rt; sealed.text.len(), 74);
-    assert!(rt; sealed.is_sound());
-    assert!(rt; Sealed::read(&setup[1..]).is_none());
-    setup[8] = b'2';
-    assert!(rt; Sealed::read(&setup).is_some_and(|changed| !changed.is_sound()));
-    // The worked example of the article Adler-32 in Wikipedia.
-    assert_eq!(rt; adler32(b"Wikipedia"), 0x11e6_0398);
+    assert!(rt; setup.as_slice() == SETUP && is_sound(&setup) && is_told_apart(&mut setup));
     Ok(())
+}
+
+// The worked example of the article Adler-32 in Wikipedia.
+#[test]
+fn a_sum_is_known(rt: HostRuntime) {
+    assert!(rt; adler32(b"Wikipedia") == 0x11e6_0398);
 }

@@ -81,12 +81,13 @@ pub(crate) fn lines_of(alloc: Global, text: &[u8]) -> Result<Vec<Vec<u8>>, Fail>
     Ok(lines)
 }
 
-/// The text of the reply to a line.
-pub(crate) fn answer<D: Device>(
+/// Makes what a line asks for. Whether this is the reply.
+pub(crate) fn is_answered<D: Device>(
     table: &mut DurableTable<'_, HeldTable, D>,
     alloc: Global,
     line: &[u8],
-) -> Result<String, Fail>
+    wanted: &[u8],
+) -> Result<bool, Fail>
     requires { Stands D.content D.history table.old.session.setup.now (held_of table.old.session.holders) table.old.journal }
     ensures stands { OnOk result (Stands D.content D.history table.new.session.setup.now (held_of table.new.session.holders) table.new.journal) }
     ensures setup { table.new.session.setup ≡ table.old.session.setup }
@@ -95,33 +96,65 @@ pub(crate) fn answer<D: Device>(
         return Err("no line".into());
     }
     let reply = table.perform(alloc, line)?;
-    Ok(String::from_utf8_lossy(alloc, reply.reply.text())?)
+    Ok(reply.reply.text() == wanted)
 }
 
-/// The texts of replies, one after another.
-pub(crate) fn text_of(alloc: Global, replies: &[HeldReply]) -> Result<String, Fail> {
-    let mut text = Vec::new(alloc);
-    for reply in replies {
-        text.extend_from_slice(reply.reply.text())?;
-    }
-    Ok(String::from_utf8_lossy(alloc, &text)?)
-}
-
-/// The texts of the replies to lines, one after another.
-pub(crate) fn answers<D: Device>(
+/// Makes what a line asks for, whatever the reply is.
+pub(crate) fn make<D: Device>(
     table: &mut DurableTable<'_, HeldTable, D>,
     alloc: Global,
-    lines: &[Vec<u8>],
-) -> Result<String, Fail>
+    line: &[u8],
+) -> Result<(), Fail>
     requires { Stands D.content D.history table.old.session.setup.now (held_of table.old.session.holders) table.old.journal }
     ensures stands { OnOk result (Stands D.content D.history table.new.session.setup.now (held_of table.new.session.holders) table.new.journal) }
     ensures setup { table.new.session.setup ≡ table.old.session.setup }
 {
-    if !are_lines(lines) {
+    is_answered(table, alloc, line, b"")?;
+    Ok(())
+}
+
+/// Whether these are the texts of the replies, one after another.
+pub(crate) fn are_texts(replies: &[HeldReply], wanted: &[u8]) -> bool {
+    let mut rest = wanted;
+    for reply in replies {
+        match rest.strip_prefix(reply.reply.text()) {
+            Some(behind) => rest = behind,
+            None => return false,
+        }
+    }
+    rest.is_empty()
+}
+
+/// Makes what the lines of a text ask for, as one group. Whether these are the texts of the replies.
+pub(crate) fn are_answered<D: Device>(
+    table: &mut DurableTable<'_, HeldTable, D>,
+    alloc: Global,
+    text: &[u8],
+    wanted: &[u8],
+) -> Result<bool, Fail>
+    requires { Stands D.content D.history table.old.session.setup.now (held_of table.old.session.holders) table.old.journal }
+    ensures stands { OnOk result (Stands D.content D.history table.new.session.setup.now (held_of table.new.session.holders) table.new.journal) }
+    ensures setup { table.new.session.setup ≡ table.old.session.setup }
+{
+    let lines = lines_of(alloc, text)?;
+    if !are_lines(&lines) {
         return Err("no lines".into());
     }
-    let replies = table.perform_all(alloc, lines)?;
-    text_of(alloc, &replies)
+    let replies = table.perform_all(alloc, &lines)?;
+    Ok(are_texts(&replies, wanted))
+}
+
+/// A module is loaded, and a holder holds it.
+pub(crate) fn hold_floppy<D: Device>(
+    table: &mut DurableTable<'_, HeldTable, D>,
+    alloc: Global,
+) -> Result<(), Fail>
+    requires { Stands D.content D.history table.old.session.setup.now (held_of table.old.session.holders) table.old.journal }
+    ensures stands { OnOk result (Stands D.content D.history table.new.session.setup.now (held_of table.new.session.holders) table.new.journal) }
+    ensures setup { table.new.session.setup ≡ table.old.session.setup }
+{
+    make(table, alloc, b"modprobe floppy")?;
+    make(table, alloc, b"hold web17 floppy")
 }
 
 /// The journal is compacted.

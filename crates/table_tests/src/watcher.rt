@@ -31,7 +31,6 @@ struct Over {
 }
 
 /// Takes the replies of processes, and cuts off each at the end of its life. The next one finds the file as it is then.
-#[derive(Drop)]
 pub(crate) struct Watcher<'a, R: Abort> {
     rt: &'a R,
     alloc: Global,
@@ -48,6 +47,24 @@ pub(crate) struct Watcher<'a, R: Abort> {
     cut_offs: usize,
     /// The replies that were begun, and a line `--` after those of each process.
     text: Vec<u8>,
+}
+
+// By hand, since a derived drop is written out, and proved, at each place where a value is let go.
+impl<R: Abort> Drop for Watcher<'_, R> {
+    fn drop(self) {
+        let Watcher {
+            rt: _,
+            alloc: _,
+            seen: _,
+            found: _,
+            begun: _,
+            past: _,
+            lives: _,
+            replies_left: _,
+            cut_offs: _,
+            text: _,
+        } = self;
+    }
 }
 
 impl<'a, R: Abort> Watcher<'a, R> {

@@ -1,18 +1,13 @@
+//! Journals in files: what is there for the next process, what others wrote, and refusals.
+
+use crate::folders::{Disk, create_in, folder, open_in};
 use file_journal::{Cause, FileDevice, FolderLock, LockError, LockKind, OpenError, Syncs};
 use line_journal::{
-    Device, DeviceError, Opened, Renewable, Renewed, Repair, are_lines, is_line, look, open,
+    Device, DeviceError, Found, Opened, Renewable, Renewed, Repair, are_lines, is_line, look, open,
 };
 use std::alloc::Global;
+use std::fs;
 use std::test::Fail;
-use std::{fs, process};
-
-/// A new folder of this name.
-pub(crate) fn folder(rt: &HostRuntime, name: &str) -> Result<String, Fail> {
-    let number = process::id(rt.process());
-    let folder = format!(in rt.alloc(); "/tmp/file_journal.{number}.{name}")?;
-    fs::create_dir(rt, folder.as_str())?;
-    Ok(folder)
-}
 
 /// Adds a line to the journal of a device.
 pub(crate) fn put<D: Device + Drop>(alloc: Global, device: D, line: &[u8]) -> Result<(), Fail> {
@@ -41,86 +36,140 @@ pub(crate) fn rewrite<D: Device + Drop>(
     }
 }
 
-#[test]
-fn a_line_is_there_for_the_next_process(rt: HostRuntime) -> Result<(), Fail> {
-    let alloc = rt.alloc();
-    let folder = folder(&rt, "put")?;
-    let device = FileDevice::create(&rt, alloc, &folder, "journal", Syncs::Kept)?;
-    put(alloc, device, b"get web17 overlay")?;
-    let device = FileDevice::open(&rt, alloc, &folder, "journal", Syncs::LeftOut)?;
-    put(alloc, device, b"release web17")?;
-    let mut device = FileDevice::open(&rt, alloc, &folder, "journal", Syncs::Kept)?;
-    let found = look(alloc, &mut device)?;
-    assert_eq!(rt; found.lines.len(), 2);
-    assert_eq!(rt; found.lines[1].as_slice(), b"release web17".as_slice());
-    assert!(rt; found.is_at_rest());
-    Ok(fs::remove_dir_all(&rt, folder.as_str())?)
+/// Adds a line to the journal in a folder.
+pub(crate) fn put_in(rt: &HostRuntime, folder: &str, line: &[u8]) -> Result<(), Fail> {
+    put(rt.alloc(), open_in(rt, folder, Syncs::Kept)?, line)
 }
 
-#[test]
-fn a_journal_is_replaced(rt: HostRuntime) -> Result<(), Fail> {
-    let alloc = rt.alloc();
-    let folder = folder(&rt, "replace")?;
-    let device = FileDevice::create(&rt, alloc, &folder, "journal", Syncs::Kept)?;
-    put(alloc, device, b"get web17 overlay")?;
-    let device = FileDevice::open(&rt, alloc, &folder, "journal", Syncs::Kept)?;
-    rewrite(alloc, device, b"held", b"next")?;
-    let path = format!(in alloc; "{folder}/journal")?;
-    let bytes = fs::read(&rt, path.as_str())?;
-    assert_eq!(rt; bytes.as_slice(), b"+held\n+next\n ".as_slice());
-    Ok(fs::remove_dir_all(&rt, folder.as_str())?)
+/// Rewrites the journal in a folder as one line, and adds another.
+pub(crate) fn rewrite_in(
+    rt: &HostRuntime,
+    folder: &str,
+    line: &[u8],
+    next: &[u8],
+) -> Result<(), Fail> {
+    rewrite(rt.alloc(), open_in(rt, folder, Syncs::Kept)?, line, next)
 }
 
-#[test]
-fn a_torn_end_is_cut_off(rt: HostRuntime) -> Result<(), Fail> {
-    let alloc = rt.alloc();
-    let folder = folder(&rt, "torn")?;
-    let path = format!(in alloc; "{folder}/journal")?;
-    fs::write(&rt, path.as_str(), "+get web17 overlay\n rel")?;
-    let device = FileDevice::open(&rt, alloc, &folder, "journal", Syncs::Kept)?;
-    put(alloc, device, b"next")?;
-    let bytes = fs::read(&rt, path.as_str())?;
-    assert_eq!(rt;
-        bytes.as_slice(),
-        b"+get web17 overlay\n+next\n ".as_slice()
-    );
-    Ok(fs::remove_dir_all(&rt, folder.as_str())?)
+/// A new journal in a folder gets its first line.
+pub(crate) fn begin_in(rt: &HostRuntime, folder: &str) -> Result<(), Fail> {
+    put(rt.alloc(), create_in(rt, folder)?, b"get web17 overlay")
 }
 
-#[test]
-fn what_another_wrote_is_reported(rt: HostRuntime) -> Result<(), Fail> {
-    let alloc = rt.alloc();
-    let folder = folder(&rt, "other")?;
-    let mut device = FileDevice::create(&rt, alloc, &folder, "journal", Syncs::Kept)?;
-    let path = format!(in alloc; "{folder}/journal")?;
-    fs::write(&rt, path.as_str(), "+other\n ")?;
-    assert!(rt; matches!(look(alloc, &mut device), Err(DeviceError::Failed)));
-    let cause = device.fault().map(|fault| fault.cause);
-    assert_eq!(rt; cause, Some(Cause::ReadsOtherwise));
-    Ok(fs::remove_dir_all(&rt, folder.as_str())?)
+/// What stands in a journal.
+fn found_by(rt: &HostRuntime, device: &mut Disk<'_>) -> Result<Found, Fail> {
+    Ok(look(rt.alloc(), device)?)
 }
 
-#[test]
-fn what_another_wrote_is_read_anew(rt: HostRuntime) -> Result<(), Fail> {
-    let alloc = rt.alloc();
-    let folder = folder(&rt, "renew")?;
-    let mut device = FileDevice::create(&rt, alloc, &folder, "journal", Syncs::Kept)?;
-    assert_eq!(rt; device.renew(0)?, Renewed::Same);
-    let other = FileDevice::open(&rt, alloc, &folder, "journal", Syncs::Kept)?;
-    put(alloc, other, b"get web17 overlay")?;
-    assert_eq!(rt; device.renew(0)?, Renewed::Longer);
-    assert_eq!(rt; device.renew(0)?, Renewed::Same);
-    assert_eq!(rt; look(alloc, &mut device)?.lines.len(), 1);
-    let other = FileDevice::open(&rt, alloc, &folder, "journal", Syncs::Kept)?;
-    rewrite(alloc, other, b"get web17 snd_pcm", b"put web17 snd_pcm")?;
-    assert_eq!(rt; device.renew(0)?, Renewed::Longer);
-    let lines = look(alloc, &mut device)?.lines;
-    assert_eq!(rt; lines.len(), 2);
-    assert_eq!(rt; lines[0].as_slice(), b"get web17 snd_pcm".as_slice());
-    fs::remove_dir_all(&rt, folder.as_str())?;
-    assert!(rt; device.renew(0).is_err());
-    assert!(rt; look(alloc, &mut device).is_err());
-    Ok(())
+/// What stands in the journal in a folder.
+fn found_in(rt: &HostRuntime, folder: &str) -> Result<Found, Fail> {
+    let mut device = open_in(rt, folder, Syncs::Kept)?;
+    found_by(rt, &mut device)
+}
+
+/// A journal gets these bytes from outside.
+fn write(rt: &HostRuntime, folder: &str, text: &str) -> Result<(), Fail> {
+    let path = format!(in rt.alloc(); "{folder}/journal")?;
+    Ok(fs::write(rt, path.as_str(), text)?)
+}
+
+/// Whether the journal in a folder has these bytes.
+fn has_bytes(rt: &HostRuntime, folder: &str, wanted: &[u8]) -> Result<bool, Fail> {
+    let path = format!(in rt.alloc(); "{folder}/journal")?;
+    let bytes = fs::read(rt, path.as_str())?;
+    Ok(bytes.as_slice() == wanted)
+}
+
+/// Whether a line is there for the next process, with syncs or without.
+fn is_put(rt: &HostRuntime, folder: &str) -> Result<bool, Fail> {
+    begin_in(rt, folder)?;
+    put(
+        rt.alloc(),
+        open_in(rt, folder, Syncs::LeftOut)?,
+        b"release web17",
+    )?;
+    let found = found_in(rt, folder)?;
+    Ok(
+        found.is_at_rest()
+            && found.lines.len() == 2
+            && found.lines[1].as_slice() == b"release web17".as_slice(),
+    )
+}
+
+/// Whether a journal is replaced.
+fn is_replaced(rt: &HostRuntime, folder: &str) -> Result<bool, Fail> {
+    begin_in(rt, folder)?;
+    rewrite_in(rt, folder, b"held", b"next")?;
+    has_bytes(rt, folder, b"+held\n+next\n ")
+}
+
+/// Whether a torn end is cut off.
+fn is_cut_off(rt: &HostRuntime, folder: &str) -> Result<bool, Fail> {
+    write(rt, folder, "+get web17 overlay\n rel")?;
+    put_in(rt, folder, b"next")?;
+    has_bytes(rt, folder, b"+get web17 overlay\n+next\n ")
+}
+
+/// Whether a device says that another process wrote to its file.
+fn reports(rt: &HostRuntime, folder: &str, device: &mut Disk<'_>) -> Result<bool, Fail> {
+    write(rt, folder, "+other\n ")?;
+    let error = look(rt.alloc(), device).err();
+    Ok(match device.fault() {
+        Some(fault) => {
+            error == Some(DeviceError::Failed) && fault.cause == Cause::ReadsOtherwise
+        }
+        None => false,
+    })
+}
+
+/// Whether what another process wrote is reported.
+fn is_reported(rt: &HostRuntime, folder: &str) -> Result<bool, Fail> {
+    let mut device = create_in(rt, folder)?;
+    reports(rt, folder, &mut device)
+}
+
+/// Whether a new device sees the first line of another process, once.
+fn sees_a_line(rt: &HostRuntime, folder: &str, device: &mut Disk<'_>) -> Result<bool, Fail> {
+    let first = device.renew(0)?;
+    put_in(rt, folder, b"get web17 overlay")?;
+    let second = device.renew(0)?;
+    let third = device.renew(0)?;
+    let lines = found_by(rt, device)?.lines.len();
+    Ok(first == Renewed::Same && second == Renewed::Longer && third == Renewed::Same && lines == 1)
+}
+
+/// Whether it sees what another process makes of the journal.
+fn sees_a_rewrite(rt: &HostRuntime, folder: &str, device: &mut Disk<'_>) -> Result<bool, Fail> {
+    rewrite_in(rt, folder, b"get web17 snd_pcm", b"put web17 snd_pcm")?;
+    let renewed = device.renew(0)?;
+    let lines = found_by(rt, device)?.lines;
+    Ok(
+        renewed == Renewed::Longer
+            && lines.len() == 2
+            && lines[0].as_slice() == b"get web17 snd_pcm".as_slice(),
+    )
+}
+
+/// Whether it fails while its folder is gone.
+fn misses_its_folder(rt: &HostRuntime, folder: &str, device: &mut Disk<'_>) -> Result<bool, Fail> {
+    fs::remove_dir_all(rt, folder)?;
+    let is_failing = device.renew(0).is_err() && look(rt.alloc(), device).is_err();
+    fs::create_dir(rt, folder)?;
+    Ok(is_failing)
+}
+
+/// Whether what another process wrote is read anew.
+fn is_read_anew(rt: &HostRuntime, folder: &str) -> Result<bool, Fail> {
+    let mut device = create_in(rt, folder)?;
+    reads_anew(rt, folder, &mut device)
+}
+
+fn reads_anew(rt: &HostRuntime, folder: &str, device: &mut Disk<'_>) -> Result<bool, Fail> {
+    Ok(
+        sees_a_line(rt, folder, device)?
+            && sees_a_rewrite(rt, folder, device)?
+            && misses_its_folder(rt, folder, device)?,
+    )
 }
 
 /// Why a journal was not opened.
@@ -131,33 +180,102 @@ fn cause<T: Drop>(opened: Result<T, OpenError>) -> Option<Cause> {
     }
 }
 
-#[test]
-fn a_refused_open_says_why(rt: HostRuntime) -> Result<(), Fail> {
-    let alloc = rt.alloc();
-    let folder = folder(&rt, "refused")?;
-    let opened = FileDevice::open(&rt, alloc, &folder, "journal", Syncs::Kept);
-    assert_eq!(rt; cause(opened), Some(Cause::NotThere));
-    FileDevice::create(&rt, alloc, &folder, "journal", Syncs::Kept)?;
-    let created = FileDevice::create(&rt, alloc, &folder, "journal", Syncs::Kept);
-    assert_eq!(rt; cause(created), Some(Cause::AlreadyThere));
-    let opened = FileDevice::open(&rt, alloc, "/tmp", folder.as_str(), Syncs::Kept);
-    assert_eq!(rt; cause(opened), Some(Cause::NotThere));
-    Ok(fs::remove_dir_all(&rt, folder.as_str())?)
+/// Why a journal is not opened, if it is not.
+fn refusal(rt: &HostRuntime, folder: &str, name: &str) -> Option<Cause> {
+    cause(FileDevice::open(rt, rt.alloc(), folder, name, Syncs::Kept))
+}
+
+/// Why a journal is not made, if it is not.
+fn refusal_of_new(rt: &HostRuntime, folder: &str) -> Option<Cause> {
+    cause(FileDevice::create(rt, rt.alloc(), folder, "journal", Syncs::Kept))
+}
+
+/// Whether a refused open says why.
+fn says_why(rt: &HostRuntime, folder: &str) -> bool {
+    refusal(rt, folder, "journal") == Some(Cause::NotThere)
+        && refusal_of_new(rt, folder) == None
+        && refusal_of_new(rt, folder) == Some(Cause::AlreadyThere)
+        && refusal(rt, "/tmp", folder) == Some(Cause::NotThere)
+}
+
+fn lock(rt: &HostRuntime, folder: &str, kind: LockKind) -> Result<FolderLock, LockError> {
+    FolderLock::acquire(rt, rt.alloc(), folder, kind, 0)
+}
+
+/// Whether others hold a lock.
+fn is_held(rt: &HostRuntime, folder: &str, kind: LockKind) -> bool {
+    matches!(lock(rt, folder, kind), Err(LockError::Held))
+}
+
+/// Whether a lock is taken, and excludes the other kind meanwhile.
+fn excludes(rt: &HostRuntime, folder: &str, kind: LockKind, other: LockKind) -> bool {
+    let Ok(taken) = lock(rt, folder, kind) else {
+        return false;
+    };
+    let is_held = is_held(rt, folder, other);
+    taken.release();
+    is_held
+}
+
+/// Whether two share a lock, and it is free when both have given it back.
+fn is_shared(rt: &HostRuntime, folder: &str) -> bool {
+    let Ok(one) = lock(rt, folder, LockKind::Shared) else {
+        return false;
+    };
+    let is_held = excludes(rt, folder, LockKind::Shared, LockKind::Exclusive);
+    one.release();
+    is_held && excludes(rt, folder, LockKind::Exclusive, LockKind::Shared)
+}
+
+enum Course {
+    Put,
+    Replaced,
+    Torn,
+    Reported,
+    ReadAnew,
+    Refused,
+    Locked,
+    Followed,
+}
+
+/// What is done in a folder, and the folder's name.
+static COURSES: [(&str, Course); 8] = [
+    ("put", Course::Put),
+    ("replace", Course::Replaced),
+    ("torn", Course::Torn),
+    ("other", Course::Reported),
+    ("renew", Course::ReadAnew),
+    ("refused", Course::Refused),
+    ("lock", Course::Locked),
+    ("follow", Course::Followed),
+];
+
+/// Whether it goes as it ought to.
+fn goes_well(rt: &HostRuntime, folder: &str, course: &Course) -> Result<bool, Fail> {
+    match course {
+        Course::Put => is_put(rt, folder),
+        Course::Replaced => is_replaced(rt, folder),
+        Course::Torn => is_cut_off(rt, folder),
+        Course::Reported => is_reported(rt, folder),
+        Course::ReadAnew => is_read_anew(rt, folder),
+        Course::Refused => Ok(says_why(rt, folder)),
+        Course::Locked => Ok(is_shared(rt, folder)),
+        Course::Followed => super::following::is_followed(rt, folder),
+    }
+}
+
+/// The same in a folder of its own.
+fn goes_well_alone(rt: &HostRuntime, name: &str, course: &Course) -> Result<bool, Fail> {
+    let folder = folder(rt, name)?;
+    let is_right = goes_well(rt, &folder, course)?;
+    fs::remove_dir_all(rt, folder.as_str())?;
+    Ok(is_right)
 }
 
 #[test]
-fn a_lock_excludes(rt: HostRuntime) -> Result<(), Fail> {
-    let alloc = rt.alloc();
-    let folder = folder(&rt, "lock")?;
-    let one = FolderLock::acquire(&rt, alloc, &folder, LockKind::Shared, 0)?;
-    let two = FolderLock::acquire(&rt, alloc, &folder, LockKind::Shared, 0)?;
-    let other = FolderLock::acquire(&rt, alloc, &folder, LockKind::Exclusive, 0);
-    assert!(rt; matches!(other, Err(LockError::Held)));
-    one.release();
-    two.release();
-    let all = FolderLock::acquire(&rt, alloc, &folder, LockKind::Exclusive, 0)?;
-    let other = FolderLock::acquire(&rt, alloc, &folder, LockKind::Shared, 0);
-    assert!(rt; matches!(other, Err(LockError::Held)));
-    all.release();
-    Ok(fs::remove_dir_all(&rt, folder.as_str())?)
+fn journals_in_files(rt: HostRuntime) -> Result<(), Fail> {
+    for (name, course) in &COURSES {
+        assert!(rt; goes_well_alone(&rt, name, course)?, "{name}");
+    }
+    Ok(())
 }

@@ -3,13 +3,12 @@ ghost use Rattle.std.specs.Prelude.{IfOk, OnOk};
 ghost use Rattle.line_journal.specs.Journal.{IsReady};
 ghost use Rattle.line_journal.specs.Renewed.{IsRead};
 
-use super::files::{folder, put as put_once, rewrite};
+use super::files::{begin_in, put_in, rewrite_in};
 use super::lines::put;
-use file_journal::{FileDevice, Syncs};
+use crate::folders::open_in;
+use file_journal::Syncs;
 use line_journal::{Device, Followed, Journal, Opened, Renewable, Repair, look, open_found};
 use std::alloc::Global;
-use std::fs;
-use std::process::Abort;
 use std::test::Fail;
 
 /// The journal of a file that is looked at first.
@@ -35,38 +34,44 @@ fn added<D: Renewable>(journal: &mut Journal<D>, alloc: Global) -> Result<Vec<Ve
     }
 }
 
-/// Finds the line of another process, and adds one.
-#[tactic(auto, using(line_journal::proofs::FollowLemmas::at_rest_reads))]
-fn go_on<D: Renewable, R: Abort>(
-    rt: &R,
-    alloc: Global,
-    journal: &mut Journal<D>,
-) -> Result<(), Fail>
-    requires { IsReady D.content D.history journal.old }
+/// Whether another process has added one line.
+fn has_one_more<D: Renewable>(journal: &mut Journal<D>, alloc: Global) -> Result<bool, Fail>
+    requires { IsRead D.content journal.old }
     ensures { OnOk result (IsRead D.content journal.new) }
 {
     let lines = added(journal, alloc)?;
-    assert_eq!(rt; lines.len(), 1);
-    assert_eq!(rt; lines[0].as_slice(), b"release web17".as_slice());
-    journal.settle()?;
-    put(journal, alloc, b"get web18 overlay")?;
-    assert_eq!(rt; journal.end(), 53);
-    Ok(())
+    Ok(lines.len() == 1 && lines[0].as_slice() == b"release web17".as_slice())
 }
 
-#[test]
-fn a_journal_follows_another_process(rt: HostRuntime) -> Result<(), Fail> {
-    let alloc = rt.alloc();
-    let folder = folder(&rt, "follow")?;
-    let device = FileDevice::create(&rt, alloc, &folder, "journal", Syncs::Kept)?;
-    put_once(alloc, device, b"get web17 overlay")?;
-    let device = FileDevice::open(&rt, alloc, &folder, "journal", Syncs::Kept)?;
-    let mut journal = journal(alloc, device)?;
-    let other = FileDevice::open(&rt, alloc, &folder, "journal", Syncs::Kept)?;
-    put_once(alloc, other, b"release web17")?;
-    go_on(&rt, alloc, &mut journal)?;
-    let other = FileDevice::open(&rt, alloc, &folder, "journal", Syncs::Kept)?;
-    rewrite(alloc, other, b"get web17 snd_pcm", b"put web17 snd_pcm")?;
-    assert!(rt; matches!(journal.follow(alloc)?, Followed::Anew));
-    Ok(fs::remove_dir_all(&rt, folder.as_str())?)
+/// Finds the line of another process, and adds one. Whether both are there.
+#[tactic(auto, using(line_journal::proofs::FollowLemmas::at_rest_reads))]
+fn go_on<D: Renewable>(alloc: Global, journal: &mut Journal<D>) -> Result<bool, Fail>
+    requires { IsReady D.content D.history journal.old }
+    ensures { OnOk result (IsRead D.content journal.new) }
+{
+    let is_right = has_one_more(journal, alloc)?;
+    journal.settle()?;
+    put(journal, alloc, b"get web18 overlay")?;
+    Ok(is_right && journal.end() == 53)
+}
+
+/// Whether the journal of one process follows another one, until that one writes the journal anew.
+fn follows<D: Renewable>(
+    rt: &HostRuntime,
+    folder: &str,
+    journal: &mut Journal<D>,
+) -> Result<bool, Fail>
+    requires { IsReady D.content D.history journal.old }
+{
+    put_in(rt, folder, b"release web17")?;
+    let is_right = go_on(rt.alloc(), journal)?;
+    rewrite_in(rt, folder, b"get web17 snd_pcm", b"put web17 snd_pcm")?;
+    Ok(matches!(journal.follow(rt.alloc())?, Followed::Anew) && is_right)
+}
+
+/// Whether a journal in a folder follows another process.
+pub(super) fn is_followed(rt: &HostRuntime, folder: &str) -> Result<bool, Fail> {
+    begin_in(rt, folder)?;
+    let mut journal = journal(rt.alloc(), open_in(rt, folder, Syncs::Kept)?)?;
+    follows(rt, folder, &mut journal)
 }
