@@ -7,8 +7,6 @@ use Rattle.line_journal.specs.Renewed.{ReadsAtRest}
 use Rattle.line_journal.specs.declared.device.DeviceError.{DeviceError}
 use Rattle.line_journal.specs.declared.recovery.Repair.{Repair}
 use Rattle.modprobe.specs.Setup.{Setup}
-use Rattle.seq_table.specs.declared.modules.Modules.{Ghosts}
-use Rattle.held_lines.specs.Held.{holding}
 use Rattle.durable_table.specs.Commands.{begins_with_head, commands_of, changed_line}
 use Rattle.durable_table.specs.Tables.{table_in, table_of}
 use Rattle.durable_table.specs.Durable.{Stands, Reads}
@@ -20,18 +18,18 @@ use Rattle.durable_table.specs.declared.opening.ReadTable.TheVariants as read_ta
 use Rattle.durable_table.specs.declared.opening.OpenedTable.TheVariants.{Ready, Foreign, Changed, Damaged}
 
 -- the table that the lines of a journal stand for, or why there is none
-abbrev pub IsReadAs : {H : Type 0} {g : Ghosts H} → Setup → List (List ℕ) → Read H g → Type 0
-IsReadAs {g = g} s lines (read_as.Table session) =
-    (session.setup.now ≡ s) × (table_in s lines ≡ Some (holding (g.table session.holders) (g.names session.holders)))
+abbrev pub IsReadAs : Setup → List (List ℕ) → Read → Type 0
+IsReadAs s lines (read_as.Table session) =
+    (session.setup.now ≡ s) × (table_in s lines ≡ Some session.holders.held)
 IsReadAs s lines read_as.Foreign = begins_with_head lines ≡ false
 IsReadAs s lines (read_as.Changed number) =
     (begins_with_head lines ≡ true) × (commands_of lines ≡ None) × (changed_line lines ≡ Some number)
 
 -- the table that the journal stands for, and what stood behind its lines; or why there is none, and the file as it was
-abbrev pub IsOpenedAs : {H D : Type 0} {g : Ghosts H} → (D → List ℕ) → (D → History) → Setup → Repair → List ℕ → OpenedTable H D g → Type 0
-IsOpenedAs {g = g} content history s repair file (Ready t found) =
-    Stands content history s (holding (g.table t.session.holders) (g.names t.session.holders)) t.journal
-    × (table_of s file ≡ Some (holding (g.table t.session.holders) (g.names t.session.holders)))
+abbrev pub IsOpenedAs : {D : Type 0} → (D → List ℕ) → (D → History) → Setup → Repair → List ℕ → OpenedTable D → Type 0
+IsOpenedAs content history s repair file (Ready t found) =
+    Stands content history s t.session.holders.held t.journal
+    × (table_of s file ≡ Some t.session.holders.held)
     × (t.session.setup.now ≡ s) × IsFound file found × MayCut repair (behind file)
 IsOpenedAs content history s repair file (Foreign device) = (content device ≡ file) × (begins_with_head (lines_of file) ≡ false)
 IsOpenedAs content history s repair file (Changed device number) =
@@ -41,7 +39,7 @@ IsOpenedAs content history s repair file (Damaged device found) =
     (content device ≡ file) × IsFound file found × (MayCut repair (behind file) → ⊥)
 
 -- the device that the answer holds
-abbrev pub device_after : {H D : Type 0} {g : Ghosts H} → Result (OpenedTable H D g) (DeviceError × D) → D
+abbrev pub device_after : {D : Type 0} → Result (OpenedTable D) (DeviceError × D) → D
 device_after (Ok (Ready t found)) = t.journal.device
 device_after (Ok (Foreign device)) = device
 device_after (Ok (Changed device number)) = device
@@ -53,14 +51,14 @@ abbrev pub IsUnread : Setup → List ℕ → Type 0
 IsUnread s file = ((end : ℕ) → ReadsAtRest file end → ⊥) ⊎ (table_of s file ≡ None)
 
 -- the table that the journal reads as; or the file as it was, if there is none
-abbrev pub IsTableRead : {H D : Type 0} {g : Ghosts H} → (D → List ℕ) → Setup → List ℕ → ReadTable H D g → Type 0
-IsTableRead {g = g} content s file (read_table_as.Ready t) =
-    Reads content s (holding (g.table t.session.holders) (g.names t.session.holders)) t.journal
+abbrev pub IsTableRead : {D : Type 0} → (D → List ℕ) → Setup → List ℕ → ReadTable D → Type 0
+IsTableRead content s file (read_table_as.Ready t) =
+    Reads content s t.session.holders.held t.journal
     × (content t.journal.device ≡ file) × (t.session.setup.now ≡ s)
 IsTableRead content s file (read_table_as.Anew device) = (content device ≡ file) × IsUnread s file
 
 -- the device that the answer of `open_reading` holds
-abbrev pub device_read : {H D : Type 0} {g : Ghosts H} → Result (ReadTable H D g) (DeviceError × D) → D
+abbrev pub device_read : {D : Type 0} → Result (ReadTable D) (DeviceError × D) → D
 device_read (Ok (read_table_as.Ready t)) = t.journal.device
 device_read (Ok (read_table_as.Anew device)) = device
 device_read (Err (error, device)) = device

@@ -5,7 +5,6 @@ ghost use Rattle.line_journal.specs.Device.{AlwaysLeaves};
 ghost use Rattle.line_journal.specs.declared.device.DeviceError.TheVariants.{Failed};
 ghost use Rattle.line_journal.specs.Journal.{lines_in};
 ghost use Rattle.line_journal.specs.Lines.{bytes_of, open_text};
-ghost use Rattle.held_lines.specs.Held.{holding};
 ghost use Rattle.durable_table.specs.Seals.{seal};
 ghost use Rattle.durable_table.specs.Tables.{opening_of};
 ghost use Rattle.durable_table.specs.Durable.{Stands, FileStands};
@@ -15,7 +14,8 @@ use crate::durable::{DurableTable, PerformError};
 use crate::head::{HEAD, head_line};
 use crate::replay::replay;
 use crate::seal::seal;
-use held_lines::{HeldSession, Holders};
+use held_lines::HeldSession;
+use held_table::HeldTable;
 use line_journal::{Device, are_lines};
 use std::alloc::{AllocError, Global};
 
@@ -48,15 +48,15 @@ fn journal_of(alloc: Global, commands: &[Vec<u8>]) -> Result<Vec<Vec<u8>>, Alloc
 
 /// The lines of a journal that make a table anew, if they do. They are tried on holders of which none is there yet.
 #[tactic(auto, using(crate::proofs::CompactLemmas::has_first))]
-fn remake<H: Holders>(
+fn remake(
     alloc: Global,
-    session: &HeldSession<'_, H>,
-    fresh: H,
+    session: &HeldSession<'_>,
+    fresh: HeldTable,
 ) -> Result<Option<Vec<Vec<u8>>>, AllocError>
-    requires over { H.catalogue fresh ≡ modules_of session.now.setup.now.catalogue }
-    requires opening { holding (H.table fresh) (H.names fresh) ≡ opening_of session.now.setup.now }
-    ensures made { IfOk result (λ found. IfSome found (λ lines. IsRemade session.now.setup.now (holding (H.table session.now.holders) (H.names session.now.holders)) (bytes_of lines.items))) }
-    ensures none { IfOk result (λ found. IfNone found (CanBeRemade session.now.setup.now (holding (H.table session.now.holders) (H.names session.now.holders)) → ⊥)) }
+    requires over { fresh.catalogue ≡ modules_of session.now.setup.now.catalogue }
+    requires opening { fresh.held ≡ opening_of session.now.setup.now }
+    ensures made { IfOk result (λ found. IfSome found (λ lines. IsRemade session.now.setup.now session.now.holders.held (bytes_of lines.items))) }
+    ensures none { IfOk result (λ found. IfNone found (CanBeRemade session.now.setup.now session.now.holders.held → ⊥)) }
 {
     let lines = journal_of(alloc, &session.snapshot(alloc)?)?;
     let mut other = HeldSession::new(session.setup(), fresh);
@@ -85,23 +85,23 @@ fn is_room(room: usize, commands: &[Vec<u8>]) -> bool
     left > 0
 }
 
-impl<'s, H: Holders, D: Device> DurableTable<'s, H, D> {
+impl<'s, D: Device> DurableTable<'s, D> {
     /// Rewrites the journal as the lines that make the table. They are first tried, on holders of which none is there yet: if
     /// they make the same table, and only then, the journal is rewritten. At `Ok` it stands for the table, on the disk.
     ///
     /// A crash at any moment of the call leaves a journal of the same table. Out of memory, nothing was changed.
     #[tactic(auto, using(crate::proofs::CompactLemmas::still_stands))]
-    pub fn compact(&mut self, alloc: Global, fresh: H) -> Result<Compacted, PerformError>
-        requires over { H.catalogue fresh ≡ modules_of self.old.session.setup.now.catalogue }
-        requires opening { holding (H.table fresh) (H.names fresh) ≡ opening_of self.old.session.setup.now }
-        requires stands { Stands D.content D.history self.old.session.setup.now (holding (H.table self.old.session.holders) (H.names self.old.session.holders)) self.old.journal }
-        ensures done { result ≡ Ok Compacted.Done → lines_in D.content self.new.journal ≡ compacted self.old.session.setup.now (holding (H.table self.old.session.holders) (H.names self.old.session.holders)) }
-        ensures stands { OnOk result (Stands D.content D.history self.old.session.setup.now (holding (H.table self.old.session.holders) (H.names self.old.session.holders)) self.new.journal) }
+    pub fn compact(&mut self, alloc: Global, fresh: HeldTable) -> Result<Compacted, PerformError>
+        requires over { fresh.catalogue ≡ modules_of self.old.session.setup.now.catalogue }
+        requires opening { fresh.held ≡ opening_of self.old.session.setup.now }
+        requires stands { Stands D.content D.history self.old.session.setup.now self.old.session.holders.held self.old.journal }
+        ensures done { result ≡ Ok Compacted.Done → lines_in D.content self.new.journal ≡ compacted self.old.session.setup.now self.old.session.holders.held }
+        ensures stands { OnOk result (Stands D.content D.history self.old.session.setup.now self.old.session.holders.held self.new.journal) }
         ensures kept { result ≡ Ok Compacted.Kept → self.new.journal ≡ self.old.journal }
-        ensures needed { result ≡ Ok Compacted.Kept → CanBeRemade self.old.session.setup.now (holding (H.table self.old.session.holders) (H.names self.old.session.holders)) → ⊥ }
+        ensures needed { result ≡ Ok Compacted.Kept → CanBeRemade self.old.session.setup.now self.old.session.holders.held → ⊥ }
         ensures unchanged { IsErrOf result PerformError.OutOfMemory → self.new.journal ≡ self.old.journal }
         ensures any_moment { AlwaysLeaves (D.history self.old.journal.device) (D.history self.new.journal.device)
-            (FileStands self.old.session.setup.now (holding (H.table self.old.session.holders) (H.names self.old.session.holders))) }
+            (FileStands self.old.session.setup.now self.old.session.holders.held) }
         ensures faults { IsErrOf result (PerformError.Device Failed) → D.faults self.old.journal.device < D.faults self.new.journal.device }
         ensures no_fewer { D.faults self.old.journal.device ≤ D.faults self.new.journal.device }
         ensures session { self.new.session ≡ self.old.session }
@@ -121,7 +121,7 @@ impl<'s, H: Holders, D: Device> DurableTable<'s, H, D> {
     /// Whether the lines of the journal are longer by more than 64 KiB than those that `compact` would write.
     #[tactic(auto, using(crate::proofs::SizeLemmas::size_behind))]
     pub fn is_long(&self, alloc: Global) -> Result<bool, AllocError>
-        ensures { IfOk result (λ is_long. is_long ≡ nat_lt (length (open_text (compacted self.now.session.setup.now (holding (H.table self.now.session.holders) (H.names self.now.session.holders)))) + 65536) self.now.journal.end) }
+        ensures { IfOk result (λ is_long. is_long ≡ nat_lt (length (open_text (compacted self.now.session.setup.now self.now.session.holders.held)) + 65536) self.now.journal.end) }
     {
         let front = LONG + HEAD.len() + 2;
         if self.journal.end() <= front {

@@ -2,14 +2,13 @@
 ghost use Rattle.std.specs.Prelude.{◌≡◌, ◌⊎◌, ◌<◌, ◌≤◌, true, false, IfOk, OnOk, IsErrOf};
 ghost use Rattle.line_journal.specs.Device.{AlwaysLeaves};
 ghost use Rattle.line_journal.specs.Lines.{IsLine};
-ghost use Rattle.held_lines.specs.Held.{holding};
 ghost use Rattle.held_lines.specs.Laws.{KeepsHeld};
 ghost use Rattle.held_lines.specs.Outcomes.{held_line_outcome};
 ghost use Rattle.held_lines.specs.Reading.{is_reading};
 ghost use Rattle.durable_table.specs.Durable.{Stands, BeforeOrAfter};
 
 use crate::seal::seal;
-use held_lines::{HeldReply, HeldSession, Holders};
+use held_lines::{HeldReply, HeldSession};
 use line_journal::{Device, DeviceError, Journal};
 use std::alloc::{AllocError, Global};
 use thiserror::Error;
@@ -27,12 +26,12 @@ pub enum PerformError {
 
 /// A table with named holders, over the catalogue of a setup, and the journal that stands for it.
 #[derive(Drop)]
-pub struct DurableTable<'s, H: Holders, D: Device> {
-    pub(crate) session: HeldSession<'s, H>,
+pub struct DurableTable<'s, D: Device> {
+    pub(crate) session: HeldSession<'s>,
     pub(crate) journal: Journal<D>,
 }
 
-impl<'s, H: Holders, D: Device> DurableTable<'s, H, D> {
+impl<'s, D: Device> DurableTable<'s, D> {
     /// Makes what a line asks for. At `Ok` the reply is the one of the table, and the journal stands for the table after
     /// the line, on the disk: each crash from then on leaves a journal that does. A line whose reply reports no change writes
     /// nothing, and a line that asks reports none.
@@ -42,21 +41,21 @@ impl<'s, H: Holders, D: Device> DurableTable<'s, H, D> {
     /// used further.
     #[tactic(auto, using(crate::proofs::MomentLemmas::no_moments, crate::proofs::CommandLemmas::seal_is_line))]
     pub fn perform(&mut self, alloc: Global, line: &[u8]) -> Result<HeldReply, PerformError>
-        requires stands { Stands D.content D.history self.old.session.setup.now (holding (H.table self.old.session.holders) (H.names self.old.session.holders)) self.old.journal }
+        requires stands { Stands D.content D.history self.old.session.setup.now self.old.session.holders.held self.old.journal }
         requires line { IsLine line.now }
-        ensures reply { IfOk result (λ r. r.reply ≡ (held_line_outcome self.old.session.setup.now (holding (H.table self.old.session.holders) (H.names self.old.session.holders)) line.now).0) }
-        ensures becomes { OnOk result (holding (H.table self.new.session.holders) (H.names self.new.session.holders)
-            ≡ (held_line_outcome self.old.session.setup.now (holding (H.table self.old.session.holders) (H.names self.old.session.holders)) line.now).1) }
-        ensures stands { OnOk result (Stands D.content D.history self.old.session.setup.now (holding (H.table self.new.session.holders) (H.names self.new.session.holders)) self.new.journal) }
+        ensures reply { IfOk result (λ r. r.reply ≡ (held_line_outcome self.old.session.setup.now self.old.session.holders.held line.now).0) }
+        ensures becomes { OnOk result (self.new.session.holders.held
+            ≡ (held_line_outcome self.old.session.setup.now self.old.session.holders.held line.now).1) }
+        ensures stands { OnOk result (Stands D.content D.history self.old.session.setup.now self.new.session.holders.held self.new.journal) }
         ensures idle { IfOk result (λ r. r.changed ≡ false → self.new.journal ≡ self.old.journal) }
         ensures asking { OnOk result (is_reading line.now ≡ true → self.new.journal ≡ self.old.journal) }
-        ensures same { IfOk result (λ r. r.changed ≡ false → holding (H.table self.new.session.holders) (H.names self.new.session.holders) ≡ holding (H.table self.old.session.holders) (H.names self.old.session.holders)) }
+        ensures same { IfOk result (λ r. r.changed ≡ false → self.new.session.holders.held ≡ self.old.session.holders.held) }
         ensures unchanged { IsErrOf result PerformError.OutOfMemory → (self.new.journal ≡ self.old.journal)
-            × (holding (H.table self.new.session.holders) (H.names self.new.session.holders) ≡ holding (H.table self.old.session.holders) (H.names self.old.session.holders)) }
+            × (self.new.session.holders.held ≡ self.old.session.holders.held) }
         ensures held { IsErrOf result PerformError.OutOfMemory
-            ⊎ KeepsHeld (H.table self.old.session.holders) (held_line_outcome self.old.session.setup.now (holding (H.table self.old.session.holders) (H.names self.old.session.holders)) line.now).1.table }
+            ⊎ KeepsHeld self.old.session.holders.held.table (held_line_outcome self.old.session.setup.now self.old.session.holders.held line.now).1.table }
         ensures any_moment { AlwaysLeaves (D.history self.old.journal.device) (D.history self.new.journal.device)
-            (BeforeOrAfter self.old.session.setup.now (holding (H.table self.old.session.holders) (H.names self.old.session.holders)) line.now) }
+            (BeforeOrAfter self.old.session.setup.now self.old.session.holders.held line.now) }
         ensures faults { IsErrOf result (PerformError.Device DeviceError.Failed) → D.faults self.old.journal.device < D.faults self.new.journal.device }
         ensures no_fewer { D.faults self.old.journal.device ≤ D.faults self.new.journal.device }
         ensures setup { self.new.session.setup ≡ self.old.session.setup }
@@ -77,7 +76,7 @@ impl<'s, H: Holders, D: Device> DurableTable<'s, H, D> {
     }
 
     /// The table with its holders, and the setup that it is over.
-    pub fn session(&self) -> &HeldSession<'s, H>
+    pub fn session(&self) -> &HeldSession<'s>
         ensures { result.now ≡ self.now.session }
     {
         &self.session

@@ -3,7 +3,6 @@ ghost use Rattle.std.specs.Prelude.{◌≡◌, ◌⊎◌, ◌<◌, ◌≤◌, �
 ghost use Rattle.line_journal.specs.Device.{AlwaysLeaves};
 ghost use Rattle.line_journal.specs.declared.device.DeviceError.TheVariants.{Failed};
 ghost use Rattle.line_journal.specs.Lines.{bytes_of, IsLine, AreLines};
-ghost use Rattle.held_lines.specs.Held.{holding};
 ghost use Rattle.held_lines.specs.Laws.{KeepsHeld};
 ghost use Rattle.held_lines.specs.Outcomes.{after, held_line_outcome};
 ghost use Rattle.held_lines.specs.Reading.{is_reading};
@@ -13,7 +12,7 @@ ghost use Rattle.durable_table.specs.Groups.{replies_of, KeepsHeldAlong, AfterFi
 
 use crate::durable::{DurableTable, PerformError};
 use crate::seal::seal;
-use held_lines::{HeldReply, HeldSession, Holders};
+use held_lines::{HeldReply, HeldSession};
 use line_journal::Device;
 use std::alloc::{AllocError, Global};
 
@@ -25,17 +24,16 @@ pub(crate) struct Group {
 }
 
 /// Makes what a line asks for, in memory. If that may have changed anything, the seal of the line comes behind the others.
-fn make<H: Holders>(
+fn make(
     alloc: Global,
-    session: &mut HeldSession<'_, H>,
+    session: &mut HeldSession<'_>,
     line: &[u8],
     sealed: &mut Vec<Vec<u8>>,
 ) -> Result<HeldReply, AllocError>
-    ensures reply { IfOk result (λ r. r.reply ≡ (held_line_outcome session.old.setup.now (holding (H.table session.old.holders) (H.names session.old.holders)) line.now).0) }
-    ensures becomes { OnOk result (holding (H.table session.new.holders) (H.names session.new.holders)
-        ≡ (held_line_outcome session.old.setup.now (holding (H.table session.old.holders) (H.names session.old.holders)) line.now).1) }
-    ensures held { OnOk result (KeepsHeld (H.table session.old.holders) (H.table session.new.holders)) }
-    ensures same { IfOk result (λ r. r.changed ≡ false → holding (H.table session.new.holders) (H.names session.new.holders) ≡ holding (H.table session.old.holders) (H.names session.old.holders)) }
+    ensures reply { IfOk result (λ r. r.reply ≡ (held_line_outcome session.old.setup.now session.old.holders.held line.now).0) }
+    ensures becomes { OnOk result (session.new.holders.held ≡ (held_line_outcome session.old.setup.now session.old.holders.held line.now).1) }
+    ensures held { OnOk result (KeepsHeld session.old.holders.held.table session.new.holders.held.table) }
+    ensures same { IfOk result (λ r. r.changed ≡ false → session.new.holders.held ≡ session.old.holders.held) }
     ensures asking { IfOk result (λ r. is_reading line.now ≡ true → r.changed ≡ false) }
     ensures sealed { IfOk result (λ r. bytes_of sealed.new.items ≡ bytes_of sealed.old.items ++ (if r.changed then seal line.now ∷ [] else [])) }
     ensures setup { session.new.setup ≡ session.old.setup }
@@ -48,13 +46,13 @@ fn make<H: Holders>(
 }
 
 /// Makes what each line asks for, in memory, one after another.
-pub(crate) fn make_each<H: Holders>(
+pub(crate) fn make_each(
     alloc: Global,
-    session: &mut HeldSession<'_, H>,
+    session: &mut HeldSession<'_>,
     lines: &[Vec<u8>],
 ) -> Result<Group, AllocError>
     requires { AreLines (bytes_of lines.now) }
-    ensures made { IfOk result (λ group. AreMade session.old.setup.now (holding (H.table session.old.holders) (H.names session.old.holders)) (holding (H.table session.new.holders) (H.names session.new.holders))
+    ensures made { IfOk result (λ group. AreMade session.old.setup.now session.old.holders.held session.new.holders.held
         (bytes_of lines.now) group.replies.items (bytes_of group.sealed.items)) }
     ensures setup { session.new.setup ≡ session.old.setup }
 {
@@ -66,7 +64,7 @@ pub(crate) fn make_each<H: Holders>(
     Ok(Group { replies, sealed })
 }
 
-impl<'s, H: Holders, D: Device> DurableTable<'s, H, D> {
+impl<'s, D: Device> DurableTable<'s, D> {
     /// Makes what lines ask for, one after another, as one group: the disk is waited for as often as for one line. At `Ok` the
     /// replies are those of the table, in order, and the journal stands for the table after all of them, on the disk: each
     /// crash from then on leaves a journal that does. If no reply reports a change, nothing is written.
@@ -81,19 +79,19 @@ impl<'s, H: Holders, D: Device> DurableTable<'s, H, D> {
         alloc: Global,
         lines: &[Vec<u8>],
     ) -> Result<Vec<HeldReply>, PerformError>
-        requires stands { Stands D.content D.history self.old.session.setup.now (holding (H.table self.old.session.holders) (H.names self.old.session.holders)) self.old.journal }
+        requires stands { Stands D.content D.history self.old.session.setup.now self.old.session.holders.held self.old.journal }
         requires lines { AreLines (bytes_of lines.now) }
-        ensures replies { IfOk result (λ replies. map (λ r. r.reply) replies.items ≡ replies_of self.old.session.setup.now (holding (H.table self.old.session.holders) (H.names self.old.session.holders)) (bytes_of lines.now)) }
-        ensures becomes { OnOk result (holding (H.table self.new.session.holders) (H.names self.new.session.holders)
-            ≡ after self.old.session.setup.now (holding (H.table self.old.session.holders) (H.names self.old.session.holders)) (bytes_of lines.now)) }
-        ensures stands { OnOk result (Stands D.content D.history self.old.session.setup.now (holding (H.table self.new.session.holders) (H.names self.new.session.holders)) self.new.journal) }
+        ensures replies { IfOk result (λ replies. map (λ r. r.reply) replies.items ≡ replies_of self.old.session.setup.now self.old.session.holders.held (bytes_of lines.now)) }
+        ensures becomes { OnOk result (self.new.session.holders.held
+            ≡ after self.old.session.setup.now self.old.session.holders.held (bytes_of lines.now)) }
+        ensures stands { OnOk result (Stands D.content D.history self.old.session.setup.now self.new.session.holders.held self.new.journal) }
         ensures idle { IfOk result (λ replies. AreIdle replies.items → self.new.journal ≡ self.old.journal) }
         ensures asking { OnOk result (AreAsking (bytes_of lines.now) → self.new.journal ≡ self.old.journal) }
         ensures unchanged { IsErrOf result PerformError.OutOfMemory → self.new.journal ≡ self.old.journal }
         ensures held { IsErrOf result PerformError.OutOfMemory
-            ⊎ KeepsHeldAlong self.old.session.setup.now (holding (H.table self.old.session.holders) (H.names self.old.session.holders)) (bytes_of lines.now) }
+            ⊎ KeepsHeldAlong self.old.session.setup.now self.old.session.holders.held (bytes_of lines.now) }
         ensures any_moment { AlwaysLeaves (D.history self.old.journal.device) (D.history self.new.journal.device)
-            (AfterFirstOf self.old.session.setup.now (holding (H.table self.old.session.holders) (H.names self.old.session.holders)) (bytes_of lines.now)) }
+            (AfterFirstOf self.old.session.setup.now self.old.session.holders.held (bytes_of lines.now)) }
         ensures faults { IsErrOf result (PerformError.Device Failed) → D.faults self.old.journal.device < D.faults self.new.journal.device }
         ensures no_fewer { D.faults self.old.journal.device ≤ D.faults self.new.journal.device }
         ensures setup { self.new.session.setup ≡ self.old.session.setup }

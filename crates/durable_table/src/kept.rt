@@ -3,7 +3,6 @@ ghost use Rattle.std.specs.Prelude.{◌≡◌, ◌<◌, Ok, map, true, IfOk, OnO
 ghost use Rattle.std.specs.List.{list_all};
 ghost use Rattle.line_journal.specs.Device.{Unchanged, Goes, TellsFaults};
 ghost use Rattle.line_journal.specs.Lines.{bytes_of, AreLines};
-ghost use Rattle.held_lines.specs.Held.{holding};
 ghost use Rattle.held_lines.specs.Outcomes.{after};
 ghost use Rattle.durable_table.specs.Durable.{Stands, Reads, ContinuesSealed};
 ghost use Rattle.durable_table.specs.Groups.{replies_of};
@@ -11,7 +10,7 @@ ghost use Rattle.durable_table.specs.Groups.{replies_of};
 use crate::durable::DurableTable;
 use crate::group::make_each;
 use crate::replay::{first_changed, replay};
-use held_lines::{HeldReply, Holders};
+use held_lines::HeldReply;
 use line_journal::{Device, DeviceError, Followed, Renewable};
 use std::alloc::{AllocError, Global};
 
@@ -24,14 +23,14 @@ pub enum CaughtUp {
     Anew,
 }
 
-impl<'s, H: Holders, D: Renewable> DurableTable<'s, H, D> {
+impl<'s, D: Renewable> DurableTable<'s, D> {
     /// Makes what the lines ask for that other processes have added to the journal since this one had its turn, in memory.
     /// Only these are read. Nothing is written, and nothing is waited for: what was read may not be on the disk yet.
     ///
     /// If it is not `Ready`, or fails, nothing is said of the table: open it anew.
     pub fn catch_up(&mut self, alloc: Global) -> Result<CaughtUp, DeviceError>
-        requires reads { Reads D.content self.old.session.setup.now (holding (H.table self.old.session.holders) (H.names self.old.session.holders)) self.old.journal }
-        ensures reads { result ≡ Ok CaughtUp.Ready → Reads D.content self.old.session.setup.now (holding (H.table self.new.session.holders) (H.names self.new.session.holders)) self.new.journal }
+        requires reads { Reads D.content self.old.session.setup.now self.old.session.holders.held self.old.journal }
+        ensures reads { result ≡ Ok CaughtUp.Ready → Reads D.content self.old.session.setup.now self.new.session.holders.held self.new.journal }
         ensures anew { result ≡ Ok CaughtUp.Anew → ContinuesSealed (D.content self.old.journal.device) (D.content self.new.journal.device) → ⊥ }
         ensures writes { D.writes self.new.journal.device ≡ D.writes self.old.journal.device }
         ensures looks { OnOk result (D.looks self.old.journal.device < D.looks self.new.journal.device) }
@@ -50,12 +49,12 @@ impl<'s, H: Holders, D: Renewable> DurableTable<'s, H, D> {
     }
 }
 
-impl<'s, H: Holders, D: Device> DurableTable<'s, H, D> {
+impl<'s, D: Device> DurableTable<'s, D> {
     /// Waits until the journal is on the disk as it was read. Before that no line may be performed: a crash could lose what
     /// it was answered by.
     pub fn settle(&mut self) -> Result<(), DeviceError>
-        requires reads { Reads D.content self.old.session.setup.now (holding (H.table self.old.session.holders) (H.names self.old.session.holders)) self.old.journal }
-        ensures stands { OnOk result (Stands D.content D.history self.old.session.setup.now (holding (H.table self.new.session.holders) (H.names self.new.session.holders)) self.new.journal) }
+        requires reads { Reads D.content self.old.session.setup.now self.old.session.holders.held self.old.journal }
+        ensures stands { OnOk result (Stands D.content D.history self.old.session.setup.now self.new.session.holders.held self.new.journal) }
         ensures session { self.new.session ≡ self.old.session }
         ensures content { D.content self.new.journal.device ≡ D.content self.old.journal.device }
         ensures end { self.new.journal.end ≡ self.old.journal.end }
@@ -69,9 +68,9 @@ impl<'s, H: Holders, D: Device> DurableTable<'s, H, D> {
     /// nothing is said of the table.
     pub fn ask(&mut self, alloc: Global, lines: &[Vec<u8>]) -> Result<Vec<HeldReply>, AllocError>
         requires lines { AreLines (bytes_of lines.now) }
-        ensures replies { IfOk result (λ replies. map (λ r. r.reply) replies.items ≡ replies_of self.old.session.setup.now (holding (H.table self.old.session.holders) (H.names self.old.session.holders)) (bytes_of lines.now)) }
-        ensures becomes { OnOk result (holding (H.table self.new.session.holders) (H.names self.new.session.holders)
-            ≡ after self.old.session.setup.now (holding (H.table self.old.session.holders) (H.names self.old.session.holders)) (bytes_of lines.now)) }
+        ensures replies { IfOk result (λ replies. map (λ r. r.reply) replies.items ≡ replies_of self.old.session.setup.now self.old.session.holders.held (bytes_of lines.now)) }
+        ensures becomes { OnOk result (self.new.session.holders.held
+            ≡ after self.old.session.setup.now self.old.session.holders.held (bytes_of lines.now)) }
         ensures journal { self.new.journal ≡ self.old.journal }
         ensures setup { self.new.session.setup ≡ self.old.session.setup }
     {

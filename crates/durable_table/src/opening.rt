@@ -6,7 +6,6 @@ ghost use Rattle.line_journal.specs.Device.{IsOnDisk, AlwaysLeaves, Goes, Unchan
 ghost use Rattle.line_journal.specs.declared.device.DeviceError.TheVariants.{Failed};
 ghost use Rattle.line_journal.specs.Lines.{lines_of, at_rest, behind, bytes_of, StandsFor};
 ghost use Rattle.line_journal.specs.Journal.{IsLeft};
-ghost use Rattle.held_lines.specs.Held.{holding};
 ghost use Rattle.durable_table.specs.Tables.{opening_of, table_of};
 ghost use Rattle.durable_table.specs.Commands.{head};
 ghost use Rattle.durable_table.specs.Opened.{IsReadAs, IsOpenedAs, IsTableRead, device_after, device_read};
@@ -14,7 +13,8 @@ ghost use Rattle.durable_table.specs.Opened.{IsReadAs, IsOpenedAs, IsTableRead, 
 use crate::durable::DurableTable;
 use crate::head::has_head;
 use crate::replay::{first_changed, replay};
-use held_lines::{HeldSession, Holders};
+use held_lines::HeldSession;
+use held_table::HeldTable;
 use line_journal::{Device, DeviceError, Found, Journal, Opened, Repair, look, open_found, peek};
 use modprobe::Setup;
 use std::alloc::{AllocError, Global};
@@ -37,9 +37,9 @@ pub fn create<D: Device>(device: &mut D) -> Result<(), DeviceError>
 
 /// What `open` made of a device.
 #[derive(Drop)]
-pub enum OpenedTable<'s, H: Holders, D: Device> {
+pub enum OpenedTable<'s, D: Device> {
     /// The table that the journal stands for, and what was found behind its lines.
-    Ready(DurableTable<'s, H, D>, Found),
+    Ready(DurableTable<'s, D>, Found),
     /// The file does not begin with the first line of a journal. It is as it was.
     Foreign(D),
     /// The first line of the journal, from 1, that has not the sum of its command. The file is as it was.
@@ -49,22 +49,22 @@ pub enum OpenedTable<'s, H: Holders, D: Device> {
 }
 
 /// What the lines of a journal stand for.
-enum Read<'s, H: Holders> {
-    Table(HeldSession<'s, H>),
+enum Read<'s> {
+    Table(HeldSession<'s>),
     Foreign,
     Changed(usize),
 }
 
 /// Makes the table that the lines of a journal stand for.
 #[tactic(auto, using(crate::proofs::CommandLemmas::changed_behind))]
-fn read_table<'s, H: Holders>(
+fn read_table<'s>(
     alloc: Global,
     setup: &'s Setup,
-    holders: H,
+    holders: HeldTable,
     lines: &[Vec<u8>],
-) -> Result<Read<'s, H>, AllocError>
-    requires over { H.catalogue holders ≡ modules_of setup.now.catalogue }
-    requires opening { holding (H.table holders) (H.names holders) ≡ opening_of setup.now }
+) -> Result<Read<'s>, AllocError>
+    requires over { holders.catalogue ≡ modules_of setup.now.catalogue }
+    requires opening { holders.held ≡ opening_of setup.now }
     ensures { IfOk result (IsReadAs setup.now (bytes_of lines.now)) }
 {
     if !has_head(lines) {
@@ -84,15 +84,15 @@ fn read_table<'s, H: Holders>(
 /// only once all lines were read and found whole.
 ///
 /// A crash at any moment leaves the same lines, or what it might have left before the call. An error hands the device back.
-pub fn open<'s, H: Holders, D: Device>(
+pub fn open<'s, D: Device>(
     alloc: Global,
     setup: &'s Setup,
-    holders: H,
+    holders: HeldTable,
     mut device: D,
     repair: Repair,
-) -> Result<OpenedTable<'s, H, D>, (DeviceError, D)>
-    requires over { H.catalogue holders ≡ modules_of setup.now.catalogue }
-    requires opening { holding (H.table holders) (H.names holders) ≡ opening_of setup.now }
+) -> Result<OpenedTable<'s, D>, (DeviceError, D)>
+    requires over { holders.catalogue ≡ modules_of setup.now.catalogue }
+    requires opening { holders.held ≡ opening_of setup.now }
     ensures opened { IfOk result (IsOpenedAs D.content D.history setup.now repair (D.content device)) }
     ensures any_moment { AlwaysLeaves (D.history device) (D.history (device_after result))
         (λ file. StandsFor (lines_of (D.content device)) file ⊎ (D.history device).leaves file) }
@@ -120,23 +120,23 @@ pub fn open<'s, H: Holders, D: Device>(
 
 /// What `open_reading` made of a device.
 #[derive(Drop)]
-pub enum ReadTable<'s, H: Holders, D: Device> {
+pub enum ReadTable<'s, D: Device> {
     /// The table that the journal reads as.
-    Ready(DurableTable<'s, H, D>),
+    Ready(DurableTable<'s, D>),
     /// The file does not read as a journal at rest, or its lines stand for no table. `open` says why, or repairs it.
     Anew(D),
 }
 
 /// Makes the table that a journal reads as, over holders of which none is there yet, if it is whole and at rest. Nothing is
 /// written, and nothing is waited for: what was read may not be on the disk yet. An error hands the device back.
-pub fn open_reading<'s, H: Holders, D: Device>(
+pub fn open_reading<'s, D: Device>(
     alloc: Global,
     setup: &'s Setup,
-    holders: H,
+    holders: HeldTable,
     mut device: D,
-) -> Result<ReadTable<'s, H, D>, (DeviceError, D)>
-    requires over { H.catalogue holders ≡ modules_of setup.now.catalogue }
-    requires opening { holding (H.table holders) (H.names holders) ≡ opening_of setup.now }
+) -> Result<ReadTable<'s, D>, (DeviceError, D)>
+    requires over { holders.catalogue ≡ modules_of setup.now.catalogue }
+    requires opening { holders.held ≡ opening_of setup.now }
     ensures read { IfOk result (IsTableRead D.content setup.now (D.content device)) }
     ensures writes { D.writes (device_read result) ≡ D.writes device }
     ensures crash { Goes Unchanged (D.history device) (D.history (device_read result)) }

@@ -2,13 +2,12 @@
 ghost use Rattle.std.specs.Prelude.{◌≡◌, true, false, map, drop, IfSome, IfNone, OnOk};
 ghost use Rattle.std.specs.List.{list_all};
 ghost use Rattle.line_journal.specs.Lines.{bytes_of};
-ghost use Rattle.held_lines.specs.Held.{holding};
 ghost use Rattle.held_lines.specs.Outcomes.{after};
 ghost use Rattle.durable_table.specs.Seals.{is_sealed};
 ghost use Rattle.durable_table.specs.Commands.{first_unsealed};
 
 use crate::seal::{command_of, is_sealed};
-use held_lines::{HeldSession, Holders};
+use held_lines::HeldSession;
 use std::alloc::{AllocError, Global};
 
 /// The number of the first line that is not sealed. The lines are those behind the first one, so they begin with number 2.
@@ -27,13 +26,13 @@ pub(crate) fn first_changed(lines: &[Vec<u8>]) -> Option<usize>
 }
 
 /// Makes what the command of each line asks for, one after another.
-pub(crate) fn replay<H: Holders>(
+pub(crate) fn replay(
     alloc: Global,
-    session: &mut HeldSession<'_, H>,
+    session: &mut HeldSession<'_>,
     lines: &[Vec<u8>],
 ) -> Result<(), AllocError>
-    ensures after { OnOk result (holding (H.table session.new.holders) (H.names session.new.holders)
-        ≡ after session.old.setup.now (holding (H.table session.old.holders) (H.names session.old.holders)) (map (drop 9) (bytes_of lines.now))) }
+    ensures after { OnOk result (session.new.holders.held
+        ≡ after session.old.setup.now session.old.holders.held (map (drop 9) (bytes_of lines.now))) }
     ensures setup { session.new.setup ≡ session.old.setup }
 {
     for line in lines {

@@ -1,6 +1,5 @@
 //! The table of a folder is brought to the modules that a kernel has, as a file lists them.
 ghost use Rattle.std.specs.Prelude.{◌≡◌, [], OnOk, IfOk};
-ghost use Rattle.held_lines.specs.Held.{holding};
 ghost use Rattle.durable_table.specs.Durable.{Stands};
 ghost use Rattle.gz_table_drive.specs.Adopting.{AdoptsListing, HasAdopted};
 
@@ -27,8 +26,8 @@ fn adopt_file<R: Files + Drop>(
     kernel: &[KernelModule],
     replies: &mut Replies,
 ) -> Result<(), TableFault>
-    requires { Stands ⟦<FileDevice<R> as Device>⟧.content ⟦<FileDevice<R> as Device>⟧.history table.old.session.setup.now (holding table.old.session.holders.held.table table.old.session.holders.held.names) table.old.journal }
-    ensures { OnOk result (HasAdopted table.old.session.setup.now (holding table.old.session.holders.held.table table.old.session.holders.held.names) kernel.now replies.old replies.new) }
+    requires { Stands ⟦<FileDevice<R> as Device>⟧.content ⟦<FileDevice<R> as Device>⟧.history table.old.session.setup.now table.old.session.holders.held table.old.journal }
+    ensures { OnOk result (HasAdopted table.old.session.setup.now table.old.session.holders.held kernel.now replies.old replies.new) }
 {
     match adopt_modules(alloc, table, kernel, replies) {
         Ok(()) => Ok(()),

@@ -3,7 +3,6 @@ ghost use Rattle.std.specs.Prelude.{◌≡◌, ◌⊎◌, ◌<◌, ◌≤◌, �
 ghost use Rattle.line_journal.specs.Device.{AlwaysLeaves};
 ghost use Rattle.line_journal.specs.declared.device.DeviceError.TheVariants.{Failed};
 ghost use Rattle.line_journal.specs.Lines.{AreLines, bytes_of};
-ghost use Rattle.held_lines.specs.Held.{holding};
 ghost use Rattle.held_lines.specs.Laws.{KeepsHeld};
 ghost use Rattle.held_lines.specs.Outcomes.{after};
 ghost use Rattle.durable_table.specs.Durable.{Stands};
@@ -14,7 +13,7 @@ ghost use Rattle.gz_table_drive.specs.Adopting.{adopting_lines, ending_of_report
 
 use crate::answering::{GROUP, Replies};
 use durable_table::{DurableTable, PerformError};
-use held_lines::{HeldReply, HeldSession, Holders};
+use held_lines::{HeldReply, HeldSession};
 use line_journal::{Device, DeviceError, are_lines};
 use seq_table::Modules;
 use std::alloc::{AllocError, Global};
@@ -97,20 +96,20 @@ fn add_all_refused(answered: &[HeldReply], replies: &mut Replies) -> Result<(), 
 }
 
 /// Performs lines as one group, and adds the replies to those that are refused.
-fn perform_group<H: Holders, D: Device>(
+fn perform_group<D: Device>(
     alloc: Global,
-    table: &mut DurableTable<'_, H, D>,
+    table: &mut DurableTable<'_, D>,
     group: &[Vec<u8>],
     replies: &mut Replies,
 ) -> Result<(), PerformError>
-    requires stands { Stands D.content D.history table.old.session.setup.now (holding (H.table table.old.session.holders) (H.names table.old.session.holders)) table.old.journal }
+    requires stands { Stands D.content D.history table.old.session.setup.now table.old.session.holders.held table.old.journal }
     requires lines { AreLines (bytes_of group.now) }
-    ensures refused { OnOk result (HasRefused table.old.session.setup.now (holding (H.table table.old.session.holders) (H.names table.old.session.holders)) (bytes_of group.now) replies.old replies.new) }
-    ensures becomes { OnOk result (holding (H.table table.new.session.holders) (H.names table.new.session.holders)
-        ≡ after table.old.session.setup.now (holding (H.table table.old.session.holders) (H.names table.old.session.holders)) (bytes_of group.now)) }
-    ensures stands { OnOk result (Stands D.content D.history table.old.session.setup.now (holding (H.table table.new.session.holders) (H.names table.new.session.holders)) table.new.journal) }
+    ensures refused { OnOk result (HasRefused table.old.session.setup.now table.old.session.holders.held (bytes_of group.now) replies.old replies.new) }
+    ensures becomes { OnOk result (table.new.session.holders.held
+        ≡ after table.old.session.setup.now table.old.session.holders.held (bytes_of group.now)) }
+    ensures stands { OnOk result (Stands D.content D.history table.old.session.setup.now table.new.session.holders.held table.new.journal) }
     ensures any_moment { AlwaysLeaves (D.history table.old.journal.device) (D.history table.new.journal.device)
-        (AfterFirstOf table.old.session.setup.now (holding (H.table table.old.session.holders) (H.names table.old.session.holders)) (bytes_of group.now)) }
+        (AfterFirstOf table.old.session.setup.now table.old.session.holders.held (bytes_of group.now)) }
     ensures faults { IsErrOf result (PerformError.Device Failed) → D.faults table.old.journal.device < D.faults table.new.journal.device }
     ensures no_fewer { D.faults table.old.journal.device ≤ D.faults table.new.journal.device }
     ensures setup { table.new.session.setup ≡ table.old.session.setup }
@@ -123,20 +122,20 @@ fn perform_group<H: Holders, D: Device>(
 }
 
 /// Performs lines, one after another in groups, and adds the replies to those that are refused.
-fn perform_lines<H: Holders, D: Device>(
+fn perform_lines<D: Device>(
     alloc: Global,
-    table: &mut DurableTable<'_, H, D>,
+    table: &mut DurableTable<'_, D>,
     lines: &[Vec<u8>],
     replies: &mut Replies,
 ) -> Result<(), PerformError>
-    requires stands { Stands D.content D.history table.old.session.setup.now (holding (H.table table.old.session.holders) (H.names table.old.session.holders)) table.old.journal }
+    requires stands { Stands D.content D.history table.old.session.setup.now table.old.session.holders.held table.old.journal }
     requires lines { AreLines (bytes_of lines.now) }
-    ensures refused { OnOk result (HasRefused table.old.session.setup.now (holding (H.table table.old.session.holders) (H.names table.old.session.holders)) (bytes_of lines.now) replies.old replies.new) }
-    ensures becomes { OnOk result (holding (H.table table.new.session.holders) (H.names table.new.session.holders)
-        ≡ after table.old.session.setup.now (holding (H.table table.old.session.holders) (H.names table.old.session.holders)) (bytes_of lines.now)) }
-    ensures stands { OnOk result (Stands D.content D.history table.old.session.setup.now (holding (H.table table.new.session.holders) (H.names table.new.session.holders)) table.new.journal) }
+    ensures refused { OnOk result (HasRefused table.old.session.setup.now table.old.session.holders.held (bytes_of lines.now) replies.old replies.new) }
+    ensures becomes { OnOk result (table.new.session.holders.held
+        ≡ after table.old.session.setup.now table.old.session.holders.held (bytes_of lines.now)) }
+    ensures stands { OnOk result (Stands D.content D.history table.old.session.setup.now table.new.session.holders.held table.new.journal) }
     ensures any_moment { AlwaysLeaves (D.history table.old.journal.device) (D.history table.new.journal.device)
-        (AfterFirstOf table.old.session.setup.now (holding (H.table table.old.session.holders) (H.names table.old.session.holders)) (bytes_of lines.now)) }
+        (AfterFirstOf table.old.session.setup.now table.old.session.holders.held (bytes_of lines.now)) }
     ensures faults { IsErrOf result (PerformError.Device Failed) → D.faults table.old.journal.device < D.faults table.new.journal.device }
     ensures no_fewer { D.faults table.old.journal.device ≤ D.faults table.new.journal.device }
     ensures setup { table.new.session.setup ≡ table.old.session.setup }
@@ -151,16 +150,16 @@ fn perform_lines<H: Holders, D: Device>(
 }
 
 /// The lines that bring a table to these modules, and what is reported beside them.
-fn adoption_of<H: Holders>(
+fn adoption_of(
     alloc: Global,
-    session: &HeldSession<'_, H>,
+    session: &HeldSession<'_>,
     kernel: &[KernelModule],
 ) -> Result<Adoption, AdoptError>
-    ensures lines { IfOk result (λ a. bytes_of a.lines.items ≡ adopting_lines session.now.setup.now (holding (H.table session.now.holders) (H.names session.now.holders)) kernel.now) }
+    ensures lines { IfOk result (λ a. bytes_of a.lines.items ≡ adopting_lines session.now.setup.now session.now.holders.held kernel.now) }
     ensures are_lines { IfOk result (λ a. AreLines (bytes_of a.lines.items)) }
     ensures refused { IfErr result (λ error. (error ≡ AdoptError.OutOfMemory) ⊎ (error ≡ AdoptError.BadName)) }
-    ensures bad_name { IsErrOf result AdoptError.BadName → AreLines (adopting_lines session.now.setup.now (holding (H.table session.now.holders) (H.names session.now.holders)) kernel.now) → ⊥ }
-    ensures report { IfOk result (λ a. a.report.items ≡ report_of session.now.setup.now.catalogue (H.table session.now.holders) kernel.now) }
+    ensures bad_name { IsErrOf result AdoptError.BadName → AreLines (adopting_lines session.now.setup.now session.now.holders.held kernel.now) → ⊥ }
+    ensures report { IfOk result (λ a. a.report.items ≡ report_of session.now.setup.now.catalogue session.now.holders.held.table kernel.now) }
 {
     let found = adopt(
         alloc,
@@ -190,26 +189,26 @@ fn add_report(report: &[u8], replies: &mut Replies) -> Result<(), AllocError>
 ///
 /// A crash at any moment, or an error, leaves the table after the first of the lines: none, some or all. Each holder holds
 /// what it held, and no module that anybody holds is made absent.
-pub fn adopt_modules<H: Holders, D: Device>(
+pub fn adopt_modules<D: Device>(
     alloc: Global,
-    table: &mut DurableTable<'_, H, D>,
+    table: &mut DurableTable<'_, D>,
     kernel: &[KernelModule],
     replies: &mut Replies,
 ) -> Result<(), AdoptError>
-    requires { Stands D.content D.history table.old.session.setup.now (holding (H.table table.old.session.holders) (H.names table.old.session.holders)) table.old.journal }
-    ensures adopted { OnOk result (HasAdopted table.old.session.setup.now (holding (H.table table.old.session.holders) (H.names table.old.session.holders)) kernel.now replies.old replies.new) }
-    ensures becomes { OnOk result (holding (H.table table.new.session.holders) (H.names table.new.session.holders)
-        ≡ after table.old.session.setup.now (holding (H.table table.old.session.holders) (H.names table.old.session.holders))
-        (adopting_lines table.old.session.setup.now (holding (H.table table.old.session.holders) (H.names table.old.session.holders)) kernel.now)) }
-    ensures stands { OnOk result (Stands D.content D.history table.old.session.setup.now (holding (H.table table.new.session.holders) (H.names table.new.session.holders)) table.new.journal) }
-    ensures holders { OnOk result (HoldsTheSame (holding (H.table table.old.session.holders) (H.names table.old.session.holders)) (holding (H.table table.new.session.holders) (H.names table.new.session.holders))) }
-    ensures held { OnOk result (KeepsHeld (H.table table.old.session.holders) (H.table table.new.session.holders)) }
+    requires { Stands D.content D.history table.old.session.setup.now table.old.session.holders.held table.old.journal }
+    ensures adopted { OnOk result (HasAdopted table.old.session.setup.now table.old.session.holders.held kernel.now replies.old replies.new) }
+    ensures becomes { OnOk result (table.new.session.holders.held
+        ≡ after table.old.session.setup.now table.old.session.holders.held
+        (adopting_lines table.old.session.setup.now table.old.session.holders.held kernel.now)) }
+    ensures stands { OnOk result (Stands D.content D.history table.old.session.setup.now table.new.session.holders.held table.new.journal) }
+    ensures holders { OnOk result (HoldsTheSame table.old.session.holders.held table.new.session.holders.held) }
+    ensures held { OnOk result (KeepsHeld table.old.session.holders.held.table table.new.session.holders.held.table) }
     ensures unchanged { IsErrOf result AdoptError.BadName → table.new ≡ table.old }
     ensures silent { IsErrOf result AdoptError.BadName → replies.new ≡ replies.old }
     ensures any_moment { AlwaysLeaves (D.history table.old.journal.device) (D.history table.new.journal.device)
-        (AfterFirstOf table.old.session.setup.now (holding (H.table table.old.session.holders) (H.names table.old.session.holders))
-        (adopting_lines table.old.session.setup.now (holding (H.table table.old.session.holders) (H.names table.old.session.holders)) kernel.now)) }
-    ensures bad_name { IsErrOf result AdoptError.BadName → AreLines (adopting_lines table.old.session.setup.now (holding (H.table table.old.session.holders) (H.names table.old.session.holders)) kernel.now) → ⊥ }
+        (AfterFirstOf table.old.session.setup.now table.old.session.holders.held
+        (adopting_lines table.old.session.setup.now table.old.session.holders.held kernel.now)) }
+    ensures bad_name { IsErrOf result AdoptError.BadName → AreLines (adopting_lines table.old.session.setup.now table.old.session.holders.held kernel.now) → ⊥ }
     ensures faults { IsErrOf result (AdoptError.Device Failed) → D.faults table.old.journal.device < D.faults table.new.journal.device }
     ensures no_fewer { D.faults table.old.journal.device ≤ D.faults table.new.journal.device }
     ensures setup { table.new.session.setup ≡ table.old.session.setup }

@@ -3,7 +3,6 @@ ghost use Rattle.std.specs.Prelude.{◌≡◌, ◌<◌, ◌≤◌, ℕ, [], ◌�
 ghost use Rattle.line_journal.specs.Device.{AlwaysLeaves};
 ghost use Rattle.line_journal.specs.declared.device.DeviceError.TheVariants.{Failed};
 ghost use Rattle.line_journal.specs.Lines.{AreLines, bytes_of};
-ghost use Rattle.held_lines.specs.Held.{holding};
 ghost use Rattle.held_lines.specs.Outcomes.{after};
 ghost use Rattle.durable_table.specs.Durable.{Stands};
 ghost use Rattle.durable_table.specs.Groups.{AfterFirstOf};
@@ -11,7 +10,7 @@ ghost use Rattle.gz_table_drive.specs.Answers.{HasMore, HasAnswered, StoppedWith
 ghost use Rattle.table_words.specs.Endings.{ending_of_lines};
 
 use durable_table::{DurableTable, PerformError};
-use held_lines::{HeldReply, Holders};
+use held_lines::HeldReply;
 use line_journal::{Device, DeviceError};
 use modprobe::Reply;
 use std::alloc::{AllocError, Global};
@@ -97,22 +96,22 @@ impl Replies {
 
 /// Answers lines as one group. What they change is on the disk before any of their replies is there. A crash at any moment
 /// leaves the table after the first of them: none, some or all.
-fn answer_group<H: Holders, D: Device>(
+fn answer_group<D: Device>(
     alloc: Global,
-    table: &mut DurableTable<'_, H, D>,
+    table: &mut DurableTable<'_, D>,
     group: &[Vec<u8>],
     replies: &mut Replies,
 ) -> Result<(), AnswerError>
-    requires stands { Stands D.content D.history table.old.session.setup.now (holding (H.table table.old.session.holders) (H.names table.old.session.holders)) table.old.journal }
+    requires stands { Stands D.content D.history table.old.session.setup.now table.old.session.holders.held table.old.journal }
     requires lines { AreLines (bytes_of group.now) }
-    ensures answered { OnOk result (HasAnswered table.old.session.setup.now (holding (H.table table.old.session.holders) (H.names table.old.session.holders)) (bytes_of group.now) replies.old replies.new) }
-    ensures becomes { OnOk result (holding (H.table table.new.session.holders) (H.names table.new.session.holders)
-        ≡ after table.old.session.setup.now (holding (H.table table.old.session.holders) (H.names table.old.session.holders)) (bytes_of group.now)) }
-    ensures stands { OnOk result (Stands D.content D.history table.old.session.setup.now (holding (H.table table.new.session.holders) (H.names table.new.session.holders)) table.new.journal) }
-    ensures stopped { OnErr result (StoppedWithin table.old.session.setup.now (holding (H.table table.old.session.holders) (H.names table.old.session.holders)) (bytes_of group.now)
+    ensures answered { OnOk result (HasAnswered table.old.session.setup.now table.old.session.holders.held (bytes_of group.now) replies.old replies.new) }
+    ensures becomes { OnOk result (table.new.session.holders.held
+        ≡ after table.old.session.setup.now table.old.session.holders.held (bytes_of group.now)) }
+    ensures stands { OnOk result (Stands D.content D.history table.old.session.setup.now table.new.session.holders.held table.new.journal) }
+    ensures stopped { OnErr result (StoppedWithin table.old.session.setup.now table.old.session.holders.held (bytes_of group.now)
         (D.history table.new.journal.device).leaves replies.old replies.new) }
     ensures any_moment { AlwaysLeaves (D.history table.old.journal.device) (D.history table.new.journal.device)
-        (AfterFirstOf table.old.session.setup.now (holding (H.table table.old.session.holders) (H.names table.old.session.holders)) (bytes_of group.now)) }
+        (AfterFirstOf table.old.session.setup.now table.old.session.holders.held (bytes_of group.now)) }
     ensures faults { IsErrOf result (AnswerError.Device Failed) → D.faults table.old.journal.device < D.faults table.new.journal.device }
     ensures no_fewer { D.faults table.old.journal.device ≤ D.faults table.new.journal.device }
     ensures setup { table.new.session.setup ≡ table.old.session.setup }
@@ -133,25 +132,25 @@ fn answer_group<H: Holders, D: Device>(
 ///
 /// A crash at any moment leaves the table after the first lines, for some number of them. At an error some lines were
 /// answered, and a crash leaves the table after these, or after more.
-pub fn answer_lines<H: Holders, D: Device>(
+pub fn answer_lines<D: Device>(
     alloc: Global,
-    table: &mut DurableTable<'_, H, D>,
+    table: &mut DurableTable<'_, D>,
     lines: &[Vec<u8>],
     replies: &mut Replies,
 ) -> Result<usize, AnswerError>
-    requires stands { Stands D.content D.history table.old.session.setup.now (holding (H.table table.old.session.holders) (H.names table.old.session.holders)) table.old.journal }
+    requires stands { Stands D.content D.history table.old.session.setup.now table.old.session.holders.held table.old.journal }
     requires lines { AreLines (bytes_of lines.now) }
     ensures within { IfOk result (λ count. count ≤ length lines.now) }
     ensures some { IfOk result (λ count. 0 < length lines.now → 0 < count) }
     ensures enough { IfOk result (λ count. count < length lines.now → 1048576 < length replies.new.text.items) }
-    ensures answered { IfOk result (λ count. HasAnswered table.old.session.setup.now (holding (H.table table.old.session.holders) (H.names table.old.session.holders)) (take count (bytes_of lines.now)) replies.old replies.new) }
-    ensures becomes { IfOk result (λ count. holding (H.table table.new.session.holders) (H.names table.new.session.holders)
-        ≡ after table.old.session.setup.now (holding (H.table table.old.session.holders) (H.names table.old.session.holders)) (take count (bytes_of lines.now))) }
-    ensures stands { OnOk result (Stands D.content D.history table.old.session.setup.now (holding (H.table table.new.session.holders) (H.names table.new.session.holders)) table.new.journal) }
-    ensures stopped { OnErr result (StoppedWithin table.old.session.setup.now (holding (H.table table.old.session.holders) (H.names table.old.session.holders)) (bytes_of lines.now)
+    ensures answered { IfOk result (λ count. HasAnswered table.old.session.setup.now table.old.session.holders.held (take count (bytes_of lines.now)) replies.old replies.new) }
+    ensures becomes { IfOk result (λ count. table.new.session.holders.held
+        ≡ after table.old.session.setup.now table.old.session.holders.held (take count (bytes_of lines.now))) }
+    ensures stands { OnOk result (Stands D.content D.history table.old.session.setup.now table.new.session.holders.held table.new.journal) }
+    ensures stopped { OnErr result (StoppedWithin table.old.session.setup.now table.old.session.holders.held (bytes_of lines.now)
         (D.history table.new.journal.device).leaves replies.old replies.new) }
     ensures any_moment { AlwaysLeaves (D.history table.old.journal.device) (D.history table.new.journal.device)
-        (AfterFirstOf table.old.session.setup.now (holding (H.table table.old.session.holders) (H.names table.old.session.holders)) (bytes_of lines.now)) }
+        (AfterFirstOf table.old.session.setup.now table.old.session.holders.held (bytes_of lines.now)) }
     ensures faults { IsErrOf result (AnswerError.Device Failed) → D.faults table.old.journal.device < D.faults table.new.journal.device }
     ensures no_fewer { D.faults table.old.journal.device ≤ D.faults table.new.journal.device }
     ensures setup { table.new.session.setup ≡ table.old.session.setup }

@@ -2,7 +2,6 @@
 ghost use Rattle.std.specs.Prelude.{◌≡◌, true, Ok, IsErrOf, OnOk};
 ghost use Rattle.line_journal.specs.Device.{AlwaysLeaves};
 ghost use Rattle.line_journal.specs.Journal.{lines_in};
-ghost use Rattle.held_lines.specs.Held.{holding};
 ghost use Rattle.durable_table.specs.Durable.{Stands, FileStands};
 ghost use Rattle.durable_table.specs.Compacting.{compacted, CanBeRemade};
 
@@ -11,7 +10,6 @@ use crate::opening::no_holders;
 use crate::tenure::changing_table;
 use durable_table::{Compacted, DurableTable, PerformError};
 use file_journal::LockKind;
-use held_table::HeldTable;
 use line_journal::{DeviceError, Renewable};
 use modprobe::Setup;
 use std::alloc::Global;
@@ -25,17 +23,17 @@ use table_folder::{Shared, TableFault, Teller, journal_fault, read_setup};
 fn compact_table<D: Renewable + Drop>(
     alloc: Global,
     setup: &Setup,
-    table: &mut DurableTable<'_, HeldTable, D>,
+    table: &mut DurableTable<'_, D>,
 ) -> Result<Compacted, PerformError>
-    requires stands { Stands D.content D.history setup.now (holding table.old.session.holders.held.table table.old.session.holders.held.names) table.old.journal }
+    requires stands { Stands D.content D.history setup.now table.old.session.holders.held table.old.journal }
     requires of_setup { table.old.session.setup.now ≡ setup.now }
-    ensures written { result ≡ Ok Compacted.Done → lines_in D.content table.new.journal ≡ compacted setup.now (holding table.old.session.holders.held.table table.old.session.holders.held.names) }
+    ensures written { result ≡ Ok Compacted.Done → lines_in D.content table.new.journal ≡ compacted setup.now table.old.session.holders.held }
     ensures kept { result ≡ Ok Compacted.Kept → table.new.journal ≡ table.old.journal }
     ensures unchanged { IsErrOf result PerformError.OutOfMemory → table.new.journal ≡ table.old.journal }
-    ensures needed { result ≡ Ok Compacted.Kept → CanBeRemade setup.now (holding table.old.session.holders.held.table table.old.session.holders.held.names) → ⊥ }
-    ensures stands { OnOk result (Stands D.content D.history setup.now (holding table.new.session.holders.held.table table.new.session.holders.held.names) table.new.journal) }
+    ensures needed { result ≡ Ok Compacted.Kept → CanBeRemade setup.now table.old.session.holders.held → ⊥ }
+    ensures stands { OnOk result (Stands D.content D.history setup.now table.new.session.holders.held table.new.journal) }
     ensures any_moment { AlwaysLeaves (D.history table.old.journal.device) (D.history table.new.journal.device)
-        (FileStands setup.now (holding table.old.session.holders.held.table table.old.session.holders.held.names)) }
+        (FileStands setup.now table.old.session.holders.held) }
     ensures session { table.new.session ≡ table.old.session }
 {
     match no_holders(alloc, setup) {
@@ -49,13 +47,13 @@ fn compact_table<D: Renewable + Drop>(
 pub(crate) fn shorten<D: Renewable + Drop>(
     alloc: Global,
     setup: &Setup,
-    table: &mut DurableTable<'_, HeldTable, D>,
+    table: &mut DurableTable<'_, D>,
 ) -> bool
-    requires stands { Stands D.content D.history setup.now (holding table.old.session.holders.held.table table.old.session.holders.held.names) table.old.journal }
+    requires stands { Stands D.content D.history setup.now table.old.session.holders.held table.old.journal }
     requires of_setup { table.old.session.setup.now ≡ setup.now }
-    ensures stands { result ≡ true → Stands D.content D.history setup.now (holding table.new.session.holders.held.table table.new.session.holders.held.names) table.new.journal }
+    ensures stands { result ≡ true → Stands D.content D.history setup.now table.new.session.holders.held table.new.journal }
     ensures any_moment { AlwaysLeaves (D.history table.old.journal.device) (D.history table.new.journal.device)
-        (FileStands setup.now (holding table.old.session.holders.held.table table.old.session.holders.held.names)) }
+        (FileStands setup.now table.old.session.holders.held) }
     ensures session { table.new.session ≡ table.old.session }
 {
     if !matches!(table.is_long(alloc), Ok(true)) {

@@ -1,12 +1,10 @@
 //! The table that a process keeps from one tenure to the next.
 ghost use Rattle.std.specs.Prelude.{◌≡◌, IfSome};
 ghost use Rattle.std.proofs.Props.{props};
-ghost use Rattle.held_lines.specs.Held.{holding};
 ghost use Rattle.durable_table.specs.Durable.{Reads};
 ghost use Rattle.gz_table_drive.specs.Taken.{IsTaken};
 
 use durable_table::{CaughtUp, DurableTable};
-use held_table::HeldTable;
 use line_journal::{Device, Renewable};
 use modprobe::Setup;
 use std::alloc::Global;
@@ -15,16 +13,16 @@ use std::alloc::Global;
 #[derive(Drop)]
 pub(crate) struct Kept<'s, D: Device + Drop> {
     setup: &'s Setup,
-    table: Option<DurableTable<'s, HeldTable, D>>,
+    table: Option<DurableTable<'s, D>>,
     ghost of_setup: { IfSome table (λ t. t.session.setup.now ≡ setup.now) } by { Prim.hlevel props },
-    ghost reads: { IfSome table (λ t. Reads D.content setup.now (holding t.session.holders.held.table t.session.holders.held.names) t.journal) } by { Prim.hlevel props },
+    ghost reads: { IfSome table (λ t. Reads D.content setup.now t.session.holders.held t.journal) } by { Prim.hlevel props },
 }
 
 /// What there is of a table that is kept, once it is taken.
 #[derive(Drop)]
 pub(crate) enum Taken<'s, D: Device + Drop> {
     /// The table, with all that others have made of its journal since.
-    Table(DurableTable<'s, HeldTable, D>),
+    Table(DurableTable<'s, D>),
     /// The journal is another one, or is not at rest. The table is to be opened anew over its device.
     Anew(D),
     /// No table was kept, or it failed.
@@ -62,9 +60,9 @@ impl<'s, D: Renewable + Drop> Kept<'s, D> {
     }
 
     /// Keeps a table that reads as its journal does.
-    pub(crate) fn keep(&mut self, table: DurableTable<'s, HeldTable, D>)
+    pub(crate) fn keep(&mut self, table: DurableTable<'s, D>)
         requires of_setup { table.session.setup.now ≡ self.old.setup.now }
-        requires reads { Reads D.content self.old.setup.now (holding table.session.holders.held.table table.session.holders.held.names) table.journal }
+        requires reads { Reads D.content self.old.setup.now table.session.holders.held table.journal }
         ensures { self.new.setup.now ≡ self.old.setup.now }
     {
         self.table = Some(table);

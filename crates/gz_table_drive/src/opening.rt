@@ -2,7 +2,6 @@
 ghost use Rattle.std.specs.Prelude.{◌≡◌, ◌⊎◌, Some, IfOk};
 ghost use Rattle.line_journal.specs.Device.{AlwaysLeaves};
 ghost use Rattle.line_journal.specs.Lines.{lines_of, StandsFor};
-ghost use Rattle.held_lines.specs.Held.{holding};
 ghost use Rattle.dep_index.specs.Catalogue.{modules_of};
 ghost use Rattle.durable_table.specs.Tables.{opening_of, table_of};
 ghost use Rattle.durable_table.specs.Durable.{Stands};
@@ -47,7 +46,7 @@ impl<D> From<AllocError> for OpenFault<D> {
 /// Holders of a setup, of which none is there yet.
 pub(crate) fn no_holders(alloc: Global, setup: &Setup) -> Result<HeldTable, AllocError>
     ensures over { IfOk result (λ t. t.catalogue ≡ modules_of setup.now.catalogue) }
-    ensures opening { IfOk result (λ t. holding t.held.table t.held.names ≡ opening_of setup.now) }
+    ensures opening { IfOk result (λ t. t.held ≡ opening_of setup.now) }
 {
     HeldTable::new(alloc, setup.catalogue().slots(alloc)?)
 }
@@ -57,9 +56,9 @@ pub(crate) fn open_table<'s, D: Device + Drop>(
     alloc: Global,
     setup: &'s Setup,
     device: D,
-) -> Result<DurableTable<'s, HeldTable, D>, OpenFault<D>>
-    ensures stands { IfOk result (λ t. Stands D.content D.history setup.now (holding t.session.holders.held.table t.session.holders.held.names) t.journal) }
-    ensures same { IfOk result (λ t. table_of setup.now (D.content device) ≡ Some (holding t.session.holders.held.table t.session.holders.held.names)) }
+) -> Result<DurableTable<'s, D>, OpenFault<D>>
+    ensures stands { IfOk result (λ t. Stands D.content D.history setup.now t.session.holders.held t.journal) }
+    ensures same { IfOk result (λ t. table_of setup.now (D.content device) ≡ Some t.session.holders.held) }
     ensures setup { IfOk result (λ t. t.session.setup.now ≡ setup.now) }
     ensures any_moment { IfOk result (λ t. AlwaysLeaves (D.history device) (D.history t.journal.device)
         (λ file. StandsFor (lines_of (D.content device)) file ⊎ (D.history device).leaves file)) }
@@ -79,7 +78,7 @@ pub(crate) fn read_table<'s, D: Device + Drop>(
     alloc: Global,
     setup: &'s Setup,
     device: D,
-) -> Result<ReadTable<'s, HeldTable, D>, OpenFault<D>>
+) -> Result<ReadTable<'s, D>, OpenFault<D>>
     ensures read { IfOk result (IsTableRead D.content setup.now (D.content device)) }
 {
     let fresh = no_holders(alloc, setup)?;

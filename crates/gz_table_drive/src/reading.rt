@@ -2,7 +2,6 @@
 ghost use Rattle.std.specs.Prelude.{◌≡◌, Some, true, take, ◌<◌, ◌≤◌, length, All, IfOk, OnOk, OnErr};
 ghost use Rattle.text_parts.specs.Text.{texts_of};
 ghost use Rattle.line_journal.specs.Lines.{AreLines, bytes_of};
-ghost use Rattle.held_lines.specs.Held.{holding};
 ghost use Rattle.held_table.specs.Held.{Held};
 ghost use Rattle.durable_table.specs.Durable.{Reads, Stands};
 ghost use Rattle.durable_table.specs.Tables.{table_of};
@@ -12,7 +11,6 @@ ghost use Rattle.held_lines.specs.Reading.{asks, asks_by, is_reading};
 use crate::answering::{GROUP, Replies, answer_lines};
 use crate::opening::{OpenFault, open_table};
 use durable_table::DurableTable;
-use held_table::HeldTable;
 use line_journal::{Device, KillOnly};
 use modprobe::Setup;
 use std::alloc::{AllocError, Global};
@@ -60,9 +58,9 @@ pub(crate) fn copy_of<'s>(
     alloc: Global,
     setup: &'s Setup,
     bytes: Vec<u8>,
-) -> Result<DurableTable<'s, HeldTable, KillOnly>, TableFault>
-    ensures stands { IfOk result (λ t. Stands ⟦<KillOnly as Device>⟧.content ⟦<KillOnly as Device>⟧.history setup.now (holding t.session.holders.held.table t.session.holders.held.names) t.journal) }
-    ensures same { IfOk result (λ t. table_of setup.now bytes.items ≡ Some (holding t.session.holders.held.table t.session.holders.held.names)) }
+) -> Result<DurableTable<'s, KillOnly>, TableFault>
+    ensures stands { IfOk result (λ t. Stands ⟦<KillOnly as Device>⟧.content ⟦<KillOnly as Device>⟧.history setup.now t.session.holders.held t.journal) }
+    ensures same { IfOk result (λ t. table_of setup.now bytes.items ≡ Some t.session.holders.held) }
     ensures setup { IfOk result (λ t. t.session.setup.now ≡ setup.now) }
 {
     match open_table(alloc, setup, KillOnly::new(alloc, bytes)) {
@@ -99,18 +97,18 @@ pub(crate) fn answer_copy(
 /// written. How many is answered, a group at the most.
 pub(crate) fn ask_lines<D: Device + Drop>(
     alloc: Global,
-    table: &mut DurableTable<'_, HeldTable, D>,
+    table: &mut DurableTable<'_, D>,
     lines: &[Vec<u8>],
     replies: &mut Replies,
 ) -> Result<usize, TableFault>
     requires lines { AreLines (bytes_of lines.now) }
     requires asks { All (λ line. is_reading line ≡ true) (bytes_of lines.now) }
-    requires reads { Reads D.content table.old.session.setup.now (holding table.old.session.holders.held.table table.old.session.holders.held.names) table.old.journal }
-    ensures answered { IfOk result (λ count. HasAnswered table.old.session.setup.now (holding table.old.session.holders.held.table table.old.session.holders.held.names) (take count (bytes_of lines.now)) replies.old replies.new) }
-    ensures stopped { OnErr result (HasAnsweredFirst table.old.session.setup.now (holding table.old.session.holders.held.table table.old.session.holders.held.names) (bytes_of lines.now) replies.old replies.new) }
+    requires reads { Reads D.content table.old.session.setup.now table.old.session.holders.held table.old.journal }
+    ensures answered { IfOk result (λ count. HasAnswered table.old.session.setup.now table.old.session.holders.held (take count (bytes_of lines.now)) replies.old replies.new) }
+    ensures stopped { OnErr result (HasAnsweredFirst table.old.session.setup.now table.old.session.holders.held (bytes_of lines.now) replies.old replies.new) }
     ensures some { IfOk result (λ count. 0 < length lines.now → 0 < count) }
     ensures within { IfOk result (λ count. count ≤ length lines.now) }
-    ensures reads { OnOk result (Reads D.content table.old.session.setup.now (holding table.new.session.holders.held.table table.new.session.holders.held.names) table.new.journal) }
+    ensures reads { OnOk result (Reads D.content table.old.session.setup.now table.new.session.holders.held table.new.journal) }
     ensures journal { table.new.journal ≡ table.old.journal }
     ensures setup { table.new.session.setup ≡ table.old.session.setup }
 {

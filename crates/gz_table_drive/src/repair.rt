@@ -3,7 +3,6 @@ ghost use Rattle.std.specs.Prelude.{◌≡◌, ◌≢◌, ◌⊎◌, [], ◌∷�
 ghost use Rattle.line_journal.specs.Device.{AlwaysLeaves};
 ghost use Rattle.line_journal.specs.Journal.{IsFound};
 ghost use Rattle.line_journal.specs.Lines.{lines_of, StandsFor};
-ghost use Rattle.held_lines.specs.Held.{holding};
 ghost use Rattle.durable_table.specs.Tables.{table_of};
 ghost use Rattle.durable_table.specs.Durable.{Stands};
 
@@ -11,7 +10,6 @@ use crate::opening::{OpenFault, no_holders};
 use crate::tenure::unopened;
 use durable_table::{DurableTable, OpenedTable, open};
 use file_journal::LockKind;
-use held_table::HeldTable;
 use line_journal::{Device, Found, KillOnly, Repair};
 use modprobe::Setup;
 use std::alloc::Global;
@@ -27,7 +25,7 @@ use table_folder::{
 /// A table whose journal is at rest again, and what stood in the journal before.
 #[derive(Drop)]
 struct Repaired<'s, D: Device + Drop> {
-    table: DurableTable<'s, HeldTable, D>,
+    table: DurableTable<'s, D>,
     found: Found,
 }
 
@@ -52,8 +50,8 @@ fn repair_table<'s, D: Device + Drop>(
     setup: &'s Setup,
     device: D,
 ) -> Result<Repaired<'s, D>, OpenFault<D>>
-    ensures stands { IfOk result (λ r. Stands D.content D.history setup.now (holding r.table.session.holders.held.table r.table.session.holders.held.names) r.table.journal) }
-    ensures same { IfOk result (λ r. table_of setup.now (D.content device) ≡ Some (holding r.table.session.holders.held.table r.table.session.holders.held.names)) }
+    ensures stands { IfOk result (λ r. Stands D.content D.history setup.now r.table.session.holders.held r.table.journal) }
+    ensures same { IfOk result (λ r. table_of setup.now (D.content device) ≡ Some r.table.session.holders.held) }
     ensures found { IfOk result (λ r. IsFound (D.content device) r.found) }
     ensures setup { IfOk result (λ r. r.table.session.setup.now ≡ setup.now) }
     ensures any_moment { IfOk result (λ r. AlwaysLeaves (D.history device) (D.history r.table.journal.device)

@@ -1,7 +1,6 @@
 //! One tenure: what a process does from where it takes the lock to where it gives it back.
 ghost use Rattle.std.specs.Prelude.{◌≡◌, ◌<◌, ◌≤◌, true, length, take, All, IfOk, IfSome, OnErr};
 ghost use Rattle.line_journal.specs.Lines.{AreLines, bytes_of};
-ghost use Rattle.held_lines.specs.Held.{holding};
 ghost use Rattle.durable_table.specs.Durable.{Stands, Reads};
 ghost use Rattle.held_lines.specs.Reading.{is_reading};
 ghost use Rattle.gz_table_drive.specs.Answers.{HasAnswered, HasAnsweredFirst, HasAnsweredOver, HasStopped};
@@ -13,7 +12,6 @@ use crate::opening::{OpenFault, keep_torn, open_table, read_table};
 use crate::reading::{answer_copy, are_reading, ask_lines, copy_of};
 use durable_table::{DurableTable, ReadTable};
 use file_journal::{FileDevice, FolderLock, LockKind};
-use held_table::HeldTable;
 use line_journal::{Device, DeviceError};
 use modprobe::Setup;
 use std::alloc::Global;
@@ -24,7 +22,7 @@ use std::time::Clock;
 use table_folder::{Shared, TableFault, Teller, journal_fault, open_journal, read_journal};
 
 /// The table over the file of a journal.
-pub(crate) type FileTable<'s, R> = DurableTable<'s, HeldTable, FileDevice<R>>;
+pub(crate) type FileTable<'s, R> = DurableTable<'s, FileDevice<R>>;
 
 /// Why the table of a journal's file was not opened.
 pub(crate) fn unopened<R: Files + Drop>(fault: OpenFault<FileDevice<R>>) -> TableFault {
@@ -43,7 +41,7 @@ fn reading_table<'s, 'r, R: Files<File = File> + Clock + AllocGlobal>(
     kept: &mut Kept<'s, FileDevice<&'r R>>,
 ) -> Option<FileTable<'s, &'r R>>
     ensures of_setup { IfSome result (λ t. t.session.setup.now ≡ kept.old.setup.now) }
-    ensures reads { IfSome result (λ t. Reads ⟦<FileDevice<&'r R> as Device>⟧.content kept.old.setup.now (holding t.session.holders.held.table t.session.holders.held.names) t.journal) }
+    ensures reads { IfSome result (λ t. Reads ⟦<FileDevice<&'r R> as Device>⟧.content kept.old.setup.now t.session.holders.held t.journal) }
     ensures setup { kept.new.setup.now ≡ kept.old.setup.now }
 {
     let alloc = shared.alloc();
@@ -88,9 +86,9 @@ fn ask_table<'s, R: Files + Drop>(
     requires lines { AreLines (bytes_of lines.now) }
     requires asks { All (λ line. is_reading line ≡ true) (bytes_of lines.now) }
     requires of_setup { table.session.setup.now ≡ kept.old.setup.now }
-    requires reads { Reads ⟦<FileDevice<R> as Device>⟧.content kept.old.setup.now (holding table.session.holders.held.table table.session.holders.held.names) table.journal }
-    ensures answered { IfOk result (λ count. HasAnswered kept.old.setup.now (holding table.entry.session.holders.held.table table.entry.session.holders.held.names) (take count (bytes_of lines.now)) replies.old replies.new) }
-    ensures stopped { OnErr result (HasAnsweredFirst kept.old.setup.now (holding table.entry.session.holders.held.table table.entry.session.holders.held.names) (bytes_of lines.now) replies.old replies.new) }
+    requires reads { Reads ⟦<FileDevice<R> as Device>⟧.content kept.old.setup.now table.session.holders.held table.journal }
+    ensures answered { IfOk result (λ count. HasAnswered kept.old.setup.now table.entry.session.holders.held (take count (bytes_of lines.now)) replies.old replies.new) }
+    ensures stopped { OnErr result (HasAnsweredFirst kept.old.setup.now table.entry.session.holders.held (bytes_of lines.now) replies.old replies.new) }
     ensures some { IfOk result (λ count. 0 < length lines.now → 0 < count) }
     ensures within { IfOk result (λ count. count ≤ length lines.now) }
     ensures setup { kept.new.setup.now ≡ kept.old.setup.now }
@@ -125,11 +123,11 @@ fn answer_reading<'s, 'r, R: Files<File = File> + Clock + AllocGlobal>(
 
 /// A table that reads as its journal does, once all of that is on the disk.
 fn settled<'s, D: Device + Drop>(
-    mut table: DurableTable<'s, HeldTable, D>,
-) -> Result<DurableTable<'s, HeldTable, D>, OpenFault<D>>
-    requires reads { Reads D.content table.session.setup.now (holding table.session.holders.held.table table.session.holders.held.names) table.journal }
+    mut table: DurableTable<'s, D>,
+) -> Result<DurableTable<'s, D>, OpenFault<D>>
+    requires reads { Reads D.content table.session.setup.now table.session.holders.held table.journal }
     ensures of_setup { IfOk result (λ t. t.session.setup.now ≡ table.entry.session.setup.now) }
-    ensures stands { IfOk result (λ t. Stands D.content D.history table.entry.session.setup.now (holding t.session.holders.held.table t.session.holders.held.names) t.journal) }
+    ensures stands { IfOk result (λ t. Stands D.content D.history table.entry.session.setup.now t.session.holders.held t.journal) }
 {
     match table.settle() {
         Ok(()) => Ok(table),
@@ -146,7 +144,7 @@ fn repaired<'s, 'r, R: Files<File = File> + Clock + AllocGlobal, E: Write>(
     teller: &mut Teller<'_, E>,
 ) -> Result<FileTable<'s, &'r R>, TableFault>
     ensures of_setup { IfOk result (λ t. t.session.setup.now ≡ setup.now) }
-    ensures stands { IfOk result (λ t. Stands ⟦<FileDevice<&'r R> as Device>⟧.content ⟦<FileDevice<&'r R> as Device>⟧.history setup.now (holding t.session.holders.held.table t.session.holders.held.names) t.journal) }
+    ensures stands { IfOk result (λ t. Stands ⟦<FileDevice<&'r R> as Device>⟧.content ⟦<FileDevice<&'r R> as Device>⟧.history setup.now t.session.holders.held t.journal) }
 {
     copy_of(shared.alloc(), setup, read_journal(shared)?)?;
     let cut = keep_torn(shared, &mut device)?;
@@ -164,7 +162,7 @@ pub(crate) fn changing_table<'s, 'r, R: Files<File = File> + Clock + AllocGlobal
     teller: &mut Teller<'_, E>,
 ) -> Result<FileTable<'s, &'r R>, TableFault>
     ensures of_setup { IfOk result (λ t. t.session.setup.now ≡ kept.old.setup.now) }
-    ensures stands { IfOk result (λ t. Stands ⟦<FileDevice<&'r R> as Device>⟧.content ⟦<FileDevice<&'r R> as Device>⟧.history kept.old.setup.now (holding t.session.holders.held.table t.session.holders.held.names) t.journal) }
+    ensures stands { IfOk result (λ t. Stands ⟦<FileDevice<&'r R> as Device>⟧.content ⟦<FileDevice<&'r R> as Device>⟧.history kept.old.setup.now t.session.holders.held t.journal) }
     ensures setup { kept.new.setup.now ≡ kept.old.setup.now }
 {
     let alloc = shared.alloc();
@@ -191,9 +189,9 @@ fn answer_table<'s, R: Files + Drop>(
 ) -> Result<usize, TableFault>
     requires lines { AreLines (bytes_of lines.now) }
     requires of_setup { table.session.setup.now ≡ kept.old.setup.now }
-    requires stands { Stands ⟦<FileDevice<R> as Device>⟧.content ⟦<FileDevice<R> as Device>⟧.history kept.old.setup.now (holding table.session.holders.held.table table.session.holders.held.names) table.journal }
-    ensures answered { IfOk result (λ count. HasAnswered kept.old.setup.now (holding table.entry.session.holders.held.table table.entry.session.holders.held.names) (take count (bytes_of lines.now)) replies.old replies.new) }
-    ensures stopped { OnErr result (HasAnsweredFirst kept.old.setup.now (holding table.entry.session.holders.held.table table.entry.session.holders.held.names) (bytes_of lines.now) replies.old replies.new) }
+    requires stands { Stands ⟦<FileDevice<R> as Device>⟧.content ⟦<FileDevice<R> as Device>⟧.history kept.old.setup.now table.session.holders.held table.journal }
+    ensures answered { IfOk result (λ count. HasAnswered kept.old.setup.now table.entry.session.holders.held (take count (bytes_of lines.now)) replies.old replies.new) }
+    ensures stopped { OnErr result (HasAnsweredFirst kept.old.setup.now table.entry.session.holders.held (bytes_of lines.now) replies.old replies.new) }
     ensures some { IfOk result (λ count. 0 < length lines.now → 0 < count) }
     ensures within { IfOk result (λ count. count ≤ length lines.now) }
     ensures setup { kept.new.setup.now ≡ kept.old.setup.now }

@@ -4,36 +4,34 @@ ghost use Rattle.text_parts.specs.Text.{texts_of};
 ghost use Rattle.dep_index.specs.Catalogue.{modules_of};
 ghost use Rattle.held_lines.specs.declared.asked.Reference.TheVariants as references;
 ghost use Rattle.held_table.specs.Names.{name_bytes, place_of};
-ghost use Rattle.held_lines.specs.Held.{holding};
 ghost use Rattle.held_lines.specs.Found.{found_for};
 ghost use Rattle.held_lines.specs.Outcomes.{by_found, refer_at, release_by, release_all_by};
 ghost use Rattle.held_lines.specs.ForProofs.{Answers};
 
 use crate::found::{FoundError, found_for};
-use crate::holders::Holders;
 use crate::puts::{first_not_held, give_back_each};
 use crate::reply::{HeldReply, done, first_name, refuse};
 use dep_index::PutError;
-use held_table::{HolderName, MOST_HOLDERS};
+use held_table::{HeldTable, HolderName, MOST_HOLDERS};
 use modprobe::{Code, Setup};
 use seq_table::Modules;
 use std::alloc::{AllocError, Global};
 
 /// `put HOLDER NAME`: a holder puts a reference to the module of a slot back. One that holds nothing then goes.
 #[tactic(auto, using(crate::proofs::SlotLemmas::modules_of_length))]
-pub(crate) fn put<H: Holders>(
+pub(crate) fn put(
     alloc: Global,
     setup: &Setup,
-    holders: &mut H,
+    holders: &mut HeldTable,
     holder: &HolderName,
     slot: usize,
 ) -> Result<HeldReply, AllocError>
-    requires over { H.catalogue holders.old ≡ modules_of setup.now.catalogue }
+    requires over { holders.old.catalogue ≡ modules_of setup.now.catalogue }
     requires slot { slot < length setup.now.catalogue }
-    ensures answers { IfOk result (λ r. Answers r (holding (H.table holders.old) (H.names holders.old)) (holding (H.table holders.new) (H.names holders.new))
-        (refer_at setup.now (holding (H.table holders.old) (H.names holders.old)) references.Put (name_bytes holder.now) slot)) }
-    ensures unchanged { OnErr result (holding (H.table holders.new) (H.names holders.new) ≡ holding (H.table holders.old) (H.names holders.old)) }
-    ensures over { H.catalogue holders.new ≡ H.catalogue holders.old }
+    ensures answers { IfOk result (λ r. Answers r holders.old.held holders.new.held
+        (refer_at setup.now holders.old.held references.Put (name_bytes holder.now) slot)) }
+    ensures unchanged { OnErr result (holders.new.held ≡ holders.old.held) }
+    ensures over { holders.new.catalogue ≡ holders.old.catalogue }
 {
     holders.holder_laws();
     let name = setup.catalogue().name(slot);
@@ -57,19 +55,19 @@ pub(crate) fn put<H: Holders>(
 
 /// A holder gives back all references to these modules, or to none.
 #[tactic(auto, using(crate::proofs::SlotLemmas::modules_of_length))]
-fn release_each<H: Holders>(
+fn release_each(
     alloc: Global,
     setup: &Setup,
-    holders: &mut H,
+    holders: &mut HeldTable,
     holder: &HolderName,
     slots: &[usize],
 ) -> Result<HeldReply, AllocError>
-    requires over { H.catalogue holders.old ≡ modules_of setup.now.catalogue }
+    requires over { holders.old.catalogue ≡ modules_of setup.now.catalogue }
     requires slots { All (λ slot. slot < length setup.now.catalogue) slots.now }
-    ensures answers { IfOk result (λ r. Answers r (holding (H.table holders.old) (H.names holders.old)) (holding (H.table holders.new) (H.names holders.new))
-        (release_by setup.now (holding (H.table holders.old) (H.names holders.old)) slots.now (place_of (H.names holders.old) (name_bytes holder.now)))) }
-    ensures unchanged { OnErr result (holding (H.table holders.new) (H.names holders.new) ≡ holding (H.table holders.old) (H.names holders.old)) }
-    ensures over { H.catalogue holders.new ≡ H.catalogue holders.old }
+    ensures answers { IfOk result (λ r. Answers r holders.old.held holders.new.held
+        (release_by setup.now holders.old.held slots.now (place_of holders.old.held.names (name_bytes holder.now)))) }
+    ensures unchanged { OnErr result (holders.new.held ≡ holders.old.held) }
+    ensures over { holders.new.catalogue ≡ holders.old.catalogue }
 {
     holders.holder_laws();
     let Some(number) = holders.number(holder) else {
@@ -88,18 +86,18 @@ fn release_each<H: Holders>(
 }
 
 /// `release HOLDER NAME..`: the modules are those that are found for the words.
-pub(crate) fn release<H: Holders>(
+pub(crate) fn release(
     alloc: Global,
     setup: &Setup,
-    holders: &mut H,
+    holders: &mut HeldTable,
     holder: &HolderName,
     words: &[&[u8]],
 ) -> Result<HeldReply, AllocError>
-    requires over { H.catalogue holders.old ≡ modules_of setup.now.catalogue }
-    ensures answers { IfOk result (λ r. Answers r (holding (H.table holders.old) (H.names holders.old)) (holding (H.table holders.new) (H.names holders.new))
-        (by_found (holding (H.table holders.old) (H.names holders.old)) (λ slots. release_by setup.now (holding (H.table holders.old) (H.names holders.old)) slots (place_of (H.names holders.old) (name_bytes holder.now))) (found_for setup.now (texts_of words.now)))) }
-    ensures unchanged { OnErr result (holding (H.table holders.new) (H.names holders.new) ≡ holding (H.table holders.old) (H.names holders.old)) }
-    ensures over { H.catalogue holders.new ≡ H.catalogue holders.old }
+    requires over { holders.old.catalogue ≡ modules_of setup.now.catalogue }
+    ensures answers { IfOk result (λ r. Answers r holders.old.held holders.new.held
+        (by_found holders.old.held (λ slots. release_by setup.now holders.old.held slots (place_of holders.old.held.names (name_bytes holder.now))) (found_for setup.now (texts_of words.now)))) }
+    ensures unchanged { OnErr result (holders.new.held ≡ holders.old.held) }
+    ensures over { holders.new.catalogue ≡ holders.old.catalogue }
 {
     match found_for(alloc, setup, words) {
         Ok(slots) => release_each(alloc, setup, holders, holder, &slots),
@@ -109,15 +107,15 @@ pub(crate) fn release<H: Holders>(
 }
 
 /// `release HOLDER`: a holder gives back all that it holds, and goes. One that is not there holds nothing.
-pub(crate) fn release_all<H: Holders>(
+pub(crate) fn release_all(
     alloc: Global,
-    holders: &mut H,
+    holders: &mut HeldTable,
     holder: &HolderName,
 ) -> Result<HeldReply, AllocError>
-    ensures answers { IfOk result (λ r. Answers r (holding (H.table holders.old) (H.names holders.old)) (holding (H.table holders.new) (H.names holders.new))
-        (release_all_by (holding (H.table holders.old) (H.names holders.old)) (place_of (H.names holders.old) (name_bytes holder.now)))) }
-    ensures unchanged { OnErr result (holding (H.table holders.new) (H.names holders.new) ≡ holding (H.table holders.old) (H.names holders.old)) }
-    ensures over { H.catalogue holders.new ≡ H.catalogue holders.old }
+    ensures answers { IfOk result (λ r. Answers r holders.old.held holders.new.held
+        (release_all_by holders.old.held (place_of holders.old.held.names (name_bytes holder.now)))) }
+    ensures unchanged { OnErr result (holders.new.held ≡ holders.old.held) }
+    ensures over { holders.new.catalogue ≡ holders.old.catalogue }
 {
     let reply = done(alloc)?;
     let Some(number) = holders.number(holder) else {

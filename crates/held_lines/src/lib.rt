@@ -8,7 +8,6 @@ mod found;
 mod gets;
 mod gives;
 mod guest;
-mod holders;
 pub mod laws;
 mod listing;
 mod puts;
@@ -20,6 +19,5 @@ mod takes;
 mod through;
 
 pub use asked::Reference;
-pub use holders::Holders;
 pub use reply::HeldReply;
 pub use session::HeldSession;

@@ -1,10 +1,9 @@
 //! Who holds what, and how often.
 ghost use Rattle.std.specs.Prelude.{◌≡◌, ◌<◌, ◌++◌, [], length, codes, slice_index_or, IfOk, OnOk};
 ghost use Rattle.dep_index.specs.Catalogue.{modules_of};
-ghost use Rattle.held_lines.specs.Held.{holding};
 ghost use Rattle.held_lines.specs.Listings.{count_line, rows_text, holders_text, held_text, all_text};
 
-use crate::holders::Holders;
+use held_table::HeldTable;
 use modprobe::Setup;
 use proc_modules::push_number;
 use seq_table::Modules;
@@ -46,13 +45,13 @@ fn push_row<M: Modules>(
 }
 
 /// Who holds a module, by the holders' numbers.
-pub(crate) fn holders_text<H: Holders>(
+pub(crate) fn holders_text(
     alloc: Global,
-    holders: &H,
+    holders: &HeldTable,
     slot: usize,
 ) -> Result<Vec<u8>, AllocError>
-    requires { slot < length (H.catalogue holders.now) }
-    ensures { IfOk result (λ text. text.items ≡ holders_text (holding (H.table holders.now) (H.names holders.now)) slot) }
+    requires { slot < length holders.now.catalogue }
+    ensures { IfOk result (λ text. text.items ≡ holders_text holders.now.held slot) }
 {
     holders.holder_laws();
     let mut text = Vec::new(alloc);
@@ -84,16 +83,16 @@ pub(crate) fn held_text<M: Modules>(
 }
 
 /// Adds what a holder holds, each line behind its name.
-fn push_holder<H: Holders>(
+fn push_holder(
     text: &mut Vec<u8>,
     alloc: Global,
     setup: &Setup,
-    holders: &H,
+    holders: &HeldTable,
     number: usize,
 ) -> Result<(), AllocError>
-    requires over { H.catalogue holders.now ≡ modules_of setup.now.catalogue }
-    requires number { number < length (H.names holders.now) }
-    ensures { OnOk result (text.new.items ≡ text.old.items ++ rows_text setup.now (H.table holders.now) (slice_index_or (H.names holders.now) number [] ++ codes " ") number) }
+    requires over { holders.now.catalogue ≡ modules_of setup.now.catalogue }
+    requires number { number < length holders.now.held.names }
+    ensures { OnOk result (text.new.items ≡ text.old.items ++ rows_text setup.now holders.now.held.table (slice_index_or holders.now.held.names number [] ++ codes " ") number) }
 {
     holders.holder_laws();
     let mut front = Vec::from_slice(alloc, holders.name(number).as_bytes())?;
@@ -102,13 +101,13 @@ fn push_holder<H: Holders>(
 }
 
 /// What each holder holds, by the holders' numbers and then by slots.
-pub(crate) fn all_text<H: Holders>(
+pub(crate) fn all_text(
     alloc: Global,
     setup: &Setup,
-    holders: &H,
+    holders: &HeldTable,
 ) -> Result<Vec<u8>, AllocError>
-    requires { H.catalogue holders.now ≡ modules_of setup.now.catalogue }
-    ensures { IfOk result (λ text. text.items ≡ all_text setup.now (holding (H.table holders.now) (H.names holders.now))) }
+    requires { holders.now.catalogue ≡ modules_of setup.now.catalogue }
+    ensures { IfOk result (λ text. text.items ≡ all_text setup.now holders.now.held) }
 {
     holders.holder_laws();
     let mut text = Vec::new(alloc);

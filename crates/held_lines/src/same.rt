@@ -1,10 +1,9 @@
 //! Whether two tables with holders are the same.
 ghost use Rattle.std.specs.Prelude.{◌≡◌, ◌<◌, ℕ, true, [], length, slice_index_or, IfOk};
 ghost use Rattle.dep_index.specs.Table.{count_of};
-ghost use Rattle.held_lines.specs.Held.{holding};
 
 use crate::book_copy::BookCopy;
-use crate::holders::Holders;
+use held_table::HeldTable;
 use seq_table::Modules;
 use std::alloc::{AllocError, Global};
 
@@ -29,21 +28,21 @@ fn holds_same<M: Modules>(table: &M, other: &M, number: usize) -> bool
 }
 
 /// Whether the holders of a number have one name.
-fn has_same_name<H: Holders>(holders: &H, other: &H, number: usize) -> bool
-    requires number { number < length (H.names holders.now) }
-    requires too { number < length (H.names other.now) }
-    ensures is { result ≡ true → slice_index_or (H.names other.now) number [] ≡ slice_index_or (H.names holders.now) number [] }
-    ensures all { slice_index_or (H.names other.now) number [] ≡ slice_index_or (H.names holders.now) number [] → result ≡ true }
+fn has_same_name(holders: &HeldTable, other: &HeldTable, number: usize) -> bool
+    requires number { number < length holders.now.held.names }
+    requires too { number < length other.now.held.names }
+    ensures is { result ≡ true → slice_index_or other.now.held.names number [] ≡ slice_index_or holders.now.held.names number [] }
+    ensures all { slice_index_or other.now.held.names number [] ≡ slice_index_or holders.now.held.names number [] → result ≡ true }
 {
     other.name(number).as_bytes() == holders.name(number).as_bytes()
 }
 
 /// Whether the same holders hold the same in two tables whose modules have the same states.
-fn has_same_holders<H: Holders>(holders: &H, other: &H) -> bool
-    requires catalogue { H.catalogue other.now ≡ H.catalogue holders.now }
-    requires book { (H.table other.now).book ≡ (H.table holders.now).book }
-    ensures is { result ≡ true → holding (H.table other.now) (H.names other.now) ≡ holding (H.table holders.now) (H.names holders.now) }
-    ensures all { holding (H.table other.now) (H.names other.now) ≡ holding (H.table holders.now) (H.names holders.now) → result ≡ true }
+fn has_same_holders(holders: &HeldTable, other: &HeldTable) -> bool
+    requires catalogue { other.now.catalogue ≡ holders.now.catalogue }
+    requires book { other.now.held.table.book ≡ holders.now.held.table.book }
+    ensures is { result ≡ true → other.now.held ≡ holders.now.held }
+    ensures all { other.now.held ≡ holders.now.held → result ≡ true }
 {
     holders.holder_laws();
     other.holder_laws();
@@ -59,10 +58,14 @@ fn has_same_holders<H: Holders>(holders: &H, other: &H) -> bool
 }
 
 /// Whether two tables over one catalogue are the same, with their holders.
-pub(crate) fn is_same<H: Holders>(alloc: Global, holders: &H, other: &H) -> Result<bool, AllocError>
-    requires { H.catalogue other.now ≡ H.catalogue holders.now }
-    ensures is { IfOk result (λ is_same. is_same ≡ true → holding (H.table other.now) (H.names other.now) ≡ holding (H.table holders.now) (H.names holders.now)) }
-    ensures all { IfOk result (λ is_same. holding (H.table other.now) (H.names other.now) ≡ holding (H.table holders.now) (H.names holders.now) → is_same ≡ true) }
+pub(crate) fn is_same(
+    alloc: Global,
+    holders: &HeldTable,
+    other: &HeldTable,
+) -> Result<bool, AllocError>
+    requires { other.now.catalogue ≡ holders.now.catalogue }
+    ensures is { IfOk result (λ is_same. is_same ≡ true → other.now.held ≡ holders.now.held) }
+    ensures all { IfOk result (λ is_same. other.now.held ≡ holders.now.held → is_same ≡ true) }
 {
     let book = BookCopy::of(alloc, holders)?;
     Ok(book.is_of(other) && has_same_holders(holders, other))

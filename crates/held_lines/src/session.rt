@@ -1,18 +1,17 @@
 //! Lines over a table with holders.
 ghost use Rattle.std.specs.Prelude.{◌≡◌, true, false, IfOk, OnOk, OnErr};
 ghost use Rattle.dep_index.specs.Catalogue.{modules_of};
-ghost use Rattle.held_lines.specs.Held.{holding};
 
 use crate::asked::{Asked, parse};
 use crate::by_name::{refer, what_is_held, who_holds};
 use crate::gives::{release, release_all};
-use crate::holders::Holders;
 use crate::listing::all_text;
 use crate::reply::{HeldReply, refuse};
 use crate::same::is_same;
 use crate::snapshot::snapshot;
 use crate::takes::hold;
 use crate::through::{Watch, as_session, make_half};
+use held_table::HeldTable;
 use modprobe::{Code, Reply, Setup};
 use seq_table::Modules;
 use std::alloc::{AllocError, Global};
@@ -20,13 +19,13 @@ use text_parts::{is_comment, words};
 
 /// A table with holders over the catalogue of a setup, and the lines that it answers.
 #[derive(Drop)]
-pub struct HeldSession<'s, H: Holders> {
+pub struct HeldSession<'s> {
     setup: &'s Setup,
-    holders: H,
-    ghost over: { H.catalogue holders ≡ modules_of setup.now.catalogue },
+    holders: HeldTable,
+    ghost over: { holders.catalogue ≡ modules_of setup.now.catalogue },
 }
 
-impl<'s, H: Holders> HeldSession<'s, H> {
+impl<'s> HeldSession<'s> {
     ghost use Rattle.held_lines.specs.Lines.{asked_of};
     ghost use Rattle.held_lines.specs.Outcomes.{asked_outcome, held_line_outcome};
     ghost use Rattle.held_lines.specs.ForProofs.{Answers, asked_from};
@@ -36,8 +35,8 @@ impl<'s, H: Holders> HeldSession<'s, H> {
     ghost use Rattle.held_lines.specs.Snapshots.{texts_in, snapshot_of};
 
     /// Uses a table over the catalogue of a setup. It changes nothing.
-    pub fn new(setup: &'s Setup, holders: H) -> HeldSession<'s, H>
-        requires { H.catalogue holders ≡ modules_of setup.now.catalogue }
+    pub fn new(setup: &'s Setup, holders: HeldTable) -> HeldSession<'s>
+        requires { holders.catalogue ≡ modules_of setup.now.catalogue }
         ensures setup { result.setup ≡ setup.entry }
         ensures holders { result.holders ≡ holders }
     {
@@ -52,7 +51,7 @@ impl<'s, H: Holders> HeldSession<'s, H> {
     }
 
     /// The table with its holders.
-    pub fn holders(&self) -> &H
+    pub fn holders(&self) -> &HeldTable
         ensures { result.now ≡ self.now.holders }
     {
         &self.holders
@@ -61,16 +60,16 @@ impl<'s, H: Holders> HeldSession<'s, H> {
     /// The lines that make the table from the one in which each module is absent and no holder is there, by `snapshot_of`:
     /// whether they do is for the caller to see. None of them has a line feed, if no name of a module has one.
     pub fn snapshot(&self, alloc: Global) -> Result<Vec<Vec<u8>>, AllocError>
-        ensures { IfOk result (λ lines. texts_in lines.items ≡ snapshot_of self.now.setup.now (holding (H.table self.now.holders) (H.names self.now.holders))) }
+        ensures { IfOk result (λ lines. texts_in lines.items ≡ snapshot_of self.now.setup.now self.now.holders.held) }
     {
         snapshot(alloc, self.setup, &self.holders)
     }
 
     /// Whether the tables of two sessions over one setup are the same, with their holders.
-    pub fn is_same(&self, alloc: Global, other: &HeldSession<'_, H>) -> Result<bool, AllocError>
+    pub fn is_same(&self, alloc: Global, other: &HeldSession<'_>) -> Result<bool, AllocError>
         requires { other.now.setup.now ≡ self.now.setup.now }
-        ensures is { IfOk result (λ is_same. is_same ≡ true → holding (H.table other.now.holders) (H.names other.now.holders) ≡ holding (H.table self.now.holders) (H.names self.now.holders)) }
-        ensures all { IfOk result (λ is_same. holding (H.table other.now.holders) (H.names other.now.holders) ≡ holding (H.table self.now.holders) (H.names self.now.holders) → is_same ≡ true) }
+        ensures is { IfOk result (λ is_same. is_same ≡ true → other.now.holders.held ≡ self.now.holders.held) }
+        ensures all { IfOk result (λ is_same. other.now.holders.held ≡ self.now.holders.held → is_same ≡ true) }
     {
         is_same(alloc, &self.holders, &other.holders)
     }
@@ -81,11 +80,11 @@ impl<'s, H: Holders> HeldSession<'s, H> {
     ///
     /// Out of memory, all is as before: all memory is taken before the first change, or what was changed is undone.
     pub fn perform(&mut self, alloc: Global, line: &[u8]) -> Result<HeldReply, AllocError>
-        ensures answers { IfOk result (λ r. Answers r (holding (H.table self.old.holders) (H.names self.old.holders)) (holding (H.table self.new.holders) (H.names self.new.holders))
-            (held_line_outcome self.old.setup.now (holding (H.table self.old.holders) (H.names self.old.holders)) line.now)) }
+        ensures answers { IfOk result (λ r. Answers r self.old.holders.held self.new.holders.held
+            (held_line_outcome self.old.setup.now self.old.holders.held line.now)) }
         ensures asking { IfOk result (λ r. is_reading line.now ≡ true → r.changed ≡ false) }
-        ensures held { OnOk result (KeepsHeld (H.table self.old.holders) (H.table self.new.holders)) }
-        ensures unchanged { OnErr result (holding (H.table self.new.holders) (H.names self.new.holders) ≡ holding (H.table self.old.holders) (H.names self.old.holders)) }
+        ensures held { OnOk result (KeepsHeld self.old.holders.held.table self.new.holders.held.table) }
+        ensures unchanged { OnErr result (self.new.holders.held ≡ self.old.holders.held) }
         ensures setup { self.new.setup ≡ self.old.setup }
     {
         self.holders.laws();
@@ -99,9 +98,8 @@ impl<'s, H: Holders> HeldSession<'s, H> {
     ///
     /// Out of memory, all is as before.
     pub fn replay(&mut self, alloc: Global, line: &[u8]) -> Result<(), AllocError>
-        ensures leaves { OnOk result (holding (H.table self.new.holders) (H.names self.new.holders)
-            ≡ (held_line_outcome self.old.setup.now (holding (H.table self.old.holders) (H.names self.old.holders)) line.now).1) }
-        ensures unchanged { OnErr result (holding (H.table self.new.holders) (H.names self.new.holders) ≡ holding (H.table self.old.holders) (H.names self.old.holders)) }
+        ensures leaves { OnOk result (self.new.holders.held ≡ (held_line_outcome self.old.setup.now self.old.holders.held line.now).1) }
+        ensures unchanged { OnErr result (self.new.holders.held ≡ self.old.holders.held) }
         ensures setup { self.new.setup ≡ self.old.setup }
     {
         self.answer_line(alloc, line, Watch::Nothing)?;
@@ -116,10 +114,10 @@ impl<'s, H: Holders> HeldSession<'s, H> {
         line: &[u8],
         watch: Watch,
     ) -> Result<HeldReply, AllocError>
-        ensures answers { IfOk result (λ r. Answers r (holding (H.table self.old.holders) (H.names self.old.holders)) (holding (H.table self.new.holders) (H.names self.new.holders))
-            (held_line_outcome self.old.setup.now (holding (H.table self.old.holders) (H.names self.old.holders)) line.now)) }
+        ensures answers { IfOk result (λ r. Answers r self.old.holders.held self.new.holders.held
+            (held_line_outcome self.old.setup.now self.old.holders.held line.now)) }
         ensures asking { watch ≡ Changes → IfOk result (λ r. is_reading line.now ≡ true → r.changed ≡ false) }
-        ensures unchanged { OnErr result (holding (H.table self.new.holders) (H.names self.new.holders) ≡ holding (H.table self.old.holders) (H.names self.old.holders)) }
+        ensures unchanged { OnErr result (self.new.holders.held ≡ self.old.holders.held) }
         ensures setup { self.new.setup ≡ self.old.setup }
     {
         if is_comment(line) {
@@ -139,10 +137,10 @@ impl<'s, H: Holders> HeldSession<'s, H> {
         watch: Watch,
     ) -> Result<HeldReply, AllocError>
         requires { asked_from asked ≡ asked_of line.now }
-        ensures answers { IfOk result (λ r. Answers r (holding (H.table self.old.holders) (H.names self.old.holders)) (holding (H.table self.new.holders) (H.names self.new.holders))
-            (asked_outcome self.old.setup.now (holding (H.table self.old.holders) (H.names self.old.holders)) line.now (asked_from asked.entry))) }
+        ensures answers { IfOk result (λ r. Answers r self.old.holders.held self.new.holders.held
+            (asked_outcome self.old.setup.now self.old.holders.held line.now (asked_from asked.entry))) }
         ensures asking { watch ≡ Changes → IfOk result (λ r. is_reading line.now ≡ true → r.changed ≡ false) }
-        ensures unchanged { OnErr result (holding (H.table self.new.holders) (H.names self.new.holders) ≡ holding (H.table self.old.holders) (H.names self.old.holders)) }
+        ensures unchanged { OnErr result (self.new.holders.held ≡ self.old.holders.held) }
         ensures setup { self.new.setup ≡ self.old.setup }
     {
         let (setup, holders) = (self.setup, &mut self.holders);

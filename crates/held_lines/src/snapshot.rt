@@ -1,12 +1,11 @@
 //! The lines that make a table from the one in which each module is absent and no holder is there.
 ghost use Rattle.std.specs.Prelude.{◌≡◌, ◌<◌, ◌++◌, [], length, codes, replicate, slice_index_or, IfOk, OnOk};
 ghost use Rattle.dep_index.specs.Catalogue.{modules_of};
-ghost use Rattle.held_lines.specs.Held.{holding};
 ghost use Rattle.held_lines.specs.Listings.{each_line};
 ghost use Rattle.held_lines.specs.Snapshots.{texts_in, end_lines, load_lines, get_line, holder_lines, leave_lines, by_module, snapshot_of};
 
-use crate::holders::Holders;
 use dep_index::ModuleState;
+use held_table::HeldTable;
 use modprobe::Setup;
 use seq_table::Modules;
 use std::alloc::{AllocError, Global};
@@ -133,16 +132,16 @@ fn push_leaves<M: Modules>(
 
 /// Adds a get for each reference of a holder, the oldest module first.
 #[tactic(auto, using(crate::proofs::SlotLemmas::modules_of_length))]
-fn push_holder<H: Holders>(
+fn push_holder(
     lines: &mut Vec<Vec<u8>>,
     alloc: Global,
     setup: &Setup,
-    holders: &H,
+    holders: &HeldTable,
     number: usize,
 ) -> Result<(), AllocError>
-    requires over { H.catalogue holders.now ≡ modules_of setup.now.catalogue }
-    requires number { number < length (H.names holders.now) }
-    ensures { OnOk result (texts_in lines.new.items ≡ texts_in lines.old.items ++ holder_lines setup.now (H.table holders.now) number (slice_index_or (H.names holders.now) number [])) }
+    requires over { holders.now.catalogue ≡ modules_of setup.now.catalogue }
+    requires number { number < length holders.now.held.names }
+    ensures { OnOk result (texts_in lines.new.items ≡ texts_in lines.old.items ++ holder_lines setup.now holders.now.held.table number (slice_index_or holders.now.held.names number [])) }
 {
     holders.holder_laws();
     let holder = holders.name(number).as_bytes();
@@ -155,14 +154,14 @@ fn push_holder<H: Holders>(
 }
 
 /// Adds a get for each reference, by the holders' numbers.
-fn push_holders<H: Holders>(
+fn push_holders(
     lines: &mut Vec<Vec<u8>>,
     alloc: Global,
     setup: &Setup,
-    holders: &H,
+    holders: &HeldTable,
 ) -> Result<(), AllocError>
-    requires { H.catalogue holders.now ≡ modules_of setup.now.catalogue }
-    ensures { OnOk result (texts_in lines.new.items ≡ texts_in lines.old.items ++ each_line (holder_lines setup.now (H.table holders.now)) 0 (H.names holders.now)) }
+    requires { holders.now.catalogue ≡ modules_of setup.now.catalogue }
+    ensures { OnOk result (texts_in lines.new.items ≡ texts_in lines.old.items ++ each_line (holder_lines setup.now holders.now.held.table) 0 holders.now.held.names) }
 {
     holders.holder_laws();
     for number in 0..holders.workers() {
@@ -172,13 +171,13 @@ fn push_holders<H: Holders>(
 }
 
 /// The lines of a table: its modules are loaded, its holders take their references, and then modules drain and unload.
-pub(crate) fn snapshot<H: Holders>(
+pub(crate) fn snapshot(
     alloc: Global,
     setup: &Setup,
-    holders: &H,
+    holders: &HeldTable,
 ) -> Result<Vec<Vec<u8>>, AllocError>
-    requires { H.catalogue holders.now ≡ modules_of setup.now.catalogue }
-    ensures { IfOk result (λ lines. texts_in lines.items ≡ snapshot_of setup.now (holding (H.table holders.now) (H.names holders.now))) }
+    requires { holders.now.catalogue ≡ modules_of setup.now.catalogue }
+    ensures { IfOk result (λ lines. texts_in lines.items ≡ snapshot_of setup.now holders.now.held) }
 {
     let mut lines = Vec::new(alloc);
     push_loads(&mut lines, alloc, setup, holders)?;

@@ -6,7 +6,6 @@ ghost use Rattle.modprobe.specs.Setup.{name_at};
 ghost use Rattle.held_lines.specs.declared.asked.Reference.TheVariants as references;
 ghost use Rattle.held_table.specs.Names.{name_bytes};
 ghost use Rattle.held_table.specs.Held.{number_of, entered};
-ghost use Rattle.held_lines.specs.Held.{holding};
 ghost use Rattle.held_lines.specs.Found.{found_for};
 ghost use Rattle.held_lines.specs.Holds.{gets, to_take};
 ghost use Rattle.held_lines.specs.Outcomes.{by_found, first_name, hold_outcome, refer_at};
@@ -15,30 +14,28 @@ ghost use Rattle.held_lines.specs.ForProofs.{Answers, TellsTaking, IsWithin, IsT
 use crate::found::{FoundError, found_for};
 use crate::gets::{TakeError, take_each, to_take};
 use crate::guest::{let_in, let_out};
-use crate::holders::Holders;
 use crate::reply::{HeldReply, done, first_name, held_line, refuse};
-use held_table::{EnterError, HolderName};
+use held_table::{EnterError, HeldTable, HolderName};
 use modprobe::{Code, Reply, Setup};
-use seq_table::Modules;
 use std::alloc::{AllocError, Global};
 
 /// A holder takes a reference to each of these modules, or to none. A new one comes in first.
 #[tactic(auto, using(crate::proofs::SlotLemmas::modules_of_length))]
-fn take_as<H: Holders>(
+fn take_as(
     setup: &Setup,
-    holders: &mut H,
+    holders: &mut HeldTable,
     holder: HolderName,
     slots: &[usize],
 ) -> Result<(), TakeError>
-    requires over { H.catalogue holders.old ≡ modules_of setup.now.catalogue }
+    requires over { holders.old.catalogue ≡ modules_of setup.now.catalogue }
     requires slots { All (λ slot. slot < length setup.now.catalogue) slots.now }
-    ensures below { OnOk result (nat_lt (number_of (H.names holders.old) (name_bytes holder)) (length (entered (holding (H.table holders.old) (H.names holders.old)) (name_bytes holder)).table.rows) ≡ true) }
-    ensures table { OnOk result (gets setup.now (number_of (H.names holders.old) (name_bytes holder)) slots.now (entered (holding (H.table holders.old) (H.names holders.old)) (name_bytes holder)).table ≡ (None, H.table holders.new)) }
-    ensures names { OnOk result (H.names holders.new ≡ (entered (holding (H.table holders.old) (H.names holders.old)) (name_bytes holder)).names) }
-    ensures refused { IfErr result (λ e. TellsTaking setup.now e (number_of (H.names holders.old) (name_bytes holder)) (entered (holding (H.table holders.old) (H.names holders.old)) (name_bytes holder)) slots.now) }
+    ensures below { OnOk result (nat_lt (number_of holders.old.held.names (name_bytes holder)) (length (entered holders.old.held (name_bytes holder)).table.rows) ≡ true) }
+    ensures table { OnOk result (gets setup.now (number_of holders.old.held.names (name_bytes holder)) slots.now (entered holders.old.held (name_bytes holder)).table ≡ (None, holders.new.held.table)) }
+    ensures names { OnOk result (holders.new.held.names ≡ (entered holders.old.held (name_bytes holder)).names) }
+    ensures refused { IfErr result (λ e. TellsTaking setup.now e (number_of holders.old.held.names (name_bytes holder)) (entered holders.old.held (name_bytes holder)) slots.now) }
     ensures within { IfErr result (λ e. IsWithin setup.now e) }
-    ensures unchanged { OnErr result (holding (H.table holders.new) (H.names holders.new) ≡ holding (H.table holders.old) (H.names holders.old)) }
-    ensures over { H.catalogue holders.new ≡ H.catalogue holders.old }
+    ensures unchanged { OnErr result (holders.new.held ≡ holders.old.held) }
+    ensures over { holders.new.catalogue ≡ holders.old.catalogue }
 {
     let guest = match let_in(holders, holder) {
         Ok(guest) => guest,
@@ -71,19 +68,19 @@ fn tell(
 }
 
 /// `get HOLDER NAME`: a holder takes a reference to the module of a slot.
-pub(crate) fn get<H: Holders>(
+pub(crate) fn get(
     alloc: Global,
     setup: &Setup,
-    holders: &mut H,
+    holders: &mut HeldTable,
     holder: HolderName,
     slot: usize,
 ) -> Result<HeldReply, AllocError>
-    requires over { H.catalogue holders.old ≡ modules_of setup.now.catalogue }
+    requires over { holders.old.catalogue ≡ modules_of setup.now.catalogue }
     requires slot { slot < length setup.now.catalogue }
-    ensures answers { IfOk result (λ r. Answers r (holding (H.table holders.old) (H.names holders.old)) (holding (H.table holders.new) (H.names holders.new))
-        (refer_at setup.now (holding (H.table holders.old) (H.names holders.old)) references.Get (name_bytes holder) slot)) }
-    ensures unchanged { OnErr result (holding (H.table holders.new) (H.names holders.new) ≡ holding (H.table holders.old) (H.names holders.old)) }
-    ensures over { H.catalogue holders.new ≡ H.catalogue holders.old }
+    ensures answers { IfOk result (λ r. Answers r holders.old.held holders.new.held
+        (refer_at setup.now holders.old.held references.Get (name_bytes holder) slot)) }
+    ensures unchanged { OnErr result (holders.new.held ≡ holders.old.held) }
+    ensures over { holders.new.catalogue ≡ holders.old.catalogue }
 {
     let reply = done(alloc)?;
     let slots = [slot];
@@ -98,21 +95,21 @@ pub(crate) fn get<H: Holders>(
 
 /// A holder takes a reference to each of these modules, or to each that it does not hold; or it takes none.
 #[tactic(auto, using(crate::proofs::SlotLemmas::modules_of_length))]
-fn hold_each<H: Holders>(
+fn hold_each(
     alloc: Global,
     setup: &Setup,
-    holders: &mut H,
+    holders: &mut HeldTable,
     again: bool,
     holder: HolderName,
     slots: &[usize],
 ) -> Result<HeldReply, AllocError>
-    requires over { H.catalogue holders.old ≡ modules_of setup.now.catalogue }
+    requires over { holders.old.catalogue ≡ modules_of setup.now.catalogue }
     requires slots { All (λ slot. slot < length setup.now.catalogue) slots.now }
-    ensures answers { IfOk result (λ r. Answers r (holding (H.table holders.old) (H.names holders.old)) (holding (H.table holders.new) (H.names holders.new))
-        (hold_outcome setup.now (holding (H.table holders.old) (H.names holders.old)) (name_bytes holder) slots.now
-        (to_take again (number_of (H.names holders.old) (name_bytes holder)) (H.table holders.old) slots.now))) }
-    ensures unchanged { OnErr result (holding (H.table holders.new) (H.names holders.new) ≡ holding (H.table holders.old) (H.names holders.old)) }
-    ensures over { H.catalogue holders.new ≡ H.catalogue holders.old }
+    ensures answers { IfOk result (λ r. Answers r holders.old.held holders.new.held
+        (hold_outcome setup.now holders.old.held (name_bytes holder) slots.now
+        (to_take again (number_of holders.old.held.names (name_bytes holder)) holders.old.held.table slots.now))) }
+    ensures unchanged { OnErr result (holders.new.held ≡ holders.old.held) }
+    ensures over { holders.new.catalogue ≡ holders.old.catalogue }
 {
     holders.holder_laws();
     let number = holders.number(&holder);
@@ -126,20 +123,20 @@ fn hold_each<H: Holders>(
 }
 
 /// `hold HOLDER NAME..`: the modules are those that are found for the words.
-pub(crate) fn hold<H: Holders>(
+pub(crate) fn hold(
     alloc: Global,
     setup: &Setup,
-    holders: &mut H,
+    holders: &mut HeldTable,
     again: bool,
     holder: HolderName,
     words: &[&[u8]],
 ) -> Result<HeldReply, AllocError>
-    requires over { H.catalogue holders.old ≡ modules_of setup.now.catalogue }
-    ensures answers { IfOk result (λ r. Answers r (holding (H.table holders.old) (H.names holders.old)) (holding (H.table holders.new) (H.names holders.new))
-        (by_found (holding (H.table holders.old) (H.names holders.old)) (λ slots. hold_outcome setup.now (holding (H.table holders.old) (H.names holders.old)) (name_bytes holder) slots
-        (to_take again (number_of (H.names holders.old) (name_bytes holder)) (H.table holders.old) slots)) (found_for setup.now (texts_of words.now)))) }
-    ensures unchanged { OnErr result (holding (H.table holders.new) (H.names holders.new) ≡ holding (H.table holders.old) (H.names holders.old)) }
-    ensures over { H.catalogue holders.new ≡ H.catalogue holders.old }
+    requires over { holders.old.catalogue ≡ modules_of setup.now.catalogue }
+    ensures answers { IfOk result (λ r. Answers r holders.old.held holders.new.held
+        (by_found holders.old.held (λ slots. hold_outcome setup.now holders.old.held (name_bytes holder) slots
+        (to_take again (number_of holders.old.held.names (name_bytes holder)) holders.old.held.table slots)) (found_for setup.now (texts_of words.now)))) }
+    ensures unchanged { OnErr result (holders.new.held ≡ holders.old.held) }
+    ensures over { holders.new.catalogue ≡ holders.old.catalogue }
 {
     match found_for(alloc, setup, words) {
         Ok(slots) => hold_each(alloc, setup, holders, again, holder, &slots),

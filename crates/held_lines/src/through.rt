@@ -2,17 +2,15 @@
 ghost use Rattle.std.specs.Prelude.{◌≡◌, true, false, IfOk, OnOk, OnErr};
 ghost use Rattle.dep_index.specs.Catalogue.{modules_of};
 ghost use Rattle.modprobe.specs.Session.{half_outcome, line_outcome};
-ghost use Rattle.held_lines.specs.Held.{holding};
 ghost use Rattle.held_lines.specs.Lines.{as_session, asked_of};
 ghost use Rattle.held_lines.specs.Outcomes.{on_table};
 ghost use Rattle.held_lines.specs.ForProofs.{Answers};
 ghost use Rattle.held_lines.specs.declared.through.Watch.TheVariants.{Changes};
 
 use crate::book_copy::BookCopy;
-use crate::holders::Holders;
 use crate::reply::HeldReply;
+use held_table::HeldTable;
 use modprobe::{Half, Reply, Session, Setup};
-use seq_table::Modules;
 use std::alloc::{AllocError, Global};
 use text_parts::Name;
 
@@ -34,37 +32,37 @@ fn unwatched(reply: Reply) -> HeldReply
 }
 
 /// What a session replies to a line, which it makes. The holders stay.
-pub(crate) fn reply_to<H: Holders>(
+pub(crate) fn reply_to(
     alloc: Global,
     setup: &Setup,
-    holders: &mut H,
+    holders: &mut HeldTable,
     line: &[u8],
 ) -> Result<Reply, AllocError>
-    requires { H.catalogue holders.old ≡ modules_of setup.now.catalogue }
-    ensures says { IfOk result (λ reply. reply ≡ (line_outcome setup.now (H.table holders.old) line.now).0) }
-    ensures table { OnOk result (H.table holders.new ≡ (line_outcome setup.now (H.table holders.old) line.now).1) }
-    ensures names { OnOk result (H.names holders.new ≡ H.names holders.old) }
-    ensures unchanged { OnErr result (holding (H.table holders.new) (H.names holders.new) ≡ holding (H.table holders.old) (H.names holders.old)) }
-    ensures over { H.catalogue holders.new ≡ H.catalogue holders.old }
+    requires { holders.old.catalogue ≡ modules_of setup.now.catalogue }
+    ensures says { IfOk result (λ reply. reply ≡ (line_outcome setup.now holders.old.held.table line.now).0) }
+    ensures table { OnOk result (holders.new.held.table ≡ (line_outcome setup.now holders.old.held.table line.now).1) }
+    ensures names { OnOk result (holders.new.held.names ≡ holders.old.held.names) }
+    ensures unchanged { OnErr result (holders.new.held ≡ holders.old.held) }
+    ensures over { holders.new.catalogue ≡ holders.old.catalogue }
 {
     Session::new(setup, holders).reply(alloc, line)
 }
 
 /// What a session answers to a line.
-pub(crate) fn as_session<H: Holders>(
+pub(crate) fn as_session(
     alloc: Global,
     setup: &Setup,
-    holders: &mut H,
+    holders: &mut HeldTable,
     line: &[u8],
     watch: Watch,
 ) -> Result<HeldReply, AllocError>
-    requires over { H.catalogue holders.old ≡ modules_of setup.now.catalogue }
+    requires over { holders.old.catalogue ≡ modules_of setup.now.catalogue }
     requires asked { asked_of line.now ≡ as_session }
-    ensures answers { IfOk result (λ r. Answers r (holding (H.table holders.old) (H.names holders.old)) (holding (H.table holders.new) (H.names holders.new))
-        (on_table (holding (H.table holders.old) (H.names holders.old)) (line_outcome setup.now (H.table holders.old) line.now))) }
-    ensures idle { watch ≡ Changes → IfOk result (λ r. (line_outcome setup.now (H.table holders.old) line.now).1 ≡ H.table holders.old → r.changed ≡ false) }
-    ensures unchanged { OnErr result (holding (H.table holders.new) (H.names holders.new) ≡ holding (H.table holders.old) (H.names holders.old)) }
-    ensures over { H.catalogue holders.new ≡ H.catalogue holders.old }
+    ensures answers { IfOk result (λ r. Answers r holders.old.held holders.new.held
+        (on_table holders.old.held (line_outcome setup.now holders.old.held.table line.now))) }
+    ensures idle { watch ≡ Changes → IfOk result (λ r. (line_outcome setup.now holders.old.held.table line.now).1 ≡ holders.old.held.table → r.changed ≡ false) }
+    ensures unchanged { OnErr result (holders.new.held ≡ holders.old.held) }
+    ensures over { holders.new.catalogue ≡ holders.old.catalogue }
 {
     match watch {
         Watch::Changes => {
@@ -81,38 +79,38 @@ pub(crate) fn as_session<H: Holders>(
 }
 
 /// What a session replies to half of a load or of a removal, which it makes. The holders stay.
-pub(crate) fn reply_to_half<H: Holders>(
+pub(crate) fn reply_to_half(
     alloc: Global,
     setup: &Setup,
-    holders: &mut H,
+    holders: &mut HeldTable,
     half: Half,
     name: &Name,
 ) -> Result<Reply, AllocError>
-    requires { H.catalogue holders.old ≡ modules_of setup.now.catalogue }
-    ensures says { IfOk result (λ reply. reply ≡ (half_outcome setup.now name.now half (H.table holders.old)).0) }
-    ensures table { OnOk result (H.table holders.new ≡ (half_outcome setup.now name.now half (H.table holders.old)).1) }
-    ensures names { OnOk result (H.names holders.new ≡ H.names holders.old) }
-    ensures unchanged { OnErr result (holding (H.table holders.new) (H.names holders.new) ≡ holding (H.table holders.old) (H.names holders.old)) }
-    ensures over { H.catalogue holders.new ≡ H.catalogue holders.old }
+    requires { holders.old.catalogue ≡ modules_of setup.now.catalogue }
+    ensures says { IfOk result (λ reply. reply ≡ (half_outcome setup.now name.now half holders.old.held.table).0) }
+    ensures table { OnOk result (holders.new.held.table ≡ (half_outcome setup.now name.now half holders.old.held.table).1) }
+    ensures names { OnOk result (holders.new.held.names ≡ holders.old.held.names) }
+    ensures unchanged { OnErr result (holders.new.held ≡ holders.old.held) }
+    ensures over { holders.new.catalogue ≡ holders.old.catalogue }
 {
     Session::new(setup, holders).make_half(alloc, name, half)
 }
 
 /// Half of a load or of a removal of the module of a name.
-pub(crate) fn make_half<H: Holders>(
+pub(crate) fn make_half(
     alloc: Global,
     setup: &Setup,
-    holders: &mut H,
+    holders: &mut HeldTable,
     half: Half,
     name: &Name,
     watch: Watch,
 ) -> Result<HeldReply, AllocError>
-    requires over { H.catalogue holders.old ≡ modules_of setup.now.catalogue }
-    ensures answers { IfOk result (λ r. Answers r (holding (H.table holders.old) (H.names holders.old)) (holding (H.table holders.new) (H.names holders.new))
-        (on_table (holding (H.table holders.old) (H.names holders.old)) (half_outcome setup.now name.now half (H.table holders.old)))) }
-    ensures idle { watch ≡ Changes → IfOk result (λ r. (half_outcome setup.now name.now half (H.table holders.old)).1 ≡ H.table holders.old → r.changed ≡ false) }
-    ensures unchanged { OnErr result (holding (H.table holders.new) (H.names holders.new) ≡ holding (H.table holders.old) (H.names holders.old)) }
-    ensures over { H.catalogue holders.new ≡ H.catalogue holders.old }
+    requires over { holders.old.catalogue ≡ modules_of setup.now.catalogue }
+    ensures answers { IfOk result (λ r. Answers r holders.old.held holders.new.held
+        (on_table holders.old.held (half_outcome setup.now name.now half holders.old.held.table))) }
+    ensures idle { watch ≡ Changes → IfOk result (λ r. (half_outcome setup.now name.now half holders.old.held.table).1 ≡ holders.old.held.table → r.changed ≡ false) }
+    ensures unchanged { OnErr result (holders.new.held ≡ holders.old.held) }
+    ensures over { holders.new.catalogue ≡ holders.old.catalogue }
 {
     match watch {
         Watch::Changes => {

@@ -1,11 +1,9 @@
 //! Journals that are rewritten as the lines of their table.
 ghost use Rattle.std.specs.Prelude.{◌≡◌, OnOk};
 ghost use Rattle.durable_table.specs.Durable.{Stands};
-ghost use Rattle.tenures.specs.Steps.{held_of};
 
 use crate::support::{are_answered, compacted, make, new_table, opened};
 use durable_table::DurableTable;
-use held_table::HeldTable;
 use line_journal::{Device, KillOnly};
 use modprobe::Setup;
 use std::alloc::Global;
@@ -62,11 +60,11 @@ error NOTLIVE soundcore
 
 /// Fills a table with all states, and compacts its journal.
 fn fill<D: Device>(
-    table: &mut DurableTable<'_, HeldTable, D>,
+    table: &mut DurableTable<'_, D>,
     alloc: Global,
     setup: &Setup,
 ) -> Result<(), Fail>
-    requires stands { Stands D.content D.history table.old.session.setup.now (held_of table.old.session.holders) table.old.journal }
+    requires stands { Stands D.content D.history table.old.session.setup.now table.old.session.holders.held table.old.journal }
     requires setup { table.old.session.setup.now ≡ setup.now }
 {
     are_answered(table, alloc, LINES, b"")?;
@@ -89,12 +87,9 @@ pub(crate) fn is_compacted(alloc: Global, setup: &Setup) -> Result<bool, Fail> {
 }
 
 /// Makes a line that is as long as many.
-fn lengthen<D: Device>(
-    table: &mut DurableTable<'_, HeldTable, D>,
-    alloc: Global,
-) -> Result<(), Fail>
-    requires { Stands D.content D.history table.old.session.setup.now (held_of table.old.session.holders) table.old.journal }
-    ensures stands { OnOk result (Stands D.content D.history table.new.session.setup.now (held_of table.new.session.holders) table.new.journal) }
+fn lengthen<D: Device>(table: &mut DurableTable<'_, D>, alloc: Global) -> Result<(), Fail>
+    requires { Stands D.content D.history table.old.session.setup.now table.old.session.holders.held table.old.journal }
+    ensures stands { OnOk result (Stands D.content D.history table.new.session.setup.now table.new.session.holders.held table.new.journal) }
     ensures setup { table.new.session.setup ≡ table.old.session.setup }
 {
     let mut line = b"insmod loop".to_vec(alloc)?;
@@ -104,11 +99,11 @@ fn lengthen<D: Device>(
 
 /// Whether a journal gets long, and is not when it is compacted.
 fn shortens<D: Device>(
-    table: &mut DurableTable<'_, HeldTable, D>,
+    table: &mut DurableTable<'_, D>,
     alloc: Global,
     setup: &Setup,
 ) -> Result<bool, Fail>
-    requires stands { Stands D.content D.history table.old.session.setup.now (held_of table.old.session.holders) table.old.journal }
+    requires stands { Stands D.content D.history table.old.session.setup.now table.old.session.holders.held table.old.journal }
     requires setup { table.old.session.setup.now ≡ setup.now }
 {
     lengthen(table, alloc)?;

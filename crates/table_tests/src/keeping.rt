@@ -1,7 +1,6 @@
 //! A table that a process keeps while others use its journal.
 ghost use Rattle.std.specs.Prelude.{◌≡◌, IfOk, OnOk};
 ghost use Rattle.durable_table.specs.Durable.{Reads, Stands};
-ghost use Rattle.tenures.specs.Steps.{held_of};
 
 use crate::folders::{Disk, create_in, folder, open_in};
 use crate::support::{
@@ -9,7 +8,6 @@ use crate::support::{
 };
 use durable_table::{CaughtUp, DurableTable, ReadTable, create, open_reading};
 use file_journal::Syncs;
-use held_table::HeldTable;
 use line_journal::{Device, KillOnly, Renewable, are_lines};
 use modprobe::Setup;
 use std::alloc::Global;
@@ -21,8 +19,8 @@ fn table_read<'s, D: Device + Drop>(
     alloc: Global,
     setup: &'s Setup,
     device: D,
-) -> Result<DurableTable<'s, HeldTable, D>, Fail>
-    ensures reads { IfOk result (λ made. Reads D.content setup.now (held_of made.session.holders) made.journal) }
+) -> Result<DurableTable<'s, D>, Fail>
+    ensures reads { IfOk result (λ made. Reads D.content setup.now made.session.holders.held made.journal) }
     ensures setup { IfOk result (λ made. made.session.setup.now ≡ setup.now) }
 {
     let holders = fresh(alloc, setup)?;
@@ -34,12 +32,9 @@ fn table_read<'s, D: Device + Drop>(
 }
 
 /// Brings a table up to its journal.
-fn catch_up<D: Renewable>(
-    table: &mut DurableTable<'_, HeldTable, D>,
-    alloc: Global,
-) -> Result<(), Fail>
-    requires { Reads D.content table.old.session.setup.now (held_of table.old.session.holders) table.old.journal }
-    ensures reads { OnOk result (Reads D.content table.new.session.setup.now (held_of table.new.session.holders) table.new.journal) }
+fn catch_up<D: Renewable>(table: &mut DurableTable<'_, D>, alloc: Global) -> Result<(), Fail>
+    requires { Reads D.content table.old.session.setup.now table.old.session.holders.held table.old.journal }
+    ensures reads { OnOk result (Reads D.content table.new.session.setup.now table.new.session.holders.held table.new.journal) }
     ensures setup { table.new.session.setup ≡ table.old.session.setup }
 {
     match table.catch_up(alloc)? {
@@ -50,7 +45,7 @@ fn catch_up<D: Renewable>(
 
 /// Whether lines that ask have these replies.
 fn are_asked<D: Device>(
-    table: &mut DurableTable<'_, HeldTable, D>,
+    table: &mut DurableTable<'_, D>,
     alloc: Global,
     text: &[u8],
     wanted: &[u8],
@@ -88,13 +83,13 @@ pub(crate) fn answers_questions(alloc: Global, setup: &Setup) -> Result<bool, Fa
 #[tactic(auto, using(durable_table::proofs::KeptLemmas::stands_reads))]
 fn take_turns<D: Renewable>(
     alloc: Global,
-    kept: &mut DurableTable<'_, HeldTable, D>,
-    other: &mut DurableTable<'_, HeldTable, D>,
+    kept: &mut DurableTable<'_, D>,
+    other: &mut DurableTable<'_, D>,
 ) -> Result<bool, Fail>
-    requires kept { Reads D.content kept.old.session.setup.now (held_of kept.old.session.holders) kept.old.journal }
-    requires other { Stands D.content D.history other.old.session.setup.now (held_of other.old.session.holders) other.old.journal }
-    ensures kept { OnOk result (Reads D.content kept.new.session.setup.now (held_of kept.new.session.holders) kept.new.journal) }
-    ensures other { OnOk result (Stands D.content D.history other.new.session.setup.now (held_of other.new.session.holders) other.new.journal) }
+    requires kept { Reads D.content kept.old.session.setup.now kept.old.session.holders.held kept.old.journal }
+    requires other { Stands D.content D.history other.old.session.setup.now other.old.session.holders.held other.old.journal }
+    ensures kept { OnOk result (Reads D.content kept.new.session.setup.now kept.new.session.holders.held kept.new.journal) }
+    ensures other { OnOk result (Stands D.content D.history other.new.session.setup.now other.new.session.holders.held other.new.journal) }
     ensures setup { other.new.session.setup ≡ other.old.session.setup }
 {
     hold_floppy(other, alloc)?;
@@ -111,11 +106,11 @@ fn take_turns<D: Renewable>(
 fn take_turns_until_anew<D: Renewable>(
     alloc: Global,
     setup: &Setup,
-    kept: &mut DurableTable<'_, HeldTable, D>,
-    other: &mut DurableTable<'_, HeldTable, D>,
+    kept: &mut DurableTable<'_, D>,
+    other: &mut DurableTable<'_, D>,
 ) -> Result<bool, Fail>
-    requires kept { Reads D.content kept.old.session.setup.now (held_of kept.old.session.holders) kept.old.journal }
-    requires other { Stands D.content D.history other.old.session.setup.now (held_of other.old.session.holders) other.old.journal }
+    requires kept { Reads D.content kept.old.session.setup.now kept.old.session.holders.held kept.old.journal }
+    requires other { Stands D.content D.history other.old.session.setup.now other.old.session.holders.held other.old.journal }
     requires setup { other.old.session.setup.now ≡ setup.now }
 {
     let is_right = take_turns(alloc, kept, other)?;
@@ -128,9 +123,9 @@ fn keep_beside<D: Renewable + Drop>(
     alloc: Global,
     setup: &Setup,
     device: D,
-    other: &mut DurableTable<'_, HeldTable, D>,
+    other: &mut DurableTable<'_, D>,
 ) -> Result<bool, Fail>
-    requires other { Stands D.content D.history other.old.session.setup.now (held_of other.old.session.holders) other.old.journal }
+    requires other { Stands D.content D.history other.old.session.setup.now other.old.session.holders.held other.old.journal }
     requires setup { other.old.session.setup.now ≡ setup.now }
 {
     let mut kept = table_read(alloc, setup, device)?;

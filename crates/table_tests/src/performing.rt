@@ -1,22 +1,17 @@
 //! Lines that are performed, one by one and as a group.
 ghost use Rattle.std.specs.Prelude.{◌≡◌, OnOk};
 ghost use Rattle.durable_table.specs.Durable.{Stands};
-ghost use Rattle.tenures.specs.Steps.{held_of};
 
 use crate::support::{are_answered, is_answered, make, new_table, opened};
 use durable_table::DurableTable;
-use held_table::HeldTable;
 use line_journal::{Device, KillOnly};
 use modprobe::Setup;
 use std::alloc::Global;
 use std::test::Fail;
 
 /// A module is loaded with the one that it needs, and both are held.
-fn hold_both<D: Device>(
-    table: &mut DurableTable<'_, HeldTable, D>,
-    alloc: Global,
-) -> Result<(), Fail>
-    requires { Stands D.content D.history table.old.session.setup.now (held_of table.old.session.holders) table.old.journal }
+fn hold_both<D: Device>(table: &mut DurableTable<'_, D>, alloc: Global) -> Result<(), Fail>
+    requires { Stands D.content D.history table.old.session.setup.now table.old.session.holders.held table.old.journal }
 {
     make(table, alloc, b"modprobe snd-pcm")?;
     make(table, alloc, b"hold web17 snd-pcm snd")

@@ -4,7 +4,6 @@ ghost use Rattle.dep_index.specs.Catalogue.{modules_of};
 ghost use Rattle.line_journal.specs.KillOnly.{held_by, history_of};
 ghost use Rattle.durable_table.specs.Durable.{Stands};
 ghost use Rattle.durable_table.specs.Tables.{opening_of};
-ghost use Rattle.tenures.specs.Steps.{held_of};
 
 use durable_table::{Compacted, DurableTable, OpenedTable, create, open};
 use held_lines::HeldReply;
@@ -35,7 +34,7 @@ pub(crate) fn setup(alloc: Global) -> Result<Setup, Fail> {
 /// A table of holders of which none is there.
 pub(crate) fn fresh(alloc: Global, setup: &Setup) -> Result<HeldTable, Fail>
     ensures over { IfOk result (λ made. made.catalogue ≡ modules_of setup.now.catalogue) }
-    ensures opening { IfOk result (λ made. held_of made ≡ opening_of setup.now) }
+    ensures opening { IfOk result (λ made. made.held ≡ opening_of setup.now) }
 {
     Ok(HeldTable::new(alloc, setup.catalogue().slots(alloc)?)?)
 }
@@ -45,8 +44,8 @@ pub(crate) fn opened<'s, D: Device + Drop>(
     alloc: Global,
     setup: &'s Setup,
     device: D,
-) -> Result<DurableTable<'s, HeldTable, D>, Fail>
-    ensures stands { IfOk result (λ made. Stands D.content D.history setup.now (held_of made.session.holders) made.journal) }
+) -> Result<DurableTable<'s, D>, Fail>
+    ensures stands { IfOk result (λ made. Stands D.content D.history setup.now made.session.holders.held made.journal) }
     ensures setup { IfOk result (λ made. made.session.setup.now ≡ setup.now) }
 {
     let holders = fresh(alloc, setup)?;
@@ -61,8 +60,8 @@ pub(crate) fn opened<'s, D: Device + Drop>(
 pub(crate) fn new_table<'s>(
     alloc: Global,
     setup: &'s Setup,
-) -> Result<DurableTable<'s, HeldTable, KillOnly>, Fail>
-    ensures stands { IfOk result (λ made. Stands held_by history_of setup.now (held_of made.session.holders) made.journal) }
+) -> Result<DurableTable<'s, KillOnly>, Fail>
+    ensures stands { IfOk result (λ made. Stands held_by history_of setup.now made.session.holders.held made.journal) }
     ensures setup { IfOk result (λ made. made.session.setup.now ≡ setup.now) }
 {
     let mut file = KillOnly::new(alloc, Vec::new(alloc));
@@ -83,13 +82,13 @@ pub(crate) fn lines_of(alloc: Global, text: &[u8]) -> Result<Vec<Vec<u8>>, Fail>
 
 /// Makes what a line asks for. Whether this is the reply.
 pub(crate) fn is_answered<D: Device>(
-    table: &mut DurableTable<'_, HeldTable, D>,
+    table: &mut DurableTable<'_, D>,
     alloc: Global,
     line: &[u8],
     wanted: &[u8],
 ) -> Result<bool, Fail>
-    requires { Stands D.content D.history table.old.session.setup.now (held_of table.old.session.holders) table.old.journal }
-    ensures stands { OnOk result (Stands D.content D.history table.new.session.setup.now (held_of table.new.session.holders) table.new.journal) }
+    requires { Stands D.content D.history table.old.session.setup.now table.old.session.holders.held table.old.journal }
+    ensures stands { OnOk result (Stands D.content D.history table.new.session.setup.now table.new.session.holders.held table.new.journal) }
     ensures setup { table.new.session.setup ≡ table.old.session.setup }
 {
     if !is_line(line) {
@@ -101,12 +100,12 @@ pub(crate) fn is_answered<D: Device>(
 
 /// Makes what a line asks for, whatever the reply is.
 pub(crate) fn make<D: Device>(
-    table: &mut DurableTable<'_, HeldTable, D>,
+    table: &mut DurableTable<'_, D>,
     alloc: Global,
     line: &[u8],
 ) -> Result<(), Fail>
-    requires { Stands D.content D.history table.old.session.setup.now (held_of table.old.session.holders) table.old.journal }
-    ensures stands { OnOk result (Stands D.content D.history table.new.session.setup.now (held_of table.new.session.holders) table.new.journal) }
+    requires { Stands D.content D.history table.old.session.setup.now table.old.session.holders.held table.old.journal }
+    ensures stands { OnOk result (Stands D.content D.history table.new.session.setup.now table.new.session.holders.held table.new.journal) }
     ensures setup { table.new.session.setup ≡ table.old.session.setup }
 {
     is_answered(table, alloc, line, b"")?;
@@ -127,13 +126,13 @@ pub(crate) fn are_texts(replies: &[HeldReply], wanted: &[u8]) -> bool {
 
 /// Makes what the lines of a text ask for, as one group. Whether these are the texts of the replies.
 pub(crate) fn are_answered<D: Device>(
-    table: &mut DurableTable<'_, HeldTable, D>,
+    table: &mut DurableTable<'_, D>,
     alloc: Global,
     text: &[u8],
     wanted: &[u8],
 ) -> Result<bool, Fail>
-    requires { Stands D.content D.history table.old.session.setup.now (held_of table.old.session.holders) table.old.journal }
-    ensures stands { OnOk result (Stands D.content D.history table.new.session.setup.now (held_of table.new.session.holders) table.new.journal) }
+    requires { Stands D.content D.history table.old.session.setup.now table.old.session.holders.held table.old.journal }
+    ensures stands { OnOk result (Stands D.content D.history table.new.session.setup.now table.new.session.holders.held table.new.journal) }
     ensures setup { table.new.session.setup ≡ table.old.session.setup }
 {
     let lines = lines_of(alloc, text)?;
@@ -146,11 +145,11 @@ pub(crate) fn are_answered<D: Device>(
 
 /// A module is loaded, and a holder holds it.
 pub(crate) fn hold_floppy<D: Device>(
-    table: &mut DurableTable<'_, HeldTable, D>,
+    table: &mut DurableTable<'_, D>,
     alloc: Global,
 ) -> Result<(), Fail>
-    requires { Stands D.content D.history table.old.session.setup.now (held_of table.old.session.holders) table.old.journal }
-    ensures stands { OnOk result (Stands D.content D.history table.new.session.setup.now (held_of table.new.session.holders) table.new.journal) }
+    requires { Stands D.content D.history table.old.session.setup.now table.old.session.holders.held table.old.journal }
+    ensures stands { OnOk result (Stands D.content D.history table.new.session.setup.now table.new.session.holders.held table.new.journal) }
     ensures setup { table.new.session.setup ≡ table.old.session.setup }
 {
     make(table, alloc, b"modprobe floppy")?;
@@ -159,13 +158,13 @@ pub(crate) fn hold_floppy<D: Device>(
 
 /// The journal is compacted.
 pub(crate) fn compacted<D: Device>(
-    table: &mut DurableTable<'_, HeldTable, D>,
+    table: &mut DurableTable<'_, D>,
     alloc: Global,
     setup: &Setup,
 ) -> Result<(), Fail>
-    requires stands { Stands D.content D.history table.old.session.setup.now (held_of table.old.session.holders) table.old.journal }
+    requires stands { Stands D.content D.history table.old.session.setup.now table.old.session.holders.held table.old.journal }
     requires setup { table.old.session.setup.now ≡ setup.now }
-    ensures stands { OnOk result (Stands D.content D.history table.new.session.setup.now (held_of table.new.session.holders) table.new.journal) }
+    ensures stands { OnOk result (Stands D.content D.history table.new.session.setup.now table.new.session.holders.held table.new.journal) }
     ensures setup { table.new.session.setup ≡ table.old.session.setup }
 {
     let holders = fresh(alloc, setup)?;

@@ -4,9 +4,8 @@ use Rattle.line_journal.specs.Device.{History, AlwaysLeaves}
 use Rattle.line_journal.specs.Lines.{bytes_of, AreLines}
 use Rattle.modprobe.specs.Setup.{Setup}
 use Rattle.modprobe.specs.Outcomes.{Outcome}
-use Rattle.held_table.specs.Held.{Held, HeldOver}
+use Rattle.held_table.specs.Held.{Held}
 use Rattle.held_lines.specs.declared.reply.HeldReply.{HeldReply}
-use Rattle.held_lines.specs.Held.{holding}
 use Rattle.held_lines.specs.Outcomes.{after}
 use Rattle.durable_table.specs.Durable.{FileStands}
 use Rattle.durable_table.specs.Groups.{replies_of, KeepsHeldAlong}
@@ -26,10 +25,6 @@ groups_of steps = map commands_of steps
 -- each command of each step is a line
 abbrev pub AreSteps : List Step → Type 0
 AreSteps steps = All (λ step. AreLines (commands_of step)) steps
-
--- a table with its holders
-abbrev pub held_of : HeldOver → Held
-held_of t = holding t.held.table t.held.names
 
 -- the outcomes that replies tell
 abbrev pub outcomes_of : List HeldReply → List Outcome

@@ -7,7 +7,7 @@ ghost use Rattle.durable_table.specs.Tables.{opening_of};
 ghost use Rattle.durable_table.specs.Durable.{Stands, FileStands};
 ghost use Rattle.tenures.specs.declared.ending.Stopped.TheVariants.{CutOff, NoTable};
 ghost use Rattle.tenures.specs.Endings.{cut_offs_in, failures_in};
-ghost use Rattle.tenures.specs.Steps.{commands_of, held_of, outcomes_of, HasBegun, IsMade, IsMadeWhole};
+ghost use Rattle.tenures.specs.Steps.{commands_of, outcomes_of, HasBegun, IsMade, IsMadeWhole};
 
 use crate::ending::{Stopped, stopped_by};
 use crate::outside::World;
@@ -22,7 +22,7 @@ use std::alloc::{AllocError, Global};
 /// The table of a process that has opened nothing yet.
 pub(crate) fn empty_table(alloc: Global, setup: &Setup) -> Result<HeldTable, AllocError>
     ensures over { IfOk result (λ t. t.catalogue ≡ modules_of setup.now.catalogue) }
-    ensures opening { IfOk result (λ t. held_of t ≡ opening_of setup.now) }
+    ensures opening { IfOk result (λ t. t.held ≡ opening_of setup.now) }
 {
     HeldTable::new(alloc, setup.catalogue().slots(alloc)?)
 }
@@ -52,19 +52,19 @@ fn begin_replies<D: Device, W: World<D>>(
 /// Makes lines as one group. The reply to each is begun once `perform_all` has returned all of them.
 fn make_group<D: Device, W: World<D>>(
     alloc: Global,
-    table: &mut DurableTable<'_, HeldTable, D>,
+    table: &mut DurableTable<'_, D>,
     lines: &[Vec<u8>],
     world: &mut W,
 ) -> Result<(), Stopped>
-    requires stands { Stands D.content D.history table.old.session.setup.now (held_of table.old.session.holders) table.old.journal }
+    requires stands { Stands D.content D.history table.old.session.setup.now table.old.session.holders.held table.old.journal }
     requires lines { AreLines (bytes_of lines.now) }
     ensures past { W.past world.new ≡ W.past world.old }
     ensures file { W.found world.new ≡ W.found world.old }
-    ensures made { IsMade table.old.session.setup.now (held_of table.old.session.holders) (bytes_of lines.now) (D.history table.old.journal.device) (D.history table.new.journal.device)
+    ensures made { IsMade table.old.session.setup.now table.old.session.holders.held (bytes_of lines.now) (D.history table.old.journal.device) (D.history table.new.journal.device)
         (W.replies world.old) (W.replies world.new) (W.since world.old) (W.since world.new) }
-    ensures whole { OnOk result (IsMadeWhole table.old.session.setup.now (held_of table.old.session.holders) (held_of table.new.session.holders) (bytes_of lines.now)
+    ensures whole { OnOk result (IsMadeWhole table.old.session.setup.now table.old.session.holders.held table.new.session.holders.held (bytes_of lines.now)
         (W.replies world.old) (W.replies world.new)) }
-    ensures stands { OnOk result (Stands D.content D.history table.old.session.setup.now (held_of table.new.session.holders) table.new.journal) }
+    ensures stands { OnOk result (Stands D.content D.history table.old.session.setup.now table.new.session.holders.held table.new.journal) }
     ensures setup { table.new.session.setup ≡ table.old.session.setup }
     ensures cut_off { cut_offs_in result + W.cut_offs world.old ≡ W.cut_offs world.new }
     ensures failed { failures_in result + D.faults table.old.journal.device ≤ D.faults table.new.journal.device }
@@ -80,13 +80,13 @@ fn make_group<D: Device, W: World<D>>(
 fn compact<D: Device>(
     alloc: Global,
     setup: &Setup,
-    table: &mut DurableTable<'_, HeldTable, D>,
+    table: &mut DurableTable<'_, D>,
 ) -> Result<(), Stopped>
     requires setup { table.old.session.setup.now ≡ setup.now }
-    requires stands { Stands D.content D.history table.old.session.setup.now (held_of table.old.session.holders) table.old.journal }
-    ensures stands { OnOk result (Stands D.content D.history table.old.session.setup.now (held_of table.old.session.holders) table.new.journal) }
+    requires stands { Stands D.content D.history table.old.session.setup.now table.old.session.holders.held table.old.journal }
+    ensures stands { OnOk result (Stands D.content D.history table.old.session.setup.now table.old.session.holders.held table.new.journal) }
     ensures any_moment { AlwaysLeaves (D.history table.old.journal.device) (D.history table.new.journal.device)
-        (FileStands table.old.session.setup.now (held_of table.old.session.holders)) }
+        (FileStands table.old.session.setup.now table.old.session.holders.held) }
     ensures session { table.new.session ≡ table.old.session }
     ensures alive { cut_offs_in result ≡ 0 }
     ensures failed { failures_in result + D.faults table.old.journal.device ≤ D.faults table.new.journal.device }
@@ -105,20 +105,20 @@ fn compact<D: Device>(
 pub(crate) fn make<D: Device, W: World<D>>(
     alloc: Global,
     setup: &Setup,
-    table: &mut DurableTable<'_, HeldTable, D>,
+    table: &mut DurableTable<'_, D>,
     step: &Step,
     world: &mut W,
 ) -> Result<(), Stopped>
     requires setup { table.old.session.setup.now ≡ setup.now }
-    requires stands { Stands D.content D.history table.old.session.setup.now (held_of table.old.session.holders) table.old.journal }
+    requires stands { Stands D.content D.history table.old.session.setup.now table.old.session.holders.held table.old.journal }
     requires lines { AreLines (commands_of step.now) }
     ensures past { W.past world.new ≡ W.past world.old }
     ensures file { W.found world.new ≡ W.found world.old }
-    ensures made { IsMade table.old.session.setup.now (held_of table.old.session.holders) (commands_of step.now) (D.history table.old.journal.device) (D.history table.new.journal.device)
+    ensures made { IsMade table.old.session.setup.now table.old.session.holders.held (commands_of step.now) (D.history table.old.journal.device) (D.history table.new.journal.device)
         (W.replies world.old) (W.replies world.new) (W.since world.old) (W.since world.new) }
-    ensures whole { OnOk result (IsMadeWhole table.old.session.setup.now (held_of table.old.session.holders) (held_of table.new.session.holders) (commands_of step.now)
+    ensures whole { OnOk result (IsMadeWhole table.old.session.setup.now table.old.session.holders.held table.new.session.holders.held (commands_of step.now)
         (W.replies world.old) (W.replies world.new)) }
-    ensures stands { OnOk result (Stands D.content D.history table.old.session.setup.now (held_of table.new.session.holders) table.new.journal) }
+    ensures stands { OnOk result (Stands D.content D.history table.old.session.setup.now table.new.session.holders.held table.new.journal) }
     ensures setup { table.new.session.setup ≡ table.old.session.setup }
     ensures cut_off { cut_offs_in result + W.cut_offs world.old ≡ W.cut_offs world.new }
     ensures failed { failures_in result + D.faults table.old.journal.device ≤ D.faults table.new.journal.device }

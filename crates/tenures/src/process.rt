@@ -9,7 +9,7 @@ ghost use Rattle.durable_table.specs.Tables.{table_of};
 ghost use Rattle.tenures.specs.Tenures.{one_by_one};
 ghost use Rattle.tenures.specs.declared.ending.Stopped.TheVariants.{NoTable};
 ghost use Rattle.tenures.specs.Endings.{cut_offs_of, cut_offs_in, failures_of, failures_in, HasNoTable};
-ghost use Rattle.tenures.specs.Steps.{AreSteps, groups_of, held_of};
+ghost use Rattle.tenures.specs.Steps.{AreSteps, groups_of};
 ghost use Rattle.tenures.specs.Kept.{IsKept, IsKeptSince, LeadsTo};
 
 use crate::ending::Stopped;
@@ -17,7 +17,6 @@ use crate::making::{empty_table, make};
 use crate::outside::World;
 use crate::step::Step;
 use durable_table::{DurableTable, OpenedTable, open};
-use held_table::HeldTable;
 use line_journal::{Device, DeviceError, Repair};
 use modprobe::Setup;
 use std::alloc::Global;
@@ -28,9 +27,9 @@ fn open_table<'s, D: Device>(
     setup: &'s Setup,
     device: D,
     repair: Repair,
-) -> Result<DurableTable<'s, HeldTable, D>, (Stopped, D)>
-    ensures stands { IfOk result (λ t. Stands D.content D.history setup.now (held_of t.session.holders) t.journal) }
-    ensures found { IfOk result (λ t. table_of setup.now (D.content device) ≡ Some (held_of t.session.holders)) }
+) -> Result<DurableTable<'s, D>, (Stopped, D)>
+    ensures stands { IfOk result (λ t. Stands D.content D.history setup.now t.session.holders.held t.journal) }
+    ensures found { IfOk result (λ t. table_of setup.now (D.content device) ≡ Some t.session.holders.held) }
     ensures setup { IfOk result (λ t. t.session.setup.now ≡ setup.now) }
     ensures any_moment { IfOk result (λ t. AlwaysLeaves (D.history device) (D.history t.journal.device)
         (λ file. StandsFor (lines_of (D.content device)) file ⊎ (D.history device).leaves file)) }
@@ -59,13 +58,13 @@ fn open_table<'s, D: Device>(
 fn answer<D: Device, W: World<D>>(
     alloc: Global,
     setup: &Setup,
-    table: &mut DurableTable<'_, HeldTable, D>,
+    table: &mut DurableTable<'_, D>,
     steps: &[Step],
     world: &mut W,
 ) -> Result<(), Stopped>
     requires setup { table.old.session.setup.now ≡ setup.now }
-    requires stands { Stands D.content D.history table.old.session.setup.now (held_of table.old.session.holders) table.old.journal }
-    requires leads { (commands : List (List ℕ)) × LeadsTo table.old.session.setup.now (W.past world.old) commands (held_of table.old.session.holders) }
+    requires stands { Stands D.content D.history table.old.session.setup.now table.old.session.holders.held table.old.journal }
+    requires leads { (commands : List (List ℕ)) × LeadsTo table.old.session.setup.now (W.past world.old) commands table.old.session.holders.held }
     requires lines { AreSteps steps.now }
     requires none { W.replies world.old ≡ [] }
     requires since { W.since world.old ≤ (D.history table.old.journal.device).now }

@@ -1,27 +1,26 @@
 use Rattle.std.proofs.Common.{◌≡◌, ◌∙◌, arith, rules, ap, sym, subst, true, false, refl, ◌-◌, length, map, take, drop}
 use Rattle.line_journal.specs.Lines.{bytes_of, AreLines}
 use Rattle.held_table.specs.Held.{Held}
-use Rattle.held_lines.specs.Held.{holding}
 use Rattle.held_lines.specs.Outcomes.{after}
 use Rattle.durable_table.specs.Compacting.{journal_of, compacted}
 use Rattle.durable_table.proofs.CompactLemmas.{second_table, remade_by, other_is_same}
 use Rattle.durable_table.proofs.compaction.remake.Goals as goal
 
 pub returns-then-not-are_lines-clause-none : goal.returns-then-not-are_lines-clause-none
-returns-then-not-are_lines-clause-none g c =
+returns-then-not-are_lines-clause-none c =
     let s = c.args.session.now.setup.now in
-    let h : Held = holding (g.H.Modules.table c.args.session.now.holders) (g.H.Modules.names c.args.session.now.holders) in
+    let h : Held = c.args.session.now.holders.held in
     let lines = c.in_ok-lines.lines.items in
     let is : bytes_of lines ≡ compacted s h = c.in_ok-lines.ensures ∙ ap journal_of (ap bytes_of c.deref.ensures.value ∙ c.in_ok-snapshot.ensures) in
     let no_lines : c.are_lines.result ≡ false = search rules in
     λ can. absurd (grind (arith, no_lines, c.are_lines.ensures.1 (subst AreLines (sym is ∙ ap bytes_of (sym c.deref-3.ensures.value)) can.are_lines)))
 
 pub returns-then-not-branch-clause-none : goal.returns-then-not-branch-clause-none
-returns-then-not-branch-clause-none g c =
+returns-then-not-branch-clause-none c =
     let s = c.args.session.now.setup.now in
-    let h : Held = holding (g.H.Modules.table c.args.session.now.holders) (g.H.Modules.names c.args.session.now.holders) in
-    let other : Held = holding (g.H.Modules.table c.replay.new.session.holders) (g.H.Modules.names c.replay.new.session.holders) in
-    let fresh : Held = holding (g.H.Modules.table c.args.fresh) (g.H.Modules.names c.args.fresh) in
+    let h : Held = c.args.session.now.holders.held in
+    let other : Held = c.replay.new.session.holders.held in
+    let fresh : Held = c.args.fresh.held in
     let lines = c.in_ok-lines.lines.items in
     let is : bytes_of lines ≡ compacted s h = c.in_ok-lines.ensures ∙ ap journal_of (ap bytes_of c.deref.ensures.value ∙ c.in_ok-snapshot.ensures) in
     let from : other ≡ after s fresh (map (drop 9) (bytes_of (take (length lines - 1) (drop 1 lines)))) =
@@ -30,11 +29,11 @@ returns-then-not-branch-clause-none g c =
     λ can. absurd (grind (arith, is_other, c.in_ok-is_same.ensures.all (other_is_same s h other lines (drop 1 lines) is refl (second_table s fresh other lines c.requires.opening from) can)))
 
 pub returns-clause-made : goal.returns-clause-made
-returns-clause-made g c =
+returns-clause-made c =
     let s = c.args.session.now.setup.now in
-    let h : Held = holding (g.H.Modules.table c.args.session.now.holders) (g.H.Modules.names c.args.session.now.holders) in
-    let other : Held = holding (g.H.Modules.table c.replay.new.session.holders) (g.H.Modules.names c.replay.new.session.holders) in
-    let fresh : Held = holding (g.H.Modules.table c.args.fresh) (g.H.Modules.names c.args.fresh) in
+    let h : Held = c.args.session.now.holders.held in
+    let other : Held = c.replay.new.session.holders.held in
+    let fresh : Held = c.args.fresh.held in
     let lines = c.in_ok-lines.lines.items in
     let is : bytes_of lines ≡ compacted s h = c.in_ok-lines.ensures ∙ ap journal_of (ap bytes_of c.deref.ensures.value ∙ c.in_ok-snapshot.ensures) in
     let from : other ≡ after s fresh (map (drop 9) (bytes_of (take (length lines - 1) (drop 1 lines)))) =

@@ -2,7 +2,6 @@ use Rattle.std.proofs.Common.{◌≡◌, ◌∙◌, ◌∷◌, [], ℕ, List, So
 use Rattle.std.specs.declared.alloc.Global.{Global}
 use Rattle.line_journal.specs.Lines.{bytes_of}
 use Rattle.held_table.specs.Held.{Held}
-use Rattle.held_lines.specs.Held.{holding}
 use Rattle.line_journal.proofs.FollowLemmas.{not_at_rest}
 use Rattle.durable_table.specs.Tables.{table_in}
 use Rattle.durable_table.proofs.KeptLemmas.{table_read}
@@ -11,7 +10,7 @@ use Rattle.durable_table.proofs.opening.open_reading.Goals as goal
 pub returns-in-Ok-Table-clause-read : goal.returns-in-Ok-Table-clause-read
 returns-in-Ok-Table-clause-read g c =
     let s = c.args.setup.now in
-    let h : Held = holding (g.H.Modules.table c.in-Ok-Table.session.holders) (g.H.Modules.names c.in-Ok-Table.session.holders) in
+    let h : Held = c.in-Ok-Table.session.holders.held in
     let file = g.D.Device.content c.args.device in
     let same : g.D.Device.content c.resume-journal.result.device ≡ file = ap g.D.Device.content c.resume-journal.ensures.device ∙ c.in-Ok.ensures.content in
     let shut : c.in-Ok.found.behind.items ≡ 32 ∷ [] = c.is_at_rest.ensures.0 (search rules) in

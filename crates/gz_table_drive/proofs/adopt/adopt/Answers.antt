@@ -1,6 +1,5 @@
 use Rattle.std.proofs.Common.{◌≡◌, ◌∙◌, ap, subst, ℕ, List, Ok}
 use Rattle.modprobe.specs.Setup.{Setup}
-use Rattle.held_lines.specs.Held.{holding}
 use Rattle.table_adopt.specs.Kernel.{modules_of_text}
 use Rattle.table_adopt.specs.declared.kernel.KernelModule.{KernelModule}
 use Rattle.gz_table_drive.specs.Adopting.{HasAdopted}
@@ -12,7 +11,7 @@ pub returns : goal.returns
 returns g c =
     let found = c.in_ok-setup.setup.value in
     let table = c.in_ok-table.table in
-    let held = holding table.session.holders.held.table table.session.holders.held.names in
+    let held = table.session.holders.held in
     let kernel = c.in_ok-kernel.kernel.items in
     let same : c.new.result.setup.now ≡ found.setup = c.new.ensures ∙ ap (λ (f : FolderSetup). f.setup) c.deref-2.ensures in
     let own = stands_for c.new.result.setup.now found.setup held c.in_ok-table.ensures.stands same in (

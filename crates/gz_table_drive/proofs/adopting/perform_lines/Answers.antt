@@ -1,6 +1,5 @@
 use Rattle.std.proofs.Common.{arith, sym, ap, subst, ◌∙◌, ◌≤◌, take, drop, ◌-◌}
 use Rattle.line_journal.specs.Lines.{bytes_of}
-use Rattle.held_lines.specs.Held.{holding}
 use Rattle.held_lines.specs.Outcomes.{after}
 use Rattle.gz_table_drive.specs.Adopting.{HasRefused}
 use Rattle.gz_table_drive.proofs.AnswerLemmas.{after_more, moments_more, group_behind, group_lines, take_end}
@@ -13,7 +12,7 @@ perform_group-requires-clause-lines g c = group_lines c.args.lines.now c.loop-st
 pub returns-in_err-perform_group-clause-any_moment : goal.returns-in_err-perform_group-clause-any_moment
 returns-in_err-perform_group-clause-any_moment g c =
     let s = c.args.table.now.session.setup.now in
-    let h = holding (g.H.Modules.table c.args.table.now.session.holders) (g.H.Modules.names c.args.table.now.session.holders) in
+    let h = c.args.table.now.session.holders.held in
     let lines = c.args.lines.now in
     let start = c.loop-start.start in
     let end = c.min-end.result in
@@ -25,7 +24,7 @@ returns-in_err-perform_group-clause-any_moment g c =
 pub loop-start-preserved : goal.loop-start-preserved
 loop-start-preserved g c =
     let s = c.args.table.now.session.setup.now in
-    let h = holding (g.H.Modules.table c.args.table.now.session.holders) (g.H.Modules.names c.args.table.now.session.holders) in
+    let h = c.args.table.now.session.holders.held in
     let lines = c.args.lines.now in
     let start = c.loop-start.start in
     let end = c.min-end.result in

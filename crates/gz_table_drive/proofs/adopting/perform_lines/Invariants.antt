@@ -1,7 +1,6 @@
 use Rattle.std.proofs.Common.{◌≡◌, ◌≤◌, ◌-◌, length, take}
 use Rattle.line_journal.specs.Device.{AlwaysLeaves}
 use Rattle.line_journal.specs.Lines.{bytes_of}
-use Rattle.held_lines.specs.Held.{holding}
 use Rattle.held_lines.specs.Outcomes.{after}
 use Rattle.durable_table.specs.Durable.{Stands}
 use Rattle.durable_table.specs.Groups.{AfterFirstOf}
@@ -11,8 +10,8 @@ use Rattle.gz_table_drive.proofs.adopting.perform_lines.Given as goal
 abbrev pub invariant-loop-start : goal.invariant-loop-start
 invariant-loop-start g l =
     let s = l.initial.table.session.setup.now in
-    let h = holding (g.H.Modules.table l.initial.table.session.holders) (g.H.Modules.names l.initial.table.session.holders) in
-    let now = holding (g.H.Modules.table l.table.session.holders) (g.H.Modules.names l.table.session.holders) in
+    let h = l.initial.table.session.holders.held in
+    let now = l.table.session.holders.held in
     record {
       within : l.start ≤ length l.lines;
       refused : HasRefused s h (take l.start (bytes_of l.lines)) l.initial.replies l.replies;

@@ -1,7 +1,6 @@
 use Rattle.std.proofs.Common.{arith, sym, ap, subst, ◌∙◌, map, Some}
 use Rattle.std.proofs.lemmas.List.{take-map, length-map}
 use Rattle.line_journal.specs.Lines.{bytes_of}
-use Rattle.held_lines.specs.Held.{holding}
 use Rattle.held_lines.specs.declared.reply.HeldReply.{HeldReply}
 use Rattle.durable_table.specs.Tables.{table_of}
 use Rattle.gz_table_drive.specs.Answers.{HasMore}
@@ -11,21 +10,21 @@ use Rattle.gz_table_drive.proofs.answering.answer_group.Goals as goal
 pub returns-in-Err-OutOfMemory-clause-stopped : goal.returns-in-Err-OutOfMemory-clause-stopped
 returns-in-Err-OutOfMemory-clause-stopped g c =
     let s = c.args.table.now.session.setup.now in
-    let h = holding (g.H.Modules.table c.args.table.now.session.holders) (g.H.Modules.names c.args.table.now.session.holders) in
+    let h = c.args.table.now.session.holders.held in
     stopped_before s h (bytes_of c.args.group.now) (g.D.Device.history c.args.table.now.journal.device) (g.D.Device.history c.perform_all.new.self.journal.device) c.args.replies.now
     c.perform_all.ensures.any_moment
 
 pub returns-in-Err-Device-clause-stopped : goal.returns-in-Err-Device-clause-stopped
 returns-in-Err-Device-clause-stopped g c =
     let s = c.args.table.now.session.setup.now in
-    let h = holding (g.H.Modules.table c.args.table.now.session.holders) (g.H.Modules.names c.args.table.now.session.holders) in
+    let h = c.args.table.now.session.holders.held in
     stopped_before s h (bytes_of c.args.group.now) (g.D.Device.history c.args.table.now.journal.device) (g.D.Device.history c.perform_all.new.self.journal.device) c.args.replies.now
     c.perform_all.ensures.any_moment
 
 pub returns-clause-stopped : goal.returns-clause-stopped
 returns-clause-stopped g c =
     let s = c.args.table.now.session.setup.now in
-    let h = holding (g.H.Modules.table c.args.table.now.session.holders) (g.H.Modules.names c.args.table.now.session.holders) in
+    let h = c.args.table.now.session.holders.held in
     let answered = c.deref.result.now in
     let replies = map (λ (r : HeldReply). r.reply) answered in
     let made = c.in-Ok.ensures in

@@ -1,6 +1,5 @@
 use Rattle.std.proofs.Common.{arith, sym, ap, subst, ◌∙◌, ◌≤◌, take, drop, ◌-◌}
 use Rattle.line_journal.specs.Lines.{bytes_of}
-use Rattle.held_lines.specs.Held.{holding}
 use Rattle.held_lines.specs.Outcomes.{after}
 use Rattle.gz_table_drive.specs.Answers.{HasAnswered}
 use Rattle.gz_table_drive.proofs.AnswerLemmas.{after_more, answered_more, on_err, moments_more, stopped_more, group_behind, group_lines, take_end}
@@ -12,7 +11,7 @@ answer_group-requires-clause-lines g c = group_lines c.args.lines.now c.loop-sta
 pub returns-in_err-answer_group-clause-stopped : goal.returns-in_err-answer_group-clause-stopped
 returns-in_err-answer_group-clause-stopped g c =
     let s = c.args.table.now.session.setup.now in
-    let h = holding (g.H.Modules.table c.args.table.now.session.holders) (g.H.Modules.names c.args.table.now.session.holders) in
+    let h = c.args.table.now.session.holders.held in
     let lines = c.args.lines.now in
     let start = c.loop-start.start in
     let end = c.min-end.result in
@@ -26,7 +25,7 @@ returns-in_err-answer_group-clause-stopped g c =
 pub returns-in_err-answer_group-clause-any_moment : goal.returns-in_err-answer_group-clause-any_moment
 returns-in_err-answer_group-clause-any_moment g c =
     let s = c.args.table.now.session.setup.now in
-    let h = holding (g.H.Modules.table c.args.table.now.session.holders) (g.H.Modules.names c.args.table.now.session.holders) in
+    let h = c.args.table.now.session.holders.held in
     let lines = c.args.lines.now in
     let start = c.loop-start.start in
     let end = c.min-end.result in
@@ -38,7 +37,7 @@ returns-in_err-answer_group-clause-any_moment g c =
 pub loop-start-preserved : goal.loop-start-preserved
 loop-start-preserved g c =
     let s = c.args.table.now.session.setup.now in
-    let h = holding (g.H.Modules.table c.args.table.now.session.holders) (g.H.Modules.names c.args.table.now.session.holders) in
+    let h = c.args.table.now.session.holders.held in
     let lines = c.args.lines.now in
     let start = c.loop-start.start in
     let end = c.min-end.result in

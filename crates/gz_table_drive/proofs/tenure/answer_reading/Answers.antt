@@ -1,6 +1,5 @@
 use Rattle.std.proofs.Common.{ap, subst, ◌∙◌, take, IfOk, OnErr}
 use Rattle.line_journal.specs.Lines.{bytes_of}
-use Rattle.held_lines.specs.Held.{holding}
 use Rattle.gz_table_drive.specs.Answers.{HasAnswered, HasAnsweredFirst, HasStopped}
 use Rattle.gz_table_drive.proofs.TenureLemmas.{reads_err, reads_ok}
 use Rattle.gz_table_drive.proofs.tenure.answer_reading.Goals as goal
@@ -13,15 +12,15 @@ returns-in_default-clause-stopped g c =
 pub returns-clause-answered : goal.returns-clause-answered
 returns-clause-answered g c =
     let held = c.in-Some.table.session.holders.held in
-    reads_ok c.args.kept.now.setup.now (holding held.table held.names) (bytes_of c.args.lines.now) c.args.replies.now c.ask_table.new.replies c.ask_table.result
+    reads_ok c.args.kept.now.setup.now held (bytes_of c.args.lines.now) c.args.replies.now c.ask_table.new.replies c.ask_table.result
     c.in-Some.ensures.reads
-    (subst (λ s. IfOk c.ask_table.result (λ count. HasAnswered s (holding held.table held.names) (take count (bytes_of c.args.lines.now)) c.args.replies.now c.ask_table.new.replies))
+    (subst (λ s. IfOk c.ask_table.result (λ count. HasAnswered s held (take count (bytes_of c.args.lines.now)) c.args.replies.now c.ask_table.new.replies))
     c.reading_table.ensures.setup c.ask_table.ensures.answered)
 
 pub returns-clause-stopped : goal.returns-clause-stopped
 returns-clause-stopped g c =
     let held = c.in-Some.table.session.holders.held in
-    reads_err c.args.kept.now.setup.now (holding held.table held.names) (bytes_of c.args.lines.now) c.args.replies.now c.ask_table.new.replies c.ask_table.result
+    reads_err c.args.kept.now.setup.now held (bytes_of c.args.lines.now) c.args.replies.now c.ask_table.new.replies c.ask_table.result
     c.in-Some.ensures.reads
-    (subst (λ s. OnErr c.ask_table.result (HasAnsweredFirst s (holding held.table held.names) (bytes_of c.args.lines.now) c.args.replies.now c.ask_table.new.replies))
+    (subst (λ s. OnErr c.ask_table.result (HasAnsweredFirst s held (bytes_of c.args.lines.now) c.args.replies.now c.ask_table.new.replies))
     c.reading_table.ensures.setup c.ask_table.ensures.stopped)

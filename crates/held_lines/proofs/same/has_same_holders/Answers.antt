@@ -3,12 +3,12 @@ use Rattle.std.proofs.lemmas.List.{take_more_same}
 use Rattle.held_lines.proofs.same.has_same_holders.Goals as goal
 
 pub loop-number-preserved : goal.loop-number-preserved
-loop-number-preserved g c =
+loop-number-preserved c =
     let number = c.loop-number.number in
-    let names = g.H.Modules.names c.args.holders.now in
-    let others = g.H.Modules.names c.args.other.now in
-    let rows = (g.H.Modules.table c.args.holders.now).rows in
-    let other_rows = (g.H.Modules.table c.args.other.now).rows in
+    let names = c.args.holders.now.held.names in
+    let others = c.args.other.now.held.names in
+    let rows = c.args.holders.now.held.table.rows in
+    let other_rows = c.args.other.now.held.table.rows in
     let named : c.has_same_name.result ≡ true = search rules in
     let held : c.holds_same.result ≡ true = search rules in
     let in_rows : number < length rows = search rules in

@@ -2,6 +2,6 @@ use Rattle.std.proofs.Common.{◌≡◌, take}
 use Rattle.held_lines.proofs.same.has_same_holders.Given as goal
 
 abbrev pub invariant-loop-number : goal.invariant-loop-number
-invariant-loop-number g l =
-    (take l.number (g.H.Modules.names l.other) ≡ take l.number (g.H.Modules.names l.holders))
-    × (take l.number (g.H.Modules.table l.other).rows ≡ take l.number (g.H.Modules.table l.holders).rows)
+invariant-loop-number l =
+    (take l.number l.other.held.names ≡ take l.number l.holders.held.names)
+    × (take l.number l.other.held.table.rows ≡ take l.number l.holders.held.table.rows)

@@ -7,6 +7,6 @@ use Rattle.held_lines.specs.Snapshots.{texts_in, get_line}
 use Rattle.held_lines.proofs.snapshot.push_holder.Given as goal
 
 abbrev pub invariant-loop-place : goal.invariant-loop-place
-invariant-loop-place g l =
+invariant-loop-place l =
     texts_in l.lines.items ≡ texts_in l.initial.lines.items
-    ++ flat_map (λ (slot : ℕ). replicate (count_of (g.H.Modules.table l.holders) l.number slot) (get_line l.holder (name_at l.setup slot))) (take l.place (g.H.Modules.table l.holders).book.order)
+    ++ flat_map (λ (slot : ℕ). replicate (count_of l.holders.held.table l.number slot) (get_line l.holder (name_at l.setup slot))) (take l.place l.holders.held.table.book.order)

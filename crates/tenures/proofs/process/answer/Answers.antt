@@ -4,7 +4,7 @@ use Rattle.modprobe.specs.Outcomes.{Outcome}
 use Rattle.held_table.specs.Held.{Held}
 use Rattle.durable_table.specs.Durable.{Stands}
 use Rattle.tenures.specs.Endings.{cut_offs_in}
-use Rattle.tenures.specs.Steps.{commands_of, groups_of, held_of, IsMade, IsMadeWhole}
+use Rattle.tenures.specs.Steps.{commands_of, groups_of, IsMade, IsMadeWhole}
 use Rattle.tenures.specs.Kept.{IsKeptSince}
 use Rattle.tenures.proofs.KeptLemmas.{GoesOn, Ending, tenure_of, begins, goes_on, answered_all}
 use Rattle.tenures.proofs.MomentLemmas.{idle_since, made_kept, made_since}
@@ -16,7 +16,7 @@ loop-step-init g c =
     let s = c.args.table.now.session.setup.now in
     let asked = groups_of c.args.steps.now in
     let before = g.W.World.past c.args.world.now in
-    let h : Held = held_of c.args.table.now.session.holders in
+    let h : Held = c.args.table.now.session.holders.held in
     let none : [] ≡ g.W.World.replies c.args.world.now = sym c.requires.none in
     record {
       setup = refl;
@@ -36,7 +36,7 @@ make-requires-clause-setup g c = ap (λ (b : Bor Setup). b.now) c.loop-step.inva
 
 pub make-requires-clause-stands : goal.make-requires-clause-stands
 make-requires-clause-stands g c =
-    subst (λ (v : Setup). Stands g.D.Device.content g.D.Device.history v (held_of c.loop-step.table.session.holders) c.loop-step.table.journal)
+    subst (λ (v : Setup). Stands g.D.Device.content g.D.Device.history v c.loop-step.table.session.holders.held c.loop-step.table.journal)
     (sym (ap (λ (b : Bor Setup). b.now) c.loop-step.invariant.setup)) c.loop-step.invariant.stands
 
 pub make-requires-clause-lines : goal.make-requires-clause-lines
@@ -52,8 +52,8 @@ loop-step-preserved g c =
     let group = commands_of c.step-item.result in
     let replies = g.W.World.replies c.loop-step.world in
     let begun = g.W.World.replies c.make.new.world in
-    let h : Held = held_of c.loop-step.table.session.holders in
-    let new : Held = held_of c.make.new.table.session.holders in
+    let h : Held = c.loop-step.table.session.holders.held in
+    let new : Held = c.make.new.table.session.holders.held in
     let old_history = g.D.Device.history c.loop-step.table.journal.device in
     let new_history = g.D.Device.history c.make.new.table.journal.device in
     let since = g.W.World.since c.loop-step.world in
@@ -85,7 +85,7 @@ returns-in_err-make-clause-kept g c =
     let group = commands_of c.step-item.result in
     let replies = g.W.World.replies c.loop-step.world in
     let begun = g.W.World.replies c.make.new.world in
-    let h : Held = held_of c.loop-step.table.session.holders in
+    let h : Held = c.loop-step.table.session.holders.held in
     let old_history = g.D.Device.history c.loop-step.table.journal.device in
     let new_history = g.D.Device.history c.make.new.table.journal.device in
     let since = g.W.World.since c.loop-step.world in

@@ -1,6 +1,6 @@
 use Rattle.std.proofs.Common.{◌≡◌, ◌≤◌, [], ◌∷◌, ◌++◌, drop}
 use Rattle.durable_table.specs.Durable.{Stands}
-use Rattle.tenures.specs.Steps.{groups_of, held_of}
+use Rattle.tenures.specs.Steps.{groups_of}
 use Rattle.tenures.specs.Kept.{IsKeptSince}
 use Rattle.tenures.proofs.KeptLemmas.{GoesOn, Ending, tenure_of}
 use Rattle.tenures.proofs.process.answer.Given as goal
@@ -10,7 +10,7 @@ invariant-loop-step g l =
     let s = l.fn.table.session.setup.now in
     let before = g.W.World.past l.fn.world in
     let begun = g.W.World.replies l.world in
-    let h = held_of l.table.session.holders in
+    let h = l.table.session.holders.held in
     record {
       setup : l.table.session.setup ≡ l.fn.table.session.setup;
       past : g.W.World.past l.world ≡ before;

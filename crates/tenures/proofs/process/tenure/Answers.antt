@@ -3,7 +3,7 @@ use Rattle.modprobe.specs.Setup.{Setup}
 use Rattle.held_table.specs.Held.{Held}
 use Rattle.durable_table.specs.Durable.{Stands}
 use Rattle.tenures.specs.Tenures.{Tenure}
-use Rattle.tenures.specs.Steps.{groups_of, held_of}
+use Rattle.tenures.specs.Steps.{groups_of}
 use Rattle.tenures.specs.Kept.{IsKeptSince, LeadsTo}
 use Rattle.tenures.proofs.KeptLemmas.{tenure_of}
 use Rattle.tenures.proofs.MomentLemmas.{opened, opened_leads, over_idle, over_answered}
@@ -11,11 +11,11 @@ use Rattle.tenures.proofs.process.tenure.Goals as goal
 
 pub answer-answered-requires-clause-stands : goal.answer-answered-requires-clause-stands
 answer-answered-requires-clause-stands g c =
-    subst (λ (v : Setup). Stands g.D.Device.content g.D.Device.history v (held_of c.in-Ok.table.session.holders) c.in-Ok.table.journal) (sym c.in-Ok.ensures.setup) c.in-Ok.ensures.stands
+    subst (λ (v : Setup). Stands g.D.Device.content g.D.Device.history v c.in-Ok.table.session.holders.held c.in-Ok.table.journal) (sym c.in-Ok.ensures.setup) c.in-Ok.ensures.stands
 
 pub answer-answered-requires-clause-leads : goal.answer-answered-requires-clause-leads
 answer-answered-requires-clause-leads g c =
-    let h : Held = held_of c.in-Ok.table.session.holders in
+    let h : Held = c.in-Ok.table.session.holders.held in
     let past = g.W.World.past c.args.world.now in
     let file = g.D.Device.content c.args.device in
     subst (λ (v : Setup). (commands : List (List ℕ)) × LeadsTo v past commands h) (sym c.in-Ok.ensures.setup)

@@ -5,7 +5,6 @@ use Rattle.line_journal.specs.Lines.{bytes_of}
 use Rattle.line_journal.specs.Renewed.{IsFollowed}
 use Rattle.line_journal.specs.declared.following.Followed.TheVariants.{AtRest, Anew}
 use Rattle.held_table.specs.Held.{Held}
-use Rattle.held_lines.specs.Held.{holding}
 use Rattle.held_lines.specs.Outcomes.{after}
 use Rattle.durable_table.specs.Seals.{is_sealed}
 use Rattle.durable_table.proofs.KeptLemmas.{caught_up, not_sealed}
@@ -14,8 +13,8 @@ use Rattle.durable_table.proofs.durable.DurableTable.catch_up.Goals as goal
 pub returns-clause-reads : goal.returns-clause-reads
 returns-clause-reads g c = λ ready.
     let s = c.args.self.now.session.setup.now in
-    let h : Held = holding (g.H.Modules.table c.args.self.now.session.holders) (g.H.Modules.names c.args.self.now.session.holders) in
-    let now : Held = holding (g.H.Modules.table c.replay.new.session.holders) (g.H.Modules.names c.replay.new.session.holders) in
+    let h : Held = c.args.self.now.session.holders.held in
+    let now : Held = c.replay.new.session.holders.held in
     let followed : IsFollowed g.D.Device.content c.args.self.now.journal c.follow.new.self (AtRest c.in-AtRest.added) = search rules in
     let sealed : list_all is_sealed (bytes_of c.deref.result.now) ≡ true = search rules in
     caught_up g.D.Device.content s h now (bytes_of c.in-AtRest.added.items) c.args.self.now.journal c.follow.new.self c.requires.reads followed.0 followed.1

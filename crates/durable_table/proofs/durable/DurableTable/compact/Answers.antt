@@ -1,15 +1,14 @@
 use Rattle.std.proofs.Common.{rules, ap}
 use Rattle.line_journal.specs.Lines.{bytes_of}
 use Rattle.held_table.specs.Held.{Held}
-use Rattle.held_lines.specs.Held.{holding}
 use Rattle.durable_table.specs.Compacting.{IsRemade}
-use Rattle.durable_table.proofs.CompactLemmas.{rewrite_moments, rewrite_stands}
+use Rattle.durable_table.proofs.CompactLemmas.{rewrite_moments, rewrite_stands, still_stands}
 use Rattle.durable_table.proofs.durable.DurableTable.compact.Goals as goal
 
 pub returns-in-Ok-rewrite-clause-stands : goal.returns-in-Ok-rewrite-clause-stands
 returns-in-Ok-rewrite-clause-stands g c =
     let s = c.args.self.now.session.setup.now in
-    let h : Held = holding (g.H.Modules.table c.args.self.now.session.holders) (g.H.Modules.names c.args.self.now.session.holders) in
+    let h : Held = c.args.self.now.session.holders.held in
     let lines = bytes_of c.in-Some.lines.items in
     let made : IsRemade s h lines = search rules in
     rewrite_stands g.D.Device.content g.D.Device.history s h lines (bytes_of c.deref.result.now) c.rewrite.new.self made (ap bytes_of c.deref.ensures.value)
@@ -18,7 +17,7 @@ returns-in-Ok-rewrite-clause-stands g c =
 pub returns-in-Ok-rewrite-clause-any_moment : goal.returns-in-Ok-rewrite-clause-any_moment
 returns-in-Ok-rewrite-clause-any_moment g c =
     let s = c.args.self.now.session.setup.now in
-    let h : Held = holding (g.H.Modules.table c.args.self.now.session.holders) (g.H.Modules.names c.args.self.now.session.holders) in
+    let h : Held = c.args.self.now.session.holders.held in
     let lines = bytes_of c.in-Some.lines.items in
     let made : IsRemade s h lines = search rules in
     rewrite_moments g.D.Device.content g.D.Device.history s h lines (bytes_of c.deref.result.now) c.args.self.now.journal
@@ -27,8 +26,16 @@ returns-in-Ok-rewrite-clause-any_moment g c =
 pub returns-clause-any_moment : goal.returns-clause-any_moment
 returns-clause-any_moment g c =
     let s = c.args.self.now.session.setup.now in
-    let h : Held = holding (g.H.Modules.table c.args.self.now.session.holders) (g.H.Modules.names c.args.self.now.session.holders) in
+    let h : Held = c.args.self.now.session.holders.held in
     let lines = bytes_of c.in-Some.lines.items in
     let made : IsRemade s h lines = search rules in
     rewrite_moments g.D.Device.content g.D.Device.history s h lines (bytes_of c.deref.result.now) c.args.self.now.journal
     (g.D.Device.history c.args.self.now.journal.device) (g.D.Device.history c.rewrite.new.self.device) c.requires.stands made (ap bytes_of c.deref.ensures.value) c.in-Err.ensures.any_moment
+
+pub returns-in_default-clause-any_moment : goal.returns-in_default-clause-any_moment
+returns-in_default-clause-any_moment g c =
+    still_stands g.D.Device.content g.D.Device.history c.args.self.now.session.setup.now c.args.self.now.session.holders.held c.args.self.now.journal c.requires.stands
+
+pub returns-in_default-found-clause-any_moment : goal.returns-in_default-found-clause-any_moment
+returns-in_default-found-clause-any_moment g c =
+    still_stands g.D.Device.content g.D.Device.history c.args.self.now.session.setup.now c.args.self.now.session.holders.held c.args.self.now.journal c.requires.stands
