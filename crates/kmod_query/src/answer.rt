@@ -8,7 +8,6 @@ use std::marker::Model;
 /// Why a name was not answered, with the name that a message tells. Messages are a FATAL, or a WARNING under `--all`,
 /// but for `AlreadyLoaded` and `Gone`, which are an ERROR. A word that is no name fails without a message under `Ask::Remove` and
 /// `Ask::ShowRemoval`.
-#[derive(Drop)]
 pub enum Failure {
     /// `Module NAME not found in directory DIRECTORY`: the word as it was given.
     NotFound(Text),
@@ -29,13 +28,39 @@ pub enum Failure {
     Gone(Text),
 }
 
+// By hand, since a derived drop is written out, and proved, at each place where a value is let go.
+impl Drop for Failure {
+    fn drop(self) {
+        match self {
+            Failure::NotFound(_) => {}
+            Failure::NoFile(_, _) => {}
+            Failure::AlreadyLoaded(_) => {}
+            Failure::NothingToRemove(_) => {}
+            Failure::NotInKernel(_) => {}
+            Failure::Builtin(_) => {}
+            Failure::InUse(_) => {}
+            Failure::Gone(_) => {}
+        }
+    }
+}
+
 /// The answer to a query: what is written to standard output, what failed, in order, and whether the status is 1 and
 /// not 0. A failure without effect on the status is possible.
-#[derive(Drop)]
 pub struct Answer {
     pub(crate) output: Vec<u8>,
     pub(crate) failures: Vec<Failure>,
     pub(crate) failed: bool,
+}
+
+// By hand, since a derived drop is written out, and proved, at each place where a value is let go.
+impl Drop for Answer {
+    fn drop(self) {
+        let Answer {
+            output: _,
+            failures: _,
+            failed: _,
+        } = self;
+    }
 }
 
 impl Model for Answer {
@@ -85,7 +110,8 @@ impl Answer {
     {
         Answer {
             output,
-            ..Answer::nothing(alloc)
+            failures: Vec::new(alloc),
+            failed: false,
         }
     }
 
@@ -113,8 +139,9 @@ impl Answer {
         ensures { result ≡ silent_failure }
     {
         Answer {
+            output: Vec::new(alloc),
+            failures: Vec::new(alloc),
             failed: true,
-            ..Answer::nothing(alloc)
         }
     }
 

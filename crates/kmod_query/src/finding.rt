@@ -12,7 +12,6 @@ use kmod_names::AliasEntry;
 use std::alloc::{AllocError, Global};
 
 /// The first list that has a name, with its lines of that name.
-#[derive(Drop)]
 pub enum Finding<'a> {
     /// Aliases of the configuration.
     Configured(Vec<&'a AliasEntry>),
@@ -30,6 +29,22 @@ pub enum Finding<'a> {
     AliasedBuiltIn(Vec<IndexLine>),
     /// No list has the name.
     Nothing,
+}
+
+// By hand, since a derived drop is written out, and proved, at each place where a value is let go.
+impl Drop for Finding<'_> {
+    fn drop(self) {
+        match self {
+            Finding::Configured(_) => {}
+            Finding::Module(_) => {}
+            Finding::Exported(_) => {}
+            Finding::Commanded => {}
+            Finding::Aliased(_) => {}
+            Finding::BuiltIn => {}
+            Finding::AliasedBuiltIn(_) => {}
+            Finding::Nothing => {}
+        }
+    }
 }
 
 /// The name itself.

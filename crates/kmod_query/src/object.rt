@@ -8,11 +8,22 @@ use std::marker::Model;
 
 /// A module, and the alias by which it was found, if it was by one. `builtin` says that this was an alias of
 /// modules.builtin.modinfo.
-#[derive(PartialEq, Drop)]
+#[derive(PartialEq)]
 pub struct Object {
     pub name: Vec<u8>,
     pub alias: Option<Vec<u8>>,
     pub builtin: bool,
+}
+
+// By hand, since a derived drop is written out, and proved, at each place where a value is let go.
+impl Drop for Object {
+    fn drop(self) {
+        let Object {
+            name: _,
+            alias: _,
+            builtin: _,
+        } = self;
+    }
 }
 
 /// The parts of an object, by which it is told from others.

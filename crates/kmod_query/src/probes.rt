@@ -31,7 +31,6 @@ enum Task {
 
 /// How far a run is: what was met, what was found of soft items, what is to be done, the next task last, what is out,
 /// and how many steps are left.
-#[derive(Drop)]
 pub(crate) struct Course {
     met: Met,
     pub(crate) soft: SoftLists,
@@ -41,9 +40,23 @@ pub(crate) struct Course {
     left: u64,
 }
 
-/// The modules of these names are filled in, before what is to be done already.
-fn push_fills(stack: &mut Vec<Task>, mut names: Vec<Vec<u8>>) -> Result<(), AllocError>
-    ensures { OnOk result ((facts : Facts) → stack_of facts stack.new.items ≡ map (λ name. fill (by_name name)) (names_of names.items) ++ stack_of facts stack.old.items) }
+// By hand, since a derived drop is written out, and proved, at each place where a value is let go.
+impl Drop for Course {
+    fn drop(self) {
+        let Course {
+            met: _,
+            soft: _,
+            fronts: _,
+            stack: _,
+            list: _,
+            left: _,
+        } = self;
+    }
+}
+
+/// The modules of these names are filled in, before what is to be done already. The names are taken out.
+fn push_fills(stack: &mut Vec<Task>, names: &mut Vec<Vec<u8>>) -> Result<(), AllocError>
+    ensures { OnOk result ((facts : Facts) → stack_of facts stack.new.items ≡ map (λ name. fill (by_name name)) (names_of names.old.items) ++ stack_of facts stack.old.items) }
 {
     'names: while let Some(name) = names.pop() {
         let object = Object {
@@ -71,9 +84,9 @@ fn all_soft(alloc: Global, place: Place, name: &[u8]) -> Result<Rest, AllocError
 fn push_fill(alloc: Global, stack: &mut Vec<Task>, object: Object) -> Result<(), AllocError>
     ensures { OnOk result ((facts : Facts) → stack_of facts stack.new.items ≡ fill_tasks facts (object_of object) ++ stack_of facts stack.old.items) }
 {
-    let before = all_soft(alloc, Place::Before, &object.name)?;
     let after = all_soft(alloc, Place::After, &object.name)?;
     stack.push(Task::Soft(after))?;
+    let before = all_soft(alloc, Place::Before, &object.name)?;
     stack.push(Task::Add(object))?;
     stack.push(Task::Soft(before))?;
     Ok(())
@@ -89,13 +102,13 @@ fn push_probe(
 ) -> Result<(), AllocError>
     ensures { OnOk result (stack_of (facts_of world.now) stack.new.items ≡ first_tasks (facts_of world.now) bare (object_of object) ++ stack_of (facts_of world.now) stack.old.items) }
 {
-    let needs = needs_of(alloc, world, &object.name)?;
+    let mut needs = needs_of(alloc, world, &object.name)?;
     stack.push(if bare {
         Task::Add(object)
     } else {
         Task::Fill(object)
     })?;
-    push_fills(stack, needs)
+    push_fills(stack, &mut needs)
 }
 
 fn add(own: Object, course: &mut Course) -> Result<(), AllocError>

@@ -25,7 +25,6 @@ pub struct Holders {
 }
 
 /// What a removal does. The first text is the name of a module.
-#[derive(Drop)]
 pub enum Taken {
     /// It goes, since it was asked for or is a soft dependency.
     Removed(Text),
@@ -33,6 +32,17 @@ pub enum Taken {
     Unused(Text, Text),
     /// A remove line has a command for it, the second text. What that does is not known, so it counts for nothing.
     Commanded(Text, Text),
+}
+
+// By hand, since a derived drop is written out, and proved, at each place where a value is let go.
+impl Drop for Taken {
+    fn drop(self) {
+        match self {
+            Taken::Removed(_) => {}
+            Taken::Unused(_, _) => {}
+            Taken::Commanded(_, _) => {}
+        }
+    }
 }
 
 impl Taken {

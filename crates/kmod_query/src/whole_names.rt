@@ -17,6 +17,7 @@ use crate::way::Way;
 use crate::whole_steps::{Course, fail, remove_whole};
 use kmod_names::{Text, normal_alias};
 use std::alloc::{AllocError, Global};
+use std::mem::replace;
 
 fn no_course(alloc: Global) -> Course
     ensures { course_of result ≡ no_course }
@@ -148,17 +149,10 @@ pub fn whole_removal(asked: &Asked, holders: &[Holders]) -> Result<Answer, Alloc
 {
     let mut course = no_course(asked.alloc);
     remove_words(asked, holders, &mut course, asked.query.words)?;
-    let Course {
-        way: _,
-        stack: _,
-        taken,
-        failures,
-        failed,
-    } = course;
-    let output = lines_of(asked.alloc, &asked.query, &taken)?;
+    let output = lines_of(asked.alloc, &asked.query, &course.taken)?;
     Ok(Answer {
         output,
-        failures,
-        failed,
+        failures: replace(&mut course.failures, Vec::new(asked.alloc)),
+        failed: course.failed,
     })
 }

@@ -25,13 +25,25 @@ use std::alloc::{AllocError, Global};
 
 /// Where a removal is: the modules whose soft items are being removed, what is to be done, the next task last, what was
 /// taken, what failed, and whether the name that is being removed has failed.
-#[derive(Drop)]
 pub(crate) struct Course {
     pub(crate) way: Way,
     pub(crate) stack: Vec<Removal>,
     pub(crate) taken: Vec<Taken>,
     pub(crate) failures: Vec<Failure>,
     pub(crate) failed: bool,
+}
+
+// By hand, since a derived drop is written out, and proved, at each place where a value is let go.
+impl Drop for Course {
+    fn drop(self) {
+        let Course {
+            way: _,
+            stack: _,
+            taken: _,
+            failures: _,
+            failed: _,
+        } = self;
+    }
 }
 
 /// What becomes of an object that is to be removed, a soft item or not, once other modules are gone. It fails only if memory
