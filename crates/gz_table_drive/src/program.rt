@@ -159,6 +159,7 @@ fn answer_input<'s, 'r, R: Files<File = File> + Clock + AllocGlobal, I: Read, O:
         };
         if lines.is_empty() {
             teller.too_long(reader.too_long());
+            teller.unended(reader.is_unended());
             return Ok(ending);
         }
         ending = ending.behind(answer_group(shared, kept, &lines, output, teller)?);

@@ -1,12 +1,11 @@
 //! Lines that change nothing, and their replies from a copy of the journal.
 ghost use Rattle.std.specs.Prelude.{◌≡◌, Some, true, take, ◌<◌, ◌≤◌, length, All, IfOk, OnOk, OnErr};
-ghost use Rattle.text_parts.specs.Text.{texts_of};
 ghost use Rattle.line_journal.specs.Lines.{AreLines, bytes_of};
 ghost use Rattle.held_table.specs.Held.{Held};
 ghost use Rattle.durable_table.specs.Durable.{Reads, Stands};
 ghost use Rattle.durable_table.specs.Tables.{table_of};
 ghost use Rattle.gz_table_drive.specs.Answers.{HasAnswered, HasAnsweredFirst, HasStopped};
-ghost use Rattle.held_lines.specs.Reading.{asks, asks_by, is_reading};
+ghost use Rattle.held_lines.specs.Reading.{is_reading};
 
 use crate::answering::{GROUP, Replies, answer_lines};
 use crate::opening::{OpenFault, open_table};
@@ -14,32 +13,7 @@ use durable_table::DurableTable;
 use line_journal::{Device, KillOnly};
 use modprobe::Setup;
 use std::alloc::{AllocError, Global};
-use table_folder::TableFault;
-use text_parts::{is_comment, is_same, words};
-
-/// Whether this is the first word of a command that asks.
-fn asks(first: &[u8]) -> bool
-    ensures { result ≡ asks first.now }
-{
-    is_same(first, b"query")
-        || is_same(first, b"modinfo")
-        || is_same(first, b"lsmod")
-        || is_same(first, b"proc")
-        || is_same(first, b"plan")
-        || is_same(first, b"holders")
-        || is_same(first, b"held")
-}
-
-/// Whether a line asks, or is no command. It fails only if memory runs out.
-pub(crate) fn is_reading(alloc: Global, line: &[u8]) -> Result<bool, AllocError>
-    ensures { IfOk result (λ reads. reads ≡ is_reading line.now) }
-{
-    if is_comment(line) {
-        return Ok(true);
-    }
-    let words = words(alloc, line)?;
-    Ok(words.first().is_none_or(|first| asks(*first)))
-}
+use table_folder::{TableFault, is_reading};
 
 /// Whether all lines ask, or are no commands. It fails only if memory runs out.
 pub(crate) fn are_reading(alloc: Global, lines: &[Vec<u8>]) -> Result<bool, AllocError>

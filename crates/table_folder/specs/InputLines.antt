@@ -1,7 +1,8 @@
 -- Which lines an input brings.
-use Rattle.std.specs.Prelude.{◌≡◌, ℕ, ◌+◌, ◌-◌, ◌^◌, min, nat_lt, Bool, ◌==◌, if◌then◌else◌, List, [], ◌∷◌, ◌++◌, length, map, codes, filter, Option, Some, None, ⊤}
+use Rattle.std.specs.Prelude.{◌≡◌, ℕ, ◌+◌, ◌-◌, ◌^◌, min, nat_lt, Bool, ◌==◌, ◌||◌, if◌then◌else◌, List, [], ◌∷◌, ◌++◌, length, codes, filter, Option, Some, None, ⊤}
 use Rattle.std.specs.List.{onto_first}
 use Rattle.std.specs.Io.KnownBytes.{prepend_known}
+use Rattle.held_lines.specs.Reading.{is_reading}
 use Rattle.table_folder.specs.declared.input.InputLines.{InputLines}
 
 -- the lines of a text, without their line feeds: each line feed ends a line, and so does the end of the text, unless that line is empty
@@ -17,9 +18,22 @@ is_too_long line = nat_lt 65535 (length line)
 abbrev pub brought : List ℕ → List ℕ
 brought line = if is_too_long line then codes "too-long" else line
 
--- what a text brings: each of its lines, in order
+-- The same of a last line that no line feed ends. It may be half of one: `unended` stands in its place, unless it only asks.
+abbrev pub brought_unended : List ℕ → List ℕ
+brought_unended line = if is_too_long line || is_reading line then brought line else codes "unended"
+
+-- what the end of a text brings, if this is begun of a line: nothing, if nothing is
+abbrev pub brought_last : List ℕ → List (List ℕ)
+brought_last [] = []
+brought_last (byte ∷ line) = brought_unended (byte ∷ line) ∷ []
+
+-- what a text brings, if this is begun of a line in front of it: each of its lines, in order
+abbrev pub brought_behind : List ℕ → List ℕ → List (List ℕ)
+brought_behind begun [] = brought_last begun
+brought_behind begun (byte ∷ text) = if byte == 10 then brought begun ∷ brought_behind [] text else brought_behind (begun ++ byte ∷ []) text
+
 abbrev pub brought_lines : List ℕ → List (List ℕ)
-brought_lines text = map brought (lines_of text)
+brought_lines text = brought_behind [] text
 
 -- how many lines of a text are too long
 abbrev pub too_long_in : List ℕ → ℕ

@@ -4,6 +4,7 @@ ghost use Rattle.std.specs.Io.KnownBytes.{Consumes, IsAtEnd, Keeps};
 ghost use Rattle.line_journal.specs.Lines.{IsLine, AreLines, bytes_of};
 ghost use Rattle.table_folder.specs.declared.input.InputFault.TheVariants.{OutOfMemory, Failed};
 
+use crate::asking::is_reading;
 use memchr::memchr;
 use std::alloc::{AllocError, Global};
 use std::io::{self, Read};
@@ -13,6 +14,9 @@ const LONGEST: usize = 65_535;
 
 /// What stands for a line that is longer. It is no command.
 const TOO_LONG: &[u8] = b"too-long";
+
+/// What stands for a last line that has no end and does not ask. It is no command.
+const UNENDED: &[u8] = b"unended";
 
 /// How many bytes a read asks for.
 const PIECE: usize = 65_536;
@@ -60,7 +64,7 @@ fn line_end(bytes: &[u8]) -> Option<usize>
     memchr(b'\n', bytes)
 }
 
-/// The lines of an input. One that is too long is no command.
+/// The lines of an input. One that is too long is no command, nor is a last one that has no end and does not ask.
 #[derive(Drop)]
 pub struct InputLines<'i, I> {
     alloc: Global,
@@ -69,10 +73,12 @@ pub struct InputLines<'i, I> {
     begun: Vec<u8>,
     /// How many lines were too long.
     too_long: u64,
+    /// Whether the last line was refused, since it has no end.
+    unended: bool,
 }
 
 impl<'i, I: Read> InputLines<'i, I> {
-    ghost use Rattle.table_folder.specs.InputLines.{brought, is_too_long, text_left, SameInput, IfTold, GoesOn, BringsLines, counted, Counts, CountsTooLong};
+    ghost use Rattle.table_folder.specs.InputLines.{brought, brought_unended, is_too_long, text_left, SameInput, IfTold, GoesOn, BringsLines, counted, Counts, CountsTooLong};
 
     /// The lines of this input, of which none was read.
     pub fn new(alloc: Global, input: &'i mut I) -> InputLines<'i, I>
@@ -86,6 +92,7 @@ impl<'i, I: Read> InputLines<'i, I> {
             input,
             begun: Vec::new(alloc),
             too_long: 0,
+            unended: false,
         }
     }
 
@@ -94,6 +101,13 @@ impl<'i, I: Read> InputLines<'i, I> {
         ensures { result ≡ self.now.too_long }
     {
         self.too_long
+    }
+
+    /// Whether the last line was refused, since it has no end.
+    pub fn is_unended(&self) -> bool
+        ensures { result ≡ self.now.unended }
+    {
+        self.unended
     }
 
     /// Adds bytes to the line that has not ended.
@@ -143,6 +157,26 @@ impl<'i, I: Read> InputLines<'i, I> {
     {
         let line = self.ended()?;
         lines.push(line)?;
+        Ok(())
+    }
+
+    /// Ends the last line, for which the input has no end, and adds it. It may be half of a line: it is refused, unless it asks.
+    fn end_last(&mut self, lines: &mut Vec<Vec<u8>>) -> Result<(), AllocError>
+        requires begun { IsLine self.old.begun.items }
+        requires lines { AreLines (bytes_of lines.old.items) }
+        ensures line { IsLine self.new.begun.items }
+        ensures begun { OnOk result (self.new.begun.items ≡ []) }
+        ensures lines { OnOk result (AreLines (bytes_of lines.new.items)) }
+        ensures added { OnOk result (bytes_of lines.new.items ≡ bytes_of lines.old.items ++ brought_unended self.old.begun.items ∷ []) }
+        ensures counted { counted self.new.too_long ≡ counted (self.old.too_long + (if is_too_long self.old.begun.items then 1 else 0)) }
+        ensures input { self.new.input ≡ self.old.input }
+    {
+        if self.begun.len() > LONGEST || is_reading(self.alloc, &self.begun)? {
+            return self.end_line(lines);
+        }
+        lines.push(Vec::from_slice(self.alloc, UNENDED)?)?;
+        self.begun.clear();
+        self.unended = true;
         Ok(())
     }
 
@@ -214,14 +248,14 @@ impl<'i, I: Read> InputLines<'i, I> {
             return Ok(false);
         }
         if !self.begun.is_empty() {
-            self.end_line(lines)?;
+            self.end_last(lines)?;
         }
         Ok(true)
     }
 
-    /// The lines that the next reads bring, or none at the end of the input. A last line needs no end. A line that is too long
-    /// stands there as `too-long`. `Failed` if the input cannot be read: what was read of a line is kept. After `OutOfMemory`
-    /// nothing is said of the lines that are to come.
+    /// The lines that the next reads bring, or none at the end of the input. A line that is too long stands there as `too-long`,
+    /// and a last line that has no end as `unended`, unless it asks. `Failed` if the input cannot be read: what was read of a
+    /// line is kept. After `OutOfMemory` nothing is said of the lines that are to come.
     pub fn next_lines(&mut self) -> Result<Vec<Vec<u8>>, InputFault>
         requires { IsLine self.old.begun.items }
         ensures begun { IsLine self.new.begun.items }

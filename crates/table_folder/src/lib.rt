@@ -2,6 +2,7 @@
 #![tactic(auto)]
 
 mod alias_form;
+mod asking;
 mod cut;
 mod endings;
 mod fault;
@@ -19,6 +20,7 @@ mod shared;
 mod teller;
 mod told;
 
+pub use asking::is_reading;
 pub use cut::{cut_length, keep_cut};
 pub use endings::ending_of;
 pub use fault::{Damage, TableFault, journal_fault};

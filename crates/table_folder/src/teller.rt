@@ -1,5 +1,5 @@
 //! Where people are told why a run ends, and how it ends then.
-ghost use Rattle.std.specs.Prelude.{◌≡◌};
+ghost use Rattle.std.specs.Prelude.{◌≡◌, false};
 ghost use Rattle.table_folder.specs.declared.fault.TableFault.TheVariants.{Told, Kept};
 ghost use Rattle.table_folder.specs.Faults.{ending_of_fault, IsTold};
 
@@ -172,6 +172,19 @@ impl<'e, E: Write> Teller<'e, E> {
             let _ = writeln!(
                 self.errors,
                 "gz-table: {lines} lines have more than 65,535 bytes, and were refused: write shorter ones"
+            );
+        }
+    }
+
+    /// The last line was refused, since it has no end. If it was not, nothing is told.
+    pub fn unended(&mut self, refused: bool)
+        ensures same_stream { self.new.errors.ghost_name ≡ self.old.errors.ghost_name }
+        ensures silent { refused ≡ false → self.new ≡ self.old }
+    {
+        if refused {
+            let _ = writeln!(
+                self.errors,
+                "gz-table: the last line has no line feed, and was refused, since it may be half of one: end it with a line feed"
             );
         }
     }

@@ -1,6 +1,7 @@
 use Rattle.std.proofs.Common.{rules, ◌≡◌, ℕ, List, ◌++◌, take, drop, length, ◌-◌, refl, ◌∙◌}
 use Rattle.std.proofs.lemmas.Result.{on_ok_weaker}
 use Rattle.line_journal.specs.Lines.{bytes_of}
+use Rattle.table_folder.specs.InputLines.{brought}
 use Rattle.table_folder.proofs.InputLemmas.{Ends, alike-go_on, ends-in_piece, brings-ends, counts-ends, brings-alike, counts-alike}
 use Rattle.table_folder.proofs.input.InputLines.take.Goals as goal
 
@@ -16,7 +17,7 @@ loop-at-preserved g c =
     let found = c.in-Some.ensures in
     let added : line ≡ begun ++ take (65536 - length begun) (take c.in-Some.at piece) =
     rw (← c.split_at.ensures.front) c.in_ok-go_on.ensures.added in
-    let ends : (more : List ℕ) → Ends line (begun ++ (piece ++ more)) (later ++ more) =
+    let ends : (more : List ℕ) → Ends (brought line) line (begun ++ (piece ++ more)) (later ++ more) =
     λ more. ends-in_piece begun piece back line more c.in-Some.at so.begun found.within found.line found.feed c.split_at.ensures.back added c.go_on.ensures.begun in
     record {
       begun = search rules;
@@ -24,11 +25,11 @@ loop-at-preserved g c =
       input = search rules;
       goes_on = λ more.
           rw (c.in_ok-end_line.ensures.begun)
-          (brings-ends (bytes_of c.args.lines.now.items) (bytes_of c.loop-at.lines.items) (bytes_of c.end_line.new.lines.items) line (first more) (begun ++ (piece ++ more)) (later ++ more)
+          (brings-ends (bytes_of c.args.lines.now.items) (bytes_of c.loop-at.lines.items) (bytes_of c.end_line.new.lines.items) (brought line) line (first more) (begun ++ (piece ++ more)) (later ++ more)
           (so.goes_on more) (ends more) c.in_ok-end_line.ensures.added);
       counted = λ more.
           rw (c.in_ok-end_line.ensures.begun)
-          (counts-ends c.args.self.now.too_long c.loop-at.self.too_long c.end_line.new.self.too_long line (first more) (begun ++ (piece ++ more)) (later ++ more)
+          (counts-ends c.args.self.now.too_long c.loop-at.self.too_long c.end_line.new.self.too_long (brought line) line (first more) (begun ++ (piece ++ more)) (later ++ more)
           (so.counted more) (ends more) (c.end_line.ensures.counted ∙ rw c.go_on.ensures.too_long refl));
     }
 
