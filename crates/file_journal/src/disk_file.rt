@@ -12,7 +12,8 @@ use std::rt::Files;
 pub enum Syncs {
     /// By fsync(2), so that a crash of the machine loses nothing.
     Kept,
-    /// Nothing is waited for. Only while the machine goes on is nothing lost.
+    /// Nothing is waited for, but a new file before it takes the place of another. Only while the machine goes on is nothing
+    /// lost.
     LeftOut,
 }
 
@@ -178,14 +179,13 @@ impl<R: Files + Drop> DiskFile<R> {
         }
     }
 
-    /// Writes a new file, with the owner and the rights of the one that is there, and brings it to the disk.
+    /// Writes a new file, with the owner and the rights of the one that is there, and brings it to the disk, also where nothing
+    /// else is waited for: others may have waited for what the one that is there has.
     fn write_new(&self, bytes: &[u8]) -> io::Result<R::File> {
         let known = self.file.metadata()?;
         let mut new = create_like(&self.rt, self.paths.new_journal.as_str(), &known)?;
         new.write_all(bytes)?;
-        if self.syncs == Syncs::Kept {
-            new.sync_all()?;
-        }
+        new.sync_all()?;
         Ok(new)
     }
 

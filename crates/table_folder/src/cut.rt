@@ -63,7 +63,7 @@ fn add_cut<R: Files<File = File> + Clock + AllocGlobal>(
     file.write_all(behind)?;
     file.write_all(b"\n")?;
     file.sync_all()?;
-    shared.sync_names(shared.folder)
+    shared.sync_names(shared.folder, shared.syncs)
 }
 
 /// Adds what is about to be cut off behind the lines of the folder's journal to `journal.cut`. It is on the disk then.

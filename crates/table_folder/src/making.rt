@@ -78,11 +78,11 @@ fn put_folder<R: Files<File = File> + Clock + AllocGlobal>(
     if !is_folder(shared.rt, shared.folder) {
         fs::create_dir(shared.rt, shared.folder)?;
     }
-    shared.sync_names(&shared.path("..")?)
+    shared.sync_names(&shared.path("..")?, Syncs::Kept)
 }
 
-/// Makes the folder, if there is none of this path. It is on the disk then, unless `syncs` leaves that out. `NoFolder` with the
-/// cause if it cannot be made.
+/// Makes the folder, if there is none of this path. It is on the disk then, also if `syncs` leaves the rest out: others may wait
+/// for what they write to the table. `NoFolder` with the cause if it cannot be made.
 pub fn make_folder<R: Files<File = File> + Clock + AllocGlobal>(
     shared: &Shared<'_, R>,
 ) -> Result<(), TableFault>
@@ -95,13 +95,10 @@ pub fn make_folder<R: Files<File = File> + Clock + AllocGlobal>(
 }
 
 /// Writes a file anew, and waits until it is on the disk.
-fn write_file<R: Files>(rt: &R, path: &str, bytes: &[u8], syncs: Syncs) -> io::Result<()> {
+fn write_file<R: Files>(rt: &R, path: &str, bytes: &[u8]) -> io::Result<()> {
     let mut file = create_anew(rt, path)?;
     file.write_all(bytes)?;
-    match syncs {
-        Syncs::Kept => file.sync_all(),
-        Syncs::LeftOut => Ok(()),
-    }
+    file.sync_all()
 }
 
 /// Writes the file of the setup, all at once.
@@ -110,13 +107,13 @@ fn put_setup<R: Files<File = File> + Clock + AllocGlobal>(
     bytes: &[u8],
 ) -> io::Result<()> {
     let early = shared.path("setup.new")?;
-    write_file(shared.rt, &early, bytes, shared.syncs)?;
+    write_file(shared.rt, &early, bytes)?;
     fs::rename(shared.rt, &early, &shared.path(SETUP)?)?;
-    shared.sync_names(shared.folder)
+    shared.sync_names(shared.folder, Syncs::Kept)
 }
 
-/// Writes the setup of the folder, all at once: a crash leaves the whole of it, or none. It is on the disk then, unless `syncs`
-/// leaves that out. `Unwritten` with the cause if it cannot be written.
+/// Writes the setup of the folder, all at once: a crash leaves the whole of it, or none. It is on the disk then, also if `syncs`
+/// leaves the rest out. `Unwritten` with the cause if it cannot be written.
 pub fn write_setup<R: Files<File = File> + Clock + AllocGlobal>(
     shared: &Shared<'_, R>,
     bytes: &[u8],

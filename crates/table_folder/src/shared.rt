@@ -49,8 +49,8 @@ impl<R: Files<File = File> + Clock + AllocGlobal> Shared<'_, R> {
 
     /// Brings the names in a folder to the disk, unless `syncs` leaves that out. Who may not list the folder cannot open it:
     /// then that is left to the system.
-    pub(crate) fn sync_names(&self, folder: &str) -> io::Result<()> {
-        match FolderNames::open(self.rt, folder, self.syncs) {
+    pub(crate) fn sync_names(&self, folder: &str, syncs: Syncs) -> io::Result<()> {
+        match FolderNames::open(self.rt, folder, syncs) {
             Ok(names) => names.sync(),
             Err(error) if error.kind() == ErrorKind::PermissionDenied => Ok(()),
             Err(error) => Err(error),
