@@ -1,11 +1,15 @@
 use crate::disk_file::path_in;
 use crate::fault::{Action, FileFault, Target};
 use std::alloc::{AllocError, Global};
-use std::fs::{File, TryLockError};
+use std::fs::{self, File, TryLockError};
 use std::io::{self, ErrorKind};
+use std::os::unix::fs::MetadataExt;
 use std::rt::{Clock, Files};
 use std::time::{Duration, Instant};
 use std::{fmt, thread};
+
+/// How often the lock is opened, if its folder is made anew again and again.
+const TRIES: u32 = 16;
 
 /// Who may have a folder's lock at the same time.
 #[derive(Clone, Copy, Debug, PartialEq, Eq)]
@@ -86,9 +90,26 @@ fn is_taken(file: &File, kind: LockKind) -> io::Result<bool> {
     }
 }
 
-/// Tries until the lock is taken, or the time is over.
-fn wait_for<R: Clock>(rt: &R, file: &File, kind: LockKind, limit: Duration) -> io::Result<bool> {
-    let start = Instant::now(rt)?;
+/// Whether a file is the one that has a path now. If not, others have removed it, or have put another in its place.
+fn has_path<R: Files<File = File>>(rt: &R, file: &File, path: &str) -> io::Result<bool> {
+    match fs::metadata(rt, path) {
+        Ok(there) => {
+            let known = file.metadata()?;
+            Ok(there.dev() == known.dev() && there.ino() == known.ino())
+        }
+        Err(error) if error.kind() == ErrorKind::NotFound => Ok(false),
+        Err(error) => Err(error),
+    }
+}
+
+/// Tries until the lock is taken, or the time since the start is over.
+fn wait_for<R: Clock>(
+    rt: &R,
+    file: &File,
+    kind: LockKind,
+    start: Instant,
+    limit: Duration,
+) -> io::Result<bool> {
     for _ in 0..u64::MAX {
         if is_taken(file, kind)? {
             return Ok(true);
@@ -102,7 +123,8 @@ fn wait_for<R: Clock>(rt: &R, file: &File, kind: LockKind, limit: Duration) -> i
 }
 
 impl FolderLock {
-    /// Takes the lock of a folder. If others hold it, it is tried again every 10 milliseconds, for so many seconds.
+    /// Takes the lock of a folder. If others hold it, it is tried again every 10 milliseconds, for so many seconds. The lock of a
+    /// folder that was moved or removed meanwhile is given back, and that of the one that has its path now is taken.
     pub fn acquire<R: Files<File = File> + Clock>(
         rt: &R,
         alloc: Global,
@@ -111,13 +133,18 @@ impl FolderLock {
         seconds: u32,
     ) -> Result<Self, LockError> {
         let path = path_in(alloc, folder, "lock", "")?;
-        let file = open_lock(rt, path.as_str()).map_err(failed)?;
+        let start = Instant::now(rt).map_err(failed)?;
         let limit = Duration::from_secs(u64::from(seconds));
-        if wait_for(rt, &file, kind, limit).map_err(failed)? {
-            Ok(FolderLock { file })
-        } else {
-            Err(LockError::Held)
+        for _ in 0..TRIES {
+            let file = open_lock(rt, path.as_str()).map_err(failed)?;
+            if !wait_for(rt, &file, kind, start, limit).map_err(failed)? {
+                break;
+            }
+            if has_path(rt, &file, path.as_str()).map_err(failed)? {
+                return Ok(FolderLock { file });
+            }
         }
+        Err(LockError::Held)
     }
 
     /// Gives the lock back.

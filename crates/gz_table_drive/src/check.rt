@@ -99,7 +99,7 @@ pub(crate) fn check<R: Files<File = File> + Clock + AllocGlobal>(
     let alloc = shared.alloc();
     let found = read_setup(shared)?;
     let setup = &found.setup;
-    let lock = shared.lock(LockKind::Shared)?;
+    let lock = shared.with_setup(&found).lock(LockKind::Shared)?;
     let bytes = read_journal(shared)?;
     let cut = cut_length(shared)?;
     lock.release();

@@ -70,7 +70,7 @@ pub(crate) fn compact<R: Files<File = File> + Clock + AllocGlobal, E: Write>(
     let alloc = shared.alloc();
     let setup = read_setup(shared)?;
     let mut kept = Kept::new(&setup.setup);
-    let lock = shared.lock(LockKind::Exclusive)?;
+    let lock = shared.with_setup(&setup).lock(LockKind::Exclusive)?;
     let mut table = changing_table(shared, &mut kept, teller)?;
     let compacted = compact_table(alloc, kept.setup(), &mut table);
     lock.release();

@@ -39,6 +39,9 @@ use table_folder::{
 };
 use table_words::{Asked, Ending, HELP, Job, Stop, VERSION, line_of, read_words};
 
+/// How often a command is begun, if its table is made anew again and again.
+const TRIES: u32 = 3;
+
 /// Writes a text, and waits until the stream has it. If the output fails, it has a beginning of the text.
 fn write_whole<O: Write>(text: &[u8], output: &mut O) -> Result<(), TableFault>
     ensures written { OnOk result (Appends (O.contents output.old) (O.contents output.new) text.now) }
@@ -112,8 +115,9 @@ fn first_ending(replies: &Replies) -> Ending
     }
 }
 
-/// Answers one line, and writes its reply.
-fn answer_command<R: Files<File = File> + Clock + AllocGlobal, O: Write, E: Write>(
+/// Answers one line by the setup that lies in the folder now, and writes its reply. `MadeAnew` if another one lies there once the
+/// lock is taken.
+fn answer_once<R: Files<File = File> + Clock + AllocGlobal, O: Write, E: Write>(
     shared: &Shared<'_, R>,
     words: &[&[u8]],
     output: &mut O,
@@ -127,7 +131,7 @@ fn answer_command<R: Files<File = File> + Clock + AllocGlobal, O: Write, E: Writ
     let lines = command_line(alloc, words, teller)?;
     let mut replies = Replies::new(alloc);
     answer_in_tenure(
-        shared,
+        &shared.with_setup(&setup),
         &mut Kept::new(&setup.setup),
         &lines,
         &mut replies,
@@ -135,6 +139,25 @@ fn answer_command<R: Files<File = File> + Clock + AllocGlobal, O: Write, E: Writ
     )?;
     write_whole(&replies.text, output)?;
     Ok(first_ending(&replies))
+}
+
+/// Answers one line, and writes its reply. If the table is made anew while this waits for it, its setup is read anew too.
+fn answer_command<R: Files<File = File> + Clock + AllocGlobal, O: Write, E: Write>(
+    shared: &Shared<'_, R>,
+    words: &[&[u8]],
+    output: &mut O,
+    teller: &mut Teller<'_, E>,
+) -> Result<Ending, TableFault>
+    ensures written { IfOk result (IsWritten (line_of (texts_of words.now)) (O.contents output.old) (O.contents output.new)) }
+    ensures failed { IfErr result (IsCutShort (IsWritten (line_of (texts_of words.now))) (O.contents output.old) (O.contents output.new)) }
+{
+    for _ in 0..TRIES {
+        match answer_once(shared, words, output, teller) {
+            Err(TableFault::MadeAnew) => {}
+            answered => return answered,
+        }
+    }
+    Err(TableFault::MadeAnew)
 }
 
 /// Answers the lines of an input, to its end. The table is kept from one group of them to the next.
@@ -207,7 +230,9 @@ fn answer_lines_of<R: Files<File = File> + Clock + AllocGlobal, I: Read, O: Writ
     ensures stopped { IfErr result (λ fault. (O.contents output.new ≡ O.contents output.old) ⊎ IsInputSent (I.remaining input.old) (O.contents output.old) (O.contents output.new) fault) }
 {
     let setup = read_setup(shared)?;
-    let ending = answer_input(shared, &mut Kept::new(&setup.setup), input, output, teller)?;
+    let mut kept = Kept::new(&setup.setup);
+    let shared = shared.with_setup(&setup);
+    let ending = answer_input(&shared, &mut kept, input, output, teller)?;
     Ok(ending)
 }
 
@@ -320,6 +345,7 @@ fn answer_asked<R: Files<File = File> + Env + Clock + AllocGlobal, I: Read, O: W
         } else {
             Syncs::LeftOut
         },
+        setup: None,
     };
     match perform(&shared, asked.job, input, output, teller) {
         Ok(ending) => ending,

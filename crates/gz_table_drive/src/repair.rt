@@ -111,7 +111,7 @@ pub(crate) fn repair<R: Files<File = File> + Clock + AllocGlobal, E: Write>(
     teller: &mut Teller<'_, E>,
 ) -> Result<(), TableFault> {
     let setup = read_setup(shared)?;
-    let lock = shared.lock(LockKind::Exclusive)?;
+    let lock = shared.with_setup(&setup).lock(LockKind::Exclusive)?;
     let repaired = repair_journal(shared, &setup.setup, teller);
     lock.release();
     repaired

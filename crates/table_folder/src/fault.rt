@@ -37,6 +37,8 @@ pub enum TableFault {
     ChangedSetup,
     /// The sections of the setup say what they may not.
     Sections(SectionsFault),
+    /// Since the setup was read, the table was made anew, or taken away.
+    MadeAnew,
     /// A file of the folder, of this name, was not read.
     Unread(&'static str, PathFault),
     /// The lock was not taken.

@@ -1,10 +1,11 @@
 //! The setup of a folder: what it says, if it is as it was written.
-ghost use Rattle.std.specs.Prelude.{ℕ, List, IfOk, IfErr, IsErrOf};
+ghost use Rattle.std.specs.Prelude.{◌≡◌, ℕ, List, IfOk, IfErr, IsErrOf};
 ghost use Rattle.table_folder.specs.Faults.{IsRefused};
 ghost use Rattle.table_setup.specs.Sealed.{IsSealed};
 ghost use Rattle.table_folder.specs.Setups.{IsChanged, IsReadFrom};
 
 use crate::fault::TableFault;
+use crate::mark::FileMark;
 use crate::setup::setup_of;
 use modprobe::{AliasForm, Setup};
 use std::alloc::Global;
@@ -17,18 +18,22 @@ pub struct FolderSetup {
     pub setup: Setup,
     /// All before the last line of the file.
     text: Vec<u8>,
+    /// Which file it was.
+    pub(crate) mark: FileMark,
 }
 
 impl FolderSetup {
-    /// What the bytes of a setup's file say, with its aliases in a form. `CutSetup` if they do not end with a last line of
+    /// What the bytes of a setup's file say, which has this mark, with its aliases in a form. `CutSetup` if they do not end with a last line of
     /// their length, and `ChangedSetup` if their text has another sum than that line says.
     #[tactic(auto, using(crate::proofs::SetupLemmas::cut_sealed))]
     pub(crate) fn read(
         alloc: Global,
         bytes: Vec<u8>,
+        mark: FileMark,
         form: AliasForm,
     ) -> Result<FolderSetup, TableFault>
         ensures found { IfOk result (IsReadFrom bytes.items) }
+        ensures mark { IfOk result (λ found. found.mark ≡ mark) }
         ensures cut { IsErrOf result TableFault.CutSetup → (text : List ℕ) (sum : ℕ) → IsSealed bytes.items text sum → ⊥ }
         ensures changed { IsErrOf result TableFault.ChangedSetup → IsChanged bytes.items }
         ensures fault { IfErr result IsRefused }
@@ -43,16 +48,17 @@ impl FolderSetup {
         let mut text = bytes;
         text.truncate(length);
         let setup = setup_of(alloc, &text, form)?;
-        Ok(FolderSetup { setup, text })
+        Ok(FolderSetup { setup, text, mark })
     }
 
     /// The same setup, with its aliases in another form.
     pub(crate) fn in_form(self, alloc: Global, form: AliasForm) -> Result<FolderSetup, TableFault>
         ensures found { (bytes : List ℕ) → IsReadFrom bytes self → IfOk result (IsReadFrom bytes) }
+        ensures mark { IfOk result (λ found. found.mark ≡ self.mark) }
         ensures fault { IfErr result IsRefused }
     {
-        let FolderSetup { text, .. } = self;
+        let FolderSetup { text, mark, .. } = self;
         let setup = setup_of(alloc, &text, form)?;
-        Ok(FolderSetup { setup, text })
+        Ok(FolderSetup { setup, text, mark })
     }
 }

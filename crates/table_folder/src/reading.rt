@@ -6,6 +6,7 @@ ghost use Rattle.table_folder.specs.Setups.{IsReadFrom};
 use crate::alias_form::form_for;
 use crate::fault::TableFault;
 use crate::folder_setup::FolderSetup;
+use crate::mark::FileMark;
 use crate::shared::{JOURNAL, SETUP, Shared};
 use modprobe::AliasForm;
 use program_frame::PathFault;
@@ -18,11 +19,19 @@ use std::time::Clock;
 /// How many bytes of a file are read at a time.
 const PIECE: usize = 65_536;
 
+/// All bytes of a file, and which one it was.
+#[derive(Drop)]
+struct ReadFile {
+    bytes: Vec<u8>,
+    mark: FileMark,
+}
+
 /// All bytes of the file of a path. Room for what it has is taken at once, and it is read in pieces, which takes less time than
 /// `read_to_end`.
-fn read_path<R: Files<File = File> + AllocGlobal>(rt: &R, path: &str) -> io::Result<Vec<u8>> {
+fn read_path<R: Files<File = File> + AllocGlobal>(rt: &R, path: &str) -> io::Result<ReadFile> {
     let mut file = File::open(rt, path)?;
-    let room = usize::try_from(file.metadata()?.len()).unwrap_or(0);
+    let known = file.metadata()?;
+    let room = usize::try_from(known.len()).unwrap_or(0);
     let mut bytes = Vec::with_capacity(rt.alloc(), room)?;
     let mut piece = vec![in rt.alloc(); 0; PIECE]?;
     for _ in 0..u64::MAX {
@@ -33,19 +42,20 @@ fn read_path<R: Files<File = File> + AllocGlobal>(rt: &R, path: &str) -> io::Res
             Err(error) => return Err(error),
         }
     }
-    Ok(bytes)
+    let mark = FileMark::of(&known);
+    Ok(ReadFile { bytes, mark })
 }
 
 /// All bytes of a file of the folder.
 fn read_file<R: Files<File = File> + Clock + AllocGlobal>(
     shared: &Shared<'_, R>,
     name: &'static str,
-) -> Result<Vec<u8>, TableFault>
+) -> Result<ReadFile, TableFault>
     ensures { IfErr result (IsUnread name.now) }
 {
     let path = shared.path(name)?;
     match read_path(shared.rt, &path) {
-        Ok(bytes) => Ok(bytes),
+        Ok(read) => Ok(read),
         Err(error) => match PathFault::from(error) {
             PathFault::Memory => Err(TableFault::OutOfMemory),
             PathFault::Missing if name == SETUP => Err(TableFault::NoTable),
@@ -61,7 +71,8 @@ pub fn read_journal<R: Files<File = File> + Clock + AllocGlobal>(
 ) -> Result<Vec<u8>, TableFault>
     ensures { IfErr result (IsUnread (codes "journal")) }
 {
-    read_file(shared, JOURNAL)
+    let read = read_file(shared, JOURNAL)?;
+    Ok(read.bytes)
 }
 
 /// What the table of the folder was made of, for many lines. It is kept until the process ends, which takes less time than to
@@ -75,8 +86,8 @@ pub fn read_setup<R: Files<File = File> + Clock + AllocGlobal>(
     ensures found { IfOk result (λ found. (bytes : List ℕ) × IsReadFrom bytes found.value) }
     ensures fault { IfErr result IsNoSetup }
 {
-    let bytes = read_file(shared, SETUP)?;
-    let setup = FolderSetup::read(shared.alloc(), bytes, AliasForm::Table)?;
+    let read = read_file(shared, SETUP)?;
+    let setup = FolderSetup::read(shared.alloc(), read.bytes, read.mark, AliasForm::Table)?;
     Ok(ManuallyDrop::new(setup))
 }
 
@@ -90,8 +101,8 @@ pub fn read_setup_for_command<R: Files<File = File> + Clock + AllocGlobal>(
     ensures fault { IfErr result IsNoSetup }
 {
     let alloc = shared.alloc();
-    let bytes = read_file(shared, SETUP)?;
-    let found = FolderSetup::read(alloc, bytes, AliasForm::Text)?;
+    let read = read_file(shared, SETUP)?;
+    let found = FolderSetup::read(alloc, read.bytes, read.mark, AliasForm::Text)?;
     match form_for(shared, &found.setup, words)? {
         AliasForm::Text => Ok(ManuallyDrop::new(found)),
         AliasForm::Table => Ok(ManuallyDrop::new(found.in_form(alloc, AliasForm::Table)?)),

@@ -1,8 +1,11 @@
 //! The folder of a table, and how a run uses it.
 
-ghost use Rattle.std.specs.Prelude.{◌≡◌, ◌++◌, codes, string_bytes, IfOk};
+ghost use Rattle.std.specs.Prelude.{◌≡◌, ◌++◌, Some, codes, string_bytes, IfOk};
 
-use file_journal::{FolderLock, FolderNames, LockError, LockKind, Syncs};
+use crate::fault::TableFault;
+use crate::folder_setup::FolderSetup;
+use crate::mark::FileMark;
+use file_journal::{FolderLock, FolderNames, LockKind, Syncs};
 use std::alloc::{AllocError, Global};
 use std::fs::{self, File};
 use std::io::{self, ErrorKind};
@@ -26,9 +29,11 @@ pub struct Shared<'a, R> {
     /// How many seconds another process is waited for.
     pub wait: u32,
     pub syncs: Syncs,
+    /// Which setup was read, if one was.
+    pub setup: Option<FileMark>,
 }
 
-impl<R: Files<File = File> + Clock + AllocGlobal> Shared<'_, R> {
+impl<'a, R: Files<File = File> + Clock + AllocGlobal> Shared<'a, R> {
     /// What memory is taken from.
     pub fn alloc(&self) -> Global {
         self.rt.alloc()
@@ -57,8 +62,42 @@ impl<R: Files<File = File> + Clock + AllocGlobal> Shared<'_, R> {
         }
     }
 
-    /// Takes the lock of the folder (flock(2)). Another process that has it is waited for, `wait` seconds at the most.
-    pub fn lock(&self, kind: LockKind) -> Result<FolderLock, LockError> {
-        FolderLock::acquire(self.rt, self.rt.alloc(), self.folder, kind, self.wait)
+    /// The same folder, of which this setup was read.
+    pub fn with_setup(&self, found: &FolderSetup) -> Shared<'a, R>
+        ensures setup { result.setup ≡ Some found.now.mark }
+        ensures folder { result.folder ≡ self.now.folder }
+        ensures wait { result.wait ≡ self.now.wait }
+        ensures syncs { result.syncs ≡ self.now.syncs }
+    {
+        Shared {
+            rt: self.rt,
+            folder: self.folder,
+            wait: self.wait,
+            syncs: self.syncs,
+            setup: Some(found.mark),
+        }
+    }
+
+    /// Whether a setup was read, and another one, or none, lies in the folder now. Fails only out of memory.
+    fn is_anew(&self) -> Result<bool, AllocError> {
+        let Some(read) = self.setup else {
+            return Ok(false);
+        };
+        match fs::metadata(self.rt, &self.path(SETUP)?) {
+            Ok(known) => Ok(FileMark::of(&known) != read),
+            Err(_) => Ok(true),
+        }
+    }
+
+    /// Takes the lock of the folder (flock(2)). Another process that has it is waited for, `wait` seconds at the most. `MadeAnew`
+    /// if the setup that was read does not lie there then: the lock is given back.
+    pub fn lock(&self, kind: LockKind) -> Result<FolderLock, TableFault> {
+        let alloc = self.rt.alloc();
+        let lock = FolderLock::acquire(self.rt, alloc, self.folder, kind, self.wait)?;
+        if self.is_anew()? {
+            lock.release();
+            return Err(TableFault::MadeAnew);
+        }
+        Ok(lock)
     }
 }

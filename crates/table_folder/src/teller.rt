@@ -254,6 +254,10 @@ impl<'e, E: Write> Teller<'e, E> {
                 self.errors,
                 "gz-table: {folder}/setup was changed: its text has another sum than its last line says; restore it, or make the table in another folder"
             ),
+            TableFault::MadeAnew => writeln!(
+                self.errors,
+                "gz-table: {folder}: the table was made anew, or taken away, since this run read its setup; what has no reply was not done: ask again"
+            ),
             TableFault::Foreign => writeln!(
                 self.errors,
                 "gz-table: {folder}/journal has another first line than `gourzhiel journal 1`: it was changed, or it is no journal; nothing was done: restore that line, or make the table in another folder"
