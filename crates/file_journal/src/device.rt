@@ -248,7 +248,10 @@ impl<R: Files + Drop> Device for FileDevice<R> {
         self.refuse_failed()?;
         match self.disk.sync() {
             Ok(()) => Ok(self.belief.settle()?),
-            Err(fault) => Err(self.fail(fault)),
+            Err(fault) => {
+                self.disk.write_again(&self.belief.bytes);
+                Err(self.fail(fault))
+            }
         }
     }
 

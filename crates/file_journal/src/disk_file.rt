@@ -179,6 +179,12 @@ impl<R: Files + Drop> DiskFile<R> {
         }
     }
 
+    /// Writes all bytes of the file again, as they are, after a sync that failed. The system may take for written what did not come
+    /// to the disk: then the next sync, whoever makes it, would write nothing, and succeed.
+    pub(crate) fn write_again(&mut self, bytes: &[u8]) {
+        let _ = write_bytes(&mut self.file, 0, bytes);
+    }
+
     /// Writes a new file, with the owner and the rights of the one that is there, and brings it to the disk, also where nothing
     /// else is waited for: others may have waited for what the one that is there has.
     fn write_new(&self, bytes: &[u8]) -> io::Result<R::File> {
