@@ -6,9 +6,10 @@ ghost use Rattle.gz_table_drive.specs.Adopting.{AdoptsListing, HasAdopted};
 use crate::adopting::{AdoptError, adopt_modules};
 use crate::answering::Replies;
 use crate::kept::Kept;
-use crate::tenure::{FileTable, changing_table};
+use crate::tenure::{FileTable, changing_table, cut_unwritten};
 use file_journal::{FileDevice, LockKind};
 use line_journal::{Device, DeviceError};
+use modprobe::Setup;
 use std::alloc::Global;
 use std::fs::File;
 use std::io::{Read, Write};
@@ -37,6 +38,22 @@ fn adopt_file<R: Files + Drop>(
     }
 }
 
+/// As `adopt_file`, and what a full disk took of that is cut off again.
+fn adopt_into<'r, R: Files<File = File> + Clock + AllocGlobal>(
+    shared: &Shared<'r, R>,
+    setup: &Setup,
+    table: &mut FileTable<'_, &'r R>,
+    kernel: &[KernelModule],
+    replies: &mut Replies,
+) -> Result<(), TableFault>
+    requires { Stands ⟦<FileDevice<&'r R> as Device>⟧.content ⟦<FileDevice<&'r R> as Device>⟧.history table.old.session.setup.now table.old.session.holders.held table.old.journal }
+    ensures { OnOk result (HasAdopted table.old.session.setup.now table.old.session.holders.held kernel.now replies.old replies.new) }
+{
+    let adopted = adopt_file(shared.alloc(), table, kernel, replies);
+    cut_unwritten(shared, setup, &adopted);
+    adopted
+}
+
 /// Brings the table of a folder to the modules that a file lists. What is not done is answered, a line each. The file is
 /// read while the table is locked, and standard input before.
 pub(crate) fn adopt<R: Files<File = File> + Clock + AllocGlobal, I: Read, E: Write>(
@@ -55,7 +72,7 @@ pub(crate) fn adopt<R: Files<File = File> + Clock + AllocGlobal, I: Read, E: Wri
     let kernel = modules_of(alloc, &text, teller)?;
     let mut table = changing_table(shared, &mut Kept::new(&setup.setup), teller)?;
     let mut replies = Replies::new(alloc);
-    let adopted = adopt_file(alloc, &mut table, &kernel, &mut replies);
+    let adopted = adopt_into(shared, &setup.setup, &mut table, &kernel, &mut replies);
     lock.release();
     adopted?;
     Ok(replies)

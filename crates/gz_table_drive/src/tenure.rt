@@ -11,7 +11,7 @@ use crate::kept::{Kept, Taken};
 use crate::opening::{OpenFault, keep_torn, open_table, read_table};
 use crate::reading::{answer_copy, are_reading, ask_lines, copy_of};
 use durable_table::{DurableTable, ReadTable};
-use file_journal::{FileDevice, FolderLock, LockKind};
+use file_journal::{Action, Cause, FileDevice, FileFault, FolderLock, LockKind};
 use line_journal::{Device, DeviceError};
 use modprobe::Setup;
 use std::alloc::Global;
@@ -208,6 +208,30 @@ fn answer_table<'s, R: Files + Drop>(
     }
 }
 
+/// If the disk was full, cuts off what was written of lines that have no reply, so that something can be given back. It is this
+/// run's own, which still has the lock, and is not kept. If that fails too, it is left to the next run.
+pub(crate) fn cut_unwritten<R: Files<File = File> + Clock + AllocGlobal, T>(
+    shared: &Shared<'_, R>,
+    setup: &Setup,
+    done: &Result<T, TableFault>,
+) {
+    let Err(
+        TableFault::File(
+            FileFault {
+                action: Action::Write,
+                cause: Cause::Full,
+                ..
+            },
+        ),
+    ) = done
+    else {
+        return;
+    };
+    if let Ok(device) = open_journal(shared) {
+        let _ = open_table(shared.alloc(), setup, device);
+    }
+}
+
 /// Answers lines. What they change is on the disk before the lock is given back.
 fn answer_changing<'s, 'r, R: Files<File = File> + Clock + AllocGlobal, E: Write>(
     shared: &Shared<'r, R>,
@@ -226,6 +250,7 @@ fn answer_changing<'s, 'r, R: Files<File = File> + Clock + AllocGlobal, E: Write
     let lock = shared.lock(LockKind::Exclusive)?;
     let table = changing_table(shared, kept, teller)?;
     let answered = answer_table(shared.alloc(), kept, table, lines, replies);
+    cut_unwritten(shared, kept.setup(), &answered);
     lock.release();
     answered
 }

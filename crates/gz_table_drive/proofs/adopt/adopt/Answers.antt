@@ -13,7 +13,7 @@ returns g c =
     let table = c.in_ok-table.table in
     let held = table.session.holders.held in
     let kernel = c.in_ok-kernel.kernel.items in
-    let same : c.new.result.setup.now ≡ found.setup = c.new.ensures ∙ ap (λ (f : FolderSetup). f.setup) c.deref-2.ensures in
+    let same : c.new.result.setup.now ≡ found.setup = c.new.ensures ∙ ap (λ (f : FolderSetup). f.setup) c.deref-3.ensures in
     let own = stands_for c.new.result.setup.now found.setup held c.in_ok-table.ensures.stands same in (
       c.new-replies.result,
       record { text = c.new-replies.ensures.text; endings = c.new-replies.ensures.endings },
@@ -24,11 +24,11 @@ returns g c =
         listing = c.in_ok-listing.listing;
         named = c.in_ok-listing.ensures.listing;
         kernel = kernel;
-        listed = (c.in_ok-text.text.items, c.in_ok-text.ensures.text, subst (λ (text : List ℕ). modules_of_text text ≡ Ok kernel) c.deref.ensures.value c.in_ok-kernel.ensures.modules);
+        listed = (c.in_ok-text.text.items, c.in_ok-text.ensures.text, subst (λ (text : List ℕ). modules_of_text text ≡ Ok kernel) c.deref-2.ensures.value c.in_ok-kernel.ensures.modules);
         journal = own.0;
         held = held;
         stands = own.1;
-        answered = subst (λ (s : Setup). HasAdopted s held kernel c.new-replies.result c.adopt_file-adopted.new.replies) (c.in_ok-table.ensures.of_setup ∙ same)
-            (subst (λ (ks : List KernelModule). HasAdopted table.session.setup.now held ks c.new-replies.result c.adopt_file-adopted.new.replies) c.deref-3.ensures.value c.in_ok-adopted.ensures);
+        answered = subst (λ (s : Setup). HasAdopted s held kernel c.new-replies.result c.adopt_into-adopted.new.replies) (c.in_ok-table.ensures.of_setup ∙ same)
+            (subst (λ (ks : List KernelModule). HasAdopted table.session.setup.now held ks c.new-replies.result c.adopt_into-adopted.new.replies) c.deref-5.ensures.value c.in_ok-adopted.ensures);
       },
     )
