@@ -55,18 +55,6 @@ pub(crate) fn tell_unwritten<E: Write>(written: Written, messages: &mut Messages
     }
 }
 
-/// Tells what is wrong with an answer.
-fn tell_answered<S: System, E: Write>(
-    host: &Host<'_, S>,
-    machine: &Machine<'_>,
-    answered: &Answered,
-    query: &Query<'_>,
-    messages: &mut Messages<'_, E>,
-) -> Result<(), AllocError> {
-    tell_unwritten(answered.written, messages);
-    tell_failures(host, machine, &answered.answer, query, messages)
-}
-
 /// Answers a query from what was read, and tells what failed. `lines` are those of modules.dep, if they were found already.
 fn answer_read<S: System, O: Write, E: Write>(
     host: &Host<'_, S>,
@@ -88,7 +76,8 @@ fn answer_read<S: System, O: Write, E: Write>(
     let alloc = host.alloc();
     let index = index_by(alloc, machine.modules, machine.later, query.words, lines)?;
     let answered = answer_machine(alloc, machine, conf, &index, query, output, messages)?;
-    tell_answered(host, machine, &answered, query, messages)?;
+    tell_unwritten(answered.written, messages);
+    tell_failures(host, machine, &answered.answer, query, messages)?;
     Ok(answered)
 }
 
