@@ -287,11 +287,7 @@ fn refused_by<'a>(
 }
 
 /// A copy of the list of the last `module_blacklist=` among words.
-fn kept_list<'a>(
-    alloc: Global,
-    texts: &'a Bump,
-    words: &[Vec<u8>],
-) -> Result<&'a [u8], AllocError> {
+fn kept_list<'a>(alloc: Global, texts: &'a Bump, words: &[&[u8]]) -> Result<&'a [u8], AllocError> {
     let mut given = Vec::new(alloc);
     for word in words {
         given.push(unquoted(word))?;
@@ -316,7 +312,7 @@ fn explained<'a>(
     };
     let mut told = Told::new(alloc, &known);
     told.tell_all()?;
-    Ok(told.into_facts())
+    Ok(told.take_facts())
 }
 
 /// Why a query of a world is answered as it is. It fails only if memory runs out.

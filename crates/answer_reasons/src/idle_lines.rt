@@ -39,7 +39,7 @@ impl<'a> Told<'_, 'a> {
             return Ok(true);
         }
         let finding = find_name(self.alloc, &self.known.asked.world, name)?;
-        if !matches!(finding, Finding::Nothing) {
+        if !matches!(&finding, Finding::Nothing) {
             return Ok(true);
         }
         self.known.is_module(self.alloc, name)

@@ -4,7 +4,6 @@ ghost use Rattle.text_parts.specs.Text.{texts_of};
 ghost use Rattle.answer_reasons.specs.KernelList.{is_other, kernel_list, list_after};
 
 use std::alloc::{AllocError, Global};
-use std::mem;
 use text_parts::is_same;
 
 /// Whether the kernel ends a word at a byte, outside quotes.
@@ -14,19 +13,19 @@ fn is_space(byte: u8) -> bool {
 
 /// The words of the kernel's command line, which blanks end that stand in no quotes: `next_arg` of the kernel's
 /// lib/cmdline.c. A word may be empty. It fails only if memory runs out.
-pub(crate) fn kernel_words(alloc: Global, line: &[u8]) -> Result<Vec<Vec<u8>>, AllocError> {
+pub(crate) fn kernel_words<'l>(alloc: Global, line: &'l [u8]) -> Result<Vec<&'l [u8]>, AllocError> {
     let mut words = Vec::new(alloc);
-    let mut word = Vec::new(alloc);
+    let mut start = 0usize;
     let mut is_quoted = false;
-    for byte in line {
+    for (at, byte) in line.iter().enumerate() {
         if is_space(*byte) && !is_quoted {
-            words.push(mem::replace(&mut word, Vec::new(alloc)))?;
+            words.push(line.get(start..at).unwrap_or(b""))?;
+            start = at.saturating_add(1);
         } else {
             is_quoted = is_quoted != (*byte == b'"');
-            word.push(*byte)?;
         }
     }
-    words.push(word)?;
+    words.push(line.get(start..).unwrap_or(b""))?;
     Ok(words)
 }
 

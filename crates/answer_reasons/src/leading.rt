@@ -216,7 +216,7 @@ fn told_leads<'a>(
     let mut told = Told::new(alloc, &known);
     let is_missing = told.tell_lead_words(sources.devices)?;
     Ok(Leads {
-        facts: told.into_facts(),
+        facts: told.take_facts(),
         is_missing,
     })
 }

@@ -7,7 +7,6 @@ use std::alloc::{AllocError, Global};
 use text_parts::whole_lines;
 
 /// The lines of a configuration by kinds, and those of modules.builtin by their numbers, from 1.
-#[derive(Drop)]
 pub(crate) struct NamedLines<'a> {
     /// Those of aliases, by the texts of their patterns.
     pub(crate) aliases: Heads<'a>,
@@ -16,6 +15,20 @@ pub(crate) struct NamedLines<'a> {
     pub(crate) removes: Heads<'a>,
     pub(crate) softdeps: Heads<'a>,
     pub(crate) builtins: KeyPlaces,
+}
+
+// By hand, since a derived drop is written out, and proved, at each place where a value is let go.
+impl Drop for NamedLines<'_> {
+    fn drop(self) {
+        let NamedLines {
+            aliases: _,
+            blacklist: _,
+            installs: _,
+            removes: _,
+            softdeps: _,
+            builtins: _,
+        } = self;
+    }
 }
 
 /// Adds the number of a line of modules.builtin, if it names a module.

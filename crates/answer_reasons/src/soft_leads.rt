@@ -41,7 +41,7 @@ impl<'a> Told<'_, 'a> {
     /// Whether a name is that of lines with a command, and of no alias of the configuration, which would come first.
     fn is_commanded(&self, name: &[u8]) -> Result<bool, AllocError> {
         let finding = find_name(self.alloc, &self.known.asked.world, name)?;
-        Ok(matches!(finding, Finding::Commanded))
+        Ok(matches!(&finding, Finding::Commanded))
     }
 
     /// Whether softdep lines of a name may count: they do for the name of a module or of lines with a command, and for one to

@@ -11,6 +11,7 @@ use indexmap::IndexSet;
 use kmod_names::Place;
 use kmod_query::Taken;
 use std::alloc::{AllocError, Global};
+use std::mem::replace;
 
 /// For how many words near names are looked for.
 const SEARCHES: usize = 8;
@@ -21,7 +22,6 @@ pub(crate) fn line_spot(file: &[u8], number: usize) -> Spot<'_> {
 }
 
 /// Facts about what is known, one after another.
-#[derive(Drop)]
 pub(crate) struct Told<'k, 'a> {
     pub(crate) alloc: Global,
     /// Where texts stay that are made for the facts.
@@ -35,6 +35,21 @@ pub(crate) struct Told<'k, 'a> {
     /// The names of which it was told that blacklist lines do not hold for an alias, and those that blacklist lines have with
     /// `-` for `_`.
     unheld: IndexSet<&'a [u8]>,
+}
+
+// By hand, since a derived drop is written out, and proved, at each place where a value is let go.
+impl Drop for Told<'_, '_> {
+    fn drop(self) {
+        let Told {
+            alloc: _,
+            texts: _,
+            known: _,
+            facts: _,
+            taken: _,
+            searches: _,
+            unheld: _,
+        } = self;
+    }
 }
 
 impl<'k, 'a> Told<'k, 'a> {
@@ -57,9 +72,9 @@ impl<'k, 'a> Told<'k, 'a> {
         Ok(is_new)
     }
 
-    /// All that was told.
-    pub(crate) fn into_facts(self) -> Vec<Fact<'a>> {
-        self.facts
+    /// Takes all that was told out.
+    pub(crate) fn take_facts(&mut self) -> Vec<Fact<'a>> {
+        replace(&mut self.facts, Vec::new(self.alloc))
     }
 
     /// A copy of a text, which lasts as long as the facts.

@@ -135,7 +135,7 @@ impl<'a> Told<'_, 'a> {
         match self.normal(word)? {
             Some(name) => {
                 let finding = find_name(self.alloc, &self.known.asked.world, name)?;
-                Ok(!matches!(finding, Finding::Nothing))
+                Ok(!matches!(&finding, Finding::Nothing))
             }
             None => Ok(false),
         }
