@@ -147,7 +147,7 @@ fn end_as_wanted<R: Abort>(
     processes: &[Vec<Step>],
 ) -> bool
     requires steps { All (λ steps. AreSteps steps.items) processes.now }
-    requires kept { IsKept setup.now [] (history_of device) }
+    requires kept { IsKept setup.now [] (history_of device.file) }
 {
     let mut world = Watcher::new(rt, alloc, &device, &LIVES);
     world.begin_life(&mut device);

@@ -1,6 +1,6 @@
 //! Folders below /tmp, and journals in them.
 
-use file_journal::{FileDevice, Syncs};
+use file_journal::{FileDevice, OpenError, Syncs};
 use std::test::Fail;
 use std::{fs, process};
 
@@ -15,16 +15,36 @@ pub(crate) fn folder(rt: &HostRuntime, name: &str) -> Result<String, Fail> {
     Ok(folder)
 }
 
-/// A new journal in a folder.
-pub(crate) fn create_in<'a>(rt: &'a HostRuntime, folder: &str) -> Result<Disk<'a>, Fail> {
-    Ok(FileDevice::create(rt, rt.alloc(), folder, "journal", Syncs::Kept)?)
+/// A journal in a folder.
+pub(crate) enum Journal {
+    /// One that is not there yet.
+    New,
+    /// One that is there.
+    Kept,
+    /// The same, without syncs.
+    Unsynced,
 }
 
-/// The journal in a folder.
-pub(crate) fn open_in<'a>(
+/// The file of the journal of this name in a folder.
+pub(crate) fn device_of<'a>(
     rt: &'a HostRuntime,
     folder: &str,
-    syncs: Syncs,
-) -> Result<Disk<'a>, Fail> {
-    Ok(FileDevice::open(rt, rt.alloc(), folder, "journal", syncs)?)
+    name: &str,
+    journal: Journal,
+) -> Result<Disk<'a>, OpenError> {
+    let alloc = rt.alloc();
+    match journal {
+        Journal::New => FileDevice::create(rt, alloc, folder, name, Syncs::Kept),
+        Journal::Kept => FileDevice::open(rt, alloc, folder, name, Syncs::Kept),
+        Journal::Unsynced => FileDevice::open(rt, alloc, folder, name, Syncs::LeftOut),
+    }
+}
+
+/// The file of a journal in a folder.
+pub(crate) fn device_in<'a>(
+    rt: &'a HostRuntime,
+    folder: &str,
+    journal: Journal,
+) -> Result<Disk<'a>, OpenError> {
+    device_of(rt, folder, "journal", journal)
 }

@@ -2,12 +2,11 @@
 ghost use Rattle.std.specs.Prelude.{◌≡◌, IfOk, OnOk};
 ghost use Rattle.durable_table.specs.Durable.{Reads, Stands};
 
-use crate::folders::{Disk, create_in, folder, open_in};
+use crate::folders::{Disk, Journal, device_in, folder};
 use crate::support::{
     are_texts, compacted, fresh, hold_floppy, is_answered, lines_of, make, new_table, opened,
 };
 use durable_table::{CaughtUp, DurableTable, ReadTable, create, open_reading};
-use file_journal::Syncs;
 use line_journal::{Device, KillOnly, Renewable, are_lines};
 use modprobe::Setup;
 use std::alloc::Global;
@@ -145,14 +144,14 @@ fn keep<D: Renewable + Drop>(
 
 /// The journal of a new table, in a folder.
 fn new_journal<'a>(rt: &'a HostRuntime, folder: &str) -> Result<Disk<'a>, Fail> {
-    let mut device = create_in(rt, folder)?;
+    let mut device = device_in(rt, folder, Journal::New)?;
     create(&mut device)?;
     Ok(device)
 }
 
 fn keep_in(rt: &HostRuntime, setup: &Setup, folder: &str) -> Result<bool, Fail> {
     let device = new_journal(rt, folder)?;
-    let other = open_in(rt, folder, Syncs::Kept)?;
+    let other = device_in(rt, folder, Journal::Kept)?;
     keep(rt.alloc(), setup, device, other)
 }
 

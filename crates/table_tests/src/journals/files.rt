@@ -1,7 +1,7 @@
 //! Journals in files: what is there for the next process, what others wrote, and refusals.
 
-use crate::folders::{Disk, create_in, folder, open_in};
-use file_journal::{Cause, FileDevice, FolderLock, LockError, LockKind, OpenError, Syncs};
+use crate::folders::{Disk, Journal, device_in, device_of, folder};
+use file_journal::{Cause, FolderLock, LockError, LockKind, OpenError};
 use line_journal::{
     Device, DeviceError, Found, Opened, Renewable, Renewed, Repair, are_lines, is_line, look, open,
 };
@@ -36,9 +36,19 @@ pub(crate) fn rewrite<D: Device + Drop>(
     }
 }
 
-/// Adds a line to the journal in a folder.
-pub(crate) fn put_in(rt: &HostRuntime, folder: &str, line: &[u8]) -> Result<(), Fail> {
-    put(rt.alloc(), open_in(rt, folder, Syncs::Kept)?, line)
+/// Adds a line to the journal in a folder, which is made if it is to be new.
+pub(crate) fn put_in(
+    rt: &HostRuntime,
+    folder: &str,
+    journal: Journal,
+    line: &[u8],
+) -> Result<(), Fail> {
+    put(rt.alloc(), device_in(rt, folder, journal)?, line)
+}
+
+/// A new journal in a folder gets its first line.
+pub(crate) fn begin_in(rt: &HostRuntime, folder: &str) -> Result<(), Fail> {
+    put_in(rt, folder, Journal::New, b"get web17 overlay")
 }
 
 /// Rewrites the journal in a folder as one line, and adds another.
@@ -48,12 +58,22 @@ pub(crate) fn rewrite_in(
     line: &[u8],
     next: &[u8],
 ) -> Result<(), Fail> {
-    rewrite(rt.alloc(), open_in(rt, folder, Syncs::Kept)?, line, next)
+    rewrite(
+        rt.alloc(),
+        device_in(rt, folder, Journal::Kept)?,
+        line,
+        next,
+    )
 }
 
-/// A new journal in a folder gets its first line.
-pub(crate) fn begin_in(rt: &HostRuntime, folder: &str) -> Result<(), Fail> {
-    put(rt.alloc(), create_in(rt, folder)?, b"get web17 overlay")
+/// Whether these are the lines.
+pub(crate) fn are_these(lines: &[Vec<u8>], wanted: &[&[u8]]) -> bool {
+    for (line, wanted) in lines.iter().zip(wanted) {
+        if line.as_slice() != *wanted {
+            return false;
+        }
+    }
+    lines.len() == wanted.len()
 }
 
 /// What stands in a journal.
@@ -63,7 +83,7 @@ fn found_by(rt: &HostRuntime, device: &mut Disk<'_>) -> Result<Found, Fail> {
 
 /// What stands in the journal in a folder.
 fn found_in(rt: &HostRuntime, folder: &str) -> Result<Found, Fail> {
-    let mut device = open_in(rt, folder, Syncs::Kept)?;
+    let mut device = device_in(rt, folder, Journal::Kept)?;
     found_by(rt, &mut device)
 }
 
@@ -83,17 +103,9 @@ fn has_bytes(rt: &HostRuntime, folder: &str, wanted: &[u8]) -> Result<bool, Fail
 /// Whether a line is there for the next process, with syncs or without.
 fn is_put(rt: &HostRuntime, folder: &str) -> Result<bool, Fail> {
     begin_in(rt, folder)?;
-    put(
-        rt.alloc(),
-        open_in(rt, folder, Syncs::LeftOut)?,
-        b"release web17",
-    )?;
+    put_in(rt, folder, Journal::Unsynced, b"release web17")?;
     let found = found_in(rt, folder)?;
-    Ok(
-        found.is_at_rest()
-            && found.lines.len() == 2
-            && found.lines[1].as_slice() == b"release web17".as_slice(),
-    )
+    Ok(found.is_at_rest() && are_these(&found.lines, &[b"get web17 overlay", b"release web17"]))
 }
 
 /// Whether a journal is replaced.
@@ -106,7 +118,7 @@ fn is_replaced(rt: &HostRuntime, folder: &str) -> Result<bool, Fail> {
 /// Whether a torn end is cut off.
 fn is_cut_off(rt: &HostRuntime, folder: &str) -> Result<bool, Fail> {
     write(rt, folder, "+get web17 overlay\n rel")?;
-    put_in(rt, folder, b"next")?;
+    put_in(rt, folder, Journal::Kept, b"next")?;
     has_bytes(rt, folder, b"+get web17 overlay\n+next\n ")
 }
 
@@ -124,14 +136,14 @@ fn reports(rt: &HostRuntime, folder: &str, device: &mut Disk<'_>) -> Result<bool
 
 /// Whether what another process wrote is reported.
 fn is_reported(rt: &HostRuntime, folder: &str) -> Result<bool, Fail> {
-    let mut device = create_in(rt, folder)?;
+    let mut device = device_in(rt, folder, Journal::New)?;
     reports(rt, folder, &mut device)
 }
 
 /// Whether a new device sees the first line of another process, once.
 fn sees_a_line(rt: &HostRuntime, folder: &str, device: &mut Disk<'_>) -> Result<bool, Fail> {
     let first = device.renew(0)?;
-    put_in(rt, folder, b"get web17 overlay")?;
+    put_in(rt, folder, Journal::Kept, b"get web17 overlay")?;
     let second = device.renew(0)?;
     let third = device.renew(0)?;
     let lines = found_by(rt, device)?.lines.len();
@@ -143,11 +155,8 @@ fn sees_a_rewrite(rt: &HostRuntime, folder: &str, device: &mut Disk<'_>) -> Resu
     rewrite_in(rt, folder, b"get web17 snd_pcm", b"put web17 snd_pcm")?;
     let renewed = device.renew(0)?;
     let lines = found_by(rt, device)?.lines;
-    Ok(
-        renewed == Renewed::Longer
-            && lines.len() == 2
-            && lines[0].as_slice() == b"get web17 snd_pcm".as_slice(),
-    )
+    let are_right = are_these(&lines, &[b"get web17 snd_pcm", b"put web17 snd_pcm"]);
+    Ok(are_right && renewed == Renewed::Longer)
 }
 
 /// Whether it fails while its folder is gone.
@@ -160,7 +169,7 @@ fn misses_its_folder(rt: &HostRuntime, folder: &str, device: &mut Disk<'_>) -> R
 
 /// Whether what another process wrote is read anew.
 fn is_read_anew(rt: &HostRuntime, folder: &str) -> Result<bool, Fail> {
-    let mut device = create_in(rt, folder)?;
+    let mut device = device_in(rt, folder, Journal::New)?;
     reads_anew(rt, folder, &mut device)
 }
 
@@ -172,30 +181,20 @@ fn reads_anew(rt: &HostRuntime, folder: &str, device: &mut Disk<'_>) -> Result<b
     )
 }
 
-/// Why a journal was not opened.
-fn cause<T: Drop>(opened: Result<T, OpenError>) -> Option<Cause> {
-    match opened {
+/// Why a journal is not opened, or not made.
+fn refusal(rt: &HostRuntime, folder: &str, name: &str, journal: Journal) -> Option<Cause> {
+    match device_of(rt, folder, name, journal) {
         Err(OpenError::Failed(fault)) => Some(fault.cause),
         _ => None,
     }
 }
 
-/// Why a journal is not opened, if it is not.
-fn refusal(rt: &HostRuntime, folder: &str, name: &str) -> Option<Cause> {
-    cause(FileDevice::open(rt, rt.alloc(), folder, name, Syncs::Kept))
-}
-
-/// Why a journal is not made, if it is not.
-fn refusal_of_new(rt: &HostRuntime, folder: &str) -> Option<Cause> {
-    cause(FileDevice::create(rt, rt.alloc(), folder, "journal", Syncs::Kept))
-}
-
 /// Whether a refused open says why.
 fn says_why(rt: &HostRuntime, folder: &str) -> bool {
-    refusal(rt, folder, "journal") == Some(Cause::NotThere)
-        && refusal_of_new(rt, folder) == None
-        && refusal_of_new(rt, folder) == Some(Cause::AlreadyThere)
-        && refusal(rt, "/tmp", folder) == Some(Cause::NotThere)
+    refusal(rt, folder, "journal", Journal::Kept) == Some(Cause::NotThere)
+        && refusal(rt, folder, "journal", Journal::New) == None
+        && refusal(rt, folder, "journal", Journal::New) == Some(Cause::AlreadyThere)
+        && refusal(rt, "/tmp", folder, Journal::Kept) == Some(Cause::NotThere)
 }
 
 fn lock(rt: &HostRuntime, folder: &str, kind: LockKind) -> Result<FolderLock, LockError> {

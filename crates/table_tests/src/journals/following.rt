@@ -3,10 +3,9 @@ ghost use Rattle.std.specs.Prelude.{IfOk, OnOk};
 ghost use Rattle.line_journal.specs.Journal.{IsReady};
 ghost use Rattle.line_journal.specs.Renewed.{IsRead};
 
-use super::files::{begin_in, put_in, rewrite_in};
+use super::files::{are_these, begin_in, put_in, rewrite_in};
 use super::lines::put;
-use crate::folders::open_in;
-use file_journal::Syncs;
+use crate::folders::{self, device_in};
 use line_journal::{Device, Followed, Journal, Opened, Renewable, Repair, look, open_found};
 use std::alloc::Global;
 use std::test::Fail;
@@ -40,7 +39,7 @@ fn has_one_more<D: Renewable>(journal: &mut Journal<D>, alloc: Global) -> Result
     ensures { OnOk result (IsRead D.content journal.new) }
 {
     let lines = added(journal, alloc)?;
-    Ok(lines.len() == 1 && lines[0].as_slice() == b"release web17".as_slice())
+    Ok(are_these(&lines, &[b"release web17"]))
 }
 
 /// Finds the line of another process, and adds one. Whether both are there.
@@ -63,7 +62,7 @@ fn follows<D: Renewable>(
 ) -> Result<bool, Fail>
     requires { IsReady D.content D.history journal.old }
 {
-    put_in(rt, folder, b"release web17")?;
+    put_in(rt, folder, folders::Journal::Kept, b"release web17")?;
     let is_right = go_on(rt.alloc(), journal)?;
     rewrite_in(rt, folder, b"get web17 snd_pcm", b"put web17 snd_pcm")?;
     Ok(matches!(journal.follow(rt.alloc())?, Followed::Anew) && is_right)
@@ -72,6 +71,6 @@ fn follows<D: Renewable>(
 /// Whether a journal in a folder follows another process.
 pub(super) fn is_followed(rt: &HostRuntime, folder: &str) -> Result<bool, Fail> {
     begin_in(rt, folder)?;
-    let mut journal = journal(rt.alloc(), open_in(rt, folder, Syncs::Kept)?)?;
+    let mut journal = journal(rt.alloc(), device_in(rt, folder, folders::Journal::Kept)?)?;
     follows(rt, folder, &mut journal)
 }
