@@ -7,7 +7,8 @@ ghost use Rattle.theorems.specs.Queries.{HaveOneBasis};
 use kmod_query::{Answer, Query, World, answer_to, show_depends_ignores_states};
 use std::alloc::{AllocError, Global};
 
-/// An answer is the definition's, of the texts and states and of the query, whatever bytes they are; only out of memory refuses.
+/// An answer is the definition's, of the texts and states and of the query, whatever bytes they are. When memory runs out is
+/// not said.
 pub fn queries_are_answered_as_defined(
     alloc: Global,
     world: &World,
