@@ -11,7 +11,7 @@ use crate::kept::{Kept, Taken};
 use crate::opening::{OpenFault, keep_torn, open_table, read_table};
 use crate::reading::{answer_copy, are_reading, ask_lines, copy_of};
 use durable_table::{DurableTable, ReadTable};
-use file_journal::{Action, Cause, FileDevice, FileFault, FolderLock, LockKind};
+use file_journal::{Cause, FileDevice, FileFault, FolderLock, LockKind};
 use line_journal::{Device, DeviceError};
 use modprobe::Setup;
 use std::alloc::Global;
@@ -218,7 +218,6 @@ pub(crate) fn cut_unwritten<R: Files<File = File> + Clock + AllocGlobal, T>(
     let Err(
         TableFault::File(
             FileFault {
-                action: Action::Write,
                 cause: Cause::Full,
                 ..
             },
