@@ -238,15 +238,19 @@ enum Course {
 }
 
 /// What is done in a folder, and the folder's name.
-static COURSES: [(&str, Course); 8] = [
+static COURSES: [(&str, Course); 5] = [
     ("put", Course::Put),
     ("replace", Course::Replaced),
     ("torn", Course::Torn),
-    ("other", Course::Reported),
     ("renew", Course::ReadAnew),
+    ("follow", Course::Followed),
+];
+
+/// The same of what looks for a refusal, which may be one that memory ran out.
+static REFUSALS: [(&str, Course); 3] = [
+    ("other", Course::Reported),
     ("refused", Course::Refused),
     ("lock", Course::Locked),
-    ("follow", Course::Followed),
 ];
 
 /// Whether it goes as it ought to.
@@ -274,6 +278,14 @@ fn goes_well_alone(rt: &HostRuntime, name: &str, course: &Course) -> Result<bool
 #[test]
 fn journals_in_files(rt: HostRuntime) -> Result<(), Fail> {
     for (name, course) in &COURSES {
+        assert!(rt; goes_well_alone(&rt, name, course)?, "{name}");
+    }
+    Ok(())
+}
+
+#[test]
+fn refusals_in_files(rt: HostRuntime) -> Result<(), Fail> {
+    for (name, course) in &REFUSALS {
         assert!(rt; goes_well_alone(&rt, name, course)?, "{name}");
     }
     Ok(())
