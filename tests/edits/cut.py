@@ -56,6 +56,9 @@ def is_plain(lines, at):
     head = FUNCTION_HEAD.match(lines[at])
     if not head or "const fn" in lines[at] or "extern" in lines[at]:
         return False
+    if "{" in lines[at] and not lines[at].endswith(("{", "{}")):
+        # (an edit begins the body in the same line)
+        return False
     above = at
     while lines[above - 1].strip().startswith(("#[", "///")):
         above -= 1
