@@ -1,8 +1,10 @@
 """What scripts ask of a table, and what they see of it."""
 
 import subprocess
+import time
 
 from beside_table import model
+from beside_table.history import Asked
 
 
 def command(rng, holder, number):
@@ -35,6 +37,20 @@ def command(rng, holder, number):
 def release_all(holder, number):
     """A line that names no module: its blanks at the end make it another text."""
     return f"release {holder}" + "".join(" \t"[number >> bit & 1] for bit in range(model.TAIL))
+
+
+def talk(process, line, index, meanwhile=lambda: None):
+    """Gives a line to a process that stays, as which of its lines, and waits for the reply. Until then something else may be done."""
+    begun, reply = time.monotonic(), b""
+    try:
+        process.stdin.write(f"{line}\n".encode())
+        process.stdin.flush()
+        meanwhile()
+        reply = process.stdout.readline()
+    except BrokenPipeError:
+        process.wait()
+    seen = reply.decode()[:-1] if reply.endswith(b"\n") else None
+    return Asked(line, process.pid, index, begun, time.monotonic(), seen)
 
 
 def view(table):

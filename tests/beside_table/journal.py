@@ -53,6 +53,21 @@ def without_snapshot(commands, table):
     return None
 
 
+def joined(journals):
+    """The commands of journals, each by its name, of which each took the place of the one before it; and which of them does not
+    begin with the table that was left."""
+    commands, faults, table = [], [], Table()
+    for name, own in journals:
+        rest = without_snapshot(own, table)
+        if rest is None:
+            faults.append(f"{name} does not begin with the table that was left before it")
+            rest = own
+        for line in rest:
+            table.answer(line)
+        commands += rest
+    return commands, faults
+
+
 class Kept:
     """Keeps what a journal was before it was written anew: a link to each file that had its name."""
 
@@ -96,15 +111,6 @@ class Kept:
 
     def commands(self):
         """The commands of all, one after another, and what is wrong with the journals."""
-        commands, faults, table = [], [], Table()
-        for link in self.links:
-            own, wrong = commands_of(link.read_bytes())
-            faults += wrong
-            rest = without_snapshot(own, table)
-            if rest is None:
-                faults.append(f"{link.name} does not begin with the table that was left before it")
-                rest = own
-            for line in rest:
-                table.answer(line)
-            commands += rest
-        return commands, faults
+        found = [(link.name, *commands_of(link.read_bytes())) for link in self.links]
+        commands, faults = joined((name, own) for name, own, _ in found)
+        return commands, [fault for _, _, wrong in found for fault in wrong] + faults
