@@ -113,7 +113,8 @@ pub struct FileFault {
 }
 
 impl FileFault {
-    pub(crate) fn of(action: Action, target: Target, error: &io::Error) -> Self
+    /// What failed, by the error of the system.
+    pub fn of(action: Action, target: Target, error: &io::Error) -> Self
         ensures action { result.action ≡ action }
         ensures target { result.target ≡ target }
         ensures cause { result.cause ≡ cause_of (error_kind error.now) }

@@ -54,7 +54,7 @@ IsMisplaced table asked = HasSecondFolder table asked.job ⊎ IsNoFolder asked.f
 abbrev pub IsPerformed : Job → Option (List ℕ) → Option (List ℕ) → Option (List ℕ) → Ending → Type 0
 IsPerformed (command words) input old new ending = IsWritten (line_of words) old new ending
 IsPerformed lines input old new ending = IsInputAnswered input old new ending
-IsPerformed (create origin) input old new ending = (ending ≡ Done) × (new ≡ old)
+IsPerformed (create origin mode) input old new ending = (ending ≡ Done) × (new ≡ old)
 IsPerformed compact input old new ending = (ending ≡ Done) × (new ≡ old)
 IsPerformed check input old new ending = AreCountsWritten old new ending
 IsPerformed repair input old new ending = AreCountsWritten old new ending

@@ -9,16 +9,17 @@ use std::io::Write;
 use std::rt::Files;
 use std::time::Clock;
 use table_folder::{
-    Shared, TableFault, Teller, found_in, journal_fault, make_folder, make_journal, new_setup,
-    write_setup,
+    Shared, TableFault, Teller, found_in, journal_fault, make_folder, make_journal, make_lock,
+    new_setup, write_setup,
 };
 use table_words::{Ending, Origin};
 
 /// Writes the journal of a new table. One that has commands stays as it is.
 fn write_journal<R: Files<File = File> + Clock + AllocGlobal>(
     shared: &Shared<'_, R>,
+    mode: u32,
 ) -> Result<(), TableFault> {
-    let mut device = make_journal(shared)?;
+    let mut device = make_journal(shared, mode)?;
     let found = found_in(shared.alloc(), &mut device)?;
     if found.lines.len() > 1 || !(found.behind.is_empty() || found.is_at_rest()) {
         return Err(TableFault::UsedJournal);
@@ -30,26 +31,29 @@ fn write_journal<R: Files<File = File> + Clock + AllocGlobal>(
     }
 }
 
-/// Makes a table in a folder that has none. The setup is written last.
+/// Makes a table in a folder that has none, for those who may use a folder of this mode. The setup is written last.
 fn write_table<R: Files<File = File> + Clock + AllocGlobal>(
     shared: &Shared<'_, R>,
     setup: &[u8],
+    mode: u32,
 ) -> Result<(), TableFault> {
-    make_folder(shared)?;
+    make_folder(shared, mode)?;
+    make_lock(shared, mode)?;
     let lock = shared.lock(LockKind::Exclusive)?;
     if shared.has_setup()? {
         return Err(TableFault::ThereAlready);
     }
-    write_journal(shared)?;
-    write_setup(shared, setup)?;
+    write_journal(shared, mode)?;
+    write_setup(shared, setup, mode)?;
     lock.release();
     Ok(())
 }
 
-/// Makes a table of what the words name.
+/// Makes a table of what the words name, for those who may use a folder of this mode.
 pub(crate) fn create<R: Files<File = File> + Env + Clock + AllocGlobal, E: Write>(
     shared: &Shared<'_, R>,
     origin: Origin<'_, '_>,
+    mode: u32,
     teller: &mut Teller<'_, E>,
 ) -> Result<Ending, TableFault>
     ensures { IfOk result (λ ending. ending ≡ Ending.Done) }
@@ -58,6 +62,6 @@ pub(crate) fn create<R: Files<File = File> + Env + Clock + AllocGlobal, E: Write
         return Err(TableFault::ThereAlready);
     }
     let setup = new_setup(shared.rt, origin, teller)?;
-    write_table(shared, &setup)?;
+    write_table(shared, &setup, mode)?;
     Ok(Ending::Done)
 }

@@ -250,7 +250,7 @@ fn perform<R: Files<File = File> + Env + Clock + AllocGlobal, I: Read, O: Write,
 {
     refuse_others(shared, teller)?;
     match job {
-        Job::Create(origin) => create(shared, origin, teller),
+        Job::Create(origin, mode) => create(shared, origin, mode, teller),
         Job::Command(words) => answer_command(shared, words, output, teller),
         Job::Lines => answer_lines_of(shared, input, output, teller),
         Job::Adopt(file) => answer_adopt(shared, file, input, output, teller),

@@ -8,7 +8,7 @@ use Rattle.file_journal.specs.declared.fault.Cause.{Cause}
 use Rattle.file_journal.specs.declared.fault.Cause.TheVariants.{OutOfMemory, NotThere}
 use Rattle.file_journal.specs.declared.fault.FileFault.{FileFault}
 use Rattle.file_journal.specs.declared.fault.Target.{Target}
-use Rattle.file_journal.specs.declared.fault.Target.TheVariants.{Journal}
+use Rattle.file_journal.specs.declared.fault.Target.TheVariants.{Journal, Lock}
 use Rattle.file_journal.specs.declared.device.OpenError.{OpenError}
 use Rattle.file_journal.specs.declared.device.OpenError.TheVariants as open_error
 use Rattle.file_journal.specs.declared.lock.LockError.{LockError}
@@ -61,6 +61,12 @@ abbrev pub IsUnwritten : List ℕ → TableFault → Type 0
 IsUnwritten name fault.OutOfMemory = ⊤
 IsUnwritten name (fault.Unwritten file why) = file.now ≡ name
 IsUnwritten name _ = ⊥
+
+-- the lock's file was not made, or there was no memory
+abbrev pub IsUnlocked : TableFault → Type 0
+IsUnlocked fault.OutOfMemory = ⊤
+IsUnlocked (fault.Lock (lock_error.Failed why)) = why.target ≡ Lock
+IsUnlocked _ = ⊥
 
 -- the file of this name was not read, or there was no memory: a setup that is not there is no table, and a journal has a fault of its own
 abbrev pub IsUnread : List ℕ → TableFault → Type 0

@@ -1,10 +1,10 @@
 //! Why a run did not do what was asked.
 ghost use Rattle.std.specs.Prelude.{◌≡◌};
 ghost use Rattle.std.specs.IoError.{error_kind};
-ghost use Rattle.table_folder.specs.Faults.{ending_of_fault, fault_of_file, fault_of_write, IsUnwritten};
+ghost use Rattle.table_folder.specs.Faults.{ending_of_fault, fault_of_file, fault_of_write, IsUnlocked, IsUnwritten};
 
 use crate::setup::SectionsFault;
-use file_journal::{Cause, FileFault, LockError, OpenError, Target};
+use file_journal::{Action, Cause, FileFault, LockError, OpenError, Target};
 use program_frame::PathFault;
 use std::alloc::AllocError;
 use std::io::{self, ErrorKind};
@@ -153,6 +153,19 @@ pub(crate) fn unwritten(name: &'static str, error: &io::Error) -> TableFault
     match error.kind() {
         ErrorKind::OutOfMemory => TableFault::OutOfMemory,
         kind => TableFault::Unwritten(name, kind),
+    }
+}
+
+/// The lock's file was not made.
+pub(crate) fn unlocked(error: &io::Error) -> TableFault
+    ensures { IsUnlocked result }
+{
+    match FileFault::of(Action::Lock, Target::Lock, error) {
+        FileFault {
+            cause: Cause::OutOfMemory,
+            ..
+        } => TableFault::OutOfMemory,
+        fault => TableFault::Lock(LockError::Failed(fault)),
     }
 }
 

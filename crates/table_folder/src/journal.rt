@@ -8,11 +8,13 @@ ghost use Rattle.table_folder.specs.Faults.{fault_of_file};
 ghost use Rattle.table_folder.specs.declared.fault.TableFault.TheVariants.{OutOfMemory};
 
 use crate::fault::{Damage, TableFault, journal_fault};
+use crate::rights::create_file;
 use crate::shared::{JOURNAL, Shared};
-use file_journal::{Cause, FileDevice, FileFault, OpenError};
+use file_journal::{Action, FileDevice, FileFault, OpenError, Target};
 use line_journal::{Device, DeviceError, Found, peek};
 use std::alloc::Global;
 use std::fs::File;
+use std::io::ErrorKind;
 use std::rt::Files;
 use std::time::Clock;
 
@@ -32,25 +34,21 @@ pub fn open_journal<'r, R: Files<File = File> + Clock + AllocGlobal>(
     )
 }
 
-/// The file of a new table's journal: an empty one, or, if there is a journal, that one as it is. A `create` may have left it
-/// that did not come to its end.
+/// The file of a new table's journal: an empty one, for those who may use a folder of this mode, or, if there is a journal, that
+/// one as it is. A `create` may have left it that did not come to its end.
 pub fn make_journal<'r, R: Files<File = File> + Clock + AllocGlobal>(
     shared: &Shared<'r, R>,
+    mode: u32,
 ) -> Result<FileDevice<&'r R>, OpenError>
     ensures unknown { IfOk result (λ device. MayBeAnything (history_of device.belief)) }
     ensures no_fault { IfOk result (λ device. device.fault ≡ None) }
 {
-    let (rt, alloc, folder) = (shared.rt, shared.alloc(), shared.folder);
-    match FileDevice::create(rt, alloc, folder, JOURNAL, shared.syncs) {
-        Err(
-            OpenError::Failed(
-                FileFault {
-                    cause: Cause::AlreadyThere,
-                    ..
-                },
-            ),
-        ) => open_journal(shared),
-        created => created,
+    match create_file(shared.rt, &shared.path(JOURNAL)?, mode) {
+        Err(error) if error.kind() != ErrorKind::AlreadyExists => {
+            let fault = FileFault::of(Action::Create, Target::Journal, &error);
+            Err(OpenError::from(fault))
+        }
+        _ => open_journal(shared),
     }
 }
 

@@ -1,21 +1,22 @@
-//! The setup of a new table: how it is made, and how it is written.
+//! A new table: how its setup is made, and how its folder, its lock and its setup are written.
 ghost use Rattle.std.specs.Prelude.{codes, IfOk, IfErr};
-ghost use Rattle.table_folder.specs.Faults.{IsNoFolder, IsTold, IsUnwritten};
+ghost use Rattle.table_folder.specs.Faults.{IsNoFolder, IsTold, IsUnlocked, IsUnwritten};
 ghost use Rattle.table_folder.specs.Setups.{IsNewSetup};
 
-use crate::fault::{TableFault, unwritten};
+use crate::fault::{TableFault, unlocked, unwritten};
 use crate::machine::sections_of_machine;
+use crate::rights::{create_file, create_folder, set_rights};
 use crate::sections::named_sections;
 use crate::setup::setup_of;
-use crate::shared::{SETUP, Shared};
+use crate::shared::{LOCK, SETUP, Shared};
 use crate::teller::Teller;
-use file_journal::{Syncs, create_anew};
+use file_journal::{Syncs, create_private};
 use kmod_version::Kmod;
 use modprobe::AliasForm;
 use program_frame::is_folder;
 use std::env::Env;
 use std::fs::{self, File, OpenFile};
-use std::io::{self, Write};
+use std::io::{self, ErrorKind, Write};
 use std::rt::Files;
 use std::time::Clock;
 use table_setup::seal;
@@ -71,32 +72,51 @@ pub fn new_setup<R: Files + Env + AllocGlobal, E: Write>(
     Ok(seal(text)?)
 }
 
-/// Makes the folder, if there is none, and brings its name to the disk: whoever made it may have been killed before that.
+/// Makes the folder, of this mode, if there is none, and brings its name to the disk: whoever made it may have been killed
+/// before that.
 fn put_folder<R: Files<File = File> + Clock + AllocGlobal>(
     shared: &Shared<'_, R>,
+    mode: u32,
 ) -> io::Result<()> {
     if !is_folder(shared.rt, shared.folder) {
-        fs::create_dir(shared.rt, shared.folder)?;
+        create_folder(shared.rt, shared.folder, mode)?;
     }
     shared.sync_names(&shared.path("..")?, Syncs::Kept)
 }
 
-/// Makes the folder, if there is none of this path. It is on the disk then, also if `syncs` leaves the rest out: others may wait
-/// for what they write to the table. `NoFolder` with the cause if it cannot be made.
+/// Makes the folder, of exactly this mode, if there is none of this path; one that is there keeps its mode. It is on the disk
+/// then, also if `syncs` leaves the rest out: others may wait for what they write to the table. `NoFolder` with the cause if it
+/// cannot be made.
 pub fn make_folder<R: Files<File = File> + Clock + AllocGlobal>(
     shared: &Shared<'_, R>,
+    mode: u32,
 ) -> Result<(), TableFault>
     ensures { IfErr result IsNoFolder }
 {
-    match put_folder(shared) {
+    match put_folder(shared, mode) {
         Ok(()) => Ok(()),
         Err(error) => Err(TableFault::NoFolder(error.kind())),
     }
 }
 
-/// Writes a file anew, and waits until it is on the disk.
-fn write_file<R: Files>(rt: &R, path: &str, bytes: &[u8]) -> io::Result<()> {
-    let mut file = create_anew(rt, path)?;
+/// Makes the file of the folder's lock for those who may use a folder of this mode, if there is none. It has to be done before
+/// it is locked: who has opened a file once may lock it for ever. `Lock` with the cause if it cannot be made.
+pub fn make_lock<R: Files<File = File> + Clock + AllocGlobal>(
+    shared: &Shared<'_, R>,
+    mode: u32,
+) -> Result<(), TableFault>
+    ensures { IfErr result IsUnlocked }
+{
+    match create_file(shared.rt, &shared.path(LOCK)?, mode) {
+        Err(error) if error.kind() != ErrorKind::AlreadyExists => Err(unlocked(&error)),
+        _ => Ok(()),
+    }
+}
+
+/// Writes a file anew, for those who may use a folder of this mode, and waits until it is on the disk.
+fn write_file<R: Files>(rt: &R, path: &str, bytes: &[u8], mode: u32) -> io::Result<()> {
+    let mut file = create_private(rt, path)?;
+    set_rights(&file, mode)?;
     file.write_all(bytes)?;
     file.sync_all()
 }
@@ -105,22 +125,24 @@ fn write_file<R: Files>(rt: &R, path: &str, bytes: &[u8]) -> io::Result<()> {
 fn put_setup<R: Files<File = File> + Clock + AllocGlobal>(
     shared: &Shared<'_, R>,
     bytes: &[u8],
+    mode: u32,
 ) -> io::Result<()> {
     let early = shared.path("setup.new")?;
-    write_file(shared.rt, &early, bytes)?;
+    write_file(shared.rt, &early, bytes, mode)?;
     fs::rename(shared.rt, &early, &shared.path(SETUP)?)?;
     shared.sync_names(shared.folder, Syncs::Kept)
 }
 
-/// Writes the setup of the folder, all at once: a crash leaves the whole of it, or none. It is on the disk then, also if `syncs`
-/// leaves the rest out. `Unwritten` with the cause if it cannot be written.
+/// Writes the setup of the folder, all at once, for those who may use a folder of this mode: a crash leaves the whole of it, or
+/// none. It is on the disk then, also if `syncs` leaves the rest out. `Unwritten` with the cause if it cannot be written.
 pub fn write_setup<R: Files<File = File> + Clock + AllocGlobal>(
     shared: &Shared<'_, R>,
     bytes: &[u8],
+    mode: u32,
 ) -> Result<(), TableFault>
     ensures { IfErr result (IsUnwritten (codes "setup")) }
 {
-    match put_setup(shared, bytes) {
+    match put_setup(shared, bytes, mode) {
         Ok(()) => Ok(()),
         Err(error) => Err(unwritten(SETUP, &error)),
     }

@@ -18,6 +18,9 @@ pub(crate) const SETUP: &str = "setup";
 /// What happened since.
 pub(crate) const JOURNAL: &str = "journal";
 
+/// The empty file that processes lock.
+pub(crate) const LOCK: &str = "lock";
+
 /// What was cut off behind the journal's lines.
 pub(crate) const CUT: &str = "journal.cut";
 

@@ -11,6 +11,7 @@ fn option_words(valued: Valued) -> &'static str {
         Valued::Release => "-S VERSION",
         Valued::Root => "--root DIR",
         Valued::As => "--as VERSION",
+        Valued::Mode => "--mode MODE",
     }
 }
 
@@ -37,6 +38,14 @@ pub fn tell_fault<E: Write>(fault: Fault<'_>, errors: &mut E) {
         }
         Fault::BadWait(word) => {
             tell_word("bad --wait", word, "give seconds, below 4294967296", errors)
+        }
+        Fault::BadMode(word) => {
+            tell_word(
+                "bad --mode",
+                word,
+                "give three octal digits, as 750",
+                errors,
+            )
         }
         Fault::ExtraWord(word) => {
             tell_word(

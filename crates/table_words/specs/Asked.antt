@@ -24,11 +24,11 @@ pub data Origin : Type 0 where
   host : Machine → Origin
   sections : List (List ℕ) → Origin
 
--- a table is made; the words are one command; the lines of standard input are commands; the table is brought to a
+-- a table is made, in a folder of this mode if there is none; the words are one command; the lines of standard input are commands; the table is brought to a
 -- kernel's modules, as a file lists them; the journal is written anew; it is said what stands there; what is damaged is cut
 -- off
 pub data Job : Type 0 where
-  create : Origin → Job
+  create : Origin → ℕ → Job
   command : List (List ℕ) → Job
   lines : Job
   adopt : List ℕ → Job
@@ -59,9 +59,9 @@ machine_in options = record { release = options.release; root = options.root; km
 -- what is made of a machine's files has no sections of its own, and something is to be made
 abbrev pub origin_in : Options → List (List ℕ) → Result Job Stop
 origin_in options words =
-    if options.host then alone (create (host (machine_in options))) words
+    if options.host then alone (create (host (machine_in options)) options.mode) words
     else (if asks_machine options then Err (refused wants_host)
-    else (if nat_lt 0 (length words) then Ok (create (sections words)) else Err (refused nothing_to_create)))
+    else (if nat_lt 0 (length words) then Ok (create (sections words) options.mode) else Err (refused nothing_to_create)))
 
 abbrev pub origin_of_front : Result Front Stop → Result Job Stop
 origin_of_front (Ok read) = origin_in read.options read.rest
@@ -160,7 +160,7 @@ origin_of (code_origin_is.Host machine) = host (machine_of machine)
 origin_of (code_origin_is.Sections words) = sections (texts_of words.now)
 
 abbrev pub job_view : code_job.Job → Job
-job_view (code_job_is.Create origin) = create (origin_of origin)
+job_view (code_job_is.Create origin mode) = create (origin_of origin) mode
 job_view (code_job_is.Command words) = command (texts_of words.now)
 job_view code_job_is.Lines = lines
 job_view (code_job_is.Adopt file) = adopt file.now

@@ -1,12 +1,12 @@
 -- What options before a command say. Words are read in order, up to the first that is no option.
-use Rattle.std.specs.Prelude.{ℕ, Bool, true, false, ◌&&◌, nat_lt, nat_eq, if◌then◌else◌, List, [], ◌∷◌, length, drop, codes, Option, Some, None, Result, Ok, Err}
+use Rattle.std.specs.Prelude.{ℕ, ◌+◌, ◌-◌, ◌*◌, Bool, true, false, ◌&&◌, nat_lt, nat_eq, if◌then◌else◌, List, [], ◌∷◌, length, drop, codes, Option, Some, None, Result, Ok, Err}
 use Rattle.std.specs.Borrow.{Bor}
 use Rattle.std.specs.List.{starts_with}
 use Rattle.std.specs.Option.{option_map}
 use Rattle.std.specs.Str.{bytes_eq}
 use Rattle.text_parts.specs.Text.{number_within, texts_of}
 use Rattle.table_words.specs.declared.options.Valued.{Valued}
-use Rattle.table_words.specs.declared.options.Valued.TheVariants.{Wait, Release, Root, As}
+use Rattle.table_words.specs.declared.options.Valued.TheVariants.{Wait, Release, Root, As, Mode}
 use Rattle.table_words.specs.declared.options.Options as code_options
 use Rattle.table_words.specs.declared.fault.Fault as code_fault
 use Rattle.table_words.specs.declared.fault.Fault.TheVariants as code_fault_is
@@ -21,6 +21,7 @@ pub data Fault : Type 0 where
   unknown_option : List ℕ → Fault
   wants_value : Valued → Fault
   bad_wait : List ℕ → Fault
+  bad_mode : List ℕ → Fault
   no_folder : Fault
   no_file : Fault
   extra_word : List ℕ → Fault
@@ -43,10 +44,11 @@ pub record Options : Type 0 where
   pub release : Option (List ℕ)
   pub root : Option (List ℕ)
   pub kmod : Option (List ℕ)
+  pub mode : ℕ
 
--- if no option stands, another process is waited for 10 seconds
+-- if no option stands, another process is waited for 10 seconds, and a new folder has the mode 0700
 abbrev pub no_options : Options
-no_options = record { wait = 10; sync = true; host = false; release = None; root = None; kmod = None }
+no_options = record { wait = 10; sync = true; host = false; release = None; root = None; kmod = None; mode = 448 }
 
 -- what comes of a word: it is no option, or what all say with it and the option whose value is the next word, or the end
 pub data Next : Type 0 where
@@ -62,11 +64,30 @@ abbrev pub waits : Options → List ℕ → Option ℕ → Next
 waits options value None = stopped (refused (bad_wait value))
 waits options value (Some seconds) = plain (record options { wait = seconds })
 
+-- what an octal digit counts
+abbrev pub octal : ℕ → Option ℕ
+octal byte = if nat_lt 47 byte && nat_lt byte 56 then Some (byte - 48) else None
+
+-- what the owner may do, the group, and others
+abbrev pub mode_by : Option ℕ → Option ℕ → Option ℕ → Option ℕ
+mode_by (Some owner) (Some group) (Some others) = Some (owner * 64 + group * 8 + others)
+mode_by _ _ _ = None
+
+-- a mode has three octal digits
+abbrev pub mode_of : List ℕ → Option ℕ
+mode_of (owner ∷ group ∷ others ∷ []) = mode_by (octal owner) (octal group) (octal others)
+mode_of _ = None
+
+abbrev pub has_mode : Options → List ℕ → Option ℕ → Next
+has_mode options value None = stopped (refused (bad_mode value))
+has_mode options value (Some mode) = plain (record options { mode = mode })
+
 abbrev pub with_value : Options → Valued → List ℕ → Next
 with_value options Wait value = waits options value (number_within 4294967295 value)
 with_value options Release value = plain (record options { release = Some value })
 with_value options Root value = plain (record options { root = Some value })
 with_value options As value = plain (record options { kmod = Some value })
+with_value options Mode value = has_mode options value (mode_of value)
 
 abbrev pub is_either : List ℕ → List ℕ → List ℕ → Bool
 is_either word one other = if bytes_eq word one then true else bytes_eq word other
@@ -74,12 +95,18 @@ is_either word one other = if bytes_eq word one then true else bytes_eq word oth
 abbrev pub begins : List ℕ → List ℕ → Bool
 begins word front = starts_with nat_eq word front
 
--- the option that names a version of kmod
+-- the option that says who may use the table
+abbrev pub mode_option : Options → List ℕ → Next
+mode_option options word =
+    if bytes_eq word (codes "--mode") then on options (Some Mode)
+    else (if begins word (codes "--mode=") then with_value options Mode (drop 7 word)
+    else stopped (refused (unknown_option word)))
+
+-- the option that names a version of kmod, or a later one
 abbrev pub kmod_option : Options → List ℕ → Next
 kmod_option options word =
     if bytes_eq word (codes "--as") then on options (Some As)
-    else (if begins word (codes "--as=") then with_value options As (drop 5 word)
-    else stopped (refused (unknown_option word)))
+    else (if begins word (codes "--as=") then with_value options As (drop 5 word) else mode_option options word)
 
 -- the option that names a root, or a later one
 abbrev pub root_option : Options → List ℕ → Next
@@ -147,6 +174,7 @@ abbrev pub fault_of : code_fault.Fault → Fault
 fault_of (code_fault_is.UnknownOption word) = unknown_option word.now
 fault_of (code_fault_is.WantsValue valued) = wants_value valued
 fault_of (code_fault_is.BadWait value) = bad_wait value.now
+fault_of (code_fault_is.BadMode value) = bad_mode value.now
 fault_of code_fault_is.NoFolder = no_folder
 fault_of code_fault_is.NoFile = no_file
 fault_of (code_fault_is.ExtraWord word) = extra_word word.now
@@ -161,7 +189,7 @@ stop_of code_stop_is.Version = version
 stop_of (code_stop_is.Refused fault) = refused (fault_of fault)
 
 abbrev pub options_of : code_options.Options → Options
-options_of o = record { wait = o.wait; sync = o.sync; host = o.host; release = text_of o.release; root = text_of o.root; kmod = text_of o.kmod }
+options_of o = record { wait = o.wait; sync = o.sync; host = o.host; release = text_of o.release; root = text_of o.root; kmod = text_of o.kmod; mode = o.mode }
 
 abbrev pub next_of : code_step.Step → Next
 next_of code_step_is.Over = over

@@ -33,8 +33,8 @@ pub enum Origin<'w, 'a> {
 /// What is to be done.
 #[derive(Clone, Copy, Debug)]
 pub enum Job<'w, 'a> {
-    /// A table is made.
-    Create(Origin<'w, 'a>),
+    /// A table is made. If its folder is not there, it gets this mode.
+    Create(Origin<'w, 'a>, u32),
     /// The words are one command, each a word of a line.
     Command(&'w [&'a [u8]]),
     /// The lines of standard input are commands.
@@ -88,7 +88,8 @@ fn origin_in<'w, 'a>(options: &Options<'a>, words: &'w [&'a [u8]]) -> Result<Job
     ensures err { IfErr result (λ stop. origin_in (options_of options.entry.now) (texts_of words.entry.now) ≡ Err (stop_of stop)) }
 {
     if options.host {
-        return alone(Job::Create(Origin::Host(machine_in(options))), words);
+        let machine = Origin::Host(machine_in(options));
+        return alone(Job::Create(machine, options.mode), words);
     }
     if options.release.is_some() || options.root.is_some() || options.kmod.is_some() {
         return Err(Stop::Refused(Fault::WantsHost));
@@ -96,7 +97,7 @@ fn origin_in<'w, 'a>(options: &Options<'a>, words: &'w [&'a [u8]]) -> Result<Job
     if words.is_empty() {
         return Err(Stop::Refused(Fault::NothingToCreate));
     }
-    Ok(Job::Create(Origin::Sections(words)))
+    Ok(Job::Create(Origin::Sections(words), options.mode))
 }
 
 /// The first word that cannot stand in a line.

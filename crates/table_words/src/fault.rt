@@ -11,6 +11,8 @@ pub enum Fault<'a> {
     WantsValue(Valued),
     /// The seconds are no number, or too many.
     BadWait(&'a [u8]),
+    /// The mode is not three octal digits.
+    BadMode(&'a [u8]),
     /// Neither a word nor the environment names a folder.
     NoFolder,
     /// `adopt` names no file.

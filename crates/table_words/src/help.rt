@@ -6,14 +6,17 @@ pub const VERSION: &[u8] = b"gz-table 0.2.0\n";
 /// What `--help` writes.
 pub const HELP: &[u8] = b"A table of modules that many processes share and that outlives them.
 
-usage: gz-table [OPTION ..] FOLDER create WORD ..       makes a table: catalogue=PATH, dep=PATH, alias=PATH, conf=PATH
-       gz-table [OPTION ..] FOLDER create --host [-S VERSION] [--root DIR] [--as 30|34]
+usage: gz-table [OPTION ..] FOLDER create [--mode MODE] WORD ..
+                                                        makes a table: catalogue=PATH, dep=PATH, alias=PATH, conf=PATH
+       gz-table [OPTION ..] FOLDER create [--mode MODE] --host [-S VERSION] [--root DIR] [--as 30|34]
                                                         makes one of a machine's modules
        gz-table [OPTION ..] FOLDER COMMAND [WORD ..]    answers one command
        gz-table [OPTION ..] FOLDER                      answers the lines of standard input
        gz-table [OPTION ..] FOLDER check [--repair]     says what stands in the folder; cuts damage off
        gz-table [OPTION ..] FOLDER adopt FILE           brings the table to lines of /proc/modules (-: standard input)
        gz-table [OPTION ..] FOLDER compact              writes the journal anew
+
+A new table is its owner's alone (--mode 700), unless MODE lets others use it, as 750 or 755.
 
 With GZ_TABLE in the environment, its text is the FOLDER, and the first word is the command.
 

@@ -1,6 +1,6 @@
 //! The options before a command.
-ghost use Rattle.std.specs.Prelude.{◌≡◌};
-ghost use Rattle.table_words.specs.Options.{any_option, begins, create_option, is_either, is_option, kmod_option, later_option, next_of, no_options, options_of, refused, root_option, stopped, unknown_option, with_value};
+ghost use Rattle.std.specs.Prelude.{◌≡◌, IfSome, ◌<◌};
+ghost use Rattle.table_words.specs.Options.{any_option, begins, create_option, is_either, is_option, kmod_option, later_option, mode_of, mode_option, next_of, no_options, octal, options_of, refused, root_option, stopped, unknown_option, with_value};
 
 use crate::fault::{Fault, Stop};
 use crate::step::Step;
@@ -17,6 +17,8 @@ pub enum Valued {
     Root,
     /// `--as VERSION`
     As,
+    /// `--mode MODE`
+    Mode,
 }
 
 /// What options say.
@@ -31,6 +33,8 @@ pub(crate) struct Options<'a> {
     pub(crate) root: Option<&'a [u8]>,
     /// The version of kmod that is named.
     pub(crate) kmod: Option<&'a [u8]>,
+    /// What the owner of a new folder may do, its group and others.
+    pub(crate) mode: u32,
 }
 
 fn begins(word: &[u8], front: &[u8]) -> bool
@@ -59,6 +63,27 @@ fn unknown<'a>(word: &'a [u8]) -> Step<'a>
     Step::Stopped(Stop::Refused(Fault::UnknownOption(word)))
 }
 
+/// What an octal digit counts.
+fn octal(digit: u8) -> Option<u32>
+    ensures value { result ≡ octal digit }
+    ensures small { IfSome result (λ count. count < 8) }
+{
+    match digit {
+        b'0'..=b'7' => Some(u32::from(digit - b'0')),
+        _ => None,
+    }
+}
+
+/// The mode that three octal digits are.
+fn mode_of(word: &[u8]) -> Option<u32>
+    ensures { result ≡ mode_of word.now }
+{
+    let [owner, group, others] = word else {
+        return None;
+    };
+    Some(octal(*owner)? * 64 + octal(*group)? * 8 + octal(*others)?)
+}
+
 impl<'a> Options<'a> {
     /// What no option says.
     pub(crate) fn new() -> Options<'a>
@@ -71,6 +96,7 @@ impl<'a> Options<'a> {
             release: None,
             root: None,
             kmod: None,
+            mode: 0o700,
         }
     }
 
@@ -94,6 +120,10 @@ impl<'a> Options<'a> {
             Valued::Wait => match number_within(u32::MAX as u64, value) {
                 Some(wait) => Options { wait, ..self },
                 None => return Step::Stopped(Stop::Refused(Fault::BadWait(value))),
+            },
+            Valued::Mode => match mode_of(value) {
+                Some(mode) => Options { mode, ..self },
+                None => return Step::Stopped(Stop::Refused(Fault::BadMode(value))),
             },
         };
         Step::On(options, None)
@@ -125,7 +155,7 @@ impl<'a> Options<'a> {
         }
     }
 
-    /// With the option that names a version of kmod.
+    /// With the option that names a version of kmod, or a later one.
     fn with_kmod_option(self, word: &'a [u8]) -> Step<'a>
         ensures { next_of result ≡ kmod_option (options_of self.entry) word.entry.now }
     {
@@ -133,6 +163,19 @@ impl<'a> Options<'a> {
             Step::On(self, Some(Valued::As))
         } else if begins(word, b"--as=") {
             self.with(Valued::As, &word[5..])
+        } else {
+            self.with_mode_option(word)
+        }
+    }
+
+    /// With the option that says who may use the table.
+    fn with_mode_option(self, word: &'a [u8]) -> Step<'a>
+        ensures { next_of result ≡ mode_option (options_of self.entry) word.entry.now }
+    {
+        if is_same(word, b"--mode") {
+            Step::On(self, Some(Valued::Mode))
+        } else if begins(word, b"--mode=") {
+            self.with(Valued::Mode, &word[7..])
         } else {
             unknown(word)
         }
