@@ -72,6 +72,20 @@ pub fn new_setup<R: Files + Env + AllocGlobal, E: Write>(
     Ok(seal(text)?)
 }
 
+/// Makes the folder, of this mode. Another process that makes the same table may have made it meanwhile: then it stays as it is.
+fn new_folder<R: Files<File = File> + Clock + AllocGlobal>(
+    shared: &Shared<'_, R>,
+    mode: u32,
+) -> io::Result<()> {
+    match create_folder(shared.rt, shared.folder, mode) {
+        Err(error)
+            if error.kind() == ErrorKind::AlreadyExists && is_folder(shared.rt, shared.folder) => {
+            Ok(())
+        }
+        made => made,
+    }
+}
+
 /// Makes the folder, of this mode, if there is none, and brings its name to the disk: whoever made it may have been killed
 /// before that.
 fn put_folder<R: Files<File = File> + Clock + AllocGlobal>(
@@ -79,7 +93,7 @@ fn put_folder<R: Files<File = File> + Clock + AllocGlobal>(
     mode: u32,
 ) -> io::Result<()> {
     if !is_folder(shared.rt, shared.folder) {
-        create_folder(shared.rt, shared.folder, mode)?;
+        new_folder(shared, mode)?;
     }
     shared.sync_names(&shared.path("..")?, Syncs::Kept)
 }
