@@ -34,8 +34,8 @@ use std::rt::Files;
 use std::str;
 use std::time::Clock;
 use table_folder::{
-    InputFault, InputLines, Shared, TableFault, Teller, alone, read_setup, read_setup_for_command,
-    refuse_others, tell_fault,
+    InputFault, InputLines, Shared, TableFault, Teller, alone, end_run, read_setup,
+    read_setup_for_command, refuse_others, tell_fault,
 };
 use table_words::{Asked, Ending, HELP, Job, Stop, VERSION, line_of, read_words};
 
@@ -349,7 +349,7 @@ fn answer_asked<R: Files<File = File> + Env + Clock + AllocGlobal, I: Read, O: W
     };
     match perform(&shared, asked.job, input, output, teller) {
         Ok(ending) => ending,
-        Err(fault) => teller.end(folder, shared.wait, fault),
+        Err(fault) => end_run(&shared, fault, teller),
     }
 }
 

@@ -1,3 +1,4 @@
 mod FeedLemmas
 mod InputLemmas
+mod LockLemmas
 mod SetupLemmas

@@ -2,5 +2,6 @@ pub mod Endings
 pub mod Faults
 pub mod InputLines
 pub mod Listings
+pub mod Locks
 pub mod Machine
 pub mod Setups

@@ -4,6 +4,7 @@ ghost use Rattle.table_folder.specs.declared.fault.TableFault.TheVariants.{Told,
 ghost use Rattle.table_folder.specs.Faults.{ending_of_fault, IsTold};
 
 use crate::fault::{Damage, TableFault};
+use crate::locker::Locker;
 use crate::setup::SectionsFault;
 use crate::shared::CUT;
 use file_journal::{Cause, FileFault, LockError, Target};
@@ -209,6 +210,17 @@ impl<'e, E: Write> Teller<'e, E> {
             }
         }
         TableFault::Told
+    }
+
+    /// Another process has had the lock for all the time that was waited, in seconds.
+    pub(crate) fn locked(&mut self, folder: &str, wait: u32, locker: &Locker) -> Ending
+        ensures { result ≡ Ending.Locked }
+    {
+        let _ = writeln!(
+            self.errors,
+            "gz-table: {folder}: another process has held the table for {wait} seconds: {locker}; ask again, or wait longer with --wait"
+        );
+        Ending::Locked
     }
 
     fn tell_lock(&mut self, folder: &str, wait: u32, error: LockError) {
