@@ -1,5 +1,5 @@
 ghost use Rattle.std.specs.Prelude.{◌≡◌};
-ghost use Rattle.std.specs.IoError.{error_kind};
+ghost use Rattle.std.specs.IoError.{error_kind, raw_os_error};
 ghost use Rattle.file_journal.specs.Faults.{cause_of};
 
 use std::fmt;
@@ -42,7 +42,8 @@ pub enum Cause {
     /// Another wrote to it, or the disk lost what was written.
     ReadsOtherwise,
     OutOfMemory,
-    Other(ErrorKind),
+    /// Anything else, and the system's number of it (errno(3)), if it has one.
+    Other(ErrorKind, Option<i32>),
 }
 
 impl fmt::Display for Action {
@@ -82,25 +83,30 @@ impl fmt::Display for Cause {
             Cause::NoFile => f.write_str("it is no file"),
             Cause::ReadsOtherwise => f.write_str("it does not read as it was written"),
             Cause::OutOfMemory => f.write_str("out of memory"),
-            Cause::Other(kind) => fmt::Display::fmt(kind, f),
+            Cause::Other(_, Some(number)) => {
+                fmt::Display::fmt(&io::Error::from_raw_os_error(*number), f)
+            }
+            Cause::Other(kind, None) => fmt::Display::fmt(kind, f),
         }
     }
 }
 
-/// The cause that an error of the system tells.
-fn cause_of(error: &io::Error) -> Cause
-    ensures { result ≡ cause_of (error_kind error.now) }
-{
-    match error.kind() {
-        ErrorKind::NotFound => Cause::NotThere,
-        ErrorKind::AlreadyExists => Cause::AlreadyThere,
-        ErrorKind::PermissionDenied => Cause::NotAllowed,
-        ErrorKind::ReadOnlyFilesystem => Cause::ReadOnly,
-        ErrorKind::StorageFull => Cause::Full,
-        ErrorKind::QuotaExceeded => Cause::Full,
-        ErrorKind::IsADirectory => Cause::NoFile,
-        ErrorKind::OutOfMemory => Cause::OutOfMemory,
-        kind => Cause::Other(kind),
+impl Cause {
+    /// The cause that an error of the system tells.
+    pub fn of(error: &io::Error) -> Cause
+        ensures { result ≡ cause_of (error_kind error.now) (raw_os_error error.now) }
+    {
+        match error.kind() {
+            ErrorKind::NotFound => Cause::NotThere,
+            ErrorKind::AlreadyExists => Cause::AlreadyThere,
+            ErrorKind::PermissionDenied => Cause::NotAllowed,
+            ErrorKind::ReadOnlyFilesystem => Cause::ReadOnly,
+            ErrorKind::StorageFull => Cause::Full,
+            ErrorKind::QuotaExceeded => Cause::Full,
+            ErrorKind::IsADirectory => Cause::NoFile,
+            ErrorKind::OutOfMemory => Cause::OutOfMemory,
+            kind => Cause::Other(kind, error.raw_os_error()),
+        }
     }
 }
 
@@ -117,12 +123,12 @@ impl FileFault {
     pub fn of(action: Action, target: Target, error: &io::Error) -> Self
         ensures action { result.action ≡ action }
         ensures target { result.target ≡ target }
-        ensures cause { result.cause ≡ cause_of (error_kind error.now) }
+        ensures cause { result.cause ≡ cause_of (error_kind error.now) (raw_os_error error.now) }
     {
         FileFault {
             action,
             target,
-            cause: cause_of(error),
+            cause: Cause::of(error),
         }
     }
 }

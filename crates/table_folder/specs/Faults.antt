@@ -2,8 +2,6 @@
 use Rattle.std.specs.Prelude.{◌≡◌, ◌≢◌, ◌⊎◌, ℕ, true, List, codes, ⊤, Option, Some, None, IsUtf8}
 use Rattle.std.specs.Str.{bytes_eq}
 use Rattle.std.specs.Borrow.{Bor}
-use Rattle.std.specs.declared.io.ErrorKind.{ErrorKind}
-use Rattle.std.specs.declared.io.ErrorKind.TheVariants as kind
 use Rattle.file_journal.specs.declared.fault.Cause.{Cause}
 use Rattle.file_journal.specs.declared.fault.Cause.TheVariants.{OutOfMemory, NotThere}
 use Rattle.file_journal.specs.declared.fault.FileFault.{FileFault}
@@ -52,8 +50,8 @@ fault_of_file None = fault.Journal
 fault_of_file (Some file) = fault_of_cause file file.cause
 
 -- a file for which there was no memory was not refused by the disk
-abbrev pub fault_of_write : Bor (List ℕ) → ErrorKind → TableFault
-fault_of_write name kind.OutOfMemory = fault.OutOfMemory
+abbrev pub fault_of_write : Bor (List ℕ) → Cause → TableFault
+fault_of_write name OutOfMemory = fault.OutOfMemory
 fault_of_write name why = fault.Unwritten name why
 
 -- the file of this name was not written, or there was no memory

@@ -1,13 +1,13 @@
 //! Why a run did not do what was asked.
 ghost use Rattle.std.specs.Prelude.{◌≡◌};
-ghost use Rattle.std.specs.IoError.{error_kind};
+ghost use Rattle.std.specs.IoError.{error_kind, raw_os_error};
+ghost use Rattle.file_journal.specs.Faults.{cause_of};
 ghost use Rattle.table_folder.specs.Faults.{ending_of_fault, fault_of_file, fault_of_write, IsUnlocked, IsUnwritten};
 
 use crate::setup::SectionsFault;
 use file_journal::{Action, Cause, FileFault, LockError, OpenError, Target};
-use program_frame::PathFault;
 use std::alloc::AllocError;
-use std::io::{self, ErrorKind};
+use std::io;
 use table_words::Ending;
 
 /// Where a line of a journal lost its gate, and what stands behind it.
@@ -40,7 +40,7 @@ pub enum TableFault {
     /// Since the setup was read, the table was made anew, or taken away.
     MadeAnew,
     /// A file of the folder, of this name, was not read.
-    Unread(&'static str, PathFault),
+    Unread(&'static str, Cause),
     /// The lock was not taken.
     Lock(LockError),
     /// The journal was not opened, read or written.
@@ -54,9 +54,9 @@ pub enum TableFault {
     /// A line of the journal lost its gate, and more lines with open gates stand behind it than a crash leaves.
     Damaged(Damage),
     /// The folder was not made.
-    NoFolder(ErrorKind),
+    NoFolder(Cause),
     /// A file of the folder, of this name, was not written.
-    Unwritten(&'static str, ErrorKind),
+    Unwritten(&'static str, Cause),
     /// Standard input was not read.
     Input,
     /// Standard output was not written.
@@ -147,12 +147,12 @@ impl From<OpenError> for TableFault {
 
 /// A file of the folder was not written.
 pub(crate) fn unwritten(name: &'static str, error: &io::Error) -> TableFault
-    ensures value { result ≡ fault_of_write name.entry (error_kind error.now) }
+    ensures value { result ≡ fault_of_write name.entry (cause_of (error_kind error.now) (raw_os_error error.now)) }
     ensures named { IsUnwritten name.now result }
 {
-    match error.kind() {
-        ErrorKind::OutOfMemory => TableFault::OutOfMemory,
-        kind => TableFault::Unwritten(name, kind),
+    match Cause::of(error) {
+        Cause::OutOfMemory => TableFault::OutOfMemory,
+        cause => TableFault::Unwritten(name, cause),
     }
 }
 

@@ -3,6 +3,7 @@
 
 mod alias_form;
 mod asking;
+mod causes;
 mod cut;
 mod endings;
 mod fault;
@@ -10,8 +11,8 @@ mod folder_setup;
 mod input;
 mod journal;
 mod listing;
-mod machine;
 mod locker;
+mod machine;
 mod making;
 mod mark;
 mod reading;
@@ -31,8 +32,8 @@ pub use folder_setup::FolderSetup;
 pub use input::{InputFault, InputLines, alone};
 pub use journal::{damage_of, found_in, make_journal, open_journal};
 pub use listing::{Listing, listed_text, listing_of, modules_of};
-pub use making::{make_folder, make_lock, new_setup, write_setup};
 pub use locker::end_run;
+pub use making::{make_folder, make_lock, new_setup, write_setup};
 pub use mark::FileMark;
 pub use reading::{read_journal, read_setup, read_setup_for_command};
 pub use regular::refuse_others;

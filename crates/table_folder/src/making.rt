@@ -10,7 +10,7 @@ use crate::sections::named_sections;
 use crate::setup::setup_of;
 use crate::shared::{LOCK, SETUP, Shared};
 use crate::teller::Teller;
-use file_journal::{Syncs, create_private};
+use file_journal::{Cause, Syncs, create_private};
 use kmod_version::Kmod;
 use modprobe::AliasForm;
 use program_frame::is_folder;
@@ -109,7 +109,7 @@ pub fn make_folder<R: Files<File = File> + Clock + AllocGlobal>(
 {
     match put_folder(shared, mode) {
         Ok(()) => Ok(()),
-        Err(error) => Err(TableFault::NoFolder(error.kind())),
+        Err(error) => Err(TableFault::NoFolder(Cause::of(&error))),
     }
 }
 

@@ -8,8 +8,8 @@ use crate::fault::TableFault;
 use crate::folder_setup::FolderSetup;
 use crate::mark::FileMark;
 use crate::shared::{JOURNAL, SETUP, Shared};
+use file_journal::Cause;
 use modprobe::AliasForm;
-use program_frame::PathFault;
 use std::fs::{File, OpenFile};
 use std::io::{self, ErrorKind, Read};
 use std::mem::ManuallyDrop;
@@ -46,6 +46,14 @@ fn read_path<R: Files<File = File> + AllocGlobal>(rt: &R, path: &str) -> io::Res
     Ok(ReadFile { bytes, mark })
 }
 
+/// Whether a file is not there, for this cause: also if something else than a folder stands before it.
+fn is_missing(cause: Cause) -> bool {
+    matches!(
+        cause,
+        Cause::NotThere | Cause::Other(ErrorKind::NotADirectory, _)
+    )
+}
+
 /// All bytes of a file of the folder.
 fn read_file<R: Files<File = File> + Clock + AllocGlobal>(
     shared: &Shared<'_, R>,
@@ -56,10 +64,10 @@ fn read_file<R: Files<File = File> + Clock + AllocGlobal>(
     let path = shared.path(name)?;
     match read_path(shared.rt, &path) {
         Ok(read) => Ok(read),
-        Err(error) => match PathFault::from(error) {
-            PathFault::Memory => Err(TableFault::OutOfMemory),
-            PathFault::Missing if name == SETUP => Err(TableFault::NoTable),
-            PathFault::Missing if name == JOURNAL => Err(TableFault::NoJournal),
+        Err(error) => match Cause::of(&error) {
+            Cause::OutOfMemory => Err(TableFault::OutOfMemory),
+            why if is_missing(why) && name == SETUP => Err(TableFault::NoTable),
+            why if is_missing(why) && name == JOURNAL => Err(TableFault::NoJournal),
             why => Err(TableFault::Unread(name, why)),
         },
     }

@@ -3,6 +3,7 @@ ghost use Rattle.std.specs.Prelude.{◌≡◌, false};
 ghost use Rattle.table_folder.specs.declared.fault.TableFault.TheVariants.{Told, Kept};
 ghost use Rattle.table_folder.specs.Faults.{ending_of_fault, IsTold};
 
+use crate::causes::{Unread, Unwritten};
 use crate::fault::{Damage, TableFault};
 use crate::locker::Locker;
 use crate::setup::SectionsFault;
@@ -10,7 +11,7 @@ use crate::shared::CUT;
 use file_journal::{Cause, FileFault, LockError, Target};
 use line_journal::Found;
 use program_frame::{PathFault, Shown};
-use std::io::{ErrorKind, Write};
+use std::io::Write;
 use table_adopt::KernelFault;
 use table_words::Ending;
 
@@ -40,18 +41,6 @@ fn advice_on(fault: FileFault) -> &'static str {
         Cause::NotThere => "; restore it, or make the table in another folder",
         Cause::ReadsOtherwise => "; another program writes to it: check says what stands there",
         _ => "",
-    }
-}
-
-/// Why something was not written, and what may be done.
-fn unwritten_for(kind: ErrorKind) -> &'static str {
-    match kind {
-        ErrorKind::NotFound => "a folder above it is missing; make that first",
-        ErrorKind::NotADirectory | ErrorKind::AlreadyExists => "it is no folder; name another",
-        ErrorKind::PermissionDenied => "permission denied; run it as one who may write there",
-        ErrorKind::ReadOnlyFilesystem => "the file system is read-only; name a folder elsewhere",
-        ErrorKind::StorageFull | ErrorKind::QuotaExceeded => "the disk is full; free some room",
-        _ => "the disk failed",
     }
 }
 
@@ -297,17 +286,18 @@ impl<'e, E: Write> Teller<'e, E> {
                 "gz-table: {folder}/setup is refused: {why}; restore it, or make the table in another folder"
             ),
             TableFault::Unread(name, why) => {
+                let why = Unread(why);
                 writeln!(self.errors, "gz-table: cannot read {folder}/{name}: {why}")
             }
-            TableFault::NoFolder(kind) => {
-                let why = unwritten_for(kind);
+            TableFault::NoFolder(why) => {
+                let why = Unwritten(why);
                 writeln!(
                     self.errors,
                     "gz-table: cannot make the folder {folder}: {why}"
                 )
             }
-            TableFault::Unwritten(name, kind) => {
-                let why = unwritten_for(kind);
+            TableFault::Unwritten(name, why) => {
+                let why = Unwritten(why);
                 writeln!(self.errors, "gz-table: cannot write {folder}/{name}: {why}")
             }
             TableFault::Journal => writeln!(self.errors, "gz-table: {folder}/journal failed"),
