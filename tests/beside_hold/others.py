@@ -53,7 +53,8 @@ def faults_of_slow_tries(machine):
     machine.anew()
     machine.hold("get one loop")
     tries = machine.room / "tries"
-    with before_table(machine, f'sleep 0.5; case "$*" in *"begin_remove loop") echo >>{tries} ;; esac'):
+    # A try is a line of standard input, and nothing else of an upgrade is.
+    with before_table(machine, f'sleep 0.5; case "$*" in *" {machine.room}/table") echo >>{tries} ;; esac'):
         found = machine.hold("upgrade loop --wait 2")
     count = len(tries.read_text())
     return [] if found == ("error EWOULDBLOCK loop\n", 11, []) and count in (1, 2) else [f"slow tries of an upgrade: {count}, {found}"]

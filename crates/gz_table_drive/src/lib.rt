@@ -7,6 +7,7 @@ mod answering;
 mod check;
 mod compaction;
 mod create;
+mod in_use;
 mod kept;
 pub mod laws;
 mod opening;

@@ -18,6 +18,7 @@ use crate::answering::Replies;
 use crate::check::check;
 use crate::compaction::compact;
 use crate::create::create;
+use crate::in_use::tell_users;
 use crate::kept::Kept;
 use crate::repair::repair;
 use crate::tenure::answer_in_tenure;
@@ -130,14 +131,11 @@ fn answer_once<R: Files<File = File> + Clock + AllocGlobal, O: Write, E: Write>(
     let setup = read_setup_for_command(shared, words)?;
     let lines = command_line(alloc, words, teller)?;
     let mut replies = Replies::new(alloc);
-    answer_in_tenure(
-        &shared.with_setup(&setup),
-        &mut Kept::new(&setup.setup),
-        &lines,
-        &mut replies,
-        teller,
-    )?;
+    let shared = shared.with_setup(&setup);
+    let mut kept = Kept::new(&setup.setup);
+    answer_in_tenure(&shared, &mut kept, &lines, &mut replies, teller)?;
     write_whole(&replies.text, output)?;
+    tell_users(&shared, &mut kept, &replies.text, teller);
     Ok(first_ending(&replies))
 }
 

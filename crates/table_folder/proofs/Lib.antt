@@ -2,3 +2,4 @@ mod FeedLemmas
 mod InputLemmas
 mod LockLemmas
 mod SetupLemmas
+mod UseLemmas

@@ -5,3 +5,4 @@ pub mod Listings
 pub mod Locks
 pub mod Machine
 pub mod Setups
+pub mod Uses

@@ -23,6 +23,7 @@ mod setup;
 mod shared;
 mod teller;
 mod told;
+mod uses;
 
 pub use asking::is_reading;
 pub use cut::{cut_length, keep_cut};
@@ -41,3 +42,4 @@ pub use setup::SectionsFault;
 pub use shared::Shared;
 pub use teller::Teller;
 pub use told::tell_fault;
+pub use uses::{holders_in, module_in_use, users_in};

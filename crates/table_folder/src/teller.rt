@@ -8,6 +8,7 @@ use crate::fault::{Damage, TableFault};
 use crate::locker::Locker;
 use crate::setup::SectionsFault;
 use crate::shared::CUT;
+use crate::uses::Names;
 use file_journal::{Cause, FileFault, LockError, Target};
 use line_journal::Found;
 use program_frame::{PathFault, Shown};
@@ -199,6 +200,21 @@ impl<'e, E: Write> Teller<'e, E> {
             }
         }
         TableFault::Told
+    }
+
+    /// A module is in use: who holds it, and which modules need it. If nobody does, nothing is told.
+    pub fn in_use(&mut self, name: &[u8], holders: &[&[u8]], users: &[&[u8]])
+        ensures same_stream { self.new.errors.ghost_name ≡ self.old.errors.ghost_name }
+    {
+        let name = Shown(name);
+        if !holders.is_empty() {
+            let names = Names(holders);
+            let _ = writeln!(self.errors, "gz-table: {name} is held by {names}");
+        }
+        if !users.is_empty() {
+            let names = Names(users);
+            let _ = writeln!(self.errors, "gz-table: {name} is needed by {names}");
+        }
     }
 
     /// Another process has had the lock for all the time that was waited, in seconds.

@@ -25,7 +25,7 @@ returns-clause-written g c =
     c.new-replies.result c.answer_in_tenure.new.replies c.first_ending.result c.in_ok-setup.ensures.found.1 (alone_answered line (bytes_of lines) count one some)
     c.new-replies.ensures.text c.new-replies.ensures.endings
     (subst (λ (s : Setup). HasAnsweredOver s (take count (bytes_of lines)) c.new-replies.result c.answer_in_tenure.new.replies)
-    (c.new.ensures ∙ ap (λ (f : FolderSetup). f.setup) c.deref-2.ensures) c.in_ok-answer_in_tenure.ensures.answered)
+    (c.new-kept.ensures ∙ ap (λ (f : FolderSetup). f.setup) c.deref-2.ensures) c.in_ok-answer_in_tenure.ensures.answered)
     (subst (Appends (g.O.Write.contents c.args.output.now) (g.O.Write.contents c.write_whole.new.output)) c.deref-4.ensures.value c.in_ok-write_whole.ensures.written)
     c.first_ending.ensures
 
@@ -41,7 +41,7 @@ returns-in_err-write_whole-clause-failed g c =
     let some : 0 < count = c.in_ok-answer_in_tenure.ensures.some (omega (arith, ap length one, length-map lines (λ (v : Vec ℕ Global). v.items))) in
     let written = line_written c.in_ok-setup.ensures.found.0 c.in_ok-setup.setup.value line (take count (bytes_of lines)) (Some []) (Some replies.text.items) none replies ending
     c.in_ok-setup.ensures.found.1 (alone_answered line (bytes_of lines) count one some) c.new-replies.ensures.text c.new-replies.ensures.endings
-    (subst (λ (s : Setup). HasAnsweredOver s (take count (bytes_of lines)) none replies) (c.new.ensures ∙ ap (λ (f : FolderSetup). f.setup) c.deref-2.ensures) c.in_ok-answer_in_tenure.ensures.answered)
+    (subst (λ (s : Setup). HasAnsweredOver s (take count (bytes_of lines)) none replies) (c.new-kept.ensures ∙ ap (λ (f : FolderSetup). f.setup) c.deref-2.ensures) c.in_ok-answer_in_tenure.ensures.answered)
     refl refl in
     let begun = subst (IsBegun (g.O.Write.contents c.args.output.now) (g.O.Write.contents c.write_whole.new.output)) c.deref-4.ensures.value c.write_whole.ensures.begun in
     let p = err_from_is_err_and c.from_residual-in_err-write_whole.result c.from_residual-in_err-write_whole.ensures.1 in
