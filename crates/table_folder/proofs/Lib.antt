@@ -1,5 +1,6 @@
 mod FeedLemmas
 mod InputLemmas
 mod LockLemmas
+mod NoticeLemmas
 mod SetupLemmas
 mod UseLemmas

@@ -4,5 +4,6 @@ pub mod InputLines
 pub mod Listings
 pub mod Locks
 pub mod Machine
+pub mod Notices
 pub mod Setups
 pub mod Uses

@@ -15,6 +15,7 @@ mod locker;
 mod machine;
 mod making;
 mod mark;
+mod notices;
 mod reading;
 mod regular;
 mod rights;

@@ -16,6 +16,7 @@ use session_files::add_section;
 use std::alloc::{AllocError, Global};
 use std::env::Env;
 use std::io::Write;
+use std::mem::replace;
 use std::rt::Files;
 use table_setup::host_catalogue;
 use table_words::Machine;
@@ -104,11 +105,13 @@ fn read_machine<R: Files + Env + AllocGlobal, E: Write>(
     }))
 }
 
-/// The sections of a machine, as this version of kmod reads its files. None if something is missing, which is reported.
+/// The sections of a machine, as this version of kmod reads its files, and the files of its configuration, which are put into
+/// `files`. None if something is missing, which is reported.
 pub(crate) fn sections_of_machine<R: Files + Env + AllocGlobal, E: Write>(
     rt: &R,
     machine: Machine<'_>,
     kmod: Kmod,
+    files: &mut Vec<TextFile>,
     errors: &mut E,
 ) -> Result<Option<Vec<u8>>, AllocError> {
     let disk = Disk {
@@ -125,9 +128,9 @@ pub(crate) fn sections_of_machine<R: Files + Env + AllocGlobal, E: Write>(
     if is_rootless(&host, disk.root, &mut messages)? {
         return Ok(None);
     }
-    let Some(texts) = read_machine(&host, machine, kmod, &mut messages)? else {
+    let Some(mut texts) = read_machine(&host, machine, kmod, &mut messages)? else {
         return Ok(None);
     };
-    let files = &texts.configuration.files;
+    *files = replace(&mut texts.configuration.files, Vec::new(rt.alloc()));
     Ok(Some(machine_sections(rt.alloc(), &texts.dep, &texts.alias, files)?))
 }

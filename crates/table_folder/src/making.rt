@@ -5,6 +5,7 @@ ghost use Rattle.table_folder.specs.Setups.{IsNewSetup};
 
 use crate::fault::{TableFault, unlocked, unwritten};
 use crate::machine::sections_of_machine;
+use crate::notices::tell_otherwise;
 use crate::rights::{create_file, create_folder, set_rights};
 use crate::sections::named_sections;
 use crate::setup::setup_of;
@@ -13,6 +14,7 @@ use crate::teller::Teller;
 use file_journal::{Cause, Syncs, create_private};
 use kmod_version::Kmod;
 use modprobe::AliasForm;
+use modprobe_files::TextFile;
 use program_frame::is_folder;
 use std::env::Env;
 use std::fs::{self, File, OpenFile};
@@ -35,10 +37,11 @@ fn kmod_of<E: Write>(machine: Machine<'_>, teller: &mut Teller<'_, E>) -> Result
     }
 }
 
-/// The sections of a new table.
+/// The sections of a new table. The files of a machine's configuration are put into `files`.
 fn sections_of<R: Files + Env + AllocGlobal, E: Write>(
     rt: &R,
     origin: Origin<'_, '_>,
+    files: &mut Vec<TextFile>,
     teller: &mut Teller<'_, E>,
 ) -> Result<Vec<u8>, TableFault>
     ensures { IfErr result IsTold }
@@ -47,7 +50,7 @@ fn sections_of<R: Files + Env + AllocGlobal, E: Write>(
         Origin::Sections(words) => named_sections(rt, words, teller),
         Origin::Host(machine) => {
             let kmod = kmod_of(machine, teller)?;
-            match sections_of_machine(rt, machine, kmod, teller.errors())? {
+            match sections_of_machine(rt, machine, kmod, files, teller.errors())? {
                 Some(text) => Ok(text),
                 None => Err(TableFault::Told),
             }
@@ -57,6 +60,7 @@ fn sections_of<R: Files + Env + AllocGlobal, E: Write>(
 
 /// The bytes of the setup of a new table: the sections that words name, or a machine's, and a last line with their length and
 /// their sum. Words that name none, files that cannot be read, and sections that say what they may not are told, and refused.
+/// Lines of a machine's modprobe.d that the table reads otherwise than modprobe(8) are told.
 pub fn new_setup<R: Files + Env + AllocGlobal, E: Write>(
     rt: &R,
     origin: Origin<'_, '_>,
@@ -65,9 +69,11 @@ pub fn new_setup<R: Files + Env + AllocGlobal, E: Write>(
     ensures setup { IfOk result (λ bytes. IsNewSetup bytes.items) }
     ensures fault { IfErr result IsTold }
 {
-    let text = sections_of(rt, origin, teller)?;
-    if let Err(fault) = setup_of(rt.alloc(), &text, AliasForm::Text) {
-        return Err(teller.refused_sections(fault));
+    let mut files = Vec::new(rt.alloc());
+    let text = sections_of(rt, origin, &mut files, teller)?;
+    match setup_of(rt.alloc(), &text, AliasForm::Text) {
+        Ok(setup) => tell_otherwise(rt.alloc(), &setup, &files, teller)?,
+        Err(fault) => return Err(teller.refused_sections(fault)),
     }
     Ok(seal(text)?)
 }

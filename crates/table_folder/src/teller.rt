@@ -6,6 +6,7 @@ ghost use Rattle.table_folder.specs.Faults.{ending_of_fault, IsTold};
 use crate::causes::{Unread, Unwritten};
 use crate::fault::{Damage, TableFault};
 use crate::locker::Locker;
+use crate::notices::Otherwise;
 use crate::setup::SectionsFault;
 use crate::shared::CUT;
 use crate::uses::Names;
@@ -200,6 +201,27 @@ impl<'e, E: Write> Teller<'e, E> {
             }
         }
         TableFault::Told
+    }
+
+    /// A line of modprobe.d is read otherwise than modprobe(8) reads it.
+    pub(crate) fn otherwise(&mut self, path: &[u8], number: usize, line: &[u8], why: Otherwise) {
+        let (path, line) = (Shown(path), Shown(line));
+        let _ = writeln!(
+            self.errors,
+            "gz-table: NOTICE: {path}, line {number}: {line}: {why}"
+        );
+    }
+
+    /// So many lines more are read otherwise. If there are none, nothing is told.
+    pub(crate) fn more_otherwise(&mut self, count: usize)
+        ensures { count ≡ 0 → self.new ≡ self.old }
+    {
+        if count > 0 {
+            let _ = writeln!(
+                self.errors,
+                "gz-table: NOTICE: {count} more lines are read otherwise than modprobe reads them: see gz-table(8)"
+            );
+        }
     }
 
     /// A module is in use: who holds it, and which modules need it. If nobody does, nothing is told.
