@@ -11,6 +11,9 @@ pub(crate) struct Unread(pub(crate) Cause);
 impl fmt::Display for Unread {
     fn fmt<W: fmt::Write>(&self, f: &mut fmt::Formatter<W>) -> fmt::Result {
         match self.0 {
+            Cause::NotThere | Cause::Other(ErrorKind::NotADirectory, _) => {
+                f.write_str("no such file")
+            }
             Cause::NoFile => f.write_str("it is a folder"),
             Cause::NotAllowed => f.write_str("permission denied"),
             Cause::Other(ErrorKind::InvalidFilename, _) => {

@@ -5,7 +5,7 @@ ghost use Rattle.table_folder.specs.Faults.{IsTold};
 use crate::fault::TableFault;
 use crate::teller::Teller;
 use modprobe::Section;
-use program_frame::{PathFault, is_folder};
+use program_frame::is_folder;
 use session_files::{NamedFile, add_section, paths_in};
 use std::fs::File;
 use std::io::Write;
@@ -27,7 +27,7 @@ fn add_file<R: Files, E: Write>(
     };
     match added {
         Ok(()) => Ok(()),
-        Err(error) => Err(teller.unread(file.path, PathFault::from(error))),
+        Err(error) => Err(teller.unread_for(file.path, &error)),
     }
 }
 

@@ -13,7 +13,7 @@ use crate::uses::Names;
 use file_journal::{Cause, FileFault, LockError, Target};
 use line_journal::Found;
 use program_frame::{PathFault, Shown};
-use std::io::Write;
+use std::io::{self, Write};
 use table_adopt::KernelFault;
 use table_words::Ending;
 
@@ -80,6 +80,20 @@ impl<'e, E: Write> Teller<'e, E> {
         }
         let _ = writeln!(self.errors, "gz-table: cannot read {path}: {why}");
         TableFault::Told
+    }
+
+    /// The same, by the error of the system.
+    pub(crate) fn unread_for(&mut self, path: &str, error: &io::Error) -> TableFault
+        ensures { IsTold result }
+    {
+        match Cause::of(error) {
+            Cause::OutOfMemory => TableFault::OutOfMemory,
+            cause => {
+                let why = Unread(cause);
+                let _ = writeln!(self.errors, "gz-table: cannot read {path}: {why}");
+                TableFault::Told
+            }
+        }
     }
 
     /// A path that the words name is no regular file.
