@@ -1,8 +1,8 @@
 """What bench/table measures: gz-table, sqlite3(1), modsh and cat, and how each is asked for one change or for many."""
+import hashlib
 import os
 import shutil
 import subprocess
-import zlib
 from typing import NamedTuple
 
 from trees import Missing
@@ -109,8 +109,12 @@ class Table:
 
     def write_journal(self, lines):
         """Writes a journal of these lines, as gourzhiel(5) tells it."""
-        sealed = (b"+%08x %s" % (zlib.adler32(line[:-1]), line) for line in lines)
-        self.write(b"+gourzhiel journal 1\n" + b"".join(sealed) + b" ")
+        link = b"gourzhiel journal 2 - -"
+        sealed = [b"+" + link + b"\n"]
+        for line in lines:
+            link = hashlib.sha256(link + line[:-1]).hexdigest()[:16].encode()
+            sealed.append(b"+" + link + b" " + line)
+        self.write(b"".join(sealed) + b" ")
 
 
 class Sqlite:

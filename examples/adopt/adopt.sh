@@ -38,5 +38,5 @@ call gz-table lsmod
 call gz-table check --repair
 call gz-table held
 # Nothing is lost: the byte is put back in what was kept.
-head -n 1 table/journal.cut | cut -c 11-
+head -n 1 table/journal.cut | cut -c 19-
 rm -r table modules replies

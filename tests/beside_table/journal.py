@@ -1,14 +1,16 @@
 """The journal as gourzhiel(5) tells it: which lines count, and the commands in them."""
 
+import hashlib
 import os
+import re
 import threading
 import time
-import zlib
 from contextlib import contextmanager
 
 from beside_table.model import Table
 
-HEAD = "gourzhiel journal 1"
+# The first line: behind its format and version stand two words.
+FIRST = re.compile("gourzhiel journal 2 [^ ]+ [^ ]+")
 
 
 def counted(data):
@@ -21,14 +23,28 @@ def counted(data):
     return lines
 
 
+def sum_of(link, command):
+    """The sum of a command behind a line that tells this link: its own sum, or all of it if it is the first."""
+    return hashlib.sha256((link + command).encode()).hexdigest()[:16]
+
+
+def first_changed(lines):
+    """The number of the first line that does not continue the chain, if there is one."""
+    link = lines[0]
+    for number, line in enumerate(lines[1:], 2):
+        if line[:17] != sum_of(link, line[17:]) + " ":
+            return number
+        link = line[:16]
+    return None
+
+
 def commands_of(data):
     """The commands of a journal, and what is wrong with its lines."""
     lines = counted(data)
-    faults = [f"the journal begins with {lines[:1]}"] * (lines[:1] != [HEAD])
-    for line in lines[1:]:
-        if line[:9] != f"{zlib.adler32(line[9:].encode()):08x} ":
-            faults.append(f"`{line}` has another sum")
-    return [line[9:] for line in lines[1:]], faults
+    if not (lines and FIRST.fullmatch(lines[0])):
+        return [], [f"the journal begins with {lines[:1]}"]
+    changed = first_changed(lines)
+    return [line[17:] for line in lines[1:]], [f"line {changed} does not continue the chain"] * (changed is not None)
 
 
 def end_of(data):

@@ -1,79 +1,78 @@
 -- A journal of commands that make a table, and what it stands for while it is rewritten.
-use Rattle.std.proofs.Common.{◌≡◌, arith, refl, ap, sym, ◌∙◌, ⊎_elim, ℕ, ◌≤◌, ◌-◌, true, List, [], ◌∷◌, length, map, take, drop, Vec, Some}
-use Rattle.std.specs.List.{list_all, drop-map}
+use Rattle.std.proofs.Common.{◌≡◌, arith, refl, ap, sym, ◌∙◌, ⊎_elim, ℕ, ◌<◌, ◌≤◌, ◌+◌, ◌-◌, List, [], ◌∷◌, ◌++◌, length, map, take, drop, get_or, Vec, Some}
+use Rattle.std.specs.List.{drop-map}
 use Rattle.std.specs.declared.alloc.Global.{Global}
-use Rattle.std.specs.Str.{bytes_eq}
 use Rattle.std.proofs.lemmas.List.{take_rest}
-use Rattle.std.proofs.lemmas.Slice.Eq.{bytes_eq-Decides}
 use Rattle.line_journal.specs.Device.{History, AlwaysLeaves}
 use Rattle.line_journal.specs.Lines.{bytes_of, AreLines, StandsForEither}
 use Rattle.line_journal.specs.Journal.{lines_in, IsReady}
-use Rattle.line_journal.specs.declared.journal.Journal.{Journal}
 use Rattle.line_journal.proofs.Moments.{implies, from_disk}
 use Rattle.modprobe.specs.Setup.{Setup}
 use Rattle.held_table.specs.Held.{Held}
 use Rattle.held_lines.specs.Outcomes.{after}
 use Rattle.held_lines.specs.Snapshots.{snapshot_of}
-use Rattle.durable_table.specs.Seals.{seal, is_sealed}
-use Rattle.durable_table.specs.Commands.{head}
+use Rattle.durable_table.specs.declared.chained.Chained.{Chained}
+use Rattle.durable_table.specs.Seals.{seal}
+use Rattle.durable_table.specs.Commands.{head, link_behind}
 use Rattle.durable_table.specs.Tables.{opening_of, table_in}
 use Rattle.durable_table.specs.Durable.{Stands, FileStands}
 use Rattle.durable_table.specs.Compacting.{journal_of, compacted, IsRemade, CanBeRemade}
-use Rattle.durable_table.proofs.CommandLemmas.{seal_is_sealed}
-
-all_sealed : (commands : List (List ℕ)) → list_all is_sealed (map seal commands) ≡ true
-all_sealed [] = refl
-all_sealed (first ∷ rest) = grind (arith, seal_is_sealed first, all_sealed rest)
-
--- the commands behind their seals
-pub all_unsealed : (commands : List (List ℕ)) → map (drop 9) (map seal commands) ≡ commands
-all_unsealed [] = refl
-all_unsealed (first ∷ rest) = ap (λ l. first ∷ l) (all_unsealed rest)
-
-head_is_head : bytes_eq head head ≡ true
-head_is_head = (bytes_eq-Decides head head).1 refl
+use Rattle.durable_table.proofs.ChainLemmas.{chain_is_sealed, chain_unsealed, chain_more}
+use Rattle.durable_table.proofs.CommandLemmas.{head_is_head}
+use Rattle.durable_table.proofs.GroupLemmas.{one_more}
 
 -- the journal of commands stands for the table after them
 pub table_in_journal : (s : Setup) (commands : List (List ℕ)) → table_in s (journal_of commands) ≡ Some (after s (opening_of s) commands)
-table_in_journal s commands = grind (arith, head_is_head, all_sealed commands, all_unsealed commands)
+table_in_journal s commands = grind (arith, head_is_head, chain_is_sealed head commands, chain_unsealed head commands)
+
+-- the line of a command more
+pub journal_more : (commands : List (Vec ℕ Global)) (i : ℕ) (command : Vec ℕ Global) (lines : List (List ℕ)) (line : List ℕ) → i < length commands → command ≡ get_or commands i command
+    → lines ≡ journal_of (bytes_of (take i commands)) → line ≡ seal (link_behind lines) command.items → lines ++ line ∷ [] ≡ journal_of (bytes_of (take (i + 1) commands))
+journal_more commands i command lines line below is made sealed =
+    let front = bytes_of (take i commands) in
+    ap (λ l. l ++ line ∷ []) made
+    ∙ ap (λ l. journal_of front ++ l ∷ []) (sealed ∙ ap (λ l. seal (link_behind l) command.items) made)
+    ∙ ap (λ l. head ∷ l) (sym (chain_more head front command.items))
+    ∙ ap journal_of (sym (one_more commands i command below is))
 
 remade : (s : Setup) (h : Held) (lines : List (List ℕ)) → IsRemade s h lines → table_in s lines ≡ Some h
 remade s h lines made = ap (table_in s) made.is ∙ table_in_journal s (snapshot_of s h) ∙ ap Some made.makes
 
 -- the commands of a journal that is the snapshot's
-snapshot_behind : (s : Setup) (h : Held) (lines rest : List (Vec ℕ Global)) → bytes_of lines ≡ compacted s h → rest ≡ drop 1 lines → snapshot_of s h ≡ map (drop 9) (bytes_of rest)
+snapshot_behind : (s : Setup) (h : Held) (lines rest : List (Vec ℕ Global)) → bytes_of lines ≡ compacted s h → rest ≡ drop 1 lines → snapshot_of s h ≡ map (drop 17) (bytes_of rest)
 snapshot_behind s h lines rest is rest_is =
-    sym (all_unsealed (snapshot_of s h)) ∙ ap (λ l. map (drop 9) (drop 1 l)) (sym is)
-    ∙ ap (map (drop 9)) (drop-map (λ (v : Vec ℕ Global). v.items) 1 lines) ∙ ap (λ l. map (drop 9) (bytes_of l)) (sym rest_is)
+    sym (chain_unsealed head (snapshot_of s h)) ∙ ap (λ l. map (drop 17) (drop 1 l)) (sym is)
+    ∙ ap (map (drop 17)) (drop-map (λ (v : Vec ℕ Global). v.items) 1 lines) ∙ ap (λ l. map (drop 17) (bytes_of l)) (sym rest_is)
 
 -- a second table is the one after the lines
-pub second_table : (s : Setup) (fresh other : Held) (lines : List (Vec ℕ Global)) → fresh ≡ opening_of s → other ≡ after s fresh (map (drop 9) (bytes_of (take (length lines - 1) (drop 1 lines))))
-    → other ≡ after s (opening_of s) (map (drop 9) (bytes_of (drop 1 lines)))
+pub second_table : (s : Setup) (fresh other : Held) (lines : List (Vec ℕ Global)) → fresh ≡ opening_of s → other ≡ after s fresh (map (drop 17) (bytes_of (take (length lines - 1) (drop 1 lines))))
+    → other ≡ after s (opening_of s) (map (drop 17) (bytes_of (drop 1 lines)))
 second_table s fresh other lines opening from =
-    from ∙ ap (λ l. after s fresh (map (drop 9) (bytes_of l))) (take_rest lines 1) ∙ ap (λ (start : Held). after s start (map (drop 9) (bytes_of (drop 1 lines)))) opening
+    from ∙ ap (λ l. after s fresh (map (drop 17) (bytes_of l))) (take_rest lines 1) ∙ ap (λ (start : Held). after s start (map (drop 17) (bytes_of (drop 1 lines)))) opening
 
 -- what a second table shows
 pub remade_by : (s : Setup) (h other : Held) (lines rest : List (Vec ℕ Global)) → bytes_of lines ≡ compacted s h → rest ≡ drop 1 lines → AreLines (bytes_of lines)
-    → other ≡ after s (opening_of s) (map (drop 9) (bytes_of rest)) → other ≡ h → IsRemade s h (bytes_of lines)
+    → other ≡ after s (opening_of s) (map (drop 17) (bytes_of rest)) → other ≡ h → IsRemade s h (bytes_of lines)
 remade_by s h other lines rest is rest_is are made same =
     record { is = is; are_lines = are; makes = ap (after s (opening_of s)) (snapshot_behind s h lines rest is rest_is) ∙ sym made ∙ same }
 
 -- a table that can be remade is the second one
 pub other_is_same : (s : Setup) (h other : Held) (lines rest : List (Vec ℕ Global)) → bytes_of lines ≡ compacted s h → rest ≡ drop 1 lines
-    → other ≡ after s (opening_of s) (map (drop 9) (bytes_of rest)) → CanBeRemade s h → other ≡ h
+    → other ≡ after s (opening_of s) (map (drop 17) (bytes_of rest)) → CanBeRemade s h → other ≡ h
 other_is_same s h other lines rest is rest_is made can = made ∙ ap (after s (opening_of s)) (sym (snapshot_behind s h lines rest is rest_is)) ∙ can.makes
 
 -- a crash at any moment of a rewriting leaves the same table
-pub rewrite_moments : {D : Type 0} (content : D → List ℕ) (history : D → History) (s : Setup) (h : Held) (lines written : List (List ℕ)) (old : Journal D) (before now : History)
-    → Stands content history s h old → IsRemade s h lines → written ≡ lines → AlwaysLeaves before now (StandsForEither (lines_in content old) written)
+pub rewrite_moments : {D : Type 0} (content : D → List ℕ) (history : D → History) (s : Setup) (h : Held) (lines written : List (List ℕ)) (old : Chained D) (before now : History)
+    → Stands content history s h old → IsRemade s h lines → written ≡ lines → AlwaysLeaves before now (StandsForEither (lines_in content old.lines) written)
     → AlwaysLeaves before now (FileStands s h)
 rewrite_moments content history s h lines written old before now stands made is always =
     implies always (λ left. ⊎_elim (λ same. ap (table_in s) same ∙ stands.same) (λ new. ap (table_in s) (new ∙ is) ∙ remade s h lines made))
 
 -- after it the journal stands for the table
-pub rewrite_stands : {D : Type 0} (content : D → List ℕ) (history : D → History) (s : Setup) (h : Held) (lines written : List (List ℕ)) (new : Journal D)
-    → IsRemade s h lines → written ≡ lines → IsReady content history new → lines_in content new ≡ written → Stands content history s h new
-rewrite_stands content history s h lines written new made is ready written_is = record { ready = ready; same = ap (table_in s) (written_is ∙ is) ∙ remade s h lines made }
+pub rewrite_stands : {D : Type 0} (content : D → List ℕ) (history : D → History) (s : Setup) (h : Held) (lines written : List (List ℕ)) (new : Chained D)
+    → IsRemade s h lines → written ≡ lines → IsReady content history new.lines → lines_in content new.lines ≡ written → new.link.items ≡ link_behind written → Stands content history s h new
+rewrite_stands content history s h lines written new made is ready written_is link =
+    record { ready = ready; same = ap (table_in s) (written_is ∙ is) ∙ remade s h lines made; link = link ∙ ap link_behind (sym written_is) }
 
 -- the lines of a journal have a first
 pub has_first : (lines : List (Vec ℕ Global)) (commands : List (List ℕ)) → bytes_of lines ≡ journal_of commands → 1 ≤ length lines
@@ -81,7 +80,7 @@ has_first [] commands is = absurd (omega (arith, ap length is))
 has_first (first ∷ rest) commands is = omega arith
 
 -- if nothing is written, the journal stands for the table
-pub still_stands : {D : Type 0} (content : D → List ℕ) (history : D → History) (s : Setup) (h : Held) (journal : Journal D)
-    → Stands content history s h journal → AlwaysLeaves (history journal.device) (history journal.device) (FileStands s h)
+pub still_stands : {D : Type 0} (content : D → List ℕ) (history : D → History) (s : Setup) (h : Held) (journal : Chained D)
+    → Stands content history s h journal → AlwaysLeaves (history journal.lines.device) (history journal.lines.device) (FileStands s h)
 still_stands content history s h journal stands =
-    from_disk (history journal.device) (FileStands s h) (content journal.device) stands.ready.on_disk stands.same
+    from_disk (history journal.lines.device) (FileStands s h) (content journal.lines.device) stands.ready.on_disk stands.same

@@ -1,3 +1,4 @@
+pub mod ChainLemmas
 mod CommandLemmas
 mod TableLemmas
 mod MomentLemmas

@@ -1,17 +1,17 @@
 -- A journal that is rewritten as the lines that make its table.
-use Rattle.std.specs.Prelude.{◌≡◌, ℕ, List, ◌∷◌, map}
+use Rattle.std.specs.Prelude.{◌≡◌, ℕ, List, ◌∷◌}
 use Rattle.line_journal.specs.Lines.{AreLines}
 use Rattle.modprobe.specs.Setup.{Setup}
 use Rattle.held_table.specs.Held.{Held}
 use Rattle.held_lines.specs.Outcomes.{after}
 use Rattle.held_lines.specs.Snapshots.{snapshot_of}
-use Rattle.durable_table.specs.Seals.{seal}
+use Rattle.durable_table.specs.Seals.{chain}
 use Rattle.durable_table.specs.Commands.{head}
 use Rattle.durable_table.specs.Tables.{opening_of}
 
 -- the lines of a journal of these commands
 abbrev pub journal_of : List (List ℕ) → List (List ℕ)
-journal_of commands = head ∷ map seal commands
+journal_of commands = head ∷ chain head commands
 
 -- the lines that `compact` writes of a table
 abbrev pub compacted : Setup → Held → List (List ℕ)

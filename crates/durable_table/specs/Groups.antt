@@ -1,6 +1,5 @@
 -- Lines that are made as one group.
 use Rattle.std.specs.Prelude.{◌≡◌, ◌≤◌, ℕ, true, false, List, [], ◌∷◌, length, map, take, drop, All}
-use Rattle.std.specs.List.{list_all}
 use Rattle.line_journal.specs.Lines.{AreLines}
 use Rattle.modprobe.specs.Setup.{Setup}
 use Rattle.held_table.specs.Held.{Held}
@@ -9,7 +8,7 @@ use Rattle.held_lines.specs.Laws.{KeepsHeld}
 use Rattle.modprobe.specs.Outcomes.{Outcome}
 use Rattle.held_lines.specs.Outcomes.{held_line_outcome, after}
 use Rattle.held_lines.specs.Reading.{is_reading}
-use Rattle.durable_table.specs.Seals.{is_sealed}
+use Rattle.durable_table.specs.Seals.{are_sealed}
 use Rattle.durable_table.specs.Durable.{FileStands}
 
 -- what lines are answered, one after another
@@ -40,13 +39,14 @@ AreAsking lines = All (λ line. is_reading line ≡ true) lines
 abbrev pub AreIdle : List HeldReply → Type 0
 AreIdle replies = All (λ r. r.changed ≡ false) replies
 
--- Lines were made on a table: what they are answered, the table after them, and the seals of those that are kept.
-pub record AreMade (s : Setup) (h new : Held) (lines : List (List ℕ)) (replies : List HeldReply) (sealed : List (List ℕ)) : Type 0 where
+-- Lines were made on a table: what they are answered, the table after them, and the seals of those that are kept, the first of
+-- them with this link.
+pub record AreMade (s : Setup) (h new : Held) (link : List ℕ) (lines : List (List ℕ)) (replies : List HeldReply) (sealed : List (List ℕ)) : Type 0 where
   pub answered : map (λ r. r.reply) replies ≡ replies_of s h lines
   pub becomes : new ≡ after s h lines
   pub held : KeepsHeldAlong s h lines
-  pub seals : list_all is_sealed sealed ≡ true
+  pub seals : are_sealed link sealed ≡ true
   pub are_lines : AreLines sealed
-  pub kept : LeavesAsMuch s h lines (map (drop 9) sealed)
+  pub kept : LeavesAsMuch s h lines (map (drop 17) sealed)
   pub idle : AreIdle replies → sealed ≡ []
   pub asking : AreAsking lines → sealed ≡ []

@@ -7,7 +7,7 @@ use Rattle.line_journal.specs.Renewed.{ReadsAtRest}
 use Rattle.line_journal.specs.declared.device.DeviceError.{DeviceError}
 use Rattle.line_journal.specs.declared.recovery.Repair.{Repair}
 use Rattle.modprobe.specs.Setup.{Setup}
-use Rattle.durable_table.specs.Commands.{begins_with_head, commands_of, changed_line}
+use Rattle.durable_table.specs.Commands.{begins_with_head, link_behind, commands_of, changed_line}
 use Rattle.durable_table.specs.Tables.{table_in, table_of}
 use Rattle.durable_table.specs.Durable.{Stands, Reads}
 use Rattle.durable_table.specs.declared.opening.OpenedTable.{OpenedTable}
@@ -19,8 +19,8 @@ use Rattle.durable_table.specs.declared.opening.OpenedTable.TheVariants.{Ready, 
 
 -- the table that the lines of a journal stand for, or why there is none
 abbrev pub IsReadAs : Setup → List (List ℕ) → Read → Type 0
-IsReadAs s lines (read_as.Table session) =
-    (session.setup.now ≡ s) × (table_in s lines ≡ Some session.holders.held)
+IsReadAs s lines (read_as.Table session link) =
+    (session.setup.now ≡ s) × (table_in s lines ≡ Some session.holders.held) × (link.items ≡ link_behind lines)
 IsReadAs s lines read_as.Foreign = begins_with_head lines ≡ false
 IsReadAs s lines (read_as.Changed number) =
     (begins_with_head lines ≡ true) × (commands_of lines ≡ None) × (changed_line lines ≡ Some number)
@@ -40,7 +40,7 @@ IsOpenedAs content history s repair file (Damaged device found) =
 
 -- the device that the answer holds
 abbrev pub device_after : {D : Type 0} → Result (OpenedTable D) (DeviceError × D) → D
-device_after (Ok (Ready t found)) = t.journal.device
+device_after (Ok (Ready t found)) = t.journal.lines.device
 device_after (Ok (Foreign device)) = device
 device_after (Ok (Changed device number)) = device
 device_after (Ok (Damaged device found)) = device
@@ -54,11 +54,11 @@ IsUnread s file = ((end : ℕ) → ReadsAtRest file end → ⊥) ⊎ (table_of s
 abbrev pub IsTableRead : {D : Type 0} → (D → List ℕ) → Setup → List ℕ → ReadTable D → Type 0
 IsTableRead content s file (read_table_as.Ready t) =
     Reads content s t.session.holders.held t.journal
-    × (content t.journal.device ≡ file) × (t.session.setup.now ≡ s)
+    × (content t.journal.lines.device ≡ file) × (t.session.setup.now ≡ s)
 IsTableRead content s file (read_table_as.Anew device) = (content device ≡ file) × IsUnread s file
 
 -- the device that the answer of `open_reading` holds
 abbrev pub device_read : {D : Type 0} → Result (ReadTable D) (DeviceError × D) → D
-device_read (Ok (read_table_as.Ready t)) = t.journal.device
+device_read (Ok (read_table_as.Ready t)) = t.journal.lines.device
 device_read (Ok (read_table_as.Anew device)) = device
 device_read (Err (error, device)) = device

@@ -1,19 +1,21 @@
 //! A journal is rewritten as the lines that make its table.
-ghost use Rattle.std.specs.Prelude.{◌≡◌, ◌+◌, ◌<◌, ◌≤◌, nat_lt, Ok, length, map, IfOk, IfSome, IfNone, OnOk, IsErrOf};
+ghost use Rattle.std.specs.Prelude.{◌≡◌, ◌+◌, ◌<◌, ◌≤◌, nat_lt, Ok, length, IfOk, IfSome, IfNone, OnOk, IsErrOf};
 ghost use Rattle.dep_index.specs.Catalogue.{modules_of};
 ghost use Rattle.line_journal.specs.Device.{AlwaysLeaves};
 ghost use Rattle.line_journal.specs.declared.device.DeviceError.TheVariants.{Failed};
 ghost use Rattle.line_journal.specs.Journal.{lines_in};
 ghost use Rattle.line_journal.specs.Lines.{bytes_of, open_text};
-ghost use Rattle.durable_table.specs.Seals.{seal};
+ghost use Rattle.durable_table.specs.Seals.{chain};
+ghost use Rattle.durable_table.specs.Commands.{head};
 ghost use Rattle.durable_table.specs.Tables.{opening_of};
 ghost use Rattle.durable_table.specs.Durable.{Stands, FileStands};
 ghost use Rattle.durable_table.specs.Compacting.{journal_of, compacted, IsRemade, CanBeRemade};
 
+use crate::chained::link_behind;
 use crate::durable::{DurableTable, PerformError};
 use crate::head::{HEAD, head_line};
 use crate::replay::replay;
-use crate::seal::seal;
+use crate::seal::{FRONT, seal};
 use held_lines::HeldSession;
 use held_table::HeldTable;
 use line_journal::{Device, are_lines};
@@ -22,8 +24,8 @@ use std::alloc::{AllocError, Global};
 /// By how many bytes a long journal is longer than the lines that make its table.
 const LONG: usize = 65536;
 
-/// What stands in a journal beside the bytes of a command: a gate, its sum and a line feed.
-const BESIDE: usize = 11;
+/// What stands in a journal beside the bytes of a command: a gate, what stands before the command, and a line feed.
+const BESIDE: usize = FRONT + 2;
 
 /// What `compact` made of a journal.
 #[derive(Clone, Copy, Debug, PartialEq, Eq)]
@@ -41,7 +43,8 @@ fn journal_of(alloc: Global, commands: &[Vec<u8>]) -> Result<Vec<Vec<u8>>, Alloc
     let mut lines = Vec::new(alloc);
     lines.push(head_line(alloc)?)?;
     for command in commands {
-        lines.push(seal(alloc, command)?)?;
+        let line = seal(alloc, link_behind(&lines), command)?;
+        lines.push(line)?;
     }
     Ok(lines)
 }
@@ -73,7 +76,7 @@ fn remake(
 /// Whether a journal has less than so many bytes of these commands behind its first line.
 #[tactic(auto, using(crate::proofs::SizeLemmas::size_more))]
 fn is_room(room: usize, commands: &[Vec<u8>]) -> bool
-    ensures { result ≡ nat_lt (length (open_text (map seal (bytes_of commands.now)))) room }
+    ensures { result ≡ nat_lt (length (open_text (chain head (bytes_of commands.now)))) room }
 {
     let mut left = room;
     for command in commands {
@@ -95,15 +98,15 @@ impl<'s, D: Device> DurableTable<'s, D> {
         requires over { fresh.catalogue ≡ modules_of self.old.session.setup.now.catalogue }
         requires opening { fresh.held ≡ opening_of self.old.session.setup.now }
         requires stands { Stands D.content D.history self.old.session.setup.now self.old.session.holders.held self.old.journal }
-        ensures done { result ≡ Ok Compacted.Done → lines_in D.content self.new.journal ≡ compacted self.old.session.setup.now self.old.session.holders.held }
+        ensures done { result ≡ Ok Compacted.Done → lines_in D.content self.new.journal.lines ≡ compacted self.old.session.setup.now self.old.session.holders.held }
         ensures stands { OnOk result (Stands D.content D.history self.old.session.setup.now self.old.session.holders.held self.new.journal) }
         ensures kept { result ≡ Ok Compacted.Kept → self.new.journal ≡ self.old.journal }
         ensures needed { result ≡ Ok Compacted.Kept → CanBeRemade self.old.session.setup.now self.old.session.holders.held → ⊥ }
         ensures unchanged { IsErrOf result PerformError.OutOfMemory → self.new.journal ≡ self.old.journal }
-        ensures any_moment { AlwaysLeaves (D.history self.old.journal.device) (D.history self.new.journal.device)
+        ensures any_moment { AlwaysLeaves (D.history self.old.journal.lines.device) (D.history self.new.journal.lines.device)
             (FileStands self.old.session.setup.now self.old.session.holders.held) }
-        ensures faults { IsErrOf result (PerformError.Device Failed) → D.faults self.old.journal.device < D.faults self.new.journal.device }
-        ensures no_fewer { D.faults self.old.journal.device ≤ D.faults self.new.journal.device }
+        ensures faults { IsErrOf result (PerformError.Device Failed) → D.faults self.old.journal.lines.device < D.faults self.new.journal.lines.device }
+        ensures no_fewer { D.faults self.old.journal.lines.device ≤ D.faults self.new.journal.lines.device }
         ensures session { self.new.session ≡ self.old.session }
     {
         let Ok(found) = remake(alloc, &self.session, fresh) else {
@@ -112,7 +115,7 @@ impl<'s, D: Device> DurableTable<'s, D> {
         let Some(lines) = found else {
             return Ok(Compacted::Kept);
         };
-        match self.journal.rewrite(alloc, &lines) {
+        match self.journal.rewrite(alloc, lines) {
             Ok(()) => Ok(Compacted::Done),
             Err(error) => Err(PerformError::Device(error)),
         }
@@ -121,13 +124,13 @@ impl<'s, D: Device> DurableTable<'s, D> {
     /// Whether the lines of the journal are longer by more than 64 KiB than those that `compact` would write.
     #[tactic(auto, using(crate::proofs::SizeLemmas::size_behind))]
     pub fn is_long(&self, alloc: Global) -> Result<bool, AllocError>
-        ensures { IfOk result (λ is_long. is_long ≡ nat_lt (length (open_text (compacted self.now.session.setup.now self.now.session.holders.held)) + 65536) self.now.journal.end) }
+        ensures { IfOk result (λ is_long. is_long ≡ nat_lt (length (open_text (compacted self.now.session.setup.now self.now.session.holders.held)) + 65536) self.now.journal.lines.end) }
     {
         let front = LONG + HEAD.len() + 2;
-        if self.journal.end() <= front {
+        if self.journal.lines.end() <= front {
             return Ok(false);
         }
         let commands = self.session.snapshot(alloc)?;
-        Ok(is_room(self.journal.end() - front, &commands))
+        Ok(is_room(self.journal.lines.end() - front, &commands))
     }
 }

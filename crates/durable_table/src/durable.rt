@@ -7,9 +7,10 @@ ghost use Rattle.held_lines.specs.Outcomes.{held_line_outcome};
 ghost use Rattle.held_lines.specs.Reading.{is_reading};
 ghost use Rattle.durable_table.specs.Durable.{Stands, BeforeOrAfter};
 
+use crate::chained::Chained;
 use crate::seal::seal;
 use held_lines::{HeldReply, HeldSession};
-use line_journal::{Device, DeviceError, Journal};
+use line_journal::{Device, DeviceError};
 use std::alloc::{AllocError, Global};
 use thiserror::Error;
 
@@ -28,7 +29,7 @@ pub enum PerformError {
 #[derive(Drop)]
 pub struct DurableTable<'s, D: Device> {
     pub(crate) session: HeldSession<'s>,
-    pub(crate) journal: Journal<D>,
+    pub(crate) journal: Chained<D>,
 }
 
 impl<'s, D: Device> DurableTable<'s, D> {
@@ -39,7 +40,7 @@ impl<'s, D: Device> DurableTable<'s, D> {
     /// A crash at any moment of the call leaves a journal of the table before the line, or of the one after it. Whatever the
     /// line is, no module that anybody held before it is removed. Out of memory, nothing was changed, and the table may be
     /// used further.
-    #[tactic(auto, using(crate::proofs::MomentLemmas::no_moments, crate::proofs::CommandLemmas::seal_is_line))]
+    #[tactic(auto, using(crate::proofs::MomentLemmas::no_moments, crate::proofs::ChainLemmas::seal_is_line))]
     pub fn perform(&mut self, alloc: Global, line: &[u8]) -> Result<HeldReply, PerformError>
         requires stands { Stands D.content D.history self.old.session.setup.now self.old.session.holders.held self.old.journal }
         requires line { IsLine line.now }
@@ -54,13 +55,13 @@ impl<'s, D: Device> DurableTable<'s, D> {
             × (self.new.session.holders.held ≡ self.old.session.holders.held) }
         ensures held { IsErrOf result PerformError.OutOfMemory
             ⊎ KeepsHeld self.old.session.holders.held.table (held_line_outcome self.old.session.setup.now self.old.session.holders.held line.now).1.table }
-        ensures any_moment { AlwaysLeaves (D.history self.old.journal.device) (D.history self.new.journal.device)
+        ensures any_moment { AlwaysLeaves (D.history self.old.journal.lines.device) (D.history self.new.journal.lines.device)
             (BeforeOrAfter self.old.session.setup.now self.old.session.holders.held line.now) }
-        ensures faults { IsErrOf result (PerformError.Device DeviceError.Failed) → D.faults self.old.journal.device < D.faults self.new.journal.device }
-        ensures no_fewer { D.faults self.old.journal.device ≤ D.faults self.new.journal.device }
+        ensures faults { IsErrOf result (PerformError.Device DeviceError.Failed) → D.faults self.old.journal.lines.device < D.faults self.new.journal.lines.device }
+        ensures no_fewer { D.faults self.old.journal.lines.device ≤ D.faults self.new.journal.lines.device }
         ensures setup { self.new.session.setup ≡ self.old.session.setup }
     {
-        let Ok(sealed) = seal(alloc, line) else {
+        let Ok(sealed) = seal(alloc, &self.journal.link, line) else {
             return Err(PerformError::OutOfMemory);
         };
         let Ok(reply) = self.session.perform(alloc, line) else {
@@ -69,7 +70,7 @@ impl<'s, D: Device> DurableTable<'s, D> {
         if !reply.changed {
             return Ok(reply);
         }
-        match self.journal.put(alloc, &sealed) {
+        match self.journal.put(alloc, sealed) {
             Ok(()) => Ok(reply),
             Err(error) => Err(PerformError::Device(error)),
         }
@@ -84,14 +85,14 @@ impl<'s, D: Device> DurableTable<'s, D> {
 
     /// The device that the journal is on.
     pub fn device(&self) -> &D
-        ensures { result.now ≡ self.now.journal.device }
+        ensures { result.now ≡ self.now.journal.lines.device }
     {
-        self.journal.device()
+        self.journal.lines.device()
     }
 
     /// Gives the device back.
     pub fn into_device(self) -> D
-        ensures { result ≡ self.entry.journal.device }
+        ensures { result ≡ self.entry.journal.lines.device }
     {
         self.journal.into_device()
     }

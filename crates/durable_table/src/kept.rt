@@ -1,6 +1,5 @@
 //! A table that a process keeps while others use its journal.
 ghost use Rattle.std.specs.Prelude.{◌≡◌, ◌<◌, Ok, map, true, IfOk, OnOk};
-ghost use Rattle.std.specs.List.{list_all};
 ghost use Rattle.line_journal.specs.Device.{Unchanged, Goes, TellsFaults};
 ghost use Rattle.line_journal.specs.Lines.{bytes_of, AreLines};
 ghost use Rattle.held_lines.specs.Outcomes.{after};
@@ -19,7 +18,7 @@ use std::alloc::{AllocError, Global};
 pub enum CaughtUp {
     /// It is the table that the journal stands for now.
     Ready,
-    /// It is another journal, or its end is torn, or a line was changed. The table is not the journal's: open it anew.
+    /// It is another journal, or its end is torn, or a line does not continue the chain. The table is not the journal's: open it anew.
     Anew,
 }
 
@@ -31,20 +30,21 @@ impl<'s, D: Renewable> DurableTable<'s, D> {
     pub fn catch_up(&mut self, alloc: Global) -> Result<CaughtUp, DeviceError>
         requires reads { Reads D.content self.old.session.setup.now self.old.session.holders.held self.old.journal }
         ensures reads { result ≡ Ok CaughtUp.Ready → Reads D.content self.old.session.setup.now self.new.session.holders.held self.new.journal }
-        ensures anew { result ≡ Ok CaughtUp.Anew → ContinuesSealed (D.content self.old.journal.device) (D.content self.new.journal.device) → ⊥ }
-        ensures writes { D.writes self.new.journal.device ≡ D.writes self.old.journal.device }
-        ensures looks { OnOk result (D.looks self.old.journal.device < D.looks self.new.journal.device) }
+        ensures anew { result ≡ Ok CaughtUp.Anew → ContinuesSealed (D.content self.old.journal.lines.device) (D.content self.new.journal.lines.device) → ⊥ }
+        ensures writes { D.writes self.new.journal.lines.device ≡ D.writes self.old.journal.lines.device }
+        ensures looks { OnOk result (D.looks self.old.journal.lines.device < D.looks self.new.journal.lines.device) }
         ensures setup { self.new.session.setup ≡ self.old.session.setup }
-        ensures faults { TellsFaults (D.faults self.old.journal.device) (D.faults self.new.journal.device) result }
+        ensures faults { TellsFaults (D.faults self.old.journal.lines.device) (D.faults self.new.journal.lines.device) result }
     {
-        let added = match self.journal.follow(alloc)? {
+        let added = match self.journal.lines.follow(alloc)? {
             Followed::AtRest(added) => added,
             Followed::Anew => return Ok(CaughtUp::Anew),
         };
-        if first_changed(&added).is_some() {
+        if first_changed(&self.journal.link, &added).is_some() {
             return Ok(CaughtUp::Anew);
         }
         replay(alloc, &mut self.session, &added)?;
+        self.journal.link_to(added);
         Ok(CaughtUp::Ready)
     }
 }
@@ -56,12 +56,12 @@ impl<'s, D: Device> DurableTable<'s, D> {
         requires reads { Reads D.content self.old.session.setup.now self.old.session.holders.held self.old.journal }
         ensures stands { OnOk result (Stands D.content D.history self.old.session.setup.now self.new.session.holders.held self.new.journal) }
         ensures session { self.new.session ≡ self.old.session }
-        ensures content { D.content self.new.journal.device ≡ D.content self.old.journal.device }
-        ensures end { self.new.journal.end ≡ self.old.journal.end }
-        ensures crash { Goes Unchanged (D.history self.old.journal.device) (D.history self.new.journal.device) }
-        ensures faults { TellsFaults (D.faults self.old.journal.device) (D.faults self.new.journal.device) result }
+        ensures content { D.content self.new.journal.lines.device ≡ D.content self.old.journal.lines.device }
+        ensures end { self.new.journal.lines.end ≡ self.old.journal.lines.end }
+        ensures crash { Goes Unchanged (D.history self.old.journal.lines.device) (D.history self.new.journal.lines.device) }
+        ensures faults { TellsFaults (D.faults self.old.journal.lines.device) (D.faults self.new.journal.lines.device) result }
     {
-        self.journal.settle()
+        self.journal.lines.settle()
     }
 
     /// Answers lines in memory alone, one after another. The journal stays, so it is for lines that ask. Out of memory,
@@ -74,6 +74,6 @@ impl<'s, D: Device> DurableTable<'s, D> {
         ensures journal { self.new.journal ≡ self.old.journal }
         ensures setup { self.new.session.setup ≡ self.old.session.setup }
     {
-        Ok(make_each(alloc, &mut self.session, lines)?.replies)
+        Ok(make_each(alloc, &mut self.session, &self.journal.link, lines)?.replies)
     }
 }

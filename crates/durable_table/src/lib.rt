@@ -1,6 +1,7 @@
 //! A table with named holders whose journal is on the disk before a reply is given.
 #![tactic(auto)]
 
+mod chained;
 mod compaction;
 mod durable;
 mod group;
@@ -10,6 +11,7 @@ mod opening;
 mod replay;
 mod seal;
 
+pub use chained::Chained;
 pub use compaction::Compacted;
 pub use durable::{DurableTable, PerformError};
 pub use kept::CaughtUp;

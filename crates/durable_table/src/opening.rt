@@ -10,6 +10,7 @@ ghost use Rattle.durable_table.specs.Tables.{opening_of, table_of};
 ghost use Rattle.durable_table.specs.Commands.{head};
 ghost use Rattle.durable_table.specs.Opened.{IsReadAs, IsOpenedAs, IsTableRead, device_after, device_read};
 
+use crate::chained::{Chained, link_behind};
 use crate::durable::DurableTable;
 use crate::head::has_head;
 use crate::replay::{first_changed, replay};
@@ -20,7 +21,7 @@ use modprobe::Setup;
 use std::alloc::{AllocError, Global};
 
 /// A journal without commands: its first line, and a closed gate.
-const NEW_JOURNAL: &[u8] = b"+gourzhiel journal 1\n ";
+const NEW_JOURNAL: &[u8] = b"+gourzhiel journal 2 - -\n ";
 
 /// Writes the journal of a new table in the place of what the file has. In its table each module is absent, and there
 /// is no holder. A crash at any moment leaves the file as it was, or the new journal.
@@ -42,7 +43,7 @@ pub enum OpenedTable<'s, D: Device> {
     Ready(DurableTable<'s, D>, Found),
     /// The file does not begin with the first line of a journal. It is as it was.
     Foreign(D),
-    /// The first line of the journal, from 1, that has not the sum of its command. The file is as it was.
+    /// The first line of the journal, from 1, that does not continue the chain of sums. The file is as it was.
     Changed(D, usize),
     /// More would be cut off behind the lines than may be. The file is as it was.
     Damaged(D, Found),
@@ -50,7 +51,8 @@ pub enum OpenedTable<'s, D: Device> {
 
 /// What the lines of a journal stand for.
 enum Read<'s> {
-    Table(HeldSession<'s>),
+    /// The table, and what the lines tell the next one.
+    Table(HeldSession<'s>, Vec<u8>),
     Foreign,
     Changed(usize),
 }
@@ -71,12 +73,12 @@ fn read_table<'s>(
         return Ok(Read::Foreign);
     }
     let commands = &lines[1..];
-    if let Some(number) = first_changed(commands) {
+    if let Some(number) = first_changed(&lines[0], commands) {
         return Ok(Read::Changed(number));
     }
     let mut session = HeldSession::new(setup, holders);
     replay(alloc, &mut session, commands)?;
-    Ok(Read::Table(session))
+    Ok(Read::Table(session, Vec::from_slice(alloc, link_behind(lines))?))
 }
 
 /// Makes the table that a journal stands for, over holders of which none is there yet. The file is read once, and waited for
@@ -109,8 +111,9 @@ pub fn open<'s, D: Device>(
         Err(_) => Err((DeviceError::OutOfMemory, device)),
         Ok(Read::Foreign) => Ok(OpenedTable::Foreign(device)),
         Ok(Read::Changed(number)) => Ok(OpenedTable::Changed(device, number)),
-        Ok(Read::Table(session)) => match open_found(device, found, repair)? {
-            Opened::Ready(journal, found) => {
+        Ok(Read::Table(session, link)) => match open_found(device, found, repair)? {
+            Opened::Ready(lines, found) => {
+                let journal = Chained { lines, link };
                 Ok(OpenedTable::Ready(DurableTable { session, journal }, found))
             }
             Opened::Damaged(device, found) => Ok(OpenedTable::Damaged(device, found)),
@@ -152,8 +155,9 @@ pub fn open_reading<'s, D: Device>(
     }
     match read_table(alloc, setup, holders, &found.lines) {
         Err(_) => Err((DeviceError::OutOfMemory, device)),
-        Ok(Read::Table(session)) => {
-            let journal = Journal::resume(device, found.end);
+        Ok(Read::Table(session, link)) => {
+            let lines = Journal::resume(device, found.end);
+            let journal = Chained { lines, link };
             Ok(ReadTable::Ready(DurableTable { session, journal }))
         }
         Ok(Read::Foreign | Read::Changed(_)) => Ok(ReadTable::Anew(device)),

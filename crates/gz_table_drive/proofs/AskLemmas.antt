@@ -11,7 +11,7 @@ use Rattle.held_lines.specs.declared.reply.HeldReply.{HeldReply}
 use Rattle.held_lines.specs.Outcomes.{after}
 use Rattle.held_lines.specs.Reading.{is_reading}
 use Rattle.held_lines.proofs.ReadingLemmas.{reads_only}
-use Rattle.line_journal.specs.declared.journal.Journal.{Journal}
+use Rattle.durable_table.specs.declared.chained.Chained.{Chained}
 use Rattle.durable_table.specs.Durable.{Reads}
 use Rattle.durable_table.specs.Groups.{replies_of}
 use Rattle.gz_table_drive.specs.declared.answering.Replies.{Replies}
@@ -36,7 +36,7 @@ lines_first count lines are =
     subst AreLines (take-map (λ (v : Vec ℕ Global). v.items) count lines) (All-take IsLine count (bytes_of lines) are)
 
 -- a table of which the first lines were asked still reads as its journal does
-pub reads_still : {D : Type 0} (content : D → List ℕ) (s : Setup) (h now : Held) (count : ℕ) (lines : List (Vec ℕ Global)) (old new : Journal D)
+pub reads_still : {D : Type 0} (content : D → List ℕ) (s : Setup) (h now : Held) (count : ℕ) (lines : List (Vec ℕ Global)) (old new : Chained D)
     → Reads content s h old → All Asks (bytes_of lines) → now ≡ after s h (bytes_of (take count lines)) → new ≡ old → Reads content s now new
 reads_still content s h now count lines old new reads asks is same =
     subst (λ journal. Reads content s now journal) (sym same)

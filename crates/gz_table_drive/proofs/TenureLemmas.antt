@@ -7,7 +7,7 @@ use Rattle.modprobe.specs.Setup.{Setup}
 use Rattle.held_table.specs.Held.{Held}
 use Rattle.held_lines.specs.declared.reply.HeldReply.{HeldReply}
 use Rattle.line_journal.specs.Device.{History}
-use Rattle.line_journal.specs.declared.journal.Journal.{Journal}
+use Rattle.durable_table.specs.declared.chained.Chained.{Chained}
 use Rattle.durable_table.specs.Durable.{FileStands, Reads, Stands}
 use Rattle.durable_table.specs.Groups.{replies_of}
 use Rattle.gz_table_drive.specs.declared.answering.Replies.{Replies}
@@ -39,27 +39,27 @@ over_err s h file lines old new (Ok count) stands stopped = tt
 over_err s h file lines old new (Err error) stands stopped = stopped_over s h file lines old new stands stopped
 
 -- the journal of a table reads so
-pub reads_ok : {E D : Type 0} {content : D → List ℕ} {journal : Journal D} (s : Setup) (h : Held) (lines : List (List ℕ)) (old new : Replies) (result : Result ℕ E) → Reads content s h journal
+pub reads_ok : {E D : Type 0} {content : D → List ℕ} {journal : Chained D} (s : Setup) (h : Held) (lines : List (List ℕ)) (old new : Replies) (result : Result ℕ E) → Reads content s h journal
     → IfOk result (λ count. HasAnswered s h (take count lines) old new) → IfOk result (λ count. HasAnsweredOver s (take count lines) old new)
-reads_ok {content = content} {journal = journal} s h lines old new result reads = over_ok s h (content journal.device) lines old new result reads.same
+reads_ok {content = content} {journal = journal} s h lines old new result reads = over_ok s h (content journal.lines.device) lines old new result reads.same
 
-pub reads_err : {E D : Type 0} {content : D → List ℕ} {journal : Journal D} (s : Setup) (h : Held) (lines : List (List ℕ)) (old new : Replies) (result : Result ℕ E) → Reads content s h journal
+pub reads_err : {E D : Type 0} {content : D → List ℕ} {journal : Chained D} (s : Setup) (h : Held) (lines : List (List ℕ)) (old new : Replies) (result : Result ℕ E) → Reads content s h journal
     → OnErr result (HasAnsweredFirst s h lines old new) → OnErr result (HasStopped s lines old new)
-reads_err {content = content} {journal = journal} s h lines old new result reads = over_err s h (content journal.device) lines old new result reads.same
+reads_err {content = content} {journal = journal} s h lines old new result reads = over_err s h (content journal.lines.device) lines old new result reads.same
 
 -- the journal of a table stands for it on the disk
-pub stands_ok : {E D : Type 0} {content : D → List ℕ} {history : D → History} {journal : Journal D} (s : Setup) (h : Held) (lines : List (List ℕ)) (old new : Replies) (result : Result ℕ E)
+pub stands_ok : {E D : Type 0} {content : D → List ℕ} {history : D → History} {journal : Chained D} (s : Setup) (h : Held) (lines : List (List ℕ)) (old new : Replies) (result : Result ℕ E)
     → Stands content history s h journal → IfOk result (λ count. HasAnswered s h (take count lines) old new) → IfOk result (λ count. HasAnsweredOver s (take count lines) old new)
-stands_ok {content = content} {journal = journal} s h lines old new result stands = over_ok s h (content journal.device) lines old new result stands.same
+stands_ok {content = content} {journal = journal} s h lines old new result stands = over_ok s h (content journal.lines.device) lines old new result stands.same
 
-pub stands_err : {E D : Type 0} {content : D → List ℕ} {history : D → History} {journal : Journal D} (s : Setup) (h : Held) (lines : List (List ℕ)) (old new : Replies) (result : Result ℕ E)
+pub stands_err : {E D : Type 0} {content : D → List ℕ} {history : D → History} {journal : Chained D} (s : Setup) (h : Held) (lines : List (List ℕ)) (old new : Replies) (result : Result ℕ E)
     → Stands content history s h journal → OnErr result (HasAnsweredFirst s h lines old new) → OnErr result (HasStopped s lines old new)
-stands_err {content = content} {journal = journal} s h lines old new result stands = over_err s h (content journal.device) lines old new result stands.same
+stands_err {content = content} {journal = journal} s h lines old new result stands = over_err s h (content journal.lines.device) lines old new result stands.same
 
 -- some file stands for such a table
-pub stands_for : {D : Type 0} {content : D → List ℕ} {history : D → History} {journal : Journal D} (s other : Setup) (h : Held)
+pub stands_for : {D : Type 0} {content : D → List ℕ} {history : D → History} {journal : Chained D} (s other : Setup) (h : Held)
     → Stands content history s h journal → s ≡ other → (file : List ℕ) × FileStands other h file
-stands_for {content = content} {journal = journal} s other h stands same = (content journal.device, subst (λ own. FileStands own h (content journal.device)) same stands.same)
+stands_for {content = content} {journal = journal} s other h stands same = (content journal.lines.device, subst (λ own. FileStands own h (content journal.lines.device)) same stands.same)
 
 -- the replies to the first lines, of which not all are there
 pub asked_first : (s : Setup) (h : Held) (count : ℕ) (lines : List (Vec ℕ Global)) (there : ℕ) (made answered : List HeldReply) (old new : Replies)

@@ -108,10 +108,10 @@ fn perform_group<D: Device>(
     ensures becomes { OnOk result (table.new.session.holders.held
         ≡ after table.old.session.setup.now table.old.session.holders.held (bytes_of group.now)) }
     ensures stands { OnOk result (Stands D.content D.history table.old.session.setup.now table.new.session.holders.held table.new.journal) }
-    ensures any_moment { AlwaysLeaves (D.history table.old.journal.device) (D.history table.new.journal.device)
+    ensures any_moment { AlwaysLeaves (D.history table.old.journal.lines.device) (D.history table.new.journal.lines.device)
         (AfterFirstOf table.old.session.setup.now table.old.session.holders.held (bytes_of group.now)) }
-    ensures faults { IsErrOf result (PerformError.Device Failed) → D.faults table.old.journal.device < D.faults table.new.journal.device }
-    ensures no_fewer { D.faults table.old.journal.device ≤ D.faults table.new.journal.device }
+    ensures faults { IsErrOf result (PerformError.Device Failed) → D.faults table.old.journal.lines.device < D.faults table.new.journal.lines.device }
+    ensures no_fewer { D.faults table.old.journal.lines.device ≤ D.faults table.new.journal.lines.device }
     ensures setup { table.new.session.setup ≡ table.old.session.setup }
 {
     let answered = table.perform_all(alloc, group)?;
@@ -134,10 +134,10 @@ fn perform_lines<D: Device>(
     ensures becomes { OnOk result (table.new.session.holders.held
         ≡ after table.old.session.setup.now table.old.session.holders.held (bytes_of lines.now)) }
     ensures stands { OnOk result (Stands D.content D.history table.old.session.setup.now table.new.session.holders.held table.new.journal) }
-    ensures any_moment { AlwaysLeaves (D.history table.old.journal.device) (D.history table.new.journal.device)
+    ensures any_moment { AlwaysLeaves (D.history table.old.journal.lines.device) (D.history table.new.journal.lines.device)
         (AfterFirstOf table.old.session.setup.now table.old.session.holders.held (bytes_of lines.now)) }
-    ensures faults { IsErrOf result (PerformError.Device Failed) → D.faults table.old.journal.device < D.faults table.new.journal.device }
-    ensures no_fewer { D.faults table.old.journal.device ≤ D.faults table.new.journal.device }
+    ensures faults { IsErrOf result (PerformError.Device Failed) → D.faults table.old.journal.lines.device < D.faults table.new.journal.lines.device }
+    ensures no_fewer { D.faults table.old.journal.lines.device ≤ D.faults table.new.journal.lines.device }
     ensures setup { table.new.session.setup ≡ table.old.session.setup }
 {
     let mut start = 0;
@@ -205,12 +205,12 @@ pub fn adopt_modules<D: Device>(
     ensures held { OnOk result (KeepsHeld table.old.session.holders.held.table table.new.session.holders.held.table) }
     ensures unchanged { IsErrOf result AdoptError.BadName → table.new ≡ table.old }
     ensures silent { IsErrOf result AdoptError.BadName → replies.new ≡ replies.old }
-    ensures any_moment { AlwaysLeaves (D.history table.old.journal.device) (D.history table.new.journal.device)
+    ensures any_moment { AlwaysLeaves (D.history table.old.journal.lines.device) (D.history table.new.journal.lines.device)
         (AfterFirstOf table.old.session.setup.now table.old.session.holders.held
         (adopting_lines table.old.session.setup.now table.old.session.holders.held kernel.now)) }
     ensures bad_name { IsErrOf result AdoptError.BadName → AreLines (adopting_lines table.old.session.setup.now table.old.session.holders.held kernel.now) → ⊥ }
-    ensures faults { IsErrOf result (AdoptError.Device Failed) → D.faults table.old.journal.device < D.faults table.new.journal.device }
-    ensures no_fewer { D.faults table.old.journal.device ≤ D.faults table.new.journal.device }
+    ensures faults { IsErrOf result (AdoptError.Device Failed) → D.faults table.old.journal.lines.device < D.faults table.new.journal.lines.device }
+    ensures no_fewer { D.faults table.old.journal.lines.device ≤ D.faults table.new.journal.lines.device }
     ensures setup { table.new.session.setup ≡ table.old.session.setup }
 {
     table.session().holders().laws();

@@ -109,11 +109,11 @@ fn answer_group<D: Device>(
         ≡ after table.old.session.setup.now table.old.session.holders.held (bytes_of group.now)) }
     ensures stands { OnOk result (Stands D.content D.history table.old.session.setup.now table.new.session.holders.held table.new.journal) }
     ensures stopped { OnErr result (StoppedWithin table.old.session.setup.now table.old.session.holders.held (bytes_of group.now)
-        (D.history table.new.journal.device).leaves replies.old replies.new) }
-    ensures any_moment { AlwaysLeaves (D.history table.old.journal.device) (D.history table.new.journal.device)
+        (D.history table.new.journal.lines.device).leaves replies.old replies.new) }
+    ensures any_moment { AlwaysLeaves (D.history table.old.journal.lines.device) (D.history table.new.journal.lines.device)
         (AfterFirstOf table.old.session.setup.now table.old.session.holders.held (bytes_of group.now)) }
-    ensures faults { IsErrOf result (AnswerError.Device Failed) → D.faults table.old.journal.device < D.faults table.new.journal.device }
-    ensures no_fewer { D.faults table.old.journal.device ≤ D.faults table.new.journal.device }
+    ensures faults { IsErrOf result (AnswerError.Device Failed) → D.faults table.old.journal.lines.device < D.faults table.new.journal.lines.device }
+    ensures no_fewer { D.faults table.old.journal.lines.device ≤ D.faults table.new.journal.lines.device }
     ensures setup { table.new.session.setup ≡ table.old.session.setup }
 {
     let answered = match table.perform_all(alloc, group) {
@@ -148,11 +148,11 @@ pub fn answer_lines<D: Device>(
         ≡ after table.old.session.setup.now table.old.session.holders.held (take count (bytes_of lines.now))) }
     ensures stands { OnOk result (Stands D.content D.history table.old.session.setup.now table.new.session.holders.held table.new.journal) }
     ensures stopped { OnErr result (StoppedWithin table.old.session.setup.now table.old.session.holders.held (bytes_of lines.now)
-        (D.history table.new.journal.device).leaves replies.old replies.new) }
-    ensures any_moment { AlwaysLeaves (D.history table.old.journal.device) (D.history table.new.journal.device)
+        (D.history table.new.journal.lines.device).leaves replies.old replies.new) }
+    ensures any_moment { AlwaysLeaves (D.history table.old.journal.lines.device) (D.history table.new.journal.lines.device)
         (AfterFirstOf table.old.session.setup.now table.old.session.holders.held (bytes_of lines.now)) }
-    ensures faults { IsErrOf result (AnswerError.Device Failed) → D.faults table.old.journal.device < D.faults table.new.journal.device }
-    ensures no_fewer { D.faults table.old.journal.device ≤ D.faults table.new.journal.device }
+    ensures faults { IsErrOf result (AnswerError.Device Failed) → D.faults table.old.journal.lines.device < D.faults table.new.journal.lines.device }
+    ensures no_fewer { D.faults table.old.journal.lines.device ≤ D.faults table.new.journal.lines.device }
     ensures setup { table.new.session.setup ≡ table.old.session.setup }
 {
     let mut start = 0;

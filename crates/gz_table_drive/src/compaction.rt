@@ -27,12 +27,12 @@ fn compact_table<D: Renewable + Drop>(
 ) -> Result<Compacted, PerformError>
     requires stands { Stands D.content D.history setup.now table.old.session.holders.held table.old.journal }
     requires of_setup { table.old.session.setup.now ≡ setup.now }
-    ensures written { result ≡ Ok Compacted.Done → lines_in D.content table.new.journal ≡ compacted setup.now table.old.session.holders.held }
+    ensures written { result ≡ Ok Compacted.Done → lines_in D.content table.new.journal.lines ≡ compacted setup.now table.old.session.holders.held }
     ensures kept { result ≡ Ok Compacted.Kept → table.new.journal ≡ table.old.journal }
     ensures unchanged { IsErrOf result PerformError.OutOfMemory → table.new.journal ≡ table.old.journal }
     ensures needed { result ≡ Ok Compacted.Kept → CanBeRemade setup.now table.old.session.holders.held → ⊥ }
     ensures stands { OnOk result (Stands D.content D.history setup.now table.new.session.holders.held table.new.journal) }
-    ensures any_moment { AlwaysLeaves (D.history table.old.journal.device) (D.history table.new.journal.device)
+    ensures any_moment { AlwaysLeaves (D.history table.old.journal.lines.device) (D.history table.new.journal.lines.device)
         (FileStands setup.now table.old.session.holders.held) }
     ensures session { table.new.session ≡ table.old.session }
 {
@@ -52,7 +52,7 @@ pub(crate) fn shorten<D: Renewable + Drop>(
     requires stands { Stands D.content D.history setup.now table.old.session.holders.held table.old.journal }
     requires of_setup { table.old.session.setup.now ≡ setup.now }
     ensures stands { result ≡ true → Stands D.content D.history setup.now table.new.session.holders.held table.new.journal }
-    ensures any_moment { AlwaysLeaves (D.history table.old.journal.device) (D.history table.new.journal.device)
+    ensures any_moment { AlwaysLeaves (D.history table.old.journal.lines.device) (D.history table.new.journal.lines.device)
         (FileStands setup.now table.old.session.holders.held) }
     ensures session { table.new.session ≡ table.old.session }
 {

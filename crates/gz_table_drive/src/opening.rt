@@ -60,7 +60,7 @@ pub(crate) fn open_table<'s, D: Device + Drop>(
     ensures stands { IfOk result (λ t. Stands D.content D.history setup.now t.session.holders.held t.journal) }
     ensures same { IfOk result (λ t. table_of setup.now (D.content device) ≡ Some t.session.holders.held) }
     ensures setup { IfOk result (λ t. t.session.setup.now ≡ setup.now) }
-    ensures any_moment { IfOk result (λ t. AlwaysLeaves (D.history device) (D.history t.journal.device)
+    ensures any_moment { IfOk result (λ t. AlwaysLeaves (D.history device) (D.history t.journal.lines.device)
         (λ file. StandsFor (lines_of (D.content device)) file ⊎ (D.history device).leaves file)) }
 {
     let holders = no_holders(alloc, setup)?;

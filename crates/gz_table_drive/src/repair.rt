@@ -54,7 +54,7 @@ fn repair_table<'s, D: Device + Drop>(
     ensures same { IfOk result (λ r. table_of setup.now (D.content device) ≡ Some r.table.session.holders.held) }
     ensures found { IfOk result (λ r. IsFound (D.content device) r.found) }
     ensures setup { IfOk result (λ r. r.table.session.setup.now ≡ setup.now) }
-    ensures any_moment { IfOk result (λ r. AlwaysLeaves (D.history device) (D.history r.table.journal.device)
+    ensures any_moment { IfOk result (λ r. AlwaysLeaves (D.history device) (D.history r.table.journal.lines.device)
         (λ file. StandsFor (lines_of (D.content device)) file ⊎ (D.history device).leaves file)) }
 {
     let holders = no_holders(alloc, setup)?;

@@ -49,7 +49,7 @@ pub enum TableFault {
     Journal,
     /// The journal does not begin with the first line of one.
     Foreign,
-    /// This line of the journal, from 1, has not the sum of its command.
+    /// This line of the journal, from 1, does not continue the chain of sums.
     Changed(usize),
     /// A line of the journal lost its gate, and more lines with open gates stand behind it than a crash leaves.
     Damaged(Damage),

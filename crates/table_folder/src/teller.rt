@@ -313,7 +313,7 @@ impl<'e, E: Write> Teller<'e, E> {
             ),
             TableFault::Foreign => writeln!(
                 self.errors,
-                "gz-table: {folder}/journal has another first line than `gourzhiel journal 1`: it was changed, or it is no journal; nothing was done: restore that line, or make the table in another folder"
+                "gz-table: {folder}/journal has another first line than `gourzhiel journal 2`: it was changed, or it is no journal; nothing was done: restore that line, or make the table in another folder; if it is `gourzhiel journal 1`, tools/journal-2 brings the journal to version 2"
             ),
             TableFault::Changed(line) => writeln!(
                 self.errors,

@@ -23,23 +23,23 @@ begin_remove floppy
 begin_load loop
 ";
 
-// The sums are those of Python's zlib.adler32.
-const COMPACTED: &[u8] = b"+gourzhiel journal 1
-+2941056a begin_load snd
-+2dfa0596 end_load snd ok
-+42e80709 begin_load snd_pcm
-+49460735 end_load snd_pcm ok
-+52e607f7 begin_load soundcore
-+5a720823 end_load soundcore ok
-+3bfc06bf begin_load floppy
-+424a06eb end_load floppy ok
-+2f1805df begin_load loop
-+353d060a get web16 snd_pcm
-+1f97046c get web17 snd
-+1f97046c get web17 snd
-+434806f9 get web17 soundcore
-+2f5a0601 drain soundcore
-+4c1c07ad begin_remove floppy
+// The sums are those of Python's hashlib.sha256.
+const COMPACTED: &[u8] = b"+gourzhiel journal 2 - -
++ce7b3400948c17a4 begin_load snd
++6a5457dc2bd40d18 end_load snd ok
++45c0ff20635d8771 begin_load snd_pcm
++91a7bc42506e67e0 end_load snd_pcm ok
++45e8860868903b51 begin_load soundcore
++97ad40a0ac473f0a end_load soundcore ok
++8b2b24966abf27bb begin_load floppy
++deac4a6d07049196 end_load floppy ok
++0666e5c2b8eb0492 begin_load loop
++9740e0d085a05112 get web16 snd_pcm
++39e6fdef2331bb02 get web17 snd
++a17a50072c41cc84 get web17 snd
++cef683ba39b27e5b get web17 soundcore
++f37f76d976abd15a drain soundcore
++fc294dbd436caf83 begin_remove floppy
  ";
 
 const LATER: &[u8] = b"held
@@ -117,5 +117,5 @@ pub(crate) fn is_shortened(alloc: Global, setup: &Setup) -> Result<bool, Fail> {
     let mut table = new_table(alloc, setup)?;
     let is_short = shortens(&mut table, alloc, setup)?;
     let file = table.into_device();
-    Ok(is_short && file.bytes().len() == 75)
+    Ok(is_short && file.bytes().len() == 95)
 }

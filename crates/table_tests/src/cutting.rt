@@ -50,13 +50,13 @@ ok
 --
 ";
 
-// The sums are those of Python's zlib.adler32.
-const JOURNAL: &[u8] = b"+gourzhiel journal 1
-+3bfc06bf begin_load floppy
-+424a06eb end_load floppy ok
-+2f6805c3 get web19 floppy
-+235504aa release web19
-+1f2104da rmmod floppy
+// The sums are those of Python's hashlib.sha256.
+const JOURNAL: &[u8] = b"+gourzhiel journal 2 - -
++44b05d506e4b021f begin_load floppy
++107b18ff2ed9cf6b end_load floppy ok
++d6d8dbfbdcf5c23a get web19 floppy
++3d5cc8f6eb6eb79a release web19
++bab874f85f576f35 rmmod floppy
  ";
 
 /// Lines as one group.

@@ -39,10 +39,11 @@ const LINES: &[u8] = b"modprobe floppy\nget web17 floppy\nheld\nrmmod floppy\nre
 
 const REPLIES: &[u8] = b"ok\nok\nweb17 floppy 1\nerror EWOULDBLOCK floppy\nok\n";
 
-const JOURNAL: &[u8] = b"+gourzhiel journal 1
-+30730613 modprobe floppy
-+2f5805c1 get web17 floppy
-+235304a8 release web17
+// The sums are those of Python's hashlib.sha256.
+const JOURNAL: &[u8] = b"+gourzhiel journal 2 - -
++38cd8a5884cee84d modprobe floppy
++d01b42c86677fd10 get web17 floppy
++f86c4fae52fc09c5 release web17
  ";
 
 /// Whether lines are performed as a group, and the journal has those that change the table.

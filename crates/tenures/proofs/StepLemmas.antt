@@ -3,7 +3,7 @@ use Rattle.std.proofs.Common.{arith, ◌≡◌, refl, sym, ap, subst, ◌∙◌,
 use Rattle.std.proofs.lemmas.List.Elements.{All-get_or}
 use Rattle.line_journal.specs.Device.{History, AlwaysLeaves}
 use Rattle.line_journal.specs.Lines.{AreLines}
-use Rattle.line_journal.specs.declared.journal.Journal.{Journal}
+use Rattle.durable_table.specs.declared.chained.Chained.{Chained}
 use Rattle.line_journal.proofs.Moments.{implies, from_disk}
 use Rattle.modprobe.specs.Setup.{Setup}
 use Rattle.modprobe.specs.Outcomes.{Outcome}
@@ -57,29 +57,29 @@ first_stands s h commands file keeps (count, within, stands) =
 none_stands : (s : Setup) (h : Held) (commands : List (List ℕ)) (file : List ℕ) → FileStands s h file → StandsAfterFirst s h commands file
 none_stands s h commands file stands = ([], (commands, refl), tt, stands)
 
-module _ {D T : Type 0} (content : D → List ℕ) (history : D → History) (s : Setup) (h : Held) (commands : List (List ℕ)) (old new : Journal D) (result : Result T PerformError)
+module _ {D T : Type 0} (content : D → List ℕ) (history : D → History) (s : Setup) (h : Held) (commands : List (List ℕ)) (old new : Chained D) (result : Result T PerformError)
     (stands : Stands content history s h old) (unchanged : IsErrOf result OutOfMemory → new ≡ old) (held : IsErrOf result OutOfMemory ⊎ KeepsHeldAlong s h commands)
-    (always : AlwaysLeaves (history old.device) (history new.device) (AfterFirstOf s h commands)) where
+    (always : AlwaysLeaves (history old.lines.device) (history new.lines.device) (AfterFirstOf s h commands)) where
   -- a group is made, and no reply begun
-  pub group_leaves : AlwaysLeaves (history old.device) (history new.device) (StandsAfterFirst s h commands)
+  pub group_leaves : AlwaysLeaves (history old.lines.device) (history new.lines.device) (StandsAfterFirst s h commands)
   group_leaves =
       ⊎_elim
       (λ none.
-      subst (λ (j : Journal D). AlwaysLeaves (history old.device) (history j.device) (StandsAfterFirst s h commands)) (sym (unchanged none))
-      (from_disk (history old.device) (StandsAfterFirst s h commands) (content old.device) stands.ready.on_disk (none_stands s h commands (content old.device) stands.same)))
+      subst (λ (j : Chained D). AlwaysLeaves (history old.lines.device) (history j.lines.device) (StandsAfterFirst s h commands)) (sym (unchanged none))
+      (from_disk (history old.lines.device) (StandsAfterFirst s h commands) (content old.lines.device) stands.ready.on_disk (none_stands s h commands (content old.lines.device) stands.same)))
       (λ keeps. implies always (λ left first. first_stands s h commands left keeps first))
       held
 
   pub group_unanswered : (replies begun : List Outcome) (since since_new : ℕ) → begun ≡ replies → since_new ≡ since
-      → IsMade s h commands (history old.device) (history new.device) replies begun since since_new
+      → IsMade s h commands (history old.lines.device) (history new.lines.device) replies begun since since_new
   group_unanswered replies begun since since_new none same = inl (record { none = none; same = same; meanwhile = group_leaves })
 
 -- a group is made, and the first replies begun
-pub group_answered : {D : Type 0} (content : D → List ℕ) (history : D → History) (s : Setup) (h after_all : Held) (commands : List (List ℕ)) (old new : Journal D)
+pub group_answered : {D : Type 0} (content : D → List ℕ) (history : D → History) (s : Setup) (h after_all : Held) (commands : List (List ℕ)) (old new : Chained D)
     (said replies begun : List Outcome) (now since since_new : ℕ)
     → Stands content history s after_all new → after_all ≡ after s h commands → said ≡ replies_of s h commands → KeepsHeldAlong s h commands
-    → AlwaysLeaves (history old.device) (history new.device) (StandsAfterFirst s h commands) → now ≡ (history new.device).now
-    → HasBegun said now replies begun since since_new → IsMade s h commands (history old.device) (history new.device) replies begun since since_new
+    → AlwaysLeaves (history old.lines.device) (history new.lines.device) (StandsAfterFirst s h commands) → now ≡ (history new.lines.device).now
+    → HasBegun said now replies begun since since_new → IsMade s h commands (history old.lines.device) (history new.lines.device) replies begun since since_new
 group_answered content history s h after_all commands old new said replies begun now since since_new stands becomes said_is held always now_is has =
     ⊎_elim
     (λ none. inl (record {

@@ -60,14 +60,14 @@ fn make_group<D: Device, W: World<D>>(
     requires lines { AreLines (bytes_of lines.now) }
     ensures past { W.past world.new ≡ W.past world.old }
     ensures file { W.found world.new ≡ W.found world.old }
-    ensures made { IsMade table.old.session.setup.now table.old.session.holders.held (bytes_of lines.now) (D.history table.old.journal.device) (D.history table.new.journal.device)
+    ensures made { IsMade table.old.session.setup.now table.old.session.holders.held (bytes_of lines.now) (D.history table.old.journal.lines.device) (D.history table.new.journal.lines.device)
         (W.replies world.old) (W.replies world.new) (W.since world.old) (W.since world.new) }
     ensures whole { OnOk result (IsMadeWhole table.old.session.setup.now table.old.session.holders.held table.new.session.holders.held (bytes_of lines.now)
         (W.replies world.old) (W.replies world.new)) }
     ensures stands { OnOk result (Stands D.content D.history table.old.session.setup.now table.new.session.holders.held table.new.journal) }
     ensures setup { table.new.session.setup ≡ table.old.session.setup }
     ensures cut_off { cut_offs_in result + W.cut_offs world.old ≡ W.cut_offs world.new }
-    ensures failed { failures_in result + D.faults table.old.journal.device ≤ D.faults table.new.journal.device }
+    ensures failed { failures_in result + D.faults table.old.journal.lines.device ≤ D.faults table.new.journal.lines.device }
     ensures found { IsErrOf result NoTable → ⊥ }
 {
     match table.perform_all(alloc, lines) {
@@ -85,11 +85,11 @@ fn compact<D: Device>(
     requires setup { table.old.session.setup.now ≡ setup.now }
     requires stands { Stands D.content D.history table.old.session.setup.now table.old.session.holders.held table.old.journal }
     ensures stands { OnOk result (Stands D.content D.history table.old.session.setup.now table.old.session.holders.held table.new.journal) }
-    ensures any_moment { AlwaysLeaves (D.history table.old.journal.device) (D.history table.new.journal.device)
+    ensures any_moment { AlwaysLeaves (D.history table.old.journal.lines.device) (D.history table.new.journal.lines.device)
         (FileStands table.old.session.setup.now table.old.session.holders.held) }
     ensures session { table.new.session ≡ table.old.session }
     ensures alive { cut_offs_in result ≡ 0 }
-    ensures failed { failures_in result + D.faults table.old.journal.device ≤ D.faults table.new.journal.device }
+    ensures failed { failures_in result + D.faults table.old.journal.lines.device ≤ D.faults table.new.journal.lines.device }
     ensures found { IsErrOf result NoTable → ⊥ }
 {
     let Ok(fresh) = empty_table(alloc, setup) else {
@@ -114,14 +114,14 @@ pub(crate) fn make<D: Device, W: World<D>>(
     requires lines { AreLines (commands_of step.now) }
     ensures past { W.past world.new ≡ W.past world.old }
     ensures file { W.found world.new ≡ W.found world.old }
-    ensures made { IsMade table.old.session.setup.now table.old.session.holders.held (commands_of step.now) (D.history table.old.journal.device) (D.history table.new.journal.device)
+    ensures made { IsMade table.old.session.setup.now table.old.session.holders.held (commands_of step.now) (D.history table.old.journal.lines.device) (D.history table.new.journal.lines.device)
         (W.replies world.old) (W.replies world.new) (W.since world.old) (W.since world.new) }
     ensures whole { OnOk result (IsMadeWhole table.old.session.setup.now table.old.session.holders.held table.new.session.holders.held (commands_of step.now)
         (W.replies world.old) (W.replies world.new)) }
     ensures stands { OnOk result (Stands D.content D.history table.old.session.setup.now table.new.session.holders.held table.new.journal) }
     ensures setup { table.new.session.setup ≡ table.old.session.setup }
     ensures cut_off { cut_offs_in result + W.cut_offs world.old ≡ W.cut_offs world.new }
-    ensures failed { failures_in result + D.faults table.old.journal.device ≤ D.faults table.new.journal.device }
+    ensures failed { failures_in result + D.faults table.old.journal.lines.device ≤ D.faults table.new.journal.lines.device }
     ensures found { IsErrOf result NoTable → ⊥ }
 {
     match step {

@@ -31,11 +31,11 @@ fn open_table<'s, D: Device>(
     ensures stands { IfOk result (λ t. Stands D.content D.history setup.now t.session.holders.held t.journal) }
     ensures found { IfOk result (λ t. table_of setup.now (D.content device) ≡ Some t.session.holders.held) }
     ensures setup { IfOk result (λ t. t.session.setup.now ≡ setup.now) }
-    ensures any_moment { IfOk result (λ t. AlwaysLeaves (D.history device) (D.history t.journal.device)
+    ensures any_moment { IfOk result (λ t. AlwaysLeaves (D.history device) (D.history t.journal.lines.device)
         (λ file. StandsFor (lines_of (D.content device)) file ⊎ (D.history device).leaves file)) }
     ensures refused { IfErr result (λ e. AlwaysLeaves (D.history device) (D.history e.1)
         (λ file. StandsFor (lines_of (D.content device)) file ⊎ (D.history device).leaves file)) }
-    ensures no_fewer { IfOk result (λ t. D.faults device ≤ D.faults t.journal.device) }
+    ensures no_fewer { IfOk result (λ t. D.faults device ≤ D.faults t.journal.lines.device) }
     ensures failed { IfErr result (λ e. failures_of e.0 + D.faults device ≤ D.faults e.1) }
     ensures alive { IfErr result (λ e. cut_offs_of e.0 ≡ 0) }
     ensures no_table { IfErr result (λ e. e.0 ≡ NoTable → HasNoTable setup.now repair (D.content device)) }
@@ -67,16 +67,16 @@ fn answer<D: Device, W: World<D>>(
     requires leads { (commands : List (List ℕ)) × LeadsTo table.old.session.setup.now (W.past world.old) commands table.old.session.holders.held }
     requires lines { AreSteps steps.now }
     requires none { W.replies world.old ≡ [] }
-    requires since { W.since world.old ≤ (D.history table.old.journal.device).now }
-    requires kept { IsKeptSince table.old.session.setup.now (W.past world.old) (D.history table.old.journal.device) (W.since world.old) }
+    requires since { W.since world.old ≤ (D.history table.old.journal.lines.device).now }
+    requires kept { IsKeptSince table.old.session.setup.now (W.past world.old) (D.history table.old.journal.lines.device) (W.since world.old) }
     ensures past { W.past world.new ≡ W.past world.old }
     ensures file { W.found world.new ≡ W.found world.old }
-    ensures since { W.since world.new ≤ (D.history table.new.journal.device).now }
+    ensures since { W.since world.new ≤ (D.history table.new.journal.lines.device).now }
     ensures kept { IsKeptSince table.old.session.setup.now (W.past world.old ++ record { found = W.found world.old; asked = groups_of steps.now; replies = W.replies world.new; ended = result } ∷ [])
-        (D.history table.new.journal.device) (W.since world.new) }
+        (D.history table.new.journal.lines.device) (W.since world.new) }
     ensures answered { OnOk result (length (W.replies world.new) ≡ length (one_by_one (groups_of steps.now))) }
     ensures cut_off { cut_offs_in result + W.cut_offs world.old ≡ W.cut_offs world.new }
-    ensures failed { failures_in result + D.faults table.old.journal.device ≤ D.faults table.new.journal.device }
+    ensures failed { failures_in result + D.faults table.old.journal.lines.device ≤ D.faults table.new.journal.lines.device }
     ensures found { IsErrOf result NoTable → ⊥ }
 {
     for step in steps {

@@ -23,7 +23,7 @@ returns-then-not-branch-clause-none c =
     let fresh : Held = c.args.fresh.held in
     let lines = c.in_ok-lines.lines.items in
     let is : bytes_of lines ≡ compacted s h = c.in_ok-lines.ensures ∙ ap journal_of (ap bytes_of c.deref.ensures.value ∙ c.in_ok-snapshot.ensures) in
-    let from : other ≡ after s fresh (map (drop 9) (bytes_of (take (length lines - 1) (drop 1 lines)))) =
+    let from : other ≡ after s fresh (map (drop 17) (bytes_of (take (length lines - 1) (drop 1 lines)))) =
     rw (c.new-other.ensures.setup, c.new-other.ensures.holders, c.setup.ensures, c.deref-2.ensures.value) at c.in_ok-replay.ensures.after in
     let is_other : c.in_ok-is_same.field-0 ≡ false = search rules in
     λ can. absurd (grind (arith, is_other, c.in_ok-is_same.ensures.all (other_is_same s h other lines (drop 1 lines) is refl (second_table s fresh other lines c.requires.opening from) can)))
@@ -36,7 +36,7 @@ returns-clause-made c =
     let fresh : Held = c.args.fresh.held in
     let lines = c.in_ok-lines.lines.items in
     let is : bytes_of lines ≡ compacted s h = c.in_ok-lines.ensures ∙ ap journal_of (ap bytes_of c.deref.ensures.value ∙ c.in_ok-snapshot.ensures) in
-    let from : other ≡ after s fresh (map (drop 9) (bytes_of (take (length lines - 1) (drop 1 lines)))) =
+    let from : other ≡ after s fresh (map (drop 17) (bytes_of (take (length lines - 1) (drop 1 lines)))) =
     rw (c.new-other.ensures.setup, c.new-other.ensures.holders, c.setup.ensures, c.deref-2.ensures.value) at c.in_ok-replay.ensures.after in
     let is_lines : c.are_lines.result ≡ true = search rules in
     let is_same : c.in_ok-is_same.field-0 ≡ true = search rules in

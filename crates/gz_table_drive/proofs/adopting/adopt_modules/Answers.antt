@@ -1,5 +1,7 @@
 use Rattle.std.proofs.Common.{rules, inl}
 use Rattle.held_lines.proofs.LawLemmas.{keeps_held}
+use Rattle.durable_table.proofs.GroupLemmas.{none_written}
+use Rattle.gz_table_drive.specs.Adopting.{adopting_lines}
 use Rattle.gz_table_drive.proofs.AdoptLemmas.{adopting_keeps}
 use Rattle.gz_table_drive.proofs.adopting.adopt_modules.Goals as goal
 
@@ -15,3 +17,15 @@ returns-clause-held g c =
     let before = rw c.session.ensures at (rw c.holders.ensures at c.laws.ensures.lawful) in
     let after = rw c.session-3.ensures at (rw c.holders-2.ensures at c.laws-2.ensures.lawful) in
     keeps_held _ _ c.args.table.now.session.holders.held.table c.perform_lines.new.table.session.holders.held.table before after (inl (returns-clause-holders g c).rows)
+
+pub returns-in_err-found-clause-any_moment : goal.returns-in_err-found-clause-any_moment
+returns-in_err-found-clause-any_moment g c =
+    let s = c.args.table.now.session.setup.now in
+    let h = c.args.table.now.session.holders.held in
+    none_written g.D.Device.content g.D.Device.history s h (adopting_lines s h c.args.kernel.now) c.args.table.now.journal c.requires
+
+pub returns-in_err-add_report-clause-any_moment : goal.returns-in_err-add_report-clause-any_moment
+returns-in_err-add_report-clause-any_moment g c =
+    let s = c.args.table.now.session.setup.now in
+    let h = c.args.table.now.session.holders.held in
+    none_written g.D.Device.content g.D.Device.history s h (adopting_lines s h c.args.kernel.now) c.args.table.now.journal c.requires

@@ -1,8 +1,9 @@
-use Rattle.std.proofs.Common.{arith, sym, ap, subst, ◌∙◌, ◌≤◌, take, drop, ◌-◌}
+use Rattle.std.proofs.Common.{arith, refl, sym, ap, subst, ◌∙◌, ◌≤◌, take, drop, ◌-◌}
 use Rattle.line_journal.specs.Lines.{bytes_of}
 use Rattle.held_lines.specs.Outcomes.{after}
 use Rattle.gz_table_drive.specs.Adopting.{HasRefused}
-use Rattle.gz_table_drive.proofs.AnswerLemmas.{after_more, moments_more, group_behind, group_lines, take_end}
+use Rattle.durable_table.proofs.GroupLemmas.{none_written}
+use Rattle.gz_table_drive.proofs.AnswerLemmas.{after_more, none_more, moments_more, group_behind, group_lines, take_end}
 use Rattle.gz_table_drive.proofs.AdoptLemmas.{refused_more}
 use Rattle.gz_table_drive.proofs.adopting.perform_lines.Goals as goal
 
@@ -43,4 +44,16 @@ loop-start-preserved g c =
       moments = moments_more s h front group (bytes_of lines) _ _ _ (group_behind lines start end) inv.moments (rw inv.becomes at (rw inv.setup at c.perform_group.ensures.any_moment));
       no_fewer = omega (arith, inv.no_fewer, c.perform_group.ensures.no_fewer);
       setup = made.setup ∙ inv.setup;
+    }
+
+pub loop-start-init : goal.loop-start-init
+loop-start-init g c =
+    record {
+      within = omega arith;
+      refused = none_more c.args.replies.now c.args.replies.now refl refl;
+      becomes = refl;
+      stands = c.requires.stands;
+      moments = none_written g.D.Device.content g.D.Device.history c.args.table.now.session.setup.now c.args.table.now.session.holders.held (bytes_of c.args.lines.now) c.args.table.now.journal c.requires.stands;
+      no_fewer = omega arith;
+      setup = refl;
     }

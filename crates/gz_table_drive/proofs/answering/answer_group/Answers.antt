@@ -11,14 +11,14 @@ pub returns-in-Err-OutOfMemory-clause-stopped : goal.returns-in-Err-OutOfMemory-
 returns-in-Err-OutOfMemory-clause-stopped g c =
     let s = c.args.table.now.session.setup.now in
     let h = c.args.table.now.session.holders.held in
-    stopped_before s h (bytes_of c.args.group.now) (g.D.Device.history c.args.table.now.journal.device) (g.D.Device.history c.perform_all.new.self.journal.device) c.args.replies.now
+    stopped_before s h (bytes_of c.args.group.now) (g.D.Device.history c.args.table.now.journal.lines.device) (g.D.Device.history c.perform_all.new.self.journal.lines.device) c.args.replies.now
     c.perform_all.ensures.any_moment
 
 pub returns-in-Err-Device-clause-stopped : goal.returns-in-Err-Device-clause-stopped
 returns-in-Err-Device-clause-stopped g c =
     let s = c.args.table.now.session.setup.now in
     let h = c.args.table.now.session.holders.held in
-    stopped_before s h (bytes_of c.args.group.now) (g.D.Device.history c.args.table.now.journal.device) (g.D.Device.history c.perform_all.new.self.journal.device) c.args.replies.now
+    stopped_before s h (bytes_of c.args.group.now) (g.D.Device.history c.args.table.now.journal.lines.device) (g.D.Device.history c.perform_all.new.self.journal.lines.device) c.args.replies.now
     c.perform_all.ensures.any_moment
 
 pub returns-clause-stopped : goal.returns-clause-stopped
@@ -29,7 +29,7 @@ returns-clause-stopped g c =
     let replies = map (λ (r : HeldReply). r.reply) answered in
     let made = c.in-Ok.ensures in
     let stopped = c.in-Err.ensures.err in
-    stopped_after s h (bytes_of c.args.group.now) (g.D.Device.history c.perform_all.new.self.journal.device).leaves stopped.0 replies c.args.replies.now c.add_all.new.self
+    stopped_after s h (bytes_of c.args.group.now) (g.D.Device.history c.perform_all.new.self.journal.lines.device).leaves stopped.0 replies c.args.replies.now c.add_all.new.self
     (ap (map (λ (r : HeldReply). r.reply)) c.deref.ensures.value ∙ made.replies)
     (omega (arith, stopped.1, length-map answered (λ (r : HeldReply). r.reply)))
     (subst (λ first. HasMore first c.args.replies.now c.add_all.new.self) (sym (take-map (λ (r : HeldReply). r.reply) stopped.0 answered)) stopped.2)

@@ -1,8 +1,9 @@
-use Rattle.std.proofs.Common.{arith, sym, ap, subst, ◌∙◌, ◌≤◌, take, drop, ◌-◌}
+use Rattle.std.proofs.Common.{arith, refl, sym, ap, subst, ◌∙◌, ◌≤◌, take, drop, ◌-◌}
 use Rattle.line_journal.specs.Lines.{bytes_of}
 use Rattle.held_lines.specs.Outcomes.{after}
 use Rattle.gz_table_drive.specs.Answers.{HasAnswered}
-use Rattle.gz_table_drive.proofs.AnswerLemmas.{after_more, answered_more, on_err, moments_more, stopped_more, group_behind, group_lines, take_end}
+use Rattle.durable_table.proofs.GroupLemmas.{none_written}
+use Rattle.gz_table_drive.proofs.AnswerLemmas.{after_more, none_more, answered_more, on_err, moments_more, stopped_more, group_behind, group_lines, take_end}
 use Rattle.gz_table_drive.proofs.answering.answer_lines.Goals as goal
 
 pub answer_group-requires-clause-lines : goal.answer_group-requires-clause-lines
@@ -19,7 +20,7 @@ returns-in_err-answer_group-clause-stopped g c =
     let group = bytes_of (take (end - start) (drop start lines)) in
     let inv = c.loop-start.invariant in
     on_err c.from_residual.result
-    (stopped_more s h front group (bytes_of lines) (g.D.Device.history c.answer_group.new.table.journal.device).leaves c.args.replies.now c.loop-start.replies c.answer_group.new.replies
+    (stopped_more s h front group (bytes_of lines) (g.D.Device.history c.answer_group.new.table.journal.lines.device).leaves c.args.replies.now c.loop-start.replies c.answer_group.new.replies
     (group_behind lines start end) inv.answered (rw inv.becomes at (rw inv.setup at c.in_err-answer_group.ensures.stopped)))
 
 pub returns-in_err-answer_group-clause-any_moment : goal.returns-in_err-answer_group-clause-any_moment
@@ -56,4 +57,16 @@ loop-start-preserved g c =
       moments = moments_more s h front group (bytes_of lines) _ _ _ (group_behind lines start end) inv.moments (rw inv.becomes at (rw inv.setup at c.answer_group.ensures.any_moment));
       no_fewer = omega (arith, inv.no_fewer, c.answer_group.ensures.no_fewer);
       setup = made.setup ∙ inv.setup;
+    }
+
+pub loop-start-init : goal.loop-start-init
+loop-start-init g c =
+    record {
+      within = omega arith;
+      answered = none_more c.args.replies.now c.args.replies.now refl refl;
+      becomes = refl;
+      stands = c.requires.stands;
+      moments = none_written g.D.Device.content g.D.Device.history c.args.table.now.session.setup.now c.args.table.now.session.holders.held (bytes_of c.args.lines.now) c.args.table.now.journal c.requires.stands;
+      no_fewer = omega arith;
+      setup = refl;
     }

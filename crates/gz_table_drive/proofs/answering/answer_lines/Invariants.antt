@@ -17,8 +17,8 @@ invariant-loop-start g l =
       answered : HasAnswered s h (take l.start (bytes_of l.lines)) l.initial.replies l.replies;
       becomes : now ≡ after s h (take l.start (bytes_of l.lines));
       stands : Stands g.D.Device.content g.D.Device.history s now l.table.journal;
-      moments : AlwaysLeaves (g.D.Device.history l.initial.table.journal.device) (g.D.Device.history l.table.journal.device) (AfterFirstOf s h (bytes_of l.lines));
-      no_fewer : g.D.Device.faults l.initial.table.journal.device ≤ g.D.Device.faults l.table.journal.device;
+      moments : AlwaysLeaves (g.D.Device.history l.initial.table.journal.lines.device) (g.D.Device.history l.table.journal.lines.device) (AfterFirstOf s h (bytes_of l.lines));
+      no_fewer : g.D.Device.faults l.initial.table.journal.lines.device ≤ g.D.Device.faults l.table.journal.lines.device;
       setup : l.table.session.setup ≡ l.initial.table.session.setup;
     }
 

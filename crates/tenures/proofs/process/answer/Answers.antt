@@ -27,8 +27,8 @@ loop-step-init g c =
       since = c.requires.since;
       cut_off = refl;
       failed = omega arith;
-      kept = λ (ended : Ending). subst (λ (os : List Outcome). IsKeptSince s (before ++ tenure_of (g.W.World.found c.args.world.now) asked os ended ∷ []) (g.D.Device.history c.args.table.now.journal.device) (g.W.World.since c.args.world.now)) none
-          (idle_since s before (g.W.World.found c.args.world.now) asked ended (g.D.Device.history c.args.table.now.journal.device) (g.W.World.since c.args.world.now) c.requires.kept);
+      kept = λ (ended : Ending). subst (λ (os : List Outcome). IsKeptSince s (before ++ tenure_of (g.W.World.found c.args.world.now) asked os ended ∷ []) (g.D.Device.history c.args.table.now.journal.lines.device) (g.W.World.since c.args.world.now)) none
+          (idle_since s before (g.W.World.found c.args.world.now) asked ended (g.D.Device.history c.args.table.now.journal.lines.device) (g.W.World.since c.args.world.now) c.requires.kept);
     }
 
 pub make-requires-clause-setup : goal.make-requires-clause-setup
@@ -54,8 +54,8 @@ loop-step-preserved g c =
     let begun = g.W.World.replies c.make.new.world in
     let h : Held = c.loop-step.table.session.holders.held in
     let new : Held = c.make.new.table.session.holders.held in
-    let old_history = g.D.Device.history c.loop-step.table.journal.device in
-    let new_history = g.D.Device.history c.make.new.table.journal.device in
+    let old_history = g.D.Device.history c.loop-step.table.journal.lines.device in
+    let new_history = g.D.Device.history c.make.new.table.journal.lines.device in
     let since = g.W.World.since c.loop-step.world in
     let since_new = g.W.World.since c.make.new.world in
     let goes : GoesOn s before asked (group ∷ rest) replies h =
@@ -86,8 +86,8 @@ returns-in_err-make-clause-kept g c =
     let replies = g.W.World.replies c.loop-step.world in
     let begun = g.W.World.replies c.make.new.world in
     let h : Held = c.loop-step.table.session.holders.held in
-    let old_history = g.D.Device.history c.loop-step.table.journal.device in
-    let new_history = g.D.Device.history c.make.new.table.journal.device in
+    let old_history = g.D.Device.history c.loop-step.table.journal.lines.device in
+    let new_history = g.D.Device.history c.make.new.table.journal.lines.device in
     let since = g.W.World.since c.loop-step.world in
     let since_new = g.W.World.since c.make.new.world in
     let goes : GoesOn s before asked (group ∷ rest) replies h =

@@ -17,8 +17,8 @@ invariant-loop-step g l =
       file : g.W.World.found l.world ≡ g.W.World.found l.fn.world;
       goes : GoesOn s before (groups_of l.steps) (groups_of (drop l.step-index l.steps)) begun h;
       stands : Stands g.D.Device.content g.D.Device.history s h l.table.journal;
-      since : g.W.World.since l.world ≤ (g.D.Device.history l.table.journal.device).now;
+      since : g.W.World.since l.world ≤ (g.D.Device.history l.table.journal.lines.device).now;
       cut_off : g.W.World.cut_offs l.world ≡ g.W.World.cut_offs l.fn.world;
-      failed : g.D.Device.faults l.fn.table.journal.device ≤ g.D.Device.faults l.table.journal.device;
-      kept : (ended : Ending) → IsKeptSince s (before ++ tenure_of (g.W.World.found l.fn.world) (groups_of l.steps) begun ended ∷ []) (g.D.Device.history l.table.journal.device) (g.W.World.since l.world);
+      failed : g.D.Device.faults l.fn.table.journal.lines.device ≤ g.D.Device.faults l.table.journal.lines.device;
+      kept : (ended : Ending) → IsKeptSince s (before ++ tenure_of (g.W.World.found l.fn.world) (groups_of l.steps) begun ended ∷ []) (g.D.Device.history l.table.journal.lines.device) (g.W.World.since l.world);
     }

@@ -28,7 +28,7 @@ pub answer-answered-requires-clause-kept : goal.answer-answered-requires-clause-
 answer-answered-requires-clause-kept g c =
     let past = g.W.World.past c.args.world.now in
     let old = g.D.Device.history c.args.device in
-    let new = g.D.Device.history c.in-Ok.table.journal.device in
+    let new = g.D.Device.history c.in-Ok.table.journal.lines.device in
     subst (λ (v : Setup). IsKeptSince v past new (g.W.World.since c.args.world.now)) (sym c.in-Ok.ensures.setup)
     (subst (λ (n : ℕ). IsKeptSince c.args.setup.now past new n) (sym c.requires.since)
     (opened c.args.setup.now past (g.D.Device.content c.args.device) old new (g.met.D.Device.kill_leaves c.args.device) c.requires.kept c.in-Ok.ensures.any_moment))
@@ -57,7 +57,7 @@ returns-in-Err-clause-past g c =
 pub returns-in-Ok-clause-kept : goal.returns-in-Ok-clause-kept
 returns-in-Ok-clause-kept g c =
     over_answered c.args.setup.now c.in-Ok.table.session.setup.now (g.W.World.past c.args.world.now) (g.W.World.past c.answer-answered.new.world) (g.W.World.past c.next.new.self)
-    (g.W.World.found c.args.world.now) (groups_of c.args.steps.now) c.answer-answered.result (g.W.World.replies c.answer-answered.new.world) (g.D.Device.history c.answer-answered.new.table.journal.device) (g.D.Device.history c.next.result) (g.W.World.since c.answer-answered.new.world)
+    (g.W.World.found c.args.world.now) (groups_of c.args.steps.now) c.answer-answered.result (g.W.World.replies c.answer-answered.new.world) (g.D.Device.history c.answer-answered.new.table.journal.lines.device) (g.D.Device.history c.next.result) (g.W.World.since c.answer-answered.new.world)
     c.in-Ok.ensures.setup c.answer-answered.ensures.kept c.answer-answered.ensures.past
     (c.next.ensures.past ∙ ap (λ (file : List ℕ). g.W.World.past c.answer-answered.new.world ++ tenure_of file (groups_of c.args.steps.now) (g.W.World.replies c.answer-answered.new.world) c.answer-answered.result ∷ []) c.answer-answered.ensures.file)
     (subst (λ (d : g.row.D.Denot). (left : List ℕ) → (g.D.Device.history c.next.result).leaves left → (g.D.Device.history d).left_since (g.W.World.since c.answer-answered.new.world) left)

@@ -1,4 +1,4 @@
-use Rattle.std.proofs.Common.{rules, ap}
+use Rattle.std.proofs.Common.{rules, refl}
 use Rattle.line_journal.specs.Lines.{bytes_of}
 use Rattle.held_table.specs.Held.{Held}
 use Rattle.durable_table.specs.Compacting.{IsRemade}
@@ -11,8 +11,8 @@ returns-in-Ok-rewrite-clause-stands g c =
     let h : Held = c.args.self.now.session.holders.held in
     let lines = bytes_of c.in-Some.lines.items in
     let made : IsRemade s h lines = search rules in
-    rewrite_stands g.D.Device.content g.D.Device.history s h lines (bytes_of c.deref.result.now) c.rewrite.new.self made (ap bytes_of c.deref.ensures.value)
-    c.in-Ok-rewrite.ensures.acknowledged.0 c.in-Ok-rewrite.ensures.acknowledged.1
+    rewrite_stands g.D.Device.content g.D.Device.history s h lines lines c.rewrite.new.self made refl
+    c.in-Ok-rewrite.ensures.acknowledged.0 c.in-Ok-rewrite.ensures.acknowledged.1 c.in-Ok-rewrite.ensures.link
 
 pub returns-in-Ok-rewrite-clause-any_moment : goal.returns-in-Ok-rewrite-clause-any_moment
 returns-in-Ok-rewrite-clause-any_moment g c =
@@ -20,17 +20,17 @@ returns-in-Ok-rewrite-clause-any_moment g c =
     let h : Held = c.args.self.now.session.holders.held in
     let lines = bytes_of c.in-Some.lines.items in
     let made : IsRemade s h lines = search rules in
-    rewrite_moments g.D.Device.content g.D.Device.history s h lines (bytes_of c.deref.result.now) c.args.self.now.journal
-    (g.D.Device.history c.args.self.now.journal.device) (g.D.Device.history c.rewrite.new.self.device) c.requires.stands made (ap bytes_of c.deref.ensures.value) c.in-Ok-rewrite.ensures.any_moment
+    rewrite_moments g.D.Device.content g.D.Device.history s h lines lines c.args.self.now.journal
+    (g.D.Device.history c.args.self.now.journal.lines.device) (g.D.Device.history c.rewrite.new.self.lines.device) c.requires.stands made refl c.in-Ok-rewrite.ensures.any_moment
 
-pub returns-clause-any_moment : goal.returns-clause-any_moment
-returns-clause-any_moment g c =
+pub returns-in-Err-clause-any_moment : goal.returns-in-Err-clause-any_moment
+returns-in-Err-clause-any_moment g c =
     let s = c.args.self.now.session.setup.now in
     let h : Held = c.args.self.now.session.holders.held in
     let lines = bytes_of c.in-Some.lines.items in
     let made : IsRemade s h lines = search rules in
-    rewrite_moments g.D.Device.content g.D.Device.history s h lines (bytes_of c.deref.result.now) c.args.self.now.journal
-    (g.D.Device.history c.args.self.now.journal.device) (g.D.Device.history c.rewrite.new.self.device) c.requires.stands made (ap bytes_of c.deref.ensures.value) c.in-Err.ensures.any_moment
+    rewrite_moments g.D.Device.content g.D.Device.history s h lines lines c.args.self.now.journal
+    (g.D.Device.history c.args.self.now.journal.lines.device) (g.D.Device.history c.rewrite.new.self.lines.device) c.requires.stands made refl c.in-Err.ensures.any_moment
 
 pub returns-in_default-clause-any_moment : goal.returns-in_default-clause-any_moment
 returns-in_default-clause-any_moment g c =
