@@ -40,6 +40,16 @@ settled content history s h old new reads ready same link =
       link = ap (λ (l : Vec ℕ Global). l.items) link ∙ reads.link ∙ ap (λ file. link_behind (lines_of file)) (sym same);
     }
 
+-- a table whose turn is over reads as before
+pub rested : {D : Type 0} (content : D → List ℕ) (s : Setup) (h : Held) (old new : Chained D)
+    → Reads content s h old → content new.lines.device ≡ content old.lines.device → new.lines.end ≡ old.lines.end → new.link ≡ old.link → Reads content s h new
+rested content s h old new reads same same_end link =
+    record {
+      read = subst (λ (e : ℕ). ReadsAtRest (content new.lines.device) e) (sym same_end) (subst (λ (f : List ℕ). ReadsAtRest f old.lines.end) (sym same) reads.read);
+      same = ap (table_of s) same ∙ reads.same;
+      link = ap (λ (l : Vec ℕ Global). l.items) link ∙ reads.link ∙ ap (λ file. link_behind (lines_of file)) (sym same);
+    }
+
 -- what stands for a table reads so
 pub stands_reads : {D : Type 0} (content : D → List ℕ) (history : D → History) (s : Setup) (h : Held) (journal : Chained D)
     → Stands content history s h journal → Reads content s h journal

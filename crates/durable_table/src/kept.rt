@@ -23,11 +23,11 @@ pub enum CaughtUp {
 }
 
 impl<'s, D: Renewable> DurableTable<'s, D> {
-    /// Makes what the lines ask for that other processes have added to the journal since this one had its turn, in memory.
-    /// Only these are read. Nothing is written, and nothing is waited for: what was read may not be on the disk yet.
+    /// The turn of this process begins: makes what the lines ask for that others have added to the journal since it had its
+    /// turn, in memory. Only these are read. Nothing is written, and nothing is waited for: what was read may not be on the disk yet.
     ///
     /// If it is not `Ready`, or fails, nothing is said of the table: open it anew.
-    pub fn catch_up(&mut self, alloc: Global) -> Result<CaughtUp, DeviceError>
+    pub fn catch_up(&mut self, alloc: Global, turn: D::Turn) -> Result<CaughtUp, DeviceError>
         requires reads { Reads D.content self.old.session.setup.now self.old.session.holders.held self.old.journal }
         ensures reads { result ≡ Ok CaughtUp.Ready → Reads D.content self.old.session.setup.now self.new.session.holders.held self.new.journal }
         ensures anew { result ≡ Ok CaughtUp.Anew → ContinuesSealed (D.content self.old.journal.lines.device) (D.content self.new.journal.lines.device) → ⊥ }
@@ -36,7 +36,7 @@ impl<'s, D: Renewable> DurableTable<'s, D> {
         ensures setup { self.new.session.setup ≡ self.old.session.setup }
         ensures faults { TellsFaults (D.faults self.old.journal.lines.device) (D.faults self.new.journal.lines.device) result }
     {
-        let added = match self.journal.lines.follow(alloc)? {
+        let added = match self.journal.lines.follow(alloc, turn)? {
             Followed::AtRest(added) => added,
             Followed::Anew => return Ok(CaughtUp::Anew),
         };
@@ -46,6 +46,19 @@ impl<'s, D: Renewable> DurableTable<'s, D> {
         replay(alloc, &mut self.session, &added)?;
         self.journal.link_to(added);
         Ok(CaughtUp::Ready)
+    }
+
+    /// The turn of this process is over. The table stays as it is, and reads as the journal was read.
+    pub fn rest(&mut self)
+        ensures content { D.content self.new.journal.lines.device ≡ D.content self.old.journal.lines.device }
+        ensures end { self.new.journal.lines.end ≡ self.old.journal.lines.end }
+        ensures link { self.new.journal.link ≡ self.old.journal.link }
+        ensures session { self.new.session ≡ self.old.session }
+        ensures writes { D.writes self.new.journal.lines.device ≡ D.writes self.old.journal.lines.device }
+        ensures looks { D.looks self.new.journal.lines.device ≡ D.looks self.old.journal.lines.device }
+        ensures faults { D.faults self.new.journal.lines.device ≡ D.faults self.old.journal.lines.device }
+    {
+        self.journal.lines.rest();
     }
 }
 

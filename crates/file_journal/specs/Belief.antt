@@ -1,12 +1,34 @@
 -- What crashes may leave of a file, as it is believed.
 use Rattle.std.specs.Prelude.{ℕ, List}
 use Rattle.line_journal.specs.Device.{History}
-use Rattle.file_journal.specs.Calls.{call_history}
+use Rattle.file_journal.specs.Calls.{call_history, IsNoted}
 use Rattle.file_journal.specs.declared.belief.Belief.{Belief}
+use Rattle.file_journal.specs.declared.calls.kinds.Call.TheVariants.{Read, Write, Cut, Settle, Replaced}
+use Rattle.file_journal.specs.declared.disk_file.Syncs.{Syncs}
 
 abbrev pub history_of : Belief → History
-history_of belief = call_history belief.calls.items belief.bytes.items
+history_of belief = call_history belief.calls.noted.items belief.bytes.items
 
 -- nobody knows what a crash leaves
 abbrev pub MayBeAnything : History → Type 0
 MayBeAnything history = (left : List ℕ) → history.leaves left
+
+-- these bytes were read from a place on, once more
+abbrev pub IsReadBack : ℕ → List ℕ → Belief → Belief → Type 0
+IsReadBack place bytes old new = IsNoted (Read place) old.bytes.items bytes old.calls.noted.items new.calls.noted.items
+
+-- these bytes were written from a place on
+abbrev pub IsWritten : ℕ → List ℕ → Belief → Belief → Type 0
+IsWritten place bytes old new = IsNoted (Write place) old.bytes.items bytes old.calls.noted.items new.calls.noted.items
+
+-- what stood behind the first `size` bytes was cut off
+abbrev pub IsCut : ℕ → Belief → Belief → Type 0
+IsCut size old new = IsNoted (Cut size) old.bytes.items old.bytes.items old.calls.noted.items new.calls.noted.items
+
+-- it was waited for until the file was on the disk, or that was left out
+abbrev pub IsSettled : Syncs → Belief → Belief → Type 0
+IsSettled syncs old new = IsNoted (Settle syncs) old.bytes.items old.bytes.items old.calls.noted.items new.calls.noted.items
+
+-- the same of a new file in its place
+abbrev pub IsReplaced : Syncs → List ℕ → Belief → Belief → Type 0
+IsReplaced syncs bytes old new = IsNoted (Replaced syncs) old.bytes.items bytes old.calls.noted.items new.calls.noted.items

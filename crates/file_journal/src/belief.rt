@@ -1,139 +1,221 @@
-ghost use Rattle.std.specs.Prelude.{◌≡◌, ◌≢◌, ◌+◌, ◌<◌, ◌≤◌, ◌^◌, ◌↔◌, length, take, drop, IsTrue, IfOk, OnOk};
+ghost use Rattle.std.specs.Prelude.{◌≡◌, ◌↔◌, ◌+◌, ◌<◌, ◌≤◌, ◌^◌, [], length, take, drop, IsTrue, IfOk, IfSome, OnOk};
 ghost use Rattle.line_journal.specs.Device.{overwritten, Torn, Shortened, Unchanged, UnchangedOr, IsOnDisk, Goes};
 ghost use Rattle.line_journal.specs.Renewed.{IsRenewed};
+ghost use Rattle.file_journal.specs.Belief.{history_of};
+ghost use Rattle.file_journal.specs.declared.lock.LockKind.TheVariants.{Exclusive};
 
-use crate::call::{Call, Noted, note};
+use crate::calls::Calls;
+use crate::disk_file::{Paths, Syncs};
+use crate::fault::FileFault;
+use crate::folder_names::FolderNames;
+use crate::lock::FolderLock;
+use crate::new_file::SyncedFile;
 use crate::overwrite::overwrite;
 use line_journal::Renewed;
-use std::alloc::{AllocError, Global};
-use std::snapshot::Snapshot;
+use std::alloc::Global;
+use std::fs::OpenFile;
+use std::io::{Read, Seek, Write};
+use std::rt::Files;
 
 /// What a file is believed to hold, and the calls by which it came to that.
 #[derive(Drop)]
 pub struct Belief {
     pub(crate) bytes: Vec<u8>,
-    calls: Vec<Snapshot<Noted>>,
+    calls: Calls,
+}
+
+/// What the bytes of a file are beside those that were believed.
+fn compare(believed: &[u8], kept: usize, bytes: &[u8]) -> Renewed
+    requires { kept ≤ length believed.now }
+    ensures renewed { IsRenewed kept believed.now bytes.now result }
+    ensures same { result ≡ Renewed.Same ↔ bytes.now ≡ believed.now }
+{
+    if bytes == believed {
+        Renewed::Same
+    } else if bytes.starts_with(&believed[..kept]) {
+        Renewed::Longer
+    } else {
+        Renewed::Other
+    }
 }
 
 impl Belief {
-    ghost use Rattle.file_journal.specs.Belief.{history_of, MayBeAnything};
-    ghost use Rattle.file_journal.specs.Renewed.{Believes, IsRenewedTo};
+    ghost use Rattle.file_journal.specs.Belief.{MayBeAnything, IsReadBack, IsWritten, IsCut, IsSettled, IsReplaced};
+    ghost use Rattle.file_journal.specs.Counts.{looks_of, writes_of};
+    ghost use Rattle.file_journal.specs.Renewed.{IsRenewedTo};
 
-    /// Of a file that was read, and of which nobody knows what a crash leaves.
-    pub(crate) fn new(alloc: Global, bytes: Vec<u8>) -> Self
-        ensures bytes { result.bytes ≡ bytes }
+    /// Of an empty file, of which nobody knows what a crash leaves.
+    pub(crate) fn new(alloc: Global) -> Self
+        ensures bytes { result.bytes.items ≡ [] }
         ensures unknown { MayBeAnything (history_of result) }
+        ensures looks { looks_of result ≡ 0 }
     {
         Belief {
-            bytes,
-            calls: Vec::new(alloc),
+            bytes: Vec::new(alloc),
+            calls: Calls::new(alloc),
         }
     }
 
-    /// Whether the file has these bytes from a place on.
-    pub(crate) fn agrees(&self, place: usize, bytes: &[u8]) -> bool
+    /// Whether the file is believed to have these bytes from a place on.
+    fn agrees(&self, place: usize, bytes: &[u8]) -> bool
         requires { place ≤ length self.now.bytes.items }
         ensures { IsTrue result ↔ (bytes.now ≡ drop place self.now.bytes.items) }
     {
         bytes == &self.bytes[place..]
     }
 
-    /// The file was read anew behind its first `kept` bytes, and has these there.
-    pub(crate) fn renew(
+    /// Reads the file behind its first `kept` bytes, which it has still. What is read is believed from then on.
+    pub(crate) fn look<F: Read + Seek>(
         &mut self,
+        file: &mut F,
+        lock: &FolderLock,
         alloc: Global,
         kept: usize,
-        bytes: &[u8],
-    ) -> Result<Renewed, AllocError>
+    ) -> Result<Renewed, FileFault>
         requires { kept ≤ length self.old.bytes.items }
-        ensures { IfOk result (Believes kept self.old bytes.now self.new) }
+        ensures renewed { IfOk result (IsRenewedTo kept self.old self.new) }
+        ensures looks { OnOk result (looks_of self.new ≡ looks_of self.old + 1) }
+        ensures writes { writes_of self.new ≡ writes_of self.old }
     {
-        if self.agrees(kept, bytes) {
+        let read = self.calls.look(file, lock, alloc, kept, &self.bytes)?;
+        if self.agrees(kept, &read) {
             return Ok(Renewed::Same);
         }
         self.bytes.truncate(kept);
-        self.bytes.extend_from_slice(bytes)?;
-        self.calls = Vec::new(alloc);
+        self.bytes.extend_from_slice(&read)?;
         Ok(Renewed::Longer)
     }
 
-    /// What the bytes of a whole file are beside those that are believed.
-    fn compare(&self, kept: usize, bytes: &[u8]) -> Renewed
-        requires { kept ≤ length self.now.bytes.items }
-        ensures renewed { IsRenewed kept self.now.bytes.items bytes.now result }
-        ensures longer { result ≡ Renewed.Longer → bytes.now ≢ self.now.bytes.items }
+    /// Reads another file, which has come to the place of the one that is believed. It is believed from then on.
+    pub(crate) fn look_at_other<F: Read + Seek>(
+        &mut self,
+        file: &mut F,
+        lock: &FolderLock,
+        alloc: Global,
+        kept: usize,
+    ) -> Result<Renewed, FileFault>
+        requires { kept ≤ length self.old.bytes.items }
+        ensures renewed { IfOk result (IsRenewedTo kept self.old self.new) }
+        ensures looks { OnOk result (looks_of self.new ≡ looks_of self.old + 1) }
+        ensures writes { writes_of self.new ≡ writes_of self.old }
     {
-        if self.agrees(0, bytes) {
-            Renewed::Same
-        } else if bytes.starts_with(&self.bytes[..kept]) {
-            Renewed::Longer
+        let read = self.calls.look(file, lock, alloc, 0, &self.bytes)?;
+        let renewed = compare(&self.bytes, kept, &read);
+        self.bytes = read;
+        Ok(renewed)
+    }
+
+    /// Reads the file from a place on once more. None if it has other bytes than are believed.
+    pub(crate) fn read<F: Read + Seek>(
+        &mut self,
+        file: &mut F,
+        lock: &FolderLock,
+        alloc: Global,
+        place: usize,
+    ) -> Result<Option<Vec<u8>>, FileFault>
+        requires { place ≤ length self.old.bytes.items }
+        ensures read { IfOk result (λ read. IfSome read (λ bytes. bytes.items ≡ drop place self.old.bytes.items)) }
+        ensures noted { IfOk result (λ read. IfSome read (λ bytes. IsReadBack place bytes.items self.old self.new)) }
+        ensures bytes { self.new.bytes ≡ self.old.bytes }
+        ensures crash { Goes Unchanged (history_of self.old) (history_of self.new) }
+        ensures looks { looks_of self.new ≡ looks_of self.old }
+        ensures writes { writes_of self.new ≡ writes_of self.old }
+    {
+        let read = self.calls.read(file, lock, alloc, place, &self.bytes)?;
+        if self.agrees(place, &read) {
+            Ok(Some(read))
         } else {
-            Renewed::Other
+            Ok(None)
         }
     }
 
-    /// Another file has the place of this one, and has these bytes.
-    pub(crate) fn exchange(&mut self, alloc: Global, kept: usize, bytes: Vec<u8>) -> Renewed
-        requires { kept ≤ length self.old.bytes.items }
-        ensures bytes { self.new.bytes ≡ bytes }
-        ensures renewed { IsRenewedTo kept self.old self.new result }
+    /// Writes over what is there and past the end.
+    pub(crate) fn write<F: Write + Seek>(
+        &mut self,
+        file: &mut F,
+        lock: &FolderLock,
+        place: usize,
+        bytes: &Vec<u8>,
+    ) -> Result<(), FileFault>
+        requires within { place ≤ length self.old.bytes.items }
+        requires lock { lock.now.kind ≡ Exclusive }
+        ensures written { OnOk result (self.new.bytes.items ≡ overwritten self.old.bytes.items place bytes.now.items) }
+        ensures noted { OnOk result (IsWritten place bytes.now.items self.old self.new) }
+        ensures fits { OnOk result (place + length bytes.now.items < 2 ^ 64) }
+        ensures crash { Goes (Torn place (length bytes.now.items)) (history_of self.old) (history_of self.new) }
+        ensures looks { looks_of self.new ≡ looks_of self.old }
     {
-        let renewed = self.compare(kept, &bytes);
-        *self = Belief::new(alloc, bytes);
-        renewed
-    }
-
-    /// The file is about to be written to.
-    pub(crate) fn write(&mut self, place: usize, bytes: &[u8]) -> Result<(), AllocError>
-        requires { place ≤ length self.old.bytes.items }
-        ensures written { OnOk result (self.new.bytes.items ≡ overwritten self.old.bytes.items place bytes.now) }
-        ensures fits { OnOk result (place + length bytes.now < 2 ^ 64) }
-        ensures crash { Goes (Torn place (length bytes.now)) (history_of self.old) (history_of self.new) }
-    {
-        let call = Call::Write(place, bytes.len());
-        note(&mut self.calls, call, &self.bytes, &self.bytes)?;
+        self.calls.write(file, lock, place, bytes, &self.bytes)?;
         overwrite(&mut self.bytes, place, bytes)?;
         Ok(())
     }
 
-    /// The file is about to be cut.
-    pub(crate) fn cut(&mut self, size: usize) -> Result<(), AllocError>
-        requires { size ≤ length self.old.bytes.items }
+    /// Cuts off what stands behind the first `size` bytes.
+    pub(crate) fn cut<F: OpenFile>(
+        &mut self,
+        file: &F,
+        lock: &FolderLock,
+        size: usize,
+    ) -> Result<(), FileFault>
+        requires within { size ≤ length self.old.bytes.items }
+        requires lock { lock.now.kind ≡ Exclusive }
         ensures cut { OnOk result (self.new.bytes.items ≡ take size self.old.bytes.items) }
+        ensures noted { OnOk result (IsCut size self.old self.new) }
         ensures crash { Goes (Shortened size) (history_of self.old) (history_of self.new) }
+        ensures looks { looks_of self.new ≡ looks_of self.old }
     {
-        note(&mut self.calls, Call::Cut(size), &self.bytes, &self.bytes)?;
+        self.calls.cut(file, lock, size, &self.bytes)?;
         self.bytes.truncate(size);
         Ok(())
     }
 
-    /// The file is on the disk as it reads.
-    pub(crate) fn settle(&mut self) -> Result<(), AllocError>
+    /// Waits until the file is on the disk as it reads, unless `syncs` leaves that out. If it does not come there, all of it
+    /// is written again.
+    pub(crate) fn settle<F: OpenFile + Write + Seek>(
+        &mut self,
+        file: &mut F,
+        lock: &FolderLock,
+        syncs: Syncs,
+    ) -> Result<(), FileFault>
+        requires { lock.now.kind ≡ Exclusive }
         ensures on_disk { OnOk result (IsOnDisk self.old.bytes.items (history_of self.new)) }
+        ensures settled { OnOk result (IsSettled syncs self.old self.new) }
         ensures bytes { self.new.bytes ≡ self.old.bytes }
         ensures crash { Goes Unchanged (history_of self.old) (history_of self.new) }
+        ensures looks { looks_of self.new ≡ looks_of self.old }
+        ensures writes { writes_of self.new ≡ writes_of self.old }
     {
-        note(&mut self.calls, Call::Settle, &self.bytes, &self.bytes)?;
-        Ok(())
+        match self.calls.settle(file, lock, syncs, &self.bytes) {
+            Ok(()) => Ok(()),
+            Err(fault) => {
+                self.calls.write_again(file, lock, &self.bytes);
+                Err(fault)
+            }
+        }
     }
 
-    /// The file was replaced, and the new one is on the disk.
-    pub(crate) fn replace(&mut self, next: Vec<u8>) -> Result<(), AllocError>
+    /// A new file takes the place of this one.
+    pub(crate) fn replace<R: Files>(
+        &mut self,
+        rt: &R,
+        lock: &FolderLock,
+        names: &FolderNames<R::File>,
+        new: SyncedFile<R::File>,
+        paths: &Paths,
+        next: Vec<u8>,
+    ) -> Result<R::File, FileFault>
+        requires lock { lock.now.kind ≡ Exclusive }
+        requires next { new.bytes.value.items ≡ next.items }
         ensures replaced { OnOk result (self.new.bytes.items ≡ next.items) }
+        ensures settled { OnOk result (IsReplaced names.now.syncs next.items self.old self.new) }
         ensures on_disk { OnOk result (IsOnDisk next.items (history_of self.new)) }
         ensures crash { Goes (UnchangedOr next.items) (history_of self.old) (history_of self.new) }
+        ensures looks { looks_of self.new ≡ looks_of self.old }
     {
-        note(&mut self.calls, Call::Settle, &self.bytes, &next)?;
+        let file = self
+            .calls
+            .replace(rt, lock, names, new, paths, &self.bytes)?;
         self.bytes = next;
-        Ok(())
-    }
-
-    /// A replacement failed, so that a crash leaves the one or the other.
-    pub(crate) fn may_replace(&mut self, next: &Vec<u8>) -> Result<(), AllocError>
-        ensures bytes { self.new.bytes ≡ self.old.bytes }
-        ensures crash { Goes (UnchangedOr next.now.items) (history_of self.old) (history_of self.new) }
-    {
-        note(&mut self.calls, Call::Replace, &self.bytes, next)?;
-        Ok(())
+        Ok(file)
     }
 }

@@ -1,12 +1,15 @@
-ghost use Rattle.std.specs.Prelude.{◌≡◌, ◌≢◌, ◌<◌, ◌≤◌, [], None, length, IfOk, OnOk, OnErr, IsErrOf};
+ghost use Rattle.std.specs.Prelude.{◌≡◌, ◌≢◌, ◌+◌, ◌<◌, ◌≤◌, ◌^◌, [], None, Some, length, take, drop, IfOk, IfErr, OnOk, OnErr, IsErrOf};
 ghost use Rattle.std.proofs.Common.{inl, refl};
-ghost use Rattle.line_journal.specs.Device.{TellsFaults};
+ghost use Rattle.line_journal.specs.Device.{overwritten, Torn, Shortened, Unchanged, UnchangedOr, IsOnDisk, Goes, TellsFaults};
 ghost use Rattle.line_journal.specs.declared.device.DeviceError.TheVariants.{Failed};
-ghost use Rattle.file_journal.specs.Belief.{history_of};
+ghost use Rattle.file_journal.specs.Belief.{history_of, MayBeAnything, IsReadBack, IsWritten, IsCut, IsSettled, IsReplaced};
+ghost use Rattle.file_journal.specs.Counts.{looks_of, writes_of};
+ghost use Rattle.file_journal.specs.declared.lock.LockKind.TheVariants.{Exclusive};
 
 use crate::belief::Belief;
 use crate::disk_file::{DiskFile, Paths, Syncs};
 use crate::fault::{Action, Cause, FileFault, Target};
+use crate::lock::{FolderLock, LockKind};
 use line_journal::{Device, DeviceError, Renewable, Renewed};
 use std::alloc::{AllocError, Global};
 use std::fmt;
@@ -53,105 +56,157 @@ impl From<FileFault> for OpenError {
     }
 }
 
-/// The fault of a journal that was not opened.
-fn fault_of(error: OpenError) -> FileFault {
-    match error {
-        OpenError::Failed(fault) => fault,
-        OpenError::OutOfMemory => FileFault {
-            action: Action::Read,
-            target: Target::Journal,
-            cause: Cause::OutOfMemory,
-        },
+/// Opens the file of this name in a folder, and reads it.
+fn open_disk<R: Files + Drop>(
+    rt: R,
+    alloc: Global,
+    belief: &mut Belief,
+    lock: &FolderLock,
+    folder: &str,
+    name: &str,
+    syncs: Syncs,
+) -> Result<DiskFile<R>, OpenError>
+    ensures syncs { IfOk result (λ disk. disk.syncs ≡ syncs) }
+    ensures looked { OnOk result (looks_of belief.new ≡ looks_of belief.old + 1) }
+    ensures unknown { OnOk result (MayBeAnything (history_of belief.new)) }
+{
+    let paths = Paths::new(alloc, folder, name)?;
+    let mut disk = DiskFile::open(rt, paths, syncs)?;
+    disk.look(belief, lock, alloc, 0)?;
+    Ok(disk)
+}
+
+/// A file was not opened. The lock is handed back.
+#[derive(Drop)]
+pub struct Unopened {
+    pub error: OpenError,
+    pub lock: FolderLock,
+}
+
+/// The fault of a call without the lock that it needs.
+const NOT_LOCKED: FileFault = FileFault {
+    action: Action::Lock,
+    target: Target::Lock,
+    cause: Cause::NotLocked,
+};
+
+/// The fault of a file that others wrote to, or that lost what was written.
+const READS_OTHERWISE: FileFault = FileFault {
+    action: Action::Read,
+    target: Target::Journal,
+    cause: Cause::ReadsOtherwise,
+};
+
+/// The lock, of either kind, unless a call has failed before: then each further one fails.
+fn some_lock(
+    lock: &Option<FolderLock>,
+    fault: Option<FileFault>,
+) -> Result<&FolderLock, FileFault> {
+    match (lock, fault) {
+        (_, Some(fault)) => Err(fault),
+        (None, None) => Err(NOT_LOCKED),
+        (Some(lock), None) => Ok(lock),
     }
 }
 
-/// A file of the system, as a journal uses it. A call that failed leaves it failing: open the file again.
+/// The lock, if nobody else has it, unless a call has failed before.
+fn own_lock(lock: &Option<FolderLock>, fault: Option<FileFault>) -> Result<&FolderLock, FileFault>
+    ensures { IfOk result (λ own. own.now.kind ≡ Exclusive) }
+{
+    let lock = some_lock(lock, fault)?;
+    if lock.kind == LockKind::Exclusive {
+        Ok(lock)
+    } else {
+        Err(NOT_LOCKED)
+    }
+}
+
+/// A file of the system, as a journal uses it. It has the lock of its folder from where a turn begins until `rest`: without it,
+/// or with one that others share if it is to write, a call fails. A call that failed leaves it failing: open the file again.
 #[derive(Drop)]
 pub struct FileDevice<R: Files + Drop> {
     alloc: Global,
+    lock: Option<FolderLock>,
     disk: DiskFile<R>,
     belief: Belief,
     /// How many calls have failed.
     faults: u64,
     /// Why the first of them failed.
     fault: Option<FileFault>,
-    /// How many calls have written, cut or replaced, or were to; 2^64 - 1 at most.
-    writes: u64,
-    /// How often it was looked at what others made of it.
-    looks: u64,
 }
 
 impl<R: Files + Drop> FileDevice<R> {
-    ghost use Rattle.file_journal.specs.Belief.{MayBeAnything};
-    ghost use Rattle.file_journal.specs.Renewed.{IsRenewedTo};
-
-    /// Opens the file of this name in a folder, which has to be there.
+    /// Opens the file of this name in a folder, which has to be there, under the folder's lock, and reads it.
     pub fn open(
         rt: R,
         alloc: Global,
+        lock: FolderLock,
         folder: &str,
         name: &str,
         syncs: Syncs,
-    ) -> Result<Self, OpenError>
+    ) -> Result<Self, Unopened>
         ensures unknown { IfOk result (λ device. MayBeAnything (history_of device.belief)) }
         ensures no_fault { IfOk result (λ device. device.fault ≡ None) }
+        ensures looked { IfOk result (λ device. looks_of device.belief ≡ 1) }
+        ensures lock { IfOk result (λ device. device.lock ≡ Some lock) }
+        ensures syncs { IfOk result (λ device. device.disk.syncs ≡ syncs) }
+        ensures handed_back { IfErr result (λ unopened. unopened.lock ≡ lock) }
     {
-        let paths = Paths::new(alloc, folder, name)?;
-        let mut disk = DiskFile::open(rt, paths, syncs)?;
-        let bytes = disk.read(alloc, 0, 0)?;
-        Ok(FileDevice::new(alloc, disk, bytes))
+        let mut belief = Belief::new(alloc);
+        match open_disk(rt, alloc, &mut belief, &lock, folder, name, syncs) {
+            Ok(disk) => Ok(FileDevice::new(alloc, lock, disk, belief)),
+            Err(error) => Err(Unopened { error, lock }),
+        }
     }
 
-    /// Makes an empty file of this name in a folder. It is refused if one is there.
-    pub fn create(
-        rt: R,
-        alloc: Global,
-        folder: &str,
-        name: &str,
-        syncs: Syncs,
-    ) -> Result<Self, OpenError>
-        ensures empty { IfOk result (λ device. device.belief.bytes.items ≡ []) }
-        ensures unknown { IfOk result (λ device. MayBeAnything (history_of device.belief)) }
-        ensures no_fault { IfOk result (λ device. device.fault ≡ None) }
-    {
-        let paths = Paths::new(alloc, folder, name)?;
-        let disk = DiskFile::create(rt, paths, syncs)?;
-        Ok(FileDevice::new(alloc, disk, Vec::new(alloc)))
-    }
-
-    fn new(alloc: Global, disk: DiskFile<R>, bytes: Vec<u8>) -> Self
-        ensures bytes { result.belief.bytes ≡ bytes }
-        ensures unknown { MayBeAnything (history_of result.belief) }
+    fn new(alloc: Global, lock: FolderLock, disk: DiskFile<R>, belief: Belief) -> Self
+        ensures belief { result.belief ≡ belief }
         ensures no_fault { result.fault ≡ None }
+        ensures lock { result.lock ≡ Some lock }
+        ensures disk { result.disk ≡ disk }
     {
         FileDevice {
             alloc,
+            lock: Some(lock),
             disk,
-            belief: Belief::new(alloc, bytes),
+            belief,
             faults: 0,
             fault: None,
-            writes: 0,
-            looks: 0,
         }
     }
 
-    /// Reads what others have made of the file, which is the one that has the journal's path now.
-    fn read_anew(&mut self, kept: usize) -> Result<Renewed, OpenError>
-        requires { kept ≤ length self.old.belief.bytes.items }
-        ensures renewed { IfOk result (IsRenewedTo kept self.old.belief self.new.belief) }
-        ensures faults { self.new.faults ≡ self.old.faults }
-        ensures writes { self.new.writes ≡ self.old.writes }
-        ensures looks { OnOk result (self.old.looks < self.new.looks) }
+    /// After a call that failed, reads the file anew that has the journal's path now, under the lock that this device has. If
+    /// it fails too, each further call does.
+    pub fn read_again(&mut self) -> Result<(), FileFault>
+        ensures unknown { OnOk result (MayBeAnything (history_of self.new.belief)) }
+        ensures no_fault { OnOk result (self.new.fault ≡ None) }
+        ensures looked { OnOk result (looks_of self.old.belief < looks_of self.new.belief) }
+        ensures lock { self.new.lock ≡ self.old.lock }
+        ensures syncs { self.new.disk.syncs ≡ self.old.disk.syncs }
     {
-        self.looks = self.looks.checked_add(1).ok_or(OpenError::OutOfMemory)?;
-        if !self.disk.is_there(kept)? {
-            self.disk.reopen()?;
-            let bytes = self.disk.read(self.alloc, 0, 0)?;
-            return Ok(self.belief.exchange(self.alloc, kept, bytes));
+        let lock = some_lock(&self.lock, None)?;
+        match self.disk.look(&mut self.belief, lock, self.alloc, 0) {
+            Ok(_) => {
+                self.fault = None;
+                Ok(())
+            }
+            Err(fault) => {
+                self.fault = Some(fault);
+                Err(fault)
+            }
         }
-        let expected = self.belief.bytes.len() - kept;
-        let bytes = self.disk.read(self.alloc, kept, expected)?;
-        Ok(self.belief.renew(self.alloc, kept, &bytes)?)
+    }
+
+    /// The lock that it has.
+    pub fn lock(&self) -> Option<&FolderLock> {
+        self.lock.as_ref()
+    }
+
+    /// Gives the lock that it has to the caller.
+    pub fn into_lock(self) -> Option<FolderLock>
+        ensures { result ≡ self.lock }
+    {
+        self.lock
     }
 
     /// Why the first call that failed did so.
@@ -164,10 +219,10 @@ impl<R: Files + Drop> FileDevice<R> {
     /// Notes that a call failed.
     fn fail(&mut self, fault: FileFault) -> DeviceError
         ensures belief { self.new.belief ≡ self.old.belief }
-        ensures writes { self.new.writes ≡ self.old.writes }
-        ensures looks { self.new.looks ≡ self.old.looks }
+        ensures lock { self.new.lock ≡ self.old.lock }
+        ensures disk { self.new.disk ≡ self.old.disk }
         ensures later { self.old.faults ≤ self.new.faults }
-        ensures failed { result ≡ Failed → self.old.faults < self.new.faults }
+        ensures counted { result ≡ Failed → self.old.faults < self.new.faults }
         ensures fails { self.new.fault ≢ None }
     {
         self.fault = Some(self.fault.unwrap_or(fault));
@@ -180,18 +235,17 @@ impl<R: Files + Drop> FileDevice<R> {
         }
     }
 
-    /// After a call that failed each further one fails.
-    fn refuse_failed(&mut self) -> Result<(), DeviceError>
+    /// Notes that a call failed, unless memory ran out.
+    fn report(&mut self, fault: FileFault) -> DeviceError
         ensures belief { self.new.belief ≡ self.old.belief }
-        ensures writes { self.new.writes ≡ self.old.writes }
-        ensures looks { self.new.looks ≡ self.old.looks }
-        ensures ok { OnOk result (self.new.faults ≡ self.old.faults) }
+        ensures lock { self.new.lock ≡ self.old.lock }
+        ensures disk { self.new.disk ≡ self.old.disk }
         ensures later { self.old.faults ≤ self.new.faults }
-        ensures failed { IsErrOf result Failed → self.old.faults < self.new.faults }
+        ensures counted { result ≡ Failed → self.old.faults < self.new.faults }
     {
-        match self.fault {
-            Some(fault) => Err(self.fail(fault)),
-            None => Ok(()),
+        match fault.cause {
+            Cause::OutOfMemory => DeviceError::OutOfMemory,
+            _ => self.fail(fault),
         }
     }
 }
@@ -203,68 +257,119 @@ impl<R: Files + Drop> Device for FileDevice<R> {
 
     ghost faults = { λ file. file.faults };
 
-    ghost writes = { λ file. file.writes };
+    ghost writes = { λ file. writes_of file.belief };
 
-    ghost looks = { λ file. file.looks };
+    ghost looks = { λ file. looks_of file.belief };
 
     ghost kill_leaves = { λ file. inl refl };
 
-    fn read_from(&mut self, alloc: Global, place: usize) -> Result<Vec<u8>, DeviceError> {
-        self.refuse_failed()?;
-        let expected = self.belief.bytes.len() - place;
-        match self.disk.read(alloc, place, expected) {
-            Ok(bytes) if self.belief.agrees(place, &bytes) => Ok(bytes),
-            Ok(_) => Err(self.fail(FileFault {
-                action: Action::Read,
-                target: Target::Journal,
-                cause: Cause::ReadsOtherwise,
-            })),
-            Err(fault) if fault.cause == Cause::OutOfMemory => Err(DeviceError::OutOfMemory),
-            Err(fault) => Err(self.fail(fault)),
+    fn read_from(&mut self, alloc: Global, place: usize) -> Result<Vec<u8>, DeviceError>
+        requires { place ≤ length self.old.belief.bytes.items }
+        ensures bytes { IfOk result (λ bytes. bytes.items ≡ drop place self.old.belief.bytes.items) }
+        ensures read { IfOk result (λ bytes. IsReadBack place bytes.items self.old.belief self.new.belief) }
+        ensures fits { OnOk result (length self.old.belief.bytes.items < 2 ^ 64) }
+        ensures content { self.new.belief.bytes.items ≡ self.old.belief.bytes.items }
+        ensures writes { writes_of self.new.belief ≡ writes_of self.old.belief }
+        ensures crash { Goes Unchanged (history_of self.old.belief) (history_of self.new.belief) }
+        ensures looks { looks_of self.new.belief ≡ looks_of self.old.belief }
+        ensures faults { TellsFaults self.old.faults self.new.faults result }
+        ensures lock { self.new.lock ≡ self.old.lock }
+        ensures syncs { self.new.disk.syncs ≡ self.old.disk.syncs }
+    {
+        let lock = match some_lock(&self.lock, self.fault) {
+            Ok(lock) => lock,
+            Err(fault) => return Err(self.report(fault)),
+        };
+        match self.belief.read(&mut self.disk.file, lock, alloc, place) {
+            Ok(Some(bytes)) => Ok(bytes),
+            Ok(None) => Err(self.fail(READS_OTHERWISE)),
+            Err(fault) => Err(self.report(fault)),
         }
     }
 
-    fn write_at(&mut self, place: usize, bytes: &[u8]) -> Result<(), DeviceError> {
-        self.refuse_failed()?;
-        self.writes = self.writes.saturating_add(1);
-        self.belief.write(place, bytes)?;
-        match self.disk.write(place, bytes) {
+    fn write_at(&mut self, place: usize, bytes: &[u8]) -> Result<(), DeviceError>
+        requires { place ≤ length self.old.belief.bytes.items }
+        ensures written { OnOk result (self.new.belief.bytes.items ≡ overwritten self.old.belief.bytes.items place bytes.now) }
+        ensures noted { OnOk result (IsWritten place bytes.now self.old.belief self.new.belief) }
+        ensures fits { OnOk result (place + length bytes.now < 2 ^ 64) }
+        ensures crash { Goes (Torn place (length bytes.now)) (history_of self.old.belief) (history_of self.new.belief) }
+        ensures looks { looks_of self.new.belief ≡ looks_of self.old.belief }
+        ensures faults { TellsFaults self.old.faults self.new.faults result }
+        ensures lock { self.new.lock ≡ self.old.lock }
+        ensures syncs { self.new.disk.syncs ≡ self.old.disk.syncs }
+    {
+        let bytes = bytes.to_vec(self.alloc)?;
+        let lock = match own_lock(&self.lock, self.fault) {
+            Ok(lock) => lock,
+            Err(fault) => return Err(self.report(fault)),
+        };
+        match self.belief.write(&mut self.disk.file, lock, place, &bytes) {
             Ok(()) => Ok(()),
-            Err(fault) => Err(self.fail(fault)),
+            Err(fault) => Err(self.report(fault)),
         }
     }
 
-    fn cut(&mut self, size: usize) -> Result<(), DeviceError> {
-        self.refuse_failed()?;
-        self.writes = self.writes.saturating_add(1);
-        self.belief.cut(size)?;
-        match self.disk.cut(size) {
+    fn cut(&mut self, size: usize) -> Result<(), DeviceError>
+        requires { size ≤ length self.old.belief.bytes.items }
+        ensures cut { OnOk result (self.new.belief.bytes.items ≡ take size self.old.belief.bytes.items) }
+        ensures noted { OnOk result (IsCut size self.old.belief self.new.belief) }
+        ensures crash { Goes (Shortened size) (history_of self.old.belief) (history_of self.new.belief) }
+        ensures looks { looks_of self.new.belief ≡ looks_of self.old.belief }
+        ensures faults { TellsFaults self.old.faults self.new.faults result }
+        ensures lock { self.new.lock ≡ self.old.lock }
+        ensures syncs { self.new.disk.syncs ≡ self.old.disk.syncs }
+    {
+        let lock = match own_lock(&self.lock, self.fault) {
+            Ok(lock) => lock,
+            Err(fault) => return Err(self.report(fault)),
+        };
+        match self.belief.cut(&self.disk.file, lock, size) {
             Ok(()) => Ok(()),
-            Err(fault) => Err(self.fail(fault)),
+            Err(fault) => Err(self.report(fault)),
         }
     }
 
-    fn sync(&mut self) -> Result<(), DeviceError> {
-        self.refuse_failed()?;
-        match self.disk.sync() {
-            Ok(()) => Ok(self.belief.settle()?),
-            Err(fault) => {
-                self.disk.write_again(&self.belief.bytes);
-                Err(self.fail(fault))
-            }
+    fn sync(&mut self) -> Result<(), DeviceError>
+        ensures on_disk { OnOk result (IsOnDisk self.old.belief.bytes.items (history_of self.new.belief)) }
+        ensures settled { OnOk result (IsSettled self.old.disk.syncs self.old.belief self.new.belief) }
+        ensures content { self.new.belief.bytes.items ≡ self.old.belief.bytes.items }
+        ensures writes { writes_of self.new.belief ≡ writes_of self.old.belief }
+        ensures crash { Goes Unchanged (history_of self.old.belief) (history_of self.new.belief) }
+        ensures looks { looks_of self.new.belief ≡ looks_of self.old.belief }
+        ensures faults { TellsFaults self.old.faults self.new.faults result }
+        ensures lock { self.new.lock ≡ self.old.lock }
+        ensures syncs { self.new.disk.syncs ≡ self.old.disk.syncs }
+    {
+        let syncs = self.disk.syncs;
+        let lock = match own_lock(&self.lock, self.fault) {
+            Ok(lock) => lock,
+            Err(fault) => return Err(self.report(fault)),
+        };
+        match self.belief.settle(&mut self.disk.file, lock, syncs) {
+            Ok(()) => Ok(()),
+            Err(fault) => Err(self.report(fault)),
         }
     }
 
-    fn replace(&mut self, bytes: &[u8]) -> Result<(), DeviceError> {
-        self.refuse_failed()?;
+    fn replace(&mut self, bytes: &[u8]) -> Result<(), DeviceError>
+        ensures replaced { OnOk result (self.new.belief.bytes.items ≡ bytes.now) }
+        ensures settled { OnOk result (IsReplaced self.old.disk.syncs bytes.now self.old.belief self.new.belief) }
+        ensures fits { OnOk result (length bytes.now < 2 ^ 64) }
+        ensures on_disk { OnOk result (IsOnDisk bytes.now (history_of self.new.belief)) }
+        ensures crash { Goes (UnchangedOr bytes.now) (history_of self.old.belief) (history_of self.new.belief) }
+        ensures looks { looks_of self.new.belief ≡ looks_of self.old.belief }
+        ensures faults { TellsFaults self.old.faults self.new.faults result }
+        ensures lock { self.new.lock ≡ self.old.lock }
+        ensures syncs { self.new.disk.syncs ≡ self.old.disk.syncs }
+    {
         let next = bytes.to_vec(self.alloc)?;
-        self.writes = self.writes.saturating_add(1);
-        match self.disk.replace(bytes) {
-            Ok(()) => Ok(self.belief.replace(next)?),
-            Err(fault) => {
-                self.belief.may_replace(&next)?;
-                Err(self.fail(fault))
-            }
+        let lock = match own_lock(&self.lock, self.fault) {
+            Ok(lock) => lock,
+            Err(fault) => return Err(self.report(fault)),
+        };
+        match self.disk.replace(&mut self.belief, lock, next) {
+            Ok(()) => Ok(()),
+            Err(fault) => Err(self.report(fault)),
         }
     }
 }
@@ -272,24 +377,40 @@ impl<R: Files + Drop> Device for FileDevice<R> {
 impl<R: Files + Drop> Renewable for FileDevice<R> {
     ghost use Rattle.file_journal.specs.Renewed.{IsRenewedTo};
 
+    type Turn = FolderLock;
+
     /// Reads the bytes behind the first `kept` ones, if the file that has the journal's path now is this one. If it is
     /// another, that one is read and compared, and later calls go to it. Calls that failed before are forgotten. After an
     /// error each further call fails, until one of this method is `Ok`.
-    fn renew(&mut self, kept: usize) -> Result<Renewed, DeviceError>
+    fn renew(&mut self, turn: FolderLock, kept: usize) -> Result<Renewed, DeviceError>
         requires within { kept ≤ length self.old.belief.bytes.items }
         ensures renewed { IfOk result (IsRenewedTo kept self.old.belief self.new.belief) }
+        ensures lock { self.new.lock ≡ Some turn }
+        ensures syncs { self.new.disk.syncs ≡ self.old.disk.syncs }
         ensures works { OnOk result (self.new.fault ≡ None) }
         ensures fails { OnErr result (self.new.fault ≢ None) }
-        ensures writes { self.new.writes ≡ self.old.writes }
-        ensures looks { OnOk result (self.old.looks < self.new.looks) }
+        ensures writes { writes_of self.new.belief ≡ writes_of self.old.belief }
+        ensures looks { OnOk result (looks_of self.old.belief < looks_of self.new.belief) }
         ensures faults { TellsFaults self.old.faults self.new.faults result }
     {
-        match self.read_anew(kept) {
+        let looked = self.disk.look(&mut self.belief, &turn, self.alloc, kept);
+        self.lock = Some(turn);
+        match looked {
             Ok(renewed) => {
                 self.fault = None;
                 Ok(renewed)
             }
-            Err(error) => Err(self.fail(fault_of(error))),
+            Err(fault) => Err(self.fail(fault)),
         }
+    }
+
+    fn rest(&mut self)
+        ensures belief { self.new.belief ≡ self.old.belief }
+        ensures lock { self.new.lock ≡ None }
+        ensures disk { self.new.disk ≡ self.old.disk }
+        ensures faults { self.new.faults ≡ self.old.faults }
+        ensures fault { self.new.fault ≡ self.old.fault }
+    {
+        self.lock = None;
     }
 }

@@ -1,9 +1,19 @@
+ghost use Rattle.std.specs.Prelude.{◌≡◌, ◌+◌, ◌≤◌, length, IfOk, OnOk};
+ghost use Rattle.line_journal.specs.Device.{UnchangedOr, IsOnDisk, Goes};
+ghost use Rattle.file_journal.specs.Belief.{history_of, IsReplaced};
+ghost use Rattle.file_journal.specs.Counts.{looks_of, writes_of};
+ghost use Rattle.file_journal.specs.Renewed.{IsRenewedTo};
+ghost use Rattle.file_journal.specs.declared.lock.LockKind.TheVariants.{Exclusive};
+
+use crate::belief::Belief;
 use crate::fault::{Action, Cause, FileFault, Target};
 use crate::folder_names::FolderNames;
-use crate::new_file::create_like;
+use crate::lock::FolderLock;
+use crate::new_file::{SyncedFile, WrittenFile};
+use line_journal::Renewed;
 use std::alloc::{AllocError, Global};
 use std::fs::{self, File, OpenFile};
-use std::io::{self, Read, Seek, SeekFrom, Write};
+use std::io;
 use std::os::unix::fs::MetadataExt;
 use std::rt::Files;
 
@@ -31,8 +41,9 @@ pub(crate) fn path_in(
 #[derive(Drop)]
 pub(crate) struct Paths {
     folder: String,
-    journal: String,
-    new_journal: String,
+    pub(crate) journal: String,
+    /// The file that is to take its place.
+    pub(crate) new_journal: String,
 }
 
 impl Paths {
@@ -50,31 +61,11 @@ fn open_names<R: Files>(
     rt: &R,
     paths: &Paths,
     syncs: Syncs,
-) -> Result<FolderNames<R::File>, FileFault> {
+) -> Result<FolderNames<R::File>, FileFault>
+    ensures { IfOk result (λ names. names.syncs ≡ syncs) }
+{
     let opened = FolderNames::open(rt, paths.folder.as_str(), syncs);
     opened.map_err(|error| FileFault::of(Action::Open, Target::Folder, &error))
-}
-
-/// The names in the folder of a journal did not come to the disk.
-fn unsynced(error: io::Error) -> FileFault {
-    FileFault::of(Action::Sync, Target::Folder, &error)
-}
-
-fn read_bytes<F: Read + Seek>(
-    alloc: Global,
-    file: &mut F,
-    place: u64,
-    room: usize,
-) -> io::Result<Vec<u8>> {
-    file.seek(SeekFrom::Start(place))?;
-    let mut bytes = Vec::with_capacity(alloc, room)?;
-    file.read_to_end(&mut bytes)?;
-    Ok(bytes)
-}
-
-fn write_bytes<F: Write + Seek>(file: &mut F, place: u64, bytes: &[u8]) -> io::Result<()> {
-    file.seek(SeekFrom::Start(place))?;
-    file.write_all(bytes)
 }
 
 /// Opens a journal's file, to read and to write.
@@ -94,18 +85,20 @@ fn open_file<R: Files>(rt: &R, path: &str) -> Result<R::File, FileFault> {
     }
 }
 
-/// A journal's file, by the calls of the system. Each method makes its call, and reports what failed.
+/// A journal's file in its folder.
 #[derive(Drop)]
 pub(crate) struct DiskFile<R: Files + Drop> {
     rt: R,
-    file: R::File,
+    pub(crate) file: R::File,
     paths: Paths,
-    syncs: Syncs,
+    pub(crate) syncs: Syncs,
 }
 
 impl<R: Files + Drop> DiskFile<R> {
     /// Opens the file that is there, to read and to write.
-    pub(crate) fn open(rt: R, paths: Paths, syncs: Syncs) -> Result<Self, FileFault> {
+    pub(crate) fn open(rt: R, paths: Paths, syncs: Syncs) -> Result<Self, FileFault>
+        ensures { IfOk result (λ disk. disk.syncs ≡ syncs) }
+    {
         let file = open_file(&rt, paths.journal.as_str())?;
         Ok(DiskFile {
             rt,
@@ -116,7 +109,7 @@ impl<R: Files + Drop> DiskFile<R> {
     }
 
     /// Whether the file that has the journal's path now is this one, and has so many bytes or more.
-    pub(crate) fn is_there(&self, least: usize) -> Result<bool, FileFault> {
+    fn is_there(&self, least: usize) -> Result<bool, FileFault> {
         let there = fs::metadata(&self.rt, self.paths.journal.as_str());
         let there = there.map_err(|error| FileFault::of(Action::Open, Target::Journal, &error))?;
         let known = self.file.metadata();
@@ -125,97 +118,79 @@ impl<R: Files + Drop> DiskFile<R> {
         Ok(is_same && there.len() >= least as u64)
     }
 
-    /// Opens the file that has the journal's path now. Later calls go to that one.
-    pub(crate) fn reopen(&mut self) -> Result<(), FileFault> {
-        self.file = open_file(&self.rt, self.paths.journal.as_str())?;
-        Ok(())
-    }
-
-    /// Makes an empty file, if none is there.
-    pub(crate) fn create(rt: R, paths: Paths, syncs: Syncs) -> Result<Self, FileFault> {
-        let names = open_names(&rt, &paths, syncs)?;
-        let made = File::create_new(&rt, paths.journal.as_str());
-        let file = made.map_err(|error| FileFault::of(Action::Create, Target::Journal, &error))?;
-        let made = DiskFile {
-            rt,
-            file,
-            paths,
-            syncs,
-        };
-        made.sync()?;
-        names.sync().map_err(unsynced)?;
-        Ok(made)
-    }
-
-    /// All bytes from a place on. So many are expected.
-    pub(crate) fn read(
+    /// Looks at what others made of the file that has the journal's path now. Later calls go to that one.
+    pub(crate) fn look(
         &mut self,
+        belief: &mut Belief,
+        lock: &FolderLock,
         alloc: Global,
-        place: usize,
-        expected: usize,
-    ) -> Result<Vec<u8>, FileFault> {
-        let room = expected.saturating_add(64);
-        let read = read_bytes(alloc, &mut self.file, place as u64, room);
-        read.map_err(|error| FileFault::of(Action::Read, Target::Journal, &error))
-    }
-
-    pub(crate) fn write(&mut self, place: usize, bytes: &[u8]) -> Result<(), FileFault> {
-        let written = write_bytes(&mut self.file, place as u64, bytes);
-        written.map_err(|error| FileFault::of(Action::Write, Target::Journal, &error))
-    }
-
-    pub(crate) fn cut(&mut self, size: usize) -> Result<(), FileFault> {
-        let cut = self.file.set_len(size as u64);
-        cut.map_err(|error| FileFault::of(Action::Cut, Target::Journal, &error))
-    }
-
-    pub(crate) fn sync(&self) -> Result<(), FileFault> {
-        match self.syncs {
-            Syncs::Kept => {
-                let synced = self.file.sync_all();
-                synced.map_err(|error| FileFault::of(Action::Sync, Target::Journal, &error))
-            }
-            Syncs::LeftOut => Ok(()),
+        kept: usize,
+    ) -> Result<Renewed, FileFault>
+        requires { kept ≤ length belief.old.bytes.items }
+        ensures renewed { IfOk result (IsRenewedTo kept belief.old belief.new) }
+        ensures looks { OnOk result (looks_of belief.new ≡ looks_of belief.old + 1) }
+        ensures writes { writes_of belief.new ≡ writes_of belief.old }
+        ensures syncs { self.new.syncs ≡ self.old.syncs }
+    {
+        if self.is_there(kept)? {
+            return belief.look(&mut self.file, lock, alloc, kept);
         }
-    }
-
-    /// Writes all bytes of the file again, as they are, after a sync that failed. The system may take for written what did not come
-    /// to the disk: then the next sync, whoever makes it, would write nothing, and succeed.
-    pub(crate) fn write_again(&mut self, bytes: &[u8]) {
-        let _ = write_bytes(&mut self.file, 0, bytes);
+        self.file = open_file(&self.rt, self.paths.journal.as_str())?;
+        belief.look_at_other(&mut self.file, lock, alloc, kept)
     }
 
     /// Writes a new file, with the owner and the rights of the one that is there, and brings it to the disk, also where nothing
     /// else is waited for: others may have waited for what the one that is there has.
-    fn write_new(&self, bytes: &[u8]) -> io::Result<R::File> {
+    fn write_new(&self, bytes: &Vec<u8>) -> io::Result<SyncedFile<R::File>>
+        ensures { IfOk result (λ new. new.bytes.value ≡ bytes.now) }
+    {
         let known = self.file.metadata()?;
-        let mut new = create_like(&self.rt, self.paths.new_journal.as_str(), &known)?;
-        new.write_all(bytes)?;
-        new.sync_all()?;
-        Ok(new)
+        let path = self.paths.new_journal.as_str();
+        WrittenFile::write(&self.rt, path, &known, bytes)?.sync()
     }
 
-    /// Writes a new file of these bytes, and gives it the path of this one.
-    fn put_new(&self, bytes: &[u8]) -> Result<R::File, FileFault> {
-        let new = self.write_new(bytes);
+    /// Puts a new file of these bytes in the place of this one.
+    fn put_new(
+        &mut self,
+        belief: &mut Belief,
+        lock: &FolderLock,
+        bytes: Vec<u8>,
+    ) -> Result<(), FileFault>
+        requires { lock.now.kind ≡ Exclusive }
+        ensures replaced { OnOk result (belief.new.bytes.items ≡ bytes.items) }
+        ensures on_disk { OnOk result (IsOnDisk bytes.items (history_of belief.new)) }
+        ensures settled { OnOk result (IsReplaced self.old.syncs bytes.items belief.old belief.new) }
+        ensures crash { Goes (UnchangedOr bytes.items) (history_of belief.old) (history_of belief.new) }
+        ensures looks { looks_of belief.new ≡ looks_of belief.old }
+        ensures syncs { self.new.syncs ≡ self.old.syncs }
+    {
+        let names = open_names(&self.rt, &self.paths, self.syncs)?;
+        let new = self.write_new(&bytes);
         let new = new.map_err(|error| FileFault::of(Action::Write, Target::NewJournal, &error))?;
-        let (from, to) = (self.paths.new_journal.as_str(), self.paths.journal.as_str());
-        let renamed = fs::rename(&self.rt, from, to);
-        renamed.map_err(|error| FileFault::of(Action::Rename, Target::NewJournal, &error))?;
-        Ok(new)
+        self.file = belief.replace(&self.rt, lock, &names, new, &self.paths, bytes)?;
+        Ok(())
     }
 
     /// Puts a new file of these bytes in the place of this one. Nothing is done if the folder cannot be opened, which would
     /// leave the new name to a crash. What was written of a new file that does not come to its place is removed.
-    pub(crate) fn replace(&mut self, bytes: &[u8]) -> Result<(), FileFault> {
-        let names = open_names(&self.rt, &self.paths, self.syncs)?;
-        match self.put_new(bytes) {
-            Ok(new) => self.file = new,
-            Err(fault) => {
-                let _ = fs::remove_file(&self.rt, self.paths.new_journal.as_str());
-                return Err(fault);
-            }
+    pub(crate) fn replace(
+        &mut self,
+        belief: &mut Belief,
+        lock: &FolderLock,
+        bytes: Vec<u8>,
+    ) -> Result<(), FileFault>
+        requires { lock.now.kind ≡ Exclusive }
+        ensures replaced { OnOk result (belief.new.bytes.items ≡ bytes.items) }
+        ensures on_disk { OnOk result (IsOnDisk bytes.items (history_of belief.new)) }
+        ensures settled { OnOk result (IsReplaced self.old.syncs bytes.items belief.old belief.new) }
+        ensures crash { Goes (UnchangedOr bytes.items) (history_of belief.old) (history_of belief.new) }
+        ensures looks { looks_of belief.new ≡ looks_of belief.old }
+        ensures syncs { self.new.syncs ≡ self.old.syncs }
+    {
+        let put = self.put_new(belief, lock, bytes);
+        if put.is_err() {
+            let _ = fs::remove_file(&self.rt, self.paths.new_journal.as_str());
         }
-        names.sync().map_err(unsynced)
+        put
     }
 }

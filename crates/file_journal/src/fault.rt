@@ -2,6 +2,7 @@ ghost use Rattle.std.specs.Prelude.{◌≡◌};
 ghost use Rattle.std.specs.IoError.{error_kind, raw_os_error};
 ghost use Rattle.file_journal.specs.Faults.{cause_of};
 
+use std::alloc::AllocError;
 use std::fmt;
 use std::io::{self, ErrorKind};
 
@@ -42,6 +43,8 @@ pub enum Cause {
     /// Another wrote to it, or the disk lost what was written.
     ReadsOtherwise,
     OutOfMemory,
+    /// The lock of its folder is not held, or others that read have it too.
+    NotLocked,
     /// Anything else, and the system's number of it (errno(3)), if it has one.
     Other(ErrorKind, Option<i32>),
 }
@@ -83,6 +86,7 @@ impl fmt::Display for Cause {
             Cause::NoFile => f.write_str("it is no file"),
             Cause::ReadsOtherwise => f.write_str("it does not read as it was written"),
             Cause::OutOfMemory => f.write_str("out of memory"),
+            Cause::NotLocked => f.write_str("its folder is not locked"),
             Cause::Other(_, Some(number)) => {
                 fmt::Display::fmt(&io::Error::from_raw_os_error(*number), f)
             }
@@ -129,6 +133,20 @@ impl FileFault {
             action,
             target,
             cause: Cause::of(error),
+        }
+    }
+}
+
+impl From<AllocError> for FileFault {
+    ghost use Rattle.file_journal.specs.declared.fault.Cause.TheVariants.{OutOfMemory};
+
+    ghost from_gives = { λ _ fault. fault.cause ≡ OutOfMemory };
+
+    fn from(_: AllocError) -> Self {
+        FileFault {
+            action: Action::Read,
+            target: Target::Journal,
+            cause: Cause::OutOfMemory,
         }
     }
 }

@@ -2,7 +2,7 @@
 #![tactic(auto)]
 
 mod belief;
-mod call;
+mod calls;
 mod device;
 mod disk_file;
 mod fault;
@@ -11,7 +11,7 @@ mod lock;
 mod new_file;
 mod overwrite;
 
-pub use device::{FileDevice, OpenError};
+pub use device::{FileDevice, OpenError, Unopened};
 pub use disk_file::Syncs;
 pub use fault::{Action, Cause, FileFault, Target};
 pub use folder_names::FolderNames;

@@ -1,3 +1,5 @@
+ghost use Rattle.std.specs.Prelude.{◌≡◌, IfOk};
+
 use crate::disk_file::path_in;
 use crate::fault::{Action, FileFault, Target};
 use std::alloc::{AllocError, Global};
@@ -52,9 +54,11 @@ impl From<AllocError> for LockError {
     }
 }
 
-/// The lock of a folder, which is flock(2) on the file `lock` in it. It is given back when it is dropped.
+/// The lock of a folder, which is flock(2) on the file `lock` in it. It is given back when it is dropped. It is the permit for
+/// calls of the folder's journal: that `kind` is what was taken is trusted.
 #[derive(Drop)]
 pub struct FolderLock {
+    pub(crate) kind: LockKind,
     file: File,
 }
 
@@ -131,7 +135,9 @@ impl FolderLock {
         folder: &str,
         kind: LockKind,
         seconds: u32,
-    ) -> Result<Self, LockError> {
+    ) -> Result<Self, LockError>
+        ensures { IfOk result (λ lock. lock.kind ≡ kind) }
+    {
         let path = path_in(alloc, folder, "lock", "")?;
         let start = Instant::now(rt).map_err(failed)?;
         let limit = Duration::from_secs(u64::from(seconds));
@@ -141,7 +147,7 @@ impl FolderLock {
                 break;
             }
             if has_path(rt, &file, path.as_str()).map_err(failed)? {
-                return Ok(FolderLock { file });
+                return Ok(FolderLock { kind, file });
             }
         }
         Err(LockError::Held)
@@ -149,6 +155,6 @@ impl FolderLock {
 
     /// Gives the lock back.
     pub fn release(self) {
-        let FolderLock { file: _ } = self;
+        let FolderLock { kind: _, file: _ } = self;
     }
 }

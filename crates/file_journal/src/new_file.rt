@@ -1,9 +1,11 @@
 //! Files that are made in the place of what stands at a path.
+ghost use Rattle.std.specs.Prelude.{◌≡◌, IfOk};
 
 use std::fs::{self, File, Metadata, OpenFile, Permissions};
-use std::io::{self, ErrorKind};
+use std::io::{self, ErrorKind, Write};
 use std::os::unix::fs::{MetadataExt, OpenOptionsExt, PermissionsExt, lchown};
 use std::rt::Files;
+use std::snapshot::Snapshot;
 
 /// Removes what stands at a path: a process that was killed may have left it. Where it is a link, what that leads to is not
 /// touched.
@@ -86,5 +88,49 @@ pub fn create_like<R: Files>(rt: &R, path: &str, known: &Metadata) -> io::Result
             let _ = fs::remove_file(rt, path);
             Err(error)
         }
+    }
+}
+
+/// A new file that has these bytes, and is not on the disk yet.
+#[derive(Drop)]
+pub(crate) struct WrittenFile<F: Drop> {
+    file: F,
+    bytes: Snapshot<Vec<u8>>,
+}
+
+/// A new file that has these bytes, and is on the disk.
+#[derive(Drop)]
+pub(crate) struct SyncedFile<F: Drop> {
+    pub(crate) file: F,
+    pub(crate) bytes: Snapshot<Vec<u8>>,
+}
+
+impl<F: OpenFile + Write + Drop> WrittenFile<F> {
+    /// Makes a file as `create_like` does, and writes bytes to it.
+    pub(crate) fn write<R: Files<File = F>>(
+        rt: &R,
+        path: &str,
+        known: &Metadata,
+        bytes: &Vec<u8>,
+    ) -> io::Result<Self>
+        ensures { IfOk result (λ new. new.bytes.value ≡ bytes.now) }
+    {
+        let mut file = create_like(rt, path, known)?;
+        file.write_all(bytes)?;
+        Ok(WrittenFile {
+            file,
+            bytes: Snapshot::of(bytes),
+        })
+    }
+
+    /// Waits until it is on the disk: fsync(2).
+    pub(crate) fn sync(self) -> io::Result<SyncedFile<F>>
+        ensures { IfOk result (λ new. new.bytes ≡ self.bytes) }
+    {
+        self.file.sync_all()?;
+        Ok(SyncedFile {
+            file: self.file,
+            bytes: self.bytes,
+        })
     }
 }

@@ -1,8 +1,11 @@
 -- What a tenure answered, of a table that some journal stands for.
-use Rattle.std.proofs.Common.{arith, ◌≡◌, refl, sym, ap, subst, ◌∙◌, inr, ℕ, ◌+◌, ◌≤◌, List, ◌++◌, length, map, take, drop, Vec, Result, Ok, Err, IfOk, OnErr}
+use Rattle.std.proofs.Common.{arith, ◌≡◌, refl, sym, ap, subst, ◌∙◌, inr, ℕ, ◌+◌, ◌^◌, ◌<◌, ◌≤◌, List, [], ◌∷◌, ◌++◌, length, map, take, drop, Vec, Result, Ok, Err, IfOk, OnErr}
 use Rattle.std.specs.declared.alloc.Global.{Global}
 use Rattle.std.proofs.lemmas.List.{take-append-le, take-append-drop, take-map, length-append, length-map}
-use Rattle.line_journal.specs.Lines.{bytes_of}
+use Rattle.line_journal.specs.Lines.{bytes_of, lines_of, open_text, at_rest}
+use Rattle.line_journal.specs.Journal.{IsFound}
+use Rattle.line_journal.specs.declared.reading.Found.{Found}
+use Rattle.line_journal.proofs.FollowLemmas.{reads_at_rest}
 use Rattle.modprobe.specs.Setup.{Setup}
 use Rattle.held_table.specs.Held.{Held}
 use Rattle.held_lines.specs.declared.reply.HeldReply.{HeldReply}
@@ -48,13 +51,19 @@ pub reads_err : {E D : Type 0} {content : D → List ℕ} {journal : Chained D} 
 reads_err {content = content} {journal = journal} s h lines old new result reads = over_err s h (content journal.lines.device) lines old new result reads.same
 
 -- the journal of a table stands for it on the disk
-pub stands_ok : {E D : Type 0} {content : D → List ℕ} {history : D → History} {journal : Chained D} (s : Setup) (h : Held) (lines : List (List ℕ)) (old new : Replies) (result : Result ℕ E)
-    → Stands content history s h journal → IfOk result (λ count. HasAnswered s h (take count lines) old new) → IfOk result (λ count. HasAnsweredOver s (take count lines) old new)
-stands_ok {content = content} {journal = journal} s h lines old new result stands = over_ok s h (content journal.lines.device) lines old new result stands.same
+pub stands_over : {D : Type 0} {content : D → List ℕ} {history : D → History} {journal : Chained D} (s : Setup) (h : Held) (lines : List (List ℕ)) (old new : Replies)
+    → Stands content history s h journal → HasAnswered s h lines old new → HasAnsweredOver s lines old new
+stands_over {content = content} {journal = journal} s h lines old new stands = answered_over s h (content journal.lines.device) lines old new stands.same
 
-pub stands_err : {E D : Type 0} {content : D → List ℕ} {history : D → History} {journal : Chained D} (s : Setup) (h : Held) (lines : List (List ℕ)) (old new : Replies) (result : Result ℕ E)
-    → Stands content history s h journal → OnErr result (HasAnsweredFirst s h lines old new) → OnErr result (HasStopped s lines old new)
-stands_err {content = content} {journal = journal} s h lines old new result stands = over_err s h (content journal.lines.device) lines old new result stands.same
+pub stands_stopped : {D : Type 0} {content : D → List ℕ} {history : D → History} {journal : Chained D} (s : Setup) (h : Held) (lines : List (List ℕ)) (old new : Replies)
+    → Stands content history s h journal → HasAnsweredFirst s h lines old new → HasStopped s lines old new
+stands_stopped {content = content} {journal = journal} s h lines old new stands = stopped_over s h (content journal.lines.device) lines old new stands.same
+
+-- a journal behind whose lines nothing but a closed gate was found is at rest
+pub found_whole : (file later : List ℕ) (found : Found) → IsFound file found → found.behind.items ≡ 32 ∷ [] → length file < 2 ^ 64 → later ≡ file
+    → later ≡ at_rest (lines_of later)
+found_whole file later found is shut fits same =
+    subst (λ f. f ≡ at_rest (lines_of f)) (sym same) (reads_at_rest file (length (open_text (lines_of file))) refl (sym is.rest ∙ shut) fits).whole
 
 -- some file stands for such a table
 pub stands_for : {D : Type 0} {content : D → List ℕ} {history : D → History} {journal : Chained D} (s other : Setup) (h : Held)

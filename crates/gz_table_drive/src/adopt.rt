@@ -42,15 +42,17 @@ fn adopt_file<R: Files + Drop>(
 fn adopt_into<'r, R: Files<File = File> + Clock + AllocGlobal>(
     shared: &Shared<'r, R>,
     setup: &Setup,
-    table: &mut FileTable<'_, &'r R>,
+    mut table: FileTable<'_, &'r R>,
     kernel: &[KernelModule],
     replies: &mut Replies,
 ) -> Result<(), TableFault>
-    requires { Stands ⟦<FileDevice<&'r R> as Device>⟧.content ⟦<FileDevice<&'r R> as Device>⟧.history table.old.session.setup.now table.old.session.holders.held table.old.journal }
-    ensures { OnOk result (HasAdopted table.old.session.setup.now table.old.session.holders.held kernel.now replies.old replies.new) }
+    requires { Stands ⟦<FileDevice<&'r R> as Device>⟧.content ⟦<FileDevice<&'r R> as Device>⟧.history table.session.setup.now table.session.holders.held table.journal }
+    ensures { OnOk result (HasAdopted table.entry.session.setup.now table.entry.session.holders.held kernel.now replies.old replies.new) }
 {
-    let adopted = adopt_file(shared.alloc(), table, kernel, replies);
-    cut_unwritten(shared, setup, &adopted);
+    let adopted = adopt_file(shared.alloc(), &mut table, kernel, replies);
+    if let Err(fault) = &adopted {
+        cut_unwritten(shared, setup, fault, table.into_device());
+    }
     adopted
 }
 
@@ -70,10 +72,8 @@ pub(crate) fn adopt<R: Files<File = File> + Clock + AllocGlobal, I: Read, E: Wri
     let lock = shared.with_setup(&setup).lock(LockKind::Exclusive)?;
     let text = listed_text(shared.rt, listing, teller)?;
     let kernel = modules_of(alloc, &text, teller)?;
-    let mut table = changing_table(shared, &mut Kept::new(&setup.setup), teller)?;
+    let table = changing_table(shared, &mut Kept::new(&setup.setup), lock, teller)?;
     let mut replies = Replies::new(alloc);
-    let adopted = adopt_into(shared, &setup.setup, &mut table, &kernel, &mut replies);
-    lock.release();
-    adopted?;
+    adopt_into(shared, &setup.setup, table, &kernel, &mut replies)?;
     Ok(replies)
 }

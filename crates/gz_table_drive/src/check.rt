@@ -100,7 +100,7 @@ pub(crate) fn check<R: Files<File = File> + Clock + AllocGlobal>(
     let found = read_setup(shared)?;
     let setup = &found.setup;
     let lock = shared.with_setup(&found).lock(LockKind::Shared)?;
-    let bytes = read_journal(shared)?;
+    let bytes = read_journal(shared, &lock)?;
     let cut = cut_length(shared)?;
     lock.release();
     let loaded = listing(alloc, setup, &bytes, b"proc")?;

@@ -1,16 +1,17 @@
 //! The journal of a folder is written anew.
-ghost use Rattle.std.specs.Prelude.{◌≡◌, true, Ok, IsErrOf, OnOk};
+ghost use Rattle.std.specs.Prelude.{◌≡◌, true, Ok, IsErrOf, IfOk, OnOk};
 ghost use Rattle.line_journal.specs.Device.{AlwaysLeaves};
 ghost use Rattle.line_journal.specs.Journal.{lines_in};
 ghost use Rattle.durable_table.specs.Durable.{Stands, FileStands};
 ghost use Rattle.durable_table.specs.Compacting.{compacted, CanBeRemade};
+ghost use Rattle.file_journal.specs.declared.lock.LockKind.TheVariants.{Exclusive};
 
 use crate::kept::Kept;
 use crate::opening::no_holders;
-use crate::tenure::changing_table;
+use crate::tenure::{FileTable, changing_table};
 use durable_table::{Compacted, DurableTable, PerformError};
-use file_journal::LockKind;
-use line_journal::{DeviceError, Renewable};
+use file_journal::{FileDevice, FolderLock, LockKind};
+use line_journal::{Device, DeviceError, Renewable};
 use modprobe::Setup;
 use std::alloc::Global;
 use std::fs::File;
@@ -62,23 +63,35 @@ pub(crate) fn shorten<D: Renewable + Drop>(
     compact_table(alloc, setup, table).is_ok()
 }
 
-/// Writes the journal of a folder anew, as the lines that make its table.
-pub(crate) fn compact<R: Files<File = File> + Clock + AllocGlobal, E: Write>(
-    shared: &Shared<'_, R>,
+/// The table of a folder, once its journal was written anew as the lines that make it, unless it was kept.
+fn compacted_table<'s, 'r, R: Files<File = File> + Clock + AllocGlobal, E: Write>(
+    shared: &Shared<'r, R>,
+    setup: &'s Setup,
+    lock: FolderLock,
     teller: &mut Teller<'_, E>,
-) -> Result<Compacted, TableFault> {
-    let alloc = shared.alloc();
-    let setup = read_setup(shared)?;
-    let mut kept = Kept::new(&setup.setup);
-    let lock = shared.with_setup(&setup).lock(LockKind::Exclusive)?;
-    let mut table = changing_table(shared, &mut kept, teller)?;
-    let compacted = compact_table(alloc, kept.setup(), &mut table);
-    lock.release();
-    match compacted {
-        Ok(compacted) => Ok(compacted),
+) -> Result<(FileTable<'s, &'r R>, Compacted), TableFault>
+    requires { lock.kind ≡ Exclusive }
+    ensures written { IfOk result (λ made. made.1 ≡ Compacted.Done → lines_in ⟦<FileDevice<&'r R> as Device>⟧.content made.0.journal.lines ≡ compacted setup.now made.0.session.holders.held) }
+    ensures needed { IfOk result (λ made. made.1 ≡ Compacted.Kept → CanBeRemade setup.now made.0.session.holders.held → ⊥) }
+    ensures stands { IfOk result (λ made. Stands ⟦<FileDevice<&'r R> as Device>⟧.content ⟦<FileDevice<&'r R> as Device>⟧.history setup.now made.0.session.holders.held made.0.journal) }
+{
+    let mut table = changing_table(shared, &mut Kept::new(setup), lock, teller)?;
+    match compact_table(shared.alloc(), setup, &mut table) {
+        Ok(compacted) => Ok((table, compacted)),
         Err(PerformError::Device(DeviceError::Failed)) => Err(journal_fault(
             table.device().fault(),
         )),
         Err(_) => Err(TableFault::OutOfMemory),
     }
+}
+
+/// Writes the journal of a folder anew, as the lines that make its table.
+pub(crate) fn compact<R: Files<File = File> + Clock + AllocGlobal, E: Write>(
+    shared: &Shared<'_, R>,
+    teller: &mut Teller<'_, E>,
+) -> Result<Compacted, TableFault> {
+    let setup = read_setup(shared)?;
+    let lock = shared.with_setup(&setup).lock(LockKind::Exclusive)?;
+    let (_, compacted) = compacted_table(shared, &setup.setup, lock, teller)?;
+    Ok(compacted)
 }

@@ -1,8 +1,11 @@
 //! How a table is made.
-ghost use Rattle.std.specs.Prelude.{◌≡◌, IfOk};
+ghost use Rattle.std.specs.Prelude.{◌≡◌, [], ◌∷◌, IfOk};
+ghost use Rattle.line_journal.specs.Lines.{at_rest};
+ghost use Rattle.durable_table.specs.Commands.{head};
+ghost use Rattle.file_journal.specs.declared.lock.LockKind.TheVariants.{Exclusive};
 
-use file_journal::LockKind;
-use line_journal::DeviceError;
+use file_journal::{FileDevice, FolderLock, LockKind};
+use line_journal::{Device, DeviceError};
 use std::env::Env;
 use std::fs::File;
 use std::io::Write;
@@ -14,18 +17,22 @@ use table_folder::{
 };
 use table_words::{Ending, Origin};
 
-/// Writes the journal of a new table. One that has commands stays as it is.
-fn write_journal<R: Files<File = File> + Clock + AllocGlobal>(
-    shared: &Shared<'_, R>,
+/// Writes the journal of a new table, which has the lock then. One that has commands stays as it is.
+fn write_journal<'r, R: Files<File = File> + Clock + AllocGlobal>(
+    shared: &Shared<'r, R>,
+    lock: FolderLock,
     mode: u32,
-) -> Result<(), TableFault> {
-    let mut device = make_journal(shared, mode)?;
+) -> Result<FileDevice<&'r R>, TableFault>
+    requires { lock.kind ≡ Exclusive }
+    ensures { IfOk result (λ device. ⟦<FileDevice<&'r R> as Device>⟧.content device ≡ at_rest (head ∷ [])) }
+{
+    let mut device = make_journal(shared, lock, mode)?;
     let found = found_in(shared.alloc(), &mut device)?;
     if found.lines.len() > 1 || !(found.behind.is_empty() || found.is_at_rest()) {
         return Err(TableFault::UsedJournal);
     }
     match durable_table::create(&mut device) {
-        Ok(()) => Ok(()),
+        Ok(()) => Ok(device),
         Err(DeviceError::OutOfMemory) => Err(TableFault::OutOfMemory),
         Err(DeviceError::Failed) => Err(journal_fault(device.fault())),
     }
@@ -43,9 +50,9 @@ fn write_table<R: Files<File = File> + Clock + AllocGlobal>(
     if shared.has_setup()? {
         return Err(TableFault::ThereAlready);
     }
-    write_journal(shared, mode)?;
+    let device = write_journal(shared, lock, mode)?;
     write_setup(shared, setup, mode)?;
-    lock.release();
+    drop(device.into_lock());
     Ok(())
 }
 

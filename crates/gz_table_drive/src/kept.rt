@@ -18,15 +18,28 @@ pub(crate) struct Kept<'s, D: Device + Drop> {
     ghost reads: { IfSome table (λ t. Reads D.content setup.now t.session.holders.held t.journal) } by { Prim.hlevel props },
 }
 
-/// What there is of a table that is kept, once it is taken.
+/// What there is of a table that is kept, once it is taken. Its device has the turn.
 #[derive(Drop)]
-pub(crate) enum Taken<'s, D: Device + Drop> {
+pub(crate) enum Taken<'s, D: Renewable + Drop> {
     /// The table, with all that others have made of its journal since.
     Table(DurableTable<'s, D>),
     /// The journal is another one, or is not at rest. The table is to be opened anew over its device.
     Anew(D),
-    /// No table was kept, or it failed.
-    Missing,
+    /// It could not be looked at. The table is to be opened anew over its device, once that has read the file again.
+    Failed(D),
+    /// No table was kept. The turn is handed back.
+    Missing(D::Turn),
+}
+
+/// A table whose turn is over.
+#[tactic(auto, using(durable_table::proofs::KeptLemmas::rested))]
+pub(crate) fn rested<'s, D: Renewable + Drop>(mut table: DurableTable<'s, D>) -> DurableTable<'s, D>
+    requires reads { Reads D.content table.session.setup.now table.session.holders.held table.journal }
+    ensures reads { Reads D.content table.entry.session.setup.now result.session.holders.held result.journal }
+    ensures session { result.session ≡ table.entry.session }
+{
+    table.rest();
+    table
 }
 
 impl<'s, D: Renewable + Drop> Kept<'s, D> {
@@ -44,27 +57,27 @@ impl<'s, D: Renewable + Drop> Kept<'s, D> {
         self.setup
     }
 
-    /// Takes the table. None is kept then.
-    pub(crate) fn take(&mut self, alloc: Global) -> Taken<'s, D>
-        ensures taken { IsTaken D.content self.old.setup.now result }
+    /// The turn of this process begins: takes the table, and looks at what others have made of its journal. None is kept then.
+    pub(crate) fn take(&mut self, alloc: Global, turn: D::Turn) -> Taken<'s, D>
+        ensures taken { IsTaken D.content D.looks self.old.setup.now self.old.table result }
         ensures setup { self.new.setup.now ≡ self.old.setup.now }
     {
         let Some(mut table) = self.table.take() else {
-            return Taken::Missing;
+            return Taken::Missing(turn);
         };
-        match table.catch_up(alloc) {
+        match table.catch_up(alloc, turn) {
             Ok(CaughtUp::Ready) => Taken::Table(table),
             Ok(CaughtUp::Anew) => Taken::Anew(table.into_device()),
-            Err(_) => Taken::Missing,
+            Err(_) => Taken::Failed(table.into_device()),
         }
     }
 
-    /// Keeps a table that reads as its journal does.
+    /// The turn of this process is over: keeps a table that reads as its journal does.
     pub(crate) fn keep(&mut self, table: DurableTable<'s, D>)
         requires of_setup { table.session.setup.now ≡ self.old.setup.now }
         requires reads { Reads D.content self.old.setup.now table.session.holders.held table.journal }
         ensures { self.new.setup.now ≡ self.old.setup.now }
     {
-        self.table = Some(table);
+        self.table = Some(rested(table));
     }
 }

@@ -2,14 +2,15 @@
 ghost use Rattle.std.specs.Prelude.{◌≡◌, ◌≢◌, ◌⊎◌, [], ◌∷◌, Some, IfOk, IfSome, IfNone};
 ghost use Rattle.line_journal.specs.Device.{AlwaysLeaves};
 ghost use Rattle.line_journal.specs.Journal.{IsFound};
-ghost use Rattle.line_journal.specs.Lines.{lines_of, StandsFor};
+ghost use Rattle.line_journal.specs.Lines.{lines_of, at_rest, StandsFor};
 ghost use Rattle.durable_table.specs.Tables.{table_of};
 ghost use Rattle.durable_table.specs.Durable.{Stands};
+ghost use Rattle.file_journal.specs.declared.lock.LockKind.TheVariants.{Exclusive};
 
 use crate::opening::{OpenFault, no_holders};
 use crate::tenure::unopened;
 use durable_table::{DurableTable, OpenedTable, open};
-use file_journal::LockKind;
+use file_journal::{FileDevice, FolderLock, LockKind};
 use line_journal::{Device, Found, KillOnly, Repair};
 use modprobe::Setup;
 use std::alloc::Global;
@@ -18,8 +19,7 @@ use std::io::Write;
 use std::rt::Files;
 use std::time::Clock;
 use table_folder::{
-    Shared, TableFault, Teller, damage_of, found_in, keep_cut, open_journal, read_journal,
-    read_setup,
+    Shared, TableFault, Teller, bytes_of, damage_of, found_in, keep_cut, open_journal, read_setup,
 };
 
 /// A table whose journal is at rest again, and what stood in the journal before.
@@ -67,14 +67,9 @@ fn repair_table<'s, D: Device + Drop>(
     }
 }
 
-/// Refuses a journal of which no table can be made.
-fn try_copy<R: Files<File = File> + Clock + AllocGlobal>(
-    shared: &Shared<'_, R>,
-    setup: &Setup,
-) -> Result<(), TableFault> {
-    let alloc = shared.alloc();
-    let copy = KillOnly::new(alloc, read_journal(shared)?);
-    match repair_table(alloc, setup, copy) {
+/// Refuses the bytes of a journal of which no table can be made.
+fn try_copy(alloc: Global, setup: &Setup, bytes: Vec<u8>) -> Result<(), TableFault> {
+    match repair_table(alloc, setup, KillOnly::new(alloc, bytes)) {
         Ok(_) => Ok(()),
         Err(OpenFault::Foreign) => Err(TableFault::Foreign),
         Err(OpenFault::Changed(line)) => Err(TableFault::Changed(line)),
@@ -83,23 +78,27 @@ fn try_copy<R: Files<File = File> + Clock + AllocGlobal>(
 }
 
 /// Cuts off what stands behind the lines of a journal, if anything does. It is kept in `journal.cut` first, and it is told how
-/// many lines it has.
-fn repair_journal<R: Files<File = File> + Clock + AllocGlobal, E: Write>(
-    shared: &Shared<'_, R>,
+/// many lines it has. The journal is at rest then.
+fn repair_journal<'r, R: Files<File = File> + Clock + AllocGlobal, E: Write>(
+    shared: &Shared<'r, R>,
     setup: &Setup,
+    lock: FolderLock,
     teller: &mut Teller<'_, E>,
-) -> Result<(), TableFault> {
+) -> Result<FileDevice<&'r R>, TableFault>
+    requires { lock.kind ≡ Exclusive }
+    ensures { IfOk result (λ device. ⟦<FileDevice<&'r R> as Device>⟧.content device ≡ at_rest (lines_of (⟦<FileDevice<&'r R> as Device>⟧.content device))) }
+{
     let alloc = shared.alloc();
-    try_copy(shared, setup)?;
-    let mut device = open_journal(shared)?;
+    let mut device = open_journal(shared, lock)?;
+    try_copy(alloc, setup, bytes_of(alloc, &mut device)?)?;
     let Some(damage) = damage_in(found_in(alloc, &mut device)?) else {
-        return Ok(());
+        return Ok(device);
     };
     keep_cut(shared, &damage.behind)?;
     match repair_table(alloc, setup, device) {
         Ok(repaired) => {
             teller.repaired(shared.folder, &repaired.found);
-            Ok(())
+            Ok(repaired.table.into_device())
         }
         Err(fault) => Err(unopened(fault)),
     }
@@ -112,7 +111,6 @@ pub(crate) fn repair<R: Files<File = File> + Clock + AllocGlobal, E: Write>(
 ) -> Result<(), TableFault> {
     let setup = read_setup(shared)?;
     let lock = shared.with_setup(&setup).lock(LockKind::Exclusive)?;
-    let repaired = repair_journal(shared, &setup.setup, teller);
-    lock.release();
-    repaired
+    repair_journal(shared, &setup.setup, lock, teller)?;
+    Ok(())
 }

@@ -21,20 +21,31 @@ pub enum Followed {
 }
 
 impl<D: Renewable> Journal<D> {
-    /// Reads the lines that others have added since this process had its turn, and no others. Nothing is written, and
-    /// nothing is waited for.
-    pub fn follow(&mut self, alloc: Global) -> Result<Followed, DeviceError>
+    /// The turn of this process begins: reads the lines that others have added since it had its turn, and no others. Nothing
+    /// is written, and nothing is waited for.
+    pub fn follow(&mut self, alloc: Global, turn: D::Turn) -> Result<Followed, DeviceError>
         requires read { IsRead D.content self.old }
         ensures followed { IfOk result (IsFollowed D.content self.old self.new) }
         ensures writes { D.writes self.new.device ≡ D.writes self.old.device }
         ensures looks { OnOk result (D.looks self.old.device < D.looks self.new.device) }
         ensures faults { TellsFaults (D.faults self.old.device) (D.faults self.new.device) result }
     {
-        match self.device.renew(self.end)? {
+        match self.device.renew(turn, self.end)? {
             Renewed::Same => Ok(Followed::AtRest(Vec::new(alloc))),
             Renewed::Longer => self.read_on(alloc),
             Renewed::Other => Ok(Followed::Anew),
         }
+    }
+
+    /// The turn of this process is over.
+    pub fn rest(&mut self)
+        ensures content { D.content self.new.device ≡ D.content self.old.device }
+        ensures end { self.new.end ≡ self.old.end }
+        ensures writes { D.writes self.new.device ≡ D.writes self.old.device }
+        ensures looks { D.looks self.new.device ≡ D.looks self.old.device }
+        ensures faults { D.faults self.new.device ≡ D.faults self.old.device }
+    {
+        self.device.rest();
     }
 
     /// Reads the lines behind those that were read before.

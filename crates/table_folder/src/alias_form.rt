@@ -1,6 +1,6 @@
 //! In which form the aliases are kept for one command.
 
-use crate::reading::read_journal;
+use crate::reading::journal_now;
 use crate::shared::Shared;
 use modprobe::{AliasForm, Setup};
 use std::alloc::{AllocError, Global};
@@ -70,7 +70,7 @@ pub(crate) fn form_for<R: Files<File = File> + Clock + AllocGlobal>(
     if words.len() > MANY {
         return Ok(AliasForm::Table);
     }
-    let Ok(journal) = read_journal(shared) else {
+    let Ok(journal) = journal_now(shared) else {
         return Ok(AliasForm::Text);
     };
     if looks_up_many(shared.alloc(), setup, &journal)? {

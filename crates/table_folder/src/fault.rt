@@ -5,7 +5,7 @@ ghost use Rattle.file_journal.specs.Faults.{cause_of};
 ghost use Rattle.table_folder.specs.Faults.{ending_of_fault, fault_of_file, fault_of_write, IsUnlocked, IsUnwritten};
 
 use crate::setup::SectionsFault;
-use file_journal::{Action, Cause, FileFault, LockError, OpenError, Target};
+use file_journal::{Action, Cause, FileFault, LockError, OpenError, Target, Unopened};
 use std::alloc::AllocError;
 use std::io;
 use table_words::Ending;
@@ -142,6 +142,16 @@ impl From<OpenError> for TableFault {
             ) => TableFault::NoJournal,
             OpenError::Failed(fault) => TableFault::File(fault),
         }
+    }
+}
+
+impl From<Unopened> for TableFault {
+    ghost use Rattle.table_folder.specs.Faults.{fault_of_open};
+
+    ghost from_gives = { λ unopened fault. fault ≡ fault_of_open unopened.error };
+
+    fn from(unopened: Unopened) -> TableFault {
+        TableFault::from(unopened.error)
     }
 }
 

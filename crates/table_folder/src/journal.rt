@@ -1,5 +1,5 @@
 //! The file of a folder's journal, and what stands in it.
-ghost use Rattle.std.specs.Prelude.{◌≡◌, ◌⊎◌, ◌+◌, None, IfOk, IfErr, length};
+ghost use Rattle.std.specs.Prelude.{◌≡◌, ◌⊎◌, ◌+◌, ◌<◌, ◌^◌, None, Some, IfOk, IfErr, OnOk, length};
 ghost use Rattle.file_journal.specs.Belief.{history_of, MayBeAnything};
 ghost use Rattle.line_journal.specs.Device.{Goes, Unchanged};
 ghost use Rattle.line_journal.specs.Journal.{IsFound};
@@ -10,7 +10,7 @@ ghost use Rattle.table_folder.specs.declared.fault.TableFault.TheVariants.{OutOf
 use crate::fault::{Damage, TableFault, journal_fault};
 use crate::rights::create_file;
 use crate::shared::{JOURNAL, Shared};
-use file_journal::{Action, FileDevice, FileFault, OpenError, Target};
+use file_journal::{Action, FileDevice, FileFault, FolderLock, OpenError, Target, Unopened};
 use line_journal::{Device, DeviceError, Found, peek};
 use std::alloc::Global;
 use std::fs::File;
@@ -18,16 +18,22 @@ use std::io::ErrorKind;
 use std::rt::Files;
 use std::time::Clock;
 
-/// Opens the file of the folder's journal, which has to be there, and reads it. Nothing is known of what a crash leaves of it.
+/// Opens the file of the folder's journal, which has to be there, under the folder's lock, and reads it. Nothing is known of what
+/// a crash leaves of it.
 pub fn open_journal<'r, R: Files<File = File> + Clock + AllocGlobal>(
     shared: &Shared<'r, R>,
-) -> Result<FileDevice<&'r R>, OpenError>
+    lock: FolderLock,
+) -> Result<FileDevice<&'r R>, Unopened>
     ensures unknown { IfOk result (λ device. MayBeAnything (history_of device.belief)) }
     ensures no_fault { IfOk result (λ device. device.fault ≡ None) }
+    ensures lock { IfOk result (λ device. device.lock ≡ Some lock) }
+    ensures syncs { IfOk result (λ device. device.disk.syncs ≡ shared.now.syncs) }
+    ensures handed_back { IfErr result (λ unopened. unopened.lock ≡ lock) }
 {
     FileDevice::open(
         shared.rt,
         shared.alloc(),
+        lock,
         shared.folder,
         JOURNAL,
         shared.syncs,
@@ -38,17 +44,38 @@ pub fn open_journal<'r, R: Files<File = File> + Clock + AllocGlobal>(
 /// one as it is. A `create` may have left it that did not come to its end.
 pub fn make_journal<'r, R: Files<File = File> + Clock + AllocGlobal>(
     shared: &Shared<'r, R>,
+    lock: FolderLock,
     mode: u32,
-) -> Result<FileDevice<&'r R>, OpenError>
+) -> Result<FileDevice<&'r R>, TableFault>
     ensures unknown { IfOk result (λ device. MayBeAnything (history_of device.belief)) }
     ensures no_fault { IfOk result (λ device. device.fault ≡ None) }
+    ensures lock { IfOk result (λ device. device.lock ≡ Some lock) }
+    ensures syncs { IfOk result (λ device. device.disk.syncs ≡ shared.now.syncs) }
 {
     match create_file(shared.rt, &shared.path(JOURNAL)?, mode) {
         Err(error) if error.kind() != ErrorKind::AlreadyExists => {
             let fault = FileFault::of(Action::Create, Target::Journal, &error);
-            Err(OpenError::from(fault))
+            Err(TableFault::from(OpenError::from(fault)))
         }
-        _ => open_journal(shared),
+        _ => Ok(open_journal(shared, lock)?),
+    }
+}
+
+/// All bytes of a journal's file, read once more. At an error there was no memory, or the fault is that of the device.
+pub fn bytes_of<R: Files + Drop>(
+    alloc: Global,
+    device: &mut FileDevice<R>,
+) -> Result<Vec<u8>, TableFault>
+    ensures bytes { IfOk result (λ bytes. bytes.items ≡ ⟦<FileDevice<R> as Device>⟧.content device.old) }
+    ensures fault { IfErr result (λ fault. fault ≡ OutOfMemory ⊎ fault ≡ fault_of_file device.new.fault) }
+    ensures content { ⟦<FileDevice<R> as Device>⟧.content device.new ≡ ⟦<FileDevice<R> as Device>⟧.content device.old }
+    ensures writes { ⟦<FileDevice<R> as Device>⟧.writes device.new ≡ ⟦<FileDevice<R> as Device>⟧.writes device.old }
+    ensures crash { Goes Unchanged (⟦<FileDevice<R> as Device>⟧.history device.old) (⟦<FileDevice<R> as Device>⟧.history device.new) }
+{
+    match device.read_from(alloc, 0) {
+        Ok(bytes) => Ok(bytes),
+        Err(DeviceError::OutOfMemory) => Err(TableFault::OutOfMemory),
+        Err(DeviceError::Failed) => Err(journal_fault(device.fault())),
     }
 }
 
@@ -59,6 +86,7 @@ pub fn found_in<R: Files + Drop>(
     device: &mut FileDevice<R>,
 ) -> Result<Found, TableFault>
     ensures found { IfOk result (IsFound (⟦<FileDevice<R> as Device>⟧.content device.old)) }
+    ensures fits { OnOk result (length (⟦<FileDevice<R> as Device>⟧.content device.old) < 2 ^ 64) }
     ensures fault { IfErr result (λ fault. fault ≡ OutOfMemory ⊎ fault ≡ fault_of_file device.new.fault) }
     ensures content { ⟦<FileDevice<R> as Device>⟧.content device.new ≡ ⟦<FileDevice<R> as Device>⟧.content device.old }
     ensures writes { ⟦<FileDevice<R> as Device>⟧.writes device.new ≡ ⟦<FileDevice<R> as Device>⟧.writes device.old }

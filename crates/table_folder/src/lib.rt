@@ -32,7 +32,7 @@ pub use endings::ending_of;
 pub use fault::{Damage, TableFault, journal_fault};
 pub use folder_setup::FolderSetup;
 pub use input::{InputFault, InputLines, alone};
-pub use journal::{damage_of, found_in, make_journal, open_journal};
+pub use journal::{bytes_of, damage_of, found_in, make_journal, open_journal};
 pub use listing::{Listing, listed_text, listing_of, modules_of};
 pub use locker::end_run;
 pub use making::{make_folder, make_lock, new_setup, write_setup};

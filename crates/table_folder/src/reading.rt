@@ -8,7 +8,7 @@ use crate::fault::TableFault;
 use crate::folder_setup::FolderSetup;
 use crate::mark::FileMark;
 use crate::shared::{JOURNAL, SETUP, Shared};
-use file_journal::Cause;
+use file_journal::{Cause, FolderLock};
 use modprobe::AliasForm;
 use std::fs::{File, OpenFile};
 use std::io::{self, ErrorKind, Read};
@@ -73,14 +73,26 @@ fn read_file<R: Files<File = File> + Clock + AllocGlobal>(
     }
 }
 
-/// All bytes of the folder's journal. `NoJournal` if there is none, and `Unread` with the cause if it cannot be read.
-pub fn read_journal<R: Files<File = File> + Clock + AllocGlobal>(
+/// All bytes of the folder's journal, as they are now: others may be writing to it. `NoJournal` if there is none, and `Unread`
+/// with the cause if it cannot be read.
+pub(crate) fn journal_now<R: Files<File = File> + Clock + AllocGlobal>(
     shared: &Shared<'_, R>,
 ) -> Result<Vec<u8>, TableFault>
     ensures { IfErr result (IsUnread (codes "journal")) }
 {
     let read = read_file(shared, JOURNAL)?;
     Ok(read.bytes)
+}
+
+/// All bytes of the folder's journal, under the folder's lock. `NoJournal` if there is none, and `Unread` with the cause if it
+/// cannot be read.
+pub fn read_journal<R: Files<File = File> + Clock + AllocGlobal>(
+    shared: &Shared<'_, R>,
+    _lock: &FolderLock,
+) -> Result<Vec<u8>, TableFault>
+    ensures { IfErr result (IsUnread (codes "journal")) }
+{
+    journal_now(shared)
 }
 
 /// What the table of the folder was made of, for many lines. It is kept until the process ends, which takes less time than to

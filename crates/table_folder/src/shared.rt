@@ -94,7 +94,9 @@ impl<'a, R: Files<File = File> + Clock + AllocGlobal> Shared<'a, R> {
 
     /// Takes the lock of the folder (flock(2)). Another process that has it is waited for, `wait` seconds at the most. `MadeAnew`
     /// if the setup that was read does not lie there then: the lock is given back.
-    pub fn lock(&self, kind: LockKind) -> Result<FolderLock, TableFault> {
+    pub fn lock(&self, kind: LockKind) -> Result<FolderLock, TableFault>
+        ensures { IfOk result (λ lock. lock.kind ≡ kind) }
+    {
         let alloc = self.rt.alloc();
         let lock = FolderLock::acquire(self.rt, alloc, self.folder, kind, self.wait)?;
         if self.is_anew()? {

@@ -1,6 +1,7 @@
 //! Folders below /tmp, and journals in them.
 
-use file_journal::{FileDevice, OpenError, Syncs};
+use file_journal::{FileDevice, FolderLock, LockKind, Syncs};
+use line_journal::Renewable;
 use std::test::Fail;
 use std::{fs, process};
 
@@ -15,36 +16,47 @@ pub(crate) fn folder(rt: &HostRuntime, name: &str) -> Result<String, Fail> {
     Ok(folder)
 }
 
-/// A journal in a folder.
-pub(crate) enum Journal {
-    /// One that is not there yet.
-    New,
-    /// One that is there.
-    Kept,
-    /// The same, without syncs.
-    Unsynced,
+/// A journal gets these bytes from outside.
+pub(crate) fn write(rt: &HostRuntime, folder: &str, text: &str) -> Result<(), Fail> {
+    let path = format!(in rt.alloc(); "{folder}/journal")?;
+    Ok(fs::write(rt, path.as_str(), text)?)
 }
 
-/// The file of the journal of this name in a folder.
-pub(crate) fn device_of<'a>(
-    rt: &'a HostRuntime,
-    folder: &str,
-    name: &str,
-    journal: Journal,
-) -> Result<Disk<'a>, OpenError> {
-    let alloc = rt.alloc();
-    match journal {
-        Journal::New => FileDevice::create(rt, alloc, folder, name, Syncs::Kept),
-        Journal::Kept => FileDevice::open(rt, alloc, folder, name, Syncs::Kept),
-        Journal::Unsynced => FileDevice::open(rt, alloc, folder, name, Syncs::LeftOut),
-    }
-}
-
-/// The file of a journal in a folder.
+/// The file of the journal in a folder, which has the folder's lock.
 pub(crate) fn device_in<'a>(
     rt: &'a HostRuntime,
     folder: &str,
-    journal: Journal,
-) -> Result<Disk<'a>, OpenError> {
-    device_of(rt, folder, "journal", journal)
+    syncs: Syncs,
+) -> Result<Disk<'a>, Fail> {
+    let lock = FolderLock::acquire(rt, rt.alloc(), folder, LockKind::Exclusive, 0)?;
+    match FileDevice::open(rt, rt.alloc(), lock, folder, "journal", syncs) {
+        Ok(device) => Ok(device),
+        Err(unopened) => Err(unopened.error.into()),
+    }
+}
+
+/// The file of a new, empty journal in a folder.
+pub(crate) fn new_device<'a>(rt: &'a HostRuntime, folder: &str) -> Result<Disk<'a>, Fail> {
+    write(rt, folder, "")?;
+    device_in(rt, folder, Syncs::Kept)
+}
+
+/// Where the turns of devices come from.
+pub(crate) trait Turns<D: Renewable> {
+    /// The turn of a device begins.
+    fn begin(&self) -> Result<D::Turn, Fail>;
+}
+
+/// The folder of a journal, by its lock.
+#[derive(Clone, Copy)]
+pub(crate) struct Locks<'a> {
+    pub(crate) rt: &'a HostRuntime,
+    pub(crate) folder: &'a str,
+}
+
+impl<'a> Turns<Disk<'a>> for Locks<'a> {
+    fn begin(&self) -> Result<FolderLock, Fail> {
+        let (rt, folder) = (self.rt, self.folder);
+        Ok(FolderLock::acquire(rt, rt.alloc(), folder, LockKind::Exclusive, 0)?)
+    }
 }

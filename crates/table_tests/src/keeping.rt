@@ -2,11 +2,12 @@
 ghost use Rattle.std.specs.Prelude.{◌≡◌, IfOk, OnOk};
 ghost use Rattle.durable_table.specs.Durable.{Reads, Stands};
 
-use crate::folders::{Disk, Journal, device_in, folder};
+use crate::folders::{Disk, Locks, Turns, device_in, folder, new_device};
 use crate::support::{
     are_texts, compacted, fresh, hold_floppy, is_answered, lines_of, make, new_table, opened,
 };
 use durable_table::{CaughtUp, DurableTable, ReadTable, create, open_reading};
+use file_journal::Syncs;
 use line_journal::{Device, KillOnly, Renewable, are_lines};
 use modprobe::Setup;
 use std::alloc::Global;
@@ -30,16 +31,30 @@ fn table_read<'s, D: Device + Drop>(
     }
 }
 
-/// Brings a table up to its journal.
-fn catch_up<D: Renewable>(table: &mut DurableTable<'_, D>, alloc: Global) -> Result<(), Fail>
+/// The turn of a table begins: it is brought up to its journal, which is on the disk then.
+fn begin<D: Renewable>(
+    table: &mut DurableTable<'_, D>,
+    alloc: Global,
+    turn: D::Turn,
+) -> Result<(), Fail>
     requires { Reads D.content table.old.session.setup.now table.old.session.holders.held table.old.journal }
-    ensures reads { OnOk result (Reads D.content table.new.session.setup.now table.new.session.holders.held table.new.journal) }
+    ensures stands { OnOk result (Stands D.content D.history table.new.session.setup.now table.new.session.holders.held table.new.journal) }
     ensures setup { table.new.session.setup ≡ table.old.session.setup }
 {
-    match table.catch_up(alloc)? {
-        CaughtUp::Ready => Ok(()),
+    match table.catch_up(alloc, turn)? {
+        CaughtUp::Ready => Ok(table.settle()?),
         CaughtUp::Anew => Err("another journal".into()),
     }
+}
+
+/// The turn of a table is over.
+#[tactic(auto, using(durable_table::proofs::KeptLemmas::stands_reads, durable_table::proofs::KeptLemmas::rested))]
+fn end<D: Renewable>(table: &mut DurableTable<'_, D>)
+    requires { Stands D.content D.history table.old.session.setup.now table.old.session.holders.held table.old.journal }
+    ensures reads { Reads D.content table.new.session.setup.now table.new.session.holders.held table.new.journal }
+    ensures setup { table.new.session.setup ≡ table.old.session.setup }
+{
+    table.rest();
 }
 
 /// Whether lines that ask have these replies.
@@ -78,81 +93,86 @@ pub(crate) fn answers_questions(alloc: Global, setup: &Setup) -> Result<bool, Fa
     )
 }
 
-/// Two processes use a table in turn. Each catches up before its turn. Whether each finds what the other did.
-#[tactic(auto, using(durable_table::proofs::KeptLemmas::stands_reads))]
-fn take_turns<D: Renewable>(
+/// Two processes use a table in turn. Whether each finds what the other did. It is the turn of the other one then.
+fn take_turns<D: Renewable, W: Turns<D>>(
     alloc: Global,
+    turns: &W,
     kept: &mut DurableTable<'_, D>,
     other: &mut DurableTable<'_, D>,
 ) -> Result<bool, Fail>
     requires kept { Reads D.content kept.old.session.setup.now kept.old.session.holders.held kept.old.journal }
-    requires other { Stands D.content D.history other.old.session.setup.now other.old.session.holders.held other.old.journal }
+    requires other { Reads D.content other.old.session.setup.now other.old.session.holders.held other.old.journal }
     ensures kept { OnOk result (Reads D.content kept.new.session.setup.now kept.new.session.holders.held kept.new.journal) }
     ensures other { OnOk result (Stands D.content D.history other.new.session.setup.now other.new.session.holders.held other.new.journal) }
     ensures setup { other.new.session.setup ≡ other.old.session.setup }
 {
+    begin(other, alloc, turns.begin()?)?;
     hold_floppy(other, alloc)?;
-    catch_up(kept, alloc)?;
+    end(other);
+    begin(kept, alloc, turns.begin()?)?;
     let lines = kept.session().snapshot(alloc)?.len();
-    kept.settle()?;
     make(kept, alloc, b"release web17")?;
-    catch_up(other, alloc)?;
-    other.settle()?;
+    end(kept);
+    begin(other, alloc, turns.begin()?)?;
     Ok(is_answered(other, alloc, b"rmmod floppy", b"ok\n")? && lines == 3)
 }
 
 /// Whether they take turns, until the other one writes the journal anew.
-fn take_turns_until_anew<D: Renewable>(
+fn take_turns_until_anew<D: Renewable, W: Turns<D>>(
     alloc: Global,
     setup: &Setup,
+    turns: &W,
     kept: &mut DurableTable<'_, D>,
     other: &mut DurableTable<'_, D>,
 ) -> Result<bool, Fail>
     requires kept { Reads D.content kept.old.session.setup.now kept.old.session.holders.held kept.old.journal }
-    requires other { Stands D.content D.history other.old.session.setup.now other.old.session.holders.held other.old.journal }
+    requires other { Reads D.content other.old.session.setup.now other.old.session.holders.held other.old.journal }
     requires setup { other.old.session.setup.now ≡ setup.now }
 {
-    let is_right = take_turns(alloc, kept, other)?;
+    let is_right = take_turns(alloc, turns, kept, other)?;
     compacted(other, alloc, setup)?;
-    Ok(matches!(kept.catch_up(alloc)?, CaughtUp::Anew) && is_right)
+    other.rest();
+    let caught_up = kept.catch_up(alloc, turns.begin()?)?;
+    Ok(matches!(caught_up, CaughtUp::Anew) && is_right)
 }
 
-/// The same of the table that a journal reads as.
-fn keep_beside<D: Renewable + Drop>(
-    alloc: Global,
-    setup: &Setup,
-    device: D,
-    other: &mut DurableTable<'_, D>,
-) -> Result<bool, Fail>
-    requires other { Stands D.content D.history other.old.session.setup.now other.old.session.holders.held other.old.journal }
-    requires setup { other.old.session.setup.now ≡ setup.now }
+/// The table of a new journal in a folder. Its turn is over.
+fn new_kept<'s, 'a>(
+    rt: &'a HostRuntime,
+    folder: &str,
+    setup: &'s Setup,
+) -> Result<DurableTable<'s, Disk<'a>>, Fail>
+    ensures reads { IfOk result (λ made. Reads ⟦<Disk<'a> as Device>⟧.content setup.now made.session.holders.held made.journal) }
+    ensures setup { IfOk result (λ made. made.session.setup.now ≡ setup.now) }
 {
-    let mut kept = table_read(alloc, setup, device)?;
-    take_turns_until_anew(alloc, setup, &mut kept, other)
-}
-
-/// The same of the tables of two processes over one journal.
-fn keep<D: Renewable + Drop>(
-    alloc: Global,
-    setup: &Setup,
-    device: D,
-    of_other: D,
-) -> Result<bool, Fail> {
-    let mut other = opened(alloc, setup, of_other)?;
-    keep_beside(alloc, setup, device, &mut other)
-}
-
-/// The journal of a new table, in a folder.
-fn new_journal<'a>(rt: &'a HostRuntime, folder: &str) -> Result<Disk<'a>, Fail> {
-    let mut device = device_in(rt, folder, Journal::New)?;
+    let mut device = new_device(rt, folder)?;
     create(&mut device)?;
-    Ok(device)
+    let mut table = opened(rt.alloc(), setup, device)?;
+    end(&mut table);
+    Ok(table)
+}
+
+/// The table of a journal that is there in a folder. Its turn is over.
+fn other_kept<'s, 'a>(
+    rt: &'a HostRuntime,
+    folder: &str,
+    setup: &'s Setup,
+) -> Result<DurableTable<'s, Disk<'a>>, Fail>
+    ensures reads { IfOk result (λ made. Reads ⟦<Disk<'a> as Device>⟧.content setup.now made.session.holders.held made.journal) }
+    ensures setup { IfOk result (λ made. made.session.setup.now ≡ setup.now) }
+{
+    let device = device_in(rt, folder, Syncs::Kept)?;
+    let mut table = table_read(rt.alloc(), setup, device)?;
+    table.settle()?;
+    end(&mut table);
+    Ok(table)
 }
 
 fn keep_in(rt: &HostRuntime, setup: &Setup, folder: &str) -> Result<bool, Fail> {
-    let device = new_journal(rt, folder)?;
-    let other = device_in(rt, folder, Journal::Kept)?;
-    keep(rt.alloc(), setup, device, other)
+    let mut kept = new_kept(rt, folder, setup)?;
+    let mut other = other_kept(rt, folder, setup)?;
+    let turns = Locks { rt, folder };
+    take_turns_until_anew(rt.alloc(), setup, &turns, &mut kept, &mut other)
 }
 
 /// Whether a process keeps its table until another one writes the journal anew.

@@ -1,7 +1,9 @@
 //! Journals in files: what is there for the next process, what others wrote, and refusals.
 
-use crate::folders::{Disk, Journal, device_in, device_of, folder};
-use file_journal::{Cause, FolderLock, LockError, LockKind, OpenError};
+use crate::folders::{Disk, device_in, folder, new_device, write};
+use file_journal::{
+    Cause, FileDevice, FolderLock, LockError, LockKind, OpenError, Syncs, Unopened,
+};
 use line_journal::{
     Device, DeviceError, Found, Opened, Renewable, Renewed, Repair, are_lines, is_line, look, open,
 };
@@ -36,19 +38,19 @@ pub(crate) fn rewrite<D: Device + Drop>(
     }
 }
 
-/// Adds a line to the journal in a folder, which is made if it is to be new.
+/// Adds a line to the journal in a folder, with syncs or without.
 pub(crate) fn put_in(
     rt: &HostRuntime,
     folder: &str,
-    journal: Journal,
+    syncs: Syncs,
     line: &[u8],
 ) -> Result<(), Fail> {
-    put(rt.alloc(), device_in(rt, folder, journal)?, line)
+    put(rt.alloc(), device_in(rt, folder, syncs)?, line)
 }
 
 /// A new journal in a folder gets its first line.
 pub(crate) fn begin_in(rt: &HostRuntime, folder: &str) -> Result<(), Fail> {
-    put_in(rt, folder, Journal::New, b"get web17 overlay")
+    put(rt.alloc(), new_device(rt, folder)?, b"get web17 overlay")
 }
 
 /// Rewrites the journal in a folder as one line, and adds another.
@@ -58,12 +60,7 @@ pub(crate) fn rewrite_in(
     line: &[u8],
     next: &[u8],
 ) -> Result<(), Fail> {
-    rewrite(
-        rt.alloc(),
-        device_in(rt, folder, Journal::Kept)?,
-        line,
-        next,
-    )
+    rewrite(rt.alloc(), device_in(rt, folder, Syncs::Kept)?, line, next)
 }
 
 /// Whether these are the lines.
@@ -83,14 +80,8 @@ fn found_by(rt: &HostRuntime, device: &mut Disk<'_>) -> Result<Found, Fail> {
 
 /// What stands in the journal in a folder.
 fn found_in(rt: &HostRuntime, folder: &str) -> Result<Found, Fail> {
-    let mut device = device_in(rt, folder, Journal::Kept)?;
+    let mut device = device_in(rt, folder, Syncs::Kept)?;
     found_by(rt, &mut device)
-}
-
-/// A journal gets these bytes from outside.
-fn write(rt: &HostRuntime, folder: &str, text: &str) -> Result<(), Fail> {
-    let path = format!(in rt.alloc(); "{folder}/journal")?;
-    Ok(fs::write(rt, path.as_str(), text)?)
 }
 
 /// Whether the journal in a folder has these bytes.
@@ -103,7 +94,7 @@ fn has_bytes(rt: &HostRuntime, folder: &str, wanted: &[u8]) -> Result<bool, Fail
 /// Whether a line is there for the next process, with syncs or without.
 fn is_put(rt: &HostRuntime, folder: &str) -> Result<bool, Fail> {
     begin_in(rt, folder)?;
-    put_in(rt, folder, Journal::Unsynced, b"release web17")?;
+    put_in(rt, folder, Syncs::LeftOut, b"release web17")?;
     let found = found_in(rt, folder)?;
     Ok(found.is_at_rest() && are_these(&found.lines, &[b"get web17 overlay", b"release web17"]))
 }
@@ -118,7 +109,7 @@ fn is_replaced(rt: &HostRuntime, folder: &str) -> Result<bool, Fail> {
 /// Whether a torn end is cut off.
 fn is_cut_off(rt: &HostRuntime, folder: &str) -> Result<bool, Fail> {
     write(rt, folder, "+get web17 overlay\n rel")?;
-    put_in(rt, folder, Journal::Kept, b"next")?;
+    put_in(rt, folder, Syncs::Kept, b"next")?;
     has_bytes(rt, folder, b"+get web17 overlay\n+next\n ")
 }
 
@@ -136,40 +127,65 @@ fn reports(rt: &HostRuntime, folder: &str, device: &mut Disk<'_>) -> Result<bool
 
 /// Whether what another process wrote is reported.
 fn is_reported(rt: &HostRuntime, folder: &str) -> Result<bool, Fail> {
-    let mut device = device_in(rt, folder, Journal::New)?;
+    let mut device = new_device(rt, folder)?;
     reports(rt, folder, &mut device)
+}
+
+/// What a device finds when its turn begins.
+fn renewed(rt: &HostRuntime, folder: &str, device: &mut Disk<'_>) -> Result<Renewed, Fail> {
+    let turn = FolderLock::acquire(rt, rt.alloc(), folder, LockKind::Exclusive, 0)?;
+    Ok(device.renew(turn, 0)?)
 }
 
 /// Whether a new device sees the first line of another process, once.
 fn sees_a_line(rt: &HostRuntime, folder: &str, device: &mut Disk<'_>) -> Result<bool, Fail> {
-    let first = device.renew(0)?;
-    put_in(rt, folder, Journal::Kept, b"get web17 overlay")?;
-    let second = device.renew(0)?;
-    let third = device.renew(0)?;
+    device.rest();
+    let first = renewed(rt, folder, device)?;
+    device.rest();
+    put_in(rt, folder, Syncs::Kept, b"get web17 overlay")?;
+    let second = renewed(rt, folder, device)?;
+    device.rest();
+    let third = renewed(rt, folder, device)?;
     let lines = found_by(rt, device)?.lines.len();
     Ok(first == Renewed::Same && second == Renewed::Longer && third == Renewed::Same && lines == 1)
 }
 
 /// Whether it sees what another process makes of the journal.
 fn sees_a_rewrite(rt: &HostRuntime, folder: &str, device: &mut Disk<'_>) -> Result<bool, Fail> {
+    device.rest();
     rewrite_in(rt, folder, b"get web17 snd_pcm", b"put web17 snd_pcm")?;
-    let renewed = device.renew(0)?;
+    let renewed = renewed(rt, folder, device)?;
     let lines = found_by(rt, device)?.lines;
     let are_right = are_these(&lines, &[b"get web17 snd_pcm", b"put web17 snd_pcm"]);
     Ok(are_right && renewed == Renewed::Longer)
 }
 
-/// Whether it fails while its folder is gone.
+/// Whether it fails once its folder is gone, until it is read again.
 fn misses_its_folder(rt: &HostRuntime, folder: &str, device: &mut Disk<'_>) -> Result<bool, Fail> {
     fs::remove_dir_all(rt, folder)?;
-    let is_failing = device.renew(0).is_err() && look(rt.alloc(), device).is_err();
+    let is_missed = device.read_again().is_err() && look(rt.alloc(), device).is_err();
     fs::create_dir(rt, folder)?;
-    Ok(is_failing)
+    write(rt, folder, "+other\n ")?;
+    let is_read = device.read_again().is_ok() && found_by(rt, device)?.lines.len() == 1;
+    Ok(is_missed && is_read)
+}
+
+/// Whether nothing is written or read without the lock, nor written where others that read have it too.
+fn needs_its_lock(rt: &HostRuntime, folder: &str) -> Result<bool, Fail> {
+    let mut device = new_device(rt, folder)?;
+    device.rest();
+    let is_unread = device.read_from(rt.alloc(), 0) == Err(DeviceError::Failed);
+    let why = device.fault().map(|fault| fault.cause);
+    let turn = FolderLock::acquire(rt, rt.alloc(), folder, LockKind::Shared, 0)?;
+    device.renew(turn, 0)?;
+    let is_read = device.read_from(rt.alloc(), 0).is_ok();
+    let is_unwritten = device.write_at(0, b"+") == Err(DeviceError::Failed);
+    Ok(is_unread && why == Some(Cause::NotLocked) && is_read && is_unwritten)
 }
 
 /// Whether what another process wrote is read anew.
 fn is_read_anew(rt: &HostRuntime, folder: &str) -> Result<bool, Fail> {
-    let mut device = device_in(rt, folder, Journal::New)?;
+    let mut device = new_device(rt, folder)?;
     reads_anew(rt, folder, &mut device)
 }
 
@@ -181,20 +197,29 @@ fn reads_anew(rt: &HostRuntime, folder: &str, device: &mut Disk<'_>) -> Result<b
     )
 }
 
-/// Why a journal is not opened, or not made.
-fn refusal(rt: &HostRuntime, folder: &str, name: &str, journal: Journal) -> Option<Cause> {
-    match device_of(rt, folder, name, journal) {
-        Err(OpenError::Failed(fault)) => Some(fault.cause),
-        _ => None,
+/// Why a journal is not opened. Its lock is handed back.
+fn refusal(rt: &HostRuntime, folder: &str, name: &str) -> Result<Option<Cause>, Fail> {
+    let taken = lock(rt, folder, LockKind::Exclusive)?;
+    match FileDevice::open(rt, rt.alloc(), taken, folder, name, Syncs::Kept) {
+        Err(
+            Unopened {
+                error: OpenError::Failed(fault),
+                lock,
+            },
+        ) => {
+            lock.release();
+            Ok(Some(fault.cause))
+        }
+        _ => Ok(None),
     }
 }
 
 /// Whether a refused open says why.
-fn says_why(rt: &HostRuntime, folder: &str) -> bool {
-    refusal(rt, folder, "journal", Journal::Kept) == Some(Cause::NotThere)
-        && refusal(rt, folder, "journal", Journal::New) == None
-        && refusal(rt, folder, "journal", Journal::New) == Some(Cause::AlreadyThere)
-        && refusal(rt, "/tmp", folder, Journal::Kept) == Some(Cause::NotThere)
+fn says_why(rt: &HostRuntime, folder: &str) -> Result<bool, Fail> {
+    let is_missed = refusal(rt, folder, "journal")? == Some(Cause::NotThere);
+    new_device(rt, folder)?.rest();
+    let is_opened = refusal(rt, folder, "journal")? == None;
+    Ok(is_missed && is_opened && refusal(rt, folder, ".")? == Some(Cause::NoFile))
 }
 
 fn lock(rt: &HostRuntime, folder: &str, kind: LockKind) -> Result<FolderLock, LockError> {
@@ -234,6 +259,7 @@ enum Course {
     ReadAnew,
     Refused,
     Locked,
+    Unlocked,
     Followed,
 }
 
@@ -247,10 +273,11 @@ static COURSES: [(&str, Course); 5] = [
 ];
 
 /// The same of what looks for a refusal, which may be one that memory ran out.
-static REFUSALS: [(&str, Course); 3] = [
+static REFUSALS: [(&str, Course); 4] = [
     ("other", Course::Reported),
     ("refused", Course::Refused),
     ("lock", Course::Locked),
+    ("unlocked", Course::Unlocked),
 ];
 
 /// Whether it goes as it ought to.
@@ -261,7 +288,8 @@ fn goes_well(rt: &HostRuntime, folder: &str, course: &Course) -> Result<bool, Fa
         Course::Torn => is_cut_off(rt, folder),
         Course::Reported => is_reported(rt, folder),
         Course::ReadAnew => is_read_anew(rt, folder),
-        Course::Refused => Ok(says_why(rt, folder)),
+        Course::Refused => says_why(rt, folder),
+        Course::Unlocked => needs_its_lock(rt, folder),
         Course::Locked => Ok(is_shared(rt, folder)),
         Course::Followed => super::following::is_followed(rt, folder),
     }

@@ -28,7 +28,7 @@ returns g c =
         journal = own.0;
         held = held;
         stands = own.1;
-        answered = subst (λ (s : Setup). HasAdopted s held kernel c.new-replies.result c.adopt_into-adopted.new.replies) (c.in_ok-table.ensures.of_setup ∙ same)
-            (subst (λ (ks : List KernelModule). HasAdopted table.session.setup.now held ks c.new-replies.result c.adopt_into-adopted.new.replies) c.deref-5.ensures.value c.in_ok-adopted.ensures);
+        answered = subst (λ (s : Setup). HasAdopted s held kernel c.new-replies.result c.adopt_into.new.replies) (c.in_ok-table.ensures.of_setup ∙ same)
+            (subst (λ (ks : List KernelModule). HasAdopted table.session.setup.now held ks c.new-replies.result c.adopt_into.new.replies) c.deref-5.ensures.value c.in_ok-adopt_into.ensures);
       },
     )

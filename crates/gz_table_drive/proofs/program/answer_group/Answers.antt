@@ -1,7 +1,8 @@
-use Rattle.std.proofs.Common.{arith, inl, inr, sym, ap, subst, ◌∙◌, ℕ, take, Vec, IfOk, OnErr}
+use Rattle.std.proofs.Common.{[], arith, refl, inl, inr, sym, ap, subst, ◌∙◌, ℕ, take, Vec, IfOk, OnErr}
 use Rattle.std.specs.declared.alloc.Global.{Global}
 use Rattle.std.proofs.lemmas.List.{length-map}
 use Rattle.std.specs.Io.KnownBytes.{Appends}
+use Rattle.std.proofs.KnownBytes.{Appends-nil}
 use Rattle.std.proofs.lemmas.Result.{IfOk-weaker, err_from_is_err_and}
 use Rattle.line_journal.specs.Lines.{bytes_of}
 use Rattle.modprobe_words.specs.Begun.{IsBegun}
@@ -11,6 +12,13 @@ use Rattle.modprobe.specs.Setup.{Setup}
 use Rattle.gz_table_drive.proofs.SentLemmas.{first_of, first_stopped, turn_stopped}
 use Rattle.gz_table_drive.proofs.WrittenLemmas.{Turns, turn_more}
 use Rattle.gz_table_drive.proofs.program.answer_group.Goals as goal
+
+pub loop-rest-init : goal.loop-rest-init
+loop-rest-init g c = record {
+  lines = c.requires;
+  turns = (0, omega arith, refl, record { replies = []; answers = tt; text = Appends-nil (g.O.Write.contents c.args.output.now); ends = refl });
+  setup = refl;
+}
 
 pub loop-rest-preserved : goal.loop-rest-preserved
 loop-rest-preserved g c =
