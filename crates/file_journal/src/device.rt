@@ -197,11 +197,6 @@ impl<R: Files + Drop> FileDevice<R> {
         }
     }
 
-    /// The lock that it has.
-    pub fn lock(&self) -> Option<&FolderLock> {
-        self.lock.as_ref()
-    }
-
     /// Gives the lock that it has to the caller.
     pub fn into_lock(self) -> Option<FolderLock>
         ensures { result ≡ self.lock }

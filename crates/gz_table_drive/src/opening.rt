@@ -9,15 +9,16 @@ ghost use Rattle.durable_table.specs.Opened.{IsTableRead};
 
 use crate::answering::GROUP;
 use durable_table::{DurableTable, OpenedTable, ReadTable, open, open_reading};
-use file_journal::FileDevice;
+use file_journal::{Cause, FileDevice};
 use held_table::HeldTable;
 use line_journal::{Device, DeviceError, Repair};
 use modprobe::Setup;
 use std::alloc::{AllocError, Global};
 use std::fs::File;
+use std::io::Write;
 use std::rt::Files;
 use std::time::Clock;
-use table_folder::{Damage, Shared, TableFault, damage_of, found_in, keep_cut};
+use table_folder::{Damage, Shared, TableFault, Teller, damage_of, found_in, keep_cut};
 
 /// How many lines with open gates a crash leaves behind the journal's lines, at the most. More are damage.
 const TORN: usize = GROUP - 1;
@@ -88,15 +89,23 @@ pub(crate) fn read_table<'s, D: Device + Drop>(
     }
 }
 
-/// Keeps what stands behind the journal's lines, if it is about to be cut off. Returns how many bytes.
-pub(crate) fn keep_torn<R: Files<File = File> + Clock + AllocGlobal>(
+/// Keeps what stands behind the journal's lines, if it is about to be cut off, and tells it. Where the disk is full it is cut off
+/// all the same, unless gates are open in it: it has no reply, and as long as it stands there nothing can be given back.
+pub(crate) fn keep_torn<R: Files<File = File> + Clock + AllocGlobal, E: Write>(
     shared: &Shared<'_, R>,
     device: &mut FileDevice<&R>,
-) -> Result<usize, TableFault> {
+    teller: &mut Teller<'_, E>,
+) -> Result<(), TableFault> {
     let found = found_in(shared.alloc(), device)?;
     if found.is_at_rest() || found.behind.is_empty() || found.open_gates_behind() > TORN {
-        return Ok(0);
+        return Ok(());
     }
-    keep_cut(shared, &found.behind)?;
-    Ok(found.behind.len())
+    match keep_cut(shared, &found.behind) {
+        Ok(()) => teller.cut(shared.folder, found.behind.len()),
+        Err(TableFault::Unwritten(_, Cause::Full)) if found.open_gates_behind() == 0 => {
+            teller.cut_unkept(shared.folder, found.behind.len());
+        }
+        Err(fault) => return Err(fault),
+    }
+    Ok(())
 }

@@ -184,8 +184,7 @@ fn repaired<'s, 'r, R: Files<File = File> + Clock + AllocGlobal, E: Write>(
 {
     let bytes = bytes_of(shared.alloc(), &mut device)?;
     copy_of(shared.alloc(), setup, bytes)?;
-    let cut = keep_torn(shared, &mut device)?;
-    teller.cut(shared.folder, cut);
+    keep_torn(shared, &mut device, teller)?;
     match open_table(shared.alloc(), setup, device) {
         Ok(table) => Ok(table),
         Err(fault) => Err(unopened(fault)),

@@ -158,6 +158,16 @@ impl<'e, E: Write> Teller<'e, E> {
         }
     }
 
+    /// So many bytes behind the journal's lines are cut off, and there was no room to keep them.
+    pub fn cut_unkept(&mut self, folder: &str, bytes: usize)
+        ensures { self.new.errors.ghost_name ≡ self.old.errors.ghost_name }
+    {
+        let _ = writeln!(
+            self.errors,
+            "gz-table: {folder}/journal: a crash left {bytes} bytes after its lines, which are cut off; {folder}/journal.cut has no room for them, since the disk is full"
+        );
+    }
+
     /// The journal is not written anew, and is as it was.
     pub fn kept(&mut self, folder: &str) -> TableFault
         ensures { result ≡ Kept }
