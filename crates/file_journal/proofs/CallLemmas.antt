@@ -13,6 +13,8 @@ use Rattle.file_journal.specs.declared.calls.kinds.Call.{Call}
 use Rattle.file_journal.specs.declared.calls.kinds.Call.TheVariants.{Look, Read, Write, Cut, Settle, Replaced, NotReplaced}
 use Rattle.file_journal.specs.declared.calls.kinds.Noted.{Noted}
 use Rattle.file_journal.specs.Counts.{count, is_look, is_write}
+use Rattle.file_journal.specs.declared.belief.Belief.{Belief}
+use Rattle.file_journal.specs.Belief.{IsLooked, IsOpened}
 use Rattle.file_journal.specs.Calls.{With, after_call, after, after_all, WasLeft, anything, MayLeave, call_history, IsNoted, IsNotedOrNot}
 
 was_more : (others : List ℕ → Type 0) (calls : List (Snapshot Noted)) (next : Snapshot Noted) (moment : ℕ) (left : List ℕ) → WasLeft others calls moment left → WasLeft others (calls ++ next ∷ []) moment left
@@ -54,6 +56,19 @@ looked {place} {before} {bytes} {calls} {later} noted read left =
     let is : after_call next.value.call next.value.bytes.value.items others left
     = subst (λ (k : Call). after_call k next.value.bytes.value.items others left) (sym noted.is_call) refl in
     inr (subst (λ (l : List (Snapshot Noted)). after_all anything l left) (sym noted.more) (more_after anything calls next left is))
+
+-- of a file that had no calls before it was looked at
+pub opened : {old new : Belief} → old.bytes.items ≡ [] → old.calls.noted.items ≡ [] → IsLooked 0 old new → IsOpened new
+opened {old} {new} none uncalled looked =
+    let call = looked.noted in
+    let is_front : looked.place ≡ 0 = omega (arith, looked.within) in
+    record {
+      noted = call.noted;
+      is_call = call.is_call ∙ ap Look is_front;
+      is_before = call.is_before ∙ none;
+      is_bytes = call.is_bytes ∙ sym (looked.believed ∙ ap (λ (place : ℕ). take place old.bytes.items ++ looked.read) is_front);
+      more = call.more ∙ ap (λ (calls : List (Snapshot Noted)). calls ++ call.noted ∷ []) uncalled;
+    }
 
 count-append : (kind : Call → ℕ) (calls : List (Snapshot Noted)) (next : Snapshot Noted) → count kind (calls ++ next ∷ []) ≡ count kind calls + kind next.value.call
 count-append kind [] next = omega arith

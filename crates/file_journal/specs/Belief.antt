@@ -1,9 +1,9 @@
 -- What crashes may leave of a file, as it is believed.
-use Rattle.std.specs.Prelude.{ℕ, List}
+use Rattle.std.specs.Prelude.{◌≡◌, ◌≤◌, ℕ, List, [], ◌++◌, take}
 use Rattle.line_journal.specs.Device.{History}
 use Rattle.file_journal.specs.Calls.{call_history, IsNoted}
 use Rattle.file_journal.specs.declared.belief.Belief.{Belief}
-use Rattle.file_journal.specs.declared.calls.kinds.Call.TheVariants.{Read, Write, Cut, Settle, Replaced}
+use Rattle.file_journal.specs.declared.calls.kinds.Call.TheVariants.{Look, Read, Write, Cut, Settle, Replaced}
 use Rattle.file_journal.specs.declared.disk_file.Syncs.{Syncs}
 
 abbrev pub history_of : Belief → History
@@ -12,6 +12,19 @@ history_of belief = call_history belief.calls.noted.items belief.bytes.items
 -- nobody knows what a crash leaves
 abbrev pub MayBeAnything : History → Type 0
 MayBeAnything history = (left : List ℕ) → history.leaves left
+
+-- It was looked at from a place on, within its first `kept` bytes. What is believed: the bytes before that place stay, and behind
+-- them is what the look has read.
+pub record IsLooked (kept : ℕ) (old new : Belief) : Type 0 where
+  pub place : ℕ
+  pub within : place ≤ kept
+  pub read : List ℕ
+  pub noted : IsNoted (Look place) old.bytes.items read old.calls.noted.items new.calls.noted.items
+  pub believed : new.bytes.items ≡ take place old.bytes.items ++ read
+
+-- of a file that was just opened: it got one call, a look at all of it, and what that has read is believed
+abbrev pub IsOpened : Belief → Type 0
+IsOpened belief = IsNoted (Look 0) [] belief.bytes.items [] belief.calls.noted.items
 
 -- these bytes were read from a place on, once more
 abbrev pub IsReadBack : ℕ → List ℕ → Belief → Belief → Type 0

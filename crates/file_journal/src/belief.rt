@@ -40,7 +40,7 @@ fn compare(believed: &[u8], kept: usize, bytes: &[u8]) -> Renewed
 }
 
 impl Belief {
-    ghost use Rattle.file_journal.specs.Belief.{MayBeAnything, IsReadBack, IsWritten, IsCut, IsSettled, IsReplaced};
+    ghost use Rattle.file_journal.specs.Belief.{MayBeAnything, IsLooked, IsReadBack, IsWritten, IsCut, IsSettled, IsReplaced};
     ghost use Rattle.file_journal.specs.Counts.{looks_of, writes_of};
     ghost use Rattle.file_journal.specs.Renewed.{IsRenewedTo};
 
@@ -48,6 +48,7 @@ impl Belief {
     pub(crate) fn new(alloc: Global) -> Self
         ensures bytes { result.bytes.items ≡ [] }
         ensures unknown { MayBeAnything (history_of result) }
+        ensures calls { result.calls.noted.items ≡ [] }
         ensures looks { looks_of result ≡ 0 }
     {
         Belief {
@@ -74,6 +75,7 @@ impl Belief {
     ) -> Result<Renewed, FileFault>
         requires { kept ≤ length self.old.bytes.items }
         ensures renewed { IfOk result (IsRenewedTo kept self.old self.new) }
+        ensures believed { OnOk result (IsLooked kept self.old self.new) }
         ensures looks { OnOk result (looks_of self.new ≡ looks_of self.old + 1) }
         ensures writes { writes_of self.new ≡ writes_of self.old }
     {
@@ -96,6 +98,7 @@ impl Belief {
     ) -> Result<Renewed, FileFault>
         requires { kept ≤ length self.old.bytes.items }
         ensures renewed { IfOk result (IsRenewedTo kept self.old self.new) }
+        ensures believed { OnOk result (IsLooked 0 self.old self.new) }
         ensures looks { OnOk result (looks_of self.new ≡ looks_of self.old + 1) }
         ensures writes { writes_of self.new ≡ writes_of self.old }
     {

@@ -2,7 +2,7 @@ ghost use Rattle.std.specs.Prelude.{◌≡◌, ◌≢◌, ◌+◌, ◌<◌, ◌�
 ghost use Rattle.std.proofs.Common.{inl, refl};
 ghost use Rattle.line_journal.specs.Device.{overwritten, Torn, Shortened, Unchanged, UnchangedOr, IsOnDisk, Goes, TellsFaults};
 ghost use Rattle.line_journal.specs.declared.device.DeviceError.TheVariants.{Failed};
-ghost use Rattle.file_journal.specs.Belief.{history_of, MayBeAnything, IsReadBack, IsWritten, IsCut, IsSettled, IsReplaced};
+ghost use Rattle.file_journal.specs.Belief.{history_of, MayBeAnything, IsLooked, IsOpened, IsReadBack, IsWritten, IsCut, IsSettled, IsReplaced};
 ghost use Rattle.file_journal.specs.Counts.{looks_of, writes_of};
 ghost use Rattle.file_journal.specs.declared.lock.LockKind.TheVariants.{Exclusive};
 
@@ -68,6 +68,7 @@ fn open_disk<R: Files + Drop>(
 ) -> Result<DiskFile<R>, OpenError>
     ensures syncs { IfOk result (λ disk. disk.syncs ≡ syncs) }
     ensures looked { OnOk result (looks_of belief.new ≡ looks_of belief.old + 1) }
+    ensures believed { OnOk result (IsLooked 0 belief.old belief.new) }
     ensures unknown { OnOk result (MayBeAnything (history_of belief.new)) }
 {
     let paths = Paths::new(alloc, folder, name)?;
@@ -148,6 +149,7 @@ impl<R: Files + Drop> FileDevice<R> {
         ensures unknown { IfOk result (λ device. MayBeAnything (history_of device.belief)) }
         ensures no_fault { IfOk result (λ device. device.fault ≡ None) }
         ensures looked { IfOk result (λ device. looks_of device.belief ≡ 1) }
+        ensures believed { IfOk result (λ device. IsOpened device.belief) }
         ensures lock { IfOk result (λ device. device.lock ≡ Some lock) }
         ensures syncs { IfOk result (λ device. device.disk.syncs ≡ syncs) }
         ensures handed_back { IfErr result (λ unopened. unopened.lock ≡ lock) }
@@ -181,6 +183,7 @@ impl<R: Files + Drop> FileDevice<R> {
         ensures unknown { OnOk result (MayBeAnything (history_of self.new.belief)) }
         ensures no_fault { OnOk result (self.new.fault ≡ None) }
         ensures looked { OnOk result (looks_of self.old.belief < looks_of self.new.belief) }
+        ensures believed { OnOk result (IsLooked 0 self.old.belief self.new.belief) }
         ensures lock { self.new.lock ≡ self.old.lock }
         ensures syncs { self.new.disk.syncs ≡ self.old.disk.syncs }
     {
@@ -380,6 +383,7 @@ impl<R: Files + Drop> Renewable for FileDevice<R> {
     fn renew(&mut self, turn: FolderLock, kept: usize) -> Result<Renewed, DeviceError>
         requires within { kept ≤ length self.old.belief.bytes.items }
         ensures renewed { IfOk result (IsRenewedTo kept self.old.belief self.new.belief) }
+        ensures believed { OnOk result (IsLooked kept self.old.belief self.new.belief) }
         ensures lock { self.new.lock ≡ Some turn }
         ensures syncs { self.new.disk.syncs ≡ self.old.disk.syncs }
         ensures works { OnOk result (self.new.fault ≡ None) }

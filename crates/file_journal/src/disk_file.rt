@@ -1,6 +1,6 @@
 ghost use Rattle.std.specs.Prelude.{◌≡◌, ◌+◌, ◌≤◌, length, IfOk, OnOk};
 ghost use Rattle.line_journal.specs.Device.{UnchangedOr, IsOnDisk, Goes};
-ghost use Rattle.file_journal.specs.Belief.{history_of, IsReplaced};
+ghost use Rattle.file_journal.specs.Belief.{history_of, IsLooked, IsReplaced};
 ghost use Rattle.file_journal.specs.Counts.{looks_of, writes_of};
 ghost use Rattle.file_journal.specs.Renewed.{IsRenewedTo};
 ghost use Rattle.file_journal.specs.declared.lock.LockKind.TheVariants.{Exclusive};
@@ -128,6 +128,7 @@ impl<R: Files + Drop> DiskFile<R> {
     ) -> Result<Renewed, FileFault>
         requires { kept ≤ length belief.old.bytes.items }
         ensures renewed { IfOk result (IsRenewedTo kept belief.old belief.new) }
+        ensures believed { OnOk result (IsLooked kept belief.old belief.new) }
         ensures looks { OnOk result (looks_of belief.new ≡ looks_of belief.old + 1) }
         ensures writes { writes_of belief.new ≡ writes_of belief.old }
         ensures syncs { self.new.syncs ≡ self.old.syncs }

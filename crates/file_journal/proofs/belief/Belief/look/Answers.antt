@@ -1,4 +1,4 @@
-use Rattle.std.proofs.Common.{◌≡◌, List, ℕ, ◌++◌, take, drop, refl, subst, sym, ap, ◌∙◌, rules, true≢false}
+use Rattle.std.proofs.Common.{◌≡◌, List, ℕ, ◌++◌, take, drop, refl, subst, sym, ap, ◌∙◌, arith, rules, true≢false, take-append-drop}
 use Rattle.line_journal.specs.Renewed.{StaysTo}
 use Rattle.file_journal.specs.Counts.{is_look, is_write}
 use Rattle.file_journal.proofs.CallLemmas.{looked, counted, not_counted, stays_to, other_bytes}
@@ -34,3 +34,26 @@ returns-clause-renewed g c =
       other = λ same. other_bytes kept old read c.requires (λ is. true≢false (sym (c.agrees.ensures.1 (c.deref.ensures.value ∙ is)) ∙ c.if-agrees.false)) (sym is_new ∙ same);
       unknown = looked c.in_ok-read.ensures.ok new;
     }
+
+pub returns-then-agrees-clause-believed : goal.returns-then-agrees-clause-believed
+returns-then-agrees-clause-believed g c =
+    let kept = c.args.kept in
+    let old = c.args.self.now.bytes.items in
+    let read = c.in_ok-read.read.items in
+    let is_rest : read ≡ drop kept old = sym c.deref.ensures.value ∙ c.agrees.ensures.0 c.if-agrees.true in
+    record {
+      place = kept;
+      within = omega arith;
+      read = read;
+      noted = c.in_ok-read.ensures.ok;
+      believed = sym (take-append-drop kept old) ∙ ap (λ (l : List ℕ). take kept old ++ l) (sym is_rest);
+    }
+
+pub returns-clause-believed : goal.returns-clause-believed
+returns-clause-believed g c = record {
+  place = c.args.kept;
+  within = omega arith;
+  read = c.in_ok-read.read.items;
+  noted = c.in_ok-read.ensures.ok;
+  believed = search rules;
+}

@@ -1,4 +1,4 @@
-use Rattle.std.proofs.Common.{List, ℕ, refl, subst, sym, ◌∙◌}
+use Rattle.std.proofs.Common.{List, ℕ, refl, subst, sym, ◌∙◌, arith}
 use Rattle.line_journal.specs.Renewed.{IsRenewed}
 use Rattle.file_journal.specs.Counts.{is_look, is_write}
 use Rattle.file_journal.proofs.CallLemmas.{counted, not_counted, looked, other_of}
@@ -24,3 +24,12 @@ returns-clause-renewed g c =
       other = other_of old read renewed (λ is. sym is_read ∙ same.0 is ∙ is_old, λ is. same.1 (is_read ∙ is ∙ sym is_old));
       unknown = looked c.in_ok-read.ensures.ok read;
     }
+
+pub returns-clause-believed : goal.returns-clause-believed
+returns-clause-believed g c = record {
+  place = 0;
+  within = omega arith;
+  read = c.in_ok-read.read.items;
+  noted = c.in_ok-read.ensures.ok;
+  believed = refl;
+}
