@@ -68,6 +68,20 @@ fn read_bytes<F: Read + Seek>(
     Ok(bytes)
 }
 
+/// What a journal's file has from a place on. It is likely as much as it had there before.
+fn fetch<F: Read + Seek>(
+    alloc: Global,
+    file: &mut F,
+    place: usize,
+    before: &[u8],
+) -> Result<Vec<u8>, FileFault>
+    requires { place ≤ length before.now }
+{
+    let room = (before.len() - place).saturating_add(64);
+    let read = read_bytes(alloc, file, place, room);
+    read.map_err(|error| failed(Action::Read, &error))
+}
+
 fn write_bytes<F: Write + Seek>(file: &mut F, place: usize, bytes: &[u8]) -> io::Result<()> {
     file.seek(SeekFrom::Start(place as u64))?;
     file.write_all(bytes)
@@ -132,9 +146,7 @@ impl Calls {
         ensures ok { IfOk result (λ read. IsNoted (Look place) before.now.items read.items self.old.noted.items self.new.noted.items) }
         ensures err { OnErr result (self.new.noted.items ≡ self.old.noted.items) }
     {
-        let room = (before.len() - place).saturating_add(64);
-        let read = read_bytes(alloc, file, place, room);
-        let read = read.map_err(|error| failed(Action::Read, &error))?;
+        let read = fetch(alloc, file, place, before)?;
         self.note(Call::Look(place), Snapshot::of(before), Snapshot::of(&read))?;
         Ok(read)
     }
@@ -152,9 +164,7 @@ impl Calls {
         ensures ok { IfOk result (λ read. IsNoted (Read place) before.now.items read.items self.old.noted.items self.new.noted.items) }
         ensures err { OnErr result (self.new.noted.items ≡ self.old.noted.items) }
     {
-        let room = (before.len() - place).saturating_add(64);
-        let read = read_bytes(alloc, file, place, room);
-        let read = read.map_err(|error| failed(Action::Read, &error))?;
+        let read = fetch(alloc, file, place, before)?;
         self.note(Call::Read(place), Snapshot::of(before), Snapshot::of(&read))?;
         Ok(read)
     }
