@@ -3,7 +3,7 @@ use Rattle.std.specs.Prelude.{◌≡◌, ◌≤◌, ℕ, List, [], ◌++◌, tak
 use Rattle.line_journal.specs.Device.{History}
 use Rattle.file_journal.specs.Calls.{call_history, IsNoted}
 use Rattle.file_journal.specs.declared.belief.Belief.{Belief}
-use Rattle.file_journal.specs.declared.calls.kinds.Call.TheVariants.{Look, Read, Write, Cut, Settle, Replaced}
+use Rattle.file_journal.specs.declared.calls.kinds.Call.TheVariants.{Look, Read, Write, Again, Cut, Settle, Replaced}
 use Rattle.file_journal.specs.declared.disk_file.Syncs.{Syncs}
 
 abbrev pub history_of : Belief → History
@@ -33,6 +33,10 @@ IsReadBack place bytes old new = IsNoted (Read place) old.bytes.items bytes old.
 -- these bytes were written from a place on
 abbrev pub IsWritten : ℕ → List ℕ → Belief → Belief → Type 0
 IsWritten place bytes old new = IsNoted (Write place) old.bytes.items bytes old.calls.noted.items new.calls.noted.items
+
+-- all bytes were written again, as they are
+abbrev pub IsWrittenAgain : Belief → Belief → Type 0
+IsWrittenAgain old new = IsNoted Again old.bytes.items old.bytes.items old.calls.noted.items new.calls.noted.items
 
 -- what stood behind the first `size` bytes was cut off
 abbrev pub IsCut : ℕ → Belief → Belief → Type 0

@@ -1,7 +1,8 @@
-ghost use Rattle.std.specs.Prelude.{◌≡◌, ◌↔◌, ◌+◌, ◌<◌, ◌≤◌, ◌^◌, [], length, take, drop, IsTrue, IfOk, IfSome, OnOk};
+ghost use Rattle.std.specs.Prelude.{◌≡◌, ◌≢◌, ◌↔◌, ◌+◌, ◌<◌, ◌≤◌, ◌^◌, [], length, take, drop, IsTrue, IfOk, IfErr, IfSome, OnOk};
 ghost use Rattle.line_journal.specs.Device.{overwritten, Torn, Shortened, Unchanged, UnchangedOr, IsOnDisk, Goes};
 ghost use Rattle.line_journal.specs.Renewed.{IsRenewed};
 ghost use Rattle.file_journal.specs.Belief.{history_of};
+ghost use Rattle.file_journal.specs.declared.fault.Cause.TheVariants.{OutOfMemory};
 ghost use Rattle.file_journal.specs.declared.lock.LockKind.TheVariants.{Exclusive};
 
 use crate::calls::Calls;
@@ -40,7 +41,7 @@ fn compare(believed: &[u8], kept: usize, bytes: &[u8]) -> Renewed
 }
 
 impl Belief {
-    ghost use Rattle.file_journal.specs.Belief.{MayBeAnything, IsLooked, IsReadBack, IsWritten, IsCut, IsSettled, IsReplaced};
+    ghost use Rattle.file_journal.specs.Belief.{MayBeAnything, IsLooked, IsReadBack, IsWritten, IsWrittenAgain, IsCut, IsSettled, IsReplaced};
     ghost use Rattle.file_journal.specs.Counts.{looks_of, writes_of};
     ghost use Rattle.file_journal.specs.Renewed.{IsRenewedTo};
 
@@ -183,6 +184,7 @@ impl Belief {
         requires { lock.now.kind ≡ Exclusive }
         ensures on_disk { OnOk result (IsOnDisk self.old.bytes.items (history_of self.new)) }
         ensures settled { OnOk result (IsSettled syncs self.old self.new) }
+        ensures again { IfErr result (λ fault. fault.cause ≢ OutOfMemory → IsWrittenAgain self.old self.new) }
         ensures bytes { self.new.bytes ≡ self.old.bytes }
         ensures crash { Goes Unchanged (history_of self.old) (history_of self.new) }
         ensures looks { looks_of self.new ≡ looks_of self.old }
@@ -191,7 +193,7 @@ impl Belief {
         match self.calls.settle(file, lock, syncs, &self.bytes) {
             Ok(()) => Ok(()),
             Err(fault) => {
-                self.calls.write_again(file, lock, &self.bytes);
+                self.calls.write_again(file, lock, &self.bytes)?;
                 Err(fault)
             }
         }

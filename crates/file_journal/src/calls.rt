@@ -1,7 +1,7 @@
 //! The calls of the system that a journal's file gets, a method each. That a method makes the call that it notes is trusted.
 ghost use Rattle.std.specs.Prelude.{◌≡◌, ◌≤◌, [], length, IfOk, OnOk, OnErr};
 ghost use Rattle.file_journal.specs.Calls.{IsNoted, IsNotedOrNot};
-ghost use Rattle.file_journal.specs.declared.calls.kinds.Call.TheVariants.{Look, Read, Write, Cut, Settle, Replaced, NotReplaced};
+ghost use Rattle.file_journal.specs.declared.calls.kinds.Call.TheVariants.{Look, Read, Write, Again, Cut, Settle, Replaced, NotReplaced};
 ghost use Rattle.file_journal.specs.declared.lock.LockKind.TheVariants.{Exclusive};
 ghost use Rattle.file_journal.specs.declared.disk_file.Syncs.TheVariants.{Kept, LeftOut};
 
@@ -30,6 +30,8 @@ mod kinds {
         Read(usize),
         /// To write bytes from a place on.
         Write(usize),
+        /// To write all bytes again, as they are, after a sync that failed. Whether it was done is not told.
+        Again,
         /// To end after so many bytes.
         Cut(usize),
         /// To be on the disk as it reads then, or to be left to the system. It was done.
@@ -262,10 +264,18 @@ impl Calls {
 
     /// Writes all bytes of a file again, as they are, after a sync that failed: the system may take for written what did not
     /// come to the disk, and then the next sync, whoever makes it, would write nothing, and succeed.
-    pub(crate) fn write_again<F: Write + Seek>(&self, file: &mut F, lock: &FolderLock, bytes: &[u8])
-        requires { lock.now.kind ≡ Exclusive }
+    pub(crate) fn write_again<F: Write + Seek>(
+        &mut self,
+        file: &mut F,
+        lock: &FolderLock,
+        before: &Vec<u8>,
+    ) -> Result<(), AllocError>
+        requires lock { lock.now.kind ≡ Exclusive }
+        ensures ok { OnOk result (IsNoted Again before.now.items before.now.items self.old.noted.items self.new.noted.items) }
+        ensures err { OnErr result (self.new.noted.items ≡ self.old.noted.items) }
     {
-        let _ = write_bytes(file, 0, bytes);
+        let _ = write_bytes(file, 0, before);
+        self.note(Call::Again, Snapshot::of(before), Snapshot::of(before))
     }
 
     /// Gives a journal's path to a new file, and waits until that is on the disk, unless `names` leaves it out. It is noted as a
