@@ -2,8 +2,10 @@ ghost use Rattle.std.specs.Prelude.{◌≡◌, ◌≢◌, ◌+◌, ◌<◌, ◌�
 ghost use Rattle.std.proofs.Common.{inl, refl};
 ghost use Rattle.line_journal.specs.Device.{overwritten, Torn, Shortened, Unchanged, UnchangedOr, IsOnDisk, Goes, TellsFaults};
 ghost use Rattle.line_journal.specs.declared.device.DeviceError.TheVariants.{Failed};
-ghost use Rattle.file_journal.specs.Belief.{history_of, MayBeAnything, IsLooked, IsOpened, IsReadBack, IsWritten, IsCut, IsSettled, IsReplaced};
+ghost use Rattle.file_journal.specs.Belief.{history_of, MayBeAnything, IsLooked, IsOpened, IsReadBack, IsWritten, IsWrittenAgain, IsCut, IsSettled, IsReplaced};
 ghost use Rattle.file_journal.specs.Counts.{looks_of, writes_of};
+ghost use Rattle.file_journal.specs.Failing.{MayRead, MayWrite, KeepsFault};
+ghost use Rattle.file_journal.specs.declared.fault.Cause.TheVariants as cause;
 ghost use Rattle.file_journal.specs.declared.lock.LockKind.TheVariants.{Exclusive};
 
 use crate::belief::Belief;
@@ -99,10 +101,11 @@ const READS_OTHERWISE: FileFault = FileFault {
 };
 
 /// The lock, of either kind, unless a call has failed before: then each further one fails.
-fn some_lock(
-    lock: &Option<FolderLock>,
-    fault: Option<FileFault>,
-) -> Result<&FolderLock, FileFault> {
+fn some_lock(lock: &Option<FolderLock>, fault: Option<FileFault>) -> Result<&FolderLock, FileFault>
+    ensures lock { IfOk result (λ own. lock.now ≡ Some own.now) }
+    ensures works { OnOk result (fault ≡ None) }
+    ensures fails { OnErr result (MayRead lock.now fault → ⊥) }
+{
     match (lock, fault) {
         (_, Some(fault)) => Err(fault),
         (None, None) => Err(NOT_LOCKED),
@@ -112,7 +115,9 @@ fn some_lock(
 
 /// The lock, if nobody else has it, unless a call has failed before.
 fn own_lock(lock: &Option<FolderLock>, fault: Option<FileFault>) -> Result<&FolderLock, FileFault>
-    ensures { IfOk result (λ own. own.now.kind ≡ Exclusive) }
+    ensures lock { IfOk result (λ own. own.now.kind ≡ Exclusive) }
+    ensures works { OnOk result (MayWrite lock.now fault) }
+    ensures fails { OnErr result (MayWrite lock.now fault → ⊥) }
 {
     let lock = some_lock(lock, fault)?;
     if lock.kind == LockKind::Exclusive {
@@ -182,6 +187,7 @@ impl<R: Files + Drop> FileDevice<R> {
     pub fn read_again(&mut self) -> Result<(), FileFault>
         ensures unknown { OnOk result (MayBeAnything (history_of self.new.belief)) }
         ensures no_fault { OnOk result (self.new.fault ≡ None) }
+        ensures fails { OnErr result (MayRead self.new.lock self.new.fault → ⊥) }
         ensures looked { OnOk result (looks_of self.old.belief < looks_of self.new.belief) }
         ensures believed { OnOk result (IsLooked 0 self.old.belief self.new.belief) }
         ensures lock { self.new.lock ≡ self.old.lock }
@@ -222,6 +228,7 @@ impl<R: Files + Drop> FileDevice<R> {
         ensures later { self.old.faults ≤ self.new.faults }
         ensures counted { result ≡ Failed → self.old.faults < self.new.faults }
         ensures fails { self.new.fault ≢ None }
+        ensures first { self.old.fault ≢ None → self.new.fault ≡ self.old.fault }
     {
         self.fault = Some(self.fault.unwrap_or(fault));
         match self.faults.checked_add(1) {
@@ -240,6 +247,9 @@ impl<R: Files + Drop> FileDevice<R> {
         ensures disk { self.new.disk ≡ self.old.disk }
         ensures later { self.old.faults ≤ self.new.faults }
         ensures counted { result ≡ Failed → self.old.faults < self.new.faults }
+        ensures fails { result ≡ Failed → self.new.fault ≢ None }
+        ensures first { self.old.fault ≢ None → self.new.fault ≡ self.old.fault }
+        ensures memory { result ≡ Failed → fault.cause ≢ cause.OutOfMemory }
     {
         match fault.cause {
             Cause::OutOfMemory => DeviceError::OutOfMemory,
@@ -271,6 +281,8 @@ impl<R: Files + Drop> Device for FileDevice<R> {
         ensures crash { Goes Unchanged (history_of self.old.belief) (history_of self.new.belief) }
         ensures looks { looks_of self.new.belief ≡ looks_of self.old.belief }
         ensures faults { TellsFaults self.old.faults self.new.faults result }
+        ensures works { OnOk result (MayRead self.old.lock self.old.fault) }
+        ensures fault { KeepsFault self.old.fault self.new.fault result }
         ensures lock { self.new.lock ≡ self.old.lock }
         ensures syncs { self.new.disk.syncs ≡ self.old.disk.syncs }
     {
@@ -293,6 +305,8 @@ impl<R: Files + Drop> Device for FileDevice<R> {
         ensures crash { Goes (Torn place (length bytes.now)) (history_of self.old.belief) (history_of self.new.belief) }
         ensures looks { looks_of self.new.belief ≡ looks_of self.old.belief }
         ensures faults { TellsFaults self.old.faults self.new.faults result }
+        ensures works { OnOk result (MayWrite self.old.lock self.old.fault) }
+        ensures fault { KeepsFault self.old.fault self.new.fault result }
         ensures lock { self.new.lock ≡ self.old.lock }
         ensures syncs { self.new.disk.syncs ≡ self.old.disk.syncs }
     {
@@ -314,6 +328,8 @@ impl<R: Files + Drop> Device for FileDevice<R> {
         ensures crash { Goes (Shortened size) (history_of self.old.belief) (history_of self.new.belief) }
         ensures looks { looks_of self.new.belief ≡ looks_of self.old.belief }
         ensures faults { TellsFaults self.old.faults self.new.faults result }
+        ensures works { OnOk result (MayWrite self.old.lock self.old.fault) }
+        ensures fault { KeepsFault self.old.fault self.new.fault result }
         ensures lock { self.new.lock ≡ self.old.lock }
         ensures syncs { self.new.disk.syncs ≡ self.old.disk.syncs }
     {
@@ -335,6 +351,9 @@ impl<R: Files + Drop> Device for FileDevice<R> {
         ensures crash { Goes Unchanged (history_of self.old.belief) (history_of self.new.belief) }
         ensures looks { looks_of self.new.belief ≡ looks_of self.old.belief }
         ensures faults { TellsFaults self.old.faults self.new.faults result }
+        ensures works { OnOk result (MayWrite self.old.lock self.old.fault) }
+        ensures fault { KeepsFault self.old.fault self.new.fault result }
+        ensures again { IsErrOf result Failed → MayWrite self.old.lock self.old.fault → IsWrittenAgain self.old.belief self.new.belief }
         ensures lock { self.new.lock ≡ self.old.lock }
         ensures syncs { self.new.disk.syncs ≡ self.old.disk.syncs }
     {
@@ -357,6 +376,8 @@ impl<R: Files + Drop> Device for FileDevice<R> {
         ensures crash { Goes (UnchangedOr bytes.now) (history_of self.old.belief) (history_of self.new.belief) }
         ensures looks { looks_of self.new.belief ≡ looks_of self.old.belief }
         ensures faults { TellsFaults self.old.faults self.new.faults result }
+        ensures works { OnOk result (MayWrite self.old.lock self.old.fault) }
+        ensures fault { KeepsFault self.old.fault self.new.fault result }
         ensures lock { self.new.lock ≡ self.old.lock }
         ensures syncs { self.new.disk.syncs ≡ self.old.disk.syncs }
     {
