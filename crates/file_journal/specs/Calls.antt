@@ -5,6 +5,7 @@ use Rattle.std.specs.declared.snapshot.Snapshot.{Snapshot}
 use Rattle.line_journal.specs.Device.{History, Torn, Shortened}
 use Rattle.file_journal.specs.declared.calls.kinds.Call.{Call}
 use Rattle.file_journal.specs.declared.calls.kinds.Call.TheVariants.{Look, Read, Write, Again, Cut, Settle, Replaced, NotReplaced}
+use Rattle.file_journal.specs.declared.disk_file.Syncs.TheVariants.{Kept}
 use Rattle.file_journal.specs.declared.calls.kinds.Noted.{Noted}
 
 -- what a read returns, or one of the others
@@ -69,3 +70,9 @@ pub record IsNoted (call : Call) (before bytes : List ℕ) (old new : List (Snap
 -- a call that failed: it was noted, or was not made
 abbrev pub IsNotedOrNot : Call → List ℕ → List ℕ → List (Snapshot Noted) → List (Snapshot Noted) → Type 0
 IsNotedOrNot call before bytes old new = (new ≡ old) ⊎ IsNoted call before bytes old new
+
+-- The calls of a new file: these bytes were written to it, and then it was waited for until they were on the disk.
+pub record IsSynced (bytes : List ℕ) (calls : List (Snapshot Noted)) : Type 0 where
+  pub written : List (Snapshot Noted)
+  pub is_written : IsNoted (Write 0) [] bytes [] written
+  pub is_synced : IsNoted (Settle Kept) bytes bytes written calls

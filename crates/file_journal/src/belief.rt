@@ -2,6 +2,7 @@ ghost use Rattle.std.specs.Prelude.{◌≡◌, ◌≢◌, ◌↔◌, ◌+◌, �
 ghost use Rattle.line_journal.specs.Device.{overwritten, Torn, Shortened, Unchanged, UnchangedOr, IsOnDisk, Goes};
 ghost use Rattle.line_journal.specs.Renewed.{IsRenewed};
 ghost use Rattle.file_journal.specs.Belief.{history_of};
+ghost use Rattle.file_journal.specs.Calls.{IsSynced};
 ghost use Rattle.file_journal.specs.declared.fault.Cause.TheVariants.{OutOfMemory};
 ghost use Rattle.file_journal.specs.declared.lock.LockKind.TheVariants.{Exclusive};
 
@@ -10,7 +11,7 @@ use crate::disk_file::{Paths, Syncs};
 use crate::fault::FileFault;
 use crate::folder_names::FolderNames;
 use crate::lock::FolderLock;
-use crate::new_file::SyncedFile;
+use crate::new_file::NewFile;
 use crate::overwrite::overwrite;
 use line_journal::Renewed;
 use std::alloc::Global;
@@ -199,28 +200,26 @@ impl Belief {
         }
     }
 
-    /// A new file takes the place of this one.
+    /// A new file, which is on the disk, takes the place of this one.
     pub(crate) fn replace<R: Files>(
         &mut self,
         rt: &R,
         lock: &FolderLock,
         names: &FolderNames<R::File>,
-        new: SyncedFile<R::File>,
+        new: NewFile<R::File>,
         paths: &Paths,
-        next: Vec<u8>,
     ) -> Result<R::File, FileFault>
         requires lock { lock.now.kind ≡ Exclusive }
-        requires next { new.bytes.value.items ≡ next.items }
-        ensures replaced { OnOk result (self.new.bytes.items ≡ next.items) }
-        ensures settled { OnOk result (IsReplaced names.now.syncs next.items self.old self.new) }
-        ensures on_disk { OnOk result (IsOnDisk next.items (history_of self.new)) }
-        ensures crash { Goes (UnchangedOr next.items) (history_of self.old) (history_of self.new) }
+        requires synced { IsSynced new.bytes.items new.calls.noted.items }
+        ensures replaced { OnOk result (self.new.bytes.items ≡ new.bytes.items) }
+        ensures settled { OnOk result (IsReplaced names.now.syncs new.bytes.items self.old self.new) }
+        ensures on_disk { OnOk result (IsOnDisk new.bytes.items (history_of self.new)) }
+        ensures crash { Goes (UnchangedOr new.bytes.items) (history_of self.old) (history_of self.new) }
         ensures looks { looks_of self.new ≡ looks_of self.old }
     {
-        let file = self
-            .calls
-            .replace(rt, lock, names, new, paths, &self.bytes)?;
-        self.bytes = next;
-        Ok(file)
+        self.calls
+            .replace(rt, lock, names, &new, paths, &self.bytes)?;
+        self.bytes = new.bytes;
+        Ok(new.file)
     }
 }

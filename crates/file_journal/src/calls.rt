@@ -1,6 +1,7 @@
-//! The calls of the system that a journal's file gets, a method each. That a method makes the call that it notes is trusted.
+//! The calls of the system that a journal's file gets, or a new one for its place, a method each. That a method makes the call
+//! that it notes is trusted.
 ghost use Rattle.std.specs.Prelude.{◌≡◌, ◌≤◌, [], length, IfOk, OnOk, OnErr};
-ghost use Rattle.file_journal.specs.Calls.{IsNoted, IsNotedOrNot};
+ghost use Rattle.file_journal.specs.Calls.{IsNoted, IsNotedOrNot, IsSynced};
 ghost use Rattle.file_journal.specs.declared.calls.kinds.Call.TheVariants.{Look, Read, Write, Again, Cut, Settle, Replaced, NotReplaced};
 ghost use Rattle.file_journal.specs.declared.lock.LockKind.TheVariants.{Exclusive};
 ghost use Rattle.file_journal.specs.declared.disk_file.Syncs.TheVariants.{Kept, LeftOut};
@@ -10,7 +11,7 @@ use crate::disk_file::{Paths, Syncs};
 use crate::fault::{Action, FileFault, Target};
 use crate::folder_names::FolderNames;
 use crate::lock::FolderLock;
-use crate::new_file::SyncedFile;
+use crate::new_file::NewFile;
 use std::alloc::{AllocError, Global};
 use std::fs::{self, OpenFile};
 use std::io::{self, Read, Seek, SeekFrom, Write};
@@ -279,28 +280,33 @@ impl Calls {
     }
 
     /// Gives a journal's path to a new file, and waits until that is on the disk, unless `names` leaves it out. It is noted as a
-    /// failed replacement if either failed: then a crash leaves the one file or the other.
+    /// failed replacement if either failed: then a crash leaves the one file or the other. The new file is on the disk before.
     pub(crate) fn replace<R: Files>(
         &mut self,
         rt: &R,
         lock: &FolderLock,
         names: &FolderNames<R::File>,
-        new: SyncedFile<R::File>,
+        new: &NewFile<R::File>,
         paths: &Paths,
         before: &Vec<u8>,
-    ) -> Result<R::File, FileFault>
+    ) -> Result<(), FileFault>
         requires lock { lock.now.kind ≡ Exclusive }
-        ensures ok { OnOk result (IsNoted (Replaced names.now.syncs) before.now.items new.bytes.value.items self.old.noted.items self.new.noted.items) }
-        ensures err { OnErr result (IsNotedOrNot NotReplaced before.now.items new.bytes.value.items self.old.noted.items self.new.noted.items) }
+        requires synced { IsSynced new.now.bytes.items new.now.calls.noted.items }
+        ensures ok { OnOk result (IsNoted (Replaced names.now.syncs) before.now.items new.now.bytes.items self.old.noted.items self.new.noted.items) }
+        ensures err { OnErr result (IsNotedOrNot NotReplaced before.now.items new.now.bytes.items self.old.noted.items self.new.noted.items) }
     {
         match put_in_place(rt, names, paths) {
             Ok(()) => {
                 let call = Call::Replaced(names.syncs());
-                self.note(call, Snapshot::of(before), new.bytes)?;
-                Ok(new.file)
+                self.note(call, Snapshot::of(before), Snapshot::of(&new.bytes))?;
+                Ok(())
             }
             Err(fault) => {
-                self.note(Call::NotReplaced, Snapshot::of(before), new.bytes)?;
+                self.note(
+                    Call::NotReplaced,
+                    Snapshot::of(before),
+                    Snapshot::of(&new.bytes),
+                )?;
                 Err(fault)
             }
         }

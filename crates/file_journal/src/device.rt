@@ -386,7 +386,7 @@ impl<R: Files + Drop> Device for FileDevice<R> {
             Ok(lock) => lock,
             Err(fault) => return Err(self.report(fault)),
         };
-        match self.disk.replace(&mut self.belief, lock, next) {
+        match self.disk.replace(&mut self.belief, lock, self.alloc, next) {
             Ok(()) => Ok(()),
             Err(fault) => Err(self.report(fault)),
         }

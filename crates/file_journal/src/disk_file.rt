@@ -1,6 +1,7 @@
 ghost use Rattle.std.specs.Prelude.{◌≡◌, ◌+◌, ◌≤◌, length, IfOk, OnOk};
 ghost use Rattle.line_journal.specs.Device.{UnchangedOr, IsOnDisk, Goes};
 ghost use Rattle.file_journal.specs.Belief.{history_of, IsLooked, IsReplaced};
+ghost use Rattle.file_journal.specs.Calls.{IsSynced};
 ghost use Rattle.file_journal.specs.Counts.{looks_of, writes_of};
 ghost use Rattle.file_journal.specs.Renewed.{IsRenewedTo};
 ghost use Rattle.file_journal.specs.declared.lock.LockKind.TheVariants.{Exclusive};
@@ -9,11 +10,10 @@ use crate::belief::Belief;
 use crate::fault::{Action, Cause, FileFault, Target};
 use crate::folder_names::FolderNames;
 use crate::lock::FolderLock;
-use crate::new_file::{SyncedFile, WrittenFile};
+use crate::new_file::{NewFile, not_written};
 use line_journal::Renewed;
 use std::alloc::{AllocError, Global};
 use std::fs::{self, File, OpenFile};
-use std::io;
 use std::os::unix::fs::MetadataExt;
 use std::rt::Files;
 
@@ -142,12 +142,20 @@ impl<R: Files + Drop> DiskFile<R> {
 
     /// Writes a new file, with the owner and the rights of the one that is there, and brings it to the disk, also where nothing
     /// else is waited for: others may have waited for what the one that is there has.
-    fn write_new(&self, bytes: &Vec<u8>) -> io::Result<SyncedFile<R::File>>
-        ensures { IfOk result (λ new. new.bytes.value ≡ bytes.now) }
+    fn write_new(
+        &self,
+        lock: &FolderLock,
+        alloc: Global,
+        bytes: Vec<u8>,
+    ) -> Result<NewFile<R::File>, FileFault>
+        requires { lock.now.kind ≡ Exclusive }
+        ensures bytes { IfOk result (λ new. new.bytes ≡ bytes) }
+        ensures synced { IfOk result (λ new. IsSynced new.bytes.items new.calls.noted.items) }
     {
-        let known = self.file.metadata()?;
+        let known = self.file.metadata();
+        let known = known.map_err(|error| not_written(Cause::of(&error)))?;
         let path = self.paths.new_journal.as_str();
-        WrittenFile::write(&self.rt, path, &known, bytes)?.sync()
+        NewFile::make(&self.rt, alloc, lock, path, &known, bytes)
     }
 
     /// Puts a new file of these bytes in the place of this one.
@@ -155,6 +163,7 @@ impl<R: Files + Drop> DiskFile<R> {
         &mut self,
         belief: &mut Belief,
         lock: &FolderLock,
+        alloc: Global,
         bytes: Vec<u8>,
     ) -> Result<(), FileFault>
         requires { lock.now.kind ≡ Exclusive }
@@ -166,9 +175,8 @@ impl<R: Files + Drop> DiskFile<R> {
         ensures syncs { self.new.syncs ≡ self.old.syncs }
     {
         let names = open_names(&self.rt, &self.paths, self.syncs)?;
-        let new = self.write_new(&bytes);
-        let new = new.map_err(|error| FileFault::of(Action::Write, Target::NewJournal, &error))?;
-        self.file = belief.replace(&self.rt, lock, &names, new, &self.paths, bytes)?;
+        let new = self.write_new(lock, alloc, bytes)?;
+        self.file = belief.replace(&self.rt, lock, &names, new, &self.paths)?;
         Ok(())
     }
 
@@ -178,6 +186,7 @@ impl<R: Files + Drop> DiskFile<R> {
         &mut self,
         belief: &mut Belief,
         lock: &FolderLock,
+        alloc: Global,
         bytes: Vec<u8>,
     ) -> Result<(), FileFault>
         requires { lock.now.kind ≡ Exclusive }
@@ -188,7 +197,7 @@ impl<R: Files + Drop> DiskFile<R> {
         ensures looks { looks_of belief.new ≡ looks_of belief.old }
         ensures syncs { self.new.syncs ≡ self.old.syncs }
     {
-        let put = self.put_new(belief, lock, bytes);
+        let put = self.put_new(belief, lock, alloc, bytes);
         if put.is_err() {
             let _ = fs::remove_file(&self.rt, self.paths.new_journal.as_str());
         }

@@ -1,11 +1,17 @@
 //! Files that are made in the place of what stands at a path.
 ghost use Rattle.std.specs.Prelude.{◌≡◌, IfOk};
+ghost use Rattle.file_journal.specs.Calls.{IsSynced};
+ghost use Rattle.file_journal.specs.declared.lock.LockKind.TheVariants.{Exclusive};
 
+use crate::calls::Calls;
+use crate::disk_file::Syncs;
+use crate::fault::{Action, Cause, FileFault, Target};
+use crate::lock::FolderLock;
+use std::alloc::Global;
 use std::fs::{self, File, Metadata, OpenFile, Permissions};
-use std::io::{self, ErrorKind, Write};
+use std::io::{self, ErrorKind, Seek, Write};
 use std::os::unix::fs::{MetadataExt, OpenOptionsExt, PermissionsExt, lchown};
 use std::rt::Files;
-use std::snapshot::Snapshot;
 
 /// Removes what stands at a path: a process that was killed may have left it. Where it is a link, what that leads to is not
 /// touched.
@@ -91,46 +97,53 @@ pub fn create_like<R: Files>(rt: &R, path: &str, known: &Metadata) -> io::Result
     }
 }
 
-/// A new file that has these bytes, and is not on the disk yet.
+/// A new file that is to take a journal's place: the bytes that were written to it, and the calls that it got.
 #[derive(Drop)]
-pub(crate) struct WrittenFile<F: Drop> {
-    file: F,
-    bytes: Snapshot<Vec<u8>>,
-}
-
-/// A new file that has these bytes, and is on the disk.
-#[derive(Drop)]
-pub(crate) struct SyncedFile<F: Drop> {
+pub(crate) struct NewFile<F: Drop> {
     pub(crate) file: F,
-    pub(crate) bytes: Snapshot<Vec<u8>>,
+    pub(crate) bytes: Vec<u8>,
+    calls: Calls,
 }
 
-impl<F: OpenFile + Write + Drop> WrittenFile<F> {
-    /// Makes a file as `create_like` does, and writes bytes to it.
-    pub(crate) fn write<R: Files<File = F>>(
-        rt: &R,
-        path: &str,
-        known: &Metadata,
-        bytes: &Vec<u8>,
-    ) -> io::Result<Self>
-        ensures { IfOk result (λ new. new.bytes.value ≡ bytes.now) }
+/// The fault of a new file that was not made, not written, or did not come to the disk.
+pub(crate) fn not_written(cause: Cause) -> FileFault {
+    FileFault {
+        action: Action::Write,
+        target: Target::NewJournal,
+        cause,
+    }
+}
+
+impl<F: OpenFile + Write + Seek + Drop> NewFile<F> {
+    /// Of a file that was made: writes bytes to it, and waits until they are on the disk.
+    fn write(file: F, alloc: Global, lock: &FolderLock, bytes: Vec<u8>) -> Result<Self, FileFault>
+        requires { lock.now.kind ≡ Exclusive }
+        ensures bytes { IfOk result (λ new. new.bytes ≡ bytes) }
+        ensures synced { IfOk result (λ new. IsSynced new.bytes.items new.calls.noted.items) }
     {
-        let mut file = create_like(rt, path, known)?;
-        file.write_all(bytes)?;
-        Ok(WrittenFile {
-            file,
-            bytes: Snapshot::of(bytes),
-        })
+        let (mut file, mut calls) = (file, Calls::new(alloc));
+        let nothing = Vec::new(alloc);
+        calls.write(&mut file, lock, 0, &bytes, &nothing)?;
+        calls.settle(&file, lock, Syncs::Kept, &bytes)?;
+        Ok(NewFile { file, bytes, calls })
     }
 
-    /// Waits until it is on the disk: fsync(2).
-    pub(crate) fn sync(self) -> io::Result<SyncedFile<F>>
-        ensures { IfOk result (λ new. new.bytes ≡ self.bytes) }
+    /// Makes a file as `create_like` does, writes bytes to it, and waits until they are on the disk.
+    pub(crate) fn make<R: Files<File = F>>(
+        rt: &R,
+        alloc: Global,
+        lock: &FolderLock,
+        path: &str,
+        known: &Metadata,
+        bytes: Vec<u8>,
+    ) -> Result<Self, FileFault>
+        requires { lock.now.kind ≡ Exclusive }
+        ensures bytes { IfOk result (λ new. new.bytes ≡ bytes) }
+        ensures synced { IfOk result (λ new. IsSynced new.bytes.items new.calls.noted.items) }
     {
-        self.file.sync_all()?;
-        Ok(SyncedFile {
-            file: self.file,
-            bytes: self.bytes,
-        })
+        let file = create_like(rt, path, known);
+        let file = file.map_err(|error| not_written(Cause::of(&error)))?;
+        let new = NewFile::write(file, alloc, lock, bytes);
+        new.map_err(|fault| not_written(fault.cause))
     }
 }
