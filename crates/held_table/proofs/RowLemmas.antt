@@ -1,16 +1,16 @@
 -- Rows of counts, and their sums.
-use Rattle.std.proofs.Common.{◌≡◌, ℕ, zero, suc, ◌+◌, ◌*◌, ◌<◌, ◌≤◌, ◌≢◌, zero-add, Bool, true, false, cond, ltb, eqb, ◌&&◌, List, [], ◌∷◌, ◌++◌, map, length, get_or, drop, Some, unwrap_or, refl, sym, ◌∙◌, ap, subst, arith, ◌⊎◌, inl, inr}
-use Rattle.std.proofs.Math.ListN.{set, replicate, drop_of_length-le}
-use Rattle.std.proofs.Math.Numerals.{add-one}
+use Rattle.std.proofs.Common.{◌≡◌, ℕ, zero, suc, ◌+◌, ◌*◌, ◌<◌, ◌≤◌, ◌≢◌, zero-add, Bool, true, false, cond, ltb, eqb, ◌&&◌, List, [], ◌∷◌, ◌++◌, map, length, get_or, drop, slice_get, Some, unwrap_or, refl, sym, ◌∙◌, ap, subst, arith, ◌⊎◌, inl, inr}
+use Rattle.std.proofs.Math.ListN.{set, replicate}
 use Rattle.std.proofs.lemmas.Bool.{cases_lt, lt-ltb, eq-eqb, eqb-true, false≢true}
 use Rattle.std.proofs.lemmas.List.{get_or-map, length-set, get_or-set_same, get_or-set_other, get_or_past, set-set, length-replicate, length-append, length-drop, append-nil}
 use Rattle.std.proofs.lemmas.List.FromFn.{get_or-map-range_with_len, length-map-range_with_len, fill_by_all}
 use Rattle.std.proofs.lemmas.List.Sums.{sum_by-cons, sum_by-set}
 use Rattle.std.proofs.lemmas.Map.Entries.{lookup_head}
+use Rattle.std.proofs.lemmas.Option.{none-some}
 use Rattle.std.specs.Bool.{Decides}
 use Rattle.dep_index.specs.Table.{pairs, holders}
 use Rattle.held_table.specs.Held.{IsIdle, is_idle}
-use Rattle.held_table.specs.Rows.{Holding, no_holding, held_at, count_in, row_of, cleared, IsPositive}
+use Rattle.held_table.specs.Rows.{Holding, no_holding, held_at, count_in, row_of, IsPositive}
 
 told : (b : Bool) → (b ≡ true) ⊎ (b ≡ false)
 told true = inl refl
@@ -26,6 +26,25 @@ counted_none [] positive zeros = refl
 counted_none (e ∷ es) positive zeros =
     let found = lookup_head (eqb e.0) e es (eq-eqb e.0 e.0 refl) in
     absurd (positive e.0 (found ∙ ap Some (sym (ap (λ o. unwrap_or o 0) found) ∙ zeros e.0)))
+
+some_same : {X : Type 0} (x y : X) → Some x ≡ Some y → x ≡ y
+some_same x y same = cc
+
+-- the slot of the first entry is counted
+pub first_counted : (counts : List (ℕ × ℕ)) (slot count : ℕ) → IsPositive counts → slice_get counts 0 ≡ Some (slot, count) → 0 < count_in counts slot
+first_counted [] slot count positive first = absurd (none-some (slot, count) first)
+first_counted (e ∷ es) slot count positive first =
+    let same : slot ≡ e.0 = ap (λ (entry : ℕ × ℕ). entry.0) (sym (some_same e (slot, count) first)) in
+    let found = lookup_head (eqb e.0) e es (eq-eqb e.0 e.0 refl) in
+    let other : e.1 ≢ 0 = λ zero. positive e.0 (found ∙ ap Some zero) in
+    subst (λ k. 0 < count_in (e ∷ es) k) (sym same) (subst (λ n. 0 < n) (sym (ap (λ o. unwrap_or o 0) found)) (omega (arith, other)))
+
+-- a slot that is counted is one
+pub counted_within : (slots : ℕ) (h : Holding) (m : ℕ) → ((k : ℕ) → slots ≤ k → count_in h.counts k ≡ 0) → 0 < count_in h.counts m → m < slots
+counted_within slots h m within some = at (cases_lt m slots) where
+  at : (m < slots) ⊎ (slots ≤ m) → m < slots
+  at (inl below) = below
+  at (inr past) = absurd (omega (arith, some, within m past))
 
 pub row_at : (slots : ℕ) (h : Holding) (m : ℕ) → m < slots → get_or (row_of slots h) m 0 ≡ count_in h.counts m
 row_at slots h m within = get_or-map-range_with_len (count_in h.counts) 0 slots m m 0 within (zero-add m)
@@ -113,6 +132,25 @@ room_of slots holdings w s win sin room none =
     subst (λ n. 0 < n) (get_or-map (λ (h : Holding). h.spare) holdings w no_holding 0 win)
     (room (ap (λ r. get_or r s 0) (row_get slots holdings w win) ∙ row_at slots (get_or holdings w no_holding) s sin ∙ none))
 
+-- a row whose counts are zero has nothing but zeros
+pub idle_is : (row : List ℕ) → IsIdle row → row ≡ replicate (length row) 0
+idle_is [] idle = refl
+idle_is (x ∷ row) idle =
+    let head : x ≡ 0 = idle 0 in
+    let tail : row ≡ replicate (length row) 0 = idle_is row (λ m. idle (suc m)) in
+    cc
+
+-- one slot less of a holder's row
+pub clear_one : (old now new : List (List ℕ)) (w s : ℕ) → w < length old → now ≡ set old w (get_or now w []) → new ≡ set now w (set (get_or now w []) s 0)
+    → (get_or new w [] ≡ set (get_or now w []) s 0) × (new ≡ set old w (get_or new w []))
+clear_one old now new w s within is next =
+    let row = set (get_or now w []) s 0 in
+    let long : length now ≡ length old = ap length is ∙ length-set old w (get_or now w []) in
+    let there : get_or new w [] ≡ row = ap (λ (rows : List (List ℕ)). get_or rows w []) next ∙ get_or-set_same now w row [] (omega (arith, within, long)) in (
+      there,
+      next ∙ ap (λ (rows : List (List ℕ)). set rows w row) is ∙ set-set old w (get_or now w []) row ∙ ap (set old w) (sym there),
+    )
+
 -- the test for an idle row decides it
 pub idle_decided : (row : List ℕ) → Decides (is_idle row) (IsIdle row)
 idle_decided [] = (λ h m. refl, λ zeros. refl)
@@ -124,27 +162,3 @@ idle_decided (x ∷ row) = elim (told (eqb x 0)) [
   from : (y : ℕ) → eqb y 0 ≡ true → IsIdle row → (m : ℕ) → get_or (y ∷ row) m 0 ≡ 0
   from y t idle zero = eqb-true y 0 t
   from y t idle (suc m) = idle m
-
--- one count more is cleared
-pub cleared_step : (n : ℕ) (row : List ℕ) → n < length row → set (cleared n row) n 0 ≡ cleared (suc n) row
-cleared_step n [] within = absurd (omega (arith, within))
-cleared_step zero (x ∷ row) within = refl
-cleared_step (suc n) (x ∷ row) within = ap (λ (r : List ℕ). 0 ∷ r) (cleared_step n row (omega (arith, within)))
-
-pub cleared_all : (n : ℕ) (row : List ℕ) → length row ≡ n → cleared n row ≡ replicate n 0
-cleared_all n row len = ap (λ (r : List ℕ). replicate n 0 ++ r) (drop_of_length-le row (omega (arith, len))) ∙ append-nil (replicate n 0)
-
-pub length-cleared : (n : ℕ) (row : List ℕ) → n ≤ length row → length (cleared n row) ≡ length row
-length-cleared n row few = omega (arith, length-append (replicate n 0) (drop n row), length-replicate {A = ℕ} n 0, length-drop n row)
-
--- one slot more of a holder's row is cleared
-pub clear_step : (old now : List (List ℕ)) (w n : ℕ) → w < length old → n < length (get_or old w []) → now ≡ set old w (cleared n (get_or old w []))
-    → set now w (set (get_or now w []) n 0) ≡ set old w (cleared (n + 1) (get_or old w []))
-clear_step old now w n within below is =
-    let row : get_or now w [] ≡ cleared n (get_or old w []) =
-    ap (λ (rows : List (List ℕ)). get_or rows w []) is ∙ get_or-set_same old w (cleared n (get_or old w [])) [] within in
-    let next : set (get_or now w []) n 0 ≡ cleared (n + 1) (get_or old w []) =
-    ap (λ (r : List ℕ). set r n 0) row ∙ cleared_step n (get_or old w []) below ∙ ap (λ k. cleared k (get_or old w [])) (sym (add-one n)) in
-    ap (λ (rows : List (List ℕ)). set rows w (set (get_or now w []) n 0)) is
-    ∙ set-set old w (cleared n (get_or old w [])) (set (get_or now w []) n 0)
-    ∙ ap (set old w) next

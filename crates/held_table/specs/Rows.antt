@@ -58,7 +58,3 @@ held_in book rows names = record { table = record { book = book; rows = rows.row
 
 abbrev pub over_in : List Module → Book → Rows → List (List ℕ) → HeldOver
 over_in catalogue book rows names = record { catalogue = catalogue; held = held_in book rows names; spare = rows.spare }
-
--- a row whose first counts were cleared
-abbrev pub cleared : ℕ → List ℕ → List ℕ
-cleared n row = replicate n 0 ++ drop n row

@@ -1,5 +1,5 @@
 //! What one holder holds.
-ghost use Rattle.std.specs.Prelude.{◌≡◌, ◌<◌, ◌≤◌, ◌↔◌, ℕ, [], nat_eq, length, IsTrue, OnOk, if◌then◌else◌};
+ghost use Rattle.std.specs.Prelude.{◌≡◌, ◌<◌, ◌≤◌, ◌↔◌, ℕ, [], nat_eq, length, IsTrue, IfNone, IfSome, OnOk, if◌then◌else◌};
 ghost use Rattle.held_table.specs.Rows.{count_in};
 
 use indexmap::IndexMap;
@@ -45,6 +45,17 @@ impl Row {
         ensures { IsTrue result ↔ ((m : ℕ) → count_in self.now.counts m ≡ 0) }
     {
         self.counts.is_empty()
+    }
+
+    /// A slot that is held. None if nothing is.
+    pub(crate) fn first(&self) -> Option<u16>
+        ensures some { IfSome result (λ slot. 0 < count_in self.now.counts slot) }
+        ensures none { IfNone result ((m : ℕ) → count_in self.now.counts m ≡ 0) }
+    {
+        match self.counts.first() {
+            Some((slot, _)) => Some(*slot),
+            None => None,
+        }
     }
 
     /// Makes room for one slot more.

@@ -1,7 +1,7 @@
 //! What all holders hold.
-ghost use Rattle.std.specs.Prelude.{◌≡◌, ◌<◌, ◌≤◌, ◌==◌, ◌↔◌, ◌&&◌, ◌++◌, ◌∷◌, ℕ, true, None, [], length, nat_lt, replicate, slice_index, slice_index_or, slice_set, swap_remove, IsTrue, IfOk, OnOk, OnErr, if◌then◌else◌};
+ghost use Rattle.std.specs.Prelude.{◌≡◌, ◌<◌, ◌≤◌, ◌==◌, ◌↔◌, ◌&&◌, ◌++◌, ◌∷◌, ℕ, true, None, [], length, nat_lt, replicate, slice_index, slice_index_or, slice_set, swap_remove, IsTrue, IfNone, IfOk, IfSome, OnOk, OnErr, if◌then◌else◌};
 ghost use Rattle.dep_index.specs.Table.{holders, pairs};
-ghost use Rattle.held_table.specs.Held.{is_idle};
+ghost use Rattle.held_table.specs.Held.{is_idle, IsIdle};
 ghost use Rattle.held_table.specs.Names.{name_bytes, place_of};
 ghost use Rattle.held_table.specs.Rows.{no_holding, count_in};
 
@@ -152,7 +152,20 @@ impl Rows {
         let _row = self.rows.swap_remove(number);
     }
 
-    /// Writes that a holder holds nothing of so many slots, which are all.
+    /// A slot that a holder holds. None if it holds nothing.
+    fn first(&self, number: usize) -> Option<usize>
+        requires { number < length self.now.rows }
+        ensures within { IfSome result (λ slot. slot < self.now.slots) }
+        ensures some { IfSome result (λ slot. 0 < slice_index (slice_index_or self.now.rows number []) slot) }
+        ensures none { IfNone result (IsIdle (slice_index_or self.now.rows number [])) }
+    {
+        match self.rows[number].first() {
+            Some(slot) => Some(usize::from(slot)),
+            None => None,
+        }
+    }
+
+    /// Writes that a holder holds nothing of so many slots, which are all. It takes as long as the holder holds slots.
     pub(crate) fn clear(&mut self, number: usize, slots: usize)
         requires number { number < length self.old.rows }
         requires slots { slots ≡ self.old.slots }
@@ -160,7 +173,7 @@ impl Rows {
         ensures rows { self.new.rows ≡ slice_set self.old.rows number (replicate self.old.slots 0) }
         ensures slots { self.new.slots ≡ self.old.slots }
     {
-        for slot in 0..slots {
+        while let Some(slot) = self.first(number) {
             self.set_count(number, slot, 0);
         }
     }
