@@ -24,8 +24,8 @@ pub(crate) struct Group {
     sealed: Vec<Vec<u8>>,
 }
 
-/// Makes what a line asks for, in memory. If that may have changed anything, the seal of the line comes behind the others, of which
-/// the first is sealed with this link.
+/// Makes what a line asks for, in memory. If that may have changed anything, the seal of the line comes behind the others, of
+/// which the first is sealed with this link.
 fn make(
     alloc: Global,
     session: &mut HeldSession<'_>,

@@ -18,13 +18,15 @@ use std::alloc::{AllocError, Global};
 pub enum CaughtUp {
     /// It is the table that the journal stands for now.
     Ready,
-    /// It is another journal, or its end is torn, or a line does not continue the chain. The table is not the journal's: open it anew.
+    /// It is another journal, or its end is torn, or a line does not continue the chain. The table is not the journal's: open it
+    /// anew.
     Anew,
 }
 
 impl<'s, D: Renewable> DurableTable<'s, D> {
     /// The turn of this process begins: makes what the lines ask for that others have added to the journal since it had its
-    /// turn, in memory. Only these are read. Nothing is written, and nothing is waited for: what was read may not be on the disk yet.
+    /// turn, in memory. Only these are read. Nothing is written, and nothing is waited for: what was read may not be on the disk
+    /// yet.
     ///
     /// If it is not `Ready`, or fails, nothing is said of the table: open it anew.
     pub fn catch_up(&mut self, alloc: Global, turn: D::Turn) -> Result<CaughtUp, DeviceError>

@@ -32,7 +32,7 @@ fn unwatched(reply: Reply) -> HeldReply
 }
 
 /// What a session replies to a line, which it makes. The holders stay.
-pub(crate) fn reply_to(
+fn reply_to(
     alloc: Global,
     setup: &Setup,
     holders: &mut HeldTable,
@@ -79,7 +79,7 @@ pub(crate) fn as_session(
 }
 
 /// What a session replies to half of a load or of a removal, which it makes. The holders stay.
-pub(crate) fn reply_to_half(
+fn reply_to_half(
     alloc: Global,
     setup: &Setup,
     holders: &mut HeldTable,
