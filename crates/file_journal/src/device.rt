@@ -16,6 +16,7 @@ use line_journal::{Device, DeviceError, Renewable, Renewed};
 use std::alloc::{AllocError, Global};
 use std::fmt;
 use std::rt::Files;
+use std::snapshot::Snapshot;
 
 /// Why a file was not opened.
 #[derive(Clone, Copy, Debug, PartialEq, Eq)]
@@ -218,6 +219,23 @@ impl<R: Files + Drop> FileDevice<R> {
         ensures { result ≡ self.now.fault }
     {
         self.fault
+    }
+
+    /// What the file reads as, if this device has the lock and no call has failed since the last look. Only clauses read it.
+    pub fn seen(&self) -> Result<Snapshot<Vec<u8>>, FileFault>
+        ensures bytes { IfOk result (λ seen. seen.value ≡ self.now.belief.bytes) }
+        ensures works { OnOk result (MayRead self.now.lock self.now.fault) }
+        ensures fails { OnErr result (MayRead self.now.lock self.now.fault → ⊥) }
+    {
+        some_lock(&self.lock, self.fault)?;
+        Ok(Snapshot::of(&self.belief.bytes))
+    }
+
+    /// What is believed of the file, whatever failed. Only clauses read it.
+    pub fn believed(&self) -> Snapshot<Belief>
+        ensures { result.value ≡ self.now.belief }
+    {
+        Snapshot::of(&self.belief)
     }
 
     /// Notes that a call failed.

@@ -11,6 +11,7 @@ mod lock;
 mod new_file;
 mod overwrite;
 
+pub use belief::Belief;
 pub use device::{FileDevice, OpenError, Unopened};
 pub use disk_file::Syncs;
 pub use fault::{Action, Cause, FileFault, Target};

@@ -6,6 +6,7 @@ use Rattle.table_words.specs.Endings.{behind}
 use Rattle.table_words.specs.declared.ending.Ending.{Ending}
 use Rattle.table_words.specs.declared.ending.Ending.TheVariants.{Done}
 use Rattle.table_folder.specs.InputLines.{brought_lines, BringsLines}
+use Rattle.gz_table_drive.specs.declared.log.Tenures.{Tenures}
 use Rattle.gz_table_drive.specs.Written.{AreBrought, AreWritten, AnswersInput, AnswersSoFar}
 use Rattle.gz_table_drive.proofs.WrittenLemmas.{none_written, written_more}
 
@@ -13,7 +14,7 @@ none_brought : (input left : Option (List ℕ)) → left ≡ input → BringsLin
 none_brought None left is = tt
 none_brought (Some text) left is = subst (λ (l : Option (List ℕ)). BringsLines (Some text) l []) (sym is) refl
 
-brings_more : (input mid left : Option (List ℕ)) (lines group : List (List ℕ)) → BringsLines input mid lines → BringsLines mid left group
+pub brings_more : (input mid left : Option (List ℕ)) (lines group : List (List ℕ)) → BringsLines input mid lines → BringsLines mid left group
     → BringsLines input left (lines ++ group)
 brings_more None mid left lines group brings more = tt
 brings_more (Some text) None left lines group brings more = absurd brings
@@ -28,20 +29,20 @@ all_brought (Some text) (Some rest) lines brings end =
     sym (brings ∙ ap (λ (t : List ℕ). lines ++ brought_lines t) end ∙ append-nil lines)
 
 -- no line is answered yet
-pub none_answered : (s : Setup) (input left contents : Option (List ℕ)) → left ≡ input → AnswersSoFar s input left contents contents Done
-none_answered s input left contents is = ([], none_brought input left is, none_written s contents)
+pub none_answered : (s : Setup) (input left : Option (List ℕ)) (log : Tenures) (contents : Option (List ℕ)) → left ≡ input → AnswersSoFar s input left log log contents contents Done
+none_answered s input left log contents is = ([], none_brought input left is, none_written s log contents)
 
 -- a group more is answered
-pub answered_more : (s : Setup) (group : List (List ℕ)) (input before left old mid new : Option (List ℕ)) (ending next : Ending)
-    → AnswersSoFar s input before old mid ending → BringsLines before left group → AreWritten s group mid new next
-    → AnswersSoFar s input left old new (behind ending next)
-answered_more s group input before left old mid new ending next (front, brings, written) more also =
-    (front ++ group, brings_more input before left front group brings more, written_more s front group old mid new ending next written also)
+pub answered_more : (s : Setup) (group : List (List ℕ)) (input before left : Option (List ℕ)) (log mid_log new_log : Tenures) (old mid new : Option (List ℕ)) (ending next : Ending)
+    → AnswersSoFar s input before log mid_log old mid ending → BringsLines before left group → AreWritten s group mid_log new_log mid new next
+    → AnswersSoFar s input left log new_log old new (behind ending next)
+answered_more s group input before left log mid_log new_log old mid new ending next (front, brings, written) more also =
+    (front ++ group, brings_more input before left front group brings more, written_more s front group log mid_log new_log old mid new ending next written also)
 
 -- no line is left
-pub answered_all : (s : Setup) (group : List (List ℕ)) (input before left old new : Option (List ℕ)) (ending : Ending)
-    → AnswersSoFar s input before old new ending → BringsLines before left group → group ≡ [] → IsAtEnd left → AnswersInput s input old new ending
-answered_all s group input before left old new ending (lines, brings, written) more none end = (
+pub answered_all : (s : Setup) (group : List (List ℕ)) (input before left : Option (List ℕ)) (log new_log : Tenures) (old new : Option (List ℕ)) (ending : Ending)
+    → AnswersSoFar s input before log new_log old new ending → BringsLines before left group → group ≡ [] → IsAtEnd left → AnswersInput s input log new_log old new ending
+answered_all s group input before left log new_log old new ending (lines, brings, written) more none end = (
   lines,
   all_brought input left lines
       (subst (BringsLines input left) (ap (λ (g : List (List ℕ)). lines ++ g) none ∙ append-nil lines) (brings_more input before left lines group brings more)) end,

@@ -4,4 +4,5 @@ mod AskLemmas
 mod TenureLemmas
 mod WrittenLemmas
 mod InputLemmas
+mod LogLemmas
 mod SentLemmas

@@ -1,43 +1,51 @@
 -- What is written of lines if the rest of them is not answered.
-use Rattle.std.proofs.Common.{arith, ◌≡◌, sym, ap, subst, ◌∙◌, inl, inr, ℕ, ◌+◌, ◌-◌, ◌≤◌, List, [], ◌++◌, length, take, drop, take-add, Vec, Option, Some, None, Result, Ok, Err, IfOk, OnErr}
+use Rattle.std.proofs.Common.{arith, ◌≡◌, refl, sym, ap, subst, ◌∙◌, inl, inr, ℕ, ◌+◌, ◌-◌, ◌≤◌, List, [], ◌++◌, length, take, drop, take-add, drop-drop, Vec, Option, Some, None, Result, Ok, Err, IfOk, OnErr}
 use Rattle.std.specs.declared.alloc.Global.{Global}
 use Rattle.std.specs.List.{flat_map}
 use Rattle.std.specs.Io.KnownBytes.{Appends}
-use Rattle.std.proofs.KnownBytes.{Appends-trans}
-use Rattle.std.proofs.lemmas.List.{drop-map, length-drop, length-map, take-append-le}
+use Rattle.std.proofs.KnownBytes.{Appends-nil, Appends-trans}
+use Rattle.std.proofs.lemmas.List.{append_assoc, append-nil, drop-map, length-drop, length-map, take-append-drop, take-append-le}
 use Rattle.std.proofs.Math.Seq.{take-append-add, take-length}
 use Rattle.modprobe.specs.Setup.{Setup}
-use Rattle.modprobe.specs.Outcomes.{Outcome, text_of}
+use Rattle.modprobe.specs.Outcomes.{text_of}
 use Rattle.line_journal.specs.Lines.{bytes_of}
-use Rattle.durable_table.specs.Groups.{replies_of}
 use Rattle.table_words.specs.declared.ending.Ending.{Ending}
 use Rattle.table_folder.specs.InputLines.{brought_lines, BringsLines}
 use Rattle.table_folder.specs.declared.fault.TableFault.{TableFault}
 use Rattle.gz_table_drive.specs.declared.answering.Replies.{Replies}
-use Rattle.gz_table_drive.specs.Answers.{HasAnsweredOver, HasStopped}
-use Rattle.gz_table_drive.specs.Written.{AreAnswersTo, AreFirstBrought, AreFirstSent, AreSent, AreWritten, AnswersSoFar, IsSent, SendsInput}
-use Rattle.gz_table_drive.proofs.AnswerLemmas.{first_behind, texts_more}
-use Rattle.gz_table_drive.proofs.WrittenLemmas.{answers_more, answers_over, Turns}
+use Rattle.gz_table_drive.specs.declared.log.Tenures.{Tenures}
+use Rattle.gz_table_drive.specs.Log.{HasTold, HasToldFirst}
+use Rattle.gz_table_drive.specs.Written.{AreFirstBrought, AreFirstSent, AreSent, AreWritten, AnswersSoFar, IsSent, SendsInput}
+use Rattle.gz_table_drive.proofs.AnswerLemmas.{texts_more}
+use Rattle.gz_table_drive.proofs.InputLemmas.{brings_more}
+use Rattle.gz_table_drive.proofs.LogLemmas.{none_told, told_more, told_of_all}
+use Rattle.gz_table_drive.proofs.WrittenLemmas.{Turns}
 
--- a text has the replies to the first of these lines
-abbrev pub HasFirst : Setup → List (List ℕ) → List ℕ → Type 0
-HasFirst s lines text = (count : ℕ) × (count ≤ length lines) × (replies : List Outcome) × AreAnswersTo s (take count lines) replies × (text ≡ flat_map text_of replies)
+-- whether a tenure failed or not, the first lines were answered
+pub first_of : {E : Type 0} (s : Setup) (lines : List (List ℕ)) (log new_log : Tenures) (none replies : Replies) (result : Result ℕ E) → IfOk result (λ count. count ≤ length lines)
+    → IfOk result (λ count. HasTold s (take count lines) [] log new_log none replies) → OnErr result (HasToldFirst s lines log new_log none replies)
+    → HasToldFirst s lines log new_log none replies
+first_of s lines log new_log none replies (Ok count) within told stopped =
+    (count, within, record { replies = told.replies; told = told_of_all s (take count lines) (drop count lines) told.replies log new_log told.told; has = told.has })
+first_of s lines log new_log none replies (Err error) within told stopped = stopped
 
-first_over : (s : Setup) (lines : List (List ℕ)) (count : ℕ) (none replies : Replies) → none.text.items ≡ [] → count ≤ length lines → HasAnsweredOver s (take count lines) none replies
-    → HasFirst s lines replies.text.items
-first_over s lines count none replies no_text within over =
-    let more = replies_of s over.held (take count lines) in
-    (count, within, more, answers_over s over.held over.file (take count lines) over.stands, over.answered.text ∙ ap (λ text. text ++ flat_map text_of more) no_text)
+-- a text that has the replies to the first lines is sent
+pub first_sent : (s : Setup) (lines : List (List ℕ)) (log new_log : Tenures) (old new : Option (List ℕ)) (none replies : Replies) (fault : TableFault) → none.text.items ≡ []
+    → HasToldFirst s lines log new_log none replies → IsSent old new replies.text.items fault → AreFirstSent s lines log new_log old new fault
+first_sent s lines log new_log old new none replies fault no_text (count, within, has) sent = (
+  count,
+  within,
+  record {
+    replies = has.replies;
+    told = has.told;
+    text = subst (λ text. IsSent old new text fault) (has.has.text ∙ ap (λ text. text ++ flat_map text_of has.replies) no_text) sent;
+  },
+)
 
-pub first_stopped : (s : Setup) (lines : List (List ℕ)) (none replies : Replies) → none.text.items ≡ [] → HasStopped s lines none replies → HasFirst s lines replies.text.items
-first_stopped s lines none replies no_text (inl same) = (0, omega arith, [], tt, ap (λ (r : Replies). r.text.items) same ∙ no_text)
-first_stopped s lines none replies no_text (inr (count, within, over)) = first_over s lines count none replies no_text within over
-
--- whether a tenure failed or not
-pub first_of : {E : Type 0} (s : Setup) (lines : List (List ℕ)) (none replies : Replies) (result : Result ℕ E) → none.text.items ≡ []
-    → IfOk result (λ count. count ≤ length lines) → IfOk result (λ count. HasAnsweredOver s (take count lines) none replies) → OnErr result (HasStopped s lines none replies) → HasFirst s lines replies.text.items
-first_of s lines none replies (Ok count) no_text within answered stopped = first_over s lines count none replies no_text within answered
-first_of s lines none replies (Err error) no_text within answered stopped = first_stopped s lines none replies no_text stopped
+-- no line was answered
+pub none_sent : (s : Setup) (lines : List (List ℕ)) (log : Tenures) (contents : Option (List ℕ)) (fault : TableFault) → AreFirstSent s lines log log contents contents fault
+none_sent s lines log contents fault =
+    (0, omega arith, record { replies = []; told = none_told s lines log log refl; text = inl (Appends-nil contents) })
 
 -- a text is sent behind others
 sent_more : (old mid new : Option (List ℕ)) (front text : List ℕ) (fault : TableFault) → Appends old mid front → IsSent mid new text fault → IsSent old new (front ++ text) fault
@@ -52,40 +60,36 @@ sent_more old mid new front text fault before (inr (failed, begun)) =
     )
 
 -- replies are sent behind those to other lines
-pub all_sent : (s : Setup) (front group : List (List ℕ)) (old mid new : Option (List ℕ)) (ending : Ending) (fault : TableFault)
-    → AreWritten s front old mid ending → AreSent s group mid new fault → AreSent s (front ++ group) old new fault
-all_sent s front group old mid new ending fault before more =
+pub all_sent : (s : Setup) (front group others : List (List ℕ)) (log mid_log new_log : Tenures) (old mid new : Option (List ℕ)) (ending : Ending) (fault : TableFault)
+    → AreWritten s front log mid_log old mid ending → AreSent s group others mid_log new_log mid new fault → AreSent s (front ++ group) others log new_log old new fault
+all_sent s front group others log mid_log new_log old mid new ending fault before more =
     record {
       replies = before.replies ++ more.replies;
-      answers = answers_more s front group before.replies more.replies before.answers more.answers;
+      told = told_more s front group others before.replies more.replies log mid_log new_log before.told more.told;
       text = subst (λ text. IsSent old new text fault) (sym (texts_more before.replies more.replies))
           (sent_more old mid new (flat_map text_of before.replies) (flat_map text_of more.replies) fault before.text more.text);
     }
 
--- a text that has the replies to the first lines is sent
-first_sent : (s : Setup) (lines : List (List ℕ)) (mid new : Option (List ℕ)) (text : List ℕ) (fault : TableFault) → HasFirst s lines text → IsSent mid new text fault
-    → AreFirstSent s lines mid new fault
-first_sent s lines mid new text fault (count, within, replies, answers, is) sent =
-    (count, within, record { replies = replies; answers = answers; text = subst (λ text. IsSent mid new text fault) is sent })
-
 -- the lines before the rest were answered, and of the rest the first
-pub turn_stopped : (s : Setup) (lines rest : List (Vec ℕ Global)) (old mid new : Option (List ℕ)) (ending : Ending) (text : List ℕ) (fault : TableFault)
-    → Turns s lines rest old mid ending → HasFirst s (bytes_of rest) text → IsSent mid new text fault → AreFirstSent s (bytes_of lines) old new fault
-turn_stopped s lines rest old mid new ending text fault (before, within, rest_is, written) first sent =
+pub turn_stopped : (s : Setup) (lines rest : List (Vec ℕ Global)) (log mid_log new_log : Tenures) (old mid new : Option (List ℕ)) (ending : Ending) (fault : TableFault)
+    → Turns s lines rest log mid_log old mid ending → AreFirstSent s (bytes_of rest) mid_log new_log mid new fault → AreFirstSent s (bytes_of lines) log new_log old new fault
+turn_stopped s lines rest log mid_log new_log old mid new ending fault (before, within, rest_is, written) (more, below, sent) =
     let all = bytes_of lines in
-    let more = first_sent s (bytes_of rest) mid new text fault first sent in
-    let group_is : take more.0 (bytes_of rest) ≡ take more.0 (drop before all) =
-    ap (λ (l : List (Vec ℕ Global)). take more.0 (bytes_of l)) rest_is ∙ ap (take more.0) (sym (drop-map (λ (v : Vec ℕ Global). v.items) before lines)) in
-    let is : take before all ++ take more.0 (bytes_of rest) ≡ take (before + more.0) all =
-    ap (λ group. take before all ++ group) group_is ∙ sym (take-add before more.0 all) in (
-      before + more.0,
-      omega (arith, within, more.1, ap length rest_is, length-drop before lines, length-map lines (λ (v : Vec ℕ Global). v.items), length-map rest (λ (v : Vec ℕ Global). v.items)),
-      subst (λ first. AreSent s first old new fault) is (all_sent s (take before all) (take more.0 (bytes_of rest)) old mid new ending fault written more.2),
+    let rest_of : bytes_of rest ≡ drop before all = ap bytes_of rest_is ∙ sym (drop-map (λ (v : Vec ℕ Global). v.items) before lines) in
+    let is : take before all ++ take more (bytes_of rest) ≡ take (before + more) all =
+    ap (λ group. take before all ++ take more group) rest_of ∙ sym (take-add before more all) in
+    let left : drop more (bytes_of rest) ≡ drop (before + more) all = ap (drop more) rest_of ∙ drop-drop more before all in (
+      before + more,
+      omega (arith, within, below, ap length rest_is, length-drop before lines, length-map lines (λ (v : Vec ℕ Global). v.items), length-map rest (λ (v : Vec ℕ Global). v.items)),
+      subst (λ others. AreSent s (take (before + more) all) others log new_log old new fault) left
+          (subst (λ first. AreSent s first (drop more (bytes_of rest)) log new_log old new fault) is
+          (all_sent s (take before all) (take more (bytes_of rest)) (drop more (bytes_of rest)) log mid_log new_log old mid new ending fault written sent)),
     )
 
 -- all that was read is answered
-pub written_sent : (s : Setup) (lines : List (List ℕ)) (old new : Option (List ℕ)) (ending : Ending) (fault : TableFault) → AreWritten s lines old new ending → AreSent s lines old new fault
-written_sent s lines old new ending fault written = record { replies = written.replies; answers = written.answers; text = inl written.text }
+written_sent : (s : Setup) (lines : List (List ℕ)) (log new_log : Tenures) (old new : Option (List ℕ)) (ending : Ending) (fault : TableFault)
+    → AreWritten s lines log new_log old new ending → AreSent s lines [] log new_log old new fault
+written_sent s lines log new_log old new ending fault written = record { replies = written.replies; told = written.told; text = inl written.text }
 
 first_brought : (input left : Option (List ℕ)) (lines : List (List ℕ)) → BringsLines input left lines → AreFirstBrought input lines
 first_brought None left lines brings = tt
@@ -93,22 +97,22 @@ first_brought (Some text) None lines brings = absurd brings
 first_brought (Some text) (Some rest) lines brings =
     (length lines, sym (ap (take (length lines)) brings ∙ take-append-le (length lines) lines (brought_lines rest) (omega arith) ∙ take-length lines))
 
-first_group : (input before left : Option (List ℕ)) (lines group : List (List ℕ)) (count : ℕ) → BringsLines input before lines → BringsLines before left group → count ≤ length group
-    → AreFirstBrought input (lines ++ take count group)
-first_group None before left lines group count brings more within = tt
-first_group (Some text) None left lines group count brings more within = absurd brings
-first_group (Some text) (Some rest) None lines group count brings more within = absurd more
-first_group (Some text) (Some rest) (Some end) lines group count brings more within = (
-  length lines + count,
-  sym (ap (take (length lines + count)) (brings ∙ ap (λ behind. lines ++ behind) more) ∙ first_behind lines group (brought_lines end) count within),
-)
-
 -- the input brings no further line
-pub input_stopped : (s : Setup) (input left old new : Option (List ℕ)) (ending : Ending) (fault : TableFault) → AnswersSoFar s input left old new ending → SendsInput s input old new fault
-input_stopped s input left old new ending fault (lines, brings, written) = (lines, first_brought input left lines brings, written_sent s lines old new ending fault written)
+pub input_stopped : (s : Setup) (input left : Option (List ℕ)) (log new_log : Tenures) (old new : Option (List ℕ)) (ending : Ending) (fault : TableFault)
+    → AnswersSoFar s input left log new_log old new ending → SendsInput s input log new_log old new fault
+input_stopped s input left log new_log old new ending fault (lines, brings, written) =
+    (lines, [], subst (AreFirstBrought input) (sym (append-nil lines)) (first_brought input left lines brings), written_sent s lines log new_log old new ending fault written)
 
 -- a group of lines was not answered to its end
-pub group_stopped : (s : Setup) (group : List (List ℕ)) (input before left old mid new : Option (List ℕ)) (ending : Ending) (fault : TableFault)
-    → AnswersSoFar s input before old mid ending → BringsLines before left group → AreFirstSent s group mid new fault → SendsInput s input old new fault
-group_stopped s group input before left old mid new ending fault (lines, brings, written) more (count, within, sent) =
-    (lines ++ take count group, first_group input before left lines group count brings more within, all_sent s lines (take count group) old mid new ending fault written sent)
+pub group_stopped : (s : Setup) (group : List (List ℕ)) (input before left : Option (List ℕ)) (log mid_log new_log : Tenures) (old mid new : Option (List ℕ)) (ending : Ending) (fault : TableFault)
+    → AnswersSoFar s input before log mid_log old mid ending → BringsLines before left group → AreFirstSent s group mid_log new_log mid new fault
+    → SendsInput s input log new_log old new fault
+group_stopped s group input before left log mid_log new_log old mid new ending fault (lines, brings, written) more (count, within, sent) =
+    let first = take count group in
+    let others = drop count group in
+    let all : lines ++ group ≡ (lines ++ first) ++ others = ap (λ (g : List (List ℕ)). lines ++ g) (sym (take-append-drop count group)) ∙ sym (append_assoc lines first others) in (
+      lines ++ first,
+      others,
+      subst (AreFirstBrought input) all (first_brought input left (lines ++ group) (brings_more input before left lines group brings more)),
+      all_sent s lines first others log mid_log new_log old mid new ending fault written sent,
+    )

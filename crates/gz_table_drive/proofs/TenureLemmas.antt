@@ -1,5 +1,5 @@
--- What a tenure answered, of a table that some journal stands for.
-use Rattle.std.proofs.Common.{arith, ◌≡◌, refl, sym, ap, subst, ◌∙◌, inr, ℕ, ◌+◌, ◌^◌, ◌<◌, ◌≤◌, List, [], ◌∷◌, ◌++◌, length, map, take, drop, Vec, Result, Ok, Err, IfOk, OnErr}
+-- What a tenure answered, of a table that its journal stands for.
+use Rattle.std.proofs.Common.{arith, ◌≡◌, refl, sym, ap, subst, ◌∙◌, ℕ, ◌+◌, ◌^◌, ◌<◌, ◌≤◌, List, [], ◌∷◌, ◌++◌, length, map, take, drop, Vec}
 use Rattle.std.specs.declared.alloc.Global.{Global}
 use Rattle.std.proofs.lemmas.List.{take-append-le, take-append-drop, take-map, length-append, length-map}
 use Rattle.line_journal.specs.Lines.{bytes_of, lines_of, open_text, at_rest}
@@ -9,66 +9,20 @@ use Rattle.line_journal.proofs.FollowLemmas.{reads_at_rest}
 use Rattle.modprobe.specs.Setup.{Setup}
 use Rattle.held_table.specs.Held.{Held}
 use Rattle.held_lines.specs.declared.reply.HeldReply.{HeldReply}
-use Rattle.line_journal.specs.Device.{History}
-use Rattle.durable_table.specs.declared.chained.Chained.{Chained}
-use Rattle.durable_table.specs.Durable.{FileStands, Reads, Stands}
 use Rattle.durable_table.specs.Groups.{replies_of}
 use Rattle.gz_table_drive.specs.declared.answering.Replies.{Replies}
-use Rattle.gz_table_drive.specs.Answers.{HasMore, HasAnswered, HasAnsweredFirst, HasAnsweredOver, HasStopped}
+use Rattle.gz_table_drive.specs.Answers.{HasMore, HasAnsweredFirst}
 use Rattle.gz_table_drive.proofs.AnswerLemmas.{none_more, replies_first, length_replies}
-
-pub answered_over : (s : Setup) (h : Held) (file : List ℕ) (lines : List (List ℕ)) (old new : Replies)
-    → FileStands s h file → HasAnswered s h lines old new → HasAnsweredOver s lines old new
-answered_over s h file lines old new stands answered = record { file = file; held = h; stands = stands; answered = answered }
-
-pub stopped_over : (s : Setup) (h : Held) (file : List ℕ) (lines : List (List ℕ)) (old new : Replies)
-    → FileStands s h file → HasAnsweredFirst s h lines old new → HasStopped s lines old new
-stopped_over s h file lines old new stands (count, within, answered) =
-    inr (count, within, answered_over s h file (take count lines) old new stands answered)
 
 -- no line was answered
 pub none_first : (s : Setup) (h : Held) (lines : List (List ℕ)) (replies : Replies) → HasAnsweredFirst s h lines replies replies
 none_first s h lines replies = (0, omega arith, none_more replies replies refl refl)
-
--- what a call answered over a table that a journal stands for
-pub over_ok : {E : Type 0} (s : Setup) (h : Held) (file : List ℕ) (lines : List (List ℕ)) (old new : Replies) (result : Result ℕ E) → FileStands s h file
-    → IfOk result (λ count. HasAnswered s h (take count lines) old new) → IfOk result (λ count. HasAnsweredOver s (take count lines) old new)
-over_ok s h file lines old new (Ok count) stands answered = answered_over s h file (take count lines) old new stands answered
-over_ok s h file lines old new (Err error) stands answered = tt
-
-pub over_err : {E : Type 0} (s : Setup) (h : Held) (file : List ℕ) (lines : List (List ℕ)) (old new : Replies) (result : Result ℕ E) → FileStands s h file
-    → OnErr result (HasAnsweredFirst s h lines old new) → OnErr result (HasStopped s lines old new)
-over_err s h file lines old new (Ok count) stands stopped = tt
-over_err s h file lines old new (Err error) stands stopped = stopped_over s h file lines old new stands stopped
-
--- the journal of a table reads so
-pub reads_ok : {E D : Type 0} {content : D → List ℕ} {journal : Chained D} (s : Setup) (h : Held) (lines : List (List ℕ)) (old new : Replies) (result : Result ℕ E) → Reads content s h journal
-    → IfOk result (λ count. HasAnswered s h (take count lines) old new) → IfOk result (λ count. HasAnsweredOver s (take count lines) old new)
-reads_ok {content = content} {journal = journal} s h lines old new result reads = over_ok s h (content journal.lines.device) lines old new result reads.same
-
-pub reads_err : {E D : Type 0} {content : D → List ℕ} {journal : Chained D} (s : Setup) (h : Held) (lines : List (List ℕ)) (old new : Replies) (result : Result ℕ E) → Reads content s h journal
-    → OnErr result (HasAnsweredFirst s h lines old new) → OnErr result (HasStopped s lines old new)
-reads_err {content = content} {journal = journal} s h lines old new result reads = over_err s h (content journal.lines.device) lines old new result reads.same
-
--- the journal of a table stands for it on the disk
-pub stands_over : {D : Type 0} {content : D → List ℕ} {history : D → History} {journal : Chained D} (s : Setup) (h : Held) (lines : List (List ℕ)) (old new : Replies)
-    → Stands content history s h journal → HasAnswered s h lines old new → HasAnsweredOver s lines old new
-stands_over {content = content} {journal = journal} s h lines old new stands = answered_over s h (content journal.lines.device) lines old new stands.same
-
-pub stands_stopped : {D : Type 0} {content : D → List ℕ} {history : D → History} {journal : Chained D} (s : Setup) (h : Held) (lines : List (List ℕ)) (old new : Replies)
-    → Stands content history s h journal → HasAnsweredFirst s h lines old new → HasStopped s lines old new
-stands_stopped {content = content} {journal = journal} s h lines old new stands = stopped_over s h (content journal.lines.device) lines old new stands.same
 
 -- a journal behind whose lines nothing but a closed gate was found is at rest
 pub found_whole : (file later : List ℕ) (found : Found) → IsFound file found → found.behind.items ≡ 32 ∷ [] → length file < 2 ^ 64 → later ≡ file
     → later ≡ at_rest (lines_of later)
 found_whole file later found is shut fits same =
     subst (λ f. f ≡ at_rest (lines_of f)) (sym same) (reads_at_rest file (length (open_text (lines_of file))) refl (sym is.rest ∙ shut) fits).whole
-
--- some file stands for such a table
-pub stands_for : {D : Type 0} {content : D → List ℕ} {history : D → History} {journal : Chained D} (s other : Setup) (h : Held)
-    → Stands content history s h journal → s ≡ other → (file : List ℕ) × FileStands other h file
-stands_for {content = content} {journal = journal} s other h stands same = (content journal.lines.device, subst (λ own. FileStands own h (content journal.lines.device)) same stands.same)
 
 -- the replies to the first lines, of which not all are there
 pub asked_first : (s : Setup) (h : Held) (count : ℕ) (lines : List (Vec ℕ Global)) (there : ℕ) (made answered : List HeldReply) (old new : Replies)

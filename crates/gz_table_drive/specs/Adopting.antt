@@ -8,7 +8,6 @@ use Rattle.modprobe.specs.Outcomes.{Outcome, says, refuses, text_of}
 use Rattle.held_table.specs.Held.{Held}
 use Rattle.held_lines.specs.Laws.{KeepsHeld}
 use Rattle.held_lines.specs.Outcomes.{after}
-use Rattle.durable_table.specs.Durable.{FileStands}
 use Rattle.durable_table.specs.Groups.{replies_of}
 use Rattle.table_adopt.specs.declared.kernel.KernelModule.{KernelModule}
 use Rattle.table_adopt.specs.Steps.{line_of}
@@ -27,6 +26,8 @@ use Rattle.gz_table_drive.specs.Answers.{HasMore}
 use Rattle.gz_table_drive.specs.declared.adopting.AdoptError.{AdoptError}
 use Rattle.gz_table_drive.specs.declared.adopting.AdoptError.TheVariants as adopt_error
 use Rattle.gz_table_drive.specs.declared.answering.Replies.{Replies}
+use Rattle.gz_table_drive.specs.declared.log.Tenures.{Tenures}
+use Rattle.gz_table_drive.specs.Log.{HasMade}
 
 -- the lines that bring the table to these modules, one after another
 abbrev pub adopting_lines : Setup → Held → List KernelModule → List (List ℕ)
@@ -56,9 +57,9 @@ pub record HasAdopted (s : Setup) (h : Held) (kernel : List KernelModule) (old n
   pub endings : new.endings.items
       ≡ old.endings.items ++ (ending_of_report (report_of s.catalogue h.table kernel) ∷ map ending_of_outcome (refused_of (replies_of s h (adopting_lines s h kernel))))
 
--- What is answered of a table that some journal stands for, as the setup of some file has it, and of the modules that a
--- listing has: the one that a word names.
-pub record HasAdoptedListing (word : List ℕ) (input : Option (List ℕ)) (old new : Replies) : Type 0 where
+-- What is answered of a table and of the modules that a listing has: the one that a word names. The setup is that of some file, and
+-- the table that of a tenure, which has left it after the lines that bring it to these modules.
+pub record HasAdoptedListing (word : List ℕ) (input : Option (List ℕ)) (log new_log : Tenures) (old new : Replies) : Type 0 where
   pub file : List ℕ
   pub found : FolderSetup
   pub read : IsReadFrom file found
@@ -66,9 +67,8 @@ pub record HasAdoptedListing (word : List ℕ) (input : Option (List ℕ)) (old 
   pub named : IsListing word input listing
   pub kernel : List KernelModule
   pub listed : AreModulesOf listing kernel
-  pub journal : List ℕ
   pub held : Held
-  pub stands : FileStands found.setup held journal
+  pub made : HasMade found.setup held (adopting_lines found.setup held kernel) log new_log
   pub answered : HasAdopted found.setup held kernel old new
 
 -- no reply yet
@@ -77,8 +77,8 @@ pub record AreNone (replies : Replies) : Type 0 where
   pub endings : replies.endings.items ≡ []
 
 -- such an answer, and no reply stands before it
-abbrev pub AdoptsListing : List ℕ → Option (List ℕ) → Replies → Type 0
-AdoptsListing word input replies = (none : Replies) × AreNone none × HasAdoptedListing word input none replies
+abbrev pub AdoptsListing : List ℕ → Option (List ℕ) → Tenures → Tenures → Replies → Type 0
+AdoptsListing word input log new_log replies = (none : Replies) × AreNone none × HasAdoptedListing word input log new_log none replies
 
 -- why a table was not brought to a kernel's modules, by why lines were not performed
 abbrev pub adopt_error_of : PerformError → AdoptError

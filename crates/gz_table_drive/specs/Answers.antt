@@ -1,5 +1,5 @@
 -- Lines that were answered: what is there of their replies, and what crashes leave of the table.
-use Rattle.std.specs.Prelude.{◌≡◌, ◌⊎◌, ℕ, ◌≤◌, List, ◌++◌, length, map, take}
+use Rattle.std.specs.Prelude.{◌≡◌, ℕ, ◌≤◌, List, ◌++◌, length, map, take}
 use Rattle.std.specs.List.{flat_map}
 use Rattle.modprobe.specs.Setup.{Setup}
 use Rattle.modprobe.specs.Outcomes.{Outcome, text_of}
@@ -22,17 +22,6 @@ HasAnswered s h lines old new = HasMore (replies_of s h lines) old new
 -- the replies to the first of these lines more: to none, some or all
 abbrev pub HasAnsweredFirst : Setup → Held → List (List ℕ) → Replies → Replies → Type 0
 HasAnsweredFirst s h lines old new = (count : ℕ) × (count ≤ length lines) × HasAnswered s h (take count lines) old new
-
--- The replies to these lines more, asked one after another of a table that some journal stands for.
-pub record HasAnsweredOver (s : Setup) (lines : List (List ℕ)) (old new : Replies) : Type 0 where
-  pub file : List ℕ
-  pub held : Held
-  pub stands : FileStands s held file
-  pub answered : HasAnswered s held lines old new
-
--- no reply more; or those to the first of these lines, asked of a table that some journal stands for
-abbrev pub HasStopped : Setup → List (List ℕ) → Replies → Replies → Type 0
-HasStopped s lines old new = (new ≡ old) ⊎ ((count : ℕ) × (count ≤ length lines) × HasAnsweredOver s (take count lines) old new)
 
 -- a file stands for the table after the first of these lines, and not fewer than so many
 abbrev pub StandsAfter : ℕ → Setup → Held → List (List ℕ) → List ℕ → Type 0

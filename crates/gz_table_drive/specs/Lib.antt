@@ -2,6 +2,8 @@ pub mod Answers
 pub mod Adopting
 pub mod Counted
 pub mod Ended
+pub mod Log
 pub mod Reading
 pub mod Taken
+pub mod Turns
 pub mod Written

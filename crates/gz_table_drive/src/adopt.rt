@@ -1,12 +1,14 @@
 //! The table of a folder is brought to the modules that a kernel has, as a file lists them.
 ghost use Rattle.std.specs.Prelude.{◌≡◌, [], OnOk, IfOk};
 ghost use Rattle.durable_table.specs.Durable.{Stands};
-ghost use Rattle.gz_table_drive.specs.Adopting.{AdoptsListing, HasAdopted};
+ghost use Rattle.gz_table_drive.specs.Adopting.{AdoptsListing, HasAdopted, adopting_lines};
+ghost use Rattle.gz_table_drive.specs.Log.{HasGrown, HasMade, LeavesBehind};
 
 use crate::adopting::{AdoptError, adopt_modules};
 use crate::answering::Replies;
 use crate::kept::Kept;
-use crate::tenure::{FileTable, changing_table, cut_unwritten};
+use crate::log::Tenures;
+use crate::tenure::{FileTable, begin_over, changing_table, cut_unwritten};
 use file_journal::{FileDevice, LockKind};
 use line_journal::{Device, DeviceError};
 use modprobe::Setup;
@@ -28,7 +30,9 @@ fn adopt_file<R: Files + Drop>(
     replies: &mut Replies,
 ) -> Result<(), TableFault>
     requires { Stands ⟦<FileDevice<R> as Device>⟧.content ⟦<FileDevice<R> as Device>⟧.history table.old.session.setup.now table.old.session.holders.held table.old.journal }
-    ensures { OnOk result (HasAdopted table.old.session.setup.now table.old.session.holders.held kernel.now replies.old replies.new) }
+    ensures adopted { OnOk result (HasAdopted table.old.session.setup.now table.old.session.holders.held kernel.now replies.old replies.new) }
+    ensures left { OnOk result (LeavesBehind table.old.session.setup.now table.old.session.holders.held
+        (adopting_lines table.old.session.setup.now table.old.session.holders.held kernel.now) [] table.new.journal.lines.device.belief) }
 {
     match adopt_modules(alloc, table, kernel, replies) {
         Ok(()) => Ok(()),
@@ -38,18 +42,24 @@ fn adopt_file<R: Files + Drop>(
     }
 }
 
-/// As `adopt_file`, and what a full disk took of that is cut off again.
+/// As `adopt_file`, in one tenure, and what a full disk took of that is cut off again.
 fn adopt_into<'r, R: Files<File = File> + Clock + AllocGlobal>(
     shared: &Shared<'r, R>,
     setup: &Setup,
+    log: &mut Tenures,
     mut table: FileTable<'_, &'r R>,
     kernel: &[KernelModule],
     replies: &mut Replies,
 ) -> Result<(), TableFault>
     requires { Stands ⟦<FileDevice<&'r R> as Device>⟧.content ⟦<FileDevice<&'r R> as Device>⟧.history table.session.setup.now table.session.holders.held table.journal }
-    ensures { OnOk result (HasAdopted table.entry.session.setup.now table.entry.session.holders.held kernel.now replies.old replies.new) }
+    ensures adopted { OnOk result (HasAdopted table.entry.session.setup.now table.entry.session.holders.held kernel.now replies.old replies.new) }
+    ensures made { OnOk result (HasMade table.entry.session.setup.now table.entry.session.holders.held
+        (adopting_lines table.entry.session.setup.now table.entry.session.holders.held kernel.now) log.old log.new) }
+    ensures grown { HasGrown log.old log.new }
 {
+    begin_over(table.device(), log)?;
     let adopted = adopt_file(shared.alloc(), &mut table, kernel, replies);
+    log.end(table.device().believed());
     if let Err(fault) = &adopted {
         cut_unwritten(shared, setup, fault, table.into_device());
     }
@@ -60,11 +70,13 @@ fn adopt_into<'r, R: Files<File = File> + Clock + AllocGlobal>(
 /// read while the table is locked, and standard input before.
 pub(crate) fn adopt<R: Files<File = File> + Clock + AllocGlobal, I: Read, E: Write>(
     shared: &Shared<'_, R>,
+    log: &mut Tenures,
     file: &[u8],
     input: &mut I,
     teller: &mut Teller<'_, E>,
 ) -> Result<Replies, TableFault>
-    ensures { IfOk result (AdoptsListing file.now (I.remaining input.old)) }
+    ensures adopted { IfOk result (AdoptsListing file.now (I.remaining input.old) log.old log.new) }
+    ensures grown { HasGrown log.old log.new }
 {
     let alloc = shared.alloc();
     let setup = read_setup(shared)?;
@@ -74,6 +86,6 @@ pub(crate) fn adopt<R: Files<File = File> + Clock + AllocGlobal, I: Read, E: Wri
     let kernel = modules_of(alloc, &text, teller)?;
     let table = changing_table(shared, &mut Kept::new(&setup.setup), lock, teller)?;
     let mut replies = Replies::new(alloc);
-    adopt_into(shared, &setup.setup, table, &kernel, &mut replies)?;
+    adopt_into(shared, &setup.setup, log, table, &kernel, &mut replies)?;
     Ok(replies)
 }

@@ -4,7 +4,7 @@ ghost use Rattle.line_journal.specs.Lines.{IsLine};
 ghost use Rattle.gz_table_drive.specs.Counted.{count_line, counts_text};
 
 use crate::answering::Replies;
-use crate::reading::answer_copy;
+use crate::reading::{answer_copy, copy_of};
 use file_journal::LockKind;
 use itoa::Buffer;
 use line_journal::{Found, KillOnly, look};
@@ -79,7 +79,8 @@ fn listing(alloc: Global, setup: &Setup, bytes: &[u8], line: &[u8]) -> Result<Ve
 {
     let mut replies = Replies::new(alloc);
     let lines = alone(alloc, line.to_vec(alloc)?)?;
-    answer_copy(alloc, setup, bytes.to_vec(alloc)?, &lines, &mut replies)?;
+    let mut table = copy_of(alloc, setup, bytes.to_vec(alloc)?)?;
+    answer_copy(alloc, &mut table, &lines, &mut replies)?;
     Ok(replies.text)
 }
 
@@ -100,7 +101,7 @@ pub(crate) fn check<R: Files<File = File> + Clock + AllocGlobal>(
     let found = read_setup(shared)?;
     let setup = &found.setup;
     let lock = shared.with_setup(&found).lock(LockKind::Shared)?;
-    let bytes = read_journal(shared, &lock)?;
+    let (bytes, _) = read_journal(shared, &lock)?;
     let cut = cut_length(shared)?;
     lock.release();
     let loaded = listing(alloc, setup, &bytes, b"proc")?;

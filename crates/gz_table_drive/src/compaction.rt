@@ -5,13 +5,16 @@ ghost use Rattle.line_journal.specs.Journal.{lines_in};
 ghost use Rattle.durable_table.specs.Durable.{Stands, FileStands};
 ghost use Rattle.durable_table.specs.Compacting.{compacted, CanBeRemade};
 ghost use Rattle.file_journal.specs.declared.lock.LockKind.TheVariants.{Exclusive};
+ghost use Rattle.gz_table_drive.specs.Ended.{IsCompacted};
+ghost use Rattle.gz_table_drive.specs.Log.{CannotCompact, HasCompacted, HasGrown};
 
 use crate::kept::Kept;
+use crate::log::Tenures;
 use crate::opening::no_holders;
-use crate::tenure::{FileTable, changing_table};
+use crate::tenure::{begin_over, changing_table};
 use durable_table::{Compacted, DurableTable, PerformError};
-use file_journal::{FileDevice, FolderLock, LockKind};
-use line_journal::{Device, DeviceError, Renewable};
+use file_journal::{FolderLock, LockKind};
+use line_journal::{DeviceError, Renewable};
 use modprobe::Setup;
 use std::alloc::Global;
 use std::fs::File;
@@ -63,21 +66,25 @@ pub(crate) fn shorten<D: Renewable + Drop>(
     compact_table(alloc, setup, table).is_ok()
 }
 
-/// The table of a folder, once its journal was written anew as the lines that make it, unless it was kept.
-fn compacted_table<'s, 'r, R: Files<File = File> + Clock + AllocGlobal, E: Write>(
-    shared: &Shared<'r, R>,
-    setup: &'s Setup,
+/// Writes the journal of a folder anew, as the lines that make its table, unless they would not make it. It is one tenure.
+fn compact_folder<R: Files<File = File> + Clock + AllocGlobal, E: Write>(
+    shared: &Shared<'_, R>,
+    setup: &Setup,
+    log: &mut Tenures,
     lock: FolderLock,
     teller: &mut Teller<'_, E>,
-) -> Result<(FileTable<'s, &'r R>, Compacted), TableFault>
+) -> Result<Compacted, TableFault>
     requires { lock.kind ≡ Exclusive }
-    ensures written { IfOk result (λ made. made.1 ≡ Compacted.Done → lines_in ⟦<FileDevice<&'r R> as Device>⟧.content made.0.journal.lines ≡ compacted setup.now made.0.session.holders.held) }
-    ensures needed { IfOk result (λ made. made.1 ≡ Compacted.Kept → CanBeRemade setup.now made.0.session.holders.held → ⊥) }
-    ensures stands { IfOk result (λ made. Stands ⟦<FileDevice<&'r R> as Device>⟧.content ⟦<FileDevice<&'r R> as Device>⟧.history setup.now made.0.session.holders.held made.0.journal) }
+    ensures done { IfOk result (λ made. made ≡ Compacted.Done → HasCompacted setup.now log.old log.new) }
+    ensures kept { IfOk result (λ made. made ≡ Compacted.Kept → CannotCompact setup.now log.old log.new) }
+    ensures grown { HasGrown log.old log.new }
 {
     let mut table = changing_table(shared, &mut Kept::new(setup), lock, teller)?;
-    match compact_table(shared.alloc(), setup, &mut table) {
-        Ok(compacted) => Ok((table, compacted)),
+    begin_over(table.device(), log)?;
+    let compacted = compact_table(shared.alloc(), setup, &mut table);
+    log.end(table.device().believed());
+    match compacted {
+        Ok(compacted) => Ok(compacted),
         Err(PerformError::Device(DeviceError::Failed)) => Err(journal_fault(
             table.device().fault(),
         )),
@@ -88,10 +95,13 @@ fn compacted_table<'s, 'r, R: Files<File = File> + Clock + AllocGlobal, E: Write
 /// Writes the journal of a folder anew, as the lines that make its table.
 pub(crate) fn compact<R: Files<File = File> + Clock + AllocGlobal, E: Write>(
     shared: &Shared<'_, R>,
+    log: &mut Tenures,
     teller: &mut Teller<'_, E>,
-) -> Result<Compacted, TableFault> {
+) -> Result<Compacted, TableFault>
+    ensures done { IfOk result (λ made. made ≡ Compacted.Done → IsCompacted log.old log.new) }
+    ensures grown { HasGrown log.old log.new }
+{
     let setup = read_setup(shared)?;
     let lock = shared.with_setup(&setup).lock(LockKind::Exclusive)?;
-    let (_, compacted) = compacted_table(shared, &setup.setup, lock, teller)?;
-    Ok(compacted)
+    compact_folder(shared, &setup.setup, log, lock, teller)
 }

@@ -1,11 +1,12 @@
 //! How a table is made.
-ghost use Rattle.std.specs.Prelude.{◌≡◌, [], ◌∷◌, IfOk};
-ghost use Rattle.line_journal.specs.Lines.{at_rest};
-ghost use Rattle.durable_table.specs.Commands.{head};
+ghost use Rattle.std.specs.Prelude.{◌≡◌, IfOk, OnOk};
 ghost use Rattle.file_journal.specs.declared.lock.LockKind.TheVariants.{Exclusive};
+ghost use Rattle.gz_table_drive.specs.Log.{HasCreated, HasGrown};
 
+use crate::log::Tenures;
+use crate::tenure::begin_over;
 use file_journal::{FileDevice, FolderLock, LockKind};
-use line_journal::{Device, DeviceError};
+use line_journal::DeviceError;
 use std::env::Env;
 use std::fs::File;
 use std::io::Write;
@@ -20,18 +21,23 @@ use table_words::{Ending, Origin};
 /// Writes the journal of a new table, which has the lock then. One that has commands stays as it is.
 fn write_journal<'r, R: Files<File = File> + Clock + AllocGlobal>(
     shared: &Shared<'r, R>,
+    log: &mut Tenures,
     lock: FolderLock,
     mode: u32,
 ) -> Result<FileDevice<&'r R>, TableFault>
-    requires { lock.kind ≡ Exclusive }
-    ensures { IfOk result (λ device. ⟦<FileDevice<&'r R> as Device>⟧.content device ≡ at_rest (head ∷ [])) }
+    requires lock { lock.kind ≡ Exclusive }
+    ensures created { OnOk result (HasCreated log.old log.new) }
+    ensures grown { HasGrown log.old log.new }
 {
     let mut device = make_journal(shared, lock, mode)?;
+    begin_over(&device, log)?;
     let found = found_in(shared.alloc(), &mut device)?;
     if found.lines.len() > 1 || !(found.behind.is_empty() || found.is_at_rest()) {
         return Err(TableFault::UsedJournal);
     }
-    match durable_table::create(&mut device) {
+    let created = durable_table::create(&mut device);
+    log.end(device.believed());
+    match created {
         Ok(()) => Ok(device),
         Err(DeviceError::OutOfMemory) => Err(TableFault::OutOfMemory),
         Err(DeviceError::Failed) => Err(journal_fault(device.fault())),
@@ -41,16 +47,20 @@ fn write_journal<'r, R: Files<File = File> + Clock + AllocGlobal>(
 /// Makes a table in a folder that has none, for those who may use a folder of this mode. The setup is written last.
 fn write_table<R: Files<File = File> + Clock + AllocGlobal>(
     shared: &Shared<'_, R>,
+    log: &mut Tenures,
     setup: &[u8],
     mode: u32,
-) -> Result<(), TableFault> {
+) -> Result<(), TableFault>
+    ensures created { OnOk result (HasCreated log.old log.new) }
+    ensures grown { HasGrown log.old log.new }
+{
     make_folder(shared, mode)?;
     make_lock(shared, mode)?;
     let lock = shared.lock(LockKind::Exclusive)?;
     if shared.has_setup()? {
         return Err(TableFault::ThereAlready);
     }
-    let device = write_journal(shared, lock, mode)?;
+    let device = write_journal(shared, log, lock, mode)?;
     write_setup(shared, setup, mode)?;
     drop(device.into_lock());
     Ok(())
@@ -59,16 +69,19 @@ fn write_table<R: Files<File = File> + Clock + AllocGlobal>(
 /// Makes a table of what the words name, for those who may use a folder of this mode.
 pub(crate) fn create<R: Files<File = File> + Env + Clock + AllocGlobal, E: Write>(
     shared: &Shared<'_, R>,
+    log: &mut Tenures,
     origin: Origin<'_, '_>,
     mode: u32,
     teller: &mut Teller<'_, E>,
 ) -> Result<Ending, TableFault>
-    ensures { IfOk result (λ ending. ending ≡ Ending.Done) }
+    ensures done { IfOk result (λ ending. ending ≡ Ending.Done) }
+    ensures created { OnOk result (HasCreated log.old log.new) }
+    ensures grown { HasGrown log.old log.new }
 {
     if shared.has_setup()? {
         return Err(TableFault::ThereAlready);
     }
     let setup = new_setup(shared.rt, origin, teller)?;
-    write_table(shared, &setup, mode)?;
+    write_table(shared, log, &setup, mode)?;
     Ok(Ending::Done)
 }

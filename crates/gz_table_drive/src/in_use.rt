@@ -3,7 +3,8 @@ ghost use Rattle.std.specs.Prelude.{◌≡◌};
 
 use crate::answering::Replies;
 use crate::kept::Kept;
-use crate::tenure::answer_in_tenure;
+use crate::log::Tenures;
+use crate::tenure::{answer_in_tenure, take_turn};
 use file_journal::FileDevice;
 use line_journal::is_line;
 use std::fs::File;
@@ -26,8 +27,10 @@ fn asked<'s, 'r, R: Files<File = File> + Clock + AllocGlobal, E: Write>(
         return None;
     }
     let lines = alone(alloc, line).ok()?;
+    let turn = take_turn(shared, &lines).ok()?;
+    let mut log = Tenures::new(alloc);
     let mut replies = Replies::new(alloc);
-    answer_in_tenure(shared, kept, &lines, &mut replies, teller).ok()?;
+    answer_in_tenure(shared, kept, &mut log, turn, &lines, &mut replies, teller).ok()?;
     Some(replies.text)
 }
 

@@ -10,6 +10,7 @@ mod create;
 mod in_use;
 mod kept;
 pub mod laws;
+mod log;
 mod opening;
 mod program;
 mod reading;
@@ -18,4 +19,5 @@ mod tenure;
 
 pub use adopting::{AdoptError, adopt_modules};
 pub use answering::{AnswerError, Replies, answer_lines};
+pub use log::Tenures;
 pub use program::drive;

@@ -1,5 +1,5 @@
 //! The program over any words and streams.
-ghost use Rattle.std.specs.Prelude.{◌≡◌, ◌⊎◌, ◌+◌, ◌≤◌, [], ◌∷◌, ◌↔◌, false, drop, length, IfOk, IfErr, IfNone, IfSome, IsNone, IsTrue, OnOk, OnErr, OnSome};
+ghost use Rattle.std.specs.Prelude.{◌≡◌, ◌⊎◌, ◌+◌, ◌≤◌, [], ◌∷◌, ◌↔◌, ◌<◌, false, drop, length, take, IfOk, IfErr, IfNone, IfSome, IsNone, IsTrue, OnOk, OnErr, OnSome};
 ghost use Rattle.std.specs.Io.KnownBytes.{Appends};
 ghost use Rattle.text_parts.specs.Text.{texts_of};
 ghost use Rattle.modprobe_words.specs.Begun.{IsBegun};
@@ -10,8 +10,10 @@ ghost use Rattle.table_words.specs.Lines.{line_of};
 ghost use Rattle.table_words.specs.Options.{stop_of, text_of};
 ghost use Rattle.table_words.specs.declared.ending.Ending.{Ending as AnyEnding};
 ghost use Rattle.gz_table_drive.specs.Ended.{HasSecondFolder, HasSlash, IsMisplaced, IsNoFolder, IsPerformed, IsRun, IsRunOf, IsShown, IsCutShort, IsStopped, IsUnasked, IsUndone, IsWork, may_read, reads_input};
+ghost use Rattle.gz_table_drive.specs.Log.{HasGrown};
+ghost use Rattle.gz_table_drive.specs.Turns.{IsTurnFor};
 ghost use Rattle.gz_table_drive.specs.Counted.{AreCountsWritten};
-ghost use Rattle.gz_table_drive.specs.Written.{first_ending, AnswersInput, AreFirstSent, AreWritten, IsAdoptionWritten, IsInputAnswered, IsInputSent, IsWritten, SendsInput};
+ghost use Rattle.gz_table_drive.specs.Written.{first_ending, AnswersInput, AreFirstSent, AreWritten, IsAdoptionWritten, IsAnswered, IsInputAnswered, IsInputSent, IsUntouched, IsUnwritten, IsWritten, SendsInput};
 
 use crate::adopt::adopt;
 use crate::answering::Replies;
@@ -20,8 +22,9 @@ use crate::compaction::compact;
 use crate::create::create;
 use crate::in_use::tell_users;
 use crate::kept::Kept;
+use crate::log::Tenures;
 use crate::repair::repair;
-use crate::tenure::answer_in_tenure;
+use crate::tenure::{Turn, answer_in_tenure, take_turn};
 use durable_table::Compacted;
 use file_journal::{FileDevice, Syncs};
 use line_journal::is_line;
@@ -66,26 +69,60 @@ fn lines_behind(lines: &[Vec<u8>], count: usize) -> &[Vec<u8>]
     &lines[count..]
 }
 
+/// What was answered of lines in one tenure: how many of them, and their replies.
+#[derive(Drop)]
+struct Answered {
+    count: usize,
+    replies: Replies,
+}
+
+/// Answers the first of some lines in one tenure, and writes their replies. If a line has none, those to the lines before it are
+/// written all the same.
+fn answer_turn<'s, 'r, R: Files<File = File> + Clock + AllocGlobal, O: Write, E: Write>(
+    shared: &Shared<'r, R>,
+    kept: &mut Kept<'s, FileDevice<&'r R>>,
+    log: &mut Tenures,
+    turn: Turn,
+    lines: &[Vec<u8>],
+    output: &mut O,
+    teller: &mut Teller<'_, E>,
+) -> Result<Answered, TableFault>
+    requires lines { AreLines (bytes_of lines.now) }
+    requires turn { IsTurnFor (bytes_of lines.now) turn }
+    ensures answered { IfOk result (λ a. IsAnswered kept.old.setup.now (take a.count (bytes_of lines.now)) log.old log.new a.replies) }
+    ensures written { IfOk result (λ a. Appends (O.contents output.old) (O.contents output.new) a.replies.text.items) }
+    ensures stopped { IfErr result (AreFirstSent kept.old.setup.now (bytes_of lines.now) log.old log.new (O.contents output.old) (O.contents output.new)) }
+    ensures some { IfOk result (λ a. 0 < length lines.now → 0 < a.count) }
+    ensures within { IfOk result (λ a. a.count ≤ length lines.now) }
+    ensures setup { kept.new.setup.now ≡ kept.old.setup.now }
+{
+    let mut replies = Replies::new(shared.alloc());
+    let answered = answer_in_tenure(shared, kept, log, turn, lines, &mut replies, teller);
+    write_whole(&replies.text, output)?;
+    let count = answered?;
+    Ok(Answered { count, replies })
+}
+
 /// Answers lines, in as many tenures as it takes, and writes their replies. Returns how they end together.
 fn answer_group<'s, 'r, R: Files<File = File> + Clock + AllocGlobal, O: Write, E: Write>(
     shared: &Shared<'r, R>,
     kept: &mut Kept<'s, FileDevice<&'r R>>,
+    log: &mut Tenures,
     lines: &[Vec<u8>],
     output: &mut O,
     teller: &mut Teller<'_, E>,
 ) -> Result<Ending, TableFault>
     requires { AreLines (bytes_of lines.now) }
-    ensures written { IfOk result (AreWritten kept.old.setup.now (bytes_of lines.now) (O.contents output.old) (O.contents output.new)) }
-    ensures stopped { IfErr result (AreFirstSent kept.old.setup.now (bytes_of lines.now) (O.contents output.old) (O.contents output.new)) }
+    ensures written { IfOk result (AreWritten kept.old.setup.now (bytes_of lines.now) log.old log.new (O.contents output.old) (O.contents output.new)) }
+    ensures stopped { IfErr result (AreFirstSent kept.old.setup.now (bytes_of lines.now) log.old log.new (O.contents output.old) (O.contents output.new)) }
     ensures setup { kept.new.setup.now ≡ kept.old.setup.now }
 {
     let (mut rest, mut ending) = (lines, Ending::Done);
     while !rest.is_empty() {
-        let mut replies = Replies::new(shared.alloc());
-        let answered = answer_in_tenure(shared, kept, rest, &mut replies, teller);
-        write_whole(&replies.text, output)?;
-        ending = ending.behind(replies.ending());
-        rest = lines_behind(rest, answered?);
+        let turn = take_turn(shared, rest)?;
+        let answered = answer_turn(shared, kept, log, turn, rest, output, teller)?;
+        ending = ending.behind(answered.replies.ending());
+        rest = lines_behind(rest, answered.count);
     }
     Ok(ending)
 }
@@ -116,43 +153,48 @@ fn first_ending(replies: &Replies) -> Ending
     }
 }
 
-/// Answers one line by the setup that lies in the folder now, and writes its reply. `MadeAnew` if another one lies there once the
-/// lock is taken.
+/// Answers one line by the setup that lies in the folder now, and writes its reply. None if another setup lies there once the lock
+/// is had: nothing is done then.
 fn answer_once<R: Files<File = File> + Clock + AllocGlobal, O: Write, E: Write>(
     shared: &Shared<'_, R>,
+    log: &mut Tenures,
     words: &[&[u8]],
     output: &mut O,
     teller: &mut Teller<'_, E>,
-) -> Result<Ending, TableFault>
-    ensures written { IfOk result (IsWritten (line_of (texts_of words.now)) (O.contents output.old) (O.contents output.new)) }
-    ensures failed { IfErr result (IsCutShort (IsWritten (line_of (texts_of words.now))) (O.contents output.old) (O.contents output.new)) }
+) -> Result<Option<Ending>, TableFault>
+    ensures written { IfOk result (λ done. IfSome done (IsWritten (line_of (texts_of words.now)) log.old log.new (O.contents output.old) (O.contents output.new))) }
+    ensures anew { IfOk result (λ done. IfNone done (IsUntouched log.old log.new (O.contents output.old) (O.contents output.new))) }
+    ensures failed { IfErr result (IsUnwritten (line_of (texts_of words.now)) log.old log.new (O.contents output.old) (O.contents output.new)) }
 {
     let alloc = shared.alloc();
     let setup = read_setup_for_command(shared, words)?;
     let lines = command_line(alloc, words, teller)?;
-    let mut replies = Replies::new(alloc);
     let shared = shared.with_setup(&setup);
+    let turn = match take_turn(&shared, &lines) {
+        Ok(turn) => turn,
+        Err(TableFault::MadeAnew) => return Ok(None),
+        Err(fault) => return Err(fault),
+    };
     let mut kept = Kept::new(&setup.setup);
-    answer_in_tenure(&shared, &mut kept, &lines, &mut replies, teller)?;
-    write_whole(&replies.text, output)?;
-    tell_users(&shared, &mut kept, &replies.text, teller);
-    Ok(first_ending(&replies))
+    let answered = answer_turn(&shared, &mut kept, log, turn, &lines, output, teller)?;
+    tell_users(&shared, &mut kept, &answered.replies.text, teller);
+    Ok(Some(first_ending(&answered.replies)))
 }
 
 /// Answers one line, and writes its reply. If the table is made anew while this waits for it, its setup is read anew too.
 fn answer_command<R: Files<File = File> + Clock + AllocGlobal, O: Write, E: Write>(
     shared: &Shared<'_, R>,
+    log: &mut Tenures,
     words: &[&[u8]],
     output: &mut O,
     teller: &mut Teller<'_, E>,
 ) -> Result<Ending, TableFault>
-    ensures written { IfOk result (IsWritten (line_of (texts_of words.now)) (O.contents output.old) (O.contents output.new)) }
-    ensures failed { IfErr result (IsCutShort (IsWritten (line_of (texts_of words.now))) (O.contents output.old) (O.contents output.new)) }
+    ensures written { IfOk result (IsWritten (line_of (texts_of words.now)) log.old log.new (O.contents output.old) (O.contents output.new)) }
+    ensures failed { IfErr result (IsUnwritten (line_of (texts_of words.now)) log.old log.new (O.contents output.old) (O.contents output.new)) }
 {
     for _ in 0..TRIES {
-        match answer_once(shared, words, output, teller) {
-            Err(TableFault::MadeAnew) => {}
-            answered => return answered,
+        if let Some(ending) = answer_once(shared, log, words, output, teller)? {
+            return Ok(ending);
         }
     }
     Err(TableFault::MadeAnew)
@@ -162,12 +204,13 @@ fn answer_command<R: Files<File = File> + Clock + AllocGlobal, O: Write, E: Writ
 fn answer_input<'s, 'r, R: Files<File = File> + Clock + AllocGlobal, I: Read, O: Write, E: Write>(
     shared: &Shared<'r, R>,
     kept: &mut Kept<'s, FileDevice<&'r R>>,
+    log: &mut Tenures,
     input: &mut I,
     output: &mut O,
     teller: &mut Teller<'_, E>,
 ) -> Result<Ending, TableFault>
-    ensures written { IfOk result (AnswersInput kept.old.setup.now (I.remaining input.old) (O.contents output.old) (O.contents output.new)) }
-    ensures stopped { IfErr result (SendsInput kept.old.setup.now (I.remaining input.old) (O.contents output.old) (O.contents output.new)) }
+    ensures written { IfOk result (AnswersInput kept.old.setup.now (I.remaining input.old) log.old log.new (O.contents output.old) (O.contents output.new)) }
+    ensures stopped { IfErr result (SendsInput kept.old.setup.now (I.remaining input.old) log.old log.new (O.contents output.old) (O.contents output.new)) }
     ensures setup { kept.new.setup.now ≡ kept.old.setup.now }
 {
     let mut reader = InputLines::new(shared.alloc(), input);
@@ -183,7 +226,7 @@ fn answer_input<'s, 'r, R: Files<File = File> + Clock + AllocGlobal, I: Read, O:
             teller.unended(reader.is_unended());
             return Ok(ending);
         }
-        ending = ending.behind(answer_group(shared, kept, &lines, output, teller)?);
+        ending = ending.behind(answer_group(shared, kept, log, &lines, output, teller)?);
     }
     Err(TableFault::Input)
 }
@@ -191,15 +234,17 @@ fn answer_input<'s, 'r, R: Files<File = File> + Clock + AllocGlobal, I: Read, O:
 /// Brings the table to the modules that a file lists, and writes what is not done.
 fn answer_adopt<R: Files<File = File> + Clock + AllocGlobal, I: Read, O: Write, E: Write>(
     shared: &Shared<'_, R>,
+    log: &mut Tenures,
     file: &[u8],
     input: &mut I,
     output: &mut O,
     teller: &mut Teller<'_, E>,
 ) -> Result<Ending, TableFault>
-    ensures written { IfOk result (IsAdoptionWritten file.now (I.remaining input.old) (O.contents output.old) (O.contents output.new)) }
-    ensures failed { IfErr result (IsCutShort (IsAdoptionWritten file.now (I.remaining input.old)) (O.contents output.old) (O.contents output.new)) }
+    ensures written { IfOk result (IsAdoptionWritten file.now (I.remaining input.old) log.old log.new (O.contents output.old) (O.contents output.new)) }
+    ensures failed { IfErr result (IsCutShort (IsAdoptionWritten file.now (I.remaining input.old) log.old log.new) (O.contents output.old) (O.contents output.new)) }
+    ensures grown { HasGrown log.old log.new }
 {
-    let replies = adopt(shared, file, input, teller)?;
+    let replies = adopt(shared, log, file, input, teller)?;
     write_whole(&replies.text, output)?;
     Ok(replies.ending())
 }
@@ -220,44 +265,47 @@ fn answer_check<R: Files<File = File> + Clock + AllocGlobal, O: Write>(
 /// Answers the lines of an input by the setup of the folder.
 fn answer_lines_of<R: Files<File = File> + Clock + AllocGlobal, I: Read, O: Write, E: Write>(
     shared: &Shared<'_, R>,
+    log: &mut Tenures,
     input: &mut I,
     output: &mut O,
     teller: &mut Teller<'_, E>,
 ) -> Result<Ending, TableFault>
-    ensures written { IfOk result (IsInputAnswered (I.remaining input.old) (O.contents output.old) (O.contents output.new)) }
-    ensures stopped { IfErr result (λ fault. (O.contents output.new ≡ O.contents output.old) ⊎ IsInputSent (I.remaining input.old) (O.contents output.old) (O.contents output.new) fault) }
+    ensures written { IfOk result (IsInputAnswered (I.remaining input.old) log.old log.new (O.contents output.old) (O.contents output.new)) }
+    ensures stopped { IfErr result (λ fault. IsUntouched log.old log.new (O.contents output.old) (O.contents output.new)
+        ⊎ IsInputSent (I.remaining input.old) log.old log.new (O.contents output.old) (O.contents output.new) fault) }
 {
     let setup = read_setup(shared)?;
     let mut kept = Kept::new(&setup.setup);
     let shared = shared.with_setup(&setup);
-    let ending = answer_input(&shared, &mut kept, input, output, teller)?;
+    let ending = answer_input(&shared, &mut kept, log, input, output, teller)?;
     Ok(ending)
 }
 
 /// Does a job.
 fn perform<R: Files<File = File> + Env + Clock + AllocGlobal, I: Read, O: Write, E: Write>(
     shared: &Shared<'_, R>,
+    log: &mut Tenures,
     job: Job<'_, '_>,
     input: &mut I,
     output: &mut O,
     teller: &mut Teller<'_, E>,
 ) -> Result<Ending, TableFault>
-    ensures performed { IfOk result (IsPerformed (job_view job.entry) (I.remaining input.old) (O.contents output.old) (O.contents output.new)) }
-    ensures failed { IfErr result (IsUndone (job_view job.entry) (I.remaining input.old) (O.contents output.old) (O.contents output.new)) }
+    ensures performed { IfOk result (IsPerformed (job_view job.entry) (I.remaining input.old) log.old log.new (O.contents output.old) (O.contents output.new)) }
+    ensures failed { IfErr result (IsUndone (job_view job.entry) (I.remaining input.old) log.old log.new (O.contents output.old) (O.contents output.new)) }
     ensures input { reads_input (job_view job.entry) ≡ false → input.new ≡ input.old }
 {
     refuse_others(shared, teller)?;
     match job {
-        Job::Create(origin, mode) => create(shared, origin, mode, teller),
-        Job::Command(words) => answer_command(shared, words, output, teller),
-        Job::Lines => answer_lines_of(shared, input, output, teller),
-        Job::Adopt(file) => answer_adopt(shared, file, input, output, teller),
+        Job::Create(origin, mode) => create(shared, log, origin, mode, teller),
+        Job::Command(words) => answer_command(shared, log, words, output, teller),
+        Job::Lines => answer_lines_of(shared, log, input, output, teller),
+        Job::Adopt(file) => answer_adopt(shared, log, file, input, output, teller),
         Job::Check => answer_check(shared, output),
         Job::Repair => {
-            repair(shared, teller)?;
+            repair(shared, log, teller)?;
             answer_check(shared, output)
         }
-        Job::Compact => match compact(shared, teller)? {
+        Job::Compact => match compact(shared, log, teller)? {
             Compacted::Done => Ok(Ending::Done),
             Compacted::Kept => Err(teller.kept(shared.folder)),
         },
@@ -322,12 +370,13 @@ fn answer_asked<R: Files<File = File> + Env + Clock + AllocGlobal, I: Read, O: W
     rt: &R,
     table: Option<&[u8]>,
     asked: &Asked<'_, '_>,
+    log: &mut Tenures,
     input: &mut I,
     output: &mut O,
     teller: &mut Teller<'_, E>,
 ) -> Ending
     ensures misplaced { IsMisplaced (text_of table.entry) (asked_view asked.now) → IsUnasked (O.contents output.old) (O.contents output.new) result }
-    ensures work { IsWork (job_view asked.now.job) (I.remaining input.old) (O.contents output.old) (O.contents output.new) result }
+    ensures work { IsWork (job_view asked.now.job) (I.remaining input.old) log.old log.new (O.contents output.old) (O.contents output.new) result }
     ensures input { reads_input (job_view asked.now.job) ≡ false → input.new ≡ input.old }
 {
     let folder = match asked_folder(table, asked, teller) {
@@ -345,7 +394,7 @@ fn answer_asked<R: Files<File = File> + Env + Clock + AllocGlobal, I: Read, O: W
         },
         setup: None,
     };
-    match perform(&shared, asked.job, input, output, teller) {
+    match perform(&shared, log, asked.job, input, output, teller) {
         Ok(ending) => ending,
         Err(fault) => end_run(&shared, fault, teller),
     }
@@ -385,15 +434,16 @@ fn run_words<R: Files<File = File> + Env + Clock + AllocGlobal, I: Read, O: Writ
     rt: &R,
     words: &[&[u8]],
     table: Option<&[u8]>,
+    log: &mut Tenures,
     input: &mut I,
     output: &mut O,
     teller: &mut Teller<'_, E>,
 ) -> Ending
-    ensures run { IsRunOf (asked (text_of table.entry) (texts_of words.entry.now)) (text_of table.entry) (I.remaining input.old) (O.contents output.old) (O.contents output.new) result }
+    ensures run { IsRunOf (asked (text_of table.entry) (texts_of words.entry.now)) (text_of table.entry) (I.remaining input.old) log.old log.new (O.contents output.old) (O.contents output.new) result }
     ensures input { may_read (asked (text_of table.entry) (texts_of words.entry.now)) ≡ false → input.new ≡ input.old }
 {
     match read_words(table, words) {
-        Ok(asked) => answer_asked(rt, table, &asked, input, output, teller),
+        Ok(asked) => answer_asked(rt, table, &asked, log, input, output, teller),
         Err(stop) => tell_stop(stop, output, teller),
     }
 }
@@ -415,21 +465,25 @@ fn slices(alloc: Global, words: &[Vec<u8>]) -> Result<Vec<&[u8]>, AllocError>
 /// refused. No fault has 0, 1, 10 to 12 or 15 to 18. If work was not done nothing is written, but for the replies to the first
 /// lines of an input. If the output failed, with 3, it has a beginning of what is written otherwise. `input` is read for its
 /// lines and by `adopt` alone.
+///
+/// Each reply to a command or a line is that of a tenure of `log`, which only clauses read: of the table that the journal stood for
+/// which the tenure found under the folder's lock. What a tenure left, whatever crashes, stands for the table behind its lines.
 pub fn drive<R: Files<File = File> + Env + Clock + AllocGlobal, I: Read, O: Write, E: Write>(
     rt: &R,
     words: &[Vec<u8>],
     table: Option<&[u8]>,
+    log: &mut Tenures,
     input: &mut I,
     output: &mut O,
     errors: &mut E,
 ) -> u8
     ensures run { (ending : AnyEnding) × (result ≡ number_of ending)
-        × IsRun (bytes_of words.entry.now) (text_of table.entry) (I.remaining input.old) (O.contents output.old) (O.contents output.new) ending }
+        × IsRun (bytes_of words.entry.now) (text_of table.entry) (I.remaining input.old) log.old log.new (O.contents output.old) (O.contents output.new) ending }
     ensures input { may_read (asked (text_of table.entry) (bytes_of words.entry.now)) ≡ false → input.new ≡ input.old }
 {
     let mut teller = Teller::new(errors);
     let Ok(words) = slices(rt.alloc(), words) else {
         return teller.end("", 0, TableFault::OutOfMemory).number();
     };
-    run_words(rt, &words, table, input, output, &mut teller).number()
+    run_words(rt, &words, table, log, input, output, &mut teller).number()
 }

@@ -1,11 +1,10 @@
 //! Lines that change nothing, and their replies from a copy of the journal.
-ghost use Rattle.std.specs.Prelude.{◌≡◌, Some, true, take, ◌<◌, ◌≤◌, length, All, IfOk, OnOk, OnErr};
+ghost use Rattle.std.specs.Prelude.{◌≡◌, Some, true, take, ◌<◌, ◌≤◌, length, IfOk, OnOk, OnErr};
 ghost use Rattle.line_journal.specs.Lines.{AreLines, bytes_of};
-ghost use Rattle.held_table.specs.Held.{Held};
 ghost use Rattle.durable_table.specs.Durable.{Reads, Stands};
+ghost use Rattle.durable_table.specs.Groups.{AreAsking};
 ghost use Rattle.durable_table.specs.Tables.{table_of};
-ghost use Rattle.gz_table_drive.specs.Answers.{HasAnswered, HasAnsweredFirst, HasStopped};
-ghost use Rattle.held_lines.specs.Reading.{is_reading};
+ghost use Rattle.gz_table_drive.specs.Answers.{HasAnswered, HasAnsweredFirst};
 
 use crate::answering::{GROUP, Replies, answer_lines};
 use crate::opening::{OpenFault, open_table};
@@ -17,7 +16,7 @@ use table_folder::{TableFault, is_reading};
 
 /// Whether all lines ask, or are no commands. It fails only if memory runs out.
 pub(crate) fn are_reading(alloc: Global, lines: &[Vec<u8>]) -> Result<bool, AllocError>
-    ensures { IfOk result (λ all. all ≡ true → All (λ line. is_reading line ≡ true) (bytes_of lines.now)) }
+    ensures { IfOk result (λ all. all ≡ true → AreAsking (bytes_of lines.now)) }
 {
     for line in lines {
         if !is_reading(alloc, line)? {
@@ -46,22 +45,21 @@ pub(crate) fn copy_of<'s>(
     }
 }
 
-/// Answers the first of some lines, as `answer_lines` does, from the table that a journal's bytes stand for.
+/// Answers the first of some lines, as `answer_lines` does, from the table of a copy.
 pub(crate) fn answer_copy(
     alloc: Global,
-    setup: &Setup,
-    bytes: Vec<u8>,
+    table: &mut DurableTable<'_, KillOnly>,
     lines: &[Vec<u8>],
     replies: &mut Replies,
 ) -> Result<usize, TableFault>
-    requires { AreLines (bytes_of lines.now) }
-    ensures answered { IfOk result (λ count. (h : Held) × (table_of setup.now bytes.items ≡ Some h) × HasAnswered setup.now h (take count (bytes_of lines.now)) replies.old replies.new) }
-    ensures stopped { OnErr result (HasStopped setup.now (bytes_of lines.now) replies.old replies.new) }
+    requires lines { AreLines (bytes_of lines.now) }
+    requires stands { Stands ⟦<KillOnly as Device>⟧.content ⟦<KillOnly as Device>⟧.history table.old.session.setup.now table.old.session.holders.held table.old.journal }
+    ensures answered { IfOk result (λ count. HasAnswered table.old.session.setup.now table.old.session.holders.held (take count (bytes_of lines.now)) replies.old replies.new) }
+    ensures stopped { OnErr result (HasAnsweredFirst table.old.session.setup.now table.old.session.holders.held (bytes_of lines.now) replies.old replies.new) }
     ensures some { IfOk result (λ count. 0 < length lines.now → 0 < count) }
     ensures within { IfOk result (λ count. count ≤ length lines.now) }
 {
-    let mut table = copy_of(alloc, setup, bytes)?;
-    match answer_lines(alloc, &mut table, lines, replies) {
+    match answer_lines(alloc, table, lines, replies) {
         Ok(count) => Ok(count),
         Err(_) => Err(TableFault::OutOfMemory),
     }
@@ -76,7 +74,7 @@ pub(crate) fn ask_lines<D: Device + Drop>(
     replies: &mut Replies,
 ) -> Result<usize, TableFault>
     requires lines { AreLines (bytes_of lines.now) }
-    requires asks { All (λ line. is_reading line ≡ true) (bytes_of lines.now) }
+    requires asks { AreAsking (bytes_of lines.now) }
     requires reads { Reads D.content table.old.session.setup.now table.old.session.holders.held table.old.journal }
     ensures answered { IfOk result (λ count. HasAnswered table.old.session.setup.now table.old.session.holders.held (take count (bytes_of lines.now)) replies.old replies.new) }
     ensures stopped { OnErr result (HasAnsweredFirst table.old.session.setup.now table.old.session.holders.held (bytes_of lines.now) replies.old replies.new) }

@@ -1,14 +1,16 @@
 //! What is damaged behind a journal's lines is cut off.
-ghost use Rattle.std.specs.Prelude.{◌≡◌, ◌≢◌, ◌⊎◌, [], ◌∷◌, Some, IfOk, IfSome, IfNone};
+ghost use Rattle.std.specs.Prelude.{◌≡◌, ◌≢◌, ◌⊎◌, [], ◌∷◌, Some, IfOk, IfSome, IfNone, OnOk};
 ghost use Rattle.line_journal.specs.Device.{AlwaysLeaves};
 ghost use Rattle.line_journal.specs.Journal.{IsFound};
 ghost use Rattle.line_journal.specs.Lines.{lines_of, at_rest, StandsFor};
 ghost use Rattle.durable_table.specs.Tables.{table_of};
 ghost use Rattle.durable_table.specs.Durable.{Stands};
 ghost use Rattle.file_journal.specs.declared.lock.LockKind.TheVariants.{Exclusive};
+ghost use Rattle.gz_table_drive.specs.Log.{HasGrown, HasRepaired};
 
+use crate::log::Tenures;
 use crate::opening::{OpenFault, no_holders};
-use crate::tenure::unopened;
+use crate::tenure::{begin_over, unopened};
 use durable_table::{DurableTable, OpenedTable, open};
 use file_journal::{FileDevice, FolderLock, LockKind};
 use line_journal::{Device, Found, KillOnly, Repair};
@@ -77,19 +79,17 @@ fn try_copy(alloc: Global, setup: &Setup, bytes: Vec<u8>) -> Result<(), TableFau
     }
 }
 
-/// Cuts off what stands behind the lines of a journal, if anything does. It is kept in `journal.cut` first, and it is told how
-/// many lines it has. The journal is at rest then.
-fn repair_journal<'r, R: Files<File = File> + Clock + AllocGlobal, E: Write>(
+/// The device of a journal, behind whose lines nothing stands any more. It is kept in `journal.cut` first, and it is told how many
+/// lines it has.
+fn repaired_device<'r, R: Files<File = File> + Clock + AllocGlobal, E: Write>(
     shared: &Shared<'r, R>,
     setup: &Setup,
-    lock: FolderLock,
+    mut device: FileDevice<&'r R>,
     teller: &mut Teller<'_, E>,
 ) -> Result<FileDevice<&'r R>, TableFault>
-    requires { lock.kind ≡ Exclusive }
     ensures { IfOk result (λ device. ⟦<FileDevice<&'r R> as Device>⟧.content device ≡ at_rest (lines_of (⟦<FileDevice<&'r R> as Device>⟧.content device))) }
 {
     let alloc = shared.alloc();
-    let mut device = open_journal(shared, lock)?;
     try_copy(alloc, setup, bytes_of(alloc, &mut device)?)?;
     let Some(damage) = damage_in(found_in(alloc, &mut device)?) else {
         return Ok(device);
@@ -104,13 +104,35 @@ fn repair_journal<'r, R: Files<File = File> + Clock + AllocGlobal, E: Write>(
     }
 }
 
+/// Cuts off what stands behind the lines of a journal, if anything does, in one tenure. The journal is at rest then.
+fn repair_journal<R: Files<File = File> + Clock + AllocGlobal, E: Write>(
+    shared: &Shared<'_, R>,
+    setup: &Setup,
+    log: &mut Tenures,
+    lock: FolderLock,
+    teller: &mut Teller<'_, E>,
+) -> Result<(), TableFault>
+    requires { lock.kind ≡ Exclusive }
+    ensures repaired { OnOk result (HasRepaired log.old log.new) }
+    ensures grown { HasGrown log.old log.new }
+{
+    let device = open_journal(shared, lock)?;
+    begin_over(&device, log)?;
+    let repaired = repaired_device(shared, setup, device, teller)?;
+    log.end(repaired.believed());
+    Ok(())
+}
+
 /// Brings the journal of a folder back to the lines before what is damaged.
 pub(crate) fn repair<R: Files<File = File> + Clock + AllocGlobal, E: Write>(
     shared: &Shared<'_, R>,
+    log: &mut Tenures,
     teller: &mut Teller<'_, E>,
-) -> Result<(), TableFault> {
+) -> Result<(), TableFault>
+    ensures repaired { OnOk result (HasRepaired log.old log.new) }
+    ensures grown { HasGrown log.old log.new }
+{
     let setup = read_setup(shared)?;
     let lock = shared.with_setup(&setup).lock(LockKind::Exclusive)?;
-    repair_journal(shared, &setup.setup, lock, teller)?;
-    Ok(())
+    repair_journal(shared, &setup.setup, log, lock, teller)
 }

@@ -1,14 +1,18 @@
 //! One tenure: what a process does from where it takes the lock to where it gives it back.
-ghost use Rattle.std.specs.Prelude.{◌≡◌, ◌<◌, ◌≤◌, true, length, take, All, IfOk, OnErr};
+ghost use Rattle.std.specs.Prelude.{◌≡◌, ◌<◌, ◌≤◌, [], true, length, take, IfOk, OnOk, OnErr};
 ghost use Rattle.line_journal.specs.Lines.{AreLines, bytes_of};
 ghost use Rattle.durable_table.specs.Durable.{Stands, Reads};
-ghost use Rattle.held_lines.specs.Reading.{is_reading};
+ghost use Rattle.durable_table.specs.Groups.{AreAsking};
+ghost use Rattle.file_journal.specs.Belief.{history_of};
 ghost use Rattle.file_journal.specs.declared.lock.LockKind.TheVariants.{Exclusive};
-ghost use Rattle.gz_table_drive.specs.Answers.{HasAnswered, HasAnsweredFirst, HasAnsweredOver, HasStopped};
+ghost use Rattle.gz_table_drive.specs.Answers.{HasAnswered, HasAnsweredFirst, StoppedWithin};
+ghost use Rattle.gz_table_drive.specs.Log.{HasBegun, HasBegunOver, HasTold, HasToldFirst, LeavesBehind};
+ghost use Rattle.gz_table_drive.specs.Turns.{IsTurnFor};
 
 use crate::answering::{AnswerError, Replies, answer_lines};
 use crate::compaction::shorten;
 use crate::kept::{Kept, Taken, rested};
+use crate::log::Tenures;
 use crate::opening::{OpenFault, keep_torn, open_table, read_table};
 use crate::reading::{answer_copy, are_reading, ask_lines, copy_of};
 use durable_table::{DurableTable, ReadTable};
@@ -21,7 +25,7 @@ use std::io::Write;
 use std::rt::Files;
 use std::time::Clock;
 use table_folder::{
-    Shared, TableFault, Teller, bytes_of, journal_fault, open_journal, read_journal,
+    Shared, Sight, TableFault, Teller, bytes_of, journal_fault, open_journal, read_journal,
 };
 
 /// The table over the file of a journal.
@@ -65,25 +69,58 @@ fn reading_device<'r, R: Files<File = File> + Clock + AllocGlobal>(
     }
 }
 
-/// The table that the journal reads as, under a lock that is shared, and is given back then. If it is not whole and at rest, or
-/// cannot be opened, the lock is handed back.
+/// A tenure begins over the file of a device that has the lock.
+pub(crate) fn begin_over<R: Files + Drop>(
+    device: &FileDevice<R>,
+    log: &mut Tenures,
+) -> Result<(), TableFault>
+    ensures begun { OnOk result (HasBegun (⟦<FileDevice<R> as Device>⟧.content device.now) log.old log.new) }
+    ensures none { OnErr result (log.new.noted.items ≡ log.old.noted.items) }
+{
+    log.begin(Sight::of(device)?)?;
+    Ok(())
+}
+
+/// A tenure begins that only asks, over a table that reads as its journal does. The lock is given back. If the tenure cannot
+/// begin, the lock is handed back.
+fn begun_asking<'s, R: Files + Drop>(
+    table: FileTable<'s, R>,
+    log: &mut Tenures,
+) -> Result<FileTable<'s, R>, Option<FolderLock>>
+    requires reads { Reads ⟦<FileDevice<R> as Device>⟧.content table.session.setup.now table.session.holders.held table.journal }
+    ensures reads { IfOk result (λ t. Reads ⟦<FileDevice<R> as Device>⟧.content table.entry.session.setup.now t.session.holders.held t.journal) }
+    ensures setup { IfOk result (λ t. t.session.setup ≡ table.entry.session.setup) }
+    ensures begun { IfOk result (λ t. HasBegunOver table.entry.session.setup.now t.session.holders.held log.old log.new) }
+    ensures none { OnErr result (log.new.noted.items ≡ log.old.noted.items) }
+{
+    match begin_over(table.device(), log) {
+        Ok(()) => Ok(rested(table)),
+        Err(_) => Err(table.into_device().into_lock()),
+    }
+}
+
+/// The table that the journal reads as, under a lock that is shared, and is given back then: a tenure has begun that only asks.
+/// If the journal is not whole and at rest, or cannot be opened, the lock is handed back.
 fn reading_table<'s, 'r, R: Files<File = File> + Clock + AllocGlobal>(
     shared: &Shared<'r, R>,
     kept: &mut Kept<'s, FileDevice<&'r R>>,
+    log: &mut Tenures,
     lock: FolderLock,
 ) -> Result<FileTable<'s, &'r R>, Option<FolderLock>>
     ensures of_setup { IfOk result (λ t. t.session.setup.now ≡ kept.old.setup.now) }
     ensures reads { IfOk result (λ t. Reads ⟦<FileDevice<&'r R> as Device>⟧.content kept.old.setup.now t.session.holders.held t.journal) }
     ensures setup { kept.new.setup.now ≡ kept.old.setup.now }
+    ensures begun { IfOk result (λ t. HasBegunOver kept.old.setup.now t.session.holders.held log.old log.new) }
+    ensures none { OnErr result (log.new.noted.items ≡ log.old.noted.items) }
 {
     let alloc = shared.alloc();
     let taken = match kept.take(alloc, lock) {
-        Taken::Table(table) => return Ok(rested(table)),
+        Taken::Table(table) => return begun_asking(table, log),
         taken => taken,
     };
     let device = reading_device(shared, taken)?;
     match read_table(alloc, kept.setup(), device) {
-        Ok(ReadTable::Ready(table)) => Ok(rested(table)),
+        Ok(ReadTable::Ready(table)) => begun_asking(table, log),
         Ok(ReadTable::Anew(device)) => Err(device.into_lock()),
         Err(fault) => Err(lock_of(fault)),
     }
@@ -93,13 +130,15 @@ fn reading_table<'s, 'r, R: Files<File = File> + Clock + AllocGlobal>(
 fn answer_unkept<R: Files<File = File> + Clock + AllocGlobal>(
     shared: &Shared<'_, R>,
     setup: &Setup,
+    log: &mut Tenures,
     lock: Option<FolderLock>,
     lines: &[Vec<u8>],
     replies: &mut Replies,
 ) -> Result<usize, TableFault>
-    requires { AreLines (bytes_of lines.now) }
-    ensures answered { IfOk result (λ count. HasAnsweredOver setup.now (take count (bytes_of lines.now)) replies.old replies.new) }
-    ensures stopped { OnErr result (HasStopped setup.now (bytes_of lines.now) replies.old replies.new) }
+    requires lines { AreLines (bytes_of lines.now) }
+    requires asks { AreAsking (bytes_of lines.now) }
+    ensures answered { IfOk result (λ count. HasTold setup.now (take count (bytes_of lines.now)) [] log.old log.new replies.old replies.new) }
+    ensures stopped { OnErr result (HasToldFirst setup.now (bytes_of lines.now) log.old log.new replies.old replies.new) }
     ensures some { IfOk result (λ count. 0 < length lines.now → 0 < count) }
     ensures within { IfOk result (λ count. count ≤ length lines.now) }
 {
@@ -107,9 +146,11 @@ fn answer_unkept<R: Files<File = File> + Clock + AllocGlobal>(
         Some(lock) => lock,
         None => shared.lock(LockKind::Shared)?,
     };
-    let bytes = read_journal(shared, &lock)?;
+    let (bytes, found) = read_journal(shared, &lock)?;
     lock.release();
-    answer_copy(shared.alloc(), setup, bytes, lines, replies)
+    let mut table = copy_of(shared.alloc(), setup, bytes)?;
+    log.begin(found)?;
+    answer_copy(shared.alloc(), &mut table, lines, replies)
 }
 
 /// Answers lines that ask from a table that reads as its journal does, and keeps it.
@@ -121,7 +162,7 @@ fn ask_table<'s, R: Files + Drop>(
     replies: &mut Replies,
 ) -> Result<usize, TableFault>
     requires lines { AreLines (bytes_of lines.now) }
-    requires asks { All (λ line. is_reading line ≡ true) (bytes_of lines.now) }
+    requires asks { AreAsking (bytes_of lines.now) }
     requires of_setup { table.session.setup.now ≡ kept.old.setup.now }
     requires reads { Reads ⟦<FileDevice<R> as Device>⟧.content kept.old.setup.now table.session.holders.held table.journal }
     ensures answered { IfOk result (λ count. HasAnswered kept.old.setup.now table.entry.session.holders.held (take count (bytes_of lines.now)) replies.old replies.new) }
@@ -135,25 +176,26 @@ fn ask_table<'s, R: Files + Drop>(
     Ok(count)
 }
 
-/// Answers lines that ask. Nothing is written to the folder.
+/// Answers lines that ask, under a lock. Nothing is written to the folder.
 fn answer_reading<'s, 'r, R: Files<File = File> + Clock + AllocGlobal>(
     shared: &Shared<'r, R>,
     kept: &mut Kept<'s, FileDevice<&'r R>>,
+    log: &mut Tenures,
+    lock: FolderLock,
     lines: &[Vec<u8>],
     replies: &mut Replies,
 ) -> Result<usize, TableFault>
     requires lines { AreLines (bytes_of lines.now) }
-    requires asks { All (λ line. is_reading line ≡ true) (bytes_of lines.now) }
-    ensures answered { IfOk result (λ count. HasAnsweredOver kept.old.setup.now (take count (bytes_of lines.now)) replies.old replies.new) }
-    ensures stopped { OnErr result (HasStopped kept.old.setup.now (bytes_of lines.now) replies.old replies.new) }
+    requires asks { AreAsking (bytes_of lines.now) }
+    ensures answered { IfOk result (λ count. HasTold kept.old.setup.now (take count (bytes_of lines.now)) [] log.old log.new replies.old replies.new) }
+    ensures stopped { OnErr result (HasToldFirst kept.old.setup.now (bytes_of lines.now) log.old log.new replies.old replies.new) }
     ensures some { IfOk result (λ count. 0 < length lines.now → 0 < count) }
     ensures within { IfOk result (λ count. count ≤ length lines.now) }
     ensures setup { kept.new.setup.now ≡ kept.old.setup.now }
 {
-    let lock = shared.lock(LockKind::Shared)?;
-    match reading_table(shared, kept, lock) {
+    match reading_table(shared, kept, log, lock) {
         Ok(table) => ask_table(shared.alloc(), kept, table, lines, replies),
-        Err(lock) => answer_unkept(shared, kept.setup(), lock, lines, replies),
+        Err(lock) => answer_unkept(shared, kept.setup(), log, lock, lines, replies),
     }
 }
 
@@ -245,7 +287,9 @@ fn answer_table<R: Files + Drop>(
     requires of_setup { table.old.session.setup.now ≡ setup.now }
     requires stands { Stands ⟦<FileDevice<R> as Device>⟧.content ⟦<FileDevice<R> as Device>⟧.history setup.now table.old.session.holders.held table.old.journal }
     ensures answered { IfOk result (λ done. HasAnswered setup.now table.old.session.holders.held (take done.0 (bytes_of lines.now)) replies.old replies.new) }
-    ensures stopped { OnErr result (HasAnsweredFirst setup.now table.old.session.holders.held (bytes_of lines.now) replies.old replies.new) }
+    ensures left { IfOk result (λ done. LeavesBehind setup.now table.old.session.holders.held (take done.0 (bytes_of lines.now)) [] table.new.journal.lines.device.belief) }
+    ensures stopped { OnErr result (StoppedWithin setup.now table.old.session.holders.held (bytes_of lines.now)
+        (history_of table.new.journal.lines.device.belief).leaves replies.old replies.new) }
     ensures some { IfOk result (λ done. 0 < length lines.now → 0 < done.0) }
     ensures within { IfOk result (λ done. done.0 ≤ length lines.now) }
     ensures reads { IfOk result (λ done. done.1 ≡ true → Reads ⟦<FileDevice<R> as Device>⟧.content setup.now table.new.session.holders.held table.new.journal) }
@@ -280,24 +324,29 @@ pub(crate) fn cut_unwritten<R: Files<File = File> + Clock + AllocGlobal>(
     }
 }
 
-/// Answers lines. What they change is on the disk before the lock is given back.
+/// Answers lines, under a lock that nobody else has. What they change is on the disk before the lock is given back.
 fn answer_changing<'s, 'r, R: Files<File = File> + Clock + AllocGlobal, E: Write>(
     shared: &Shared<'r, R>,
     kept: &mut Kept<'s, FileDevice<&'r R>>,
+    log: &mut Tenures,
+    lock: FolderLock,
     lines: &[Vec<u8>],
     replies: &mut Replies,
     teller: &mut Teller<'_, E>,
 ) -> Result<usize, TableFault>
-    requires { AreLines (bytes_of lines.now) }
-    ensures answered { IfOk result (λ count. HasAnsweredOver kept.old.setup.now (take count (bytes_of lines.now)) replies.old replies.new) }
-    ensures stopped { OnErr result (HasStopped kept.old.setup.now (bytes_of lines.now) replies.old replies.new) }
+    requires lines { AreLines (bytes_of lines.now) }
+    requires lock { lock.kind ≡ Exclusive }
+    ensures answered { IfOk result (λ count. HasTold kept.old.setup.now (take count (bytes_of lines.now)) [] log.old log.new replies.old replies.new) }
+    ensures stopped { OnErr result (HasToldFirst kept.old.setup.now (bytes_of lines.now) log.old log.new replies.old replies.new) }
     ensures some { IfOk result (λ count. 0 < length lines.now → 0 < count) }
     ensures within { IfOk result (λ count. count ≤ length lines.now) }
     ensures setup { kept.new.setup.now ≡ kept.old.setup.now }
 {
-    let lock = shared.lock(LockKind::Exclusive)?;
     let mut table = changing_table(shared, kept, lock, teller)?;
-    match answer_table(shared.alloc(), kept.setup(), &mut table, lines, replies) {
+    begin_over(table.device(), log)?;
+    let answered = answer_table(shared.alloc(), kept.setup(), &mut table, lines, replies);
+    log.end(table.device().believed());
+    match answered {
         Ok((count, may_keep)) => {
             if may_keep {
                 kept.keep(table);
@@ -311,24 +360,47 @@ fn answer_changing<'s, 'r, R: Files<File = File> + Clock + AllocGlobal, E: Write
     }
 }
 
-/// Answers the first of some lines, as `answer_lines` does. The lock is shared if all of them ask.
+/// The lock that lines want: one that is shared, if all of them ask.
+#[derive(Drop)]
+pub(crate) enum Turn {
+    Asking(FolderLock),
+    Changing(FolderLock),
+}
+
+/// Takes the lock that lines want. `MadeAnew` if another setup lies in the folder once the lock is had.
+pub(crate) fn take_turn<R: Files<File = File> + Clock + AllocGlobal>(
+    shared: &Shared<'_, R>,
+    lines: &[Vec<u8>],
+) -> Result<Turn, TableFault>
+    ensures { IfOk result (IsTurnFor (bytes_of lines.now)) }
+{
+    if are_reading(shared.alloc(), lines)? {
+        Ok(Turn::Asking(shared.lock(LockKind::Shared)?))
+    } else {
+        Ok(Turn::Changing(shared.lock(LockKind::Exclusive)?))
+    }
+}
+
+/// Answers the first of some lines, as `answer_lines` does, in one tenure, under the lock that they want.
 pub(crate) fn answer_in_tenure<'s, 'r, R: Files<File = File> + Clock + AllocGlobal, E: Write>(
     shared: &Shared<'r, R>,
     kept: &mut Kept<'s, FileDevice<&'r R>>,
+    log: &mut Tenures,
+    turn: Turn,
     lines: &[Vec<u8>],
     replies: &mut Replies,
     teller: &mut Teller<'_, E>,
 ) -> Result<usize, TableFault>
-    requires { AreLines (bytes_of lines.now) }
-    ensures answered { IfOk result (λ count. HasAnsweredOver kept.old.setup.now (take count (bytes_of lines.now)) replies.old replies.new) }
-    ensures stopped { OnErr result (HasStopped kept.old.setup.now (bytes_of lines.now) replies.old replies.new) }
+    requires lines { AreLines (bytes_of lines.now) }
+    requires turn { IsTurnFor (bytes_of lines.now) turn }
+    ensures answered { IfOk result (λ count. HasTold kept.old.setup.now (take count (bytes_of lines.now)) [] log.old log.new replies.old replies.new) }
+    ensures stopped { OnErr result (HasToldFirst kept.old.setup.now (bytes_of lines.now) log.old log.new replies.old replies.new) }
     ensures some { IfOk result (λ count. 0 < length lines.now → 0 < count) }
     ensures within { IfOk result (λ count. count ≤ length lines.now) }
     ensures setup { kept.new.setup.now ≡ kept.old.setup.now }
 {
-    if are_reading(shared.alloc(), lines)? {
-        answer_reading(shared, kept, lines, replies)
-    } else {
-        answer_changing(shared, kept, lines, replies, teller)
+    match turn {
+        Turn::Asking(lock) => answer_reading(shared, kept, log, lock, lines, replies),
+        Turn::Changing(lock) => { answer_changing(shared, kept, log, lock, lines, replies, teller) }
     }
 }

@@ -1,5 +1,5 @@
 //! How the files of a folder are read.
-ghost use Rattle.std.specs.Prelude.{ℕ, List, codes, IfOk, IfErr};
+ghost use Rattle.std.specs.Prelude.{◌≡◌, ℕ, List, codes, IfOk, IfErr};
 ghost use Rattle.table_folder.specs.Faults.{IsNoSetup, IsUnread};
 ghost use Rattle.table_folder.specs.Setups.{IsReadFrom};
 
@@ -8,6 +8,7 @@ use crate::fault::TableFault;
 use crate::folder_setup::FolderSetup;
 use crate::mark::FileMark;
 use crate::shared::{JOURNAL, SETUP, Shared};
+use crate::sight::Sight;
 use file_journal::{Cause, FolderLock};
 use modprobe::AliasForm;
 use std::fs::{File, OpenFile};
@@ -84,15 +85,18 @@ pub(crate) fn journal_now<R: Files<File = File> + Clock + AllocGlobal>(
     Ok(read.bytes)
 }
 
-/// All bytes of the folder's journal, under the folder's lock. `NoJournal` if there is none, and `Unread` with the cause if it
-/// cannot be read.
+/// All bytes of the folder's journal, under the folder's lock, and the sight of them. `NoJournal` if there is none, and `Unread`
+/// with the cause if it cannot be read.
 pub fn read_journal<R: Files<File = File> + Clock + AllocGlobal>(
     shared: &Shared<'_, R>,
-    _lock: &FolderLock,
-) -> Result<Vec<u8>, TableFault>
-    ensures { IfErr result (IsUnread (codes "journal")) }
+    lock: &FolderLock,
+) -> Result<(Vec<u8>, Sight), TableFault>
+    ensures sight { IfOk result (λ read. read.1.bytes.value ≡ read.0) }
+    ensures fault { IfErr result (IsUnread (codes "journal")) }
 {
-    journal_now(shared)
+    let bytes = journal_now(shared)?;
+    let sight = Sight::of_copy(&bytes, lock);
+    Ok((bytes, sight))
 }
 
 /// What the table of the folder was made of, for many lines. It is kept until the process ends, which takes less time than to

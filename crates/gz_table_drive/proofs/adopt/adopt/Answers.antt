@@ -2,19 +2,18 @@ use Rattle.std.proofs.Common.{◌≡◌, ◌∙◌, ap, subst, ℕ, List, Ok}
 use Rattle.modprobe.specs.Setup.{Setup}
 use Rattle.table_adopt.specs.Kernel.{modules_of_text}
 use Rattle.table_adopt.specs.declared.kernel.KernelModule.{KernelModule}
-use Rattle.gz_table_drive.specs.Adopting.{HasAdopted}
+use Rattle.gz_table_drive.specs.Adopting.{HasAdopted, adopting_lines}
 use Rattle.table_folder.specs.declared.folder_setup.FolderSetup.{FolderSetup}
-use Rattle.gz_table_drive.proofs.TenureLemmas.{stands_for}
+use Rattle.gz_table_drive.specs.Log.{HasMade}
 use Rattle.gz_table_drive.proofs.adopt.adopt.Goals as goal
 
-pub returns : goal.returns
-returns g c =
+pub returns-clause-adopted : goal.returns-clause-adopted
+returns-clause-adopted g c =
     let found = c.in_ok-setup.setup.value in
     let table = c.in_ok-table.table in
     let held = table.session.holders.held in
     let kernel = c.in_ok-kernel.kernel.items in
-    let same : c.new.result.setup.now ≡ found.setup = c.new.ensures ∙ ap (λ (f : FolderSetup). f.setup) c.deref-3.ensures in
-    let own = stands_for c.new.result.setup.now found.setup held c.in_ok-table.ensures.stands same in (
+    let same : c.new.result.setup.now ≡ found.setup = c.new.ensures ∙ ap (λ (f : FolderSetup). f.setup) c.deref-3.ensures in (
       c.new-replies.result,
       record { text = c.new-replies.ensures.text; endings = c.new-replies.ensures.endings },
       record {
@@ -25,10 +24,10 @@ returns g c =
         named = c.in_ok-listing.ensures.listing;
         kernel = kernel;
         listed = (c.in_ok-text.text.items, c.in_ok-text.ensures.text, subst (λ (text : List ℕ). modules_of_text text ≡ Ok kernel) c.deref-2.ensures.value c.in_ok-kernel.ensures.modules);
-        journal = own.0;
         held = held;
-        stands = own.1;
+        made = subst (λ (s : Setup). HasMade s held (adopting_lines s held kernel) c.args.log.now c.adopt_into.new.log) (c.in_ok-table.ensures.of_setup ∙ same)
+            (subst (λ (ks : List KernelModule). HasMade table.session.setup.now held (adopting_lines table.session.setup.now held ks) c.args.log.now c.adopt_into.new.log) c.deref-5.ensures.value c.in_ok-adopt_into.ensures.made);
         answered = subst (λ (s : Setup). HasAdopted s held kernel c.new-replies.result c.adopt_into.new.replies) (c.in_ok-table.ensures.of_setup ∙ same)
-            (subst (λ (ks : List KernelModule). HasAdopted table.session.setup.now held ks c.new-replies.result c.adopt_into.new.replies) c.deref-5.ensures.value c.in_ok-adopt_into.ensures);
+            (subst (λ (ks : List KernelModule). HasAdopted table.session.setup.now held ks c.new-replies.result c.adopt_into.new.replies) c.deref-5.ensures.value c.in_ok-adopt_into.ensures.adopted);
       },
     )

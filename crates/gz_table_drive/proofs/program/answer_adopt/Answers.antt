@@ -9,7 +9,7 @@ pub returns-clause-written : goal.returns-clause-written
 returns-clause-written g c =
     record {
       replies = c.in_ok-replies.replies;
-      answered = c.in_ok-replies.ensures;
+      answered = c.in_ok-replies.ensures.adopted;
       text = subst (Appends (g.O.Write.contents c.args.output.now) (g.O.Write.contents c.write_whole.new.output)) c.deref.ensures.value c.in_ok-write_whole.ensures.written;
       ends = c.ending.ensures;
     }
@@ -21,5 +21,5 @@ returns-in_err-write_whole-clause-failed g c =
     let p = err_from_is_err_and c.from_residual-in_err-write_whole.result c.from_residual-in_err-write_whole.ensures.1 in
     rw (p.1, p.2) (inr (
       c.in_err-write_whole.ensures.failed,
-      (replies.text.items, ending_of_lines replies.endings.items, record { replies = replies; answered = c.in_ok-replies.ensures; text = refl; ends = refl }, begun),
+      (replies.text.items, ending_of_lines replies.endings.items, record { replies = replies; answered = c.in_ok-replies.ensures.adopted; text = refl; ends = refl }, begun),
     ))

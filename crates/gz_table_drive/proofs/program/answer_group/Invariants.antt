@@ -8,7 +8,7 @@ abbrev pub invariant-loop-rest : goal.invariant-loop-rest
 invariant-loop-rest g l =
     record {
       lines : AreLines (bytes_of l.rest);
-      turns : Turns l.initial.kept.setup.now l.lines l.rest (g.O.Write.contents l.initial.output) (g.O.Write.contents l.output) l.ending;
+      turns : Turns l.initial.kept.setup.now l.lines l.rest l.initial.log l.log (g.O.Write.contents l.initial.output) (g.O.Write.contents l.output) l.ending;
       setup : l.kept.setup.now ≡ l.initial.kept.setup.now;
     }
 

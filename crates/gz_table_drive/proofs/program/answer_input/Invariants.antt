@@ -10,6 +10,6 @@ invariant-loop g l =
     record {
       begun : IsLine l.reader.begun.items;
       written : AnswersSoFar l.initial.kept.setup.now (g.I.Read.remaining l.fn.input) (text_left g.I.Read.remaining l.reader)
-          (g.O.Write.contents l.initial.output) (g.O.Write.contents l.output) l.ending;
+          l.initial.log l.log (g.O.Write.contents l.initial.output) (g.O.Write.contents l.output) l.ending;
       setup : l.kept.setup.now ≡ l.initial.kept.setup.now;
     }

@@ -11,7 +11,7 @@ returns-clause-written g c =
       file = c.in_ok-setup.ensures.found.0;
       found = c.in_ok-setup.setup.value;
       read = c.in_ok-setup.ensures.found.1;
-      answers = subst (λ (s : Setup). AnswersInput s (g.I.Read.remaining c.args.input.now) (g.O.Write.contents c.args.output.now) (g.O.Write.contents c.answer_input.new.output) c.in_ok-ending.ending)
+      answers = subst (λ (s : Setup). AnswersInput s (g.I.Read.remaining c.args.input.now) c.args.log.now c.answer_input.new.log (g.O.Write.contents c.args.output.now) (g.O.Write.contents c.answer_input.new.output) c.in_ok-ending.ending)
           (c.new-kept.ensures ∙ ap (λ (f : FolderSetup). f.setup) c.deref.ensures) c.in_ok-ending.ensures.written;
     }
 
@@ -23,6 +23,6 @@ returns-in_err-ending-clause-stopped g c =
       file = c.in_ok-setup.ensures.found.0;
       found = c.in_ok-setup.setup.value;
       read = c.in_ok-setup.ensures.found.1;
-      sends = subst (λ (s : Setup). SendsInput s (g.I.Read.remaining c.args.input.now) (g.O.Write.contents c.args.output.now) (g.O.Write.contents c.answer_input.new.output) fault)
+      sends = subst (λ (s : Setup). SendsInput s (g.I.Read.remaining c.args.input.now) c.args.log.now c.answer_input.new.log (g.O.Write.contents c.args.output.now) (g.O.Write.contents c.answer_input.new.output) fault)
           (c.new-kept.ensures ∙ ap (λ (f : FolderSetup). f.setup) c.deref.ensures) c.in_err-ending.ensures.stopped;
     })

@@ -1,6 +1,12 @@
-use Rattle.std.proofs.Common.{◌∙◌}
-use Rattle.gz_table_drive.proofs.TenureLemmas.{found_whole}
+use Rattle.std.proofs.Common.{◌≡◌, sym, subst}
+use Rattle.line_journal.specs.Lines.{at_rest, lines_of}
+use Rattle.gz_table_drive.proofs.LogLemmas.{ended_with}
 use Rattle.gz_table_drive.proofs.repair.repair_journal.Goals as goal
 
-pub returns-in_default : goal.returns-in_default
-returns-in_default g c = found_whole _ _ _ c.in_ok-found_in.ensures.found c.in_default.ensures.sound c.in_ok-found_in.ensures.fits c.found_in.ensures.content
+pub returns-clause-repaired : goal.returns-clause-repaired
+returns-clause-repaired g c = (
+  c.in_ok-device.device.belief.bytes.items,
+  c.believed.result.value,
+  ended_with c.in_ok-device.device.belief.bytes.items c.believed.result.value c.args.log.now c.begin_over.new.log c.end.new.self c.in_ok-begin_over.ensures.begun c.end.ensures,
+  subst (λ belief. belief.bytes.items ≡ at_rest (lines_of belief.bytes.items)) (sym c.believed.ensures) c.in_ok-repaired.ensures,
+)

@@ -1,26 +1,34 @@
-use Rattle.std.proofs.Common.{ap, subst, ◌∙◌, take, IfOk, OnErr}
+use Rattle.std.proofs.Common.{[], subst, ◌∙◌, take, IfOk, OnErr}
 use Rattle.line_journal.specs.Lines.{bytes_of}
-use Rattle.gz_table_drive.specs.Answers.{HasAnswered, HasAnsweredFirst, HasStopped}
-use Rattle.gz_table_drive.proofs.TenureLemmas.{reads_err, reads_ok}
+use Rattle.gz_table_drive.specs.Answers.{HasAnswered, HasAnsweredFirst}
+use Rattle.gz_table_drive.specs.Log.{HasTold, HasToldFirst}
+use Rattle.gz_table_drive.proofs.LogLemmas.{asked_err, asked_ok, err_after, ok_after}
 use Rattle.gz_table_drive.proofs.tenure.answer_reading.Goals as goal
-
-pub returns-in-Err-clause-stopped : goal.returns-in-Err-clause-stopped
-returns-in-Err-clause-stopped g c =
-    subst (λ s. OnErr c.answer_unkept.result (HasStopped s (bytes_of c.args.lines.now) c.args.replies.now c.answer_unkept.new.replies))
-    (c.setup.ensures ∙ c.reading_table.ensures.setup) c.answer_unkept.ensures.stopped
 
 pub returns-in-Ok-clause-answered : goal.returns-in-Ok-clause-answered
 returns-in-Ok-clause-answered g c =
     let held = c.in-Ok.table.session.holders.held in
-    reads_ok c.args.kept.now.setup.now held (bytes_of c.args.lines.now) c.args.replies.now c.ask_table.new.replies c.ask_table.result
-    c.in-Ok.ensures.reads
-    (subst (λ s. IfOk c.ask_table.result (λ count. HasAnswered s held (take count (bytes_of c.args.lines.now)) c.args.replies.now c.ask_table.new.replies))
-    c.reading_table.ensures.setup c.ask_table.ensures.answered)
+    let lines = bytes_of c.args.lines.now in
+    asked_ok c.args.kept.now.setup.now held lines c.args.log.now c.reading_table.new.log c.args.replies.now c.ask_table.new.replies c.ask_table.result c.in-Ok.ensures.begun c.requires.asks
+    (subst (λ s. IfOk c.ask_table.result (λ count. HasAnswered s held (take count lines) c.args.replies.now c.ask_table.new.replies)) c.reading_table.ensures.setup c.ask_table.ensures.answered)
 
 pub returns-in-Ok-clause-stopped : goal.returns-in-Ok-clause-stopped
 returns-in-Ok-clause-stopped g c =
     let held = c.in-Ok.table.session.holders.held in
-    reads_err c.args.kept.now.setup.now held (bytes_of c.args.lines.now) c.args.replies.now c.ask_table.new.replies c.ask_table.result
-    c.in-Ok.ensures.reads
-    (subst (λ s. OnErr c.ask_table.result (HasAnsweredFirst s held (bytes_of c.args.lines.now) c.args.replies.now c.ask_table.new.replies))
-    c.reading_table.ensures.setup c.ask_table.ensures.stopped)
+    let lines = bytes_of c.args.lines.now in
+    asked_err c.args.kept.now.setup.now held lines c.args.log.now c.reading_table.new.log c.args.replies.now c.ask_table.new.replies c.ask_table.result c.in-Ok.ensures.begun c.requires.asks
+    (subst (λ s. OnErr c.ask_table.result (HasAnsweredFirst s held lines c.args.replies.now c.ask_table.new.replies)) c.reading_table.ensures.setup c.ask_table.ensures.stopped)
+
+pub returns-in-Err-clause-answered : goal.returns-in-Err-clause-answered
+returns-in-Err-clause-answered g c =
+    let lines = bytes_of c.args.lines.now in
+    ok_after c.args.kept.now.setup.now lines c.args.log.now c.reading_table.new.log c.answer_unkept.new.log c.args.replies.now c.answer_unkept.new.replies c.answer_unkept.result c.in-Err.ensures.none
+    (subst (λ s. IfOk c.answer_unkept.result (λ count. HasTold s (take count lines) [] c.reading_table.new.log c.answer_unkept.new.log c.args.replies.now c.answer_unkept.new.replies))
+    (c.setup.ensures ∙ c.reading_table.ensures.setup) c.answer_unkept.ensures.answered)
+
+pub returns-in-Err-clause-stopped : goal.returns-in-Err-clause-stopped
+returns-in-Err-clause-stopped g c =
+    let lines = bytes_of c.args.lines.now in
+    err_after c.args.kept.now.setup.now lines c.args.log.now c.reading_table.new.log c.answer_unkept.new.log c.args.replies.now c.answer_unkept.new.replies c.answer_unkept.result c.in-Err.ensures.none
+    (subst (λ s. OnErr c.answer_unkept.result (HasToldFirst s lines c.reading_table.new.log c.answer_unkept.new.log c.args.replies.now c.answer_unkept.new.replies))
+    (c.setup.ensures ∙ c.reading_table.ensures.setup) c.answer_unkept.ensures.stopped)

@@ -1,0 +1,42 @@
+use Rattle.std.proofs.Common.{◌≡◌, Ok, refl, sym, ap, subst, ◌∙◌}
+use Rattle.line_journal.specs.Device.{AlwaysLeaves}
+use Rattle.line_journal.specs.Lines.{lines_of}
+use Rattle.line_journal.proofs.Moments.{leaves_now}
+use Rattle.durable_table.specs.Compacting.{compacted}
+use Rattle.durable_table.specs.Durable.{FileStands}
+use Rattle.file_journal.specs.Belief.{history_of}
+use Rattle.gz_table_drive.proofs.LogLemmas.{ended_with, grown_none}
+use Rattle.gz_table_drive.proofs.compaction.compact_folder.Goals as goal
+
+pub returns-in_err-begin_over-clause-grown : goal.returns-in_err-begin_over-clause-grown
+returns-in_err-begin_over-clause-grown g c = grown_none c.args.log.now c.begin_over.new.log c.in_err-begin_over.ensures.none
+
+pub returns-in-Ok-clause-done : goal.returns-in-Ok-clause-done
+returns-in-Ok-clause-done g c = λ done.
+    let s = c.args.setup.now in
+    let held = c.in_ok-table.table.session.holders.held in
+    let bytes = c.device.result.now.belief.bytes.items in
+    let belief = sym (c.believed.ensures ∙ ap (λ device. device.belief) c.device-2.ensures) in
+    record {
+      held = held;
+      bytes = bytes;
+      belief = c.believed.result.value;
+      noted = ended_with bytes c.believed.result.value c.args.log.now c.begin_over.new.log c.end.new.self c.in_ok-begin_over.ensures.begun c.end.ensures;
+      found = subst (λ device. FileStands s held device.belief.bytes.items) (sym c.device.ensures) (subst (λ s. FileStands s held c.in_ok-table.table.journal.lines.device.belief.bytes.items) c.new.ensures c.in_ok-table.ensures.stands.same);
+      lines = subst (λ belief. lines_of belief.bytes.items ≡ compacted s held) belief (c.in-Ok.ensures.written (ap Ok done));
+      left = subst (λ belief. (file : _) → (history_of belief).leaves file → FileStands s held file) belief (leaves_now c.in-Ok.ensures.any_moment);
+    }
+
+pub returns-in-Ok-clause-kept : goal.returns-in-Ok-clause-kept
+returns-in-Ok-clause-kept g c = λ kept.
+    let s = c.args.setup.now in
+    let held = c.in_ok-table.table.session.holders.held in
+    let bytes = c.device.result.now.belief.bytes.items in
+    record {
+      held = held;
+      bytes = bytes;
+      belief = c.believed.result.value;
+      noted = ended_with bytes c.believed.result.value c.args.log.now c.begin_over.new.log c.end.new.self c.in_ok-begin_over.ensures.begun c.end.ensures;
+      found = subst (λ device. FileStands s held device.belief.bytes.items) (sym c.device.ensures) (subst (λ s. FileStands s held c.in_ok-table.table.journal.lines.device.belief.bytes.items) c.new.ensures c.in_ok-table.ensures.stands.same);
+      cannot = c.in-Ok.ensures.needed (ap Ok kept);
+    }
