@@ -3,3 +3,4 @@ pub mod Names
 pub mod Options
 pub mod Notes
 pub mod Laws
+pub mod Unchecked

@@ -16,10 +16,12 @@ mod parameters;
 mod repeats;
 mod setting;
 mod soft_items;
+mod unread;
 mod words;
 
 pub use known::{Known, ModuleParameters, Origin};
 pub use note::{Note, NoteKind};
 pub use notes::lint;
 pub use setting::Setting;
+pub use unread::unchecked;
 pub use words::has_pattern;

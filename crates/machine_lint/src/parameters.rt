@@ -16,7 +16,10 @@ use std::alloc::{AllocError, Global};
 use text_parts::is_same;
 
 /// The parameters of a module, by the first entry that it has.
-fn parameters_of<'a>(all: &'a [ModuleParameters], name: &[u8]) -> Option<&'a ModuleParameters>
+pub(crate) fn parameters_of<'a>(
+    all: &'a [ModuleParameters],
+    name: &[u8],
+) -> Option<&'a ModuleParameters>
     ensures { option_copied result ≡ find (is_of_module name.now) all.entry.now }
 {
     all.iter()
