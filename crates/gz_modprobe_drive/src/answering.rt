@@ -16,6 +16,7 @@ use crate::failures::tell_failures;
 use crate::folder::{FEW_NAMES, index_by};
 use crate::paths::read_paths;
 use crate::queries::{asks_states, is_removal, looks_up_modules};
+use crate::shown::shown;
 use crate::sys::add_states;
 use crate::texts::Machine;
 use kmod_conf::Conf;
@@ -29,7 +30,7 @@ use modprobe_words::{Asked, Level, Messages, Written};
 use std::alloc::{AllocError, Global};
 use std::io::Write;
 
-/// Tells the lines of the configuration that say nothing.
+/// Tells the lines of the configuration that say nothing. No byte of them has an effect on a terminal.
 pub(crate) fn tell_bad_lines<E: Write>(
     alloc: Global,
     texts: &ConfTexts,
@@ -37,12 +38,13 @@ pub(crate) fn tell_bad_lines<E: Write>(
     messages: &mut Messages<'_, E>,
 ) -> Result<(), AllocError> {
     for line in conf.bad() {
-        let (path, name) = (texts.path(line.place.source), line.name.as_bytes());
+        let path = shown(alloc, texts.path(line.place.source))?;
+        let name = shown(alloc, line.name.as_bytes())?;
         let text = format!(in alloc;
             " line {}: ignoring bad line starting with '",
             line.place.line
         )?;
-        messages.tell_always(Level::Error, path, text.as_bytes(), name, b"'");
+        messages.tell_always(Level::Error, &path, text.as_bytes(), &name, b"'");
     }
     Ok(())
 }

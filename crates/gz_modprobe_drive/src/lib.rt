@@ -23,6 +23,7 @@ mod paths;
 mod program;
 mod queries;
 mod refusals;
+mod shown;
 mod sys;
 mod texts;
 mod unread;
