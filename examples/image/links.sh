@@ -15,6 +15,7 @@ ask() {
 ln -s /usr/lib $image/lib
 printf 'kernel/nouveau.ko: kernel/wmi.ko\nkernel/wmi.ko:\nkernel/loop.ko:\n' >$image/usr/lib/modules/6.1.0/modules.dep
 printf 'alias pci:v000010DEd* nouveau\n' >$image/usr/lib/modules/6.1.0/modules.alias
+touch $image/usr/lib/modules/6.1.0/modules.{symbols,builtin}
 printf 'options loop max_loop=8\n' >$image/usr/lib/modprobe.d/loop.conf
 
 # The alternative of a driver blacklists another one, over two absolute links. Outside there is nothing at their ends.

@@ -2,3 +2,4 @@ pub mod AnswerLemmas
 pub mod EndLemmas
 pub mod LintLemmas
 pub mod OutputLemmas
+pub mod TreeLemmas

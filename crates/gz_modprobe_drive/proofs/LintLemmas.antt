@@ -1,31 +1,34 @@
 -- What a lint that finds nothing says.
-use Rattle.std.proofs.Common.{◌≡◌, ◌∙◌, ℕ, Bool, true, false, true≢false, List, [], ◌∷◌, ◌++◌, map, Option, length, refl, sym, ap, subst, arith}
+use Rattle.std.proofs.Common.{◌≡◌, ◌∙◌, ◌≤◌, ℕ, Bool, true, false, true≢false, ◌||◌, if◌then◌else◌, List, [], ◌∷◌, ◌++◌, map, Option, length, refl, sym, ap, subst, arith, eqb-true, ◌&&◌, ◌==◌}
 use Rattle.std.proofs.lemmas.List.Sorted.{length_permutation}
 use Rattle.std.specs.List.Sorted.{IsPermutation}
-use Rattle.machine_lint.specs.declared.known.Known.{Known}
 use Rattle.machine_lint.specs.declared.note.Note.{Note}
 use Rattle.machine_lint.specs.Notes.{notes_of}
+use Rattle.machine_lint.specs.Unchecked.{unchecked}
 use Rattle.modprobe_files.specs.declared.texts.ConfTexts.{ConfTexts}
 use Rattle.modprobe_files.specs.declared.texts.LaterTexts.{LaterTexts}
 use Rattle.modprobe_files.specs.declared.texts.ModuleTexts.{ModuleTexts}
 use Rattle.kmod_query.specs.declared.query.Query.{Query}
+use Rattle.kmod_version.specs.declared.kmod.Kmod.{Kmod}
 use Rattle.modprobe_words.specs.declared.switches.Switches.{Switches}
 use Rattle.modprobe_words.specs.declared.wishes.Wish.{Wish}
 use Rattle.modprobe_words.specs.Asked.{Asked}
-use Rattle.gz_modprobe_drive.specs.Ends.{EndsWell, IsDone, WereAnswered, wish_by}
+use Rattle.gz_modprobe_drive.specs.Ends.{EndsWell, IsDone, WereAnswered, wish_by, worst_of}
 use Rattle.gz_modprobe_drive.specs.Formed.{form_by}
 use Rattle.gz_modprobe_drive.specs.Leads.{WasTold}
-use Rattle.answer_facts.specs.declared.fact.Fact.{Fact}
 use Rattle.answer_facts.specs.Facts.{pieces_of_facts}
 use Rattle.answer_facts.specs.Pieces.{Piece}
 use Rattle.modprobe_files.specs.declared.texts.HiddenFile.{HiddenFile}
-use Rattle.answer_reasons.specs.declared.sources.UnreadFile.{UnreadFile}
 use Rattle.answer_reasons.specs.FileFacts.{hidden_file, unread_file}
 use Rattle.gz_modprobe_drive.specs.LintFacts.{lint_pieces, pieces_of_note}
-use Rattle.gz_modprobe_drive.specs.Linted.{FoundNothing, IsOfTexts, IsSilent, WasLinted, WereFound}
+use Rattle.gz_modprobe_drive.specs.Absences.{certain_notes}
+use Rattle.gz_modprobe_drive.specs.Linted.{IsUnnoted, WasLinted}
+use Rattle.gz_modprobe_drive.specs.Judged.{status_by, status_of}
+use Rattle.gz_modprobe_drive.specs.Tree.{AreUncut, is_whole}
+use Rattle.gz_modprobe_drive.specs.declared.tree.Tree.{Tree}
 use Rattle.gz_modprobe_drive.specs.Queries.{IsQueryOf, ask_of, is_lint, is_why}
 
-without-length : (notes : List Note) → ◌≡◌ {A = ℕ} (length notes) 0 → notes ≡ []
+without-length : {A : Type 0} (notes : List A) → ◌≡◌ {A = ℕ} (length notes) 0 → notes ≡ []
 without-length [] e = refl
 without-length (note ∷ notes) e = absurd (omega arith)
 
@@ -45,40 +48,69 @@ no-hidden texts [] [] rest e = refl
 no-hidden texts [] (file ∷ files) rest e = absurd (cc)
 no-hidden texts (note ∷ notes) hidden rest e = absurd (cc)
 
--- silent facts of a lint are those of nothing
-pub found-nothing : (texts : ConfTexts) (known : Known) (all notes : List Note) (unread : List UnreadFile) (facts shown : List Fact)
-    (before after : Option (List ℕ)) → IsPermutation (notes_of known) all → all ≡ notes → pieces_of_facts facts ≡ lint_pieces texts notes unread
-    → facts ≡ shown → IsSilent shown before after → FoundNothing texts known before after
-found-nothing texts known all notes unread facts shown before after noted lent are written silent = record {
-  facts = shown;
-  found = record {
-    notes = notes;
-    unread = unread;
-    noted = subst (IsPermutation (notes_of known)) lent noted;
-    are = ap pieces_of_facts (sym written) ∙ are;
-  };
-  silent = silent;
-}
+-- over whole texts, what is certain is all
+all-certain : (whole : Bool) (notes : List Note) → whole ≡ true → certain_notes whole notes ≡ notes
+all-certain true notes e = refl
+all-certain false notes e = absurd (true≢false (sym e))
 
--- a silent lint of what texts say noted no line of them
-pub was-linted : (texts : ConfTexts) (modules : ModuleTexts) (later : LaterTexts) (directory : List ℕ) (known : Known)
-    (before after : Option (List ℕ)) → IsOfTexts texts modules later directory known → FoundNothing texts known before after
+-- a silent lint of what whole texts say noted no line of them
+pub was-linted : (whole : Bool) (count : ℕ) (texts : ConfTexts) (modules : ModuleTexts) (later : LaterTexts)
+    (before after : Option (List ℕ)) → whole ≡ true → count ≡ 0 → AreUncut modules later → IsUnnoted whole count texts modules later before after
     → WasLinted texts.kmod before after
-was-linted texts modules later directory known before after is nothing-found =
-    let found = nothing-found.found in
-    let empty : lint_pieces texts found.notes found.unread ≡ [] = sym found.are ∙ ap pieces_of_facts nothing-found.silent.none
+was-linted whole count texts modules later before after all-whole all-checked uncut unnoted =
+    let found = unnoted.nothing.found in
+    let notes = certain_notes whole found.all in
+    let empty : lint_pieces texts notes found.unread ≡ [] = sym found.are ∙ ap pieces_of_facts unnoted.nothing.silent.none in
+    let none : notes ≡ [] = no-notes texts notes texts.hidden.items (map unread_file found.unread) empty
     in record {
       texts = texts;
       modules = modules;
       later = later;
-      directory = directory;
-      known = known;
+      directory = unnoted.directory;
+      known = unnoted.known;
       version = refl;
-      is = is;
-      none = nothing (notes_of known) found.notes found.noted (no-notes texts found.notes texts.hidden.items (map unread_file found.unread) empty);
-      read = no-hidden texts found.notes texts.hidden.items (map unread_file found.unread) empty;
-      kept = nothing-found.silent.kept;
+      is = unnoted.is;
+      uncut = uncut;
+      none = nothing (notes_of unnoted.known) found.all found.noted (sym (all-certain whole found.all all-whole) ∙ none);
+      checked = without-length (unchecked unnoted.known) (sym unnoted.checked ∙ all-checked);
+      read = no-hidden texts notes texts.hidden.items (map unread_file found.unread) empty;
+      kept = unnoted.nothing.silent.kept;
     }
+
+-- a status of 0 says that all could be judged, that nothing is noted, and that all was checked
+zero-judged : (judged noted checked : Bool) → status_by judged noted checked ≡ 0 → judged ≡ true
+zero-judged true noted checked e = refl
+zero-judged false noted checked e = absurd (omega arith)
+
+zero-noted : (judged noted checked : Bool) → status_by judged noted checked ≡ 0 → noted ≡ false
+zero-noted true false checked e = refl
+zero-noted true true checked e = absurd (omega arith)
+zero-noted false noted checked e = absurd (omega arith)
+
+zero-checked : (judged noted checked : Bool) → status_by judged noted checked ≡ 0 → checked ≡ true
+zero-checked true false true e = refl
+zero-checked true false false e = absurd (omega arith)
+zero-checked true true checked e = absurd (omega arith)
+zero-checked false noted checked e = absurd (omega arith)
+
+first : (a b : Bool) → (a && b) ≡ true → a ≡ true
+first true b e = refl
+first false b e = e
+
+pub none-noted : (tree : Tree) (read noted : Bool) (count status : ℕ) → status ≡ status_of tree read noted count → status ≡ 0 → noted ≡ false
+none-noted tree read noted count status is zero = zero-noted (is_whole tree && read) noted (count == 0) (sym is ∙ zero)
+
+-- a lint that ends with 0 found nothing
+pub linted-well : (kmod : Kmod) (texts : ConfTexts) (modules : ModuleTexts) (later : LaterTexts) (tree : Tree) (read noted : Bool) (count status : ℕ)
+    (before after : Option (List ℕ)) → texts.kmod ≡ kmod → (is_whole tree ≡ true → AreUncut modules later)
+    → (noted ≡ false → IsUnnoted (is_whole tree) count texts modules later before after) → status ≡ status_of tree read noted count → status ≡ 0
+    → WasLinted kmod before after
+linted-well kmod texts modules later tree read noted count status before after same uncut none is zero =
+    let e : status_by (is_whole tree && read) noted (count == 0) ≡ 0 = sym is ∙ zero in
+    let whole : is_whole tree ≡ true = first (is_whole tree) read (zero-judged (is_whole tree && read) noted (count == 0) e) in
+    subst (λ k. WasLinted k before after) same
+    (was-linted (is_whole tree) count texts modules later before after whole (eqb-true count 0 (zero-checked (is_whole tree && read) noted (count == 0) e))
+    (uncut whole) (none (zero-noted (is_whole tree && read) noted (count == 0) e)))
 
 -- how a run ends well, by what it asks for
 ends-lint : (lint why : Bool) (asked : Asked) (before after : Option (List ℕ)) → lint ≡ true → WasLinted asked.kmod before after → EndsWell lint why asked before after
@@ -125,3 +157,28 @@ pub query-done : (asked : Asked) (wish : Wish) (before after : Option (List ℕ)
     → WereAnswered asked before after → IsDone asked before after
 query-done asked wish before after is lints tells done =
     ends-query (is_lint (wish_by asked)) (is_why (wish_by asked)) asked before after (ap is_lint (sym is) ∙ lints) (ap is_why (sym is) ∙ tells) done
+
+below-worst : (judges : Bool) (status : ℕ) → status ≤ 1 → status ≤ (if judges then 2 else 1)
+below-worst true status h = omega arith
+below-worst false status h = h
+
+two-below : (lint why : Bool) (status : ℕ) → lint ≡ true → status ≤ 2 → status ≤ (if lint || why then 2 else 1)
+two-below true why status e h = h
+two-below false why status e h = absurd (true≢false (sym e))
+
+why-below : (lint why : Bool) (status : ℕ) → why ≡ true → status ≤ 2 → status ≤ (if lint || why then 2 else 1)
+why-below true why status e h = h
+why-below false true status e h = h
+why-below false false status e h = absurd (true≢false (sym e))
+
+-- a status of 1 is none too great
+pub one-status : (asked : Asked) (status : ℕ) → status ≤ 1 → status ≤ worst_of asked
+one-status asked status h = below-worst (is_lint (wish_by asked) || is_why (wish_by asked)) status h
+
+-- a lint may end with 2
+pub lint-status : (asked : Asked) (wish : Wish) (status : ℕ) → wish ≡ wish_by asked → is_lint wish ≡ true → status ≤ 2 → status ≤ worst_of asked
+lint-status asked wish status is lints h = two-below (is_lint (wish_by asked)) (is_why (wish_by asked)) status (ap is_lint (sym is) ∙ lints) h
+
+-- and so may what leads to names
+pub why-status : (asked : Asked) (wish : Wish) (status : ℕ) → wish ≡ wish_by asked → is_why wish ≡ true → status ≤ 2 → status ≤ worst_of asked
+why-status asked wish status is tells h = why-below (is_lint (wish_by asked)) (is_why (wish_by asked)) status (ap is_why (sym is) ∙ tells) h

@@ -1,5 +1,5 @@
 -- How a run ends, by its words.
-use Rattle.std.specs.Prelude.{◌≡◌, ℕ, Bool, true, false, not, nat_lt, List, [], ◌++◌, length, Option, Some, None, unwrap_or}
+use Rattle.std.specs.Prelude.{◌≡◌, ℕ, Bool, true, false, not, ◌||◌, if◌then◌else◌, nat_lt, List, [], ◌++◌, length, Option, Some, None, unwrap_or}
 use Rattle.std.specs.Io.KnownBytes.{Appends}
 use Rattle.kmod_version.specs.declared.kmod.Kmod.{Kmod}
 use Rattle.kmod_query.specs.Answers.{Answer}
@@ -65,6 +65,18 @@ EndsWell false false asked before after = WereAnswered asked before after
 
 abbrev pub IsDone : Asked → Option (List ℕ) → Option (List ℕ) → Type 0
 IsDone asked before after = EndsWell (is_lint (wish_by asked)) (is_why (wish_by asked)) asked before after
+
+-- The greatest status. A lint may find that it cannot judge, and so may what leads to names; a query never ends with 2.
+abbrev pub worst_of : Asked → ℕ
+worst_of asked = if is_lint (wish_by asked) || is_why (wish_by asked) then 2 else 1
+
+abbrev pub worst_by : Option Ending → Asked → ℕ
+worst_by (Some ending) asked = 1
+worst_by None asked = worst_of asked
+
+-- the greatest status that words may have
+abbrev pub worst_status : List (List ℕ) → ℕ
+worst_status words = worst_by (first_ending (items words)) (asked_by (items words))
 
 -- `--root` has an empty value, which names no folder
 abbrev pub is_root_empty : Option (List ℕ) → Bool

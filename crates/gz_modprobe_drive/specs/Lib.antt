@@ -1,3 +1,4 @@
+pub mod Absences
 pub mod Answered
 pub mod LintFacts
 pub mod Linted
@@ -6,10 +7,12 @@ pub mod Begun
 pub mod Ends
 pub mod Evidence
 pub mod Formed
+pub mod Judged
 pub mod Leads
 pub mod Outputs
 pub mod Paths
 pub mod Queries
 pub mod Sys
 pub mod Texts
+pub mod Tree
 pub mod Unread

@@ -1,5 +1,5 @@
 -- What a lint of a machine's configuration finds.
-use Rattle.std.specs.Prelude.{◌≡◌, ℕ, nat_eq, Bool, if◌then◌else◌, ◌&&◌, ◌||◌, List, [], drop, length, map, codes, Option, IsPermutation, IsSome}
+use Rattle.std.specs.Prelude.{◌≡◌, ℕ, nat_eq, Bool, if◌then◌else◌, ◌&&◌, ◌||◌, nat_lt, List, [], drop, length, map, codes, Option, IsPermutation, IsSome}
 use Rattle.std.specs.List.{starts_with}
 use Rattle.std.specs.Str.{bytes_eq}
 use Rattle.kmod_version.specs.declared.kmod.Kmod.{Kmod}
@@ -8,6 +8,7 @@ use Rattle.machine_lint.specs.declared.known.Origin.{Origin}
 use Rattle.machine_lint.specs.declared.known.Origin.TheVariants.{Own, Package, Depmod}
 use Rattle.machine_lint.specs.declared.note.Note.{Note}
 use Rattle.machine_lint.specs.Notes.{notes_of}
+use Rattle.machine_lint.specs.Unchecked.{unchecked}
 use Rattle.modprobe_files.specs.declared.texts.TextFile.{TextFile}
 use Rattle.modprobe_files.specs.declared.texts.ConfTexts.{ConfTexts}
 use Rattle.modprobe_files.specs.declared.texts.LaterTexts.{LaterTexts}
@@ -15,8 +16,10 @@ use Rattle.modprobe_files.specs.declared.texts.ModuleTexts.{ModuleTexts}
 use Rattle.answer_facts.specs.declared.fact.Fact.{Fact}
 use Rattle.answer_facts.specs.Facts.{pieces_of_facts}
 use Rattle.answer_reasons.specs.declared.sources.UnreadFile.{UnreadFile}
+use Rattle.gz_modprobe_drive.specs.Absences.{certain_notes}
 use Rattle.gz_modprobe_drive.specs.LintFacts.{lint_pieces}
 use Rattle.gz_modprobe_drive.specs.Texts.{conf_of, index_of}
+use Rattle.gz_modprobe_drive.specs.Tree.{AreUncut}
 
 abbrev pub is_dependency_file : List ℕ → Bool
 is_dependency_file name = bytes_eq name (codes "/modules.softdep") || bytes_eq name (codes "/modules.weakdep")
@@ -45,17 +48,22 @@ pub record IsSilent (facts : List Fact) (before after : Option (List ℕ)) : Typ
   pub none : facts ≡ []
   pub kept : after ≡ before
 
--- All that a lint tells of a machine: each note of a line once, in some order, each hidden file, and files that are not read.
-pub record WereFound (texts : ConfTexts) (known : Known) (facts : List Fact) : Type 0 where
-  pub notes : List Note
+-- anything is told
+abbrev pub is_noted : List Fact → Bool
+is_noted facts = nat_lt 0 (length facts)
+
+-- What a lint tells of a machine: each note of a line once, in some order, as far as it holds whatever texts lack; each hidden
+-- file; and files that are not read.
+pub record WereFound (whole : Bool) (texts : ConfTexts) (known : Known) (facts : List Fact) : Type 0 where
+  pub all : List Note
   pub unread : List UnreadFile
-  pub noted : IsPermutation (notes_of known) notes
-  pub are : pieces_of_facts facts ≡ lint_pieces texts notes unread
+  pub noted : IsPermutation (notes_of known) all
+  pub are : pieces_of_facts facts ≡ lint_pieces texts (certain_notes whole all) unread
 
 -- nothing was found in what is known of a machine, and nothing written
-pub record FoundNothing (texts : ConfTexts) (known : Known) (before after : Option (List ℕ)) : Type 0 where
+pub record FoundNothing (whole : Bool) (texts : ConfTexts) (known : Known) (before after : Option (List ℕ)) : Type 0 where
   pub facts : List Fact
-  pub found : WereFound texts known facts
+  pub found : WereFound whole texts known facts
   pub silent : IsSilent facts before after
 
 -- What is known of a machine is what its texts say, all of which were read, and who wrote the files of its configuration.
@@ -66,8 +74,17 @@ pub record IsOfTexts (texts : ConfTexts) (modules : ModuleTexts) (later : LaterT
   pub alias : IsSome later.alias
   pub symbols : IsSome later.symbols
 
--- A lint has found nothing: no line is noted of a machine whose configuration is what texts say to this version of kmod, no
--- file of it is hidden, and nothing was written to standard output.
+-- nothing was found in what texts say, and nothing written; of so many lines it was not checked what they set
+pub record IsUnnoted (whole : Bool) (count : ℕ) (texts : ConfTexts) (modules : ModuleTexts) (later : LaterTexts) (before after : Option (List ℕ)) : Type 0 where
+  pub directory : List ℕ
+  pub known : Known
+  pub is : IsOfTexts texts modules later directory known
+  pub nothing : FoundNothing whole texts known before after
+  pub checked : count ≡ length (unchecked known)
+
+-- A lint has found nothing: no line is noted of a machine whose configuration is what texts say to this version of kmod, and
+-- whose texts of modules do not end within a line; the parameters of each line were checked; no file of it is hidden, and
+-- nothing was written to standard output.
 pub record WasLinted (kmod : Kmod) (before after : Option (List ℕ)) : Type 0 where
   pub texts : ConfTexts
   pub modules : ModuleTexts
@@ -76,6 +93,8 @@ pub record WasLinted (kmod : Kmod) (before after : Option (List ℕ)) : Type 0 w
   pub known : Known
   pub version : texts.kmod ≡ kmod
   pub is : IsOfTexts texts modules later directory known
+  pub uncut : AreUncut modules later
   pub none : notes_of known ≡ []
+  pub checked : unchecked known ≡ []
   pub read : texts.hidden.items ≡ []
   pub kept : after ≡ before

@@ -1,6 +1,7 @@
 //! The program of modprobe's queries over any words, files and streams.
 #![tactic(auto)]
 
+mod absences;
 mod answered;
 mod answering;
 mod configuration;
@@ -14,10 +15,12 @@ mod failures;
 mod folder;
 mod formed;
 mod holders;
+mod judged;
 mod lint_facts;
 mod linting;
 mod listing;
 mod missed;
+mod notices;
 mod parameters;
 mod paths;
 mod program;
@@ -26,6 +29,7 @@ mod refusals;
 mod shown;
 mod sys;
 mod texts;
+mod tree;
 mod unread;
 mod why;
 

@@ -1,27 +1,31 @@
 //! Which lines of a machine's configuration have no effect, and which of its files are not read.
-ghost use Rattle.std.specs.Prelude.{◌≡◌, ◌≤◌, true, IfOk, IsSome};
+ghost use Rattle.std.specs.Prelude.{◌≡◌, ◌≤◌, false, true, IfOk, IsSome};
 ghost use Rattle.gz_modprobe_drive.specs.Begun.{AreBegun, WritesFacts};
 ghost use Rattle.gz_modprobe_drive.specs.Formed.{form_by};
+ghost use Rattle.gz_modprobe_drive.specs.Linted.{FoundNothing, IsSilent, IsUnnoted, WasLinted, is_noted, is_of_depmod, is_of_package, origin_by, origins_of};
 ghost use Rattle.gz_modprobe_drive.specs.Texts.{index_of};
-ghost use Rattle.gz_modprobe_drive.specs.Linted.{FoundNothing, IsSilent, WasLinted, is_of_depmod, is_of_package, origin_by, origins_of};
+ghost use Rattle.gz_modprobe_drive.specs.Tree.{is_whole};
 
+use crate::absences::certain_notes;
 use crate::answering::tell_unwritten;
 use crate::configuration::conf_of;
 use crate::current::known_directory;
 use crate::folder::whole_index;
 use crate::formed::{form_by, write_facts};
+use crate::judged::judge;
 use crate::lint_facts::lint_facts;
 use crate::missed::is_all_read;
 use crate::parameters::known_parameters;
+use crate::tree::Tree;
 use crate::unread::unread_files;
 use answer_facts::Fact;
 use kmod_index::Index;
-use machine_lint::{Known, Origin, lint};
+use machine_lint::{Known, Origin, lint, unchecked};
 use modprobe_files::{
     ConfTexts, Host, LaterTexts, ModuleTexts, System, TextFile, is_rootless, read_configuration,
     read_later, read_modules,
 };
-use modprobe_words::{Asked, Form, Messages};
+use modprobe_words::{Asked, Form, Level, Messages};
 use std::alloc::{AllocError, Global};
 use std::io::Write;
 use text_parts::is_same;
@@ -71,87 +75,107 @@ fn origins_of(
     Ok(origins)
 }
 
-/// Writes what is told, if anything is. Returns the status.
+/// Writes what is told, if anything is. Returns whether anything is.
 fn write_found<O: Write, E: Write>(
     alloc: Global,
     form: Form,
     facts: &[Fact<'_>],
     output: &mut O,
     messages: &mut Messages<'_, E>,
-) -> Result<u8, AllocError>
-    ensures status { IfOk result (λ status. status ≤ 1) }
-    ensures silent { IfOk result (λ status. status ≡ 0 → IsSilent facts.now (O.contents output.old) (O.contents output.new)) }
+) -> Result<bool, AllocError>
+    ensures noted { IfOk result (λ noted. noted ≡ is_noted facts.now) }
+    ensures silent { IfOk result (λ noted. noted ≡ false → IsSilent facts.now (O.contents output.old) (O.contents output.new)) }
     ensures begun { WritesFacts form (O.contents output.old) (O.contents output.new) }
 {
     if facts.is_empty() {
-        return Ok(0);
+        return Ok(false);
     }
     let written = write_facts(alloc, form, facts, output)?;
     tell_unwritten(written, messages);
-    Ok(1)
+    Ok(true)
 }
 
-/// What is known of a machine is judged, and what a lint of it tells is written, if anything is. Returns the status.
+/// What is known of a machine is judged, and what a lint of it tells is written, if anything is. Where the texts of the folder
+/// of modules are not whole, nothing is told that they might take away. Returns whether anything is told.
 fn write_lint<S: System, O: Write, E: Write>(
     host: &Host<'_, S>,
     texts: &ConfTexts,
     known: &Known<'_>,
+    is_whole: bool,
     asked: &Asked<'_>,
     output: &mut O,
     messages: &mut Messages<'_, E>,
-) -> Result<u8, AllocError>
-    ensures status { IfOk result (λ status. status ≤ 1) }
-    ensures nothing { IfOk result (λ status. status ≡ 0 → FoundNothing texts.now known.now (O.contents output.old) (O.contents output.new)) }
+) -> Result<bool, AllocError>
+    ensures nothing { IfOk result (λ noted. noted ≡ false → FoundNothing is_whole texts.now known.now (O.contents output.old) (O.contents output.new)) }
     ensures begun { WritesFacts (form_by asked.now.switches.explain) (O.contents output.old) (O.contents output.new) }
 {
     let alloc = host.alloc();
-    let notes = lint(alloc, known)?;
+    let notes = certain_notes(is_whole, lint(alloc, known)?);
     let unread = unread_files(host, texts.kmod, &asked.configurations)?;
     let facts = lint_facts(alloc, texts, &notes, &unread)?;
     let form = form_by(asked.switches.explain);
     write_found(alloc, form, &facts, output, messages)
 }
 
-/// Looks at the lines of a configuration, over the texts of a folder of modules, and what they say. Returns the status.
+/// What a lint of lines has found.
+#[derive(Clone, Copy)]
+struct Linted {
+    /// Whether anything is told.
+    is_noted: bool,
+    /// How many lines set parameters that could not be checked.
+    unchecked: usize,
+}
+
+/// Tells how many lines set parameters that could not be checked, if there are some.
+fn tell_unchecked<E: Write>(
+    alloc: Global,
+    unchecked: usize,
+    messages: &mut Messages<'_, E>,
+) -> Result<(), AllocError> {
+    if unchecked > 0 {
+        let text =
+            b"lines whose parameters are not checked, since the module's file is compressed or cannot be read: ";
+        let count = format!(in alloc; "{}", unchecked)?;
+        messages.tell(Level::Notice, text, count.as_bytes(), b"", b"");
+    }
+    Ok(())
+}
+
+/// Looks at the lines of a configuration, over the texts of a folder of modules, and what they say.
 fn lint_texts<S: System, O: Write, E: Write>(
     host: &Host<'_, S>,
     texts: &ConfTexts,
     modules: &ModuleTexts,
     later: &LaterTexts,
     index: &Index<'_>,
-    directory: &[u8],
+    tree: &Tree<'_>,
     asked: &Asked<'_>,
     output: &mut O,
     messages: &mut Messages<'_, E>,
-) -> Result<u8, AllocError>
+) -> Result<Linted, AllocError>
     requires index { index.now ≡ index_of modules.now later.now }
     requires alias { IsSome later.now.alias }
     requires symbols { IsSome later.now.symbols }
-    ensures status { IfOk result (λ status. status ≤ 1) }
-    ensures well { IfOk result (λ status. status ≡ 0 → WasLinted texts.now.kmod (O.contents output.old) (O.contents output.new)) }
+    ensures well { IfOk result (λ linted. linted.is_noted ≡ false → IsUnnoted (is_whole tree.now) linted.unchecked texts.now modules.now later.now (O.contents output.old) (O.contents output.new)) }
     ensures begun { WritesFacts (form_by asked.now.switches.explain) (O.contents output.old) (O.contents output.new) }
 {
     let alloc = host.alloc();
     let conf = conf_of(alloc, texts)?;
-    let files = origins_of(alloc, directory, &texts.files)?;
-    let parameters = known_parameters(host, directory, &conf, index)?;
+    let files = origins_of(alloc, tree.directory, &texts.files)?;
+    let parameters = known_parameters(host, tree.directory, &conf, index)?;
     let known = Known {
         conf: &conf,
         index,
         files: &files,
         parameters: &parameters,
     };
-    write_lint(host, texts, &known, asked, output, messages)
-}
-
-/// The status of a lint whose lines have this one: 1 too if it does not look at all that there is.
-fn status_by(status: u8, is_whole: bool) -> u8
-    ensures status { status ≤ 1 → result ≤ 1 }
-    ensures well { result ≡ 0 → status ≡ 0 }
-    ensures whole { result ≡ 0 → is_whole ≡ true }
-    ensures kept { is_whole ≡ true → result ≡ status }
-{
-    if is_whole { status } else { 1 }
+    let places = unchecked(alloc, &known)?;
+    let is_whole = tree.is_whole();
+    let is_noted = write_lint(host, texts, &known, is_whole, asked, output, messages)?;
+    Ok(Linted {
+        is_noted,
+        unchecked: places.len(),
+    })
 }
 
 /// Reads the configuration and the texts of a folder of modules, and looks at the lines. Returns the status.
@@ -162,7 +186,7 @@ fn lint_in<S: System, O: Write, E: Write>(
     output: &mut O,
     messages: &mut Messages<'_, E>,
 ) -> Result<u8, AllocError>
-    ensures status { IfOk result (λ status. status ≤ 1) }
+    ensures status { IfOk result (λ status. status ≤ 2) }
     ensures well { IfOk result (λ status. status ≡ 0 → WasLinted asked.now.kmod (O.contents output.old) (O.contents output.new)) }
     ensures begun { WritesFacts (form_by asked.now.switches.explain) (O.contents output.old) (O.contents output.new) }
 {
@@ -170,32 +194,42 @@ fn lint_in<S: System, O: Write, E: Write>(
     let texts = read_configuration(host, asked.kmod, directory, named, messages)?;
     let modules = read_modules(host, directory, messages)?;
     let later = read_later(host, directory, true, messages)?;
+    let tree = Tree::of(host, directory, &modules, &later)?;
     let index = whole_index(host.alloc(), &modules, &later)?;
-    let status = lint_texts(
-        host, &texts, &modules, &later, &index, directory, asked, output, messages,
+    let linted = lint_texts(
+        host, &texts, &modules, &later, &index, &tree, asked, output, messages,
     )?;
-    let is_whole = is_all_read(host, &texts, directory, named, messages)?;
-    Ok(status_by(status, is_whole))
+    let is_read = is_all_read(host, &texts, directory, named, messages)?;
+    tell_unchecked(host.alloc(), linted.unchecked, messages)?;
+    judge(
+        host,
+        &tree,
+        is_read,
+        linted.is_noted,
+        linted.unchecked,
+        messages,
+    )
 }
 
 /// Looks for lines of the machine's configuration that have no effect, and for files that are not read, and writes them in
-/// the form that is asked for. Returns the status: 0 if there are none, and all was read that is looked at. `messages`
-/// explains, so that hidden files are known.
+/// the form that is asked for. Returns the status: 0 if there are none, 1 if there are some, and 2 if not all was read that is
+/// needed, or a text of the folder of modules is damaged, or if there are none and what a line sets could not be checked.
+/// `messages` explains, so that hidden files are known.
 pub(crate) fn lint_machine<S: System, O: Write, E: Write>(
     host: &Host<'_, S>,
     asked: &Asked<'_>,
     output: &mut O,
     messages: &mut Messages<'_, E>,
 ) -> Result<u8, AllocError>
-    ensures status { IfOk result (λ status. status ≤ 1) }
+    ensures status { IfOk result (λ status. status ≤ 2) }
     ensures well { IfOk result (λ status. status ≡ 0 → WasLinted asked.now.kmod (O.contents output.old) (O.contents output.new)) }
     ensures begun { WritesFacts (form_by asked.now.switches.explain) (O.contents output.old) (O.contents output.new) }
 {
     if is_rootless(host, asked.root.unwrap_or(b""), messages)? {
-        return Ok(1);
+        return Ok(2);
     }
     match known_directory(host, asked, messages)? {
         Some(directory) => lint_in(host, asked, &directory, output, messages),
-        None => Ok(1),
+        None => Ok(2),
     }
 }

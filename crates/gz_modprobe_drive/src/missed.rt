@@ -55,6 +55,31 @@ fn are_read(kmod: Kmod, files: &[TextFile], names: &[Vec<u8>]) -> bool
     names.iter().all(|name| was_read(kmod, files, name))
 }
 
+/// Whether what stands at the path of a name is to be read. A folder and a link that leads to nothing, or to itself, are not,
+/// and are told of among the files that are not read.
+fn is_due<S: System>(host: &Host<'_, S>, path: &[u8]) -> Result<bool, AllocError> {
+    match host.look(path) {
+        Ok(kind) => Ok(matches!(kind, Kind::File)),
+        Err(error) if error.kind() == ErrorKind::FilesystemLoop => Ok(false),
+        Err(error) => Ok(!is_missing(&error)?),
+    }
+}
+
+/// The names of a folder that are to be read, if their endings are.
+fn due_names<S: System>(
+    host: &Host<'_, S>,
+    folder: &[u8],
+    names: Vec<Vec<u8>>,
+) -> Result<Vec<Vec<u8>>, AllocError> {
+    let mut due = Vec::new(host.alloc());
+    for name in names.into_iter() {
+        if is_due(host, &joined(host.alloc(), folder, b"/", &name)?)? {
+            due.push(name)?;
+        }
+    }
+    Ok(due)
+}
+
 /// Whether a file that was named was read, or stands back behind another of its name.
 fn is_known(texts: &ConfTexts, path: &[u8]) -> bool {
     texts.files.iter().any(|file| is_same(&file.path, path))
@@ -81,7 +106,10 @@ fn is_path_read<S: System, E: Write>(
 ) -> Result<bool, AllocError> {
     match host.look(path) {
         Ok(Kind::Folder) => match names_of(host, path)? {
-            Some(names) => Ok(are_read(texts.kmod, &texts.files, &names)),
+            Some(names) => {
+                let due = due_names(host, path, names)?;
+                Ok(are_read(texts.kmod, &texts.files, &due))
+            }
             None => Ok(false),
         },
         Ok(Kind::File) => Ok(is_known(texts, path)),

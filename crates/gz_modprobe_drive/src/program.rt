@@ -3,7 +3,7 @@ ghost use Rattle.std.specs.Prelude.{◌≡◌, ◌≤◌, ◌++◌, IfOk, OnOk};
 ghost use Rattle.text_parts.specs.Text.{texts_of};
 ghost use Rattle.modprobe_words.specs.Asked.{asked_of, text_of};
 ghost use Rattle.modprobe_words.specs.Variable.{bytes_of};
-ghost use Rattle.gz_modprobe_drive.specs.Ends.{IsDone, IsDoneWithin, IsEndOf, given, is_root_empty, wish_by};
+ghost use Rattle.gz_modprobe_drive.specs.Ends.{IsDone, IsDoneWithin, IsEndOf, given, is_root_empty, wish_by, worst_of, worst_status};
 ghost use Rattle.gz_modprobe_drive.specs.Outputs.{IsOutput, IsOutputFor, IsOutputOf, IsOutputWithin};
 
 use crate::answering::answer_query;
@@ -28,10 +28,10 @@ fn wish_asked(asked: &Asked<'_>) -> Wish
     asked.switches.wish(!asked.words.is_empty())
 }
 
-/// Whether it is told why an answer is as it is. A look at the configuration wants it, for the files that are hidden; what
-/// leads to names tells it in a way of its own.
+/// Whether it is told why an answer is as it is. A look at the configuration wants it, for the files that are hidden, and so
+/// does what leads to names, which ends otherwise if not all was read.
 fn explains(wish: Wish, switches: Switches) -> bool {
-    is_lint(wish) || (switches.explain.is_some() && !is_why(wish))
+    is_lint(wish) || is_why(wish) || switches.explain.is_some()
 }
 
 /// Answers what is asked. Returns the status.
@@ -41,7 +41,7 @@ fn answer_asked<R: Files + Env + AllocGlobal, O: Write, E: Write>(
     output: &mut O,
     errors: &mut E,
 ) -> Result<u8, AllocError>
-    ensures status { IfOk result (λ status. status ≤ 1) }
+    ensures status { IfOk result (λ status. status ≤ worst_of (asked_of asked.now)) }
     ensures well { IfOk result (λ status. status ≡ 0 → IsDone (asked_of asked.now) (O.contents output.old) (O.contents output.new)) }
     ensures written { IsOutput (asked_of asked.now) (O.contents output.old) (O.contents output.new) }
 {
@@ -87,7 +87,7 @@ fn answer_within<R: Files + Env + AllocGlobal, O: Write, E: Write>(
     output: &mut O,
     errors: &mut E,
 ) -> Result<u8, AllocError>
-    ensures status { IfOk result (λ status. status ≤ 1) }
+    ensures status { IfOk result (λ status. status ≤ worst_of (asked_of asked.now)) }
     ensures well { IfOk result (λ status. status ≡ 0 → IsDoneWithin (asked_of asked.now) (O.contents output.old) (O.contents output.new)) }
     ensures written { IsOutputWithin (asked_of asked.now) (O.contents output.old) (O.contents output.new) }
 {
@@ -130,7 +130,7 @@ fn run_words<R: Files + Env + AllocGlobal, O: Write, E: Write>(
     output: &mut O,
     errors: &mut E,
 ) -> Result<u8, AllocError>
-    ensures status { IfOk result (λ status. status ≤ 1) }
+    ensures status { IfOk result (λ status. status ≤ worst_status (texts_of words.now)) }
     ensures end { IfOk result (IsEndOf (texts_of words.now) (O.contents output.old) (O.contents output.new)) }
     ensures written { IsOutputOf (texts_of words.now) (O.contents output.old) (O.contents output.new) }
 {
@@ -150,7 +150,7 @@ fn run<R: Files + Env + AllocGlobal, O: Write, E: Write>(
     output: &mut O,
     errors: &mut E,
 ) -> Result<u8, AllocError>
-    ensures status { IfOk result (λ status. status ≤ 1) }
+    ensures status { IfOk result (λ status. status ≤ worst_status (given (text_of options.entry) (bytes_of words.now))) }
     ensures end { IfOk result (IsEndOf (given (text_of options.entry) (bytes_of words.now)) (O.contents output.old) (O.contents output.new)) }
     ensures written { IsOutputOf (given (text_of options.entry) (bytes_of words.now)) (O.contents output.old) (O.contents output.new) }
 {
@@ -161,8 +161,9 @@ fn run<R: Files + Env + AllocGlobal, O: Write, E: Write>(
 }
 
 /// Runs the program on its words, without its own name, and the text of MODPROBE_OPTIONS. It writes the answer to
-/// `output`, and messages to `errors`. Returns the exit status: 0, or 1 if something failed or was refused. Nothing is
-/// written to `output` if the words or what they wish for are refused; and never more than the answer.
+/// `output`, and messages to `errors`. Returns the exit status: 0, or 1 if something failed or was refused, or a lint notes
+/// something, or 2 if a lint, or what leads to names, could not be judged. Nothing is written to `output` if the words or what
+/// they wish for are refused; and never more than the answer.
 pub fn drive<R: Files + Env + AllocGlobal, O: Write, E: Write>(
     rt: &R,
     words: &[Vec<u8>],
@@ -170,7 +171,7 @@ pub fn drive<R: Files + Env + AllocGlobal, O: Write, E: Write>(
     output: &mut O,
     errors: &mut E,
 ) -> u8
-    ensures status { result ≤ 1 }
+    ensures status { result ≤ worst_status (given (text_of options.entry) (bytes_of words.now)) }
     ensures end { IsEndOf (given (text_of options.entry) (bytes_of words.now)) (O.contents output.old) (O.contents output.new) result }
     ensures written { IsOutputOf (given (text_of options.entry) (bytes_of words.now)) (O.contents output.old) (O.contents output.new) }
 {

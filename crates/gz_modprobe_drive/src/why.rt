@@ -1,17 +1,21 @@
 //! What leads to names, from the files of a machine.
-ghost use Rattle.std.specs.Prelude.{◌≡◌, ◌≤◌, IfOk};
+ghost use Rattle.std.specs.Prelude.{◌≡◌, ◌≤◌, false, IfOk};
 ghost use Rattle.modprobe_words.specs.declared.form.Form.{Form};
 ghost use Rattle.gz_modprobe_drive.specs.Begun.{AreBegun, WritesFacts};
 ghost use Rattle.gz_modprobe_drive.specs.Formed.{form_by};
 ghost use Rattle.gz_modprobe_drive.specs.Leads.{AreLines, WasTold};
 
+use crate::absences::certain_facts;
 use crate::answering::{tell_bad_lines, tell_unwritten};
 use crate::configuration::conf_of;
 use crate::current::known_directory;
 use crate::devices::read_devices;
 use crate::folder::index_of;
 use crate::formed::{form_by, lines_by};
+use crate::judged::judge;
+use crate::missed::is_all_read;
 use crate::texts::world_of;
+use crate::tree::Tree;
 use answer_reasons::{Device, Sources, leads_to};
 use bumpalo::Bump;
 use kmod_conf::Conf;
@@ -32,8 +36,8 @@ struct Known<'a> {
     modules: &'a ModuleTexts,
     later: &'a LaterTexts,
     devices: &'a [Device],
-    /// The folder of modules, as it is printed.
-    directory: &'a [u8],
+    /// What was found of the folder of modules.
+    tree: &'a Tree<'a>,
 }
 
 /// The names, and the aliases of devices: all that is looked up in any case.
@@ -69,10 +73,12 @@ struct LeadLines {
     is_missing: bool,
 }
 
-/// What leads to the names of a query of a world, in a form.
+/// What leads to the names of a query of a world, in a form. If the texts of the folder of modules are not whole, it is not
+/// told that nothing has a name.
 fn lines_of<'a>(
     alloc: Global,
     form: Form,
+    is_whole: bool,
     sources: &Sources<'a>,
     world: &World<'a>,
     query: &Query<'a>,
@@ -80,7 +86,8 @@ fn lines_of<'a>(
     ensures { IfOk result (λ lines. AreLines form lines.text.items) }
 {
     let leads = leads_to(alloc, sources, world, query)?;
-    let text = lines_by(alloc, form, &leads.facts)?;
+    let facts = certain_facts(alloc, is_whole, &leads.facts)?;
+    let text = lines_by(alloc, form, &facts)?;
     let is_missing = leads.is_missing;
     Ok(LeadLines { text, is_missing })
 }
@@ -97,7 +104,7 @@ fn lines_by_index(
     ensures { IfOk result (λ lines. AreLines form lines.text.items) }
 {
     let states = States::new(alloc);
-    let world = world_of(conf, index, &states, known.directory, &[]);
+    let world = world_of(conf, index, &states, known.tree.directory, &[]);
     let paths = known.conf.paths(alloc)?;
     let texts = Bump::new(alloc);
     let sources = Sources {
@@ -112,7 +119,8 @@ fn lines_by_index(
         devices: known.devices,
         texts: &texts,
     };
-    lines_of(alloc, form, &sources, &world, &query_of(names))
+    let is_whole = known.tree.is_whole();
+    lines_of(alloc, form, is_whole, &sources, &world, &query_of(names))
 }
 
 /// What leads to names, by what was read and its configuration.
@@ -145,68 +153,93 @@ fn known_lines<E: Write>(
     lines_by_conf(alloc, form, known, &conf, &asked.words)
 }
 
-/// Reads what leads to the names that are asked for.
-fn read_lines<S: System, E: Write>(
-    host: &Host<'_, S>,
-    asked: &Asked<'_>,
-    directory: &[u8],
-    messages: &mut Messages<'_, E>,
-) -> Result<LeadLines, AllocError>
-    ensures { IfOk result (λ lines. AreLines (form_by asked.now.switches.explain) lines.text.items) }
-{
-    let named = asked.configurations.as_slice();
-    let conf = read_configuration(host, asked.kmod, directory, named, messages)?;
-    let modules = read_modules(host, directory, messages)?;
-    let later = read_later(host, directory, true, messages)?;
-    let devices = read_devices(host)?;
-    let known = Known {
-        conf: &conf,
-        modules: &modules,
-        later: &later,
-        devices: &devices,
-        directory,
-    };
-    known_lines(host.alloc(), &known, asked, messages)
-}
-
-/// Writes what leads to names, and tells if it cannot be written. Returns the status.
+/// Writes what leads to names, and tells if it cannot be written. Returns whether a name stands for no module, or not all was
+/// written.
 fn write_leads<O: Write, E: Write>(
     leads: &LeadLines,
     output: &mut O,
     messages: &mut Messages<'_, E>,
-) -> u8
-    ensures status { result ≤ 1 }
-    ensures told { (form : Form) → AreLines form leads.now.text.items → result ≡ 0 → WasTold form (O.contents output.old) (O.contents output.new) }
+) -> bool
+    ensures told { (form : Form) → AreLines form leads.now.text.items → result ≡ false → WasTold form (O.contents output.old) (O.contents output.new) }
     ensures begun { (form : Form) → AreLines form leads.now.text.items → WritesFacts form (O.contents output.old) (O.contents output.new) }
 {
     let written = write_whole(output, &leads.text);
     tell_unwritten(written, messages);
     match written {
-        Written::Whole if !leads.is_missing => 0,
-        _ => 1,
+        Written::Whole => leads.is_missing,
+        Written::Closed | Written::Failed => true,
     }
 }
 
+/// Reads the devices of the machine, and tells what leads to the names that are asked for. Returns whether a name stands for
+/// no module, or not all was written.
+fn tell_leads<S: System, O: Write, E: Write>(
+    host: &Host<'_, S>,
+    asked: &Asked<'_>,
+    conf: &ConfTexts,
+    modules: &ModuleTexts,
+    later: &LaterTexts,
+    tree: &Tree<'_>,
+    output: &mut O,
+    messages: &mut Messages<'_, E>,
+) -> Result<bool, AllocError>
+    ensures told { IfOk result (λ noted. noted ≡ false → WasTold (form_by asked.now.switches.explain) (O.contents output.old) (O.contents output.new)) }
+    ensures begun { WritesFacts (form_by asked.now.switches.explain) (O.contents output.old) (O.contents output.new) }
+{
+    let devices = read_devices(host)?;
+    let known = Known {
+        conf,
+        modules,
+        later,
+        devices: &devices,
+        tree,
+    };
+    let leads = known_lines(host.alloc(), &known, asked, messages)?;
+    Ok(write_leads(&leads, output, messages))
+}
+
+/// Reads the configuration and the texts of a folder of modules, and tells what leads to names. Returns the status.
+fn tell_in<S: System, O: Write, E: Write>(
+    host: &Host<'_, S>,
+    asked: &Asked<'_>,
+    directory: &[u8],
+    output: &mut O,
+    messages: &mut Messages<'_, E>,
+) -> Result<u8, AllocError>
+    ensures status { IfOk result (λ status. status ≤ 2) }
+    ensures told { IfOk result (λ status. status ≡ 0 → WasTold (form_by asked.now.switches.explain) (O.contents output.old) (O.contents output.new)) }
+    ensures begun { WritesFacts (form_by asked.now.switches.explain) (O.contents output.old) (O.contents output.new) }
+{
+    let named = asked.configurations.as_slice();
+    let conf = read_configuration(host, asked.kmod, directory, named, messages)?;
+    let modules = read_modules(host, directory, messages)?;
+    let later = read_later(host, directory, true, messages)?;
+    let tree = Tree::of(host, directory, &modules, &later)?;
+    let is_noted = tell_leads(
+        host, asked, &conf, &modules, &later, &tree, output, messages,
+    )?;
+    let is_read = is_all_read(host, &conf, directory, named, messages)?;
+    judge(host, &tree, is_read, is_noted, 0, messages)
+}
+
 /// Tells what leads to the names that are asked for, on standard output. Returns the status: 0 if each stands for a module,
-/// and all was written.
+/// and all was written; 2 if not all was read that is needed, or a text of the folder of modules is damaged; else 1.
+/// `messages` explains, so that hidden files are known.
 pub(crate) fn tell_why<S: System, O: Write, E: Write>(
     host: &Host<'_, S>,
     asked: &Asked<'_>,
     output: &mut O,
     messages: &mut Messages<'_, E>,
 ) -> Result<u8, AllocError>
-    ensures status { IfOk result (λ status. status ≤ 1) }
+    ensures status { IfOk result (λ status. status ≤ 2) }
     ensures told { IfOk result (λ status. status ≡ 0 → WasTold (form_by asked.now.switches.explain) (O.contents output.old) (O.contents output.new)) }
     ensures begun { WritesFacts (form_by asked.now.switches.explain) (O.contents output.old) (O.contents output.new) }
 {
     if is_rootless(host, asked.root.unwrap_or(b""), messages)? {
-        return Ok(1);
+        return Ok(2);
     }
     match known_directory(host, asked, messages)? {
-        Some(directory) => {
-            let leads = read_lines(host, asked, &directory, messages)?;
-            Ok(write_leads(&leads, output, messages))
-        }
-        None => Ok(1),
+        Some(directory) => tell_in(host, asked, &directory, output, messages),
+        None => Ok(2),
     }
 }

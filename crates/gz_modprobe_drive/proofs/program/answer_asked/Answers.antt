@@ -2,9 +2,25 @@ use Rattle.std.proofs.Common.{ap, sym, ◌∙◌}
 use Rattle.std.proofs.lemmas.Result.{IfOk-weaker}
 use Rattle.text_parts.specs.Text.{texts_of}
 use Rattle.modprobe_words.specs.Asked.{asked_of}
-use Rattle.gz_modprobe_drive.proofs.LintLemmas.{lint-done, query-done, same-query, why-done}
+use Rattle.gz_modprobe_drive.proofs.LintLemmas.{lint-done, lint-status, one-status, query-done, same-query, why-done, why-status}
 use Rattle.gz_modprobe_drive.proofs.OutputLemmas.{lint-output, query-output, why-output}
 use Rattle.gz_modprobe_drive.proofs.program.answer_asked.Goals as goal
+
+pub returns-then-is_lint-clause-status : goal.returns-then-is_lint-clause-status
+returns-then-is_lint-clause-status g c =
+    IfOk-weaker c.lint_machine.result _ _
+    (λ status within. lint-status (asked_of c.args.asked.now) _ status c.wish_asked-wish.ensures (sym c.is_lint.ensures ∙ c.if-is_lint.true) within)
+    c.lint_machine.ensures.status
+
+pub returns-then-is_why-clause-status : goal.returns-then-is_why-clause-status
+returns-then-is_why-clause-status g c =
+    IfOk-weaker c.tell_why.result _ _
+    (λ status within. why-status (asked_of c.args.asked.now) _ status c.wish_asked-wish.ensures (sym c.is_why.ensures ∙ c.if-is_why.true) within)
+    c.tell_why.ensures.status
+
+pub returns-clause-status : goal.returns-clause-status
+returns-clause-status g c =
+    IfOk-weaker c.answer_query.result _ _ (λ status within. one-status (asked_of c.args.asked.now) status within) c.answer_query.ensures.status
 
 pub returns-then-is_lint-clause-well : goal.returns-then-is_lint-clause-well
 returns-then-is_lint-clause-well g c =
