@@ -70,6 +70,23 @@ ask --root=machine -S 6.1.0 --lint
 chmod 755 machine/etc
 rm -r machine/etc/modprobe.d machine/odd.d
 
+# A pipe and a device are never opened, which might wait for ever or never end: each is told, and other files count. A link to
+# /dev/null is an empty file.
+mkdir waits.d machine/waits.d
+mkfifo waits.d/pipe.conf machine/waits.d/pipe.conf
+ln -s /dev/zero waits.d/zero.conf
+ln -s /dev/null waits.d/none.conf
+echo 'options loop own=1' >waits.d/own.conf
+ask_with waits.d -D loop
+ask_with waits.d -q --lint
+ask --root=machine -S 6.1.0 -C /waits.d --lint
+mv $modules/modules.alias kept
+mkfifo $modules/modules.alias
+ask --root=machine -S 6.1.0 -R none
+rm $modules/modules.alias
+mv kept $modules/modules.alias
+rm -r waits.d machine/waits.d
+
 # Where the current folder was removed, or is no UTF-8, nobody can tell where a relative -d and ./NAME are.
 top=$PWD
 touch loop.ko

@@ -26,6 +26,7 @@ mod paths;
 mod program;
 mod queries;
 mod refusals;
+mod regular;
 mod shown;
 mod sys;
 mod texts;

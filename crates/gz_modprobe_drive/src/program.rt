@@ -11,6 +11,7 @@ use crate::ended::end_words;
 use crate::linting::lint_machine;
 use crate::queries::{is_lint, is_why, query_of};
 use crate::refusals::tell_refusal;
+use crate::regular::Regular;
 use crate::why::tell_why;
 use modprobe_files::{Disk, Host};
 use modprobe_words::{
@@ -46,11 +47,13 @@ fn answer_asked<R: Files + Env + AllocGlobal, O: Write, E: Write>(
     ensures written { IsOutput (asked_of asked.now) (O.contents output.old) (O.contents output.new) }
 {
     let wish = wish_asked(asked);
-    let disk = Disk {
-        rt,
-        root: asked.root.unwrap_or(b""),
+    let regular = Regular {
+        disk: Disk {
+            rt,
+            root: asked.root.unwrap_or(b""),
+        },
     };
-    let host = Host { system: &disk };
+    let host = Host { system: &regular };
     let mut messages = Messages {
         errors,
         program: b"gz-modprobe",
