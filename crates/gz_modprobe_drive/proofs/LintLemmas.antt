@@ -18,10 +18,10 @@ use Rattle.gz_modprobe_drive.specs.Formed.{form_by}
 use Rattle.gz_modprobe_drive.specs.Leads.{WasTold}
 use Rattle.answer_facts.specs.Facts.{pieces_of_facts}
 use Rattle.answer_facts.specs.Pieces.{Piece}
-use Rattle.modprobe_files.specs.declared.texts.HiddenFile.{HiddenFile}
-use Rattle.answer_reasons.specs.FileFacts.{hidden_file, unread_file}
+use Rattle.answer_reasons.specs.FileFacts.{unread_file}
 use Rattle.gz_modprobe_drive.specs.LintFacts.{lint_pieces, pieces_of_note}
 use Rattle.gz_modprobe_drive.specs.Absences.{certain_notes}
+use Rattle.gz_modprobe_drive.specs.Masks.{hidden_notes}
 use Rattle.gz_modprobe_drive.specs.Linted.{IsUnnoted, WasLinted}
 use Rattle.gz_modprobe_drive.specs.Judged.{status_by, status_of}
 use Rattle.gz_modprobe_drive.specs.Tree.{AreUncut, is_whole}
@@ -36,16 +36,16 @@ nothing : (all notes : List Note) → IsPermutation all notes → notes ≡ [] �
 nothing all notes same none = without-length all (sym (length_permutation all notes same) ∙ ap length none)
 
 -- if nothing is told, nothing is noted
-no-notes : (texts : ConfTexts) (notes : List Note) (hidden : List HiddenFile) (rest : List (List Piece))
-    → map (pieces_of_note texts) notes ++ map hidden_file hidden ++ rest ≡ [] → notes ≡ []
+no-notes : (texts : ConfTexts) (notes : List Note) (hidden rest : List (List Piece))
+    → map (pieces_of_note texts) notes ++ hidden ++ rest ≡ [] → notes ≡ []
 no-notes texts [] hidden rest e = refl
 no-notes texts (note ∷ notes) hidden rest e = absurd (cc)
 
 -- nor is a file hidden
-no-hidden : (texts : ConfTexts) (notes : List Note) (hidden : List HiddenFile) (rest : List (List Piece))
-    → map (pieces_of_note texts) notes ++ map hidden_file hidden ++ rest ≡ [] → hidden ≡ []
+no-hidden : (texts : ConfTexts) (notes : List Note) (hidden rest : List (List Piece))
+    → map (pieces_of_note texts) notes ++ hidden ++ rest ≡ [] → hidden ≡ []
 no-hidden texts [] [] rest e = refl
-no-hidden texts [] (file ∷ files) rest e = absurd (cc)
+no-hidden texts [] (said ∷ others) rest e = absurd (cc)
 no-hidden texts (note ∷ notes) hidden rest e = absurd (cc)
 
 -- over whole texts, what is certain is all
@@ -61,7 +61,7 @@ was-linted whole count texts modules later before after all-whole all-checked un
     let found = unnoted.nothing.found in
     let notes = certain_notes whole found.all in
     let empty : lint_pieces texts notes found.unread ≡ [] = sym found.are ∙ ap pieces_of_facts unnoted.nothing.silent.none in
-    let none : notes ≡ [] = no-notes texts notes texts.hidden.items (map unread_file found.unread) empty
+    let none : notes ≡ [] = no-notes texts notes (hidden_notes texts) (map unread_file found.unread) empty
     in record {
       texts = texts;
       modules = modules;
@@ -73,7 +73,7 @@ was-linted whole count texts modules later before after all-whole all-checked un
       uncut = uncut;
       none = nothing (notes_of unnoted.known) found.all found.noted (sym (all-certain whole found.all all-whole) ∙ none);
       checked = without-length (unchecked unnoted.known) (sym unnoted.checked ∙ all-checked);
-      read = no-hidden texts notes texts.hidden.items (map unread_file found.unread) empty;
+      read = no-hidden texts notes (hidden_notes texts) (map unread_file found.unread) empty;
       kept = unnoted.nothing.silent.kept;
     }
 

@@ -2,6 +2,7 @@ pub mod Absences
 pub mod Answered
 pub mod LintFacts
 pub mod Linted
+pub mod Masks
 pub mod Missed
 pub mod Begun
 pub mod Ends
@@ -9,6 +10,7 @@ pub mod Evidence
 pub mod Formed
 pub mod Judged
 pub mod Leads
+pub mod Origins
 pub mod Outputs
 pub mod Paths
 pub mod Queries

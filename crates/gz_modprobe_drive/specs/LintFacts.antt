@@ -7,7 +7,8 @@ use Rattle.answer_facts.specs.Pieces.{Piece}
 use Rattle.modprobe_files.specs.declared.texts.ConfTexts.{ConfTexts}
 use Rattle.modprobe_files.specs.Paths.{path_at}
 use Rattle.answer_reasons.specs.declared.sources.UnreadFile.{UnreadFile}
-use Rattle.answer_reasons.specs.FileFacts.{hidden_file, unread_file}
+use Rattle.answer_reasons.specs.FileFacts.{unread_file}
+use Rattle.gz_modprobe_drive.specs.Masks.{hidden_notes}
 
 -- the file of a line that counts in place of another one
 abbrev pub counting_path : ConfTexts → Option Place → List ℕ
@@ -19,7 +20,7 @@ unfoldable pub pieces_of_note : ConfTexts → Note → List Piece
 pieces_of_note texts note =
     note_pieces (path_at texts note.place.source) note (counting_path texts (counting_place note.kind))
 
--- all that is told: each note, each hidden file and each file that is not read
+-- all that is told: each note, each hidden file that is not masked, and each file that is not read
 abbrev pub lint_pieces : ConfTexts → List Note → List UnreadFile → List (List Piece)
 lint_pieces texts notes unread =
-    map (pieces_of_note texts) notes ++ map hidden_file texts.hidden.items ++ map unread_file unread
+    map (pieces_of_note texts) notes ++ hidden_notes texts ++ map unread_file unread

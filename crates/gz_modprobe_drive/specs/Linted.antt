@@ -18,6 +18,8 @@ use Rattle.answer_facts.specs.Facts.{pieces_of_facts}
 use Rattle.answer_reasons.specs.declared.sources.UnreadFile.{UnreadFile}
 use Rattle.gz_modprobe_drive.specs.Absences.{certain_notes}
 use Rattle.gz_modprobe_drive.specs.LintFacts.{lint_pieces}
+use Rattle.gz_modprobe_drive.specs.Masks.{hidden_notes}
+use Rattle.gz_modprobe_drive.specs.Origins.{is_of_package}
 use Rattle.gz_modprobe_drive.specs.Texts.{conf_of, index_of}
 use Rattle.gz_modprobe_drive.specs.Tree.{AreUncut}
 
@@ -28,10 +30,6 @@ is_dependency_file name = bytes_eq name (codes "/modules.softdep") || bytes_eq n
 abbrev pub is_of_depmod : List ℕ → List ℕ → Bool
 is_of_depmod directory path =
     starts_with nat_eq path directory && is_dependency_file (drop (length directory) path)
-
--- packages fill these folders, and nobody else (modprobe.d(5))
-abbrev pub is_of_package : List ℕ → Bool
-is_of_package path = starts_with nat_eq path (codes "/usr/lib/modprobe.d/") || starts_with nat_eq path (codes "/lib/modprobe.d/")
 
 abbrev pub origin_by : List ℕ → List ℕ → Origin
 origin_by directory path = if is_of_depmod directory path then Depmod else (if is_of_package path then Package else Own)
@@ -83,8 +81,8 @@ pub record IsUnnoted (whole : Bool) (count : ℕ) (texts : ConfTexts) (modules :
   pub checked : count ≡ length (unchecked known)
 
 -- A lint has found nothing: no line is noted of a machine whose configuration is what texts say to this version of kmod, and
--- whose texts of modules do not end within a line; the parameters of each line were checked; no file of it is hidden, and
--- nothing was written to standard output.
+-- whose texts of modules do not end within a line; the parameters of each line were checked; no file of it is hidden
+-- unless it is masked, and nothing was written to standard output.
 pub record WasLinted (kmod : Kmod) (before after : Option (List ℕ)) : Type 0 where
   pub texts : ConfTexts
   pub modules : ModuleTexts
@@ -96,5 +94,5 @@ pub record WasLinted (kmod : Kmod) (before after : Option (List ℕ)) : Type 0 w
   pub uncut : AreUncut modules later
   pub none : notes_of known ≡ []
   pub checked : unchecked known ≡ []
-  pub read : texts.hidden.items ≡ []
+  pub read : hidden_notes texts ≡ []
   pub kept : after ≡ before

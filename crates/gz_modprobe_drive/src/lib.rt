@@ -19,6 +19,7 @@ mod judged;
 mod lint_facts;
 mod linting;
 mod listing;
+mod masks;
 mod missed;
 mod notices;
 mod parameters;

@@ -3,8 +3,9 @@ ghost use Rattle.std.specs.Prelude.{◌≡◌, ◌++◌, map, IfOk, OnOk};
 ghost use Rattle.answer_facts.specs.Facts.{pieces_of_fact, pieces_of_facts};
 ghost use Rattle.gz_modprobe_drive.specs.LintFacts.{counting_path, lint_pieces, pieces_of_note};
 
+use crate::masks::add_unmasked;
 use answer_facts::{Fact, NoteFact, Spot, What, counting_place};
-use answer_reasons::{UnreadFile, add_hidden, add_unread};
+use answer_reasons::{UnreadFile, add_unread};
 use kmod_names::Place;
 use machine_lint::Note;
 use modprobe_files::ConfTexts;
@@ -48,8 +49,8 @@ fn add_notes<'a>(
     Ok(())
 }
 
-/// What a lint of a configuration tells: a fact for each note, and then for each file that is not read. It fails only if
-/// memory runs out.
+/// What a lint of a configuration tells: a fact for each note, and then for each file that is not read, unless it is masked. It
+/// fails only if memory runs out.
 pub(crate) fn lint_facts<'a>(
     alloc: Global,
     texts: &'a ConfTexts,
@@ -60,7 +61,7 @@ pub(crate) fn lint_facts<'a>(
 {
     let mut facts = Vec::new(alloc);
     add_notes(texts, notes, &mut facts)?;
-    add_hidden(&texts.hidden, &mut facts)?;
+    add_unmasked(texts, &mut facts)?;
     add_unread(unread, &mut facts)?;
     Ok(facts)
 }

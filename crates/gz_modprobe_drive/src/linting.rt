@@ -2,7 +2,7 @@
 ghost use Rattle.std.specs.Prelude.{◌≡◌, ◌≤◌, false, true, IfOk, IsSome};
 ghost use Rattle.gz_modprobe_drive.specs.Begun.{AreBegun, WritesFacts};
 ghost use Rattle.gz_modprobe_drive.specs.Formed.{form_by};
-ghost use Rattle.gz_modprobe_drive.specs.Linted.{FoundNothing, IsSilent, IsUnnoted, WasLinted, is_noted, is_of_depmod, is_of_package, origin_by, origins_of};
+ghost use Rattle.gz_modprobe_drive.specs.Linted.{FoundNothing, IsSilent, IsUnnoted, WasLinted, is_noted, is_of_depmod, origin_by, origins_of};
 ghost use Rattle.gz_modprobe_drive.specs.Texts.{index_of};
 ghost use Rattle.gz_modprobe_drive.specs.Tree.{is_whole};
 
@@ -14,6 +14,7 @@ use crate::folder::whole_index;
 use crate::formed::{form_by, write_facts};
 use crate::judged::judge;
 use crate::lint_facts::lint_facts;
+use crate::masks::is_of_package;
 use crate::missed::is_all_read;
 use crate::parameters::known_parameters;
 use crate::tree::Tree;
@@ -38,13 +39,6 @@ fn is_of_depmod(directory: &[u8], path: &[u8]) -> bool
         Some(name) => is_same(name, b"/modules.softdep") || is_same(name, b"/modules.weakdep"),
         None => false,
     }
-}
-
-/// Whether a path is that of a file in a folder which packages alone fill.
-fn is_of_package(path: &[u8]) -> bool
-    ensures { result ≡ is_of_package path.now }
-{
-    path.starts_with(b"/usr/lib/modprobe.d/") || path.starts_with(b"/lib/modprobe.d/")
 }
 
 /// Who wrote the file of a path.
