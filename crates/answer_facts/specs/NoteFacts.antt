@@ -26,26 +26,42 @@ abbrev pub space_behind : List ℕ → List ℕ
 space_behind [] = []
 space_behind (byte ∷ bytes) = codes " "
 
+-- a name that nothing has: that of an install or remove line, which are noted only if they keep a module out, keeps out none
+abbrev pub unknown_because : Setting → List ℕ
+unknown_because sets.Install = codes "keeps_nothing"
+unknown_because sets.Remove = codes "keeps_nothing"
+unknown_because _ = codes "unknown"
+
 -- why, in JSON
-abbrev pub because : NoteKind → List ℕ
-because of_kind.BadLine = codes "bad_line"
-because of_kind.CarriageReturn = codes "carriage_return"
-because of_kind.Unknown = codes "unknown"
-because of_kind.Pattern = codes "pattern"
-because of_kind.BuiltIn = codes "built_in"
-because of_kind.AliasName = codes "alias"
-because (of_kind.UnknownModule target) = codes "unknown_module"
-because of_kind.NoItem = codes "no_item"
-because (of_kind.UnknownItem item) = codes "unknown_item"
-because of_kind.OwnItem = codes "itself"
-because (of_kind.RingItem item) = codes "ring"
-because (of_kind.Later place) = codes "later"
-because (of_kind.PassedOver place) = codes "passed_over"
-because (of_kind.Repeated place) = codes "repeated"
-because (of_kind.Stopped place) = codes "stopped"
-because (of_kind.UnknownParameter parameter) = codes "unknown_parameter"
-because (of_kind.SetLater parameter place) = codes "set_later"
-because (of_kind.OtherText place) = codes "other_text"
+abbrev pub because : Setting → NoteKind → List ℕ
+because setting of_kind.BadLine = codes "bad_line"
+because setting of_kind.CarriageReturn = codes "carriage_return"
+because setting of_kind.Unknown = unknown_because setting
+because setting of_kind.Pattern = codes "pattern"
+because setting of_kind.BuiltIn = codes "built_in"
+because setting of_kind.AliasName = codes "alias"
+because setting (of_kind.UnknownModule target) = codes "unknown_module"
+because setting of_kind.NoItem = codes "no_item"
+because setting (of_kind.UnknownItem item) = codes "unknown_item"
+because setting of_kind.OwnItem = codes "itself"
+because setting (of_kind.RingItem item) = codes "ring"
+because setting (of_kind.Later place) = codes "later"
+because setting (of_kind.PassedOver place) = codes "passed_over"
+because setting (of_kind.Repeated place) = codes "repeated"
+because setting (of_kind.Stopped place) = codes "stopped"
+because setting (of_kind.UnknownParameter parameter) = codes "unknown_parameter"
+because setting (of_kind.SetLater parameter place) = codes "set_later"
+because setting (of_kind.OtherText place) = codes "other_text"
+
+-- `note` of a line that has no effect on this machine, and may have one on others, or that stands twice; `error` of a line that
+-- does other than it says
+abbrev pub severity : NoteKind → List ℕ
+severity of_kind.Unknown = codes "note"
+severity of_kind.BuiltIn = codes "note"
+severity (of_kind.UnknownModule target) = codes "note"
+severity (of_kind.UnknownItem item) = codes "note"
+severity (of_kind.Repeated place) = codes "note"
+severity _ = codes "error"
 
 -- a module in the kernel takes no line of modprobe.d(5)
 abbrev pub built_in_words : Setting → List ℕ
@@ -54,8 +70,8 @@ built_in_words _ = codes "the module is in the kernel, and is not loaded"
 
 -- nothing has the name; that of an install or remove line is the name of a command itself
 abbrev pub unknown_words : Setting → List ℕ
-unknown_words sets.Install = codes "no module or alias has this name"
-unknown_words sets.Remove = codes "no module or alias has this name"
+unknown_words sets.Install = codes "no module or alias has this name, so there is nothing to keep out"
+unknown_words sets.Remove = codes "no module or alias has this name, so there is nothing to keep out"
 unknown_words _ = codes "no module, alias or command has this name"
 
 abbrev pub is_hyphen : ℕ → Bool
@@ -122,7 +138,8 @@ abbrev pub note_pieces : List ℕ → Note → List ℕ → List Piece
 note_pieces file note other =
     kind (codes "note") ∷ field (codes "file") file ∷ words (codes ":") ∷ number (codes "line") note.place.line ∷ words (codes ": ")
     ∷ words (line_word note.setting) ∷ words (space_behind (line_word note.setting)) ∷ field (codes "name") note.name
-    ∷ words (codes ": ") ∷ tag (codes "setting") (line_word note.setting) ∷ tag (codes "because") (because note.kind)
+    ∷ words (codes ": ") ∷ tag (codes "setting") (line_word note.setting) ∷ tag (codes "because") (because note.setting note.kind)
+    ∷ tag (codes "severity") (severity note.kind)
     ∷ words (words_before note.setting note.kind) ∷ named_piece note.kind ∷ words (words_after note.name note.kind)
     ∷ counting_pieces other (counting_place note.kind)
 

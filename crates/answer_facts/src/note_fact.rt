@@ -2,7 +2,7 @@
 ghost use Rattle.std.specs.Prelude.{◌≡◌, ◌++◌, IfOk, OnOk};
 ghost use Rattle.std.specs.List.{list_any};
 ghost use Rattle.answer_facts.specs.Pieces.{piece_of, pieces_of};
-ghost use Rattle.answer_facts.specs.NoteFacts.{because, built_in_words, counting_pieces, counting_place, hyphen_words, is_hyphen, line_word, named_piece, note_fact_pieces, space_behind, unknown_words, words_after, words_before};
+ghost use Rattle.answer_facts.specs.NoteFacts.{because, built_in_words, counting_pieces, counting_place, hyphen_words, is_hyphen, line_word, named_piece, note_fact_pieces, space_behind, severity, unknown_because, unknown_words, words_after, words_before};
 
 use crate::piece::Piece;
 use kmod_names::Place;
@@ -55,14 +55,24 @@ fn space_behind(word: &[u8]) -> &'static [u8]
     if word.is_empty() { b"" } else { b" " }
 }
 
+/// Why a line of a name that nothing has has no effect, in JSON.
+fn unknown_because(setting: Setting) -> &'static [u8]
+    ensures { result.now ≡ unknown_because setting }
+{
+    match setting {
+        Setting::Install | Setting::Remove => b"keeps_nothing",
+        _ => b"unknown",
+    }
+}
+
 /// Why the line has no effect, in JSON.
-fn because(kind: &NoteKind) -> &'static [u8]
-    ensures { result.now ≡ because kind.now }
+fn because(setting: Setting, kind: &NoteKind) -> &'static [u8]
+    ensures { result.now ≡ because setting kind.now }
 {
     match kind {
         NoteKind::BadLine => b"bad_line",
         NoteKind::CarriageReturn => b"carriage_return",
-        NoteKind::Unknown => b"unknown",
+        NoteKind::Unknown => unknown_because(setting),
         NoteKind::Pattern => b"pattern",
         NoteKind::BuiltIn => b"built_in",
         NoteKind::AliasName => b"alias",
@@ -78,6 +88,20 @@ fn because(kind: &NoteKind) -> &'static [u8]
         NoteKind::UnknownParameter(_) => b"unknown_parameter",
         NoteKind::SetLater(_, _) => b"set_later",
         NoteKind::OtherText(_) => b"other_text",
+    }
+}
+
+/// How grave a note is, in JSON: that of a line without effect on this machine, or of one that does other than it says.
+fn severity(kind: &NoteKind) -> &'static [u8]
+    ensures { result.now ≡ severity kind.now }
+{
+    match kind {
+        NoteKind::Unknown
+        | NoteKind::BuiltIn
+        | NoteKind::UnknownModule(_)
+        | NoteKind::UnknownItem(_)
+        | NoteKind::Repeated(_) => b"note",
+        _ => b"error",
     }
 }
 
@@ -97,7 +121,8 @@ fn unknown_words(setting: Setting) -> &'static [u8]
     ensures { result.now ≡ unknown_words setting }
 {
     match setting {
-        Setting::Install | Setting::Remove => b"no module or alias has this name",
+        Setting::Install | Setting::Remove =>
+            b"no module or alias has this name, so there is nothing to keep out",
         _ => b"no module, alias or command has this name",
     }
 }
@@ -214,7 +239,8 @@ impl<'a> NoteFact<'a> {
                 Piece::Field(b"name", note.name.as_bytes()),
                 Piece::Words(b": "),
                 Piece::Tag(b"setting", word),
-                Piece::Tag(b"because", because(&note.kind)),
+                Piece::Tag(b"because", because(note.setting, &note.kind)),
+                Piece::Tag(b"severity", severity(&note.kind)),
                 Piece::Words(words_before(note.setting, &note.kind)),
                 named_piece(&note.kind),
                 Piece::Words(words_after(note.name.as_bytes(), &note.kind)),
