@@ -129,7 +129,7 @@ fn fill(alloc: Global, own: Object, course: &mut Course) -> Result<(), AllocErro
 }
 
 /// Passes over items that were met, up to the index `front`. Their steps are counted.
-fn pass(rest: Rest, front: usize, course: &mut Course) -> Result<(), AllocError>
+fn pass(mut rest: Rest, front: usize, course: &mut Course) -> Result<(), AllocError>
     requires { rest.from < front }
     ensures made { OnOk result ((facts : Facts) → IsFront course.old.met front (soft_of facts rest.place rest.name.items)
         → Makes facts (rest_of facts rest) course.old course.new) }
@@ -137,10 +137,8 @@ fn pass(rest: Rest, front: usize, course: &mut Course) -> Result<(), AllocError>
 {
     let count = front - rest.from;
     course.left = course.left.saturating_sub(count as u64);
-    course.stack.push(Task::Soft(Rest {
-        from: front,
-        ..rest
-    }))?;
+    rest.from = front;
+    course.stack.push(Task::Soft(rest))?;
     Ok(())
 }
 
@@ -148,7 +146,7 @@ fn pass(rest: Rest, front: usize, course: &mut Course) -> Result<(), AllocError>
 fn probe(
     alloc: Global,
     world: &World,
-    rest: Rest,
+    mut rest: Rest,
     found: Found,
     course: &mut Course,
 ) -> Result<(), AllocError>
@@ -162,7 +160,8 @@ fn probe(
     course
         .fronts
         .meet(alloc, rest.place, &rest.name, rest.from, next)?;
-    course.stack.push(Task::Soft(Rest { from: next, ..rest }))?;
+    rest.from = next;
+    course.stack.push(Task::Soft(rest))?;
     if is_new {
         return push_probe(alloc, world, false, &mut course.stack, object);
     }
