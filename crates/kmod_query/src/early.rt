@@ -1,7 +1,7 @@
 //! Whether an answer does not depend on modules.alias and modules.symbols, or not on modules.symbols.
 #![tactic(auto, unfolding(crate::specs::World::facts_of))]
 
-ghost use Rattle.std.specs.Prelude.{◌≡◌, ◌&&◌, IfOk};
+ghost use Rattle.std.specs.Prelude.{◌≡◌, IfOk};
 ghost use Rattle.std.specs.List.{list_all, list_any};
 ghost use Rattle.text_parts.specs.Text.{texts_of};
 ghost use Rattle.kmod_names.specs.Names.{name_of_path, normal_alias};
@@ -105,30 +105,15 @@ fn is_early_word(alloc: Global, world: &World, word: &[u8]) -> Result<bool, Allo
     }
 }
 
-/// Whether the words before are early, and a word too.
-fn is_early_too(
-    alloc: Global,
-    world: &World,
-    are_early: bool,
-    word: &[u8],
-) -> Result<bool, AllocError>
-    ensures { IfOk result (λ is_early. is_early ≡ (are_early && is_early_word (facts_of world.now) word.now)) }
-{
-    if are_early {
-        is_early_word(alloc, world, word)
-    } else {
-        Ok(false)
-    }
-}
-
 fn are_early_words(alloc: Global, world: &World, words: &[&[u8]]) -> Result<bool, AllocError>
     ensures { IfOk result (λ are_early. are_early ≡ list_all (is_early_word (facts_of world.now)) (texts_of words.now)) }
 {
-    let mut are_early = true;
     'words: for word in words {
-        are_early = is_early_too(alloc, world, are_early, word)?;
+        if !is_early_word(alloc, world, word)? {
+            return Ok(false);
+        }
     }
-    Ok(are_early)
+    Ok(true)
 }
 
 fn is_early_first(alloc: Global, world: &World, words: &[&[u8]]) -> Result<bool, AllocError>
@@ -175,25 +160,15 @@ fn is_plain_word(alloc: Global, word: &[u8]) -> Result<bool, AllocError>
     }
 }
 
-/// Whether the words before are plain, and a word too.
-fn is_plain_too(alloc: Global, are_plain: bool, word: &[u8]) -> Result<bool, AllocError>
-    ensures { IfOk result (λ is_plain. is_plain ≡ (are_plain && is_plain_word word.now)) }
-{
-    if are_plain {
-        is_plain_word(alloc, word)
-    } else {
-        Ok(false)
-    }
-}
-
 fn are_plain_words(alloc: Global, words: &[&[u8]]) -> Result<bool, AllocError>
     ensures { IfOk result (λ are_plain. are_plain ≡ list_all is_plain_word (texts_of words.now)) }
 {
-    let mut are_plain = true;
     'words: for word in words {
-        are_plain = is_plain_too(alloc, are_plain, word)?;
+        if !is_plain_word(alloc, word)? {
+            return Ok(false);
+        }
     }
-    Ok(are_plain)
+    Ok(true)
 }
 
 fn is_plain_first(alloc: Global, words: &[&[u8]]) -> Result<bool, AllocError>
