@@ -3,4 +3,5 @@ pub mod FileFacts
 pub mod KernelList
 pub mod LineEnds
 pub mod NearNames
+pub mod Passing
 pub mod Users

@@ -235,7 +235,7 @@ impl<'a> Told<'_, 'a> {
             Task::Load(subject) => self.tell_load(tasks, subject),
             Task::Need(need) => self.tell_need(tasks, need),
             Task::Fill(subject) => self.tell_fill(tasks, subject),
-            Task::Soft(word) => self.tell_soft(tasks, word),
+            Task::Soft(words) => self.tell_soft(tasks, words),
             Task::Own(subject) => self.tell_own(tasks, subject),
             Task::Remove { soft, subject } => self.tell_removal(tasks, soft, subject),
             Task::Release { soft, subject } => self.tell_release(tasks, soft, subject),

@@ -1,11 +1,12 @@
 //! Which softdep lines lead to a module: those that have it, and count for a module themselves.
 
 use crate::heads::Heads;
+use crate::tasks::SoftWords;
 use crate::told::Told;
-use answer_facts::{LeadFact, Side, What};
+use answer_facts::Side;
 use kmod_conf::SoftdepLine;
 use kmod_names::{Place, Text, name_of_path};
-use kmod_query::{Finding, find_name};
+use kmod_query::{Finding, find_name, find_word};
 use machine_lint::has_pattern;
 use std::alloc::AllocError;
 use text_parts::is_same;
@@ -13,7 +14,7 @@ use text_parts::is_same;
 impl<'a> Told<'_, 'a> {
     /// Whether a word stands for a module.
     pub(crate) fn leads_to(&self, word: &[u8], name: &[u8]) -> Result<bool, AllocError> {
-        let objects = self.objects_of(word)?;
+        let objects = find_word(self.alloc, &self.known.asked.world, word)?;
         Ok(objects.iter().any(|object| is_same(&object.name, name)))
     }
 
@@ -24,15 +25,10 @@ impl<'a> Told<'_, 'a> {
         side: Side,
         line: &'a SoftdepLine,
     ) -> Result<(), AllocError> {
-        let words = match side {
-            Side::Before => line.items.pre(),
-            Side::After => line.items.post(),
-        };
-        for word in words {
+        let own = SoftWords::of(line.name.as_bytes(), side, line);
+        for word in own.words {
             if self.leads_to(word.as_bytes(), name)? {
-                let of = line.name.as_bytes();
-                let what = What::Lead(LeadFact::Softdep { side, of });
-                self.say_of(word.as_bytes(), what, line.place)?;
+                self.say_soft_word(own, word.as_bytes())?;
             }
         }
         Ok(())

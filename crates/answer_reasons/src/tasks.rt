@@ -4,8 +4,9 @@ use crate::exemptions::Exemption;
 use crate::kept::kept;
 use answer_facts::Side;
 use bumpalo::Bump;
-use indexmap::{IndexMap, IndexSet};
-use kmod_names::Place;
+use indexmap::IndexSet;
+use kmod_conf::SoftdepLine;
+use kmod_names::{Place, Text};
 use kmod_query::Object;
 use std::alloc::{AllocError, Global};
 
@@ -70,13 +71,29 @@ pub(crate) struct Need<'a> {
     pub(crate) number: usize,
 }
 
-/// A word of a softdep line of a module, and where the line stands.
+/// Words on one side of a module in its softdep line, and where the line stands.
 #[derive(Clone, Copy)]
-pub(crate) struct SoftWord<'a> {
-    pub(crate) word: &'a [u8],
+pub(crate) struct SoftWords<'a> {
+    pub(crate) words: &'a [Text],
     pub(crate) of: &'a [u8],
     pub(crate) side: Side,
     pub(crate) place: Place,
+}
+
+impl<'a> SoftWords<'a> {
+    /// The words on one side of a module in its softdep line.
+    pub(crate) fn of(name: &'a [u8], side: Side, line: &'a SoftdepLine) -> SoftWords<'a> {
+        let words = match side {
+            Side::Before => line.items.pre(),
+            Side::After => line.items.post(),
+        };
+        SoftWords {
+            words,
+            of: name,
+            side,
+            place: line.place,
+        }
+    }
 }
 
 /// What is to be told.
@@ -88,8 +105,8 @@ pub(crate) enum Task<'a> {
     Need(Need<'a>),
     /// A module with its soft items before and after it.
     Fill(Subject<'a>),
-    /// A word of a softdep line.
-    Soft(SoftWord<'a>),
+    /// Words of a softdep line, one after another.
+    Soft(SoftWords<'a>),
     /// The lines of a module that is loaded.
     Own(Subject<'a>),
     /// A removal, of a soft item or not: the soft items after the module, and then the module.
@@ -123,8 +140,6 @@ pub(crate) struct Tasks<'a> {
     way: IndexSet<&'a [u8]>,
     /// The modules of whose removal it was told what it frees.
     removed: IndexSet<&'a [u8]>,
-    /// The words of softdep lines that were looked up, each with whether it stands for a module.
-    found: IndexMap<&'a [u8], bool>,
     /// The words of softdep lines that were told.
     words: IndexSet<&'a [u8]>,
     /// The modules whose files were named by paths.
@@ -148,7 +163,6 @@ impl Drop for Tasks<'_> {
             bare: _,
             way: _,
             removed: _,
-            found: _,
             words: _,
             files: _,
             exempt: _,
@@ -178,7 +192,6 @@ impl<'a> Tasks<'a> {
             bare: None,
             way: IndexSet::new(alloc),
             removed: IndexSet::new(alloc),
-            found: IndexMap::new(alloc),
             words: IndexSet::new(alloc),
             files: IndexSet::new(alloc),
             exempt: IndexSet::new(alloc),
@@ -269,17 +282,6 @@ impl<'a> Tasks<'a> {
     /// Notes that the innermost of these modules is done.
     pub(crate) fn leave(&mut self) {
         self.way.pop();
-    }
-
-    /// Whether a word of a softdep line stands for a module, None if it was not looked up.
-    pub(crate) fn is_found(&self, word: &[u8]) -> Option<bool> {
-        self.found.get(word).copied()
-    }
-
-    /// Notes whether a word of a softdep line stands for a module.
-    pub(crate) fn add_found(&mut self, word: &'a [u8], found: bool) -> Result<(), AllocError> {
-        self.found.insert(word, found)?;
-        Ok(())
     }
 
     /// Whether a word of a softdep line is to be told; from now on it was.

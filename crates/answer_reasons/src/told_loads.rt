@@ -1,15 +1,36 @@
 //! What is reported of a load, module by module in the order in which they are loaded.
+ghost use Rattle.std.specs.Prelude.{◌≡◌, IfOk};
+ghost use Rattle.kmod_query.specs.Lines.{has_soft_items};
+ghost use Rattle.kmod_query.specs.World.{facts_of};
+ghost use Rattle.answer_reasons.specs.Passing.{passed_by};
 
 use crate::exemptions::Exemption;
 use crate::kept::kept_names;
-use crate::tasks::{Need, Subject, Task, Tasks};
+use crate::tasks::{Need, SoftWords, Subject, Task, Tasks};
 use crate::told::{Told, line_spot};
-use crate::told_soft::push_words_back;
 use crate::told_words::DEPENDENCIES;
 use answer_facts::{Command, LineFact, ModuleFact, Outcome, Passed, Side, What};
 use kmod_names::Text;
-use kmod_query::{Ask, install_line};
-use std::alloc::AllocError;
+use kmod_query::{Ask, World, has_soft_items, install_line};
+use std::alloc::{AllocError, Global};
+
+/// Why an install line of a module is passed over, if it is. `bare` says that `-i` does it.
+fn passed_by(
+    alloc: Global,
+    world: &World<'_>,
+    bare: bool,
+    name: &[u8],
+) -> Result<Passed, AllocError>
+    ensures { IfOk result (λ passed. passed ≡ passed_by bare (has_soft_items (facts_of world.now) name.now)) }
+{
+    if bare {
+        return Ok(Passed::ByOption);
+    }
+    if has_soft_items(alloc, world, name)? {
+        return Ok(Passed::BySoftItems);
+    }
+    Ok(Passed::Never)
+}
 
 impl<'a> Told<'_, 'a> {
     /// One of the needs of a module, whose line in modules.dep has this number.
@@ -117,29 +138,24 @@ impl<'a> Told<'_, 'a> {
             self.say_of(name, What::Line(LineFact::Softdep), line.place)?;
             return tasks.push(own);
         }
-        push_words_back(tasks, name, Side::After, line.items.post(), line.place)?;
+        tasks.push(Task::Soft(SoftWords::of(name, Side::After, line)))?;
         tasks.push(own)?;
-        push_words_back(tasks, name, Side::Before, line.items.pre(), line.place)
+        tasks.push(Task::Soft(SoftWords::of(name, Side::Before, line)))
     }
 
     /// Tells what counts for a load of a module that the kernel does not have.
-    fn tell_line(
-        &mut self,
-        subject: Subject<'a>,
-        has_file: bool,
-        has_items: bool,
-    ) -> Result<(), AllocError> {
+    fn tell_line(&mut self, subject: Subject<'a>, has_file: bool) -> Result<(), AllocError> {
         let (name, alias) = (subject.name, subject.alias);
         if has_file {
             self.tell_refused(name)?;
         }
-        let line = install_line(self.alloc, &self.known.asked.world, name, alias)?;
-        let passed = match (subject.bare, has_items) {
-            (true, _) => Passed::ByOption,
-            (false, true) => Passed::BySoftItems,
-            (false, false) => Passed::Never,
+        let asked = self.known.asked;
+        let line = install_line(self.alloc, &asked.world, name, alias)?;
+        let passed = match line {
+            Some(_) => passed_by(self.alloc, &asked.world, subject.bare, name)?,
+            None => Passed::Never,
         };
-        let is_loaded = has_file || (line.is_some() && !subject.bare && !has_items);
+        let is_loaded = has_file || (line.is_some() && matches!(passed, Passed::Never));
         if is_loaded {
             self.tell_options(name, alias)?;
         }
@@ -158,7 +174,6 @@ impl<'a> Told<'_, 'a> {
         subject: Subject<'a>,
     ) -> Result<(), AllocError> {
         let name = subject.name;
-        let has_items = !subject.bare && self.has_soft_items(tasks, name)?;
         let is_dry = matches!(self.known.asked.query.ask, Ask::DryRun);
         let is_named = subject.alias.is_none() && tasks.has_file(name);
         let is_built_in = !is_named && self.known.is_built_in(name, subject.builtin);
@@ -171,7 +186,7 @@ impl<'a> Told<'_, 'a> {
             return self.tell_in_kernel(name, Outcome::Silent);
         }
         let has_file = is_named || self.known.has_file(name);
-        self.tell_line(subject, has_file, has_items)
+        self.tell_line(subject, has_file)
     }
 
     /// Tells the lines of a module of a load, unless they were told.

@@ -2,9 +2,8 @@
 ghost use Rattle.std.specs.Prelude.{◌≡◌};
 ghost use Rattle.answer_reasons.specs.Users.{users_beside};
 
-use crate::tasks::{Need, Subject, Task, Tasks};
+use crate::tasks::{Need, SoftWords, Subject, Task, Tasks};
 use crate::told::Told;
-use crate::told_soft::push_words;
 use answer_facts::{
     Command, LineFact, Outcome, Passed, RemovalFact, Shows, Side, Spot, StateFact, What,
 };
@@ -203,7 +202,7 @@ impl<'a> Told<'_, 'a> {
         let line = conf.softdep_of(self.alloc, name)?;
         tasks.push(Task::Release { soft, subject })?;
         match line {
-            Some(line) => push_words(tasks, name, Side::After, line.items.post(), line.place),
+            Some(line) => tasks.push(Task::Soft(SoftWords::of(name, Side::After, line))),
             None => Ok(()),
         }
     }
@@ -257,14 +256,6 @@ impl<'a> Told<'_, 'a> {
         )
     }
 
-    /// Whether a module was gone when only this much was taken.
-    fn was_gone(&self, name: &[u8], before: usize) -> bool {
-        match self.taken.get(..before) {
-            Some(taken) => is_gone(taken, name),
-            None => false,
-        }
-    }
-
     /// Whether a module goes by what was taken since then.
     fn goes_since(&self, name: &[u8], before: usize) -> bool {
         match self.taken.get(before..) {
@@ -285,7 +276,7 @@ impl<'a> Told<'_, 'a> {
     /// Tells a need of a module that goes, and whether it goes too. `before` is what was taken before the module.
     fn tell_freed_need(&mut self, need: Need<'a>, before: usize) -> Result<(), AllocError> {
         self.say_need(need)?;
-        if self.known.sources.whole && self.was_gone(need.name, before) {
+        if is_gone(self.counted_to(before), need.name) {
             return self.say_removal(need.name, RemovalFact::Gone);
         }
         self.tell_need_state(need.name, before)?;
@@ -342,7 +333,7 @@ impl<'a> Told<'_, 'a> {
             return Ok(());
         };
         self.tell_later_softdeps(name, line.place)?;
-        push_words(tasks, name, Side::Before, line.items.pre(), line.place)
+        tasks.push(Task::Soft(SoftWords::of(name, Side::Before, line)))
     }
 
     /// Tells that a soft dependency after a module took it along, so that its own removal fails.

@@ -1,56 +1,12 @@
 //! What is reported of words of softdep lines.
 
 use crate::exemptions::Exemption;
-use crate::tasks::{SoftWord, Subject, Task, Tasks};
+use crate::tasks::{SoftWords, Subject, Task, Tasks};
 use crate::told::Told;
-use answer_facts::{IdleFact, LeadFact, Setting, Side, What};
-use kmod_names::{Place, Text};
-use kmod_query::{Finding, Object, find_name};
+use answer_facts::{IdleFact, LeadFact, Setting, What};
+use kmod_names::Place;
+use kmod_query::{Object, find_word};
 use std::alloc::AllocError;
-
-/// Adds a word of a softdep line of a module before all other tasks.
-fn push_word<'a>(
-    tasks: &mut Tasks<'a>,
-    of: &'a [u8],
-    side: Side,
-    word: &'a [u8],
-    place: Place,
-) -> Result<(), AllocError> {
-    tasks.push(Task::Soft(SoftWord {
-        word,
-        of,
-        side,
-        place,
-    }))
-}
-
-/// Adds the words on one side of a module in its softdep line before all other tasks; the last is the first of them.
-pub(crate) fn push_words<'a>(
-    tasks: &mut Tasks<'a>,
-    of: &'a [u8],
-    side: Side,
-    words: &'a [Text],
-    place: Place,
-) -> Result<(), AllocError> {
-    for word in words {
-        push_word(tasks, of, side, word.as_bytes(), place)?;
-    }
-    Ok(())
-}
-
-/// The same, in their order: the first is the first of the tasks.
-pub(crate) fn push_words_back<'a>(
-    tasks: &mut Tasks<'a>,
-    of: &'a [u8],
-    side: Side,
-    words: &'a [Text],
-    place: Place,
-) -> Result<(), AllocError> {
-    for word in words.iter().rev() {
-        push_word(tasks, of, side, word.as_bytes(), place)?;
-    }
-    Ok(())
-}
 
 impl<'a> Told<'_, 'a> {
     /// The modules that objects are.
@@ -93,20 +49,48 @@ impl<'a> Told<'_, 'a> {
         self.follow_each(tasks, &subjects)
     }
 
-    /// Tells a word of a softdep line; and why it stands for modules, with these, if that was not told.
-    pub(crate) fn tell_soft(
+    /// Tells that a word is a soft dependency.
+    pub(crate) fn say_soft_word(
         &mut self,
-        tasks: &mut Tasks<'a>,
-        own: SoftWord<'a>,
+        own: SoftWords<'a>,
+        word: &'a [u8],
     ) -> Result<(), AllocError> {
         let (side, of) = (own.side, own.of);
         let what = What::Lead(LeadFact::Softdep { side, of });
-        self.say_of(own.word, what, own.place)?;
-        if !tasks.begin_word(own.word)? {
-            return self.follow_again(tasks, own.word);
+        self.say_of(word, what, own.place)
+    }
+
+    /// Tells a word of a softdep line; and why it stands for modules, with these, if that was not told.
+    fn tell_soft_word(
+        &mut self,
+        tasks: &mut Tasks<'a>,
+        own: SoftWords<'a>,
+        word: &'a [u8],
+    ) -> Result<(), AllocError> {
+        self.say_soft_word(own, word)?;
+        if !tasks.begin_word(word)? {
+            return self.follow_again(tasks, word);
         }
-        let found = self.tell_word(own.word)?;
+        let found = self.tell_word(word)?;
         self.follow(tasks, found.as_deref().unwrap_or(&[]))
+    }
+
+    /// Tells the next of these words, the first in a load and the last in a removal, and goes on with the others.
+    pub(crate) fn tell_soft(
+        &mut self,
+        tasks: &mut Tasks<'a>,
+        own: SoftWords<'a>,
+    ) -> Result<(), AllocError> {
+        let next = if self.known.is_removal() {
+            own.words.split_last()
+        } else {
+            own.words.split_first()
+        };
+        let Some((word, words)) = next else {
+            return Ok(());
+        };
+        tasks.push(Task::Soft(SoftWords { words, ..own }))?;
+        self.tell_soft_word(tasks, own, word.as_bytes())
     }
 
     /// Goes on with the modules for which a word stands, of which it was told why: a load takes them once, and a removal
@@ -115,7 +99,7 @@ impl<'a> Told<'_, 'a> {
         if !self.known.is_removal() {
             return Ok(());
         }
-        let objects = self.objects_of(word)?;
+        let objects = find_word(self.alloc, &self.known.asked.world, word)?;
         self.follow(tasks, &objects)
     }
 
@@ -128,55 +112,5 @@ impl<'a> Told<'_, 'a> {
         let named = self.known.named;
         let what = What::Idle(IdleFact::Later(Setting::Softdep));
         self.say_of_each(name, what, &named.softdeps, Some(place))
-    }
-
-    /// Whether a word of a softdep line stands for a module.
-    fn is_found(&self, word: &[u8]) -> Result<bool, AllocError> {
-        match self.normal(word)? {
-            Some(name) => {
-                let finding = find_name(self.alloc, &self.known.asked.world, name)?;
-                Ok(!matches!(&finding, Finding::Nothing))
-            }
-            None => Ok(false),
-        }
-    }
-
-    /// Whether a word of a softdep line that was not looked up stands for a module; from now on it was.
-    fn look_up(&self, tasks: &mut Tasks<'a>, word: &'a [u8]) -> Result<bool, AllocError> {
-        let found = self.is_found(word)?;
-        tasks.add_found(word, found)?;
-        Ok(found)
-    }
-
-    /// Whether one of the words of a softdep line stands for a module.
-    fn is_any_found(&self, tasks: &mut Tasks<'a>, words: &'a [Text]) -> Result<bool, AllocError> {
-        for word in words {
-            let own = word.as_bytes();
-            let found = match tasks.is_found(own) {
-                Some(found) => found,
-                None => self.look_up(tasks, own)?,
-            };
-            if found {
-                return Ok(true);
-            }
-        }
-        Ok(false)
-    }
-
-    /// Whether a module has soft items.
-    pub(crate) fn has_soft_items(
-        &self,
-        tasks: &mut Tasks<'a>,
-        name: &[u8],
-    ) -> Result<bool, AllocError> {
-        let asked = self.known.asked;
-        let conf = asked.world.conf;
-        let Some(line) = conf.softdep_of(self.alloc, name)? else {
-            return Ok(false);
-        };
-        Ok(
-            self.is_any_found(tasks, line.items.pre())?
-                || self.is_any_found(tasks, line.items.post())?,
-        )
     }
 }

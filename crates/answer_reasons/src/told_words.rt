@@ -166,17 +166,6 @@ impl<'a> Told<'_, 'a> {
         }
     }
 
-    /// The modules for which a word stands: none if it is no name.
-    pub(crate) fn objects_of(&self, word: &[u8]) -> Result<Vec<Object>, AllocError> {
-        match self.normal(word)? {
-            Some(name) => {
-                let finding = find_name(self.alloc, &self.known.asked.world, name)?;
-                finding.objects(self.alloc, name)
-            }
-            None => Ok(Vec::new(self.alloc)),
-        }
-    }
-
     /// Tells why a word, whose normal form is a name, stands for modules, which are answered.
     fn tell_found(
         &mut self,

@@ -44,7 +44,7 @@ pub use laws::{
     symbols_do_not_count,
 };
 pub use loading::{is_barred, is_passed};
-pub use look_up::find_name;
+pub use look_up::{find_name, find_word, has_soft_items};
 pub use object::Object;
 pub use paths::{AtPath, OwnFile, PathWord};
 pub use query::{Ask, Query};

@@ -11,7 +11,7 @@ ghost use Rattle.kmod_query.specs.declared.answer.Failure.TheVariants.{NoFile};
 use crate::answer::{Answer, Failure};
 use crate::asked::Asked;
 use crate::loading::answer_object;
-use crate::look_up::look_up;
+use crate::look_up::find_word;
 use crate::object::Object;
 use crate::parameters::parameter_text;
 use crate::paths::{AtPath, OwnFile};
@@ -93,7 +93,7 @@ fn answer_name(
         Some(AtPath::File(file)) => answer_file(asked, parameters, word, file.as_bytes()),
         Some(AtPath::Nothing(reason)) => answer_no_file(asked.alloc, word, reason.as_bytes()),
         None => {
-            let found = look_up(asked.alloc, &asked.world, word)?;
+            let found = find_word(asked.alloc, &asked.world, word)?;
             answer_found(asked, parameters, word, &found, soft)
         }
     }

@@ -3,6 +3,7 @@
 
 ghost use Rattle.std.specs.Prelude.{◌≡◌, map, IfOk, IfSome, is_some};
 ghost use Rattle.kmod_query.specs.Early.{is_found_early};
+ghost use Rattle.kmod_query.specs.Lines.{has_soft_items};
 ghost use Rattle.kmod_query.specs.LookUp.{found, look_up, look_up_each};
 ghost use Rattle.kmod_query.specs.Objects.{objects_of};
 ghost use Rattle.kmod_query.specs.Probes.{after_of, before_of};
@@ -116,8 +117,8 @@ pub(crate) fn found(alloc: Global, world: &World, name: &[u8]) -> Result<Vec<Obj
     find_name(alloc, world, name)?.objects(alloc, name)
 }
 
-/// What a word stands for.
-pub(crate) fn look_up(alloc: Global, world: &World, word: &[u8]) -> Result<Vec<Object>, AllocError>
+/// What a word stands for: no module, if it is no name. It fails only if memory runs out.
+pub fn find_word(alloc: Global, world: &World, word: &[u8]) -> Result<Vec<Object>, AllocError>
     ensures { IfOk result (λ objects. objects_of objects.items ≡ look_up (facts_of world.now) word.now) }
 {
     match normal_alias(alloc, word)? {
@@ -132,7 +133,7 @@ fn look_up_each(alloc: Global, world: &World, words: &[Text]) -> Result<Vec<Obje
 {
     let mut found = Vec::new(alloc);
     'words: for word in words {
-        let mut own = look_up(alloc, world, word.as_bytes())?;
+        let mut own = find_word(alloc, world, word.as_bytes())?;
         found.append(&mut own)?;
     }
     Ok(found)
@@ -167,4 +168,12 @@ pub(crate) fn soft_items(alloc: Global, world: &World, name: &[u8]) -> Result<So
             after: Vec::new(alloc),
         }),
     }
+}
+
+/// Whether a module has soft items. It fails only if memory runs out.
+pub fn has_soft_items(alloc: Global, world: &World, name: &[u8]) -> Result<bool, AllocError>
+    ensures { IfOk result (λ has. has ≡ has_soft_items (facts_of world.now) name.now) }
+{
+    let items = soft_items(alloc, world, name)?;
+    Ok(items.before.len() > 0 || items.after.len() > 0)
 }
