@@ -95,7 +95,9 @@ static gz_number drain(struct host *host, size_t slot)
     gz_number number = gz_book_begin_drain(&host->book, slot);
     if (number != GZ_DONE)
         return number;
-    gz_reader_wait_unused(&host->reader, slot);
+    number = gz_reader_wait_unheld(&host->reader, slot, -1);
+    if (number != GZ_DONE)
+        return number;
     free(atomic_exchange(&plugins[slot], NULL));
     return gz_book_end_remove(&host->book, slot);
 }

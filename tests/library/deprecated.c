@@ -52,9 +52,13 @@ static void of_a_leaf(gz_leaf *leaf, gz_reader *reader)
     CHECK(gz_held(leaf, SND, &count), GZ_DONE);
     CHECK(count, 2);
     CHECK(gz_in_use(reader, SND), GZ_YES);
+    CHECK(gz_reader_wait_unused_for(reader, SND, 1), GZ_TIMED_OUT);
     CHECK(gz_put(leaf, SND), GZ_DONE);
     CHECK(gz_put(leaf, SND), GZ_DONE);
     CHECK(gz_wait_unused(reader, SND), GZ_NO);
+    CHECK(gz_reader_wait_unused(reader, SND), GZ_NO);
+    CHECK(gz_reader_wait_unused_for(reader, SND, 0), GZ_NO);
+    CHECK(gz_reader_wait_unused_for(reader, OUTSIDE, -1), GZ_OUT_OF_RANGE);
 }
 
 static void of_a_book(gz_catalogue *catalogue)

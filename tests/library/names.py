@@ -1,7 +1,8 @@
 """Whether each call has one name, with one signature: names.py LIBRARY COMPILER.
 
 The library's exports are the calls that the headers declare, which its sources define, and the inline functions of the headers.
-They are the calls of gourzhiel(3), with the same parameters. Each other name of older headers is marked and tested.
+They are the calls of gourzhiel(3), with the same parameters. Each other name of older headers is marked and tested. Those of
+them that the library exported it still exports, with the parameters that they have there.
 """
 
 import re
@@ -89,21 +90,24 @@ def main():
     inline = signatures(rf"^GZ_INLINE {RESULT}(gz_\w+)\(([^{{}}]*?)\)\n\{{", header)
     by_hand = signatures(rf"^{RESULT}(gz_\w+)\(([^{{}}]*?)\)\n\{{", texts("inline", "*.c"))
     sources = defined_in_sources() | {name: types_of(it) for name, it in by_hand.items()}
-    compare("header", "source", {name: types_of(it) for name, it in declared.items()}, sources)
+    deprecated = texts("include", "gourzhiel_deprecated.h")
+    marked = signatures(rf"^GZ_NOW\(\w+\) (?:static inline|GZ_INLINE) {RESULT}(gz_\w+)\(([^{{}}]*?)\)\n\{{", deprecated)
+    kept = sources.keys() & marked.keys()
+    compare("header", "source", {name: types_of(it) for name, it in (declared | {it: marked[it] for it in kept}).items()}, sources)
+    kept |= set(re.findall(r"^GZ_NOW\(\w+\) GZ_INLINE \w+ (gz_\w+)\(", deprecated, re.M))
     calls, named = manual()
     compare("header", "gourzhiel.3", declared | inline, {name: it for name, it in calls.items() if name != "gz_work"})
     exported = set(re.findall(r" T (\w+)$", answer("nm", "-D", "--defined-only", library).stdout, re.M))
-    if exported != set(declared | inline):
-        sys.exit(f"exported or declared alone: {' '.join(sorted(exported ^ set(declared | inline)))}")
-    marked = set(re.findall(r"^GZ_NOW\(\w+\) static inline \w+ (gz_\w+)\(", texts("include", "gourzhiel_deprecated.h"), re.M))
+    if exported != set(declared | inline) | kept:
+        sys.exit(f"exported or declared alone: {' '.join(sorted(exported ^ (set(declared | inline) | kept)))}")
     said = answer(compiler, "-fsyntax-only", f"-I{CRATE}/include", str(HERE / "deprecated.c")).stderr
     tested = set(re.findall(r"(gz_\w+)\W+ is deprecated: use gz_", said))
-    if marked != tested:
-        sys.exit(f"not marked, or not tested: {' '.join(sorted(marked ^ tested))}")
-    unknown = {name for pair in named for name in pair if name} - exported - marked - {"gz_work"}
+    if set(marked) != tested:
+        sys.exit(f"not marked, or not tested: {' '.join(sorted(set(marked) ^ tested))}")
+    unknown = {name for pair in named for name in pair if name} - exported - set(marked) - {"gz_work"}
     if unknown:
         sys.exit(f"gourzhiel.3 names what is not there: {' '.join(sorted(unknown))}")
-    print(f"{len(exported)} calls, {len(inline)} of them inline in C, {len(marked)} deprecated names")
+    print(f"{len(calls) - 1} calls, {len(inline)} of them inline in C, {len(marked)} deprecated names, {len(kept)} of them exported")
 
 
 if __name__ == "__main__":

@@ -107,14 +107,14 @@ static void by_book(gz_catalogue *catalogue)
     CHECK(gz_book_begin_drain(&book, TIMER), GZ_DONE);
     CHECK(gz_leaf_get_blocking(&leaf, TIMER), GZ_NOT_LIVE);
     CHECK(gz_reader_in_use(&reader, TIMER), GZ_YES);
-    CHECK(gz_reader_wait_unused_for(&reader, TIMER, 1), GZ_TIMED_OUT);
+    CHECK(gz_reader_wait_unheld(&reader, TIMER, 1), GZ_TIMED_OUT);
     CHECK(gz_book_wait_removed_for(&book, TIMER, 1), GZ_TIMED_OUT);
     CHECK(gz_book_state(&book, TIMER), GZ_DRAINING);
     CHECK(gz_leaf_put(&leaf, TIMER), GZ_DONE);
-    CHECK(gz_reader_wait_unused(&reader, TIMER), GZ_NO);
+    CHECK(gz_reader_wait_unheld(&reader, TIMER, -1), GZ_DONE);
     CHECK(gz_book_wait_removed(&book, TIMER), GZ_DONE);
     CHECK(gz_book_wait_removed(&book, TIMER), GZ_NOT_UNLOADING);
-    CHECK(gz_reader_wait_unused(&reader, OUTSIDE), GZ_OUT_OF_RANGE);
+    CHECK(gz_reader_wait_unheld(&reader, OUTSIDE, -1), GZ_OUT_OF_RANGE);
     CHECK(gz_book_wait_removed_for(&book, OUTSIDE, 0), GZ_OUT_OF_RANGE);
     CHECK(gz_book_loaded(&book), 0);
     gz_reader_clear(&reader);

@@ -120,7 +120,7 @@ typedef struct gz_teller { void *at; } gz_teller;
  * calls: `_blocking` calls again at GZ_BUSY, `_wait_` pauses between calls, `_clear` frees what is full and empties the
  * handle. The library exports these too, for other languages: its gourzhiel.c defines GZ_INLINE as nothing. Macros of a
  * call's name make that call, and tell the thread sanitizer, or put a place for NULL. The names of older headers stand in
- * gourzhiel_deprecated.h. */
+ * gourzhiel_deprecated.h; the shared library has those that it exported, for programs that were linked to it. */
 #ifndef GZ_INLINE
 #define GZ_INLINE static inline
 #endif
@@ -294,22 +294,17 @@ void gz_reader_free(gz_reader reader);
 #define gz_reader_in_use(reader, slot) GZ_ORDERED((gz_reader_in_use)(reader, slot))
 #endif
 
-/* Waits until no leaf holds the module, at most so many milliseconds: GZ_NO. After gz_book_begin_drain it stays so, and what
- * the module has may be unloaded before gz_book_end_remove. GZ_OUT_OF_RANGE, GZ_TIMED_OUT. */
-GZ_INLINE gz_number gz_reader_wait_unused_for(gz_reader *reader, size_t slot, int milliseconds)
+/* Waits until no leaf holds the module, at most so many milliseconds. After gz_book_begin_drain it stays so, and what the
+ * module has may be unloaded before gz_book_end_remove. It does not ask for the state: gz_caller_wait_unheld does.
+ * GZ_OUT_OF_RANGE. GZ_TIMED_OUT: some leaf holds it. */
+GZ_INLINE gz_number gz_reader_wait_unheld(gz_reader *reader, size_t slot, int milliseconds)
 {
     gz_wait wait = GZ_WAIT(milliseconds);
     gz_number number;
     while ((number = gz_reader_in_use(reader, slot)) == GZ_YES)
         if (!gz_wait_pause(&wait))
             return GZ_TIMED_OUT;
-    return number;
-}
-
-/* The same for ever. */
-GZ_INLINE gz_number gz_reader_wait_unused(gz_reader *reader, size_t slot)
-{
-    return gz_reader_wait_unused_for(reader, slot, -1);
+    return number == GZ_NO ? GZ_DONE : number;
 }
 
 GZ_INLINE void gz_reader_clear(gz_reader *reader)
@@ -368,7 +363,7 @@ void gz_book_free(gz_book book);
 #endif
 
 /* Ends a drain once nobody holds the module, and waits for that at most so many milliseconds. Who has something to unload
- * calls gz_reader_wait_unused_for instead. GZ_NOT_UNLOADING, GZ_OUT_OF_RANGE. GZ_TIMED_OUT: it still drains. */
+ * calls gz_reader_wait_unheld instead. GZ_NOT_UNLOADING, GZ_OUT_OF_RANGE. GZ_TIMED_OUT: it still drains. */
 GZ_INLINE gz_number gz_book_wait_removed_for(gz_book *book, size_t slot, int milliseconds)
 {
     gz_wait wait = GZ_WAIT(milliseconds);

@@ -1,7 +1,8 @@
 /* gourzhiel_deprecated.h: the names that calls had in older headers. gourzhiel.h includes it.
  *
  * Each is what it names, with the same parameters; but gz_read takes the catalogue first, and gz_slot a name that ends
- * with 0. */
+ * with 0. What waits until a module is unused answers GZ_NO in the
+ * place of GZ_DONE, and without a limit it waits for ever. */
 #include "gourzhiel.h" /* before the guard, so that this file may be included alone */
 
 #ifndef GOURZHIEL_DEPRECATED_H
@@ -85,9 +86,26 @@ GZ_NOW(gz_reader_in_use) static inline gz_number gz_in_use(gz_reader *reader, si
     return gz_reader_in_use(reader, slot);
 }
 
-GZ_NOW(gz_reader_wait_unused) static inline gz_number gz_wait_unused(gz_reader *reader, size_t slot)
+static inline gz_number gz_unused_until(gz_reader *reader, size_t slot, int milliseconds)
 {
-    return gz_reader_wait_unused(reader, slot);
+    gz_number number = gz_reader_wait_unheld(reader, slot, milliseconds);
+    return number == GZ_DONE ? GZ_NO : number;
+}
+
+GZ_NOW(gz_reader_wait_unheld) GZ_INLINE gz_number gz_reader_wait_unused_for(gz_reader *reader, size_t slot,
+                                                                            int milliseconds)
+{
+    return gz_unused_until(reader, slot, milliseconds);
+}
+
+GZ_NOW(gz_reader_wait_unheld) GZ_INLINE gz_number gz_reader_wait_unused(gz_reader *reader, size_t slot)
+{
+    return gz_unused_until(reader, slot, -1);
+}
+
+GZ_NOW(gz_reader_wait_unheld) static inline gz_number gz_wait_unused(gz_reader *reader, size_t slot)
+{
+    return gz_unused_until(reader, slot, -1);
 }
 
 /* ---- The book ---- */
