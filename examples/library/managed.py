@@ -32,7 +32,7 @@ def declared(path):
         ("strerror", c_char_p, number),
         ("catalogue_read", number, c_char_p, size, handle, POINTER(size)),
         ("catalogue_clear", None, handle),
-        ("managed_new_with_tellers", number, handle, handle, handle, size),
+        ("managed_tellers_new", number, handle, handle, size, handle),
         ("caller_new", number, handle, handle),
         ("caller_get_blocking", number, handle, size, size),
         ("caller_put_blocking", number, handle, size, size),
@@ -171,7 +171,7 @@ def main():
     catalogue, first, line, tellers, sum_of = Handle(), Handle(), c_size_t(), (Handle * WORKERS)(), c_uint64()
     if gz.gz_catalogue_read(TEXT, len(TEXT), byref(catalogue), byref(line)) != DONE:
         sys.exit(f"no catalogue: line {line.value}")
-    if gz.gz_managed_new_with_tellers(byref(catalogue), byref(first), tellers, WORKERS) != DONE:
+    if gz.gz_managed_tellers_new(byref(catalogue), tellers, WORKERS, byref(first)) != DONE:
         sys.exit("no table")
     loader, plugins = Caller(gz, first), Plugins()
     loader.expect([DONE], "load", SND, plugins.load, None)

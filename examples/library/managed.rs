@@ -45,11 +45,11 @@ extern "C" {
     fn gz_strerror(number: u32) -> *const c_char;
     fn gz_catalogue_read(text: *const u8, length: usize, catalogue: &mut Catalogue, line: &mut usize) -> u32;
     fn gz_catalogue_clear(catalogue: &mut Catalogue);
-    fn gz_managed_new_with_tellers(
+    fn gz_managed_tellers_new(
         catalogue: &mut Catalogue,
-        caller: &mut CallerHandle,
         tellers: *mut TellerHandle,
         workers: usize,
+        caller: &mut CallerHandle,
     ) -> u32;
     fn gz_caller_meet_leaf_blocking(caller: &mut CallerHandle, worker: usize, teller: &mut TellerHandle) -> u32;
     fn gz_caller_meet_book_blocking(caller: &mut CallerHandle, teller: &mut TellerHandle) -> u32;
@@ -135,7 +135,7 @@ impl Caller {
     fn over(catalogue: &mut Catalogue) -> (Caller, Vec<Teller>) {
         let mut handle = CallerHandle { at: ptr::null_mut() };
         let mut tellers: Vec<_> = (0..WORKERS).map(|_| TellerHandle { at: ptr::null_mut() }).collect();
-        let made = unsafe { gz_managed_new_with_tellers(catalogue, &mut handle, tellers.as_mut_ptr(), WORKERS) };
+        let made = unsafe { gz_managed_tellers_new(catalogue, tellers.as_mut_ptr(), WORKERS, &mut handle) };
         assert!(is_done(made));
         (Caller { handle }, tellers.into_iter().map(|handle| Teller { handle }).collect())
     }

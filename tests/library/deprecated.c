@@ -123,6 +123,13 @@ static void of_callers(gz_catalogue *catalogue)
 {
     gz_caller one = GZ_EMPTY, other = GZ_EMPTY, told = GZ_EMPTY, none = GZ_EMPTY;
     gz_teller tellers[WORKERS] = { GZ_EMPTY, GZ_EMPTY };
+    CHECK(gz_managed_new_with_tellers(catalogue, &none, NULL, 0), GZ_DONE);
+    gz_free_caller(&none);
+    CHECK(gz_managed_new_with_tellers(catalogue, &told, tellers, WORKERS), GZ_DONE);
+    by_a_caller(catalogue, &told, &tellers[1]);
+    gz_free_caller(&told);
+    for (int i = 0; i < WORKERS; i++)
+        gz_free_teller(&tellers[i]);
     CHECK(gz_new_managed(catalogue, WORKERS, &one), GZ_DONE);
     CHECK(gz_new_caller(&one, &other), GZ_DONE);
     CHECK(gz_workers(&other), WORKERS);

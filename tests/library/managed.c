@@ -157,10 +157,10 @@ static void tellers(gz_catalogue *catalogue)
 {
     gz_caller one = GZ_EMPTY, other = GZ_EMPTY, none = GZ_EMPTY;
     gz_teller all[WORKERS] = { GZ_EMPTY, GZ_EMPTY };
-    CHECK(gz_managed_new_with_tellers(catalogue, &none, NULL, 0), GZ_DONE);
+    CHECK(gz_managed_tellers_new(catalogue, NULL, 0, &none), GZ_DONE);
     CHECK(gz_caller_workers(&none), 0);
     gz_caller_clear(&none);
-    CHECK(gz_managed_new_with_tellers(catalogue, &one, all, WORKERS), GZ_DONE);
+    CHECK(gz_managed_tellers_new(catalogue, all, WORKERS, &one), GZ_DONE);
     CHECK(one.at && all[0].at && all[1].at, 1);
     CHECK(gz_caller_workers(&one), WORKERS);
     CHECK(gz_caller_new(&one, &other), GZ_DONE);

@@ -99,7 +99,7 @@ static gz_number make_managed(gz_catalogue *catalogue, struct callers *callers)
     gz_number number = gz_managed_new(catalogue, LEAVES, &callers->first);
     if (number == GZ_DONE)
         number = gz_caller_new(&callers->first, &callers->further);
-    return number ? number : gz_managed_new_with_tellers(catalogue, &callers->told, callers->tellers, LEAVES);
+    return number ? number : gz_managed_tellers_new(catalogue, callers->tellers, LEAVES, &callers->told);
 }
 
 static void free_callers(struct callers *callers)

@@ -1,7 +1,7 @@
 /* gourzhiel_deprecated.h: the names that calls had in older headers. gourzhiel.h includes it.
  *
- * Each is what it names, with the same parameters; but gz_read takes the catalogue first, and gz_slot a name that ends
- * with 0. What waits until a module is unused answers GZ_NO in the
+ * Each is what it names, with the same parameters; but gz_read takes the catalogue first, gz_slot a name that ends with 0,
+ * and gz_managed_new_with_tellers the caller before the tellers. What waits until a module is unused answers GZ_NO in the
  * place of GZ_DONE, and without a limit it waits for ever. */
 #include "gourzhiel.h" /* before the guard, so that this file may be included alone */
 
@@ -182,12 +182,21 @@ GZ_NOW(gz_managed_new) static inline gz_number gz_new_managed(gz_catalogue *cata
     return gz_managed_new(catalogue, workers, caller);
 }
 
-GZ_NOW(gz_managed_new_with_tellers) static inline gz_number gz_new_managed_with_tellers(gz_catalogue *catalogue,
-                                                                                        gz_caller *caller,
-                                                                                        gz_teller *tellers,
-                                                                                        size_t workers)
+/* (the library exports a call of this name too, for programs that were linked to it) */
+GZ_NOW(gz_managed_tellers_new) static inline gz_number gz_managed_new_with_tellers(gz_catalogue *catalogue,
+                                                                                   gz_caller *caller,
+                                                                                   gz_teller *tellers,
+                                                                                   size_t workers)
 {
-    return gz_managed_new_with_tellers(catalogue, caller, tellers, workers);
+    return gz_managed_tellers_new(catalogue, tellers, workers, caller);
+}
+
+GZ_NOW(gz_managed_tellers_new) static inline gz_number gz_new_managed_with_tellers(gz_catalogue *catalogue,
+                                                                                   gz_caller *caller,
+                                                                                   gz_teller *tellers,
+                                                                                   size_t workers)
+{
+    return gz_managed_tellers_new(catalogue, tellers, workers, caller);
 }
 
 GZ_NOW(gz_caller_new) static inline gz_number gz_new_caller(gz_caller *caller, gz_caller *further)

@@ -16,9 +16,9 @@ extern "C" {
 gz_number gz_managed_new(gz_catalogue *catalogue, size_t workers, gz_caller *caller);
 
 /* The same, with a teller for each worker, in `workers` empty handles. */
-gz_number gz_managed_new_with_tellers(gz_catalogue *catalogue, gz_caller *caller, gz_teller *tellers, size_t workers);
-#define gz_managed_new_with_tellers(catalogue, caller, tellers, workers) \
-    (gz_managed_new_with_tellers)(catalogue, caller, gz_tellers_at(tellers), workers)
+gz_number gz_managed_tellers_new(gz_catalogue *catalogue, gz_teller *tellers, size_t workers, gz_caller *caller);
+#define gz_managed_tellers_new(catalogue, tellers, workers, caller) \
+    (gz_managed_tellers_new)(catalogue, gz_tellers_at(tellers), workers, caller)
 
 /* A further caller of the same table, in an empty handle. Each thread has one of its own. GZ_OUT_OF_MEMORY. */
 gz_number gz_caller_new(gz_caller *caller, gz_caller *further);

@@ -47,5 +47,5 @@ pub use leaf_calls::{gz_leaf_free, gz_leaf_get, gz_leaf_held, gz_leaf_put};
 pub use managed_calls::{gz_caller_new, gz_managed_new};
 pub use reader_calls::{gz_reader_free, gz_reader_in_use};
 pub use table_calls::gz_table_new;
-pub use teller_making::gz_managed_new_with_tellers;
+pub use teller_making::{gz_managed_new_with_tellers, gz_managed_tellers_new};
 pub use version::gz_version;

@@ -58,11 +58,11 @@ fn fill_tellers(handles: &mut [GzTeller], tellers: Vec<Box<Teller>>)
 ///
 /// OUT_OF_MEMORY: nothing is kept. TOO_MANY_LEAVES: 2^32 or more. No handle is then touched.
 #[unsafe(no_mangle)]
-pub extern "C" fn gz_managed_new_with_tellers(
+pub extern "C" fn gz_managed_tellers_new(
     alloc: Global,
     catalogue: &mut GzCatalogue,
-    caller: &mut GzCaller,
     tellers: &mut [GzTeller],
+    caller: &mut GzCaller,
 ) -> u32
     requires full { catalogue.old.full ≡ true }
     requires empty { caller.old.full ≡ false }
@@ -85,4 +85,21 @@ pub extern "C" fn gz_managed_new_with_tellers(
             DONE
         }
     }
+}
+
+/// `gz_managed_tellers_new` by its older name, with the caller before the tellers.
+#[unsafe(no_mangle)]
+pub extern "C" fn gz_managed_new_with_tellers(
+    alloc: Global,
+    catalogue: &mut GzCatalogue,
+    caller: &mut GzCaller,
+    tellers: &mut [GzTeller],
+) -> u32
+    requires full { catalogue.old.full ≡ true }
+    requires empty { caller.old.full ≡ false }
+    requires no_tellers { All (λ h. h.full ≡ false) tellers.old }
+    ensures kept { (catalogue.new.full ≡ true) × (catalogue.new.held ≡ catalogue.old.held) }
+    ensures made { TellersMade (modules_of catalogue.old.held) (length tellers.old) result caller.old caller.new tellers.old tellers.new }
+{
+    gz_managed_tellers_new(alloc, catalogue, tellers, caller)
 }
