@@ -1,1 +1,2 @@
 mod DiskLemmas
+mod RunLemmas

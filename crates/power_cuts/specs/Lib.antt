@@ -1,2 +1,3 @@
 pub mod Log
 pub mod Disk
+pub mod Cuts

@@ -1,10 +1,14 @@
-//! A file in memory of which a cut of the power loses what was not synced, and processes that use it.
+//! Processes that use a table one after another, over a file of which a cut of the power loses what was not synced.
 #![tactic(auto)]
 
+mod cuts;
 mod disk;
+mod life;
 mod log;
+mod running;
 mod state;
 
+pub use cuts::PowerCuts;
 pub use disk::MemoryDisk;
-pub use log::Log;
-pub use state::{Call, State};
+pub use life::{End, Life};
+pub use running::run_with_power_cuts;
