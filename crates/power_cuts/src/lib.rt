@@ -7,6 +7,8 @@ mod life;
 mod log;
 mod running;
 mod state;
+#[cfg(test)]
+mod tests;
 
 pub use cuts::PowerCuts;
 pub use disk::MemoryDisk;
