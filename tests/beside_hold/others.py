@@ -4,13 +4,14 @@ import os
 import re
 from contextlib import contextmanager
 
-from beside_hold.machine import GZ_HOLD
+from beside_hold.machine import GZ_HOLD, STAND_INS
 
 # How often a need is taken away: more often than gz-hold tries at the least.
 TAKEN_AWAY = 4
 ODD = "a\n'b' \"c\" $d `e` \\ *\n"
 # Where a script assigns a variable.
 ASSIGNED = re.compile(r"(?:^|[\s;({])([a-z_]+)=|\bfor ([a-z_]+)\b")
+LOADED = "gz-hold: others have loaded {} meanwhile, perhaps from the old file"
 KERNEL_ALONE = "gz-hold: the kernel alone has stp; gz-hold mend tells the table"
 
 
@@ -75,6 +76,36 @@ def faults_of_kernel_alone(machine):
     return [f"of a module that only the kernel had, `{words}`: {found[words]}" for words in wanted if found[words] != wanted[words]]
 
 
+def faults_of_loaded(machine):
+    """Others load a module that is upgraded, while its command runs and when it is about to be loaded again: that is said."""
+    folder, left = machine.room / "table", machine.room / "left"
+    take_away = f"$table {folder} begin_remove llc && rmmod llc && $table {folder} end_remove llc"
+    faults = []
+    for name, at, command in (
+        ("overlay", "nothing", [STAND_INS / "insmod", "overlay.ko"]),
+        ("overlay", "begin_load overlay", ["true"]),
+        ("overlay", "begin_load overlay", ["false"]),
+        # What it needs was removed: that is loaded first, and meanwhile nobody has the module's lock.
+        ("stp", "begin_load stp", ["true"]),
+        ("stp", "begin_load llc", ["true"]),
+    ):
+        machine.anew()
+        machine.hold(f"get one {name}")
+        machine.hold("put one")
+        left.write_text("\n" if name == "stp" else "")
+        comes = f'case "$*" in *" {at}") grep -q "^{name} " {machine.modules} || insmod {name}.ko ;; esac'
+        goes = f'case "$*" in *" begin_load stp") : >{left}; {{ {take_away}; }} >/dev/null ;; esac'
+        with before_table(machine, f"if [ -s {left} ]; then {goes}; else {comes}; fi"):
+            found = machine.hold(["upgrade", name, "--", *map(str, command)])
+        failed = ["gz-hold: the command ended with status 1"] if command == ["false"] else []
+        said = [it for it in found[2] if not it.startswith("insmod: ")]
+        if (*found[:2], said) != (f"error EEXIST {name}\n", 1, [*failed, LOADED.format(name)]):
+            faults.append(f"others load {name} before {at}, with {command[0]}: {found}")
+        if (after := machine.hold("check")) != ("", 0, []) or name not in machine.there():
+            faults.append(f"after others loaded {name} before {at}, with {command[0]}: {after}, {machine.there()}")
+    return faults
+
+
 def faults_of_environment(machine):
     """A command gets its caller's variables, though the script has some of their names."""
     machine.anew()
@@ -93,5 +124,5 @@ def faults_of_environment(machine):
 
 def faults_of_others(machine):
     """What is wrong, each as a line."""
-    parts = [faults_of_needs, faults_of_slow_tries, faults_of_kernel_alone, faults_of_environment]
+    parts = [faults_of_needs, faults_of_slow_tries, faults_of_kernel_alone, faults_of_loaded, faults_of_environment]
     return [fault for part in parts for fault in part(machine)]
