@@ -2,7 +2,7 @@
 here=$(cd "$(dirname "$0")" && pwd)
 # A file plays the kernel's list of modules, and texts of this folder play those of the machine.
 export PATH=$here:$here/../stand_ins:$PATH
-export GZ_TABLE=$PWD/table GZ_HOLD_MODULES=$PWD/modules CONTAINERS=$PWD/containers MODPROBE_OPTIONS="--root=$here -S 6.1.0-56-amd64"
+export GZ_TABLE=$PWD/table GZ_HOLD_MODULES=$PWD/modules GZ_HOLD_ROOT=$PWD CONTAINERS=$PWD/containers MODPROBE_OPTIONS="--root=$here -S 6.1.0-56-amd64"
 : >modules
 gz-table create --host --root="$here" -S 6.1.0-56-amd64
 
@@ -40,4 +40,4 @@ call gz-hold upgrade overlay -- echo 'the new overlay is put in its place'
 call gz-hold remove br_netfilter bridge
 call gz-hold check
 awk '{ print $1 }' modules
-rm -r table modules modules.lock containers
+rm -r table modules modules.lock run containers

@@ -2,7 +2,7 @@
 here=$(cd "$(dirname "$0")" && pwd)
 # A file plays the kernel's list of modules, and texts of this folder play those of the machine.
 export PATH=$here/../stand_ins:$PATH
-export GZ_TABLE=$PWD/table GZ_HOLD_MODULES=$PWD/modules MODPROBE_OPTIONS="--root=$here -S 6.1.0-56-amd64"
+export GZ_TABLE=$PWD/table GZ_HOLD_MODULES=$PWD/modules GZ_HOLD_ROOT=$PWD MODPROBE_OPTIONS="--root=$here -S 6.1.0-56-amd64"
 : >modules
 gz-table create --host --root="$here" -S 6.1.0-56-amd64
 
@@ -31,4 +31,4 @@ wait
 # Somebody removes a module, and asks no table.
 ask 'rmmod overlay'
 ask 'gz-hold check; echo $?'
-rm -r table modules modules.lock put
+rm -r table modules modules.lock run put

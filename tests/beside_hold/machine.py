@@ -57,6 +57,7 @@ class Machine:
             "PATH": f"{path}:{STAND_INS}:{os.environ.get('PATH', os.defpath)}",
             "GZ_TABLE": str(room / "table"),
             "GZ_HOLD_MODULES": str(self.modules),
+            "GZ_HOLD_ROOT": str(room),
             "MODPROBE_OPTIONS": f"--root={room} -S {VERSION}",
         }
 
@@ -87,9 +88,14 @@ class Machine:
         """The names of the locks that there are."""
         return sorted(it.name for it in (self.room / "table/hold").glob("*"))
 
+    def bans(self):
+        """The files that keep others from modules, each with its text."""
+        return {it.name: it.read_text() for it in (self.room / "run/modprobe.d").glob("gz-hold.*")}
+
     def anew(self):
         """Nothing is loaded or held."""
-        shutil.rmtree(self.room / "table", ignore_errors=True)
+        for folder in ("table", "run"):
+            shutil.rmtree(self.room / folder, ignore_errors=True)
         self.modules.write_text("")
         self.run("gz-table", "create", "--host", "-S", VERSION, f"--root={self.room}")
 

@@ -16,6 +16,9 @@ WAITERS = 6
 MENDS = 12
 # At how many moments a call gets signals.
 MOMENTS = 6
+# What keeps others from a module, and a name of another by what only an alias leads to.
+BANS = {"gz-hold.overlay.conf": "blacklist overlay\ninstall overlay /bin/false\n"}
+DEVICE = "pci:v00001AF4d00001000sv00"
 SIGNALS = (signal.SIGTERM, signal.SIGINT, signal.SIGHUP, signal.SIGQUIT)
 # A command that makes a file, waits for one, and makes another. It is no shell: that of busybox ignores SIGQUIT.
 COMMAND = """import sys, time
@@ -125,8 +128,8 @@ def faults_of_signal(machine, number, send):
     if gets_it:
         until(lambda: upgrade.poll() is not None)
     may_end.touch()
-    wanted = (143, not gets_it, ["overlay"], ("", 0, []))
-    found = (upgrade.wait(), ended.exists(), machine.there(), machine.hold("check"))
+    wanted = (143, not gets_it, ["overlay"], {}, ("", 0, []))
+    found = (upgrade.wait(), ended.exists(), machine.there(), machine.bans(), machine.hold("check"))
     return [] if found == wanted else [f"an upgrade that got signal {number} by {send.__name__}: {found}"]
 
 
@@ -158,26 +161,32 @@ def faults_of_moments(machine):
                 os.killpg(process.pid, SIGNALS[1 + moment % 3])
             process.wait()
             slow.unlink()
-            found = (machine.there(), machine.hold("list"), machine.hold("check"))
-            if found != (["overlay"], ("", 0, []), ("", 0, [])):
+            found = (machine.there(), machine.bans(), machine.hold("list"), machine.hold("check"))
+            if found != (["overlay"], {}, ("", 0, []), ("", 0, [])):
                 faults.append(f"after signals at moment {moment} of `{' '.join(words)}`: {found}")
     program.unlink()
     program.symlink_to(target)
     return faults
 
 
-def faults_of_killed(machine):
-    """All of an upgrade is killed while its command runs: what is left is listed, and what is to be done is said."""
+def killed_upgrade(machine):
+    """All of an upgrade is killed while its command runs. False if that has not begun."""
     machine.anew()
     machine.hold("get one overlay")
     machine.hold("put one")
     begun = machine.room / "begun"
     begun.unlink(missing_ok=True)
     upgrade = begin_upgrade(machine, ["--", "sh", "-c", f"echo >{begun}; sleep 60"])
-    if not until(begun.exists):
-        return ["an upgrade has not begun"]
+    has_begun = until(begun.exists)
     os.killpg(upgrade.pid, signal.SIGKILL)
     upgrade.wait()
+    return has_begun
+
+
+def faults_of_killed(machine):
+    """All of an upgrade is killed while its command runs: what is left is listed, and what is to be done is said."""
+    if not killed_upgrade(machine):
+        return ["an upgrade has not begun"]
     wanted = {
         "check": ("overlay: Unloading in the table, Absent in the kernel\n", 1, []),
         "upgrade overlay": ("error ENOENT overlay\n", 10, ["gz-hold: overlay is not loaded, and nothing was done; gz-hold get loads it"]),
@@ -186,6 +195,55 @@ def faults_of_killed(machine):
     }
     found = {words: machine.hold(words) for words in wanted}
     return [f"after an upgrade was killed, `{words}`: {found[words]}" for words in wanted if found[words] != wanted[words]]
+
+
+def faults_of_bans_left(machine):
+    """An upgrade that was killed has left the file that keeps others from the module: who has the module's lock next takes it away."""
+    faults = []
+    for words in ("mend", "get two overlay", "remove overlay"):
+        begun = killed_upgrade(machine)
+        left = machine.bans()
+        found = (begun, left, machine.hold(words)[2], machine.bans())
+        if found != (True, BANS, [], {}):
+            faults.append(f"`{words}` after an upgrade was killed: {found}")
+    return faults
+
+
+def faults_of_bans(machine):
+    """While an upgrade's command runs, modprobe does not load the module. gz-hold waits, also by an alias, and then finds it."""
+    machine.anew()
+    machine.hold("get one loop overlay")
+    machine.hold("put one")
+    begun, may_end, ended = files = [machine.room / name for name in ("begun", "may_end", "ended")]
+    for file in files:
+        file.unlink(missing_ok=True)
+    upgrade = begin_beside(machine, ["upgrade", "loop", "--", sys.executable, "-c", COMMAND, *map(str, files)])
+    if not until(begun.exists):
+        return ["an upgrade has not begun"]
+    plans = [machine.run("gz-modprobe", "--show-depends", name) for name in ("loop", DEVICE)]
+    (machine.room / "run/modprobe.d/some-other.conf").write_text("install llc /bin/true\n")
+    beside = [machine.hold("get two overlay"), machine.hold("get two llc")]
+    waiting = begin_beside(machine, ["get", "two", DEVICE])
+    time.sleep(2)
+    found = (plans, beside[0], beside[1][:2], waiting.poll(), machine.there())
+    may_end.touch()
+    found += (waiting.wait(), upgrade.wait(), machine.hold("list")[0], machine.there(), machine.bans())
+    wanted = ([("install /bin/false \n", 0), ("", 0)], ("ok overlay\n", 0, []), ("error NOTLIVE llc\n", 12), None, ["overlay"])
+    wanted += (0, 0, "two overlay 1\ntwo loop 1\n", ["overlay", "loop"], {})
+    return [] if found == wanted else [f"while others are kept from a module: {found}"]
+
+
+def faults_of_no_bans(machine):
+    """If a file cannot be written that keeps others from a module, that is said, and the upgrade goes on."""
+    machine.anew()
+    machine.hold("get one overlay")
+    machine.hold("put one")
+    (machine.room / "run").write_text("")
+    found = (machine.hold("upgrade overlay -- true"), machine.there())
+    (machine.room / "run").unlink()
+    file = machine.room / "run/modprobe.d/gz-hold.overlay.conf"
+    wanted = (("", 0, [f"gz-hold: cannot write {file}, and others may load overlay meanwhile"]), ["overlay"])
+    return [] if found == wanted else [f"where others cannot be kept from a module: {found}"]
 
 
 def faults_of_wait(machine):
@@ -287,5 +345,6 @@ def faults_of_mend_in_vain(machine):
 def faults_of_processes(machine):
     """What is wrong, each as a line."""
     parts = [faults_of_holders, faults_of_command, faults_of_signals, faults_of_moments, faults_of_killed, faults_of_wait, faults_of_waiting]
+    parts += [faults_of_bans, faults_of_bans_left, faults_of_no_bans]
     parts += [faults_of_patience, faults_of_plain_flock, faults_of_turns, faults_of_mend_in_vain]
     return [fault for part in parts for fault in part(machine)]

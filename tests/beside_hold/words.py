@@ -74,7 +74,7 @@ REFUSED = [
     Refused("remove nosuch . nosuch", 10, "error ENOENT nosuch\nerror ENOENT .\n", []),
 ]
 # The programs that a call needs. Those of the kernel's modules are stand-ins, which need STAND_INS_NEED.
-TABLE_NEEDS = "awk flock grep gz-table mkdir sed sleep tr wc".split()
+TABLE_NEEDS = "awk flock grep gz-table mkdir rm sed sleep tr wc".split()
 NEEDED = {
     "get one overlay": ["gz-modprobe", "insmod", *TABLE_NEEDS],
     "check": TABLE_NEEDS,
