@@ -17,7 +17,8 @@ function __gz_hold_commands
     printf '%s\n' get\t'Load modules and hold them' put\t'Give modules back' run\t'Hold modules while a command runs' \
         remove\t'Remove modules that nobody uses' upgrade\t'Remove a module, run a command, load it again' \
         guard\t'Let modprobe -r ask the table' reap\t'Give back what dead processes hold' check\t'Compare the table with the kernel' \
-        mend\t'Bring the table to the kernel' list\t'List who holds what'
+        mend\t'Bring the table to the kernel' list\t'List who holds what' \
+        who\t'Show who is in the way of a removal'
 end
 
 # What may follow the words.
@@ -38,7 +39,7 @@ function __gz_hold_follow
             __gz_table_catalogue $folder
         case '*put'
             __gz_table_ask $folder held $words[2]
-        case '*remove' 0upgrade '*guard'
+        case '*remove' 0upgrade '*guard' 0who
             __gz_table_ask $folder proc
     end
 end
@@ -60,6 +61,7 @@ complete -c gz-hold -f -a '(__gz_hold_follow)'
 complete -c gz-hold -n 'test (count (__gz_hold_words)) = 0' -s h -l help -d 'Show a help text'
 complete -c gz-hold -n 'test (count (__gz_hold_words)) = 0' -s V -l version -d 'Show the version'
 complete -c gz-hold -n '__gz_hold_at 1 put' -l remove -d 'Remove what nobody holds then'
+complete -c gz-hold -n '__gz_hold_at 1 put' -l all -d 'Give back all of all'
 complete -c gz-hold -n '__gz_hold_at 1 guard' -l off -d 'Let it ask no longer'
 complete -c gz-hold -n '__gz_hold_at 1 upgrade' -l wait -x -d 'How long it is tried'
 complete -c gz-hold -n '__gz_hold_ends' -a -- -d 'The command follows'

@@ -106,6 +106,20 @@ def faults_of_loaded(machine):
     return faults
 
 
+def faults_of_who(machine):
+    """What the kernel says of a module, as /proc/modules has it."""
+    machine.anew()
+    machine.hold("get web17 stp")
+    machine.modules.write_text("stp 16384 1 - Live 0x0\nllc 16384 2 stp,bridge, Live 0x0\nloop 16384 0 - Unloading 0x0\n")
+    wanted = {
+        "who stp": "held web17 1\nkernel Live 1\n",
+        "who llc": "needed stp\nkernel Live 2 stp bridge\n",
+        "who loop": "kernel Unloading 0\n",
+    }
+    found = {words: machine.hold(words) for words in wanted}
+    return [f"`{words}`: {found[words]}" for words in wanted if found[words] != (wanted[words], 0, [])]
+
+
 def faults_of_environment(machine):
     """A command gets its caller's variables, though the script has some of their names."""
     machine.anew()
@@ -124,5 +138,5 @@ def faults_of_environment(machine):
 
 def faults_of_others(machine):
     """What is wrong, each as a line."""
-    parts = [faults_of_needs, faults_of_slow_tries, faults_of_kernel_alone, faults_of_loaded, faults_of_environment]
+    parts = [faults_of_needs, faults_of_slow_tries, faults_of_kernel_alone, faults_of_loaded, faults_of_who, faults_of_environment]
     return [fault for part in parts for fault in part(machine)]

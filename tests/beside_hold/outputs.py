@@ -28,6 +28,8 @@ UNWRITTEN = [
     Unwritten(["gz-hold get one overlay"], "list", LOST, "overlay", "one overlay 1\n"),
     Unwritten(["gz-hold get one overlay"], "put one", DONE, "overlay", ""),
     Unwritten(["gz-hold get one overlay loop"], "put --remove one", DONE, "", ""),
+    Unwritten(["gz-hold get one overlay loop"], "put --all", DONE, "overlay loop", ""),
+    Unwritten(["gz-hold get one overlay"], "who overlay", LOST, "overlay", "one overlay 1\n"),
     Unwritten(["gz-hold get one overlay loop", "gz-hold put one"], "remove overlay loop", DONE, "", ""),
     Unwritten(["gz-hold get one overlay"], "remove overlay nosuch", LOST, "overlay", "one overlay 1\n"),
     Unwritten(["gz-hold get pid:1:1 overlay"], "reap", DONE, "overlay", ""),

@@ -135,6 +135,20 @@ STEPS = [
     Step("gz-hold remove br-netfilter br_netfilter", "ok\n", 0, "llc stp bridge loop overlay"),
     Step("gz-hold get web18 br-netfilter br_netfilter", "ok br_netfilter\n", 0, "llc stp bridge loop overlay br_netfilter"),
     Step("gz-hold check", "", 0, "llc stp bridge loop overlay br_netfilter"),
+    # Who holds a module, which modules need it, and what the kernel says.
+    Step("gz-hold who stp", "needed br_netfilter\nneeded bridge\nkernel Live 0\n", 0, "llc stp bridge loop overlay br_netfilter"),
+    Step("gz-hold who br-netfilter", "held web18 1\nkernel Live 0\n", 0, "llc stp bridge loop overlay br_netfilter"),
+    Step("gz-hold who soft", "kernel Absent\n", 0, "llc stp bridge loop overlay br_netfilter"),
+    Step("gz-hold who nosuch", "error ENOENT nosuch\n", 10, "llc stp bridge loop overlay br_netfilter"),
+    # All is given back.
+    Step("gz-hold get web19 overlay", "ok overlay\n", 0, "llc stp bridge loop overlay br_netfilter"),
+    Step("gz-hold put --all web18", "", 2, "llc stp bridge loop overlay br_netfilter"),
+    Step("gz-hold list", "web18 overlay 1\nweb18 br_netfilter 1\nweb19 overlay 1\n", 0, "llc stp bridge loop overlay br_netfilter"),
+    Step("gz-hold put --all", "web18 ok\nweb19 ok\n", 0, "llc stp bridge loop overlay br_netfilter"),
+    Step("gz-hold put --all", "", 0, "llc stp bridge loop overlay br_netfilter"),
+    Step("gz-hold list", "", 0, "llc stp bridge loop overlay br_netfilter"),
+    # What needs others is removed first, whatever order the words have, and what is not loaded comes last.
+    Step("gz-hold remove llc nosuch bridge stp br-netfilter", "ok\nok\nok\nok\nerror ENOENT nosuch\n", 10, "loop overlay"),
 ]
 # What the steps have a shell do, with the file that plays /proc/modules.
 COMMANDS = {
