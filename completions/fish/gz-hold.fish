@@ -14,7 +14,7 @@ function __gz_hold_words
 end
 
 function __gz_hold_commands
-    printf '%s\n' get\t'Load modules and hold them' put\t'Give modules back' run\t'Hold modules while a command runs' \
+    printf '%s\n' create\t'Make the table' get\t'Load modules and hold them' put\t'Give modules back' run\t'Hold modules while a command runs' \
         remove\t'Remove modules that nobody uses' upgrade\t'Remove a module, run a command, load it again' \
         guard\t'Let modprobe -r ask the table' reap\t'Give back what dead processes hold' check\t'Compare the table with the kernel' \
         mend\t'Bring the table to the kernel' list\t'List who holds what' \
@@ -61,6 +61,7 @@ complete -c gz-hold -f -a '(__gz_hold_follow)'
 complete -c gz-hold -n 'test (count (__gz_hold_words)) = 0' -s h -l help -d 'Show a help text'
 complete -c gz-hold -n 'test (count (__gz_hold_words)) = 0' -s V -l version -d 'Show the version'
 complete -c gz-hold -n '__gz_hold_at 1 put' -l remove -d 'Remove what nobody holds then'
+complete -c gz-hold -n '__gz_hold_at 1 create' -l if-missing -d 'Leave one that is there'
 complete -c gz-hold -n '__gz_hold_at 1 put' -l all -d 'Give back all of all'
 complete -c gz-hold -n '__gz_hold_at 1 guard' -l off -d 'Let it ask no longer'
 complete -c gz-hold -n '__gz_hold_at 1 upgrade' -l wait -x -d 'How long it is tried'

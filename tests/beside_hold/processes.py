@@ -10,6 +10,8 @@ import threading
 import time
 from pathlib import Path
 
+from beside_hold.machine import VERSION
+
 # A command's name with what /proc/PID/stat has around it, and a byte that is no text.
 ODD_NAME = os.fsdecode(b"a) Z 1 (\n\xff")
 WAITERS = 6
@@ -331,6 +333,16 @@ def faults_of_turns(machine):
     return faults
 
 
+def faults_of_creates(machine):
+    """Some make the table at once, if it is missing: it is made once, and each is told that it is there."""
+    machine.anew()
+    shutil.rmtree(machine.room / "table")
+    words = ["create", "--if-missing", "-S", VERSION, f"--root={machine.room}"]
+    found = [it.wait() for it in [begin_beside(machine, words) for _ in range(WAITERS)]]
+    found += [machine.hold("check")]
+    return [] if found == [*[0] * WAITERS, ("", 0, [])] else [f"tables that are made at once: {found}"]
+
+
 def faults_of_mend_in_vain(machine):
     """A mend that cannot have its turn says so."""
     machine.anew()
@@ -345,6 +357,6 @@ def faults_of_mend_in_vain(machine):
 def faults_of_processes(machine):
     """What is wrong, each as a line."""
     parts = [faults_of_holders, faults_of_command, faults_of_signals, faults_of_moments, faults_of_killed, faults_of_wait, faults_of_waiting]
-    parts += [faults_of_bans, faults_of_bans_left, faults_of_no_bans]
+    parts += [faults_of_creates, faults_of_bans, faults_of_bans_left, faults_of_no_bans]
     parts += [faults_of_patience, faults_of_plain_flock, faults_of_turns, faults_of_mend_in_vain]
     return [fault for part in parts for fault in part(machine)]

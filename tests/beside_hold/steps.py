@@ -18,7 +18,10 @@ class Step:
 STEPS = [
     Step("gz-hold check", "", 2, ""),
     Step("gz-hold mend", "", 2, ""),
-    Step("gz-table TABLE create --host -S VERSION --root=ROOM", "", 0, ""),
+    Step("gz-hold create --if-missing --root=ROOM --frob", "", 2, ""),
+    Step("gz-hold create --if-missing -S VERSION --root=ROOM", "", 0, ""),
+    Step("gz-hold create --if-missing -S VERSION --root=ROOM", "", 0, ""),
+    Step("gz-hold create -S VERSION --root=ROOM", "", 13, ""),
     Step("gz-hold check", "", 0, ""),
     Step("gz-hold list", "", 0, ""),
     # What is needed is loaded first, and a device's alias stands for its module.

@@ -89,6 +89,7 @@ NEEDED = {
     "guard overlay": ["awk", "gz-table", "mkdir", "mv", "rm", "tr"],
     "reap": ["awk", "gz-table", "sed"],
     "list": ["gz-table"],
+    "create --if-missing": ["gz-table"],
     "-h": ["cat"],
     "--version": ["gz-table", "sed"],
 }
