@@ -10,7 +10,7 @@ use Rattle.line_journal.specs.declared.renewable.Renewed.TheVariants.{Same, Long
 use Rattle.file_journal.specs.Renewed.{IsOther}
 use Rattle.line_journal.specs.Device.{History, overwritten, Torn, Shortened, Unchanged, UnchangedOr, IsOnDisk, Goes}
 use Rattle.file_journal.specs.declared.calls.kinds.Call.{Call}
-use Rattle.file_journal.specs.declared.calls.kinds.Call.TheVariants.{Look, Read, Write, Again, Cut, Settle, Replaced, NotReplaced}
+use Rattle.file_journal.specs.declared.calls.kinds.Call.TheVariants.{Look, Read, OpenAgain, Write, Again, Cut, Settle, Replaced, NotReplaced}
 use Rattle.file_journal.specs.declared.calls.kinds.Noted.{Noted}
 use Rattle.file_journal.specs.Counts.{count, is_look, is_write}
 use Rattle.file_journal.specs.declared.belief.Belief.{Belief}
@@ -230,6 +230,10 @@ cut_or_not_goes {before} size (inr noted) = cut_goes size noted before (shortene
 pub read_goes : {before bytes : List ℕ} {calls later : List (Snapshot Noted)} (place : ℕ) → IsNoted (Read place) before bytes calls later
     → Goes Unchanged (call_history calls before) (call_history later before)
 read_goes {before} place noted = goes noted before refl (λ left is. (left, is, refl))
+
+pub open_again_goes : {before bytes : List ℕ} {calls later : List (Snapshot Noted)} → IsNoted OpenAgain before bytes calls later
+    → Goes Unchanged (call_history calls before) (call_history later before)
+open_again_goes {before} noted = goes noted before refl (λ left is. (left, is, refl))
 
 pub again_goes : {before bytes : List ℕ} {calls later : List (Snapshot Noted)} → IsNoted Again before bytes calls later
     → Goes Unchanged (call_history calls before) (call_history later before)

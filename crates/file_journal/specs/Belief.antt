@@ -3,7 +3,7 @@ use Rattle.std.specs.Prelude.{◌≡◌, ◌≤◌, ℕ, List, [], ◌++◌, tak
 use Rattle.line_journal.specs.Device.{History}
 use Rattle.file_journal.specs.Calls.{call_history, IsNoted}
 use Rattle.file_journal.specs.declared.belief.Belief.{Belief}
-use Rattle.file_journal.specs.declared.calls.kinds.Call.TheVariants.{Look, Read, Write, Again, Cut, Settle, Replaced}
+use Rattle.file_journal.specs.declared.calls.kinds.Call.TheVariants.{Look, Read, OpenAgain, Write, Again, Cut, Settle, Replaced}
 use Rattle.file_journal.specs.declared.disk_file.Syncs.{Syncs}
 
 abbrev pub history_of : Belief → History
@@ -29,6 +29,10 @@ IsOpened belief = IsNoted (Look 0) [] belief.bytes.items [] belief.calls.noted.i
 -- these bytes were read from a place on, once more
 abbrev pub IsReadBack : ℕ → List ℕ → Belief → Belief → Type 0
 IsReadBack place bytes old new = IsNoted (Read place) old.bytes.items bytes old.calls.noted.items new.calls.noted.items
+
+-- It was opened once more, all of it was read, and that has the bytes that were believed.
+abbrev pub IsOpenedAgain : Belief → Belief → Type 0
+IsOpenedAgain old new = IsNoted OpenAgain old.bytes.items old.bytes.items old.calls.noted.items new.calls.noted.items
 
 -- these bytes were written from a place on
 abbrev pub IsWritten : ℕ → List ℕ → Belief → Belief → Type 0

@@ -4,7 +4,7 @@ use mathlib.Core.Logic.{inl, ⊎_elim}
 use Rattle.std.specs.declared.snapshot.Snapshot.{Snapshot}
 use Rattle.line_journal.specs.Device.{History, Torn, Shortened}
 use Rattle.file_journal.specs.declared.calls.kinds.Call.{Call}
-use Rattle.file_journal.specs.declared.calls.kinds.Call.TheVariants.{Look, Read, Write, Again, Cut, Settle, Replaced, NotReplaced}
+use Rattle.file_journal.specs.declared.calls.kinds.Call.TheVariants.{Look, Read, OpenAgain, Write, Again, Cut, Settle, Replaced, NotReplaced}
 use Rattle.file_journal.specs.declared.disk_file.Syncs.TheVariants.{Kept}
 use Rattle.file_journal.specs.declared.calls.kinds.Noted.{Noted}
 
@@ -20,6 +20,7 @@ anything left = left ≡ left
 abbrev pub after_call : Call → List ℕ → (List ℕ → Type 0) → List ℕ → Type 0
 after_call (Look place) bytes old left = anything left
 after_call (Read place) bytes old left = old left
+after_call OpenAgain bytes old left = old left
 after_call (Write place) bytes old left = (before : List ℕ) × old before × Torn place (length bytes) before left
 after_call Again bytes old left = old left
 after_call (Cut size) bytes old left = (before : List ℕ) × old before × Shortened size before left

@@ -8,7 +8,7 @@ ghost use Rattle.file_journal.specs.declared.lock.LockKind.TheVariants.{Exclusiv
 
 use crate::calls::Calls;
 use crate::disk_file::{Paths, Syncs};
-use crate::fault::FileFault;
+use crate::fault::{FileFault, READS_OTHERWISE};
 use crate::folder_names::FolderNames;
 use crate::lock::FolderLock;
 use crate::new_file::NewFile;
@@ -42,7 +42,7 @@ fn compare(believed: &[u8], kept: usize, bytes: &[u8]) -> Renewed
 }
 
 impl Belief {
-    ghost use Rattle.file_journal.specs.Belief.{MayBeAnything, IsLooked, IsReadBack, IsWritten, IsWrittenAgain, IsCut, IsSettled, IsReplaced};
+    ghost use Rattle.file_journal.specs.Belief.{MayBeAnything, IsLooked, IsReadBack, IsOpenedAgain, IsWritten, IsWrittenAgain, IsCut, IsSettled, IsReplaced};
     ghost use Rattle.file_journal.specs.Counts.{looks_of, writes_of};
     ghost use Rattle.file_journal.specs.Renewed.{IsRenewedTo};
 
@@ -131,6 +131,33 @@ impl Belief {
             Ok(Some(read))
         } else {
             Ok(None)
+        }
+    }
+
+    /// Opens once more the file that has a path, and reads all of it. An error if it is another one than this, or has other bytes
+    /// than are believed.
+    pub(crate) fn open_again<R: Files>(
+        &mut self,
+        rt: &R,
+        path: &str,
+        file: &R::File,
+        lock: &FolderLock,
+        alloc: Global,
+    ) -> Result<R::File, FileFault>
+        ensures opened { OnOk result (IsOpenedAgain self.old self.new) }
+        ensures bytes { self.new.bytes ≡ self.old.bytes }
+        ensures crash { Goes Unchanged (history_of self.old) (history_of self.new) }
+        ensures looks { looks_of self.new ≡ looks_of self.old }
+        ensures writes { writes_of self.new ≡ writes_of self.old }
+    {
+        let opened = self
+            .calls
+            .open_again(rt, path, file, lock, alloc, &self.bytes);
+        let (file, read) = opened?;
+        if self.agrees(0, &read) {
+            Ok(file)
+        } else {
+            Err(READS_OTHERWISE)
         }
     }
 

@@ -2,13 +2,13 @@
 //! that it notes is trusted.
 ghost use Rattle.std.specs.Prelude.{◌≡◌, ◌≤◌, [], length, IfOk, OnOk, OnErr};
 ghost use Rattle.file_journal.specs.Calls.{IsNoted, IsNotedOrNot, IsSynced};
-ghost use Rattle.file_journal.specs.declared.calls.kinds.Call.TheVariants.{Look, Read, Write, Again, Cut, Settle, Replaced, NotReplaced};
+ghost use Rattle.file_journal.specs.declared.calls.kinds.Call.TheVariants.{Look, Read, OpenAgain, Write, Again, Cut, Settle, Replaced, NotReplaced};
 ghost use Rattle.file_journal.specs.declared.lock.LockKind.TheVariants.{Exclusive};
 ghost use Rattle.file_journal.specs.declared.disk_file.Syncs.TheVariants.{Kept, LeftOut};
 
 pub(crate) use self::kinds::{Call, Noted};
-use crate::disk_file::{Paths, Syncs};
-use crate::fault::{Action, FileFault, Target};
+use crate::disk_file::{Paths, Syncs, is_same_file, open_file};
+use crate::fault::{Action, FileFault, READS_OTHERWISE, Target};
 use crate::folder_names::FolderNames;
 use crate::lock::FolderLock;
 use crate::new_file::NewFile;
@@ -29,6 +29,8 @@ mod kinds {
         Look(usize),
         /// To read all from a place on once more. It was done.
         Read(usize),
+        /// To be opened once more by its path, and to read all of it. It was done, and it was the same file.
+        OpenAgain,
         /// To write bytes from a place on.
         Write(usize),
         /// To write all bytes again, as they are, after a sync that failed. Whether it was done is not told.
@@ -170,6 +172,28 @@ impl Calls {
         let read = fetch(alloc, file, place, before)?;
         self.note(Call::Read(place), Snapshot::of(before), Snapshot::of(&read))?;
         Ok(read)
+    }
+
+    /// Opens once more the file that has a path, and reads all of it. An error if it is another one than this.
+    pub(crate) fn open_again<R: Files>(
+        &mut self,
+        rt: &R,
+        path: &str,
+        file: &R::File,
+        _lock: &FolderLock,
+        alloc: Global,
+        before: &Vec<u8>,
+    ) -> Result<(R::File, Vec<u8>), FileFault>
+        ensures ok { IfOk result (λ opened. IsNoted OpenAgain before.now.items opened.1.items self.old.noted.items self.new.noted.items) }
+        ensures err { OnErr result (self.new.noted.items ≡ self.old.noted.items) }
+    {
+        let mut opened = open_file(rt, path)?;
+        if !is_same_file(&opened, file)? {
+            return Err(READS_OTHERWISE);
+        }
+        let read = fetch(alloc, &mut opened, 0, before)?;
+        self.note(Call::OpenAgain, Snapshot::of(before), Snapshot::of(&read))?;
+        Ok((opened, read))
     }
 
     /// Writes bytes from a place on. It is noted first, since a call that fails may have written some of them.

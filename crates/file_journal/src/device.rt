@@ -2,7 +2,7 @@ ghost use Rattle.std.specs.Prelude.{◌≡◌, ◌≢◌, ◌+◌, ◌<◌, ◌�
 ghost use Rattle.std.proofs.Common.{inl, refl};
 ghost use Rattle.line_journal.specs.Device.{overwritten, Torn, Shortened, Unchanged, UnchangedOr, IsOnDisk, Goes, TellsFaults};
 ghost use Rattle.line_journal.specs.declared.device.DeviceError.TheVariants.{Failed};
-ghost use Rattle.file_journal.specs.Belief.{history_of, MayBeAnything, IsLooked, IsOpened, IsReadBack, IsWritten, IsWrittenAgain, IsCut, IsSettled, IsReplaced};
+ghost use Rattle.file_journal.specs.Belief.{history_of, MayBeAnything, IsLooked, IsOpened, IsOpenedAgain, IsReadBack, IsWritten, IsWrittenAgain, IsCut, IsSettled, IsReplaced};
 ghost use Rattle.file_journal.specs.Counts.{looks_of, writes_of};
 ghost use Rattle.file_journal.specs.Failing.{MayRead, MayWrite, KeepsFault};
 ghost use Rattle.file_journal.specs.declared.fault.Cause.TheVariants as cause;
@@ -10,7 +10,7 @@ ghost use Rattle.file_journal.specs.declared.lock.LockKind.TheVariants.{Exclusiv
 
 use crate::belief::Belief;
 use crate::disk_file::{DiskFile, Paths, Syncs};
-use crate::fault::{Action, Cause, FileFault, Target};
+use crate::fault::{Action, Cause, FileFault, READS_OTHERWISE, Target};
 use crate::lock::{FolderLock, LockKind};
 use line_journal::{Device, DeviceError, Renewable, Renewed};
 use std::alloc::{AllocError, Global};
@@ -92,13 +92,6 @@ const NOT_LOCKED: FileFault = FileFault {
     action: Action::Lock,
     target: Target::Lock,
     cause: Cause::NotLocked,
-};
-
-/// The fault of a file that others wrote to, or that lost what was written.
-const READS_OTHERWISE: FileFault = FileFault {
-    action: Action::Read,
-    target: Target::Journal,
-    cause: Cause::ReadsOtherwise,
 };
 
 /// The lock, of either kind, unless a call has failed before: then each further one fails.
@@ -205,6 +198,33 @@ impl<R: Files + Drop> FileDevice<R> {
                 Err(fault)
             }
         }
+    }
+
+    /// Opens the file that has the journal's path once more, as the next process that uses it does, and reads all of it, under
+    /// the lock that this device has. If it is this file, and has the bytes that are believed, later calls go to what was
+    /// opened, and calls that failed before are forgotten. What a crash may leave stays known: nobody else had the lock. After an
+    /// error each further call fails, until one of this method, of `renew` or of `read_again` is `Ok`.
+    pub fn open_again(&mut self) -> Result<(), DeviceError>
+        ensures opened { OnOk result (IsOpenedAgain self.old.belief self.new.belief) }
+        ensures bytes { self.new.belief.bytes ≡ self.old.belief.bytes }
+        ensures crash { Goes Unchanged (history_of self.old.belief) (history_of self.new.belief) }
+        ensures looks { looks_of self.new.belief ≡ looks_of self.old.belief }
+        ensures writes { writes_of self.new.belief ≡ writes_of self.old.belief }
+        ensures works { OnOk result (MayRead self.new.lock self.new.fault) }
+        ensures fails { OnErr result (self.new.fault ≢ None) }
+        ensures faults { TellsFaults self.old.faults self.new.faults result }
+        ensures lock { self.new.lock ≡ self.old.lock }
+        ensures syncs { self.new.disk.syncs ≡ self.old.disk.syncs }
+    {
+        let lock = match some_lock(&self.lock, None) {
+            Ok(lock) => lock,
+            Err(fault) => return Err(self.fail(fault)),
+        };
+        if let Err(fault) = self.disk.open_again(&mut self.belief, lock, self.alloc) {
+            return Err(self.fail(fault));
+        }
+        self.fault = None;
+        Ok(())
     }
 
     /// Gives the lock that it has to the caller.

@@ -1,6 +1,6 @@
 ghost use Rattle.std.specs.Prelude.{◌≡◌, ◌+◌, ◌≤◌, length, IfOk, OnOk};
-ghost use Rattle.line_journal.specs.Device.{UnchangedOr, IsOnDisk, Goes};
-ghost use Rattle.file_journal.specs.Belief.{history_of, IsLooked, IsReplaced};
+ghost use Rattle.line_journal.specs.Device.{Unchanged, UnchangedOr, IsOnDisk, Goes};
+ghost use Rattle.file_journal.specs.Belief.{history_of, IsLooked, IsOpenedAgain, IsReplaced};
 ghost use Rattle.file_journal.specs.Calls.{IsSynced};
 ghost use Rattle.file_journal.specs.Counts.{looks_of, writes_of};
 ghost use Rattle.file_journal.specs.Renewed.{IsRenewedTo};
@@ -69,7 +69,7 @@ fn open_names<R: Files>(
 }
 
 /// Opens a journal's file, to read and to write.
-fn open_file<R: Files>(rt: &R, path: &str) -> Result<R::File, FileFault> {
+pub(crate) fn open_file<R: Files>(rt: &R, path: &str) -> Result<R::File, FileFault> {
     let opened = File::options().read(true).write(true).open(rt, path);
     let file = opened.map_err(|error| FileFault::of(Action::Open, Target::Journal, &error))?;
     let known = file.metadata();
@@ -83,6 +83,15 @@ fn open_file<R: Files>(rt: &R, path: &str) -> Result<R::File, FileFault> {
             cause: Cause::NoFile,
         })
     }
+}
+
+/// Whether a file that was opened is this one.
+pub(crate) fn is_same_file<F: OpenFile>(opened: &F, file: &F) -> Result<bool, FileFault> {
+    let opened = opened.metadata();
+    let opened = opened.map_err(|error| FileFault::of(Action::Open, Target::Journal, &error))?;
+    let known = file.metadata();
+    let known = known.map_err(|error| FileFault::of(Action::Open, Target::Journal, &error))?;
+    Ok(opened.dev() == known.dev() && opened.ino() == known.ino())
 }
 
 /// A journal's file in its folder.
@@ -138,6 +147,26 @@ impl<R: Files + Drop> DiskFile<R> {
         }
         self.file = open_file(&self.rt, self.paths.journal.as_str())?;
         belief.look_at_other(&mut self.file, lock, alloc, kept)
+    }
+
+    /// Opens the file once more, and reads all of it. Later calls go to what was opened. An error if another file has the
+    /// journal's path now, or it has other bytes than are believed.
+    pub(crate) fn open_again(
+        &mut self,
+        belief: &mut Belief,
+        lock: &FolderLock,
+        alloc: Global,
+    ) -> Result<(), FileFault>
+        ensures opened { OnOk result (IsOpenedAgain belief.old belief.new) }
+        ensures bytes { belief.new.bytes ≡ belief.old.bytes }
+        ensures crash { Goes Unchanged (history_of belief.old) (history_of belief.new) }
+        ensures looks { looks_of belief.new ≡ looks_of belief.old }
+        ensures writes { writes_of belief.new ≡ writes_of belief.old }
+        ensures syncs { self.new.syncs ≡ self.old.syncs }
+    {
+        let path = self.paths.journal.as_str();
+        self.file = belief.open_again(&self.rt, path, &self.file, lock, alloc)?;
+        Ok(())
     }
 
     /// Writes a new file, with the owner and the rights of the one that is there, and brings it to the disk, also where nothing

@@ -122,6 +122,13 @@ pub struct FileFault {
     pub cause: Cause,
 }
 
+/// The fault of a file that others wrote to, or that lost what was written.
+pub(crate) const READS_OTHERWISE: FileFault = FileFault {
+    action: Action::Read,
+    target: Target::Journal,
+    cause: Cause::ReadsOtherwise,
+};
+
 impl FileFault {
     /// What failed, by the error of the system.
     pub fn of(action: Action, target: Target, error: &io::Error) -> Self
