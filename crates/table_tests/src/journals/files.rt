@@ -131,6 +131,27 @@ fn is_reported(rt: &HostRuntime, folder: &str) -> Result<bool, Fail> {
     reports(rt, folder, &mut device)
 }
 
+/// Whether a file is opened once more as long as it has the bytes of before, and again when it has them again.
+fn is_opened_again(rt: &HostRuntime, folder: &str) -> Result<bool, Fail> {
+    begin_in(rt, folder)?;
+    let mut device = device_in(rt, folder, Syncs::Kept)?;
+    let is_same = device.open_again().is_ok();
+    write(rt, folder, "+other\n ")?;
+    let is_other = device.open_again().is_err() && look(rt.alloc(), &mut device).is_err();
+    write(rt, folder, "+get web17 overlay\n ")?;
+    Ok(is_same && is_other && device.open_again().is_ok())
+}
+
+/// Whether another file of the same bytes is not opened for the one that was there.
+fn is_not_opened_for_another(rt: &HostRuntime, folder: &str) -> Result<bool, Fail> {
+    let mut device = new_device(rt, folder)?;
+    let path = format!(in rt.alloc(); "{folder}/journal")?;
+    fs::remove_file(rt, path.as_str())?;
+    let is_missed = device.open_again().is_err();
+    write(rt, folder, "")?;
+    Ok(is_missed && device.open_again().is_err())
+}
+
 /// What a device finds when its turn begins.
 fn renewed(rt: &HostRuntime, folder: &str, device: &mut Disk<'_>) -> Result<Renewed, Fail> {
     let turn = FolderLock::acquire(rt, rt.alloc(), folder, LockKind::Exclusive, 0)?;
@@ -261,6 +282,8 @@ enum Course {
     Locked,
     Unlocked,
     Followed,
+    OpenedAgain,
+    Another,
 }
 
 /// What is done in a folder, and the folder's name.
@@ -273,11 +296,13 @@ static COURSES: [(&str, Course); 5] = [
 ];
 
 /// The same of what looks for a refusal, which may be one that memory ran out.
-static REFUSALS: [(&str, Course); 4] = [
+static REFUSALS: [(&str, Course); 6] = [
     ("other", Course::Reported),
     ("refused", Course::Refused),
     ("lock", Course::Locked),
     ("unlocked", Course::Unlocked),
+    ("again", Course::OpenedAgain),
+    ("another", Course::Another),
 ];
 
 /// Whether it goes as it ought to.
@@ -292,6 +317,8 @@ fn goes_well(rt: &HostRuntime, folder: &str, course: &Course) -> Result<bool, Fa
         Course::Unlocked => needs_its_lock(rt, folder),
         Course::Locked => Ok(is_shared(rt, folder)),
         Course::Followed => super::following::is_followed(rt, folder),
+        Course::OpenedAgain => is_opened_again(rt, folder),
+        Course::Another => is_not_opened_for_another(rt, folder),
     }
 }
 
