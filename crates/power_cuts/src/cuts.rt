@@ -44,7 +44,7 @@ pub struct PowerCuts<'a> {
 }
 
 /// Steps as clauses see them.
-fn noted_steps(asked: &[Step]) -> Log<Step>
+pub fn noted_steps(asked: &[Step]) -> Log<Step>
     ensures { noted result ≡ asked.now }
 {
     let mut steps = Log::new();

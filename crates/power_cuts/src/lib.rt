@@ -10,7 +10,8 @@ mod state;
 #[cfg(test)]
 mod tests;
 
-pub use cuts::PowerCuts;
+pub use cuts::{PowerCuts, noted_steps};
 pub use disk::MemoryDisk;
 pub use life::{End, Life};
+pub use log::Log;
 pub use running::run_with_power_cuts;

@@ -14,14 +14,14 @@ impl<T> Log<T> {
     ghost use Rattle.power_cuts.specs.Log.{noted};
 
     /// Nothing is noted yet.
-    pub(crate) fn new() -> Self
+    pub fn new() -> Self
         ensures { noted result ≡ [] }
     {
         Log::Empty
     }
 
     /// Notes a value.
-    pub(crate) fn note(&mut self, value: &T)
+    pub fn note(&mut self, value: &T)
         ensures { noted self.new ≡ noted self.old ++ value.now ∷ [] }
     {
         *self = Log::More(Snapshot::of(self), Snapshot::of(value));

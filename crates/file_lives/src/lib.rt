@@ -1,0 +1,13 @@
+//! Processes that use a table one after another, over a file of the system which each of them opens anew.
+#![tactic(auto)]
+
+mod life;
+mod lives;
+mod making;
+mod running;
+#[cfg(test)]
+mod tests;
+
+pub use life::Life;
+pub use lives::FileLives;
+pub use running::run_over_files;
