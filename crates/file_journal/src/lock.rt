@@ -106,6 +106,20 @@ fn has_path<R: Files<File = File>>(rt: &R, file: &File, path: &str) -> io::Resul
     }
 }
 
+/// How long one pauses who has waited so long. Who has waited longer tries more often, and so is likely to be the next.
+fn pause(waited: Duration) -> Duration {
+    if waited < Duration::from_millis(5) {
+        return Duration::from_millis(1);
+    }
+    Duration::from_micros(match waited.as_millis() / 50 {
+        0 => 10_000,
+        1 => 5_000,
+        2 => 2_500,
+        3 => 1_250,
+        _ => 625,
+    })
+}
+
 /// Tries until the lock is taken, or the time since the start is over.
 fn wait_for<R: Clock>(
     rt: &R,
@@ -118,17 +132,19 @@ fn wait_for<R: Clock>(
         if is_taken(file, kind)? {
             return Ok(true);
         }
-        if start.elapsed(rt)? >= limit {
+        let waited = start.elapsed(rt)?;
+        if waited >= limit {
             break;
         }
-        thread::sleep(rt, Duration::from_millis(10));
+        thread::sleep(rt, pause(waited));
     }
     Ok(false)
 }
 
 impl FolderLock {
-    /// Takes the lock of a folder. If others hold it, it is tried again every 10 milliseconds, for so many seconds. The lock of a
-    /// folder that was moved or removed meanwhile is given back, and that of the one that has its path now is taken.
+    /// Takes the lock of a folder. If others hold it, it is tried again, the more often the longer it is waited for, for so many
+    /// seconds. The lock of a folder that was moved or removed meanwhile is given back, and that of the one that has its path now
+    /// is taken.
     pub fn acquire<R: Files<File = File> + Clock>(
         rt: &R,
         alloc: Global,
