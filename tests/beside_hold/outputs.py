@@ -5,6 +5,8 @@ from dataclasses import dataclass
 
 LOST = "gz-hold: standard output could not be written"
 DONE = f"{LOST}; what was asked was done"
+# A put ends as gz-table, which says it.
+MADE = "gz-table: standard output was not written; changes until then are made: see lsmod and held"
 # How a shell calls gz-hold so that nothing can be written. Descriptor 9 is a pipe that nobody reads.
 OUTPUTS = (">/dev/full", ">&-", ">&9")
 
@@ -26,7 +28,7 @@ UNWRITTEN = [
     Unwritten([], "get one nosuch", LOST, "", ""),
     Unwritten([], "upgrade nosuch", LOST, "", ""),
     Unwritten(["gz-hold get one overlay"], "list", LOST, "overlay", "one overlay 1\n"),
-    Unwritten(["gz-hold get one overlay"], "put one", DONE, "overlay", ""),
+    Unwritten(["gz-hold get one overlay"], "put one", MADE, "overlay", ""),
     Unwritten(["gz-hold get one overlay loop"], "put --remove one", DONE, "", ""),
     Unwritten(["gz-hold get one overlay loop"], "put --all", DONE, "overlay loop", ""),
     Unwritten(["gz-hold get one overlay"], "who overlay", LOST, "overlay", "one overlay 1\n"),

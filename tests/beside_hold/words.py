@@ -87,7 +87,7 @@ NEEDED = {
     "put one": TABLE_NEEDS,
     "who overlay": TABLE_NEEDS,
     "guard overlay": ["awk", "gz-table", "mkdir", "mv", "rm", "tr"],
-    "reap": ["awk", "gz-table", "sed"],
+    "reap": ["awk", "flock", "grep", "gz-table", "sed", "sleep"],
     "list": ["gz-table"],
     "create --if-missing": ["gz-table"],
     "-h": ["cat"],
