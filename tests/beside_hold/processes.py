@@ -22,6 +22,9 @@ MOMENTS = 6
 BANS = {"gz-hold.overlay.conf": "blacklist overlay\ninstall overlay /bin/false\n"}
 DEVICE = "pci:v00001AF4d00001000sv00"
 SIGNALS = (signal.SIGTERM, signal.SIGINT, signal.SIGHUP, signal.SIGQUIT)
+# Words by which root runs others as nobody, and as root from whom processes of nobody can be hidden.
+NOBODY = ["setpriv", "--reuid=65534", "--regid=65534", "--clear-groups"]
+ALMOST_ROOT = ["setpriv", "--regid=65534", "--clear-groups", "--inh-caps=-sys_ptrace,-kill", "--bounding-set=-sys_ptrace,-kill"]
 # A command that makes a file, waits for one, and makes another. It is no shell: that of busybox ignores SIGQUIT.
 COMMAND = """import sys, time
 from pathlib import Path
@@ -80,6 +83,50 @@ def faults_of_holders(machine):
     tries("reap", "", 0, [])
     tries("list", "", 0, [])
     return faults
+
+
+def unshared(*words):
+    """The words by which root runs others within new namespaces. None if that cannot be done here."""
+    return ["unshare", *words] if not subprocess.run(["unshare", *words, "true"], capture_output=True).returncode else None
+
+
+def faults_of_hidden(machine):
+    """A process that /proc hides is none that is gone, also if kill(2) may not reach it."""
+    unseen = unshared("--mount")
+    if unseen is None or subprocess.run([*ALMOST_ROOT, "true"], capture_output=True).returncode:
+        print("not tried: processes that /proc hides, which wants root, unshare and setpriv")
+        return []
+    machine.anew()
+    process = subprocess.Popen([*NOBODY, "sleep", "60"], stdin=subprocess.DEVNULL)
+    until(lambda: Path(f"/proc/{process.pid}").stat().st_uid == 65534)
+    got = machine.hold(f"get pid:{process.pid} loop")
+    held = f"pid:{process.pid}:{fields(process)[19]} loop 1\n"
+    faults = []
+    for hides in ("hidepid=1", "hidepid=2"):
+        hidden = [*unseen, "sh", "-c", f'mount -t proc -o {hides} proc /proc && exec "$@"', "sh", *ALMOST_ROOT]
+        found = (got, machine.call(*hidden, "gz-hold", "reap"), machine.hold("list"))
+        if found != (("ok loop\n", 0, []), ("", 0, []), (held, 0, [])):
+            faults.append(f"reap of a process that /proc hides by {hides}: {found}")
+    process.kill()
+    process.wait()
+    found = machine.call(*hidden, "gz-hold", "reap")
+    return faults + ["reap where /proc hides processes"] * (found != (held.replace("loop 1", "ok"), 0, []))
+
+
+def faults_of_numbers(machine):
+    """Where /proc is that of another pid namespace, no process is named, and none is taken for one that is gone."""
+    within = unshared("--pid", "--fork")
+    if within is None:
+        print("not tried: another pid namespace, which wants root and unshare")
+        return []
+    machine.anew()
+    machine.hold("get pid:1:1 loop")
+    wanted = {"reap": "given back", "get pid:1 loop": "done"}
+    said = "gz-hold: /proc has other numbers of processes than gz-hold, and nothing was {}"
+    found = {words: machine.call(*within, "gz-hold", *words.split()) for words in wanted}
+    wanted = {words: ("", 3, [said.format(end)]) for words, end in wanted.items()}
+    faults = [f"`{words}` in another pid namespace: {found[words]}" for words in wanted if found[words] != wanted[words]]
+    return faults + [it for it in [machine.hold("list")] if it != ("pid:1:1 loop 1\n", 0, [])]
 
 
 def begin_beside(machine, words):
@@ -356,7 +403,8 @@ def faults_of_mend_in_vain(machine):
 
 def faults_of_processes(machine):
     """What is wrong, each as a line."""
-    parts = [faults_of_holders, faults_of_command, faults_of_signals, faults_of_moments, faults_of_killed, faults_of_wait, faults_of_waiting]
+    parts = [faults_of_holders, faults_of_hidden, faults_of_numbers, faults_of_command, faults_of_signals, faults_of_moments]
+    parts += [faults_of_killed, faults_of_wait, faults_of_waiting]
     parts += [faults_of_creates, faults_of_bans, faults_of_bans_left, faults_of_no_bans]
     parts += [faults_of_patience, faults_of_plain_flock, faults_of_turns, faults_of_mend_in_vain]
     return [fault for part in parts for fault in part(machine)]
