@@ -18,7 +18,7 @@ function __gz_hold_commands
         remove\t'Remove modules that nobody uses' upgrade\t'Remove a module, run a command, load it again' \
         guard\t'Let modprobe -r ask the table' reap\t'Give back what dead processes hold' check\t'Compare the table with the kernel' \
         mend\t'Bring the table to the kernel' list\t'List who holds what' \
-        who\t'Show who is in the way of a removal'
+        oci\t'Be the hook of a container runtime' who\t'Show who is in the way of a removal'
 end
 
 # What may follow the words.
@@ -35,7 +35,7 @@ function __gz_hold_follow
             __gz_hold_commands
         case 0get 0put 0run
             __gz_table_ask $folder held
-        case '*get' '*run'
+        case '*get' '*run' '*oci'
             __gz_table_catalogue $folder
         case '*put'
             __gz_table_ask $folder held $words[2]
@@ -60,7 +60,7 @@ end
 complete -c gz-hold -f -a '(__gz_hold_follow)'
 complete -c gz-hold -n 'test (count (__gz_hold_words)) = 0' -s h -l help -d 'Show a help text'
 complete -c gz-hold -n 'test (count (__gz_hold_words)) = 0' -s V -l version -d 'Show the version'
-complete -c gz-hold -n '__gz_hold_at 1 put' -l remove -d 'Remove what nobody holds then'
+complete -c gz-hold -n '__gz_hold_at 1 put oci' -l remove -d 'Remove what nobody holds then'
 complete -c gz-hold -n '__gz_hold_at 1 create' -l if-missing -d 'Leave one that is there'
 complete -c gz-hold -n '__gz_hold_at 1 put' -l all -d 'Give back all of all'
 complete -c gz-hold -n '__gz_hold_at 1 guard' -l off -d 'Let it ask no longer'
