@@ -39,7 +39,18 @@ STEPS = [
     Step("gz-hold put web18 overlay", "error NOTHELD overlay\n", 15, "llc stp bridge br_netfilter overlay loop"),
     Step("gz-hold remove overlay", "ok\n", 0, "llc stp bridge br_netfilter loop"),
     Step("gz-hold put --remove web18", "ok\n", 0, "llc stp bridge br_netfilter"),
-    Step("gz-hold put --remove web17", "ok\n", 0, "llc stp bridge"),
+    # With what it needed and nobody needs any more, but for what somebody holds or the kernel uses itself.
+    Step("gz-hold put --remove web17", "ok\n", 0, ""),
+    Step("gz-hold get web17 br-netfilter", "ok br_netfilter\n", 0, "llc stp bridge br_netfilter"),
+    Step("gz-hold get web18 stp", "ok stp\n", 0, "llc stp bridge br_netfilter"),
+    Step("gz-hold put --remove web17", "ok\n", 0, "llc stp"),
+    Step("gz-hold get web17 br-netfilter bridge", "ok br_netfilter bridge\n", 0, "llc stp bridge br_netfilter"),
+    Step("gz-hold put --remove web18", "ok\n", 0, "llc stp bridge br_netfilter"),
+    Step("gz-hold put --remove web17 br_netfilter", "ok\n", 0, "llc stp bridge"),
+    Step("sh -c STP_USED", "", 0, "llc stp bridge"),
+    Step("gz-hold put --remove web17", "ok\n", 0, "llc stp"),
+    Step("sh -c STP_UNUSED", "", 0, "llc stp"),
+    Step("gz-hold get web17 bridge", "ok bridge\n", 0, "llc stp bridge"),
     Step("gz-hold put web17", "ok\n", 0, "llc stp bridge"),
     # It is held for a command's life, whose status is that of gz-hold.
     Step("gz-hold run job overlay loop -- gz-hold list", "job overlay 1\njob loop 1\n", 0, "llc stp bridge overlay loop"),
@@ -156,6 +167,8 @@ STEPS = [
 # What the steps have a shell do, with the file that plays /proc/modules.
 COMMANDS = {
     "USED": "echo loop >{}.used",
+    "STP_USED": "sed -i '/^stp /s/16384 0/16384 1/' {}",
+    "STP_UNUSED": "sed -i s/16384.1/16384\\ 0/ {}",
     "UNLOADING": "sed -i '/^loop /s/Live/Unloading/' {}",
     "LIVE": "sed -i s/Unloading/Live/ {}",
     "REFUSED": "echo overlay >{}.refused",
