@@ -7,6 +7,8 @@ function __gz_hold_words
     switch "$words[1..2]"
         case 'put --remove'
             set words put $words[3..]
+        case 'who --json'
+            set words who $words[3..]
         case 'upgrade --wait'
             set words upgrade $words[4..]
     end
@@ -61,6 +63,7 @@ complete -c gz-hold -f -a '(__gz_hold_follow)'
 complete -c gz-hold -n 'test (count (__gz_hold_words)) = 0' -s h -l help -d 'Show a help text'
 complete -c gz-hold -n 'test (count (__gz_hold_words)) = 0' -s V -l version -d 'Show the version'
 complete -c gz-hold -n '__gz_hold_at 1 put oci' -l remove -d 'Remove what nobody holds then'
+complete -c gz-hold -n '__gz_hold_at 1 check list who' -l json -d 'Write JSON, an object a line'
 complete -c gz-hold -n '__gz_hold_at 1 create' -l if-missing -d 'Leave one that is there'
 complete -c gz-hold -n '__gz_hold_at 1 put' -l all -d 'Give back all of all'
 complete -c gz-hold -n '__gz_hold_at 1 guard' -l off -d 'Let it ask no longer'

@@ -1,5 +1,6 @@
 """Others that remove at the same moment, modules that only the kernel knows, and what a command gets of its caller."""
 
+import json
 import os
 import re
 from contextlib import contextmanager
@@ -116,6 +117,8 @@ def faults_of_who(machine):
         "who llc": "needed stp\nkernel Live 2 stp bridge\n",
         "who loop": "kernel Unloading 0\n",
     }
+    users = {"module": "llc", "held": [], "needed": ["stp"], "kernel": "Live", "uses": 2, "users": ["stp", "bridge"]}
+    wanted["who --json llc"] = json.dumps(users, separators=(",", ":")) + "\n"
     found = {words: machine.hold(words) for words in wanted}
     return [f"`{words}`: {found[words]}" for words in wanted if found[words] != (wanted[words], 0, [])]
 

@@ -1,5 +1,6 @@
 """Steps: each is one call of gz-hold, and what it must do."""
 
+import json
 from dataclasses import dataclass
 
 from beside_hold.machine import VERSION
@@ -15,6 +16,13 @@ class Step:
     there: str
 
 
+# Objects that are written, an object a line.
+WHO_STP = '{"module":"stp","held":[],"needed":["br_netfilter","bridge"],"kernel":"Live","uses":0,"users":[]}\n'
+WHO_NETFILTER = '{"module":"br_netfilter","held":[{"holder":"web18","count":1}],"needed":[],"kernel":"Live","uses":0,"users":[]}\n'
+WHO_SOFT = '{"module":"soft","held":[],"needed":[],"kernel":"Absent","users":[]}\n'
+CHECK = '{"module":"installed","table":"Absent","kernel":"Live"}\n'
+HELD = [("web18", "overlay"), ("web18", "br_netfilter"), ('a"b\\c', "loop")]
+LIST = "".join(json.dumps({"holder": holder, "module": module, "count": 1}, separators=(",", ":")) + "\n" for holder, module in HELD)
 STEPS = [
     Step("gz-hold check", "", 2, ""),
     Step("gz-hold mend", "", 2, ""),
@@ -153,6 +161,18 @@ STEPS = [
     Step("gz-hold who stp", "needed br_netfilter\nneeded bridge\nkernel Live 0\n", 0, "llc stp bridge loop overlay br_netfilter"),
     Step("gz-hold who br-netfilter", "held web18 1\nkernel Live 0\n", 0, "llc stp bridge loop overlay br_netfilter"),
     Step("gz-hold who soft", "kernel Absent\n", 0, "llc stp bridge loop overlay br_netfilter"),
+    # The same as objects.
+    Step("gz-hold who --json stp", WHO_STP, 0, "llc stp bridge loop overlay br_netfilter"),
+    Step("gz-hold who --json br-netfilter", WHO_NETFILTER, 0, "llc stp bridge loop overlay br_netfilter"),
+    Step("gz-hold who --json soft", WHO_SOFT, 0, "llc stp bridge loop overlay br_netfilter"),
+    Step("gz-hold who --json nosuch", "error ENOENT nosuch\n", 10, "llc stp bridge loop overlay br_netfilter"),
+    Step('gz-hold get a"b\\c loop', "ok loop\n", 0, "llc stp bridge loop overlay br_netfilter"),
+    Step("gz-hold list --json", LIST, 0, "llc stp bridge loop overlay br_netfilter"),
+    Step('gz-hold put a"b\\c', "ok\n", 0, "llc stp bridge loop overlay br_netfilter"),
+    Step("gz-hold check --json", "", 0, "llc stp bridge loop overlay br_netfilter"),
+    Step("insmod installed.ko", "", 0, "llc stp bridge loop overlay br_netfilter installed"),
+    Step("gz-hold check --json", CHECK, 1, "llc stp bridge loop overlay br_netfilter installed"),
+    Step("rmmod installed", "", 0, "llc stp bridge loop overlay br_netfilter"),
     Step("gz-hold who nosuch", "error ENOENT nosuch\n", 10, "llc stp bridge loop overlay br_netfilter"),
     # All is given back.
     Step("gz-hold get web19 overlay", "ok overlay\n", 0, "llc stp bridge loop overlay br_netfilter"),
