@@ -9,6 +9,8 @@ function __gz_hold_words
             set words put $words[3..]
         case 'who --json'
             set words who $words[3..]
+        case 'wait --live'
+            set words live $words[3..]
         case 'upgrade --wait'
             set words upgrade $words[4..]
     end
@@ -20,7 +22,8 @@ function __gz_hold_commands
         remove\t'Remove modules that nobody uses' upgrade\t'Remove a module, run a command, load it again' \
         guard\t'Let modprobe -r ask the table' reap\t'Give back what dead processes hold' check\t'Compare the table with the kernel' \
         mend\t'Bring the table to the kernel' list\t'List who holds what' \
-        oci\t'Be the hook of a container runtime' who\t'Show who is in the way of a removal'
+        oci\t'Be the hook of a container runtime' who\t'Show who is in the way of a removal' \
+        wait\t'Wait until a module is free, or live'
 end
 
 # What may follow the words.
@@ -37,11 +40,11 @@ function __gz_hold_follow
             __gz_hold_commands
         case 0get 0put 0run
             __gz_table_ask $folder held
-        case '*get' '*run' '*oci'
+        case '*get' '*run' '*oci' 0live
             __gz_table_catalogue $folder
         case '*put'
             __gz_table_ask $folder held $words[2]
-        case '*remove' 0upgrade '*guard' 0who
+        case '*remove' 0upgrade '*guard' 0who 0wait
             __gz_table_ask $folder proc
     end
 end
@@ -64,6 +67,7 @@ complete -c gz-hold -n 'test (count (__gz_hold_words)) = 0' -s h -l help -d 'Sho
 complete -c gz-hold -n 'test (count (__gz_hold_words)) = 0' -s V -l version -d 'Show the version'
 complete -c gz-hold -n '__gz_hold_at 1 put oci' -l remove -d 'Remove what nobody holds then'
 complete -c gz-hold -n '__gz_hold_at 1 check list who' -l json -d 'Write JSON, an object a line'
+complete -c gz-hold -n '__gz_hold_at 1 wait' -l live -d 'Until it is live'
 complete -c gz-hold -n '__gz_hold_at 1 create' -l if-missing -d 'Leave one that is there'
 complete -c gz-hold -n '__gz_hold_at 1 put' -l all -d 'Give back all of all'
 complete -c gz-hold -n '__gz_hold_at 1 guard' -l off -d 'Let it ask no longer'
