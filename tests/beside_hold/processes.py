@@ -129,6 +129,36 @@ def faults_of_numbers(machine):
     return faults + [it for it in [machine.hold("list")] if it != ("pid:1:1 loop 1\n", 0, [])]
 
 
+def faults_of_namespaces(machine):
+    """In another pid namespace with a /proc of its own, processes that were named elsewhere are not taken for gone."""
+    within = unshared("--pid", "--fork", "--mount-proc")
+    if within is None:
+        print("not tried: another pid namespace with its own /proc, which wants root and unshare")
+        return []
+    machine.anew()
+    own = f"pid:{os.getpid()}"
+    held = f"{own}:{Path('/proc/self/stat').read_text().rpartition(') ')[2].split()[19]} loop 1\n"
+    elsewhere = "gz-hold: processes that hold were named in another pid namespace, where numbers are others, and nothing was given back"
+    others = "gz-hold: processes of another pid namespace hold modules, whose numbers are others, and nothing was done"
+    steps = [
+        ([], f"get {own} loop", ("ok loop\n", 0, [])),
+        (within, "reap", ("", 3, [elsewhere])),
+        (within, "get pid:1 overlay", ("", 3, [others])),
+        (within, "get web17 overlay", ("ok overlay\n", 0, [])),
+        ([], "list", (f"{held}web17 overlay 1\n", 0, [])),
+        ([], "reap", ("", 0, [])),
+        ([], f"put {own}", ("ok\n", 0, [])),
+        # Once none of them holds, others may be named.
+        (within, "get pid:1 overlay", ("ok overlay\n", 0, [])),
+        ([], "reap", ("", 3, [elsewhere])),
+        ([], "put --all", None),
+        ([], f"get {own} loop", ("ok loop\n", 0, [])),
+        ([], "reap", ("", 0, [])),
+    ]
+    found = [(words, wanted, machine.call(*front, "gz-hold", *words.split())) for front, words, wanted in steps]
+    return [f"in two pid namespaces, `{words}`: {it}" for words, wanted, it in found if wanted not in (None, it)]
+
+
 def begin_beside(machine, words):
     """A call of gz-hold that runs beside, with a group of its own."""
     how = {"stdin": subprocess.DEVNULL, "stdout": subprocess.DEVNULL, "stderr": subprocess.DEVNULL}
@@ -403,7 +433,7 @@ def faults_of_mend_in_vain(machine):
 
 def faults_of_processes(machine):
     """What is wrong, each as a line."""
-    parts = [faults_of_holders, faults_of_hidden, faults_of_numbers, faults_of_command, faults_of_signals, faults_of_moments]
+    parts = [faults_of_holders, faults_of_hidden, faults_of_numbers, faults_of_namespaces, faults_of_command, faults_of_signals, faults_of_moments]
     parts += [faults_of_killed, faults_of_wait, faults_of_waiting]
     parts += [faults_of_creates, faults_of_bans, faults_of_bans_left, faults_of_no_bans]
     parts += [faults_of_patience, faults_of_plain_flock, faults_of_turns, faults_of_mend_in_vain]
