@@ -19,6 +19,7 @@ end
 
 function __gz_hold_commands
     printf '%s\n' create\t'Make the table' get\t'Load modules and hold them' put\t'Give modules back' run\t'Hold modules while a command runs' \
+        keep\t'Hold modules until standard input ends' \
         remove\t'Remove modules that nobody uses' upgrade\t'Remove a module, run a command, load it again' \
         guard\t'Let modprobe -r ask the table' reap\t'Give back what dead processes hold' check\t'Compare the table with the kernel' \
         mend\t'Bring the table to the kernel' list\t'List who holds what' \
@@ -40,7 +41,7 @@ function __gz_hold_follow
             __gz_hold_commands
         case 0get 0put 0run
             __gz_table_ask $folder held
-        case '*get' '*run' '*oci' 0live
+        case '*get' '*run' '*keep' '*oci' 0live
             __gz_table_catalogue $folder
         case '*put'
             __gz_table_ask $folder held $words[2]

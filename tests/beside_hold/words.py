@@ -60,6 +60,8 @@ REFUSED = [
     Refused("list --json overlay", 2, "", ["list takes no words; gz-hold --help says more"]),
     Refused("mend --json", 2, "", ["mend takes no words; gz-hold --help says more"]),
     Refused("who --json", 2, "", ["who takes a name; gz-hold --help says more"]),
+    Refused("keep", 2, "", ["keep takes names; gz-hold --help says more"]),
+    Refused("keep -x", 2, "", ["-x is no name: a name does not begin with -"]),
     Refused("wait", 2, "", ["wait takes a name, and perhaps a number of seconds; gz-hold --help says more"]),
     Refused("wait --live", 2, "", ["wait takes a name, and perhaps a number of seconds; gz-hold --help says more"]),
     Refused("wait overlay 1.5", 2, "", [f"wait takes {SECONDS}; gz-hold --help says more"]),

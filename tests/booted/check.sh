@@ -25,6 +25,16 @@ say systemctl start short
 say gz-hold list
 wait_for gz-held@short inactive
 say gz-hold list
+# A process that is killed holds nothing after the next round of the timer.
+sleep 600 &
+gz-hold get pid:$! nvme
+say systemctl start gz-reap.timer
+systemctl start gz-reap
+gz-hold list | sed 's/pid:[0-9]*:[0-9]*/pid:PID:START/'
+kill -KILL $!
+wait $! 2>/dev/null
+say systemctl start gz-reap
+say gz-hold list
 # A unit whose modules are not there does not start.
 say systemctl start unknown
 say systemctl is-active unknown
