@@ -23,7 +23,7 @@ function __gz_hold_commands
         remove\t'Remove modules that nobody uses' upgrade\t'Remove a module, run a command, load it again' \
         guard\t'Let modprobe -r ask the table' reap\t'Give back what dead processes hold' check\t'Compare the table with the kernel' \
         mend\t'Bring the table to the kernel' list\t'List who holds what' \
-        oci\t'Be the hook of a container runtime' who\t'Show who is in the way of a removal' \
+        log\t'Show who asked for what' oci\t'Be the hook of a container runtime' who\t'Show who is in the way of a removal' \
         wait\t'Wait until a module is free, or live'
 end
 
@@ -70,6 +70,7 @@ complete -c gz-hold -n '__gz_hold_at 1 put oci' -l remove -d 'Remove what nobody
 complete -c gz-hold -n '__gz_hold_at 1 check list who' -l json -d 'Write JSON, an object a line'
 complete -c gz-hold -n '__gz_hold_at 1 wait' -l live -d 'Until it is live'
 complete -c gz-hold -n '__gz_hold_at 1 create' -l if-missing -d 'Leave one that is there'
+complete -c gz-hold -n '__gz_hold_at 1 create' -l log -d 'Note who asks for what'
 complete -c gz-hold -n '__gz_hold_at 1 put' -l all -d 'Give back all of all'
 complete -c gz-hold -n '__gz_hold_at 1 guard' -l off -d 'Let it ask no longer'
 complete -c gz-hold -n '__gz_hold_at 1 upgrade' -l wait -x -d 'How long it is tried'
