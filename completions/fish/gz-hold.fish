@@ -13,6 +13,8 @@ function __gz_hold_words
             set words live $words[3..]
         case 'upgrade --wait'
             set words upgrade $words[4..]
+        case 'upgrade --drain'
+            set words upgrade $words[3..]
     end
     set -q words[1]; and printf '%s\n' $words
 end
@@ -74,4 +76,5 @@ complete -c gz-hold -n '__gz_hold_at 1 create' -l log -d 'Note who asks for what
 complete -c gz-hold -n '__gz_hold_at 1 put' -l all -d 'Give back all of all'
 complete -c gz-hold -n '__gz_hold_at 1 guard' -l off -d 'Let it ask no longer'
 complete -c gz-hold -n '__gz_hold_at 1 upgrade' -l wait -x -d 'How long it is tried'
+complete -c gz-hold -n '__gz_hold_at 1 upgrade' -l drain -d 'Let nobody else get it'
 complete -c gz-hold -n '__gz_hold_ends' -a -- -d 'The command follows'
