@@ -5,7 +5,7 @@ import os
 import re
 from contextlib import contextmanager
 
-from beside_hold.machine import GZ_HOLD, STAND_INS
+from beside_hold.machine import GZ_HOLD, STAND_INS, VERSION
 
 # How often a need is taken away: more often than gz-hold tries at the least.
 TAKEN_AWAY = 4
@@ -13,6 +13,7 @@ ODD = "a\n'b' \"c\" $d `e` \\ *\n"
 # Where a script assigns a variable.
 ASSIGNED = re.compile(r"(?:^|[\s;({])([a-z_]+)=|\bfor ([a-z_]+)\b")
 LOADED = "gz-hold: others have loaded {} meanwhile, perhaps from the old file"
+NEWER = "gz-hold: newer is a module of the machine, and not of the table, which was made before: make it anew once nobody holds anything"
 KERNEL_ALONE = "gz-hold: the kernel alone has stp; gz-hold mend tells the table"
 
 
@@ -139,7 +140,19 @@ def faults_of_environment(machine):
     return faults + ["without outputs, a command's variable was changed"] * (file.read_text() != "given\n")
 
 
+def faults_of_newer(machine):
+    """A module that came to the machine after its table was made is refused, and it is said why."""
+    machine.anew()
+    texts = machine.room / f"lib/modules/{VERSION}/modules.dep"
+    before = texts.read_text()
+    texts.write_text(before + "kernel/fs/newer.ko: kernel/fs/overlay.ko\n")
+    found = machine.hold("get web17 overlay newer nosuch"), machine.hold("get web17 nosuch"), machine.hold("list")
+    texts.write_text(before)
+    wanted = (("error ENOENT newer\n", 10, [NEWER]), ("error ENOENT nosuch\n", 10, []), ("", 0, []))
+    return [] if found == wanted else [f"a module that is newer than the table: {found}"]
+
+
 def faults_of_others(machine):
     """What is wrong, each as a line."""
-    parts = [faults_of_needs, faults_of_slow_tries, faults_of_kernel_alone, faults_of_loaded, faults_of_who, faults_of_environment]
+    parts = [faults_of_needs, faults_of_slow_tries, faults_of_kernel_alone, faults_of_loaded, faults_of_newer, faults_of_who, faults_of_environment]
     return [fault for part in parts for fault in part(machine)]
