@@ -43,7 +43,7 @@ def faults_of_logs(machine):
     text, status, errors = machine.hold("log")
     lines = [re.fullmatch(r"[0-9]{4}(?:-[0-9]{2}){2}T[0-9]{2}(?::[0-9]{2}){2}Z \S+ .+\[([0-9]+)\] (.*)", it) for it in text.splitlines()]
     found = [it[2] for it in lines if it]
-    wanted = [f"{words}{end}" for words, end in CALLS.items()] + ["get odd?name loop: 2"]
+    wanted = [f"{words.split(' -- ')[0]}{end}" for words, end in CALLS.items()] + ["get odd?name loop: 2"]
     if (len(found), found, status, errors) != (len(lines), wanted, 0, []) or {int(it[1]) for it in lines if it} != {os.getpid()}:
         faults.append(f"the log has {text}")
     # A long one is begun anew, and the one before is kept.
