@@ -7,6 +7,10 @@ use Rattle.table_setup.specs.Sums.{adler32}
 abbrev pub last_line : ℕ → List ℕ → List ℕ
 last_line long word = codes "%end " ++ decimal long ++ codes " " ++ word ++ codes "\n"
 
+-- the name of a setup: how long its text is and its sum, as its last line has them, with a colon between them
+abbrev pub name_of : List ℕ → ℕ → List ℕ
+name_of text sum = decimal (length text) ++ codes ":" ++ decimal sum
+
 -- the text with its last line
 abbrev pub sealed : List ℕ → List ℕ
 sealed text = text ++ last_line (length text) (decimal (adler32 text))

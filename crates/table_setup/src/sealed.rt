@@ -1,12 +1,12 @@
 //! A text with a last line that says how long it is, and its sum.
 ghost use Rattle.std.specs.Prelude.{◌≡◌, ◌≢◌, ℕ, ◌==◌, ◌++◌, List, decimal, OnOk, IfNone, IfOk, IfSome, MatchOption};
-ghost use Rattle.table_setup.specs.Sealed.{IsSealed, last_line, sealed};
+ghost use Rattle.table_setup.specs.Sealed.{IsSealed, last_line, name_of, sealed};
 ghost use Rattle.table_setup.specs.Sums.{adler32};
 
 use crate::sums::adler32;
 use itoa::Buffer;
 use memchr::memrchr;
-use std::alloc::AllocError;
+use std::alloc::{AllocError, Global};
 use text_parts::number_within;
 
 /// A text, and the sum that its last line tells.
@@ -65,6 +65,18 @@ impl<'a> Sealed<'a> {
         ensures { result ≡ (adler32 self.now.text.now == self.now.sum) }
     {
         adler32(self.text) as u64 == self.sum
+    }
+
+    /// The name of the setup: how long the text is, and the sum that was written behind it, with a colon between them. It computes
+    /// no sum, and fails only if memory runs out.
+    pub fn name(&self, alloc: Global) -> Result<Vec<u8>, AllocError>
+        ensures { IfOk result (λ name. name.items ≡ name_of self.now.text.now self.now.sum) }
+    {
+        let mut name = Vec::new(alloc);
+        push_number(&mut name, self.text.len() as u64)?;
+        name.push(b':')?;
+        push_number(&mut name, self.sum)?;
+        Ok(name)
     }
 }
 
