@@ -1,5 +1,5 @@
 pub mod ChainLemmas
-mod CommandLemmas
+pub mod CommandLemmas
 mod TableLemmas
 mod MomentLemmas
 pub mod KeptLemmas

@@ -5,7 +5,6 @@ use Rattle.std.specs.declared.alloc.Global.{Global}
 use Rattle.std.proofs.lemmas.List.{length-append, drop_more}
 use Rattle.line_journal.specs.Lines.{bytes_of, open_text}
 use Rattle.durable_table.specs.Seals.{front, seal, link_of, chain}
-use Rattle.durable_table.specs.Commands.{head}
 use Rattle.durable_table.proofs.ChainLemmas.{front_length}
 
 pub sealed_size : (link command : List ℕ) (rest : List (List ℕ)) → length (open_text (seal link command ∷ rest)) ≡ 19 + length command + length (open_text rest)
@@ -34,10 +33,10 @@ room_less size rest room fits = grind (arith, fits)
 pub no_room : (size rest room : ℕ) → room ≤ size → nat_lt (size + rest) room ≡ false
 no_room size rest room less = grind (arith, less)
 
-head_length : length head ≡ 23
-unfolding head
-head_length = refl
-
 -- the size of a journal of these lines behind its first
-pub size_behind : (rest : List (List ℕ)) → length (open_text (head ∷ rest)) ≡ 25 + length (open_text rest)
-size_behind rest = omega (arith, length-append head (10 ∷ open_text rest), head_length)
+pub size_behind : (first : List ℕ) (rest : List (List ℕ)) → length (open_text (first ∷ rest)) ≡ length first + 2 + length (open_text rest)
+size_behind first rest = omega (arith, length-append first (10 ∷ open_text rest))
+
+-- the size of the lines of commands is that of a chain that begins with no link
+pub any_link : (link : List ℕ) (commands : List (List ℕ)) → length (open_text (chain link commands)) ≡ length (open_text (chain [] commands))
+any_link link commands = same_size link [] commands

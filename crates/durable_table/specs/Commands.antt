@@ -1,6 +1,7 @@
 -- The first line of a journal, and the commands of the others.
-use Rattle.std.specs.Prelude.{ℕ, ◌+◌, Bool, true, false, not, nat_lt, nat_eq, ◌==◌, ◌&&◌, if◌then◌else◌, List, [], ◌∷◌, length, map, drop, codes, Option, Some, None}
+use Rattle.std.specs.Prelude.{◌≡◌, ℕ, ◌+◌, Bool, true, false, not, nat_lt, nat_eq, ◌==◌, ◌&&◌, ◌||◌, if◌then◌else◌, List, [], ◌∷◌, ◌++◌, length, map, drop, codes, Option, Some, None}
 use Rattle.std.specs.List.{list_any, starts_with, before_first, after_first}
+use Rattle.std.specs.Str.{bytes_eq}
 use Rattle.durable_table.specs.Seals.{is_sealed, are_sealed, link_of, last_link}
 
 -- how the first line of a journal begins: its format and version
@@ -22,9 +23,37 @@ are_two_words text = is_word (before_first is_space text) && is_word (after_firs
 abbrev pub is_head : List ℕ → Bool
 is_head line = starts_with nat_eq line title && are_two_words (drop 20 line)
 
--- the first line of a new journal
-unfoldable pub head : List ℕ
-head = codes "gourzhiel journal 2 - -"
+-- a word that names no setup
+unfoldable pub no_name : List ℕ
+no_name = codes "-"
+
+abbrev pub is_feed : ℕ → Bool
+is_feed byte = byte == 10
+
+-- the name of a setup as it stands on a first line: one that is no word of a line is none
+abbrev pub named : List ℕ → List ℕ
+named name = if is_word name && not (list_any is_feed name) then name else no_name
+
+-- the first line of a new journal of the setup of this name
+abbrev pub head : List ℕ → List ℕ
+head name = title ++ named name ++ codes " -"
+
+-- the setup that a first line names
+abbrev pub setup_named : List ℕ → List ℕ
+setup_named line = before_first is_space (drop 20 line)
+
+-- two names are of one setup, as far as they tell: they are the same, or one of them is none
+abbrev pub are_one : List ℕ → List ℕ → Bool
+are_one name other = bytes_eq name other || bytes_eq name no_name || bytes_eq other no_name
+
+-- the journal of these lines is of the setup of this name, as far as its first line tells
+abbrev pub is_of : List ℕ → List (List ℕ) → Bool
+is_of name [] = false
+is_of name (first ∷ rest) = are_one name (setup_named first)
+
+-- a file is of each setup that another one is of
+abbrev pub StaysOf : List (List ℕ) → List (List ℕ) → Type 0
+StaysOf old new = (name : List ℕ) → is_of name old ≡ true → is_of name new ≡ true
 
 abbrev pub begins_with_head : List (List ℕ) → Bool
 begins_with_head [] = false

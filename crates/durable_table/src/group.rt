@@ -6,7 +6,9 @@ ghost use Rattle.line_journal.specs.Lines.{bytes_of, IsLine, AreLines};
 ghost use Rattle.held_lines.specs.Laws.{KeepsHeld};
 ghost use Rattle.held_lines.specs.Outcomes.{after, held_line_outcome};
 ghost use Rattle.held_lines.specs.Reading.{is_reading};
+ghost use Rattle.line_journal.specs.Journal.{lines_in};
 ghost use Rattle.durable_table.specs.Seals.{seal, last_link};
+ghost use Rattle.durable_table.specs.Commands.{StaysOf};
 ghost use Rattle.durable_table.specs.Durable.{Stands};
 ghost use Rattle.durable_table.specs.Groups.{replies_of, KeepsHeldAlong, AfterFirstOf, AreIdle, AreMade, AreAsking};
 
@@ -90,6 +92,7 @@ impl<'s, D: Device> DurableTable<'s, D> {
         ensures becomes { OnOk result (self.new.session.holders.held
             ≡ after self.old.session.setup.now self.old.session.holders.held (bytes_of lines.now)) }
         ensures stands { OnOk result (Stands D.content D.history self.old.session.setup.now self.new.session.holders.held self.new.journal) }
+        ensures of { OnOk result (StaysOf (lines_in D.content self.old.journal.lines) (lines_in D.content self.new.journal.lines)) }
         ensures idle { IfOk result (λ replies. AreIdle replies.items → self.new.journal ≡ self.old.journal) }
         ensures asking { OnOk result (AreAsking (bytes_of lines.now) → self.new.journal ≡ self.old.journal) }
         ensures unchanged { IsErrOf result PerformError.OutOfMemory → self.new.journal ≡ self.old.journal }

@@ -2,7 +2,9 @@
 ghost use Rattle.std.specs.Prelude.{◌≡◌, ◌<◌, Ok, map, true, IfOk, OnOk};
 ghost use Rattle.line_journal.specs.Device.{Unchanged, Goes, TellsFaults};
 ghost use Rattle.line_journal.specs.Lines.{bytes_of, AreLines};
+ghost use Rattle.line_journal.specs.Journal.{lines_in};
 ghost use Rattle.held_lines.specs.Outcomes.{after};
+ghost use Rattle.durable_table.specs.Commands.{StaysOf};
 ghost use Rattle.durable_table.specs.Durable.{Stands, Reads, ContinuesSealed};
 ghost use Rattle.durable_table.specs.Groups.{replies_of};
 
@@ -32,6 +34,7 @@ impl<'s, D: Renewable> DurableTable<'s, D> {
     pub fn catch_up(&mut self, alloc: Global, turn: D::Turn) -> Result<CaughtUp, DeviceError>
         requires reads { Reads D.content self.old.session.setup.now self.old.session.holders.held self.old.journal }
         ensures reads { result ≡ Ok CaughtUp.Ready → Reads D.content self.old.session.setup.now self.new.session.holders.held self.new.journal }
+        ensures of { result ≡ Ok CaughtUp.Ready → StaysOf (lines_in D.content self.old.journal.lines) (lines_in D.content self.new.journal.lines) }
         ensures anew { result ≡ Ok CaughtUp.Anew → ContinuesSealed (D.content self.old.journal.lines.device) (D.content self.new.journal.lines.device) → ⊥ }
         ensures writes { D.writes self.new.journal.lines.device ≡ D.writes self.old.journal.lines.device }
         ensures looks { OnOk result (D.looks self.old.journal.lines.device < D.looks self.new.journal.lines.device) }

@@ -14,5 +14,6 @@ mod seal;
 pub use chained::Chained;
 pub use compaction::Compacted;
 pub use durable::{DurableTable, PerformError};
+pub use head::NO_NAME;
 pub use kept::CaughtUp;
 pub use opening::{OpenedTable, ReadTable, create, open, open_reading};

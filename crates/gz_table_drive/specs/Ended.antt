@@ -15,7 +15,7 @@ use Rattle.table_folder.specs.declared.folder_setup.FolderSetup.{FolderSetup}
 use Rattle.table_folder.specs.declared.fault.TableFault.TheVariants.{Output}
 use Rattle.gz_table_drive.specs.Counted.{AreCountsWritten}
 use Rattle.gz_table_drive.specs.declared.log.Tenures.{Tenures}
-use Rattle.gz_table_drive.specs.Log.{HasCompacted, HasCreated, HasGrown, HasRepaired}
+use Rattle.gz_table_drive.specs.Log.{HasCompacted, HasCreatedTable, HasGrown, HasRepaired}
 use Rattle.gz_table_drive.specs.Written.{IsWritten, IsInputAnswered, IsInputSent, IsUntouched, IsUnwritten, IsAdoptionWritten}
 
 -- a text is written whole, and the run is done; or the output failed, and has a beginning of it
@@ -62,11 +62,11 @@ IsDone job old new ending = (ending ≡ Done) × (new ≡ old)
 
 -- a journal was written anew, of a table of the setup that some file has
 abbrev pub IsCompacted : Tenures → Tenures → Type 0
-IsCompacted log new_log = (file : List ℕ) × (found : FolderSetup) × IsReadFrom file found × HasCompacted found.setup log new_log
+IsCompacted log new_log = (file : List ℕ) × (found : FolderSetup) × IsReadFrom file found × HasCompacted found.setup found.name.items log new_log
 
 -- what such a job has left, by a tenure of the log
 abbrev pub HasLeft : Job → Tenures → Tenures → Type 0
-HasLeft (create origin mode) log new_log = HasCreated log new_log
+HasLeft (create origin mode) log new_log = HasCreatedTable log new_log
 HasLeft compact log new_log = IsCompacted log new_log
 HasLeft repair log new_log = HasRepaired log new_log
 HasLeft job log new_log = new_log ≡ log

@@ -12,6 +12,7 @@ use Rattle.durable_table.specs.Groups.{replies_of, AreAsking}
 use Rattle.line_journal.specs.Lines.{at_rest, lines_of}
 use Rattle.file_journal.specs.Belief.{history_of}
 use Rattle.file_journal.specs.declared.belief.Belief.{Belief}
+use Rattle.table_folder.specs.Setups.{IsNamed, IsNewSetup}
 use Rattle.gz_table_drive.specs.declared.answering.Replies.{Replies}
 use Rattle.gz_table_drive.specs.declared.log.Tenure.{Tenure}
 use Rattle.gz_table_drive.specs.declared.log.Tenures.{Tenures}
@@ -101,30 +102,38 @@ pub record HasMade (s : Setup) (h : Held) (lines : List (List ℕ)) (log new_log
   pub found : FileStands s h bytes
   pub left : LeavesBehind s h lines [] belief
 
--- One tenure more, over a journal that stands for a table. It left a journal of the lines that make this table, and whatever a crash
--- leaves stands for it.
-pub record HasCompacted (s : Setup) (log new_log : Tenures) : Type 0 where
+-- One tenure more, over a journal that stands for a table. It left a journal of the lines that make this table, of the setup of this
+-- name, and whatever a crash leaves stands for it.
+pub record HasCompacted (s : Setup) (name : List ℕ) (log new_log : Tenures) : Type 0 where
   pub held : Held
   pub bytes : List ℕ
   pub belief : Belief
   pub noted : HasEndedWith bytes belief log new_log
   pub found : FileStands s held bytes
-  pub lines : lines_of belief.bytes.items ≡ compacted s held
+  pub lines : lines_of belief.bytes.items ≡ compacted name s held
   pub left : (file : List ℕ) → (history_of belief).leaves file → FileStands s held file
 
 -- One tenure more, over a journal whose table is not made by the lines that are to make it.
-pub record CannotCompact (s : Setup) (log new_log : Tenures) : Type 0 where
+pub record CannotCompact (s : Setup) (name : List ℕ) (log new_log : Tenures) : Type 0 where
   pub held : Held
   pub bytes : List ℕ
   pub belief : Belief
   pub noted : HasEndedWith bytes belief log new_log
   pub found : FileStands s held bytes
-  pub cannot : CanBeRemade s held → ⊥
+  pub cannot : CanBeRemade name s held → ⊥
 
--- one tenure more, that left the journal of a new table
-abbrev pub HasCreated : Tenures → Tenures → Type 0
-HasCreated log new_log =
-    (bytes : List ℕ) × (belief : Belief) × HasEndedWith bytes belief log new_log × (belief.bytes.items ≡ at_rest (head ∷ []))
+-- one tenure more, that left the journal of a new table of the setup of this name
+abbrev pub HasCreated : List ℕ → Tenures → Tenures → Type 0
+HasCreated name log new_log =
+    (bytes : List ℕ) × (belief : Belief) × HasEndedWith bytes belief log new_log × (belief.bytes.items ≡ at_rest (head name ∷ []))
+
+-- the setup is that of these bytes
+abbrev pub HasCreatedOf : List ℕ → Tenures → Tenures → Type 0
+HasCreatedOf file log new_log = (name : List ℕ) × IsNamed file name × HasCreated name log new_log
+
+-- they are those of a new setup
+abbrev pub HasCreatedTable : Tenures → Tenures → Type 0
+HasCreatedTable log new_log = (file : List ℕ) × IsNewSetup file × HasCreatedOf file log new_log
 
 -- one tenure more, that left a journal at rest
 abbrev pub HasRepaired : Tenures → Tenures → Type 0

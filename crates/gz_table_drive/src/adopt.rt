@@ -11,7 +11,6 @@ use crate::log::Tenures;
 use crate::tenure::{FileTable, begin_over, changing_table, cut_unwritten};
 use file_journal::{FileDevice, LockKind};
 use line_journal::{Device, DeviceError};
-use modprobe::Setup;
 use std::alloc::Global;
 use std::fs::File;
 use std::io::{Read, Write};
@@ -19,7 +18,8 @@ use std::rt::Files;
 use std::time::Clock;
 use table_adopt::KernelModule;
 use table_folder::{
-    Shared, TableFault, Teller, journal_fault, listed_text, listing_of, modules_of, read_setup,
+    FolderSetup, Shared, TableFault, Teller, journal_fault, listed_text, listing_of, modules_of,
+    read_setup,
 };
 
 /// Brings the table of a journal's file to these modules.
@@ -45,7 +45,7 @@ fn adopt_file<R: Files + Drop>(
 /// As `adopt_file`, in one tenure, and what a full disk took of that is cut off again.
 fn adopt_into<'r, R: Files<File = File> + Clock + AllocGlobal>(
     shared: &Shared<'r, R>,
-    setup: &Setup,
+    setup: &FolderSetup,
     log: &mut Tenures,
     mut table: FileTable<'_, &'r R>,
     kernel: &[KernelModule],
@@ -61,7 +61,13 @@ fn adopt_into<'r, R: Files<File = File> + Clock + AllocGlobal>(
     let adopted = adopt_file(shared.alloc(), &mut table, kernel, replies);
     log.end(table.device().believed());
     if let Err(fault) = &adopted {
-        cut_unwritten(shared, setup, fault, table.into_device());
+        cut_unwritten(
+            shared,
+            &setup.setup,
+            &setup.name,
+            fault,
+            table.into_device(),
+        );
     }
     adopted
 }
@@ -84,8 +90,8 @@ pub(crate) fn adopt<R: Files<File = File> + Clock + AllocGlobal, I: Read, E: Wri
     let lock = shared.with_setup(&setup).lock(LockKind::Exclusive)?;
     let text = listed_text(shared.rt, listing, teller)?;
     let kernel = modules_of(alloc, &text, teller)?;
-    let table = changing_table(shared, &mut Kept::new(&setup.setup), lock, teller)?;
+    let table = changing_table(shared, &mut Kept::new(&setup), lock, teller)?;
     let mut replies = Replies::new(alloc);
-    adopt_into(shared, &setup.setup, log, table, &kernel, &mut replies)?;
+    adopt_into(shared, &setup, log, table, &kernel, &mut replies)?;
     Ok(replies)
 }

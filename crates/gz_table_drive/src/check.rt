@@ -8,13 +8,12 @@ use crate::reading::{answer_copy, copy_of};
 use file_journal::LockKind;
 use itoa::Buffer;
 use line_journal::{Found, KillOnly, look};
-use modprobe::Setup;
 use program_frame::first_word;
 use std::alloc::{AllocError, Global};
 use std::fs::File;
 use std::rt::Files;
 use std::time::Clock;
-use table_folder::{Shared, TableFault, alone, cut_length, read_journal, read_setup};
+use table_folder::{FolderSetup, Shared, TableFault, alone, cut_length, read_journal, read_setup};
 use text_parts::{is_same, whole_lines};
 
 /// What `check` counts.
@@ -74,12 +73,17 @@ fn count_runs(text: &[u8]) -> usize {
 }
 
 /// The reply to a line that asks, from a copy of the journal.
-fn listing(alloc: Global, setup: &Setup, bytes: &[u8], line: &[u8]) -> Result<Vec<u8>, TableFault>
+fn listing(
+    alloc: Global,
+    setup: &FolderSetup,
+    bytes: &[u8],
+    line: &[u8],
+) -> Result<Vec<u8>, TableFault>
     requires { IsLine line.now }
 {
     let mut replies = Replies::new(alloc);
     let lines = alone(alloc, line.to_vec(alloc)?)?;
-    let mut table = copy_of(alloc, setup, bytes.to_vec(alloc)?)?;
+    let mut table = copy_of(alloc, &setup.setup, &setup.name, bytes.to_vec(alloc)?)?;
     answer_copy(alloc, &mut table, &lines, &mut replies)?;
     Ok(replies.text)
 }
@@ -98,17 +102,16 @@ pub(crate) fn check<R: Files<File = File> + Clock + AllocGlobal>(
     shared: &Shared<'_, R>,
 ) -> Result<Counts, TableFault> {
     let alloc = shared.alloc();
-    let found = read_setup(shared)?;
-    let setup = &found.setup;
-    let lock = shared.with_setup(&found).lock(LockKind::Shared)?;
+    let setup = read_setup(shared)?;
+    let lock = shared.with_setup(&setup).lock(LockKind::Shared)?;
     let (bytes, _) = read_journal(shared, &lock)?;
     let cut = cut_length(shared)?;
     lock.release();
-    let loaded = listing(alloc, setup, &bytes, b"proc")?;
-    let held = listing(alloc, setup, &bytes, b"held")?;
+    let loaded = listing(alloc, &setup, &bytes, b"proc")?;
+    let held = listing(alloc, &setup, &bytes, b"held")?;
     let found = found_in(alloc, &bytes)?;
     Ok(Counts {
-        modules: setup.catalogue().len(),
+        modules: setup.setup.catalogue().len(),
         loaded: whole_lines(&loaded).count(),
         holders: count_runs(&held),
         lines: found.lines.len(),

@@ -21,36 +21,38 @@ use std::fs::File;
 use std::io::Write;
 use std::rt::Files;
 use std::time::Clock;
-use table_folder::{Shared, TableFault, Teller, journal_fault, read_setup};
+use table_folder::{FolderSetup, Shared, TableFault, Teller, journal_fault, read_setup};
 
-/// Writes the journal anew, as the lines that make its table.
+/// Writes the journal anew, as the lines that make its table, of the setup of this name.
 fn compact_table<D: Renewable + Drop>(
     alloc: Global,
     setup: &Setup,
+    name: &[u8],
     table: &mut DurableTable<'_, D>,
 ) -> Result<Compacted, PerformError>
     requires stands { Stands D.content D.history setup.now table.old.session.holders.held table.old.journal }
     requires of_setup { table.old.session.setup.now ≡ setup.now }
-    ensures written { result ≡ Ok Compacted.Done → lines_in D.content table.new.journal.lines ≡ compacted setup.now table.old.session.holders.held }
+    ensures written { result ≡ Ok Compacted.Done → lines_in D.content table.new.journal.lines ≡ compacted name.now setup.now table.old.session.holders.held }
     ensures kept { result ≡ Ok Compacted.Kept → table.new.journal ≡ table.old.journal }
     ensures unchanged { IsErrOf result PerformError.OutOfMemory → table.new.journal ≡ table.old.journal }
-    ensures needed { result ≡ Ok Compacted.Kept → CanBeRemade setup.now table.old.session.holders.held → ⊥ }
+    ensures needed { result ≡ Ok Compacted.Kept → CanBeRemade name.now setup.now table.old.session.holders.held → ⊥ }
     ensures stands { OnOk result (Stands D.content D.history setup.now table.new.session.holders.held table.new.journal) }
     ensures any_moment { AlwaysLeaves (D.history table.old.journal.lines.device) (D.history table.new.journal.lines.device)
         (FileStands setup.now table.old.session.holders.held) }
     ensures session { table.new.session ≡ table.old.session }
 {
     match no_holders(alloc, setup) {
-        Ok(fresh) => table.compact(alloc, fresh),
+        Ok(fresh) => table.compact(alloc, name, fresh),
         Err(_) => Err(PerformError::OutOfMemory),
     }
 }
 
-/// Writes a journal that has become long anew. Returns whether the table may be kept: if the journal could not be written, it
+/// Writes a journal that has become long anew, of the setup of this name. Returns whether the table may be kept: if the journal could not be written, it
 /// stands for the same table all the same, but that is to be opened anew.
 pub(crate) fn shorten<D: Renewable + Drop>(
     alloc: Global,
     setup: &Setup,
+    name: &[u8],
     table: &mut DurableTable<'_, D>,
 ) -> bool
     requires stands { Stands D.content D.history setup.now table.old.session.holders.held table.old.journal }
@@ -60,28 +62,28 @@ pub(crate) fn shorten<D: Renewable + Drop>(
         (FileStands setup.now table.old.session.holders.held) }
     ensures session { table.new.session ≡ table.old.session }
 {
-    if !matches!(table.is_long(alloc), Ok(true)) {
+    if !matches!(table.is_long(alloc, name), Ok(true)) {
         return true;
     }
-    compact_table(alloc, setup, table).is_ok()
+    compact_table(alloc, setup, name, table).is_ok()
 }
 
 /// Writes the journal of a folder anew, as the lines that make its table, unless they would not make it. It is one tenure.
 fn compact_folder<R: Files<File = File> + Clock + AllocGlobal, E: Write>(
     shared: &Shared<'_, R>,
-    setup: &Setup,
+    setup: &FolderSetup,
     log: &mut Tenures,
     lock: FolderLock,
     teller: &mut Teller<'_, E>,
 ) -> Result<Compacted, TableFault>
     requires { lock.kind ≡ Exclusive }
-    ensures done { IfOk result (λ made. made ≡ Compacted.Done → HasCompacted setup.now log.old log.new) }
-    ensures kept { IfOk result (λ made. made ≡ Compacted.Kept → CannotCompact setup.now log.old log.new) }
+    ensures done { IfOk result (λ made. made ≡ Compacted.Done → HasCompacted setup.now.setup setup.now.name.items log.old log.new) }
+    ensures kept { IfOk result (λ made. made ≡ Compacted.Kept → CannotCompact setup.now.setup setup.now.name.items log.old log.new) }
     ensures grown { HasGrown log.old log.new }
 {
     let mut table = changing_table(shared, &mut Kept::new(setup), lock, teller)?;
     begin_over(table.device(), log)?;
-    let compacted = compact_table(shared.alloc(), setup, &mut table);
+    let compacted = compact_table(shared.alloc(), &setup.setup, &setup.name, &mut table);
     log.end(table.device().believed());
     match compacted {
         Ok(compacted) => Ok(compacted),
@@ -103,5 +105,5 @@ pub(crate) fn compact<R: Files<File = File> + Clock + AllocGlobal, E: Write>(
 {
     let setup = read_setup(shared)?;
     let lock = shared.with_setup(&setup).lock(LockKind::Exclusive)?;
-    compact_folder(shared, &setup.setup, log, lock, teller)
+    compact_folder(shared, &setup, log, lock, teller)
 }

@@ -1,7 +1,7 @@
 //! How a table is made.
 ghost use Rattle.std.specs.Prelude.{◌≡◌, IfOk, OnOk};
 ghost use Rattle.file_journal.specs.declared.lock.LockKind.TheVariants.{Exclusive};
-ghost use Rattle.gz_table_drive.specs.Log.{HasCreated, HasGrown};
+ghost use Rattle.gz_table_drive.specs.Log.{HasCreated, HasCreatedOf, HasCreatedTable, HasGrown};
 
 use crate::log::Tenures;
 use crate::tenure::begin_over;
@@ -14,19 +14,20 @@ use std::rt::Files;
 use std::time::Clock;
 use table_folder::{
     Shared, TableFault, Teller, found_in, journal_fault, make_folder, make_journal, make_lock,
-    new_setup, write_setup,
+    name_of_setup, new_setup, write_setup,
 };
 use table_words::{Ending, Origin};
 
-/// Writes the journal of a new table, which has the lock then. One that has commands stays as it is.
+/// Writes the journal of a new table of the setup of this name, which has the lock then. One that has commands stays as it is.
 fn write_journal<'r, R: Files<File = File> + Clock + AllocGlobal>(
     shared: &Shared<'r, R>,
     log: &mut Tenures,
     lock: FolderLock,
+    name: &[u8],
     mode: u32,
 ) -> Result<FileDevice<&'r R>, TableFault>
     requires lock { lock.kind ≡ Exclusive }
-    ensures created { OnOk result (HasCreated log.old log.new) }
+    ensures created { OnOk result (HasCreated name.now log.old log.new) }
     ensures grown { HasGrown log.old log.new }
 {
     let mut device = make_journal(shared, lock, mode)?;
@@ -35,7 +36,7 @@ fn write_journal<'r, R: Files<File = File> + Clock + AllocGlobal>(
     if found.lines.len() > 1 || !(found.behind.is_empty() || found.is_at_rest()) {
         return Err(TableFault::UsedJournal);
     }
-    let created = durable_table::create(&mut device);
+    let created = durable_table::create(shared.alloc(), &mut device, name);
     log.end(device.believed());
     match created {
         Ok(()) => Ok(device),
@@ -51,7 +52,7 @@ fn write_table<R: Files<File = File> + Clock + AllocGlobal>(
     setup: &[u8],
     mode: u32,
 ) -> Result<(), TableFault>
-    ensures created { OnOk result (HasCreated log.old log.new) }
+    ensures created { OnOk result (HasCreatedOf setup.now log.old log.new) }
     ensures grown { HasGrown log.old log.new }
 {
     make_folder(shared, mode)?;
@@ -60,7 +61,8 @@ fn write_table<R: Files<File = File> + Clock + AllocGlobal>(
     if shared.has_setup()? {
         return Err(TableFault::ThereAlready);
     }
-    let device = write_journal(shared, log, lock, mode)?;
+    let name = name_of_setup(shared.alloc(), setup)?;
+    let device = write_journal(shared, log, lock, &name, mode)?;
     write_setup(shared, setup, mode)?;
     drop(device.into_lock());
     Ok(())
@@ -75,7 +77,7 @@ pub(crate) fn create<R: Files<File = File> + Env + Clock + AllocGlobal, E: Write
     teller: &mut Teller<'_, E>,
 ) -> Result<Ending, TableFault>
     ensures done { IfOk result (λ ending. ending ≡ Ending.Done) }
-    ensures created { OnOk result (HasCreated log.old log.new) }
+    ensures created { OnOk result (HasCreatedTable log.old log.new) }
     ensures grown { HasGrown log.old log.new }
 {
     if shared.has_setup()? {

@@ -8,11 +8,14 @@ use durable_table::{CaughtUp, DurableTable};
 use line_journal::{Device, Renewable};
 use modprobe::Setup;
 use std::alloc::Global;
+use table_folder::FolderSetup;
 
 /// A table that is kept, if there is one. It read as its journal did when it was put here.
 #[derive(Drop)]
 pub(crate) struct Kept<'s, D: Device + Drop> {
     setup: &'s Setup,
+    /// The name of the setup.
+    name: &'s [u8],
     table: Option<DurableTable<'s, D>>,
     ghost of_setup: { IfSome table (λ t. t.session.setup.now ≡ setup.now) } by { Prim.hlevel props },
     ghost reads: { IfSome table (λ t. Reads D.content setup.now t.session.holders.held t.journal) } by { Prim.hlevel props },
@@ -43,11 +46,16 @@ pub(crate) fn rested<'s, D: Renewable + Drop>(mut table: DurableTable<'s, D>) ->
 }
 
 impl<'s, D: Renewable + Drop> Kept<'s, D> {
-    /// No table is kept yet.
-    pub(crate) fn new(setup: &'s Setup) -> Kept<'s, D>
-        ensures { result.setup.now ≡ setup.now }
+    /// No table is kept yet, of the setup of a folder.
+    pub(crate) fn new(setup: &'s FolderSetup) -> Kept<'s, D>
+        ensures setup { result.setup.now ≡ setup.now.setup }
+        ensures name { result.name.now ≡ setup.now.name.items }
     {
-        Kept { setup, table: None }
+        Kept {
+            setup: &setup.setup,
+            name: &setup.name,
+            table: None,
+        }
     }
 
     /// What the setup says.
@@ -55,6 +63,13 @@ impl<'s, D: Renewable + Drop> Kept<'s, D> {
         ensures { result.now ≡ self.now.setup.now }
     {
         self.setup
+    }
+
+    /// The name of the setup.
+    pub(crate) fn name(&self) -> &'s [u8]
+        ensures { result.now ≡ self.now.name.now }
+    {
+        self.name
     }
 
     /// The turn of this process begins: takes the table, and looks at what others have made of its journal. None is kept then.

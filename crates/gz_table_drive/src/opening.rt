@@ -1,8 +1,9 @@
 //! How a table is read from its folder.
-ghost use Rattle.std.specs.Prelude.{◌≡◌, ◌⊎◌, Some, IfOk};
+ghost use Rattle.std.specs.Prelude.{◌≡◌, ◌⊎◌, Some, true, IfOk, OnOk};
 ghost use Rattle.line_journal.specs.Device.{AlwaysLeaves};
 ghost use Rattle.line_journal.specs.Lines.{lines_of, StandsFor};
 ghost use Rattle.dep_index.specs.Catalogue.{modules_of};
+ghost use Rattle.durable_table.specs.Commands.{is_of};
 ghost use Rattle.durable_table.specs.Tables.{opening_of, table_of};
 ghost use Rattle.durable_table.specs.Durable.{Stands};
 ghost use Rattle.durable_table.specs.Opened.{IsTableRead};
@@ -29,6 +30,7 @@ pub(crate) enum OpenFault<D> {
     Device(DeviceError, D),
     OutOfMemory,
     Foreign,
+    Other,
     Changed(usize),
     Damaged(Damage),
 }
@@ -52,38 +54,42 @@ pub(crate) fn no_holders(alloc: Global, setup: &Setup) -> Result<HeldTable, Allo
     HeldTable::new(alloc, setup.catalogue().slots(alloc)?)
 }
 
-/// The table that a journal stands for.
+/// The table that a journal stands for, by the setup of this name.
 pub(crate) fn open_table<'s, D: Device + Drop>(
     alloc: Global,
     setup: &'s Setup,
+    name: &[u8],
     device: D,
 ) -> Result<DurableTable<'s, D>, OpenFault<D>>
     ensures stands { IfOk result (λ t. Stands D.content D.history setup.now t.session.holders.held t.journal) }
     ensures same { IfOk result (λ t. table_of setup.now (D.content device) ≡ Some t.session.holders.held) }
+    ensures of { OnOk result (is_of name.now (lines_of (D.content device)) ≡ true) }
     ensures setup { IfOk result (λ t. t.session.setup.now ≡ setup.now) }
     ensures any_moment { IfOk result (λ t. AlwaysLeaves (D.history device) (D.history t.journal.lines.device)
         (λ file. StandsFor (lines_of (D.content device)) file ⊎ (D.history device).leaves file)) }
 {
     let holders = no_holders(alloc, setup)?;
-    match open(alloc, setup, holders, device, Repair::CutAtMost(TORN)) {
+    match open(alloc, setup, name, holders, device, Repair::CutAtMost(TORN)) {
         Ok(OpenedTable::Ready(table, _)) => Ok(table),
         Ok(OpenedTable::Foreign(_)) => Err(OpenFault::Foreign),
+        Ok(OpenedTable::Other(_)) => Err(OpenFault::Other),
         Ok(OpenedTable::Changed(_, line)) => Err(OpenFault::Changed(line)),
         Ok(OpenedTable::Damaged(_, found)) => Err(OpenFault::Damaged(damage_of(&found))),
         Err((error, device)) => Err(OpenFault::Device(error, device)),
     }
 }
 
-/// The table that a journal reads as, if it is whole and at rest.
+/// The table that a journal reads as, by the setup of this name, if it is whole and at rest, and of that setup.
 pub(crate) fn read_table<'s, D: Device + Drop>(
     alloc: Global,
     setup: &'s Setup,
+    name: &[u8],
     device: D,
 ) -> Result<ReadTable<'s, D>, OpenFault<D>>
-    ensures read { IfOk result (IsTableRead D.content setup.now (D.content device)) }
+    ensures read { IfOk result (IsTableRead D.content setup.now name.now (D.content device)) }
 {
     let fresh = no_holders(alloc, setup)?;
-    match open_reading(alloc, setup, fresh, device) {
+    match open_reading(alloc, setup, name, fresh, device) {
         Ok(table) => Ok(table),
         Err((error, device)) => Err(OpenFault::Device(error, device)),
     }

@@ -175,7 +175,7 @@ fn answer_once<R: Files<File = File> + Clock + AllocGlobal, O: Write, E: Write>(
         Err(TableFault::MadeAnew) => return Ok(None),
         Err(fault) => return Err(fault),
     };
-    let mut kept = Kept::new(&setup.setup);
+    let mut kept = Kept::new(&setup);
     let answered = answer_turn(&shared, &mut kept, log, turn, &lines, output, teller)?;
     tell_users(&shared, &mut kept, &answered.replies.text, teller);
     Ok(Some(first_ending(&answered.replies)))
@@ -275,7 +275,7 @@ fn answer_lines_of<R: Files<File = File> + Clock + AllocGlobal, I: Read, O: Writ
         ⊎ IsInputSent (I.remaining input.old) log.old log.new (O.contents output.old) (O.contents output.new) fault) }
 {
     let setup = read_setup(shared)?;
-    let mut kept = Kept::new(&setup.setup);
+    let mut kept = Kept::new(&setup);
     let shared = shared.with_setup(&setup);
     let ending = answer_input(&shared, &mut kept, log, input, output, teller)?;
     Ok(ending)

@@ -1,6 +1,7 @@
 //! Lines that change nothing, and their replies from a copy of the journal.
 ghost use Rattle.std.specs.Prelude.{◌≡◌, Some, true, take, ◌<◌, ◌≤◌, length, IfOk, OnOk, OnErr};
-ghost use Rattle.line_journal.specs.Lines.{AreLines, bytes_of};
+ghost use Rattle.line_journal.specs.Lines.{AreLines, bytes_of, lines_of};
+ghost use Rattle.durable_table.specs.Commands.{is_of};
 ghost use Rattle.durable_table.specs.Durable.{Reads, Stands};
 ghost use Rattle.durable_table.specs.Groups.{AreAsking};
 ghost use Rattle.durable_table.specs.Tables.{table_of};
@@ -26,19 +27,22 @@ pub(crate) fn are_reading(alloc: Global, lines: &[Vec<u8>]) -> Result<bool, Allo
     Ok(true)
 }
 
-/// The table that a journal's bytes stand for, over a copy of them in memory.
+/// The table that a journal's bytes stand for, by the setup of this name, over a copy of them in memory.
 pub(crate) fn copy_of<'s>(
     alloc: Global,
     setup: &'s Setup,
+    name: &[u8],
     bytes: Vec<u8>,
 ) -> Result<DurableTable<'s, KillOnly>, TableFault>
     ensures stands { IfOk result (λ t. Stands ⟦<KillOnly as Device>⟧.content ⟦<KillOnly as Device>⟧.history setup.now t.session.holders.held t.journal) }
     ensures same { IfOk result (λ t. table_of setup.now bytes.items ≡ Some t.session.holders.held) }
+    ensures of { OnOk result (is_of name.now (lines_of bytes.items) ≡ true) }
     ensures setup { IfOk result (λ t. t.session.setup.now ≡ setup.now) }
 {
-    match open_table(alloc, setup, KillOnly::new(alloc, bytes)) {
+    match open_table(alloc, setup, name, KillOnly::new(alloc, bytes)) {
         Ok(table) => Ok(table),
         Err(OpenFault::Foreign) => Err(TableFault::Foreign),
+        Err(OpenFault::Other) => Err(TableFault::Other),
         Err(OpenFault::Changed(line)) => Err(TableFault::Changed(line)),
         Err(OpenFault::Damaged(damage)) => Err(TableFault::Damaged(damage)),
         Err(_) => Err(TableFault::OutOfMemory),

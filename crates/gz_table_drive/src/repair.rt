@@ -1,8 +1,9 @@
 //! What is damaged behind a journal's lines is cut off.
-ghost use Rattle.std.specs.Prelude.{◌≡◌, ◌≢◌, ◌⊎◌, [], ◌∷◌, Some, IfOk, IfSome, IfNone, OnOk};
+ghost use Rattle.std.specs.Prelude.{◌≡◌, ◌≢◌, ◌⊎◌, [], ◌∷◌, Some, IfOk, true, IfSome, IfNone, OnOk};
 ghost use Rattle.line_journal.specs.Device.{AlwaysLeaves};
 ghost use Rattle.line_journal.specs.Journal.{IsFound};
 ghost use Rattle.line_journal.specs.Lines.{lines_of, at_rest, StandsFor};
+ghost use Rattle.durable_table.specs.Commands.{is_of};
 ghost use Rattle.durable_table.specs.Tables.{table_of};
 ghost use Rattle.durable_table.specs.Durable.{Stands};
 ghost use Rattle.file_journal.specs.declared.lock.LockKind.TheVariants.{Exclusive};
@@ -21,7 +22,8 @@ use std::io::Write;
 use std::rt::Files;
 use std::time::Clock;
 use table_folder::{
-    Shared, TableFault, Teller, bytes_of, damage_of, found_in, keep_cut, open_journal, read_setup,
+    FolderSetup, Shared, TableFault, Teller, bytes_of, damage_of, found_in, keep_cut, open_journal,
+    read_setup,
 };
 
 /// A table whose journal is at rest again, and what stood in the journal before.
@@ -44,25 +46,28 @@ fn damage_in(found: Found) -> Option<Found>
     }
 }
 
-/// The table that the lines of a journal stand for. What stands behind them is cut off, however much it is.
+/// The table that the lines of a journal stand for, by the setup of this name. What stands behind them is cut off, however much it is.
 ///
 /// A crash at any moment leaves the same lines, or what it might have left before.
 fn repair_table<'s, D: Device + Drop>(
     alloc: Global,
     setup: &'s Setup,
+    name: &[u8],
     device: D,
 ) -> Result<Repaired<'s, D>, OpenFault<D>>
     ensures stands { IfOk result (λ r. Stands D.content D.history setup.now r.table.session.holders.held r.table.journal) }
     ensures same { IfOk result (λ r. table_of setup.now (D.content device) ≡ Some r.table.session.holders.held) }
+    ensures of { OnOk result (is_of name.now (lines_of (D.content device)) ≡ true) }
     ensures found { IfOk result (λ r. IsFound (D.content device) r.found) }
     ensures setup { IfOk result (λ r. r.table.session.setup.now ≡ setup.now) }
     ensures any_moment { IfOk result (λ r. AlwaysLeaves (D.history device) (D.history r.table.journal.lines.device)
         (λ file. StandsFor (lines_of (D.content device)) file ⊎ (D.history device).leaves file)) }
 {
     let holders = no_holders(alloc, setup)?;
-    match open(alloc, setup, holders, device, Repair::Cut) {
+    match open(alloc, setup, name, holders, device, Repair::Cut) {
         Ok(OpenedTable::Ready(table, found)) => Ok(Repaired { table, found }),
         Ok(OpenedTable::Foreign(_)) => Err(OpenFault::Foreign),
+        Ok(OpenedTable::Other(_)) => Err(OpenFault::Other),
         Ok(OpenedTable::Changed(_, line)) => Err(OpenFault::Changed(line)),
         Ok(OpenedTable::Damaged(_, found)) => Err(OpenFault::Damaged(damage_of(&found))),
         Err((error, device)) => Err(OpenFault::Device(error, device)),
@@ -70,10 +75,11 @@ fn repair_table<'s, D: Device + Drop>(
 }
 
 /// Refuses the bytes of a journal of which no table can be made.
-fn try_copy(alloc: Global, setup: &Setup, bytes: Vec<u8>) -> Result<(), TableFault> {
-    match repair_table(alloc, setup, KillOnly::new(alloc, bytes)) {
+fn try_copy(alloc: Global, setup: &Setup, name: &[u8], bytes: Vec<u8>) -> Result<(), TableFault> {
+    match repair_table(alloc, setup, name, KillOnly::new(alloc, bytes)) {
         Ok(_) => Ok(()),
         Err(OpenFault::Foreign) => Err(TableFault::Foreign),
+        Err(OpenFault::Other) => Err(TableFault::Other),
         Err(OpenFault::Changed(line)) => Err(TableFault::Changed(line)),
         Err(_) => Err(TableFault::OutOfMemory),
     }
@@ -83,19 +89,20 @@ fn try_copy(alloc: Global, setup: &Setup, bytes: Vec<u8>) -> Result<(), TableFau
 /// lines it has.
 fn repaired_device<'r, R: Files<File = File> + Clock + AllocGlobal, E: Write>(
     shared: &Shared<'r, R>,
-    setup: &Setup,
+    setup: &FolderSetup,
     mut device: FileDevice<&'r R>,
     teller: &mut Teller<'_, E>,
 ) -> Result<FileDevice<&'r R>, TableFault>
     ensures { IfOk result (λ device. ⟦<FileDevice<&'r R> as Device>⟧.content device ≡ at_rest (lines_of (⟦<FileDevice<&'r R> as Device>⟧.content device))) }
 {
     let alloc = shared.alloc();
-    try_copy(alloc, setup, bytes_of(alloc, &mut device)?)?;
+    let bytes = bytes_of(alloc, &mut device)?;
+    try_copy(alloc, &setup.setup, &setup.name, bytes)?;
     let Some(damage) = damage_in(found_in(alloc, &mut device)?) else {
         return Ok(device);
     };
     keep_cut(shared, &damage.behind)?;
-    match repair_table(alloc, setup, device) {
+    match repair_table(alloc, &setup.setup, &setup.name, device) {
         Ok(repaired) => {
             teller.repaired(shared.folder, &repaired.found);
             Ok(repaired.table.into_device())
@@ -107,7 +114,7 @@ fn repaired_device<'r, R: Files<File = File> + Clock + AllocGlobal, E: Write>(
 /// Cuts off what stands behind the lines of a journal, if anything does, in one tenure. The journal is at rest then.
 fn repair_journal<R: Files<File = File> + Clock + AllocGlobal, E: Write>(
     shared: &Shared<'_, R>,
-    setup: &Setup,
+    setup: &FolderSetup,
     log: &mut Tenures,
     lock: FolderLock,
     teller: &mut Teller<'_, E>,
@@ -134,5 +141,5 @@ pub(crate) fn repair<R: Files<File = File> + Clock + AllocGlobal, E: Write>(
 {
     let setup = read_setup(shared)?;
     let lock = shared.with_setup(&setup).lock(LockKind::Exclusive)?;
-    repair_journal(shared, &setup.setup, log, lock, teller)
+    repair_journal(shared, &setup, log, lock, teller)
 }

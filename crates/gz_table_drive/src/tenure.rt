@@ -35,6 +35,7 @@ pub(crate) type FileTable<'s, R> = DurableTable<'s, FileDevice<R>>;
 pub(crate) fn unopened<R: Files + Drop>(fault: OpenFault<FileDevice<R>>) -> TableFault {
     match fault {
         OpenFault::Foreign => TableFault::Foreign,
+        OpenFault::Other => TableFault::Other,
         OpenFault::Changed(line) => TableFault::Changed(line),
         OpenFault::Damaged(damage) => TableFault::Damaged(damage),
         OpenFault::Device(DeviceError::Failed, device) => journal_fault(device.fault()),
@@ -119,7 +120,7 @@ fn reading_table<'s, 'r, R: Files<File = File> + Clock + AllocGlobal>(
         taken => taken,
     };
     let device = reading_device(shared, taken)?;
-    match read_table(alloc, kept.setup(), device) {
+    match read_table(alloc, kept.setup(), kept.name(), device) {
         Ok(ReadTable::Ready(table)) => begun_asking(table, log),
         Ok(ReadTable::Anew(device)) => Err(device.into_lock()),
         Err(fault) => Err(lock_of(fault)),
@@ -130,6 +131,7 @@ fn reading_table<'s, 'r, R: Files<File = File> + Clock + AllocGlobal>(
 fn answer_unkept<R: Files<File = File> + Clock + AllocGlobal>(
     shared: &Shared<'_, R>,
     setup: &Setup,
+    name: &[u8],
     log: &mut Tenures,
     lock: Option<FolderLock>,
     lines: &[Vec<u8>],
@@ -148,7 +150,7 @@ fn answer_unkept<R: Files<File = File> + Clock + AllocGlobal>(
     };
     let (bytes, found) = read_journal(shared, &lock)?;
     lock.release();
-    let mut table = copy_of(shared.alloc(), setup, bytes)?;
+    let mut table = copy_of(shared.alloc(), setup, name, bytes)?;
     log.begin(found)?;
     answer_copy(shared.alloc(), &mut table, lines, replies)
 }
@@ -195,7 +197,7 @@ fn answer_reading<'s, 'r, R: Files<File = File> + Clock + AllocGlobal>(
 {
     match reading_table(shared, kept, log, lock) {
         Ok(table) => ask_table(shared.alloc(), kept, table, lines, replies),
-        Err(lock) => answer_unkept(shared, kept.setup(), log, lock, lines, replies),
+        Err(lock) => answer_unkept(shared, kept.setup(), kept.name(), log, lock, lines, replies),
     }
 }
 
@@ -218,6 +220,7 @@ fn settled<'s, D: Device + Drop>(
 fn repaired<'s, 'r, R: Files<File = File> + Clock + AllocGlobal, E: Write>(
     shared: &Shared<'r, R>,
     setup: &'s Setup,
+    name: &[u8],
     mut device: FileDevice<&'r R>,
     teller: &mut Teller<'_, E>,
 ) -> Result<FileTable<'s, &'r R>, TableFault>
@@ -225,9 +228,9 @@ fn repaired<'s, 'r, R: Files<File = File> + Clock + AllocGlobal, E: Write>(
     ensures stands { IfOk result (λ t. Stands ⟦<FileDevice<&'r R> as Device>⟧.content ⟦<FileDevice<&'r R> as Device>⟧.history setup.now t.session.holders.held t.journal) }
 {
     let bytes = bytes_of(shared.alloc(), &mut device)?;
-    copy_of(shared.alloc(), setup, bytes)?;
+    copy_of(shared.alloc(), setup, name, bytes)?;
     keep_torn(shared, &mut device, teller)?;
-    match open_table(shared.alloc(), setup, device) {
+    match open_table(shared.alloc(), setup, name, device) {
         Ok(table) => Ok(table),
         Err(fault) => Err(unopened(fault)),
     }
@@ -267,9 +270,9 @@ pub(crate) fn changing_table<'s, 'r, R: Files<File = File> + Clock + AllocGlobal
         taken => taken,
     };
     let device = changing_device(shared, taken)?;
-    match read_table(alloc, kept.setup(), device) {
+    match read_table(alloc, kept.setup(), kept.name(), device) {
         Ok(ReadTable::Ready(table)) => settled(table).map_err(unopened),
-        Ok(ReadTable::Anew(device)) => repaired(shared, kept.setup(), device, teller),
+        Ok(ReadTable::Anew(device)) => repaired(shared, kept.setup(), kept.name(), device, teller),
         Err(fault) => Err(unopened(fault)),
     }
 }
@@ -279,6 +282,7 @@ pub(crate) fn changing_table<'s, 'r, R: Files<File = File> + Clock + AllocGlobal
 fn answer_table<R: Files + Drop>(
     alloc: Global,
     setup: &Setup,
+    name: &[u8],
     table: &mut FileTable<'_, R>,
     lines: &[Vec<u8>],
     replies: &mut Replies,
@@ -296,7 +300,7 @@ fn answer_table<R: Files + Drop>(
     ensures setup { table.new.session.setup ≡ table.old.session.setup }
 {
     match answer_lines(alloc, table, lines, replies) {
-        Ok(count) => Ok((count, shorten(alloc, setup, table))),
+        Ok(count) => Ok((count, shorten(alloc, setup, name, table))),
         Err(AnswerError::Device(DeviceError::Failed)) => Err(journal_fault(table.device().fault())),
         Err(_) => Err(TableFault::OutOfMemory),
     }
@@ -307,6 +311,7 @@ fn answer_table<R: Files + Drop>(
 pub(crate) fn cut_unwritten<R: Files<File = File> + Clock + AllocGlobal>(
     shared: &Shared<'_, R>,
     setup: &Setup,
+    name: &[u8],
     fault: &TableFault,
     mut device: FileDevice<&R>,
 ) {
@@ -320,7 +325,7 @@ pub(crate) fn cut_unwritten<R: Files<File = File> + Clock + AllocGlobal>(
         return;
     };
     if device.read_again().is_ok() {
-        let _ = open_table(shared.alloc(), setup, device);
+        let _ = open_table(shared.alloc(), setup, name, device);
     }
 }
 
@@ -344,7 +349,14 @@ fn answer_changing<'s, 'r, R: Files<File = File> + Clock + AllocGlobal, E: Write
 {
     let mut table = changing_table(shared, kept, lock, teller)?;
     begin_over(table.device(), log)?;
-    let answered = answer_table(shared.alloc(), kept.setup(), &mut table, lines, replies);
+    let answered = answer_table(
+        shared.alloc(),
+        kept.setup(),
+        kept.name(),
+        &mut table,
+        lines,
+        replies,
+    );
     log.end(table.device().believed());
     match answered {
         Ok((count, may_keep)) => {
@@ -354,7 +366,13 @@ fn answer_changing<'s, 'r, R: Files<File = File> + Clock + AllocGlobal, E: Write
             Ok(count)
         }
         Err(fault) => {
-            cut_unwritten(shared, kept.setup(), &fault, table.into_device());
+            cut_unwritten(
+                shared,
+                kept.setup(),
+                kept.name(),
+                &fault,
+                table.into_device(),
+            );
             Err(fault)
         }
     }

@@ -10,7 +10,7 @@ ghost use Rattle.power_cuts.specs.Cuts.{past_of, cut_offs_of};
 use crate::cuts::PowerCuts;
 use crate::disk::MemoryDisk;
 use crate::life::Life;
-use durable_table::create;
+use durable_table::{NO_NAME, create};
 use line_journal::{DeviceError, Repair};
 use modprobe::Setup;
 use std::alloc::Global;
@@ -35,7 +35,7 @@ pub fn run_with_power_cuts<'a>(
     ensures durable { IfOk result (λ left. (file : List ℕ) → (history_of left.0).leaves file → IsDurablyLinearized setup.now (past_of left.1) file) }
 {
     let mut disk = MemoryDisk::new(alloc);
-    create(&mut disk)?;
+    create(alloc, &mut disk, NO_NAME)?;
     let mut world = PowerCuts::new(alloc, &mut disk, plan);
     let disk = tenures_are_durably_linearizable(alloc, setup, disk, repair, processes, &mut world);
     Ok((disk, world))

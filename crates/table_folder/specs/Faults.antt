@@ -31,6 +31,7 @@ ending_of_fault fault.CutSetup = Unasked
 ending_of_fault fault.ChangedSetup = Unasked
 ending_of_fault (fault.Sections why) = Unasked
 ending_of_fault fault.Foreign = Unasked
+ending_of_fault fault.Other = Unasked
 ending_of_fault (fault.Changed line) = Unasked
 ending_of_fault (fault.Damaged damage) = Unasked
 ending_of_fault fault.ThereAlready = Exists

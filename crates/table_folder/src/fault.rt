@@ -49,6 +49,8 @@ pub enum TableFault {
     Journal,
     /// The journal does not begin with the first line of one.
     Foreign,
+    /// The journal names another setup.
+    Other,
     /// This line of the journal, from 1, does not continue the chain of sums.
     Changed(usize),
     /// A line of the journal lost its gate, and more lines with open gates stand behind it than a crash leaves.
@@ -79,6 +81,7 @@ impl TableFault {
             | TableFault::ChangedSetup
             | TableFault::Sections(_)
             | TableFault::Foreign
+            | TableFault::Other
             | TableFault::Changed(_)
             | TableFault::Damaged(_)
             | TableFault::Told => Ending::Unasked,

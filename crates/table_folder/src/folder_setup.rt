@@ -2,7 +2,7 @@
 ghost use Rattle.std.specs.Prelude.{◌≡◌, ℕ, List, IfOk, IfErr, IsErrOf};
 ghost use Rattle.table_folder.specs.Faults.{IsRefused};
 ghost use Rattle.table_setup.specs.Sealed.{IsSealed};
-ghost use Rattle.table_folder.specs.Setups.{IsChanged, IsReadFrom};
+ghost use Rattle.table_folder.specs.Setups.{IsChanged, IsNamed, IsReadFrom};
 
 use crate::fault::TableFault;
 use crate::mark::FileMark;
@@ -11,6 +11,18 @@ use modprobe::{AliasForm, Setup};
 use std::alloc::Global;
 use table_setup::Sealed;
 
+/// The name of the setup that these bytes of a file are, as a journal of it has it. `CutSetup` if they do not end with a last line of
+/// their length. It computes no sum.
+pub fn name_of_setup(alloc: Global, bytes: &[u8]) -> Result<Vec<u8>, TableFault>
+    ensures named { IfOk result (λ name. IsNamed bytes.now name.items) }
+    ensures fault { IfErr result IsRefused }
+{
+    match Sealed::read(bytes) {
+        Some(sealed) => Ok(sealed.name(alloc)?),
+        None => Err(TableFault::CutSetup),
+    }
+}
+
 /// What a table was made of.
 #[derive(Drop)]
 pub struct FolderSetup {
@@ -18,6 +30,8 @@ pub struct FolderSetup {
     pub setup: Setup,
     /// All before the last line of the file.
     text: Vec<u8>,
+    /// The name of the setup, as a journal of it has it.
+    pub name: Vec<u8>,
     /// Which file it was.
     pub(crate) mark: FileMark,
 }
@@ -25,7 +39,7 @@ pub struct FolderSetup {
 impl FolderSetup {
     /// What the bytes of a setup's file say, which has this mark, with its aliases in a form. `CutSetup` if they do not end with a last line of
     /// their length, and `ChangedSetup` if their text has another sum than that line says.
-    #[tactic(auto, using(crate::proofs::SetupLemmas::cut_sealed))]
+    #[tactic(auto, using(crate::proofs::SetupLemmas::cut_sealed, crate::proofs::SetupLemmas::cut_named))]
     pub(crate) fn read(
         alloc: Global,
         bytes: Vec<u8>,
@@ -44,11 +58,16 @@ impl FolderSetup {
         if !sealed.is_sound() {
             return Err(TableFault::ChangedSetup);
         }
-        let length = sealed.text.len();
+        let (length, name) = (sealed.text.len(), sealed.name(alloc)?);
         let mut text = bytes;
         text.truncate(length);
         let setup = setup_of(alloc, &text, form)?;
-        Ok(FolderSetup { setup, text, mark })
+        Ok(FolderSetup {
+            setup,
+            text,
+            name,
+            mark,
+        })
     }
 
     /// The same setup, with its aliases in another form.
@@ -57,8 +76,14 @@ impl FolderSetup {
         ensures mark { IfOk result (λ found. found.mark ≡ self.mark) }
         ensures fault { IfErr result IsRefused }
     {
-        let FolderSetup { text, mark, .. } = self;
+        let mark = self.mark;
+        let FolderSetup { text, name, .. } = self;
         let setup = setup_of(alloc, &text, form)?;
-        Ok(FolderSetup { setup, text, mark })
+        Ok(FolderSetup {
+            setup,
+            text,
+            name,
+            mark,
+        })
     }
 }

@@ -6,6 +6,7 @@ ghost use Rattle.table_folder.specs.Faults.{ending_of_fault};
 ghost use Rattle.table_folder.specs.Locks.{locker_of, lockers_in};
 
 use crate::fault::TableFault;
+use crate::pair::tell_pair;
 use crate::shared::{LOCK, Shared};
 use crate::teller::Teller;
 use file_journal::LockError;
@@ -117,7 +118,7 @@ fn locker_now<R: Files<File = File> + Clock + AllocGlobal>(
 }
 
 /// Tells why a run over a folder did not do what was asked, and answers how it ends. If the lock was waited for in vain, it is
-/// told who has it.
+/// told who has it. If the journal names another setup, it is told which.
 pub fn end_run<R: Files<File = File> + Clock + AllocGlobal, E: Write>(
     shared: &Shared<'_, R>,
     fault: TableFault,
@@ -129,6 +130,9 @@ pub fn end_run<R: Files<File = File> + Clock + AllocGlobal, E: Write>(
         if let Some(locker) = locker_now(shared) {
             return teller.locked(shared.folder, shared.wait, &locker);
         }
+    }
+    if let TableFault::Other = fault {
+        return tell_pair(shared, teller);
     }
     teller.end(shared.folder, shared.wait, fault)
 }

@@ -7,6 +7,7 @@ use crate::causes::{Unread, Unwritten};
 use crate::fault::{Damage, TableFault};
 use crate::locker::Locker;
 use crate::notices::Otherwise;
+use crate::pair::Pair;
 use crate::setup::SectionsFault;
 use crate::shared::CUT;
 use crate::uses::Names;
@@ -274,6 +275,18 @@ impl<'e, E: Write> Teller<'e, E> {
         Ending::Locked
     }
 
+    /// The journal names another setup than the folder has.
+    pub(crate) fn other(&mut self, folder: &str, pair: &Pair) -> Ending
+        ensures { result ≡ Ending.Unasked }
+    {
+        let (named, found) = (Shown(&pair.named), Shown(&pair.found));
+        let _ = writeln!(
+            self.errors,
+            "gz-table: {folder}/journal is of the setup {named}, and {folder}/setup is {found}: one of the two is of another table, or older; nothing was done: restore the one that goes with the other, or make the table in another folder"
+        );
+        Ending::Unasked
+    }
+
     fn tell_lock(&mut self, folder: &str, wait: u32, error: LockError) {
         let _ = match error {
             LockError::Held => writeln!(
@@ -324,6 +337,10 @@ impl<'e, E: Write> Teller<'e, E> {
             TableFault::Foreign => writeln!(
                 self.errors,
                 "gz-table: {folder}/journal has another first line than `gourzhiel journal 2`: it was changed, or it is no journal; nothing was done: restore that line, or make the table in another folder; if it is `gourzhiel journal 1`, tools/journal-2 brings the journal to version 2"
+            ),
+            TableFault::Other => writeln!(
+                self.errors,
+                "gz-table: {folder}/journal is of another setup than {folder}/setup; nothing was done: restore the one that goes with the other, or make the table in another folder"
             ),
             TableFault::Changed(line) => writeln!(
                 self.errors,

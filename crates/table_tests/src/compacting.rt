@@ -3,7 +3,7 @@ ghost use Rattle.std.specs.Prelude.{◌≡◌, OnOk};
 ghost use Rattle.durable_table.specs.Durable.{Stands};
 
 use crate::support::{are_answered, compacted, make, new_table, opened};
-use durable_table::DurableTable;
+use durable_table::{DurableTable, NO_NAME};
 use line_journal::{Device, KillOnly};
 use modprobe::Setup;
 use std::alloc::Global;
@@ -107,9 +107,9 @@ fn shortens<D: Device>(
     requires setup { table.old.session.setup.now ≡ setup.now }
 {
     lengthen(table, alloc)?;
-    let was_long = table.is_long(alloc)?;
+    let was_long = table.is_long(alloc, NO_NAME)?;
     compacted(table, alloc, setup)?;
-    Ok(!table.is_long(alloc)? && was_long)
+    Ok(!table.is_long(alloc, NO_NAME)? && was_long)
 }
 
 /// Whether a long journal is compacted.

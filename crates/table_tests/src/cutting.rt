@@ -8,7 +8,7 @@ ghost use Rattle.tenures.specs.Kept.{IsKept};
 use crate::cut_device::CutDevice;
 use crate::support::{lines_of, setup};
 use crate::watcher::{Life, Watcher};
-use durable_table::create;
+use durable_table::{NO_NAME, create};
 use line_journal::{KillOnly, Repair, are_lines};
 use modprobe::Setup;
 use std::alloc::{AllocError, Global};
@@ -134,7 +134,7 @@ fn new_device(alloc: Global, setup: &Setup) -> Result<CutDevice, Fail>
     ensures { IfOk result (λ device. IsKept setup.now [] (history_of device.file)) }
 {
     let mut file = KillOnly::new(alloc, Vec::new(alloc));
-    create(&mut file)?;
+    create(alloc, &mut file, NO_NAME)?;
     Ok(CutDevice::new(file))
 }
 

@@ -6,7 +6,7 @@ use crate::folders::{Disk, Locks, Turns, device_in, folder, new_device};
 use crate::support::{
     are_texts, compacted, fresh, hold_floppy, is_answered, lines_of, make, new_table, opened,
 };
-use durable_table::{CaughtUp, DurableTable, ReadTable, create, open_reading};
+use durable_table::{CaughtUp, DurableTable, NO_NAME, ReadTable, create, open_reading};
 use file_journal::Syncs;
 use line_journal::{Device, KillOnly, Renewable, are_lines};
 use modprobe::Setup;
@@ -24,7 +24,7 @@ fn table_read<'s, D: Device + Drop>(
     ensures setup { IfOk result (λ made. made.session.setup.now ≡ setup.now) }
 {
     let holders = fresh(alloc, setup)?;
-    match open_reading(alloc, setup, holders, device) {
+    match open_reading(alloc, setup, NO_NAME, holders, device) {
         Ok(ReadTable::Ready(table)) => Ok(table),
         Ok(ReadTable::Anew(_)) => Err("no table".into()),
         Err((error, _)) => Err(error.into()),
@@ -146,7 +146,7 @@ fn new_kept<'s, 'a>(
     ensures setup { IfOk result (λ made. made.session.setup.now ≡ setup.now) }
 {
     let mut device = new_device(rt, folder)?;
-    create(&mut device)?;
+    create(rt.alloc(), &mut device, NO_NAME)?;
     let mut table = opened(rt.alloc(), setup, device)?;
     end(&mut table);
     Ok(table)

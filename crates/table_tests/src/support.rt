@@ -5,7 +5,7 @@ ghost use Rattle.line_journal.specs.KillOnly.{held_by, history_of};
 ghost use Rattle.durable_table.specs.Durable.{Stands};
 ghost use Rattle.durable_table.specs.Tables.{opening_of};
 
-use durable_table::{Compacted, DurableTable, OpenedTable, create, open};
+use durable_table::{Compacted, DurableTable, NO_NAME, OpenedTable, create, open};
 use held_lines::HeldReply;
 use held_table::HeldTable;
 use line_journal::{Device, KillOnly, Repair, are_lines, is_line};
@@ -49,7 +49,7 @@ pub(crate) fn opened<'s, D: Device + Drop>(
     ensures setup { IfOk result (λ made. made.session.setup.now ≡ setup.now) }
 {
     let holders = fresh(alloc, setup)?;
-    match open(alloc, setup, holders, device, Repair::CutAtMost(0)) {
+    match open(alloc, setup, NO_NAME, holders, device, Repair::CutAtMost(0)) {
         Ok(OpenedTable::Ready(table, _)) => Ok(table),
         Ok(_) => Err("no table".into()),
         Err((error, _)) => Err(error.into()),
@@ -65,7 +65,7 @@ pub(crate) fn new_table<'s>(
     ensures setup { IfOk result (λ made. made.session.setup.now ≡ setup.now) }
 {
     let mut file = KillOnly::new(alloc, Vec::new(alloc));
-    create(&mut file)?;
+    create(alloc, &mut file, NO_NAME)?;
     opened(alloc, setup, file)
 }
 
@@ -168,7 +168,7 @@ pub(crate) fn compacted<D: Device>(
     ensures setup { table.new.session.setup ≡ table.old.session.setup }
 {
     let holders = fresh(alloc, setup)?;
-    match table.compact(alloc, holders)? {
+    match table.compact(alloc, NO_NAME, holders)? {
         Compacted::Done => Ok(()),
         Compacted::Kept => Err("not compacted".into()),
     }

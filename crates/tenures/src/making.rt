@@ -12,7 +12,7 @@ ghost use Rattle.tenures.specs.Steps.{commands_of, outcomes_of, HasBegun, IsMade
 use crate::ending::{Stopped, stopped_by};
 use crate::outside::World;
 use crate::step::Step;
-use durable_table::DurableTable;
+use durable_table::{DurableTable, NO_NAME};
 use held_lines::HeldReply;
 use held_table::HeldTable;
 use line_journal::Device;
@@ -95,7 +95,7 @@ fn compact<D: Device>(
     let Ok(fresh) = empty_table(alloc, setup) else {
         return Err(Stopped::OutOfMemory);
     };
-    match table.compact(alloc, fresh) {
+    match table.compact(alloc, NO_NAME, fresh) {
         Ok(_) => Ok(()),
         Err(error) => Err(stopped_by(error)),
     }

@@ -16,12 +16,13 @@ use crate::ending::Stopped;
 use crate::making::{empty_table, make};
 use crate::outside::World;
 use crate::step::Step;
-use durable_table::{DurableTable, OpenedTable, open};
+use durable_table::{DurableTable, NO_NAME, OpenedTable, open};
 use line_journal::{Device, DeviceError, Repair};
 use modprobe::Setup;
 use std::alloc::Global;
 
-/// The table that a journal stands for. If the process has to stop, the device is handed back.
+/// The table that a journal stands for, whichever setup it names. If the process has to stop, the device is handed back.
+#[tactic(auto, using(durable_table::proofs::CommandLemmas::any_is_of), unfolding(durable_table::specs::Commands::no_name))]
 fn open_table<'s, D: Device>(
     alloc: Global,
     setup: &'s Setup,
@@ -44,9 +45,10 @@ fn open_table<'s, D: Device>(
     let Ok(holders) = empty_table(alloc, setup) else {
         return Err((Stopped::OutOfMemory, device));
     };
-    match open(alloc, setup, holders, device, repair) {
+    match open(alloc, setup, NO_NAME, holders, device, repair) {
         Ok(OpenedTable::Ready(table, _found)) => Ok(table),
         Ok(OpenedTable::Foreign(device)) => Err((Stopped::NoTable, device)),
+        Ok(OpenedTable::Other(device)) => Err((Stopped::NoTable, device)),
         Ok(OpenedTable::Changed(device, _number)) => Err((Stopped::NoTable, device)),
         Ok(OpenedTable::Damaged(device, _found)) => Err((Stopped::NoTable, device)),
         Err((DeviceError::OutOfMemory, device)) => Err((Stopped::OutOfMemory, device)),

@@ -16,5 +16,5 @@ loop-command-preserved c =
     let sealed : line.items ≡ seal (link_behind (bytes_of lines)) command =
     c.in_ok-line.ensures ∙ ap (λ (link : List ℕ). seal link c.deref-in-loop-command.result.now) tells ∙ ap (seal (link_behind (bytes_of lines))) c.deref-in-loop-command.ensures.value in
     ap bytes_of c.in_ok-push-2.ensures.items ∙ map-append (λ (v : Vec ℕ Global). v.items) lines (line ∷ [])
-    ∙ journal_more c.args.commands.now c.loop-command.command-index c.command-item.result (bytes_of lines) line.items
+    ∙ journal_more c.args.name.now c.args.commands.now c.loop-command.command-index c.command-item.result (bytes_of lines) line.items
     c.loop-command-test.true c.command-item.is c.loop-command.invariant sealed

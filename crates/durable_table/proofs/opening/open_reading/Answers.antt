@@ -1,9 +1,9 @@
-use Rattle.std.proofs.Common.{◌≡◌, ◌∙◌, ◌∷◌, [], ℕ, List, Some, inl, ap, subst, arith, rules, Vec}
+use Rattle.std.proofs.Common.{◌≡◌, ◌∙◌, ◌∷◌, [], ℕ, List, Some, true, inl, sym, ap, subst, arith, rules, Vec}
 use Rattle.std.specs.declared.alloc.Global.{Global}
 use Rattle.line_journal.specs.Lines.{bytes_of}
 use Rattle.held_table.specs.Held.{Held}
 use Rattle.line_journal.proofs.FollowLemmas.{not_at_rest}
-use Rattle.durable_table.specs.Commands.{link_behind}
+use Rattle.durable_table.specs.Commands.{is_of, link_behind}
 use Rattle.durable_table.specs.Tables.{table_in}
 use Rattle.durable_table.proofs.KeptLemmas.{table_read}
 use Rattle.durable_table.proofs.opening.open_reading.Goals as goal
@@ -17,11 +17,14 @@ returns-in-Ok-Table-clause-read g c =
     let shut : c.in-Ok.found.behind.items ≡ 32 ∷ [] = c.is_at_rest.ensures.0 (search rules) in
     let made : table_in s (bytes_of c.deref.result.now) ≡ Some h = search rules in
     let makes = subst (λ (l : List (Vec ℕ Global)). table_in s (bytes_of l) ≡ Some h) c.deref.ensures.value made in
+    let name = c.args.name.now in
+    let of_name : is_of name (bytes_of c.deref.result.now) ≡ true = search rules in
     let tells : c.in-Ok-Table.link.items ≡ link_behind (bytes_of c.deref.result.now) = search rules in (
       table_read g.D.Device.content s h file c.in-Ok.found (record { lines = c.resume-lines.result; link = c.in-Ok-Table.link }) c.in-Ok.ensures.found shut c.in-Ok.ensures.fits same c.resume-lines.ensures.end makes
           (rw c.deref.ensures.value at tells),
       same,
       search rules,
+      sym (ap (is_of name) c.in-Ok.ensures.found.lines) ∙ subst (λ (l : List (Vec ℕ Global)). is_of name (bytes_of l) ≡ true) c.deref.ensures.value of_name,
     )
 
 pub returns-then-not-is_at_rest-clause-read : goal.returns-then-not-is_at_rest-clause-read

@@ -13,7 +13,7 @@ returns-clause-adopted g c =
     let table = c.in_ok-table.table in
     let held = table.session.holders.held in
     let kernel = c.in_ok-kernel.kernel.items in
-    let same : c.new.result.setup.now ≡ found.setup = c.new.ensures ∙ ap (λ (f : FolderSetup). f.setup) c.deref-3.ensures in (
+    let same : c.new.result.setup.now ≡ found.setup = c.new.ensures.setup ∙ ap (λ (f : FolderSetup). f.setup) c.deref-3.ensures in (
       c.new-replies.result,
       record { text = c.new-replies.ensures.text; endings = c.new-replies.ensures.endings },
       record {

@@ -11,5 +11,5 @@ returns-clause-done g c =
       c.in_ok-setup.ensures.found.0,
       c.in_ok-setup.setup.value,
       c.in_ok-setup.ensures.found.1,
-      subst (λ (f : FolderSetup). HasCompacted f.setup c.args.log.now c.compact_folder.new.log) c.deref-2.ensures (told done),
+      subst (λ (f : FolderSetup). HasCompacted f.setup f.name.items c.args.log.now c.compact_folder.new.log) c.deref-2.ensures (told done),
     )) c.compact_folder.ensures.done

@@ -9,5 +9,5 @@ returns-in-Ok-clause-created g c = (
   c.in_ok-device.device.belief.bytes.items,
   c.believed.result.value,
   ended_with c.in_ok-device.device.belief.bytes.items c.believed.result.value c.args.log.now c.begin_over.new.log c.end.new.self c.in_ok-begin_over.ensures.begun c.end.ensures,
-  subst (λ belief. belief.bytes.items ≡ at_rest (head ∷ [])) (sym c.believed.ensures) c.in-Ok.ensures.created,
+  subst (λ belief. belief.bytes.items ≡ at_rest (head c.args.name.now ∷ [])) (sym c.believed.ensures) c.in-Ok.ensures.created,
 )

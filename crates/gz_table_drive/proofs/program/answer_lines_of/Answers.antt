@@ -12,7 +12,7 @@ returns-clause-written g c =
       found = c.in_ok-setup.setup.value;
       read = c.in_ok-setup.ensures.found.1;
       answers = subst (λ (s : Setup). AnswersInput s (g.I.Read.remaining c.args.input.now) c.args.log.now c.answer_input.new.log (g.O.Write.contents c.args.output.now) (g.O.Write.contents c.answer_input.new.output) c.in_ok-ending.ending)
-          (c.new-kept.ensures ∙ ap (λ (f : FolderSetup). f.setup) c.deref.ensures) c.in_ok-ending.ensures.written;
+          (c.new-kept.ensures.setup ∙ ap (λ (f : FolderSetup). f.setup) c.deref.ensures) c.in_ok-ending.ensures.written;
     }
 
 pub returns-in_err-ending-clause-stopped : goal.returns-in_err-ending-clause-stopped
@@ -24,5 +24,5 @@ returns-in_err-ending-clause-stopped g c =
       found = c.in_ok-setup.setup.value;
       read = c.in_ok-setup.ensures.found.1;
       sends = subst (λ (s : Setup). SendsInput s (g.I.Read.remaining c.args.input.now) c.args.log.now c.answer_input.new.log (g.O.Write.contents c.args.output.now) (g.O.Write.contents c.answer_input.new.output) fault)
-          (c.new-kept.ensures ∙ ap (λ (f : FolderSetup). f.setup) c.deref.ensures) c.in_err-ending.ensures.stopped;
+          (c.new-kept.ensures.setup ∙ ap (λ (f : FolderSetup). f.setup) c.deref.ensures) c.in_err-ending.ensures.stopped;
     })

@@ -23,7 +23,7 @@ returns-clause-written g c =
     (g.O.Write.contents c.args.output.now) (g.O.Write.contents c.answer_turn.new.output) answered.replies c.first_ending.result c.in_ok-setup.ensures.found.1
     (alone_answered line (bytes_of lines) answered.count one some)
     (subst (λ (s : Setup). IsAnswered s (take answered.count (bytes_of lines)) c.args.log.now c.answer_turn.new.log answered.replies)
-    (c.new-kept.ensures ∙ ap (λ (f : FolderSetup). f.setup) c.deref-3.ensures) c.in_ok-answered.ensures.answered)
+    (c.new-kept.ensures.setup ∙ ap (λ (f : FolderSetup). f.setup) c.deref-3.ensures) c.in_ok-answered.ensures.answered)
     c.in_ok-answered.ensures.written c.first_ending.ensures
 
 pub returns-in_err-answered-clause-failed : goal.returns-in_err-answered-clause-failed
@@ -38,6 +38,6 @@ returns-in_err-answered-clause-failed g c =
       found = c.in_ok-setup.setup.value;
       read = c.in_ok-setup.ensures.found.1;
       sends = subst (λ (s : Setup). AreFirstSent s (line ∷ []) c.args.log.now c.answer_turn.new.log (g.O.Write.contents c.args.output.now) (g.O.Write.contents c.answer_turn.new.output) fault)
-          (c.new-kept.ensures ∙ ap (λ (f : FolderSetup). f.setup) c.deref-3.ensures)
+          (c.new-kept.ensures.setup ∙ ap (λ (f : FolderSetup). f.setup) c.deref-3.ensures)
           (subst (λ asked. AreFirstSent c.new-kept.result.setup.now asked c.args.log.now c.answer_turn.new.log (g.O.Write.contents c.args.output.now) (g.O.Write.contents c.answer_turn.new.output) fault) one c.in_err-answered.ensures.stopped);
     })

@@ -4,9 +4,11 @@ use Rattle.line_journal.specs.Lines.{lines_of, bytes_of}
 use Rattle.line_journal.specs.Renewed.{IsRead, IsFollowed}
 use Rattle.line_journal.specs.declared.journal.Journal.{Journal}
 use Rattle.line_journal.specs.declared.following.Followed.TheVariants.{AtRest, Anew}
+use Rattle.line_journal.specs.Journal.{lines_in}
 use Rattle.held_table.specs.Held.{Held}
 use Rattle.held_lines.specs.Outcomes.{after}
 use Rattle.durable_table.specs.Seals.{are_sealed}
+use Rattle.durable_table.proofs.CommandLemmas.{of_more}
 use Rattle.durable_table.proofs.KeptLemmas.{caught_up, not_sealed}
 use Rattle.durable_table.proofs.durable.DurableTable.catch_up.Goals as goal
 
@@ -23,6 +25,12 @@ returns-clause-reads g c = λ ready.
     (rw (c.deref.ensures.value, c.deref-2.ensures.value) at sealed)
     (c.in_ok-replay.ensures.after ∙ ap (λ (l : List (Vec ℕ Global)). after s h (map (drop 17) (bytes_of l))) c.deref-3.ensures.value)
     c.link_to.ensures.link
+
+pub returns-clause-of : goal.returns-clause-of
+returns-clause-of g c = λ ready.
+    let followed : IsFollowed g.D.Device.content c.args.self.now.journal.lines c.follow.new.self (AtRest c.in-AtRest.added) = search rules in
+    of_more (lines_in g.D.Device.content c.args.self.now.journal.lines) (lines_in g.D.Device.content c.link_to.new.self.lines) (bytes_of c.in-AtRest.added.items)
+    (ap (λ (j : Journal g.row.D.Denot). lines_of (g.D.Device.content j.device)) c.link_to.ensures.lines ∙ followed.1)
 
 pub returns-in-Anew-clause-anew : goal.returns-in-Anew-clause-anew
 returns-in-Anew-clause-anew g c = λ told continues.

@@ -1,7 +1,9 @@
 use Rattle.std.proofs.Common.{refl, subst, List, ℕ}
 use Rattle.line_journal.specs.Lines.{bytes_of}
+use Rattle.line_journal.specs.Journal.{lines_in}
 use Rattle.held_table.specs.Held.{Held}
 use Rattle.durable_table.specs.Groups.{AreMade}
+use Rattle.durable_table.proofs.CommandLemmas.{of_more}
 use Rattle.durable_table.proofs.GroupLemmas.{group_moments, group_stands, none_written}
 use Rattle.durable_table.proofs.durable.DurableTable.perform_all.Goals as goal
 
@@ -15,6 +17,10 @@ returns-in-Ok-put_group-clause-stands g c =
     subst (λ (link : List ℕ). AreMade s h new link (bytes_of c.args.lines.now) c.in-Ok.field-0.replies.items sealed) c.deref.ensures.value c.in-Ok.ensures.made in
     group_stands g.D.Device.content g.D.Device.history s h new (bytes_of c.args.lines.now) sealed sealed c.in-Ok.field-0.replies.items
     c.args.self.now.journal c.put_group.new.self c.requires.stands made refl c.in-Ok-put_group.ensures.acknowledged.0 c.in-Ok-put_group.ensures.acknowledged.1 c.in-Ok-put_group.ensures.link
+
+pub returns-in-Ok-put_group-clause-of : goal.returns-in-Ok-put_group-clause-of
+returns-in-Ok-put_group-clause-of g c =
+    of_more (lines_in g.D.Device.content c.args.self.now.journal.lines) (lines_in g.D.Device.content c.put_group.new.self.lines) _ c.in-Ok-put_group.ensures.acknowledged.1
 
 pub returns-in-Ok-put_group-clause-any_moment : goal.returns-in-Ok-put_group-clause-any_moment
 returns-in-Ok-put_group-clause-any_moment g c =
