@@ -1,6 +1,7 @@
 //! Processes that use a table one after another, over a file of the system which each of them opens anew.
 #![tactic(auto)]
 
+mod counted;
 mod life;
 mod lives;
 mod making;
@@ -8,6 +9,7 @@ mod running;
 #[cfg(test)]
 mod tests;
 
+pub use counted::CountedFile;
 pub use life::Life;
 pub use lives::FileLives;
 pub use running::run_over_files;

@@ -2,9 +2,17 @@
 
 /// How far a process comes.
 #[derive(Clone, Copy, Debug, PartialEq, Eq)]
-pub enum Life {
-    /// It is cut off once it has begun so many replies.
-    Replies(usize),
-    /// Nothing cuts it off.
-    Whole,
+pub struct Life {
+    /// So many calls of its file are answered. Within the next one it is killed.
+    pub calls: usize,
+    /// So many replies are begun.
+    pub replies: usize,
+}
+
+impl Life {
+    /// Nothing cuts the process off.
+    pub const WHOLE: Life = Life {
+        calls: usize::MAX,
+        replies: usize::MAX,
+    };
 }

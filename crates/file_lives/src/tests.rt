@@ -18,27 +18,53 @@ module loop
 %session
 ";
 
-const ASKED: [&[u8]; 4] = [
+const ASKED: [&[u8]; 6] = [
     b"modprobe floppy\nhold web17 floppy",
     b"get web18 floppy",
-    b"held\nget web19 floppy\nrmmod floppy",
+    b"get web19 floppy",
+    b"get web20 floppy",
+    b"held\nget web21 floppy\nrmmod floppy",
     b"held",
 ];
 
-// The second is cut off before it begins a reply, the third before it begins its last one.
-const PLAN: [Life; 3] = [Life::Whole, Life::Replies(0), Life::Replies(2)];
+// A process reads its file by two calls: a sync and a read. A line then takes four: a write and a sync, and the same for its
+// gate. So the third process is killed within the write of the gate, and the fourth within that of the line. The second is cut
+// off before it begins a reply, the fifth before it begins its last one.
+const PLAN: [Life; 5] = [
+    Life::WHOLE,
+    Life {
+        replies: 0,
+        ..Life::WHOLE
+    },
+    Life {
+        calls: 4,
+        ..Life::WHOLE
+    },
+    Life {
+        calls: 2,
+        ..Life::WHOLE
+    },
+    Life {
+        replies: 2,
+        ..Life::WHOLE
+    },
+];
 
 const REPLIES: &[u8] = b"ok
 ok floppy
 --
 --
+--
+--
 web17 floppy 1
 web18 floppy 1
+web19 floppy 1
 ok
 --
 web17 floppy 1
 web18 floppy 1
 web19 floppy 1
+web21 floppy 1
 --
 ";
 
@@ -48,6 +74,7 @@ const LEFT: &[u8] = b"+gourzhiel journal 2 - -
 +0fc1d5ff119c1147 hold web17 floppy
 +3bec57f01c6567ca get web18 floppy
 +80b1476cf8c2cad3 get web19 floppy
++9d624a77e78cf849 get web21 floppy
  ";
 
 /// The setup of two modules.
@@ -89,7 +116,9 @@ fn add_all(alloc: Global, processes: &mut Vec<Vec<Step>>) -> Result<(), Fail>
     add(alloc, processes, ASKED[0])?;
     add(alloc, processes, ASKED[1])?;
     add(alloc, processes, ASKED[2])?;
-    add(alloc, processes, ASKED[3])
+    add(alloc, processes, ASKED[3])?;
+    add(alloc, processes, ASKED[4])?;
+    add(alloc, processes, ASKED[5])
 }
 
 /// The text of the replies of the processes, over a journal in a folder.
