@@ -6,7 +6,7 @@ ghost use Rattle.durable_table.specs.Tables.{opening_of, table_of};
 ghost use Rattle.file_journal.specs.Belief.{history_of};
 ghost use Rattle.file_journal.specs.declared.disk_file.Syncs.TheVariants.{Kept};
 
-use durable_table::create;
+use durable_table::{NO_NAME, create};
 use file_journal::{Action, FileDevice, FileFault, FolderLock, OpenError, Syncs, Target};
 use std::alloc::Global;
 use std::fs::File;
@@ -40,7 +40,7 @@ pub(crate) fn make_journal<R: Files + Drop>(
     ensures on_disk { IfOk result (λ device. IsOnDisk device.belief.bytes.items (history_of device.belief)) }
 {
     let mut device = open_new_file(rt, alloc, lock, folder)?;
-    match create(&mut device) {
+    match create(alloc, &mut device, NO_NAME) {
         Ok(()) => Ok(device),
         Err(_) => match device.fault() {
             Some(fault) => Err(OpenError::Failed(fault)),
