@@ -140,6 +140,18 @@ def faults_of_environment(machine):
     return faults + ["without outputs, a command's variable was changed"] * (file.read_text() != "given\n")
 
 
+def faults_of_aliens(machine):
+    """A module that the table cannot have is listed, and is no fault of a mend."""
+    machine.anew()
+    machine.run("insmod", "alien.ko")
+    line, lost = "alien: Absent in the table, Live in the kernel\n", "overlay: Live in the table, Absent in the kernel\n"
+    found = machine.hold("check"), machine.hold("mend"), machine.hold("get one overlay")
+    machine.run("rmmod", "overlay")
+    found += machine.hold("mend"), machine.hold("put one"), machine.hold("mend")
+    wanted = ((line, 1, []), (line, 0, []), ("ok overlay\n", 0, []), (line + lost, 1, []), ("ok\n", 0, []), (line, 0, []))
+    return [] if found == wanted else [f"a module that the table cannot have: {found}"]
+
+
 def faults_of_newer(machine):
     """A module that came to the machine after its table was made is refused, and it is said why."""
     machine.anew()
@@ -154,5 +166,5 @@ def faults_of_newer(machine):
 
 def faults_of_others(machine):
     """What is wrong, each as a line."""
-    parts = [faults_of_needs, faults_of_slow_tries, faults_of_kernel_alone, faults_of_loaded, faults_of_newer, faults_of_who, faults_of_environment]
+    parts = [faults_of_needs, faults_of_slow_tries, faults_of_kernel_alone, faults_of_loaded, faults_of_aliens, faults_of_newer, faults_of_who, faults_of_environment]
     return [fault for part in parts for fault in part(machine)]
