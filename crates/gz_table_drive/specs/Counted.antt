@@ -1,13 +1,19 @@
 -- What `check` writes.
-use Rattle.std.specs.Prelude.{◌≡◌, ℕ, List, ◌++◌, codes, decimal, Option}
+use Rattle.std.specs.Prelude.{◌≡◌, ℕ, List, ◌++◌, codes, decimal, length, Option, Some, None}
 use Rattle.std.specs.Io.KnownBytes.{Appends}
 use Rattle.table_words.specs.declared.ending.Ending.{Ending}
 use Rattle.table_words.specs.declared.ending.Ending.TheVariants.{Done}
+use Rattle.held_table.specs.Held.{Held}
 use Rattle.gz_table_drive.specs.declared.check.Counts.{Counts}
 
 -- a word and a number
 abbrev pub count_line : List ℕ → ℕ → List ℕ
 count_line word count = word ++ (codes " " ++ (decimal count ++ codes "\n"))
+
+-- how many modules and holders a table has that is there
+abbrev pub AreCounted : Option Held → ℕ × ℕ → Type 0
+AreCounted None counts = ⊥
+AreCounted (Some held) counts = (counts.0 ≡ length held.table.book.order) × (counts.1 ≡ length held.names)
 
 -- six words, each with its number
 abbrev pub counts_text : Counts → List ℕ

@@ -1,20 +1,18 @@
 //! What stands in a folder.
 ghost use Rattle.std.specs.Prelude.{◌≡◌, ◌++◌, IfOk, OnOk};
-ghost use Rattle.line_journal.specs.Lines.{IsLine};
-ghost use Rattle.gz_table_drive.specs.Counted.{count_line, counts_text};
+ghost use Rattle.durable_table.specs.Tables.{table_of};
+ghost use Rattle.gz_table_drive.specs.Counted.{count_line, counts_text, AreCounted};
 
-use crate::answering::Replies;
-use crate::reading::{answer_copy, copy_of};
+use crate::reading::copy_of;
 use file_journal::LockKind;
 use itoa::Buffer;
 use line_journal::{Found, KillOnly, look};
-use program_frame::first_word;
+use seq_table::Modules;
 use std::alloc::{AllocError, Global};
 use std::fs::File;
 use std::rt::Files;
 use std::time::Clock;
-use table_folder::{FolderSetup, Shared, TableFault, alone, cut_length, read_journal, read_setup};
-use text_parts::{is_same, whole_lines};
+use table_folder::{FolderSetup, Shared, TableFault, cut_length, read_journal, read_setup};
 
 /// What `check` counts.
 #[derive(Clone, Copy, Default)]
@@ -59,33 +57,17 @@ impl Counts {
     }
 }
 
-/// How many different words lines begin with that stand one after another.
-fn count_runs(text: &[u8]) -> usize {
-    let (mut count, mut before) = (0usize, b"".as_slice());
-    for line in whole_lines(text) {
-        let word = first_word(line);
-        if !is_same(word, before) {
-            count = count.saturating_add(1);
-        }
-        before = word;
-    }
-    count
-}
-
-/// The reply to a line that asks, from a copy of the journal.
-fn listing(
+/// How many modules, and how many holders, the table has that a journal's bytes stand for.
+fn count_table(
     alloc: Global,
     setup: &FolderSetup,
-    bytes: &[u8],
-    line: &[u8],
-) -> Result<Vec<u8>, TableFault>
-    requires { IsLine line.now }
+    bytes: Vec<u8>,
+) -> Result<(usize, usize), TableFault>
+    ensures { IfOk result (AreCounted (table_of setup.now.setup bytes.items)) }
 {
-    let mut replies = Replies::new(alloc);
-    let lines = alone(alloc, line.to_vec(alloc)?)?;
-    let mut table = copy_of(alloc, &setup.setup, &setup.name, bytes.to_vec(alloc)?)?;
-    answer_copy(alloc, &mut table, &lines, &mut replies)?;
-    Ok(replies.text)
+    let table = copy_of(alloc, &setup.setup, &setup.name, bytes)?;
+    let holders = table.session().holders();
+    Ok((holders.loaded(), holders.holders()))
 }
 
 /// What stands in the journal's file.
@@ -107,13 +89,12 @@ pub(crate) fn check<R: Files<File = File> + Clock + AllocGlobal>(
     let (bytes, _) = read_journal(shared, &lock)?;
     let cut = cut_length(shared)?;
     lock.release();
-    let loaded = listing(alloc, &setup, &bytes, b"proc")?;
-    let held = listing(alloc, &setup, &bytes, b"held")?;
+    let (loaded, holders) = count_table(alloc, &setup, bytes.to_vec(alloc)?)?;
     let found = found_in(alloc, &bytes)?;
     Ok(Counts {
         modules: setup.setup.catalogue().len(),
-        loaded: whole_lines(&loaded).count(),
-        holders: count_runs(&held),
+        loaded,
+        holders,
         lines: found.lines.len(),
         torn: if found.is_at_rest() {
             0
