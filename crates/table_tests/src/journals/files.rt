@@ -187,8 +187,8 @@ fn misses_its_folder(rt: &HostRuntime, folder: &str, device: &mut Disk<'_>) -> R
     let is_missed = device.read_again().is_err() && look(rt.alloc(), device).is_err();
     fs::create_dir(rt, folder)?;
     write(rt, folder, "+other\n ")?;
-    let is_read = device.read_again().is_ok() && found_by(rt, device)?.lines.len() == 1;
-    Ok(is_missed && is_read)
+    device.read_again()?;
+    Ok(is_missed && found_by(rt, device)?.lines.len() == 1)
 }
 
 /// Whether nothing is written or read without the lock, nor written where others that read have it too.
