@@ -90,8 +90,9 @@ fn is_room(room: usize, commands: &[Vec<u8>]) -> bool
 }
 
 impl<'s, D: Device> DurableTable<'s, D> {
-    /// Rewrites the journal as the lines that make the table, of the setup of this name. They are first tried, on holders of which none is there yet: if
-    /// they make the same table, and only then, the journal is rewritten. At `Ok` it stands for the table, on the disk.
+    /// Rewrites the journal as the lines that make the table, of the setup of this name. They are first tried, on holders of
+    /// which none is there yet: if they make the same table, and only then, the journal is rewritten. At `Ok` it stands for the
+    /// table, on the disk.
     ///
     /// A crash at any moment of the call leaves a journal of the same table. Out of memory, nothing was changed.
     #[tactic(auto, using(crate::proofs::CompactLemmas::still_stands))]

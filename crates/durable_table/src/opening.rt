@@ -99,9 +99,9 @@ fn read_table<'s>(
     Ok(Read::Table(session, Vec::from_slice(alloc, link_behind(lines))?))
 }
 
-/// Makes the table that a journal stands for, by the setup of this name, over holders of which none is there yet. The journal has
-/// to name it too, or no setup. The file is read once, and waited for once. If a crash left the journal torn, its end is repaired, as `line_journal::open` says. Nothing else is written, and that
-/// only once all lines were read and found whole.
+/// Makes the table that a journal stands for, by the setup of this name, over holders of which none is there yet. The journal
+/// has to name it too, or no setup. The file is read once, and waited for once. If a crash left the journal torn, its end is
+/// repaired, as `line_journal::open` says. Nothing else is written, and that only once all lines were read and found whole.
 ///
 /// A crash at any moment leaves the same lines, or what it might have left before the call. An error hands the device back.
 pub fn open<'s, D: Device>(
@@ -147,13 +147,14 @@ pub fn open<'s, D: Device>(
 pub enum ReadTable<'s, D: Device> {
     /// The table that the journal reads as.
     Ready(DurableTable<'s, D>),
-    /// The file does not read as a journal at rest, or its lines stand for no table, or are of another setup. `open` says why, or
-    /// repairs it.
+    /// The file does not read as a journal at rest, or its lines stand for no table, or are of another setup. `open` says why,
+    /// or repairs it.
     Anew(D),
 }
 
-/// Makes the table that a journal reads as, by the setup of this name, over holders of which none is there yet, if it is whole and
-/// at rest, and names that setup, or none. Nothing is written, and nothing is waited for: what was read may not be on the disk yet. An error hands the device back.
+/// Makes the table that a journal reads as, by the setup of this name, over holders of which none is there yet, if it is whole
+/// and at rest, and names that setup, or none. Nothing is written, and nothing is waited for: what was read may not be on the
+/// disk yet. An error hands the device back.
 pub fn open_reading<'s, D: Device>(
     alloc: Global,
     setup: &'s Setup,

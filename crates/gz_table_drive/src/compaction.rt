@@ -47,8 +47,8 @@ fn compact_table<D: Renewable + Drop>(
     }
 }
 
-/// Writes a journal that has become long anew, of the setup of this name. Returns whether the table may be kept: if the journal could not be written, it
-/// stands for the same table all the same, but that is to be opened anew.
+/// Writes a journal that has become long anew, of the setup of this name. Returns whether the table may be kept: if the journal
+/// could not be written, it stands for the same table all the same, but that is to be opened anew.
 pub(crate) fn shorten<D: Renewable + Drop>(
     alloc: Global,
     setup: &Setup,

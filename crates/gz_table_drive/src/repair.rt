@@ -46,7 +46,8 @@ fn damage_in(found: Found) -> Option<Found>
     }
 }
 
-/// The table that the lines of a journal stand for, by the setup of this name. What stands behind them is cut off, however much it is.
+/// The table that the lines of a journal stand for, by the setup of this name. What stands behind them is cut off, however much
+/// it is.
 ///
 /// A crash at any moment leaves the same lines, or what it might have left before.
 fn repair_table<'s, D: Device + Drop>(
@@ -85,8 +86,8 @@ fn try_copy(alloc: Global, setup: &Setup, name: &[u8], bytes: Vec<u8>) -> Result
     }
 }
 
-/// The device of a journal, behind whose lines nothing stands any more. It is kept in `journal.cut` first, and it is told how many
-/// lines it has.
+/// The device of a journal, behind whose lines nothing stands any more. It is kept in `journal.cut` first, and it is told how
+/// many lines it has.
 fn repaired_device<'r, R: Files<File = File> + Clock + AllocGlobal, E: Write>(
     shared: &Shared<'r, R>,
     setup: &FolderSetup,

@@ -11,8 +11,8 @@ use modprobe::{AliasForm, Setup};
 use std::alloc::Global;
 use table_setup::Sealed;
 
-/// The name of the setup that these bytes of a file are, as a journal of it has it. `CutSetup` if they do not end with a last line of
-/// their length. It computes no sum.
+/// The name of the setup that these bytes of a file are, as a journal of it has it. `CutSetup` if they do not end with a last
+/// line of their length. It computes no sum.
 pub fn name_of_setup(alloc: Global, bytes: &[u8]) -> Result<Vec<u8>, TableFault>
     ensures named { IfOk result (λ name. IsNamed bytes.now name.items) }
     ensures fault { IfErr result IsRefused }
@@ -37,8 +37,8 @@ pub struct FolderSetup {
 }
 
 impl FolderSetup {
-    /// What the bytes of a setup's file say, which has this mark, with its aliases in a form. `CutSetup` if they do not end with a last line of
-    /// their length, and `ChangedSetup` if their text has another sum than that line says.
+    /// What the bytes of a setup's file say, which has this mark, with its aliases in a form. `CutSetup` if they do not end
+    /// with a last line of their length, and `ChangedSetup` if their text has another sum than that line says.
     #[tactic(auto, using(crate::proofs::SetupLemmas::cut_sealed, crate::proofs::SetupLemmas::cut_named))]
     pub(crate) fn read(
         alloc: Global,
