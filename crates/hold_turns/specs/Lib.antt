@@ -1,0 +1,4 @@
+pub mod Events
+pub mod Views
+pub mod Lines
+pub mod Acts
