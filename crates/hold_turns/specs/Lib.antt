@@ -2,3 +2,4 @@ pub mod Events
 pub mod Views
 pub mod Lines
 pub mod Acts
+pub mod Rule

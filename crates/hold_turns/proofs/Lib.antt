@@ -1,0 +1,4 @@
+pub mod TurnLemmas
+pub mod HandsLemmas
+pub mod TableLemmas
+pub mod KnowLemmas

@@ -1,0 +1,37 @@
+use Rattle.std.proofs.Common.{◌∙◌, refl, subst, ℕ, List, true, Contains}
+use Rattle.hold_turns.specs.declared.call.State.TheVariants as state
+use Rattle.hold_turns.specs.declared.call.End.TheVariants as the_end
+use Rattle.hold_turns.proofs.TurnLemmas.{turn_stay, turn_then}
+use Rattle.hold_turns.proofs.HandsLemmas.{unlock_turn}
+use Rattle.hold_turns.proofs.KnowLemmas.{free_knows, ready_none, owner_of}
+use Rattle.hold_turns.proofs.call.Call.step_at.Goals as goal
+
+pub let_locks_go-requires : goal.let_locks_go-requires
+let_locks_go-requires g c = c.requires.ready.idle
+
+pub returns-then-eq-clause-turn : goal.returns-then-eq-clause-turn
+returns-then-eq-clause-turn g c = turn_then (turn_stay c.args.number (g.T.Table.view c.args.table.now) (g.H.Hands.view c.args.hands.now) c.requires.one) (unlock_turn c.args.number (g.T.Table.view c.args.table.now) (g.H.Hands.view c.args.hands.now) (g.H.Hands.view c.let_locks_go.new.hands) (turn_stay c.args.number (g.T.Table.view c.args.table.now) (g.H.Hands.view c.args.hands.now) c.requires.one).one (c.requires.ready.idle) c.let_locks_go.ensures.unlocks)
+
+pub returns-then-eq-clause-knows : goal.returns-then-eq-clause-knows
+returns-then-eq-clause-knows g c = free_knows (state.Over (the_end.Refused c.args.slot)) c.args.number c.let_locks_go.new.self (g.T.Table.view c.args.table.now) (g.H.Hands.view c.let_locks_go.new.hands) (refl) c.let_locks_go.ensures.next (ready_none c.args.number _ (g.H.Hands.view c.let_locks_go.new.hands) c.let_locks_go.ensures.none (c.let_locks_go.ensures.unlocks.acts c.args.number ∙ c.requires.ready.idle))
+
+pub begin_act-requires-clause-one : goal.begin_act-requires-clause-one
+begin_act-requires-clause-one g c = c.requires.one
+
+pub begin_act-requires-clause-ready : goal.begin_act-requires-clause-ready
+begin_act-requires-clause-ready g c = c.requires.ready
+
+pub begin_act-requires-clause-locked : goal.begin_act-requires-clause-locked
+begin_act-requires-clause-locked g c = owner_of c.args.number c.args.slot _ (g.H.Hands.view c.args.hands.now) c.requires.ready.locks (subst (λ (xs : List ℕ). Contains xs c.args.slot) c.deref.ensures.value (c.has.ensures c.if-has.true))
+
+pub returns-then-has-clause-turn : goal.returns-then-has-clause-turn
+returns-then-has-clause-turn g c = c.begin_act.ensures.turn
+
+pub returns-then-has-clause-knows : goal.returns-then-has-clause-knows
+returns-then-has-clause-knows g c = c.begin_act.ensures.knows
+
+pub returns-clause-turn : goal.returns-clause-turn
+returns-clause-turn g c = turn_then (turn_stay c.args.number (g.T.Table.view c.args.table.now) (g.H.Hands.view c.args.hands.now) c.requires.one) (unlock_turn c.args.number (g.T.Table.view c.args.table.now) (g.H.Hands.view c.args.hands.now) (g.H.Hands.view c.let_locks_go-2.new.hands) (turn_stay c.args.number (g.T.Table.view c.args.table.now) (g.H.Hands.view c.args.hands.now) c.requires.one).one (c.requires.ready.idle) c.let_locks_go-2.ensures.unlocks)
+
+pub returns-clause-knows : goal.returns-clause-knows
+returns-clause-knows g c = free_knows c.anew.result c.args.number c.let_locks_go-2.new.self (g.T.Table.view c.args.table.now) (g.H.Hands.view c.let_locks_go-2.new.hands) (c.anew.ensures) c.let_locks_go-2.ensures.next (ready_none c.args.number _ (g.H.Hands.view c.let_locks_go-2.new.hands) c.let_locks_go-2.ensures.none (c.let_locks_go-2.ensures.unlocks.acts c.args.number ∙ c.requires.ready.idle))

@@ -1,0 +1,8 @@
+use Rattle.hold_turns.specs.Rule.{AreOne, AllKnow}
+use Rattle.hold_turns.proofs.run.holds_keep_modules.Given as goal
+
+abbrev pub invariant-loop-choice : goal.invariant-loop-choice
+invariant-loop-choice g l = record {
+  one : AreOne (g.T.Table.view l.table) (g.H.Hands.view l.hands);
+  know : AllKnow l.calls (g.T.Table.view l.table) (g.H.Hands.view l.hands);
+}
