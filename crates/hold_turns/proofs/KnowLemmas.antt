@@ -87,13 +87,13 @@ all_let_go calls n t h i all q over j none within = ⊎_elim
 -- a call is cut off: all know what they knew
 pub all_cut : (calls new : List Call) (n : ℕ) (t : TableView) (h : HandsView) → AllKnow calls t h → IsCut n calls new → AllKnow new t h
 all_cut calls new n t h all q j none within = ⊎_elim
-    (λ (is : j ≡ n). over_knows (get_or new j none).state j (get_or new j none) t h (subst (λ (k : ℕ). is_over (get_or new k none).state ≡ true) (sym is) (q.over none)))
+    (λ (is : j ≡ n). over_knows (get_or new j none).state j (get_or new j none) t h (subst (λ (k : ℕ). is_over (get_or new k none).state ≡ true) (sym is) (q.over (subst (λ (k : ℕ). k < length calls) is (subst (λ (l : ℕ). j < l) q.len within)) none)))
     (λ (ne : j ≡ n → ⊥). subst (λ (c : Call). Knows j c t h) (sym (q.others j none ne)) (all j none (subst (λ (l : ℕ). j < l) q.len within))) (cases_eq j n)
 
 pub cut_is : (calls : List Call) (n : ℕ) (call : Call) → n < length calls → is_over call.state ≡ true → IsCut n calls (set calls n call)
 cut_is calls n call lt over = record {
   len = length-set calls n call;
-  over = λ none. subst (λ (c : Call). is_over c.state ≡ true) (sym (get_or-set_same calls n call none lt)) over;
+  over = λ within none. subst (λ (c : Call). is_over c.state ≡ true) (sym (get_or-set_same calls n call none lt)) over;
   others = λ i none ne. get_or-set_other calls n i call none ne;
 }
 

@@ -3,3 +3,4 @@ pub mod Views
 pub mod Lines
 pub mod Acts
 pub mod Rule
+pub mod Course

@@ -87,5 +87,5 @@ IsOverAt number calls = (none : Call) → is_over (slice_index_or calls number n
 -- the call of this number is over, and the others are as they were
 pub record IsCut (number : ℕ) (old new : List Call) : Type 0 where
   pub len : length new ≡ length old
-  pub over : IsOverAt number new
+  pub over : number < length old → IsOverAt number new
   pub others : (i : ℕ) (none : Call) → (i ≡ number → ⊥) → slice_index_or new i none ≡ slice_index_or old i none

@@ -1,6 +1,7 @@
 //! A call, as a value that makes turns.
 ghost use Rattle.std.specs.Prelude.{◌≡◌, [], true, OnOk};
 ghost use Rattle.hold_turns.specs.Rule.{AreOne, IsTurn, is_over, Knows};
+ghost use Rattle.hold_turns.specs.Course.{HasTurned};
 ghost use Rattle.hold_turns.specs.declared.call.State.TheVariants.{Begins};
 
 use crate::hands::{Gone, Hands};
@@ -175,6 +176,7 @@ impl<'a> Call<'a> {
         requires knows { Knows number self.old (T.view table.old) (H.view hands.old) }
         ensures turn { IsTurn number (T.view table.old) (H.view hands.old) (T.view table.new) (H.view hands.new) }
         ensures knows { OnOk result (Knows number self.new (T.view table.new) (H.view hands.new)) }
+        ensures goes { OnOk result (HasTurned self.old self.new) }
     {
         match self.state {
             State::Begins => self.begin(number, table, hands),
@@ -203,6 +205,7 @@ impl<'a> Call<'a> {
         requires knows { Knows number self.old (T.view table.old) (H.view hands.old) }
         ensures turn { IsTurn number (T.view table.old) (H.view hands.old) (T.view table.new) (H.view hands.new) }
         ensures knows { Knows number self.new (T.view table.new) (H.view hands.new) }
+        ensures goes { HasTurned self.old self.new }
     {
         match self.act(alloc, number, table, hands) {
             Ok(()) => {}

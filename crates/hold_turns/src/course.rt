@@ -3,7 +3,8 @@ ghost use Rattle.std.specs.Prelude.{◌≡◌, [], true, Some, OnOk};
 ghost use Rattle.hold_turns.specs.Views.{Idle};
 ghost use Rattle.hold_turns.specs.Acts.{Unlocks};
 ghost use Rattle.hold_turns.specs.Rule.{AreOne, IsTurn, IsReady, HasLocks, HoldsOwed, needs_no_lock, Knows};
-ghost use Rattle.hold_turns.specs.declared.call.State.TheVariants.{Acting};
+ghost use Rattle.hold_turns.specs.declared.call.State.TheVariants.{Begins, Holding, Locking, Bringing, Stepping, Acting, Looking};
+ghost use Rattle.hold_turns.specs.Course.{may_come};
 
 use crate::bring::{bring_all, first_of, has, missing_of};
 use crate::call::{Call, End, Job, State, Stopped};
@@ -35,6 +36,7 @@ impl<'a> Call<'a> {
         requires ready { IsReady number self.old.locked.items (H.view hands.old) }
         ensures turn { IsTurn number (T.view table.old) (H.view hands.old) (T.view table.new) (H.view hands.new) }
         ensures knows { OnOk result (Knows number self.new (T.view table.new) (H.view hands.new)) }
+        ensures goes { OnOk result (may_come Begins self.new.state ≡ true) }
     {
         match self.job {
             Job::Get => {
@@ -66,6 +68,7 @@ impl<'a> Call<'a> {
         requires ready { IsReady number self.old.locked.items (H.view hands.old) }
         ensures turn { IsTurn number (T.view table.old) (H.view hands.old) (T.view table.new) (H.view hands.new) }
         ensures knows { OnOk result (Knows number self.new (T.view table.new) (H.view hands.new)) }
+        ensures goes { OnOk result (may_come Holding self.new.state ≡ true) }
     {
         if table.hold(self.holder, self.modules)? {
             self.state = State::Looking;
@@ -87,6 +90,7 @@ impl<'a> Call<'a> {
         requires ready { IsReady number self.old.locked.items (H.view hands.old) }
         ensures turn { IsTurn number (T.view table.old) (H.view hands.old) (T.view table.new) (H.view hands.new) }
         ensures knows { OnOk result (Knows number self.new (T.view table.new) (H.view hands.new)) }
+        ensures goes { OnOk result (may_come Locking self.new.state ≡ true) }
     {
         let slots = missing_of(alloc, self.job, self.plan, table)?;
         if hands.lock(number, &slots)? {
@@ -109,6 +113,7 @@ impl<'a> Call<'a> {
         requires ready { IsReady number self.old.locked.items (H.view hands.old) }
         ensures turn { IsTurn number (T.view table.old) (H.view hands.old) (T.view table.new) (H.view hands.new) }
         ensures knows { OnOk result (Knows number self.new (T.view table.new) (H.view hands.new)) }
+        ensures goes { OnOk result (may_come Bringing self.new.state ≡ true) }
     {
         bring_all(number, &self.locked, table, hands)?;
         self.state = State::Stepping;
@@ -128,6 +133,7 @@ impl<'a> Call<'a> {
         requires locked { (H.view hands.old).owner slot ≡ Some number }
         ensures turn { IsTurn number (T.view table.old) (H.view hands.old) (T.view table.new) (H.view hands.new) }
         ensures knows { OnOk result (Knows number self.new (T.view table.new) (H.view hands.new)) }
+        ensures goes { OnOk result (may_come Stepping self.new.state ≡ true) }
     {
         if table.make(slot, Half::BeginLoad)? {
             hands.insmod(number, slot)?;
@@ -152,6 +158,7 @@ impl<'a> Call<'a> {
         requires locked { (H.view hands.old).owner slot ≡ Some number }
         ensures turn { IsTurn number (T.view table.old) (H.view hands.old) (T.view table.new) (H.view hands.new) }
         ensures knows { OnOk result (Knows number self.new (T.view table.new) (H.view hands.new)) }
+        ensures goes { OnOk result (may_come Stepping self.new.state ≡ true) }
     {
         if table.make(slot, Half::BeginRemove)? {
             hands.rmmod(number, slot)?;
@@ -176,6 +183,7 @@ impl<'a> Call<'a> {
         requires locked { (H.view hands.old).owner slot ≡ Some number }
         ensures turn { IsTurn number (T.view table.old) (H.view hands.old) (T.view table.new) (H.view hands.new) }
         ensures knows { OnOk result (Knows number self.new (T.view table.new) (H.view hands.new)) }
+        ensures goes { OnOk result (may_come Stepping self.new.state ≡ true) }
     {
         match self.job {
             Job::Remove => self.begin_removal(number, slot, table, hands),
@@ -195,6 +203,7 @@ impl<'a> Call<'a> {
         requires ready { IsReady number self.old.locked.items (H.view hands.old) }
         ensures turn { IsTurn number (T.view table.old) (H.view hands.old) (T.view table.new) (H.view hands.new) }
         ensures knows { OnOk result (Knows number self.new (T.view table.new) (H.view hands.new)) }
+        ensures goes { OnOk result (may_come Stepping self.new.state ≡ true) }
     {
         if self.tried == Some(slot) {
             self.let_locks_go(number, State::Over(End::Refused(slot)), hands);
@@ -218,6 +227,7 @@ impl<'a> Call<'a> {
         requires ready { IsReady number self.old.locked.items (H.view hands.old) }
         ensures turn { IsTurn number (T.view table.old) (H.view hands.old) (T.view table.new) (H.view hands.new) }
         ensures knows { OnOk result (Knows number self.new (T.view table.new) (H.view hands.new)) }
+        ensures goes { OnOk result (may_come Stepping self.new.state ≡ true) }
     {
         let next = first_of(self.job, self.plan, table)?;
         match next {
@@ -237,6 +247,7 @@ impl<'a> Call<'a> {
         requires ready { IsReady number self.old.locked.items (H.view hands.old) }
         ensures turn { IsTurn number (T.view table.old) (H.view hands.old) (T.view table.new) (H.view hands.new) }
         ensures knows { OnOk result (Knows number self.new (T.view table.new) (H.view hands.new)) }
+        ensures goes { OnOk result (may_come Stepping self.new.state ≡ true) }
     {
         match self.job {
             Job::Remove => self.let_locks_go(number, State::Over(End::Done), hands),
@@ -247,7 +258,9 @@ impl<'a> Call<'a> {
 
     /// What a call does that has to begin anew.
     fn anew(&self) -> State
-        ensures { needs_no_lock result ≡ true }
+        ensures free { needs_no_lock result ≡ true }
+        ensures from_step { may_come Stepping result ≡ true }
+        ensures from_lock { may_come Locking result ≡ true }
     {
         match self.job {
             Job::Remove => State::Locking,
@@ -267,6 +280,7 @@ impl<'a> Call<'a> {
         requires state { self.old.state ≡ Acting }
         ensures turn { IsTurn number (T.view table.old) (H.view hands.old) (T.view table.new) (H.view hands.new) }
         ensures knows { OnOk result (Knows number self.new (T.view table.new) (H.view hands.new)) }
+        ensures goes { OnOk result (may_come Acting self.new.state ≡ true) }
     {
         if hands.has_ended(number)? {
             self.state = State::Bringing;
@@ -286,6 +300,7 @@ impl<'a> Call<'a> {
         requires owed { HoldsOwed number self.old.holder.now self.old.modules.now (T.view table.old) (H.view hands.old) }
         ensures turn { IsTurn number (T.view table.old) (H.view hands.old) (T.view table.new) (H.view hands.new) }
         ensures knows { OnOk result (Knows number self.new (T.view table.new) (H.view hands.new)) }
+        ensures goes { OnOk result (may_come Looking self.new.state ≡ true) }
     {
         if hands.sees(self.modules)? {
             hands.unlock(number);

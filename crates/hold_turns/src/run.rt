@@ -1,6 +1,7 @@
 //! Turns of many calls, in any order.
 ghost use Rattle.std.specs.Prelude.{◌≡◌, ◌<◌, true, length};
 ghost use Rattle.hold_turns.specs.Events.{StaysWhileHeld};
+ghost use Rattle.hold_turns.specs.Course.{Turns, IsChosen, AreMade};
 ghost use Rattle.hold_turns.specs.Rule.{AreOne, AllKnow, IsCut, IsOverAt};
 
 use crate::call::Call;
@@ -19,7 +20,7 @@ pub enum Choice {
     Ends(usize),
 }
 
-/// One call makes its turn.
+/// One call makes its turn. A number that names no call changes nothing.
 fn take_turn<T: Table, H: Hands>(
     alloc: Global,
     calls: &mut [Call<'_>],
@@ -27,21 +28,24 @@ fn take_turn<T: Table, H: Hands>(
     table: &mut T,
     hands: &mut H,
 )
-    requires number { number < length calls.old }
     requires one { AreOne (T.view table.old) (H.view hands.old) }
     requires know { AllKnow calls.old (T.view table.old) (H.view hands.old) }
     ensures one { AreOne (T.view table.new) (H.view hands.new) }
     ensures know { AllKnow calls.new (T.view table.new) (H.view hands.new) }
+    ensures turns { Turns number calls.old calls.new }
 {
-    calls[number].turn(alloc, number, table, hands);
+    if number < calls.len() {
+        calls[number].turn(alloc, number, table, hands);
+    }
 }
 
 /// One call is cut off. What it began goes on.
 fn cut_off(calls: &mut [Call<'_>], number: usize)
-    requires { number < length calls.old }
     ensures { IsCut number calls.old calls.new }
 {
-    calls[number].cut();
+    if number < calls.len() {
+        calls[number].cut();
+    }
 }
 
 /// Whether the call of a number is over.
@@ -54,19 +58,18 @@ fn is_over_at(calls: &[Call<'_>], number: usize) -> bool
 
 /// The act of a call goes on or ends.
 fn go_on<T: Table, H: Hands>(calls: &[Call<'_>], number: usize, table: &mut T, hands: &mut H)
-    requires number { number < length calls.now }
     requires one { AreOne (T.view table.old) (H.view hands.old) }
     requires know { AllKnow calls.now (T.view table.old) (H.view hands.old) }
     ensures one { AreOne (T.view table.new) (H.view hands.new) }
     ensures know { AllKnow calls.now (T.view table.new) (H.view hands.new) }
 {
     hands.go_on(number);
-    if is_over_at(calls, number) {
+    if number < calls.len() && is_over_at(calls, number) {
         hands.let_go(number);
     }
 }
 
-/// Makes one choice. One that names no call changes nothing.
+/// Makes one choice.
 fn choose<T: Table, H: Hands>(
     alloc: Global,
     calls: &mut [Call<'_>],
@@ -78,13 +81,12 @@ fn choose<T: Table, H: Hands>(
     requires know { AllKnow calls.old (T.view table.old) (H.view hands.old) }
     ensures one { AreOne (T.view table.new) (H.view hands.new) }
     ensures know { AllKnow calls.new (T.view table.new) (H.view hands.new) }
+    ensures chosen { IsChosen choice calls.old calls.new }
 {
-    let count = calls.len();
     match choice {
-        Choice::Next(number) if number < count => take_turn(alloc, calls, number, table, hands),
-        Choice::Cut(number) if number < count => cut_off(calls, number),
-        Choice::Ends(number) if number < count => go_on(calls, number, table, hands),
-        _ => {}
+        Choice::Next(number) => take_turn(alloc, calls, number, table, hands),
+        Choice::Cut(number) => cut_off(calls, number),
+        Choice::Ends(number) => go_on(calls, number, table, hands),
     }
 }
 
@@ -99,6 +101,7 @@ pub fn holds_keep_modules<T: Table, H: Hands>(
     requires one { AreOne (T.view table.old) (H.view hands.old) }
     requires know { AllKnow calls.old (T.view table.old) (H.view hands.old) }
     ensures kept { StaysWhileHeld (H.view hands.new).events }
+    ensures made { AreMade calls.old choices.now calls.new }
     ensures one { AreOne (T.view table.new) (H.view hands.new) }
     ensures know { AllKnow calls.new (T.view table.new) (H.view hands.new) }
 {

@@ -1,7 +1,9 @@
-use Rattle.std.proofs.Common.{subst}
+use Rattle.std.proofs.Common.{refl, ap, subst}
 use Rattle.hold_turns.specs.declared.call.State.{State}
-use Rattle.hold_turns.specs.Rule.{KnowsIn}
+use Rattle.hold_turns.specs.declared.call.State.TheVariants as state
+use Rattle.hold_turns.specs.Rule.{is_over, KnowsIn}
 use Rattle.hold_turns.proofs.TurnLemmas.{turn_stay}
+use Rattle.hold_turns.proofs.CourseLemmas.{turned_from, stayed_over}
 use Rattle.hold_turns.proofs.call.Call.act.Goals as goal
 
 pub begin-requires-clause-one : goal.begin-requires-clause-one
@@ -99,3 +101,27 @@ returns-in-Over-clause-turn g c = (turn_stay c.args.number (g.T.Table.view c.arg
 
 pub returns-in-Over-clause-knows : goal.returns-in-Over-clause-knows
 returns-in-Over-clause-knows g c = c.requires.knows
+
+pub returns-in-Begins-clause-goes : goal.returns-in-Begins-clause-goes
+returns-in-Begins-clause-goes g c = turned_from state.Begins c.begin.result c.args.self.now c.begin.new.self c.in-Begins.is refl c.begin.ensures.goes
+
+pub returns-in-Holding-clause-goes : goal.returns-in-Holding-clause-goes
+returns-in-Holding-clause-goes g c = turned_from state.Holding c.hold.result c.args.self.now c.hold.new.self c.in-Holding.is refl c.hold.ensures.goes
+
+pub returns-in-Locking-clause-goes : goal.returns-in-Locking-clause-goes
+returns-in-Locking-clause-goes g c = turned_from state.Locking c.lock.result c.args.self.now c.lock.new.self c.in-Locking.is refl c.lock.ensures.goes
+
+pub returns-in-Bringing-clause-goes : goal.returns-in-Bringing-clause-goes
+returns-in-Bringing-clause-goes g c = turned_from state.Bringing c.bring.result c.args.self.now c.bring.new.self c.in-Bringing.is refl c.bring.ensures.goes
+
+pub returns-in-Stepping-clause-goes : goal.returns-in-Stepping-clause-goes
+returns-in-Stepping-clause-goes g c = turned_from state.Stepping c.step.result c.args.self.now c.step.new.self c.in-Stepping.is refl c.step.ensures.goes
+
+pub returns-in-Acting-clause-goes : goal.returns-in-Acting-clause-goes
+returns-in-Acting-clause-goes g c = turned_from state.Acting c.wait.result c.args.self.now c.wait.new.self c.in-Acting.is refl c.wait.ensures.goes
+
+pub returns-in-Looking-clause-goes : goal.returns-in-Looking-clause-goes
+returns-in-Looking-clause-goes g c = turned_from state.Looking c.look.result c.args.self.now c.look.new.self c.in-Looking.is refl c.look.ensures.goes
+
+pub returns-in-Over-clause-goes : goal.returns-in-Over-clause-goes
+returns-in-Over-clause-goes g c = stayed_over c.args.self.now (ap is_over c.in-Over.is)

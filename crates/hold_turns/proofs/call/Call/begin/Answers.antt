@@ -1,3 +1,4 @@
+use Rattle.std.proofs.Common.{refl}
 use Rattle.hold_turns.specs.Events.{Asked}
 use Rattle.hold_turns.proofs.TurnLemmas.{turn_stay}
 use Rattle.hold_turns.proofs.HandsLemmas.{asked_turn, release_turn}
@@ -21,3 +22,12 @@ returns-in-Remove-clause-turn g c = turn_stay c.args.number (g.T.Table.view c.ar
 
 pub returns-in-Remove-clause-knows : goal.returns-in-Remove-clause-knows
 returns-in-Remove-clause-knows g c = c.requires.ready
+
+pub returns-in-Get-clause-goes : goal.returns-in-Get-clause-goes
+returns-in-Get-clause-goes g c = refl
+
+pub returns-in_ok-release-in-Put-clause-goes : goal.returns-in_ok-release-in-Put-clause-goes
+returns-in_ok-release-in-Put-clause-goes g c = refl
+
+pub returns-in-Remove-clause-goes : goal.returns-in-Remove-clause-goes
+returns-in-Remove-clause-goes g c = refl

@@ -29,3 +29,9 @@ returns-in-Get-clause-turn g c = c.begin_load.ensures.turn
 
 pub returns-in-Get-clause-knows : goal.returns-in-Get-clause-knows
 returns-in-Get-clause-knows g c = c.begin_load.ensures.knows
+
+pub returns-in-Remove-clause-goes : goal.returns-in-Remove-clause-goes
+returns-in-Remove-clause-goes g c = c.begin_removal.ensures.goes
+
+pub returns-in-Get-clause-goes : goal.returns-in-Get-clause-goes
+returns-in-Get-clause-goes g c = c.begin_load.ensures.goes

@@ -1,4 +1,4 @@
-use Rattle.std.proofs.Common.{◌∙◌, refl, true}
+use Rattle.std.proofs.Common.{◌∙◌, refl, ap, true}
 use Rattle.hold_turns.specs.Views.{Removes}
 use Rattle.hold_turns.specs.declared.call.State.TheVariants as state
 use Rattle.hold_turns.specs.declared.call.End.TheVariants as the_end
@@ -6,6 +6,7 @@ use Rattle.hold_turns.proofs.TurnLemmas.{turn_then}
 use Rattle.hold_turns.proofs.HandsLemmas.{unlock_turn, begin_turn}
 use Rattle.hold_turns.proofs.TableLemmas.{begin_remove_turn}
 use Rattle.hold_turns.proofs.KnowLemmas.{free_knows, ready_none}
+use Rattle.hold_turns.specs.Course.{may_come}
 use Rattle.hold_turns.proofs.call.Call.begin_removal.Goals as goal
 
 pub returns-in_err-make-clause-turn : goal.returns-in_err-make-clause-turn
@@ -34,3 +35,9 @@ returns-clause-turn g c = turn_then (begin_remove_turn c.args.number c.args.slot
 
 pub returns-clause-knows : goal.returns-clause-knows
 returns-clause-knows g c = free_knows (state.Over (the_end.Refused c.args.slot)) c.args.number c.let_locks_go.new.self (g.T.Table.view c.make.new.self) (g.H.Hands.view c.let_locks_go.new.hands) (refl) c.let_locks_go.ensures.next (ready_none c.args.number _ (g.H.Hands.view c.let_locks_go.new.hands) c.let_locks_go.ensures.none (c.let_locks_go.ensures.unlocks.acts c.args.number ∙ c.requires.ready.idle))
+
+pub returns-then-branch-clause-goes : goal.returns-then-branch-clause-goes
+returns-then-branch-clause-goes g c = refl
+
+pub returns-clause-goes : goal.returns-clause-goes
+returns-clause-goes g c = ap (may_come state.Stepping) c.let_locks_go.ensures.next

@@ -1,4 +1,4 @@
-use Rattle.std.proofs.Common.{sym, subst, ℕ, List}
+use Rattle.std.proofs.Common.{refl, sym, subst, ℕ, List}
 use Rattle.hold_turns.specs.Rule.{IsReady}
 use Rattle.hold_turns.proofs.TurnLemmas.{ready_quiet}
 use Rattle.hold_turns.proofs.call.Call.bring.Goals as goal
@@ -17,3 +17,6 @@ returns-clause-turn g c = c.bring_all.ensures.turn
 
 pub returns-clause-knows : goal.returns-clause-knows
 returns-clause-knows g c = ready_quiet _ c.requires.ready c.bring_all.ensures.quiet
+
+pub returns-clause-goes : goal.returns-clause-goes
+returns-clause-goes g c = refl

@@ -1,9 +1,10 @@
-use Rattle.std.proofs.Common.{◌∙◌, refl}
+use Rattle.std.proofs.Common.{◌∙◌, refl, ap}
 use Rattle.hold_turns.specs.declared.call.State.TheVariants as state
 use Rattle.hold_turns.specs.declared.call.End.TheVariants as the_end
 use Rattle.hold_turns.proofs.TurnLemmas.{turn_stay, turn_then}
 use Rattle.hold_turns.proofs.HandsLemmas.{unlock_turn}
 use Rattle.hold_turns.proofs.KnowLemmas.{free_knows, ready_none}
+use Rattle.hold_turns.specs.Course.{may_come}
 use Rattle.hold_turns.proofs.call.Call.end_plan.Goals as goal
 
 pub let_locks_go-requires : goal.let_locks_go-requires
@@ -20,3 +21,9 @@ returns-in-Get-clause-turn g c = (turn_stay c.args.number (g.T.Table.view c.args
 
 pub returns-in-Get-clause-knows : goal.returns-in-Get-clause-knows
 returns-in-Get-clause-knows g c = c.requires.ready
+
+pub returns-in-Remove-clause-goes : goal.returns-in-Remove-clause-goes
+returns-in-Remove-clause-goes g c = ap (may_come state.Stepping) c.let_locks_go.ensures.next
+
+pub returns-in-Get-clause-goes : goal.returns-in-Get-clause-goes
+returns-in-Get-clause-goes g c = refl

@@ -1,9 +1,10 @@
-use Rattle.std.proofs.Common.{◌∙◌, refl, true}
+use Rattle.std.proofs.Common.{◌∙◌, refl, ap, true}
 use Rattle.hold_turns.specs.declared.call.State.TheVariants as state
 use Rattle.hold_turns.proofs.TurnLemmas.{turn_then}
 use Rattle.hold_turns.proofs.HandsLemmas.{unlock_turn}
 use Rattle.hold_turns.proofs.TableLemmas.{hold_turn, owed_held}
 use Rattle.hold_turns.proofs.KnowLemmas.{free_knows, ready_none}
+use Rattle.hold_turns.specs.Course.{may_come}
 use Rattle.hold_turns.proofs.call.Call.hold.Goals as goal
 
 pub returns-in_err-hold-clause-turn : goal.returns-in_err-hold-clause-turn
@@ -23,3 +24,9 @@ returns-clause-turn g c = turn_then (hold_turn c.args.number c.args.self.now.hol
 
 pub returns-clause-knows : goal.returns-clause-knows
 returns-clause-knows g c = free_knows state.Locking c.args.number c.let_locks_go.new.self (g.T.Table.view c.hold.new.self) (g.H.Hands.view c.let_locks_go.new.hands) (refl) c.let_locks_go.ensures.next (ready_none c.args.number _ (g.H.Hands.view c.let_locks_go.new.hands) c.let_locks_go.ensures.none (c.let_locks_go.ensures.unlocks.acts c.args.number ∙ c.requires.ready.idle))
+
+pub returns-then-branch-clause-goes : goal.returns-then-branch-clause-goes
+returns-then-branch-clause-goes g c = refl
+
+pub returns-clause-goes : goal.returns-clause-goes
+returns-clause-goes g c = ap (may_come state.Holding) c.let_locks_go.ensures.next

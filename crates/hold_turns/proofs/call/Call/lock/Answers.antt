@@ -22,4 +22,10 @@ pub returns-clause-turn : goal.returns-clause-turn
 returns-clause-turn g c = turn_then (read_turn c.args.number (g.T.Table.view c.args.table.now) (g.T.Table.view c.missing_of.new.table) (g.H.Hands.view c.args.hands.now) c.missing_of.ensures c.requires.one) (quiet_turn c.args.number (g.T.Table.view c.missing_of.new.table) (g.H.Hands.view c.args.hands.now) (g.H.Hands.view c.lock.new.self) (read_turn c.args.number (g.T.Table.view c.args.table.now) (g.T.Table.view c.missing_of.new.table) (g.H.Hands.view c.args.hands.now) c.missing_of.ensures c.requires.one).one c.lock.ensures.quiet)
 
 pub returns-clause-knows : goal.returns-clause-knows
-returns-clause-knows g c = free_knows c.anew-self.result c.args.number _ _ (g.H.Hands.view c.lock.new.self) c.anew-self.ensures refl (ready_quiet _ c.requires.ready c.lock.ensures.quiet)
+returns-clause-knows g c = free_knows c.anew-self.result c.args.number _ _ (g.H.Hands.view c.lock.new.self) c.anew-self.ensures.free refl (ready_quiet _ c.requires.ready c.lock.ensures.quiet)
+
+pub returns-then-branch-clause-goes : goal.returns-then-branch-clause-goes
+returns-then-branch-clause-goes g c = refl
+
+pub returns-clause-goes : goal.returns-clause-goes
+returns-clause-goes g c = c.anew-self.ensures.from_lock

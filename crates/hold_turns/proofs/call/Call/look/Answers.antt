@@ -1,8 +1,9 @@
-use Rattle.std.proofs.Common.{◌∙◌, refl}
+use Rattle.std.proofs.Common.{◌∙◌, refl, ap}
 use Rattle.hold_turns.specs.declared.call.State.TheVariants as state
 use Rattle.hold_turns.proofs.TurnLemmas.{turn_then}
 use Rattle.hold_turns.proofs.HandsLemmas.{quiet_turn, unlock_turn, begun_turn}
 use Rattle.hold_turns.proofs.KnowLemmas.{free_knows, ready_none, owed_same}
+use Rattle.hold_turns.specs.Course.{may_come}
 use Rattle.hold_turns.proofs.call.Call.look.Goals as goal
 
 pub returns-in_err-sees-clause-turn : goal.returns-in_err-sees-clause-turn
@@ -22,3 +23,9 @@ returns-clause-turn g c = turn_then (quiet_turn c.args.number (g.T.Table.view c.
 
 pub returns-clause-knows : goal.returns-clause-knows
 returns-clause-knows g c = free_knows state.Locking c.args.number c.let_locks_go.new.self (g.T.Table.view c.args.table.now) (g.H.Hands.view c.let_locks_go.new.hands) (refl) c.let_locks_go.ensures.next (ready_none c.args.number _ (g.H.Hands.view c.let_locks_go.new.hands) c.let_locks_go.ensures.none (c.let_locks_go.ensures.unlocks.acts c.args.number ∙ (c.sees.ensures.quiet.acts c.args.number ∙ c.requires.ready.idle)))
+
+pub returns-then-branch-clause-goes : goal.returns-then-branch-clause-goes
+returns-then-branch-clause-goes g c = refl
+
+pub returns-clause-goes : goal.returns-clause-goes
+returns-clause-goes g c = ap (may_come state.Looking) c.let_locks_go.ensures.next

@@ -28,3 +28,9 @@ returns-in-None-clause-turn g c = turn_then (read_turn c.args.number (g.T.Table.
 
 pub returns-in-None-clause-knows : goal.returns-in-None-clause-knows
 returns-in-None-clause-knows g c = c.end_plan.ensures.knows
+
+pub returns-in-Some-clause-goes : goal.returns-in-Some-clause-goes
+returns-in-Some-clause-goes g c = c.step_at.ensures.goes
+
+pub returns-in-None-clause-goes : goal.returns-in-None-clause-goes
+returns-in-None-clause-goes g c = c.end_plan.ensures.goes

@@ -1,9 +1,10 @@
-use Rattle.std.proofs.Common.{◌∙◌, refl, subst, ℕ, List, true, Contains}
+use Rattle.std.proofs.Common.{◌∙◌, refl, ap, subst, ℕ, List, true, Contains}
 use Rattle.hold_turns.specs.declared.call.State.TheVariants as state
 use Rattle.hold_turns.specs.declared.call.End.TheVariants as the_end
 use Rattle.hold_turns.proofs.TurnLemmas.{turn_stay, turn_then}
 use Rattle.hold_turns.proofs.HandsLemmas.{unlock_turn}
 use Rattle.hold_turns.proofs.KnowLemmas.{free_knows, ready_none, owner_of}
+use Rattle.hold_turns.specs.Course.{may_come}
 use Rattle.hold_turns.proofs.call.Call.step_at.Goals as goal
 
 pub let_locks_go-requires : goal.let_locks_go-requires
@@ -34,4 +35,13 @@ pub returns-clause-turn : goal.returns-clause-turn
 returns-clause-turn g c = turn_then (turn_stay c.args.number (g.T.Table.view c.args.table.now) (g.H.Hands.view c.args.hands.now) c.requires.one) (unlock_turn c.args.number (g.T.Table.view c.args.table.now) (g.H.Hands.view c.args.hands.now) (g.H.Hands.view c.let_locks_go-2.new.hands) (turn_stay c.args.number (g.T.Table.view c.args.table.now) (g.H.Hands.view c.args.hands.now) c.requires.one).one (c.requires.ready.idle) c.let_locks_go-2.ensures.unlocks)
 
 pub returns-clause-knows : goal.returns-clause-knows
-returns-clause-knows g c = free_knows c.anew.result c.args.number c.let_locks_go-2.new.self (g.T.Table.view c.args.table.now) (g.H.Hands.view c.let_locks_go-2.new.hands) (c.anew.ensures) c.let_locks_go-2.ensures.next (ready_none c.args.number _ (g.H.Hands.view c.let_locks_go-2.new.hands) c.let_locks_go-2.ensures.none (c.let_locks_go-2.ensures.unlocks.acts c.args.number ∙ c.requires.ready.idle))
+returns-clause-knows g c = free_knows c.anew.result c.args.number c.let_locks_go-2.new.self (g.T.Table.view c.args.table.now) (g.H.Hands.view c.let_locks_go-2.new.hands) c.anew.ensures.free c.let_locks_go-2.ensures.next (ready_none c.args.number _ (g.H.Hands.view c.let_locks_go-2.new.hands) c.let_locks_go-2.ensures.none (c.let_locks_go-2.ensures.unlocks.acts c.args.number ∙ c.requires.ready.idle))
+
+pub returns-then-eq-clause-goes : goal.returns-then-eq-clause-goes
+returns-then-eq-clause-goes g c = ap (may_come state.Stepping) c.let_locks_go.ensures.next
+
+pub returns-then-has-clause-goes : goal.returns-then-has-clause-goes
+returns-then-has-clause-goes g c = c.begin_act.ensures.goes
+
+pub returns-clause-goes : goal.returns-clause-goes
+returns-clause-goes g c = ap (may_come state.Stepping) c.let_locks_go-2.ensures.next ∙ c.anew.ensures.from_step
