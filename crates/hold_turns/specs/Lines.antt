@@ -50,7 +50,8 @@ pub record MayRelease (holder modules : List ℕ) (old new : TableView) : Type 0
   pub fewer : (h : List ℕ) (m : ℕ) → new.holds h m ≡ true → old.holds h m ≡ true
   pub only : (h : List ℕ) (m : ℕ) → old.holds h m ≡ true → (new.holds h m ≡ true) ⊎ (holder ≡ h) × Contains modules m
 
--- what ends a half that somebody left, by whether the kernel has the module
+-- what ends a half that somebody left, by whether the kernel has the module. A drain is called off: who
+-- began it has the lock no more
 abbrev pub ending_of : ModuleState → Bool → Option Half
 ending_of Loading true = Some LoadDone
 ending_of Loading false = Some LoadFailed
