@@ -34,7 +34,6 @@ pub(crate) fn certain_notes(is_whole: bool, notes: Vec<Note>) -> Vec<Note>
     notes
 }
 
-/// Whether a fact says that nothing has a name.
 fn is_not_found(fact: Fact<'_>) -> bool {
     matches!(fact.what, What::Missing(MissingFact::NotFound))
 }

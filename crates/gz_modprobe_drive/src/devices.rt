@@ -24,7 +24,6 @@ fn add_device<S: System>(
     Ok(())
 }
 
-/// Adds the devices of a bus.
 fn add_bus<S: System>(
     host: &Host<'_, S>,
     bus: &[u8],

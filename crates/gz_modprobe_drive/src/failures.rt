@@ -8,12 +8,10 @@ use modprobe_words::{Level, Messages};
 use std::alloc::{AllocError, Global};
 use std::io::Write;
 
-/// Tells that a module could not be loaded or removed.
 fn tell_could_not<E: Write>(messages: &mut Messages<'_, E>, verb: &[u8], name: &Text, why: &[u8]) {
     messages.tell(Level::Error, verb, b" '", name.as_bytes(), why);
 }
 
-/// Tells why a name was not answered.
 fn tell_failure<E: Write>(
     failure: &Failure,
     query: &Query<'_>,
@@ -56,7 +54,6 @@ fn is_path(word: &[u8]) -> bool {
     word.contains(&b'/') || ENDINGS.iter().any(|ending| word.ends_with(*ending))
 }
 
-/// Tells of a word that was not found whether it is a path.
 fn tell_path<E: Write>(
     alloc: Global,
     word: &[u8],

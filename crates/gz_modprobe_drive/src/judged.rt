@@ -32,7 +32,6 @@ fn status_by(is_judged: bool, is_noted: bool, is_checked: bool) -> u8
     }
 }
 
-/// What is told of a folder of modules, if notices are shown.
 fn shown_notices(alloc: Global, verbosity: u64, tree: &Tree<'_>) -> Result<Vec<u8>, AllocError>
     ensures { IfOk result (λ lines. lines.items ≡ shown_notices verbosity tree.now) }
 {
@@ -72,7 +71,6 @@ fn folder_of(path: &[u8]) -> &[u8] {
     }
 }
 
-/// Tells the releases whose modules are there, if there are some.
 fn tell_releases<S: System, E: Write>(
     host: &Host<'_, S>,
     folder: &[u8],

@@ -21,7 +21,6 @@ fn counting_path(texts: &ConfTexts, place: Option<Place>) -> &[u8]
     }
 }
 
-/// A note of a line, of its file.
 #[tactic(auto, unfolding(crate::specs::LintFacts::pieces_of_note))]
 fn fact_of_note<'a>(texts: &'a ConfTexts, note: &'a Note) -> Fact<'a>
     ensures { pieces_of_fact result ≡ pieces_of_note texts.entry.now note.entry.now }

@@ -6,7 +6,6 @@ use modprobe_files::{Host, System};
 use std::alloc::AllocError;
 use std::io::ErrorKind;
 
-/// Names in the order of their bytes.
 fn in_order(names: Vec<Vec<u8>>) -> Vec<Vec<u8>>
     ensures names { IsPermutation names.items result.items }
     ensures order { IsSorted by_bytes result.items }

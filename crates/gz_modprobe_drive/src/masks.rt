@@ -17,7 +17,6 @@ pub(crate) fn is_of_package(path: &[u8]) -> bool
     path.starts_with(b"/usr/lib/modprobe.d/") || path.starts_with(b"/lib/modprobe.d/")
 }
 
-/// Whether a file was read at a path, and is empty.
 fn is_empty_at(files: &[TextFile], path: &[u8]) -> bool
     ensures { result ≡ is_empty_at files.now path.now }
 {
@@ -33,7 +32,6 @@ fn is_masked(files: &[TextFile], file: &HiddenFile) -> bool
     is_of_package(&file.path) && is_empty_at(files, &file.by)
 }
 
-/// A file that another one of its name hides.
 fn fact_of_hidden(file: &HiddenFile) -> Fact<'_>
     ensures { pieces_of_fact result ≡ hidden_file file.entry.now }
 {

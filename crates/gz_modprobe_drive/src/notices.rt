@@ -10,7 +10,6 @@ const BY_DEPMOD: &[u8] = b", which depmod(8) writes";
 
 const BY_BUILD: &[u8] = b", which the kernel's build writes";
 
-/// Adds a line.
 fn push_notice(lines: &mut Vec<u8>, what: &[u8], path: &[u8], more: &[u8]) -> Result<(), AllocError>
     ensures { OnOk result (lines.new.items ≡ lines.old.items ++ notice what.now path.now more.now) }
 {
@@ -33,7 +32,6 @@ fn push_text(lines: &mut Vec<u8>, path: &[u8], who: &[u8], found: Found) -> Resu
     }
 }
 
-/// What is told of each text of a folder.
 fn text_notices(alloc: Global, tree: &Tree<'_>) -> Result<Vec<u8>, AllocError>
     ensures { IfOk result (λ lines. lines.items ≡ text_notices tree.now) }
 {

@@ -15,14 +15,12 @@ const NO_FILE: &[u8] = b"No such file or directory";
 
 const NO_CURRENT_FOLDER: &[u8] = b"The current folder is not known";
 
-/// Whether a word is a path, and no name.
 fn is_path(kmod: Kmod, word: &[u8]) -> bool
     ensures { result ≡ is_path kmod word.now }
 {
     kmod.takes_paths() && (word.starts_with(b"/") || word.starts_with(b"./"))
 }
 
-/// The words of a query that are loaded or resolved.
 fn names_of<'a>(query: &Query<'a>) -> &'a [&'a [u8]]
     ensures { texts_of result.now ≡ names_of query.now }
 {

@@ -32,7 +32,6 @@ fn is_of_kernel(path: &[u8]) -> bool {
     path.starts_with(b"/proc/") || path.starts_with(b"/sys/")
 }
 
-/// The path of a place below a root.
 fn path_below(alloc: Global, root: &[u8], names: &[Vec<u8>]) -> Result<Vec<u8>, AllocError>
     ensures { IfOk result (λ path. path.items ≡ path_below root.now (bytes_of names.now)) }
 {
@@ -56,7 +55,6 @@ impl<R: Files + Env + AllocGlobal> Regular<'_, R> {
         }
     }
 
-    /// Whether what stands at a place may be read to its end.
     fn place_ends(&self, place: &Place) -> Result<bool, AllocError> {
         let alloc = self.disk.rt.alloc();
         match place {

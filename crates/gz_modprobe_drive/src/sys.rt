@@ -27,7 +27,6 @@ fn state_of(text: &[u8]) -> ModuleState
     }
 }
 
-/// How many digits stand at the beginning.
 fn digit_count(text: &[u8]) -> usize
     ensures value { result ≡ prefix_len is_digit text.now }
     ensures within { result ≤ length text.now }
@@ -98,7 +97,6 @@ fn status_by(initstate: Option<&[u8]>, folder: Kind, refcnt: Option<&[u8]>) -> O
     Some(ModuleStatus { state, users })
 }
 
-/// What the folder of a module tells; None if it tells nothing.
 fn status_of<S: System>(
     host: &Host<'_, S>,
     folder: &[u8],

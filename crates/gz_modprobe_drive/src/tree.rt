@@ -32,7 +32,6 @@ pub(crate) struct Tree<'a> {
 }
 
 impl Found {
-    /// Whether a text can be judged by.
     fn is_sound(self) -> bool
         ensures { result ≡ is_sound self }
     {
@@ -40,7 +39,6 @@ impl Found {
     }
 }
 
-/// Whether a text ends within a line.
 fn is_cut(text: &[u8]) -> bool
     ensures { result ≡ is_cut text.now }
 {
@@ -50,7 +48,6 @@ fn is_cut(text: &[u8]) -> bool
     }
 }
 
-/// What was found of a text, by what was read of it.
 fn found_by(text: &[u8]) -> Found
     ensures { result ≡ found_by text.now }
 {
