@@ -1,13 +1,16 @@
 -- How a run ends.
-use Rattle.std.proofs.Common.{◌≡◌, ℕ, Option, Some, None, List, refl, sym, subst, ◌∙◌}
+use Rattle.std.proofs.Common.{◌≡◌, ℕ, Bool, true, false, not, ◌||◌, if◌then◌else◌, Option, Some, None, List, refl, sym, subst, ◌∙◌, arith}
 use Rattle.kmod_query.specs.Answers.{Answer}
 use Rattle.kmod_query.specs.declared.query.Query.{Query}
 use Rattle.modprobe_files.specs.declared.texts.ModuleTexts.{ModuleTexts}
+use Rattle.kmod_version.specs.declared.kmod.Kmod.{Kmod}
+use Rattle.modprobe_words.specs.declared.written.Written.{Written}
+use Rattle.modprobe_words.specs.declared.written.Written.TheVariants as written
+use Rattle.gz_modprobe_drive.specs.declared.answered.Answered.{Answered}
 use Rattle.gz_modprobe_drive.specs.declared.texts.Machine.{Machine}
-use Rattle.gz_modprobe_drive.specs.Answered.{IsAnswer, IsAnswerOf, IsAnswerWith, manner_of, said_by}
+use Rattle.gz_modprobe_drive.specs.Answered.{IsAnswer, IsAnswerOf, IsAnswerWith, IsWritten, is_whole, manner_of, said_by, status_of}
 use Rattle.gz_modprobe_drive.specs.Texts.{AreRead, IsThis, Large, large_texts, or_empty, texts_with}
-use Rattle.modprobe_words.specs.Begun.{IsBegun}
-use Rattle.gz_modprobe_drive.specs.Ends.{IsAnswerBy, IsReadBy}
+use Rattle.gz_modprobe_drive.specs.Ends.{IsAnswerBy, IsReadBy, WasAnswered}
 use Rattle.gz_modprobe_drive.specs.Outputs.{WritesAnswer}
 use Rattle.gz_modprobe_drive.specs.Paths.{paths_of, words_of as path_words}
 use Rattle.kmod_index.specs.Index.{Texts}
@@ -50,7 +53,7 @@ later-with machine own query answer modules manner said is = record {
 }
 
 -- and an answer with large texts is one of such a machine
-pub answer-by : (machine : Machine) (query : Query) (answer : Answer) → path_words machine.paths.now ≡ paths_of machine.conf.now.kmod query
+answer-by : (machine : Machine) (query : Query) (answer : Answer) → path_words machine.paths.now ≡ paths_of machine.conf.now.kmod query
     → IsAnswerWith machine query answer → IsAnswerBy machine.conf.now.kmod machine.whole query answer
 answer-by machine query answer paths is = record {
   known = said_by machine (texts_with machine.modules.now is.large);
@@ -61,8 +64,29 @@ answer-by machine query answer paths is = record {
 }
 
 -- with any status, a beginning of it was written
-pub answer-begun : (machine : Machine) (query : Query) (answer : Answer) (before after : Option (List ℕ))
-    → path_words machine.paths.now ≡ paths_of machine.conf.now.kmod query → IsAnswerOf machine query answer → IsBegun before after answer.output
-    → WritesAnswer machine.conf.now.kmod machine.whole query before after
-answer-begun machine query answer before after paths is begun changed =
-    record { answer = answer; is = answer-by machine query answer paths (read-with machine query answer is); begun = begun }
+pub answer-begun : (machine : Machine) (query : Query) (own : Answered) (kmod : Kmod) (before after : Option (List ℕ)) → machine.conf.now.kmod ≡ kmod
+    → path_words machine.paths.now ≡ paths_of machine.conf.now.kmod query → IsAnswerWith machine query own.answer → IsWritten before after own
+    → WritesAnswer kmod machine.whole query before after
+answer-begun machine query own kmod before after same paths is how changed =
+    record { answer = own.answer; is = subst (λ k. IsAnswerBy k machine.whole query own.answer) same (answer-by machine query own.answer paths is); begun = how.begun }
+
+-- a status of 0 says that no name failed, and that all was written
+not-failed : (failed : Bool) (how : Written) → ◌≡◌ {A = ℕ} (if failed || not (is_whole how) then 1 else 0) 0 → failed ≡ false
+not-failed false how e = refl
+not-failed true how e = absurd (omega arith)
+
+all-written : (failed : Bool) (how : Written) → ◌≡◌ {A = ℕ} (if failed || not (is_whole how) then 1 else 0) 0 → how ≡ written.Whole
+all-written false written.Whole e = refl
+all-written false written.Closed e = absurd (omega arith)
+all-written false written.Failed e = absurd (omega arith)
+all-written true how e = absurd (omega arith)
+
+pub answered-well : (machine : Machine) (query : Query) (own : Answered) (kmod : Kmod) (before after : Option (List ℕ)) → machine.conf.now.kmod ≡ kmod
+    → path_words machine.paths.now ≡ paths_of machine.conf.now.kmod query → IsAnswerWith machine query own.answer → IsWritten before after own
+    → status_of own.answer own.written ≡ 0 → WasAnswered kmod machine.whole query before after
+answered-well machine query own kmod before after same paths is how zero = record {
+  answer = own.answer;
+  is = subst (λ k. IsAnswerBy k machine.whole query own.answer) same (answer-by machine query own.answer paths is);
+  well = not-failed own.answer.failed own.written zero;
+  written = how.whole (all-written own.answer.failed own.written zero);
+}

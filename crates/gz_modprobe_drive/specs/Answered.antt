@@ -54,10 +54,6 @@ said_by machine whole =
 abbrev pub texts_of_folder : Machine → Texts
 texts_of_folder machine = folder_texts machine.modules.now machine.later.now
 
--- what an index has of a machine's folder of modules, as far as that was read
-pub record IsIndexOf (machine : Machine) (index : Indexes) : Type 0 where
-  pub is : index ≡ indexes_of (texts_of_folder machine)
-
 -- what a world has
 abbrev pub known_of : World → Known
 known_of world =

@@ -8,6 +8,7 @@ pub mod Begun
 pub mod Ends
 pub mod Evidence
 pub mod Formed
+pub mod Jobs
 pub mod Judged
 pub mod Leads
 pub mod Origins

@@ -1,16 +1,15 @@
 //! An answer, from the texts of a machine to a stream.
-ghost use Rattle.std.specs.Prelude.{◌≡◌, IfOk, OnErr};
-ghost use Rattle.std.specs.Io.KnownBytes.{Appends};
-ghost use Rattle.modprobe_words.specs.Begun.{IsBegun};
-ghost use Rattle.modprobe_words.specs.declared.written.Written.TheVariants.{Whole};
-ghost use Rattle.gz_modprobe_drive.specs.Answered.{IsAnswerOf, IsEnough, IsIndexOf, answer_for, manner_of, status_of};
+ghost use Rattle.std.specs.Prelude.{◌≡◌, IfOk, IfSome, OnErr};
+ghost use Rattle.kmod_index.specs.Dependencies.{dependencies_of};
+ghost use Rattle.gz_modprobe_drive.specs.Answered.{IsAnswerOf, IsEnough, IsWritten, answer_for, manner_of, status_of};
 ghost use Rattle.gz_modprobe_drive.specs.Texts.{IsConfOf};
 
 use crate::explained::explain;
+use crate::folder::index_by;
 use crate::queries::is_removal;
 use crate::texts::{Machine, world_of};
 use kmod_conf::Conf;
-use kmod_index::Index;
+use kmod_index::DepTable;
 use kmod_query::{Answer, Asked, Query, World, answer_to, whole_removal};
 use modprobe_words::{Messages, Written, write_whole};
 use std::alloc::{AllocError, Global};
@@ -55,53 +54,35 @@ fn answer_for(
     whole_removal(&asked, &machine.evidence.holders)
 }
 
-/// Answers a query of a world, which has what `machine` has, and writes the answer's output. It fails only if memory runs
-/// out.
-fn answer_world<O: Write, E: Write>(
-    alloc: Global,
-    machine: &Machine<'_>,
-    world: &World<'_>,
-    query: &Query<'_>,
-    output: &mut O,
-    messages: &mut Messages<'_, E>,
-) -> Result<Answered, AllocError>
-    ensures answer { IfOk result (λ own. own.answer ≡ answer_for (manner_of machine.now) world.now query.now) }
-    ensures written { IfOk result (λ own. own.written ≡ Whole → Appends (O.contents output.old) (O.contents output.new) own.answer.output) }
-    ensures begun { IfOk result (λ own. IsBegun (O.contents output.old) (O.contents output.new) own.answer.output) }
-    ensures kept { OnErr result (O.contents output.new ≡ O.contents output.old) }
-{
-    let answer = answer_for(alloc, machine, world, query)?;
-    let written = write_whole(output, answer.output());
-    explain(alloc, machine, world, query, messages);
-    Ok(Answered { answer, written })
-}
-
 /// Answers a query from the texts and states of a machine, and writes the answer's output, whether it is explained or not.
-/// `conf` is what the machine's configuration says, `index` what its folder of modules does. Texts that were not read do not
-/// matter. It fails only if memory runs out.
+/// `conf` is what the machine's configuration says, `lines` are those of modules.dep, if they were found already. Texts that
+/// were not read do not matter. It fails only if memory runs out.
 pub(crate) fn answer_machine<O: Write, E: Write>(
     alloc: Global,
     machine: &Machine<'_>,
     conf: &Conf,
-    index: &Index<'_>,
+    lines: Option<&DepTable<'_>>,
     query: &Query<'_>,
     output: &mut O,
     messages: &mut Messages<'_, E>,
 ) -> Result<Answered, AllocError>
     requires conf { IsConfOf machine.now.conf.now conf.now }
-    requires index { IsIndexOf machine.now index.now }
+    requires lines { IfSome lines (λ lines. lines.now ≡ dependencies_of machine.now.modules.now.dep.items) }
     requires enough { IsEnough machine.now query.now }
     ensures answer { IfOk result (λ own. IsAnswerOf machine.now query.now own.answer) }
-    ensures written { IfOk result (λ own. own.written ≡ Whole → Appends (O.contents output.old) (O.contents output.new) own.answer.output) }
-    ensures begun { IfOk result (λ own. IsBegun (O.contents output.old) (O.contents output.new) own.answer.output) }
+    ensures written { IfOk result (IsWritten (O.contents output.old) (O.contents output.new)) }
     ensures kept { OnErr result (O.contents output.new ≡ O.contents output.old) }
 {
+    let index = index_by(alloc, machine.modules, machine.later, query.words, lines)?;
     let world = world_of(
         conf,
-        index,
+        &index,
         machine.states,
         machine.directory,
         machine.paths,
     );
-    answer_world(alloc, machine, &world, query, output, messages)
+    let answer = answer_for(alloc, machine, &world, query)?;
+    let written = write_whole(output, answer.output());
+    explain(alloc, machine, &world, query, messages);
+    Ok(Answered { answer, written })
 }

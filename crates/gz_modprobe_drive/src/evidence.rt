@@ -4,11 +4,12 @@ ghost use Rattle.std.specs.Prelude.{◌≡◌, [], false, None, IfOk};
 use crate::formed::form_by;
 use crate::holders::read_holders;
 use crate::queries::is_removal;
+use crate::run::Run;
 use crate::unread::unread_files;
 use answer_reasons::UnreadFile;
 use kmod_query::{Holders, Query, States};
-use modprobe_files::{Host, System};
-use modprobe_words::{Asked, Form};
+use modprobe_files::System;
+use modprobe_words::Form;
 use std::alloc::AllocError;
 
 /// What an explanation needs beside what the answer needs. A removal that is answered as it is made needs the holders too.
@@ -35,25 +36,25 @@ impl Drop for Evidence {
 impl Evidence {
     /// What explains the answer to a query. Without --explain and --whole nothing is read. It fails only if memory runs out.
     pub(crate) fn read<S: System>(
-        host: &Host<'_, S>,
-        asked: &Asked<'_>,
+        run: &Run<'_, S>,
         query: &Query<'_>,
         states: &States,
     ) -> Result<Evidence, AllocError>
-        ensures holders { IfOk result (λ own. asked.now.switches.explain ≡ None → asked.now.switches.whole ≡ false → own.holders.items ≡ []) }
-        ensures unread { IfOk result (λ own. asked.now.switches.explain ≡ None → own.unread.items ≡ []) }
+        ensures holders { IfOk result (λ own. run.now.asked.now.switches.explain ≡ None → run.now.asked.now.switches.whole ≡ false → own.holders.items ≡ []) }
+        ensures unread { IfOk result (λ own. run.now.asked.now.switches.explain ≡ None → own.unread.items ≡ []) }
     {
+        let switches = run.asked.switches;
         let mut evidence = Evidence {
-            holders: Vec::new(host.alloc()),
-            unread: Vec::new(host.alloc()),
-            form: form_by(asked.switches.explain),
+            holders: Vec::new(run.host.alloc()),
+            unread: Vec::new(run.host.alloc()),
+            form: form_by(switches.explain),
         };
-        let explains = asked.switches.explain.is_some();
-        if is_removal(query.ask) && (explains || asked.switches.whole) {
-            evidence.holders = read_holders(host, states)?;
+        let explains = switches.explain.is_some();
+        if is_removal(query.ask) && (explains || switches.whole) {
+            evidence.holders = read_holders(run.host, states)?;
         }
         if explains {
-            evidence.unread = unread_files(host, asked.kmod, &asked.configurations)?;
+            evidence.unread = unread_files(run)?;
         }
         Ok(evidence)
     }

@@ -9,7 +9,7 @@ use modprobe_words::{Form, Level, Messages};
 use std::alloc::{AllocError, Global};
 use std::io::Write;
 
-/// Why a query of a world is answered as it is, in a form.
+/// Apart from `explained`, whose arguments have more lifetimes than the prover takes for `Sources`.
 fn lines_of<'a>(
     alloc: Global,
     form: Form,
@@ -21,7 +21,6 @@ fn lines_of<'a>(
     lines_by(alloc, form, &facts)
 }
 
-/// Why the answer to a query of a machine is as it is. It fails only if memory runs out.
 fn explained(
     alloc: Global,
     machine: &Machine,

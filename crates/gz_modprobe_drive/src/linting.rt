@@ -3,13 +3,11 @@ ghost use Rattle.std.specs.Prelude.{◌≡◌, ◌≤◌, false, true, IfOk, IsS
 ghost use Rattle.gz_modprobe_drive.specs.Begun.{AreBegun, WritesFacts};
 ghost use Rattle.gz_modprobe_drive.specs.Formed.{form_by};
 ghost use Rattle.gz_modprobe_drive.specs.Linted.{FoundNothing, IsSilent, IsUnnoted, WasLinted, is_noted, is_of_depmod, origin_by, origins_of};
-ghost use Rattle.gz_modprobe_drive.specs.Texts.{index_of};
+ghost use Rattle.gz_modprobe_drive.specs.Texts.{IsConfOf, index_of};
 ghost use Rattle.gz_modprobe_drive.specs.Tree.{is_whole};
 
 use crate::absences::certain_notes;
 use crate::answering::tell_unwritten;
-use crate::configuration::conf_of;
-use crate::current::known_directory;
 use crate::folder::whole_index;
 use crate::formed::{form_by, write_facts};
 use crate::judged::judge;
@@ -17,16 +15,14 @@ use crate::lint_facts::lint_facts;
 use crate::masks::is_of_package;
 use crate::missed::is_all_read;
 use crate::parameters::known_parameters;
+use crate::run::Run;
 use crate::tree::Tree;
 use crate::unread::unread_files;
 use answer_facts::Fact;
 use kmod_index::Index;
 use machine_lint::{Known, Origin, lint, unchecked};
-use modprobe_files::{
-    ConfTexts, Host, LaterTexts, ModuleTexts, System, TextFile, is_rootless, read_configuration,
-    read_later, read_modules,
-};
-use modprobe_words::{Asked, Form, Level, Messages};
+use modprobe_files::{LaterTexts, System, TextFile, read_later};
+use modprobe_words::{Form, Level, Messages};
 use std::alloc::{AllocError, Global};
 use std::io::Write;
 use text_parts::is_same;
@@ -41,7 +37,6 @@ fn is_of_depmod(directory: &[u8], path: &[u8]) -> bool
     }
 }
 
-/// Who wrote the file of a path.
 fn origin_by(directory: &[u8], path: &[u8]) -> Origin
     ensures { result ≡ origin_by directory.now path.now }
 {
@@ -54,7 +49,6 @@ fn origin_by(directory: &[u8], path: &[u8]) -> Origin
     }
 }
 
-/// Who wrote the files of a configuration.
 fn origins_of(
     alloc: Global,
     directory: &[u8],
@@ -69,7 +63,7 @@ fn origins_of(
     Ok(origins)
 }
 
-/// Writes what is told, if anything is. Returns whether anything is.
+/// Returns whether anything is told.
 fn write_found<O: Write, E: Write>(
     alloc: Global,
     form: Form,
@@ -89,29 +83,26 @@ fn write_found<O: Write, E: Write>(
     Ok(true)
 }
 
-/// What is known of a machine is judged, and what a lint of it tells is written, if anything is. Where the texts of the folder
-/// of modules are not whole, nothing is told that they might take away. Returns whether anything is told.
+/// Where the texts of the folder of modules are not whole, nothing is told that they might take away. Returns whether anything
+/// is told.
 fn write_lint<S: System, O: Write, E: Write>(
-    host: &Host<'_, S>,
-    texts: &ConfTexts,
+    run: &Run<'_, S>,
     known: &Known<'_>,
     is_whole: bool,
-    asked: &Asked<'_>,
     output: &mut O,
     messages: &mut Messages<'_, E>,
 ) -> Result<bool, AllocError>
-    ensures nothing { IfOk result (λ noted. noted ≡ false → FoundNothing is_whole texts.now known.now (O.contents output.old) (O.contents output.new)) }
-    ensures begun { WritesFacts (form_by asked.now.switches.explain) (O.contents output.old) (O.contents output.new) }
+    ensures nothing { IfOk result (λ noted. noted ≡ false → FoundNothing is_whole run.now.texts.now known.now (O.contents output.old) (O.contents output.new)) }
+    ensures begun { WritesFacts (form_by run.now.asked.now.switches.explain) (O.contents output.old) (O.contents output.new) }
 {
-    let alloc = host.alloc();
+    let alloc = run.host.alloc();
     let notes = certain_notes(is_whole, lint(alloc, known)?);
-    let unread = unread_files(host, texts.kmod, &asked.configurations)?;
-    let facts = lint_facts(alloc, texts, &notes, &unread)?;
-    let form = form_by(asked.switches.explain);
+    let unread = unread_files(run)?;
+    let facts = lint_facts(alloc, run.texts, &notes, &unread)?;
+    let form = form_by(run.asked.switches.explain);
     write_found(alloc, form, &facts, output, messages)
 }
 
-/// What a lint of lines has found.
 #[derive(Clone, Copy)]
 struct Linted {
     /// Whether anything is told.
@@ -120,7 +111,6 @@ struct Linted {
     unchecked: usize,
 }
 
-/// Tells how many lines set parameters that could not be checked, if there are some.
 fn tell_unchecked<E: Write>(
     alloc: Global,
     unchecked: usize,
@@ -135,65 +125,59 @@ fn tell_unchecked<E: Write>(
     Ok(())
 }
 
-/// Looks at the lines of a configuration, over the texts of a folder of modules, and what they say.
 fn lint_texts<S: System, O: Write, E: Write>(
-    host: &Host<'_, S>,
-    texts: &ConfTexts,
-    modules: &ModuleTexts,
+    run: &Run<'_, S>,
     later: &LaterTexts,
     index: &Index<'_>,
     tree: &Tree<'_>,
-    asked: &Asked<'_>,
     output: &mut O,
     messages: &mut Messages<'_, E>,
 ) -> Result<Linted, AllocError>
-    requires index { index.now ≡ index_of modules.now later.now }
+    requires conf { IsConfOf run.now.texts.now run.now.conf.now }
+    requires index { index.now ≡ index_of run.now.modules.now later.now }
     requires alias { IsSome later.now.alias }
     requires symbols { IsSome later.now.symbols }
-    ensures well { IfOk result (λ linted. linted.is_noted ≡ false → IsUnnoted (is_whole tree.now) linted.unchecked texts.now modules.now later.now (O.contents output.old) (O.contents output.new)) }
-    ensures begun { WritesFacts (form_by asked.now.switches.explain) (O.contents output.old) (O.contents output.new) }
+    ensures well { IfOk result (λ linted. linted.is_noted ≡ false → IsUnnoted (is_whole tree.now) linted.unchecked run.now.texts.now run.now.modules.now later.now (O.contents output.old) (O.contents output.new)) }
+    ensures begun { WritesFacts (form_by run.now.asked.now.switches.explain) (O.contents output.old) (O.contents output.new) }
 {
-    let alloc = host.alloc();
-    let conf = conf_of(alloc, texts)?;
-    let files = origins_of(alloc, tree.directory, &texts.files)?;
-    let parameters = known_parameters(host, tree.directory, &conf, index)?;
+    let alloc = run.host.alloc();
+    let files = origins_of(alloc, tree.directory, &run.texts.files)?;
+    let parameters = known_parameters(run.host, tree.directory, run.conf, index)?;
     let known = Known {
-        conf: &conf,
+        conf: run.conf,
         index,
         files: &files,
         parameters: &parameters,
     };
     let places = unchecked(alloc, &known)?;
-    let is_whole = tree.is_whole();
-    let is_noted = write_lint(host, texts, &known, is_whole, asked, output, messages)?;
+    let is_noted = write_lint(run, &known, tree.is_whole(), output, messages)?;
     Ok(Linted {
         is_noted,
         unchecked: places.len(),
     })
 }
 
-/// Reads the configuration and the texts of a folder of modules, and looks at the lines. Returns the status.
-fn lint_in<S: System, O: Write, E: Write>(
-    host: &Host<'_, S>,
-    asked: &Asked<'_>,
-    directory: &[u8],
+/// Looks for lines of the machine's configuration that have no effect, and for files that are not read, and writes them in
+/// the form that is asked for. Returns the status: 0 if there are none, 1 if there are some, and 2 if not all was read that is
+/// needed, or a text of the folder of modules is damaged, or if there are none and what a line sets could not be checked.
+/// `messages` explains, so that hidden files are known.
+pub(crate) fn lint_machine<S: System, O: Write, E: Write>(
+    run: &Run<'_, S>,
     output: &mut O,
     messages: &mut Messages<'_, E>,
 ) -> Result<u8, AllocError>
+    requires kmod { run.now.texts.now.kmod ≡ run.now.asked.now.kmod }
+    requires conf { IsConfOf run.now.texts.now run.now.conf.now }
     ensures status { IfOk result (λ status. status ≤ 2) }
-    ensures well { IfOk result (λ status. status ≡ 0 → WasLinted asked.now.kmod (O.contents output.old) (O.contents output.new)) }
-    ensures begun { WritesFacts (form_by asked.now.switches.explain) (O.contents output.old) (O.contents output.new) }
+    ensures well { IfOk result (λ status. status ≡ 0 → WasLinted run.now.asked.now.kmod (O.contents output.old) (O.contents output.new)) }
+    ensures begun { WritesFacts (form_by run.now.asked.now.switches.explain) (O.contents output.old) (O.contents output.new) }
 {
-    let named = asked.configurations.as_slice();
-    let texts = read_configuration(host, asked.kmod, directory, named, messages)?;
-    let modules = read_modules(host, directory, messages)?;
-    let later = read_later(host, directory, true, messages)?;
-    let tree = Tree::of(host, directory, &modules, &later)?;
-    let index = whole_index(host.alloc(), &modules, &later)?;
-    let linted = lint_texts(
-        host, &texts, &modules, &later, &index, &tree, asked, output, messages,
-    )?;
-    let is_read = is_all_read(host, &texts, directory, named, messages)?;
+    let host = run.host;
+    let later = read_later(host, run.directory, true, messages)?;
+    let tree = Tree::of(host, run.directory, run.modules, &later)?;
+    let index = whole_index(host.alloc(), run.modules, &later)?;
+    let linted = lint_texts(run, &later, &index, &tree, output, messages)?;
+    let is_read = is_all_read(run, messages)?;
     tell_unchecked(host.alloc(), linted.unchecked, messages)?;
     judge(
         host,
@@ -203,27 +187,4 @@ fn lint_in<S: System, O: Write, E: Write>(
         linted.unchecked,
         messages,
     )
-}
-
-/// Looks for lines of the machine's configuration that have no effect, and for files that are not read, and writes them in
-/// the form that is asked for. Returns the status: 0 if there are none, 1 if there are some, and 2 if not all was read that is
-/// needed, or a text of the folder of modules is damaged, or if there are none and what a line sets could not be checked.
-/// `messages` explains, so that hidden files are known.
-pub(crate) fn lint_machine<S: System, O: Write, E: Write>(
-    host: &Host<'_, S>,
-    asked: &Asked<'_>,
-    output: &mut O,
-    messages: &mut Messages<'_, E>,
-) -> Result<u8, AllocError>
-    ensures status { IfOk result (λ status. status ≤ 2) }
-    ensures well { IfOk result (λ status. status ≡ 0 → WasLinted asked.now.kmod (O.contents output.old) (O.contents output.new)) }
-    ensures begun { WritesFacts (form_by asked.now.switches.explain) (O.contents output.old) (O.contents output.new) }
-{
-    if is_rootless(host, asked.root.unwrap_or(b""), messages)? {
-        return Ok(2);
-    }
-    match known_directory(host, asked, messages)? {
-        Some(directory) => lint_in(host, asked, &directory, output, messages),
-        None => Ok(2),
-    }
 }

@@ -3,6 +3,7 @@ ghost use Rattle.std.specs.Prelude.{◌≡◌};
 ghost use Rattle.gz_modprobe_drive.specs.Missed.{are_read, has_file, has_name, was_read};
 
 use crate::listing::names_of;
+use crate::run::Run;
 use kmod_version::Kmod;
 use modprobe_files::{
     COMMAND_LINE, ConfTexts, Host, Kind, System, TextFile, is_read, joined, paths_by_rank,
@@ -33,7 +34,6 @@ fn has_name(path: &[u8], name: &[u8]) -> bool
     path[..start].ends_with(b"/") && is_same(&path[start..], name)
 }
 
-/// Whether a file of this name was read.
 fn has_file(files: &[TextFile], name: &[u8]) -> bool
     ensures { result ≡ has_file files.now name.now }
 {
@@ -48,7 +48,6 @@ fn was_read(kmod: Kmod, files: &[TextFile], name: &[u8]) -> bool
     !is_read(kmod, name) || has_file(files, name)
 }
 
-/// Whether all names of a folder were read that are to be.
 fn are_read(kmod: Kmod, files: &[TextFile], names: &[Vec<u8>]) -> bool
     ensures { result ≡ are_read kmod files.now names.now }
 {
@@ -132,7 +131,6 @@ fn is_kept_back<S: System>(host: &Host<'_, S>, path: &[u8]) -> Result<bool, Allo
     }
 }
 
-/// Whether each text of a folder of modules was read that is there.
 fn is_folder_read<S: System>(
     host: &Host<'_, S>,
     kmod: Kmod,
@@ -153,23 +151,18 @@ fn is_folder_read<S: System>(
 /// Whether all was read that a lint of a configuration looks at, over a folder of modules: no file or folder is there that
 /// cannot be read, and each path that was named leads to one. It fails only if memory runs out.
 pub(crate) fn is_all_read<S: System, E: Write>(
-    host: &Host<'_, S>,
-    texts: &ConfTexts,
-    directory: &[u8],
-    named: &[&[u8]],
+    run: &Run<'_, S>,
     messages: &mut Messages<'_, E>,
 ) -> Result<bool, AllocError> {
+    let named = run.asked.configurations.as_slice();
     let mut is_whole = true;
-    for path in paths_by_rank(texts.kmod, named) {
-        if !is_path_read(host, texts, *path, !named.is_empty(), messages)? {
+    for path in paths_by_rank(run.texts.kmod, named) {
+        if !is_path_read(run.host, run.texts, *path, !named.is_empty(), messages)? {
             is_whole = false;
         }
     }
-    if !is_whole {
+    if !is_whole || (run.texts.command_line.is_none() && is_kept_back(run.host, COMMAND_LINE)?) {
         return Ok(false);
     }
-    if texts.command_line.is_none() && is_kept_back(host, COMMAND_LINE)? {
-        return Ok(false);
-    }
-    is_folder_read(host, texts.kmod, directory)
+    is_folder_read(run.host, run.texts.kmod, run.directory)
 }

@@ -3,16 +3,14 @@ ghost use Rattle.std.specs.Prelude.{◌≡◌, ◌≤◌, ◌++◌, IfOk, OnOk};
 ghost use Rattle.text_parts.specs.Text.{texts_of};
 ghost use Rattle.modprobe_words.specs.Asked.{asked_of, text_of};
 ghost use Rattle.modprobe_words.specs.Variable.{bytes_of};
-ghost use Rattle.gz_modprobe_drive.specs.Ends.{IsDone, IsDoneWithin, IsEndOf, given, is_root_empty, wish_by, worst_of, worst_status};
-ghost use Rattle.gz_modprobe_drive.specs.Outputs.{IsOutput, IsOutputFor, IsOutputOf, IsOutputWithin};
+ghost use Rattle.gz_modprobe_drive.specs.Ends.{IsDone, IsEndOf, given, is_root_empty, wish_by, worst_of, worst_status};
+ghost use Rattle.gz_modprobe_drive.specs.Outputs.{IsOutput, IsOutputFor, IsOutputOf};
 
-use crate::answering::answer_query;
 use crate::ended::end_words;
-use crate::linting::lint_machine;
-use crate::queries::{is_lint, is_why, query_of};
+use crate::job::{Job, job_of};
 use crate::refusals::tell_refusal;
 use crate::regular::Regular;
-use crate::why::tell_why;
+use crate::run::read_and_perform;
 use modprobe_files::{Disk, Host};
 use modprobe_words::{
     Asked, Messages, Switches, Wish, first_ending, read_words, tell_line, variable_words,
@@ -22,7 +20,6 @@ use std::env::Env;
 use std::io::Write;
 use std::rt::Files;
 
-/// What a command line wishes for.
 fn wish_asked(asked: &Asked<'_>) -> Wish
     ensures { result ≡ wish_by (asked_of asked.now) }
 {
@@ -31,12 +28,12 @@ fn wish_asked(asked: &Asked<'_>) -> Wish
 
 /// Whether it is told why an answer is as it is. A look at the configuration wants it, for the files that are hidden, and so
 /// does what leads to names, which ends otherwise if not all was read.
-fn explains(wish: Wish, switches: Switches) -> bool {
-    is_lint(wish) || is_why(wish) || switches.explain.is_some()
+fn explains(job: Job<'_>, switches: Switches) -> bool {
+    !matches!(job, Job::Answer(_)) || switches.explain.is_some()
 }
 
-/// Answers what is asked. Returns the status.
-fn answer_asked<R: Files + Env + AllocGlobal, O: Write, E: Write>(
+/// Does what is asked, unless that is refused. Returns the status.
+fn perform_asked<R: Files + Env + AllocGlobal, O: Write, E: Write>(
     rt: &R,
     asked: &Asked<'_>,
     output: &mut O,
@@ -47,6 +44,10 @@ fn answer_asked<R: Files + Env + AllocGlobal, O: Write, E: Write>(
     ensures written { IsOutput (asked_of asked.now) (O.contents output.old) (O.contents output.new) }
 {
     let wish = wish_asked(asked);
+    let Some(job) = job_of(wish, asked.switches, &asked.words) else {
+        tell_refusal(wish, errors);
+        return Ok(1);
+    };
     let regular = Regular {
         disk: Disk {
             rt,
@@ -58,19 +59,9 @@ fn answer_asked<R: Files + Env + AllocGlobal, O: Write, E: Write>(
         errors,
         program: b"gz-modprobe",
         verbosity: asked.switches.verbosity,
-        explains: explains(wish, asked.switches),
+        explains: explains(job, asked.switches),
     };
-    if is_lint(wish) {
-        return lint_machine(&host, asked, output, &mut messages);
-    }
-    if is_why(wish) {
-        return tell_why(&host, asked, output, &mut messages);
-    }
-    let Some(query) = query_of(wish, asked.switches, &asked.words) else {
-        tell_refusal(wish, messages.errors);
-        return Ok(1);
-    };
-    answer_query(&host, asked, &query, output, &mut messages)
+    read_and_perform(&host, asked, job, output, &mut messages)
 }
 
 /// Whether `--root` has an empty value, as where a script's variable is unset. It is not to stand for the machine itself.
@@ -83,26 +74,6 @@ fn is_root_empty(root: Option<&[u8]>) -> bool
     }
 }
 
-/// Answers what is asked, if no empty root is named: that is told, and nothing is read. Returns the status.
-fn answer_within<R: Files + Env + AllocGlobal, O: Write, E: Write>(
-    rt: &R,
-    asked: &Asked<'_>,
-    output: &mut O,
-    errors: &mut E,
-) -> Result<u8, AllocError>
-    ensures status { IfOk result (λ status. status ≤ worst_of (asked_of asked.now)) }
-    ensures well { IfOk result (λ status. status ≡ 0 → IsDoneWithin (asked_of asked.now) (O.contents output.old) (O.contents output.new)) }
-    ensures written { IsOutputWithin (asked_of asked.now) (O.contents output.old) (O.contents output.new) }
-{
-    if is_root_empty(asked.root) {
-        tell_line(errors, b"FATAL: ", b"--root names no folder", b"");
-        Ok(1)
-    } else {
-        answer_asked(rt, asked, output, errors)
-    }
-}
-
-/// Adds words after those that are there.
 fn push_words<'a>(all: &mut Vec<&'a [u8]>, words: &'a [Vec<u8>]) -> Result<(), AllocError>
     ensures { OnOk result (texts_of all.new.items ≡ texts_of all.old.items ++ bytes_of words.entry.now) }
 {
@@ -126,7 +97,6 @@ fn all_words<'a>(
     Ok(all)
 }
 
-/// Runs the program on all words. Returns the status.
 fn run_words<R: Files + Env + AllocGlobal, O: Write, E: Write>(
     rt: &R,
     words: &[&[u8]],
@@ -142,10 +112,14 @@ fn run_words<R: Files + Env + AllocGlobal, O: Write, E: Write>(
         return Ok(end_words(rt.alloc(), ending, output, errors));
     }
     let asked = Asked::by(rt.alloc(), &items)?;
-    answer_within(rt, &asked, output, errors)
+    if is_root_empty(asked.root) {
+        tell_line(errors, b"FATAL: ", b"--root names no folder", b"");
+        Ok(1)
+    } else {
+        perform_asked(rt, &asked, output, errors)
+    }
 }
 
-/// Runs the program on its words and the text of MODPROBE_OPTIONS. Returns the status.
 fn run<R: Files + Env + AllocGlobal, O: Write, E: Write>(
     rt: &R,
     words: &[Vec<u8>],

@@ -3,6 +3,7 @@ ghost use Rattle.std.specs.Prelude.{◌≡◌};
 ghost use Rattle.gz_modprobe_drive.specs.Unread.{unread_by, unread_name};
 
 use crate::listing::names_of;
+use crate::run::Run;
 use answer_facts::Unread;
 use answer_reasons::UnreadFile;
 use kmod_version::Kmod;
@@ -16,7 +17,6 @@ const LIB: &[u8] = b"/lib/modprobe.d";
 /// What old kernels' tools read in place of the folders.
 const OUTSIDE: &[u8] = b"/etc/modprobe.conf";
 
-/// Why a name is not that of a file which is read.
 fn unread_name(name: &[u8]) -> Unread
     ensures { result ≡ unread_name name.now }
 {
@@ -61,7 +61,6 @@ fn add_names<S: System>(
     Ok(())
 }
 
-/// Adds /etc/modprobe.conf, if it is there.
 fn add_outside<S: System>(
     host: &Host<'_, S>,
     unread: &mut Vec<UnreadFile>,
@@ -86,11 +85,12 @@ fn is_again(paths: &[&[u8]], number: usize, path: &[u8]) -> bool {
 /// The files of these folders, or of those of modprobe.d(5) if none is named, that are not read, each once, in the order of
 /// the folders and of the bytes of names. /lib/modprobe.d is skipped if it has just the names of the folder before it, as if
 /// /lib is a link to /usr/lib. It fails only if memory runs out.
-pub(crate) fn unread_files<S: System>(
-    host: &Host<'_, S>,
-    kmod: Kmod,
-    named: &[&[u8]],
-) -> Result<Vec<UnreadFile>, AllocError> {
+pub(crate) fn unread_files<S: System>(run: &Run<'_, S>) -> Result<Vec<UnreadFile>, AllocError> {
+    let (host, kmod, named) = (
+        run.host,
+        run.asked.kmod,
+        run.asked.configurations.as_slice(),
+    );
     let alloc = host.alloc();
     let mut unread = Vec::new(alloc);
     let mut before: Vec<Vec<u8>> = Vec::new(alloc);

@@ -1,6 +1,6 @@
 use Rattle.std.proofs.lemmas.Result.{IfOk-weaker}
 use Rattle.gz_modprobe_drive.proofs.LintLemmas.{none-noted}
-use Rattle.gz_modprobe_drive.proofs.why.tell_in.Goals as goal
+use Rattle.gz_modprobe_drive.proofs.why.tell_why.Goals as goal
 
 pub returns-clause-told : goal.returns-clause-told
 returns-clause-told g c =
