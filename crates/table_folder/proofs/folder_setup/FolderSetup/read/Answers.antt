@@ -17,7 +17,8 @@ returns-clause-found c =
     record {
       sealed = cut_sealed bytes text cut sum is sound cut_is;
       named = cut_named bytes text cut c.in_ok-name.name.items sum is sound cut_is c.in_ok-name.ensures;
-      says = subst (λ (t : List ℕ). setup_of t ≡ Ok (c.in_ok-setup.setup, [])) c.deref-2.ensures.value c.in_ok-setup.ensures }
+      says = subst (λ (t : List ℕ). setup_of t ≡ Ok (c.in_ok-setup.setup, [])) c.deref-2.ensures.value c.in_ok-setup.ensures;
+    }
 
 pub returns-in_default-clause-cut : goal.returns-in_default-clause-cut
 returns-in_default-clause-cut c = λ is text sum sealed.
