@@ -4,7 +4,7 @@ use Rattle.std.specs.List.{drop-map}
 use Rattle.std.specs.declared.alloc.Global.{Global}
 use Rattle.std.proofs.lemmas.List.{take_rest}
 use Rattle.line_journal.specs.Device.{History, AlwaysLeaves}
-use Rattle.line_journal.specs.Lines.{bytes_of, AreLines, StandsForEither}
+use Rattle.line_journal.specs.Lines.{bytes_of, lines_of, AreLines, StandsForEither}
 use Rattle.line_journal.specs.Journal.{lines_in, IsReady}
 use Rattle.line_journal.proofs.Moments.{implies, from_disk}
 use Rattle.modprobe.specs.Setup.{Setup}
@@ -82,6 +82,19 @@ has_first name (first ∷ rest) commands is = omega arith
 -- and is of the setup for which it was rewritten
 pub rewrite_of : (name : List ℕ) (s : Setup) (h : Held) (lines written : List (List ℕ)) → IsRemade name s h lines → written ≡ lines → is_of name written ≡ true
 rewrite_of name s h lines written made is = ap (is_of name) (is ∙ made.is) ∙ head_is_of name (chain (head name) (snapshot_of s h))
+
+-- a crash at any moment of a rewriting leaves a journal of this setup, if it was one of it
+pub rewrite_any_of : (name : List ℕ) (s : Setup) (h : Held) (lines old : List (List ℕ)) (before now : History) → IsRemade name s h lines → is_of name old ≡ true
+    → AlwaysLeaves before now (StandsForEither old lines) → AlwaysLeaves before now (λ file. is_of name (lines_of file) ≡ true)
+rewrite_any_of name s h lines old before now made of always =
+    implies always (λ left. ⊎_elim (λ same. ap (is_of name) same ∙ of) (λ new. rewrite_of name s h lines (lines_of left) made new))
+
+-- if nothing is written, it is one of it
+pub still_of : {D : Type 0} (content : D → List ℕ) (history : D → History) (s : Setup) (h : Held) (name : List ℕ) (journal : Chained D)
+    → Stands content history s h journal → is_of name (lines_in content journal.lines) ≡ true
+    → AlwaysLeaves (history journal.lines.device) (history journal.lines.device) (λ file. is_of name (lines_of file) ≡ true)
+still_of content history s h name journal stands of =
+    from_disk (history journal.lines.device) (λ file. is_of name (lines_of file) ≡ true) (content journal.lines.device) stands.ready.on_disk of
 
 -- if nothing is written, the journal stands for the table
 pub still_stands : {D : Type 0} (content : D → List ℕ) (history : D → History) (s : Setup) (h : Held) (journal : Chained D)

@@ -6,7 +6,7 @@ use Rattle.std.proofs.lemmas.Bool.{cases_lt, cases_Bool}
 use Rattle.std.proofs.lemmas.List.{map-append, append-nil, length-map, get_or-map, take_more, take_all, take_at, drop_at, take-append-le, take-map}
 use Rattle.std.proofs.lemmas.List.Elements.{All-nil, All-cons, All-head, All-take, All-drop, All-append, All-get_or}
 use Rattle.line_journal.specs.Device.{History, AlwaysLeaves}
-use Rattle.line_journal.specs.Lines.{bytes_of, IsLine, AreLines, StandsWithFirstOf}
+use Rattle.line_journal.specs.Lines.{bytes_of, lines_of, IsLine, AreLines, StandsWithFirstOf}
 use Rattle.line_journal.specs.Journal.{lines_in, IsReady}
 use Rattle.line_journal.proofs.Moments.{implies, from_disk}
 use Rattle.modprobe.specs.Setup.{Setup}
@@ -17,12 +17,12 @@ use Rattle.held_lines.specs.Outcomes.{after, held_line_outcome}
 use Rattle.held_lines.specs.Reading.{is_reading}
 use Rattle.durable_table.specs.declared.chained.Chained.{Chained}
 use Rattle.durable_table.specs.Seals.{seal, are_sealed, last_link}
-use Rattle.durable_table.specs.Commands.{link_behind, commands_of}
+use Rattle.durable_table.specs.Commands.{link_behind, commands_of, StaysOf}
 use Rattle.durable_table.specs.Tables.{opening_of, table_in}
 use Rattle.durable_table.specs.Durable.{Stands}
 use Rattle.durable_table.specs.Groups.{replies_of, KeepsHeldAlong, AfterFirstOf, LeavesAsMuch, AreMade}
 use Rattle.durable_table.proofs.ChainLemmas.{seal_is_line, unsealed, sealed_front, sealed_more, last_link-append}
-use Rattle.durable_table.proofs.CommandLemmas.{commands_of_all}
+use Rattle.durable_table.proofs.CommandLemmas.{commands_of_all, of_more}
 
 pub after-append : (s : Setup) (h : Held) (lines more : List (List ℕ)) → after s h (lines ++ more) ≡ after s (after s h lines) more
 after-append s h [] more = refl
@@ -193,6 +193,10 @@ group_moments content history s h new lines sealed written replies old before no
           ∙ ap (λ commands. Some (after s h commands)) (sym (take-map (drop 17) first.0 sealed)) ∙ ap Some from.2,
     ))
 
+-- and a journal of each setup that it was of
+pub group_of : (old written : List (List ℕ)) (before now : History) → AlwaysLeaves before now (StandsWithFirstOf old written) → AlwaysLeaves before now (λ file. StaysOf old (lines_of file))
+group_of old written before now always = implies always (λ left first. of_more old (lines_of left) (take first.0 written) first.2)
+
 -- after it the journal stands for the table after all of them
 pub group_stands : {D : Type 0} (content : D → List ℕ) (history : D → History) (s : Setup) (h now : Held) (lines sealed written : List (List ℕ)) (replies : List HeldReply) (old new : Chained D)
     → Stands content history s h old → AreMade s h now old.link.items lines replies sealed → written ≡ sealed → IsReady content history new.lines
@@ -210,6 +214,12 @@ pub none_written : {D : Type 0} (content : D → List ℕ) (history : D → Hist
     → Stands content history s h journal → AlwaysLeaves (history journal.lines.device) (history journal.lines.device) (AfterFirstOf s h lines)
 none_written content history s h lines journal stands =
     from_disk (history journal.lines.device) (AfterFirstOf s h lines) (content journal.lines.device) stands.ready.on_disk (0, omega arith, stands.same)
+
+-- and is a journal of each setup that it was of
+pub none_written_of : {D : Type 0} (content : D → List ℕ) (history : D → History) (s : Setup) (h : Held) (journal : Chained D)
+    → Stands content history s h journal → AlwaysLeaves (history journal.lines.device) (history journal.lines.device) (λ file. StaysOf (lines_in content journal.lines) (lines_of file))
+none_written_of content history s h journal stands =
+    from_disk (history journal.lines.device) (λ file. StaysOf (lines_in content journal.lines) (lines_of file)) (content journal.lines.device) stands.ready.on_disk (λ name of. of)
 
 -- that is the table after them, if none of them was kept
 pub idle_stands : {D : Type 0} (content : D → List ℕ) (history : D → History) (s : Setup) (h now : Held) (lines sealed : List (List ℕ)) (replies : List HeldReply) (journal : Chained D)

@@ -4,7 +4,7 @@ ghost use Rattle.dep_index.specs.Catalogue.{modules_of};
 ghost use Rattle.line_journal.specs.Device.{AlwaysLeaves};
 ghost use Rattle.line_journal.specs.declared.device.DeviceError.TheVariants.{Failed};
 ghost use Rattle.line_journal.specs.Journal.{lines_in};
-ghost use Rattle.line_journal.specs.Lines.{bytes_of, open_text};
+ghost use Rattle.line_journal.specs.Lines.{bytes_of, lines_of, open_text};
 ghost use Rattle.durable_table.specs.Seals.{chain};
 ghost use Rattle.durable_table.specs.Commands.{is_of};
 ghost use Rattle.durable_table.specs.Tables.{opening_of};
@@ -108,6 +108,8 @@ impl<'s, D: Device> DurableTable<'s, D> {
         ensures done { result ≡ Ok Compacted.Done → lines_in D.content self.new.journal.lines ≡ compacted name.now self.old.session.setup.now self.old.session.holders.held }
         ensures stands { OnOk result (Stands D.content D.history self.old.session.setup.now self.old.session.holders.held self.new.journal) }
         ensures of { result ≡ Ok Compacted.Done → is_of name.now (lines_in D.content self.new.journal.lines) ≡ true }
+        ensures any_of { is_of name.now (lines_in D.content self.old.journal.lines) ≡ true
+            → AlwaysLeaves (D.history self.old.journal.lines.device) (D.history self.new.journal.lines.device) (λ file. is_of name.now (lines_of file) ≡ true) }
         ensures kept { result ≡ Ok Compacted.Kept → self.new.journal ≡ self.old.journal }
         ensures needed { result ≡ Ok Compacted.Kept → CanBeRemade name.now self.old.session.setup.now self.old.session.holders.held → ⊥ }
         ensures unchanged { IsErrOf result PerformError.OutOfMemory → self.new.journal ≡ self.old.journal }

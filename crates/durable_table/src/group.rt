@@ -2,7 +2,7 @@
 ghost use Rattle.std.specs.Prelude.{◌≡◌, ◌⊎◌, ◌<◌, ◌≤◌, ◌++◌, ◌∷◌, [], true, false, if◌then◌else◌, map, IfOk, OnOk, IsErrOf};
 ghost use Rattle.line_journal.specs.Device.{AlwaysLeaves};
 ghost use Rattle.line_journal.specs.declared.device.DeviceError.TheVariants.{Failed};
-ghost use Rattle.line_journal.specs.Lines.{bytes_of, IsLine, AreLines};
+ghost use Rattle.line_journal.specs.Lines.{bytes_of, lines_of, IsLine, AreLines};
 ghost use Rattle.held_lines.specs.Laws.{KeepsHeld};
 ghost use Rattle.held_lines.specs.Outcomes.{after, held_line_outcome};
 ghost use Rattle.held_lines.specs.Reading.{is_reading};
@@ -78,8 +78,8 @@ impl<'s, D: Device> DurableTable<'s, D> {
     ///
     /// A crash at any moment of the call leaves a journal of the table after the first of the lines: none, some or all. It
     /// leaves open gates behind the lines that count, at most one less than the group has lines: `open` needs a `Repair` for
-    /// that. Whatever the lines are, none of them removes a module that anybody held before it. Out of memory, the journal is
-    /// as it was; but some lines may have been made in memory, so open it again.
+    /// that. The journal is of each setup that it was of. Whatever the lines are, none of them removes a module that anybody
+    /// held before it. Out of memory, the journal is as it was; but some lines may have been made in memory, so open it again.
     #[tactic(auto, using(crate::proofs::GroupLemmas::idle_stands))]
     pub fn perform_all(
         &mut self,
@@ -93,6 +93,8 @@ impl<'s, D: Device> DurableTable<'s, D> {
             ≡ after self.old.session.setup.now self.old.session.holders.held (bytes_of lines.now)) }
         ensures stands { OnOk result (Stands D.content D.history self.old.session.setup.now self.new.session.holders.held self.new.journal) }
         ensures of { OnOk result (StaysOf (lines_in D.content self.old.journal.lines) (lines_in D.content self.new.journal.lines)) }
+        ensures any_of { AlwaysLeaves (D.history self.old.journal.lines.device) (D.history self.new.journal.lines.device)
+            (λ file. StaysOf (lines_in D.content self.old.journal.lines) (lines_of file)) }
         ensures idle { IfOk result (λ replies. AreIdle replies.items → self.new.journal ≡ self.old.journal) }
         ensures asking { OnOk result (AreAsking (bytes_of lines.now) → self.new.journal ≡ self.old.journal) }
         ensures unchanged { IsErrOf result PerformError.OutOfMemory → self.new.journal ≡ self.old.journal }
