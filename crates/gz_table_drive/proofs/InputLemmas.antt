@@ -1,7 +1,7 @@
 -- The lines that an input brings, group by group.
 use Rattle.std.proofs.Common.{◌≡◌, refl, sym, ap, subst, ◌∙◌, ℕ, List, [], ◌++◌, append_assoc, append-nil, Option, Some, None}
 use Rattle.std.specs.Io.KnownBytes.{IsAtEnd}
-use Rattle.modprobe.specs.Setup.{Setup}
+use Rattle.table_folder.specs.declared.folder_setup.FolderSetup.{FolderSetup}
 use Rattle.table_words.specs.Endings.{behind}
 use Rattle.table_words.specs.declared.ending.Ending.{Ending}
 use Rattle.table_words.specs.declared.ending.Ending.TheVariants.{Done}
@@ -29,20 +29,20 @@ all_brought (Some text) (Some rest) lines brings end =
     sym (brings ∙ ap (λ (t : List ℕ). lines ++ brought_lines t) end ∙ append-nil lines)
 
 -- no line is answered yet
-pub none_answered : (s : Setup) (input left : Option (List ℕ)) (log : Tenures) (contents : Option (List ℕ)) → left ≡ input → AnswersSoFar s input left log log contents contents Done
-none_answered s input left log contents is = ([], none_brought input left is, none_written s log contents)
+pub none_answered : (f : FolderSetup) (input left : Option (List ℕ)) (log : Tenures) (contents : Option (List ℕ)) → left ≡ input → AnswersSoFar f input left log log contents contents Done
+none_answered f input left log contents is = ([], none_brought input left is, none_written f log contents)
 
 -- a group more is answered
-pub answered_more : (s : Setup) (group : List (List ℕ)) (input before left : Option (List ℕ)) (log mid_log new_log : Tenures) (old mid new : Option (List ℕ)) (ending next : Ending)
-    → AnswersSoFar s input before log mid_log old mid ending → BringsLines before left group → AreWritten s group mid_log new_log mid new next
-    → AnswersSoFar s input left log new_log old new (behind ending next)
-answered_more s group input before left log mid_log new_log old mid new ending next (front, brings, written) more also =
-    (front ++ group, brings_more input before left front group brings more, written_more s front group log mid_log new_log old mid new ending next written also)
+pub answered_more : (f : FolderSetup) (group : List (List ℕ)) (input before left : Option (List ℕ)) (log mid_log new_log : Tenures) (old mid new : Option (List ℕ)) (ending next : Ending)
+    → AnswersSoFar f input before log mid_log old mid ending → BringsLines before left group → AreWritten f group mid_log new_log mid new next
+    → AnswersSoFar f input left log new_log old new (behind ending next)
+answered_more f group input before left log mid_log new_log old mid new ending next (front, brings, written) more also =
+    (front ++ group, brings_more input before left front group brings more, written_more f front group log mid_log new_log old mid new ending next written also)
 
 -- no line is left
-pub answered_all : (s : Setup) (group : List (List ℕ)) (input before left : Option (List ℕ)) (log new_log : Tenures) (old new : Option (List ℕ)) (ending : Ending)
-    → AnswersSoFar s input before log new_log old new ending → BringsLines before left group → group ≡ [] → IsAtEnd left → AnswersInput s input log new_log old new ending
-answered_all s group input before left log new_log old new ending (lines, brings, written) more none end = (
+pub answered_all : (f : FolderSetup) (group : List (List ℕ)) (input before left : Option (List ℕ)) (log new_log : Tenures) (old new : Option (List ℕ)) (ending : Ending)
+    → AnswersSoFar f input before log new_log old new ending → BringsLines before left group → group ≡ [] → IsAtEnd left → AnswersInput f input log new_log old new ending
+answered_all f group input before left log new_log old new ending (lines, brings, written) more none end = (
   lines,
   all_brought input left lines
       (subst (BringsLines input left) (ap (λ (g : List (List ℕ)). lines ++ g) none ∙ append-nil lines) (brings_more input before left lines group brings more)) end,

@@ -68,7 +68,7 @@ pub record HasAdoptedListing (word : List ℕ) (input : Option (List ℕ)) (log 
   pub kernel : List KernelModule
   pub listed : AreModulesOf listing kernel
   pub held : Held
-  pub made : HasMade found.setup held (adopting_lines found.setup held kernel) log new_log
+  pub made : HasMade found held (adopting_lines found.setup held kernel) log new_log
   pub answered : HasAdopted found.setup held kernel old new
 
 -- no reply yet

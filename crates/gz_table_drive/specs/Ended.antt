@@ -62,7 +62,7 @@ IsDone job old new ending = (ending ≡ Done) × (new ≡ old)
 
 -- a journal was written anew, of a table of the setup that some file has
 abbrev pub IsCompacted : Tenures → Tenures → Type 0
-IsCompacted log new_log = (file : List ℕ) × (found : FolderSetup) × IsReadFrom file found × HasCompacted found.setup found.name.items log new_log
+IsCompacted log new_log = (file : List ℕ) × (found : FolderSetup) × IsReadFrom file found × HasCompacted found log new_log
 
 -- what such a job has left, by a tenure of the log
 abbrev pub HasLeft : Job → Tenures → Tenures → Type 0

@@ -2,7 +2,6 @@
 use Rattle.std.specs.Prelude.{◌≡◌, ◌⊎◌, ℕ, ◌≤◌, List, [], ◌∷◌, ◌++◌, length, map, take, drop, Option, IfSome}
 use Rattle.std.specs.List.{flat_map}
 use Rattle.std.specs.Io.KnownBytes.{Appends}
-use Rattle.modprobe.specs.Setup.{Setup}
 use Rattle.modprobe.specs.Outcomes.{Outcome, text_of}
 use Rattle.modprobe_words.specs.Begun.{IsBegun}
 use Rattle.table_words.specs.Endings.{ending_of_lines}
@@ -25,9 +24,9 @@ first_ending [] = Done
 first_ending (ending ∷ endings) = ending
 
 -- Lines were answered by tenures, and these are their replies, and how each ended.
-pub record IsAnswered (s : Setup) (lines : List (List ℕ)) (log new_log : Tenures) (replies : Replies) : Type 0 where
+pub record IsAnswered (f : FolderSetup) (lines : List (List ℕ)) (log new_log : Tenures) (replies : Replies) : Type 0 where
   pub outcomes : List Outcome
-  pub told : HaveTold s lines [] outcomes log new_log
+  pub told : HaveTold f lines [] outcomes log new_log
   pub text : replies.text.items ≡ flat_map text_of outcomes
   pub endings : replies.endings.items ≡ map ending_of_outcome outcomes
 
@@ -37,15 +36,15 @@ pub record IsWritten (line : List ℕ) (log new_log : Tenures) (old new : Option
   pub found : FolderSetup
   pub read : IsReadFrom file found
   pub reply : Outcome
-  pub told : HaveTold found.setup (line ∷ []) [] (reply ∷ []) log new_log
+  pub told : HaveTold found (line ∷ []) [] (reply ∷ []) log new_log
   pub text : Appends old new (text_of reply)
   pub ends : ending ≡ ending_of_outcome reply
 
 -- The replies to lines are written, one after another, which tenures gave, and the lines end together as the first of them that was
 -- refused.
-pub record AreWritten (s : Setup) (lines : List (List ℕ)) (log new_log : Tenures) (old new : Option (List ℕ)) (ending : Ending) : Type 0 where
+pub record AreWritten (f : FolderSetup) (lines : List (List ℕ)) (log new_log : Tenures) (old new : Option (List ℕ)) (ending : Ending) : Type 0 where
   pub replies : List Outcome
-  pub told : HaveTold s lines [] replies log new_log
+  pub told : HaveTold f lines [] replies log new_log
   pub text : Appends old new (flat_map text_of replies)
   pub ends : ending ≡ ending_of_lines (map ending_of_outcome replies)
 
@@ -54,8 +53,8 @@ abbrev pub AreBrought : Option (List ℕ) → List (List ℕ) → Type 0
 AreBrought input lines = IfSome input (λ text. lines ≡ brought_lines text)
 
 -- What is written is the replies to the lines that an input brings, and they end together so.
-abbrev pub AnswersInput : Setup → Option (List ℕ) → Tenures → Tenures → Option (List ℕ) → Option (List ℕ) → Ending → Type 0
-AnswersInput s input log new_log old new ending = (lines : List (List ℕ)) × AreBrought input lines × AreWritten s lines log new_log old new ending
+abbrev pub AnswersInput : FolderSetup → Option (List ℕ) → Tenures → Tenures → Option (List ℕ) → Option (List ℕ) → Ending → Type 0
+AnswersInput f input log new_log old new ending = (lines : List (List ℕ)) × AreBrought input lines × AreWritten f lines log new_log old new ending
 
 -- What is answered of a listing, by a tenure, is written, and the run ends as it does.
 pub record IsAdoptionWritten (word : List ℕ) (input : Option (List ℕ)) (log new_log : Tenures) (old new : Option (List ℕ)) (ending : Ending) : Type 0 where
@@ -69,12 +68,12 @@ pub record IsInputAnswered (input : Option (List ℕ)) (log new_log : Tenures) (
   pub file : List ℕ
   pub found : FolderSetup
   pub read : IsReadFrom file found
-  pub answers : AnswersInput found.setup input log new_log old new ending
+  pub answers : AnswersInput found input log new_log old new ending
 
 -- The same of the lines that the input has brought so far: behind them comes what is left of it.
-abbrev pub AnswersSoFar : Setup → Option (List ℕ) → Option (List ℕ) → Tenures → Tenures → Option (List ℕ) → Option (List ℕ) → Ending → Type 0
-AnswersSoFar s input left log new_log old new ending =
-    (lines : List (List ℕ)) × BringsLines input left lines × AreWritten s lines log new_log old new ending
+abbrev pub AnswersSoFar : FolderSetup → Option (List ℕ) → Option (List ℕ) → Tenures → Tenures → Option (List ℕ) → Option (List ℕ) → Ending → Type 0
+AnswersSoFar f input left log new_log old new ending =
+    (lines : List (List ℕ)) × BringsLines input left lines × AreWritten f lines log new_log old new ending
 
 -- a text is written whole; or the output failed, and a beginning of it is written
 abbrev pub IsSent : Option (List ℕ) → Option (List ℕ) → List ℕ → TableFault → Type 0
@@ -82,22 +81,22 @@ IsSent old new text fault = Appends old new text ⊎ ((fault ≡ Output) × IsBe
 
 -- Replies to lines were made by tenures, and no others: they are written, one after another, or as far as the output took them. Some
 -- other lines may have taken effect, and have no reply.
-pub record AreSent (s : Setup) (lines others : List (List ℕ)) (log new_log : Tenures) (old new : Option (List ℕ)) (fault : TableFault) : Type 0 where
+pub record AreSent (f : FolderSetup) (lines others : List (List ℕ)) (log new_log : Tenures) (old new : Option (List ℕ)) (fault : TableFault) : Type 0 where
   pub replies : List Outcome
-  pub told : HaveTold s lines others replies log new_log
+  pub told : HaveTold f lines others replies log new_log
   pub text : IsSent old new (flat_map text_of replies) fault
 
 -- the first of these lines were answered so: none, some or all
-abbrev pub AreFirstSent : Setup → List (List ℕ) → Tenures → Tenures → Option (List ℕ) → Option (List ℕ) → TableFault → Type 0
-AreFirstSent s lines log new_log old new fault =
-    (count : ℕ) × (count ≤ length lines) × AreSent s (take count lines) (drop count lines) log new_log old new fault
+abbrev pub AreFirstSent : FolderSetup → List (List ℕ) → Tenures → Tenures → Option (List ℕ) → Option (List ℕ) → TableFault → Type 0
+AreFirstSent f lines log new_log old new fault =
+    (count : ℕ) × (count ≤ length lines) × AreSent f (take count lines) (drop count lines) log new_log old new fault
 
 -- A line was answered so, or was not, as the setup of some file has it.
 pub record IsLineSent (line : List ℕ) (log new_log : Tenures) (old new : Option (List ℕ)) (fault : TableFault) : Type 0 where
   pub file : List ℕ
   pub found : FolderSetup
   pub read : IsReadFrom file found
-  pub sends : AreFirstSent found.setup (line ∷ []) log new_log old new fault
+  pub sends : AreFirstSent found (line ∷ []) log new_log old new fault
 
 -- no tenure was begun, and nothing is written
 abbrev pub IsUntouched : Tenures → Tenures → Option (List ℕ) → Option (List ℕ) → Type 0
@@ -112,13 +111,13 @@ abbrev pub AreFirstBrought : Option (List ℕ) → List (List ℕ) → Type 0
 AreFirstBrought input lines = IfSome input (λ text. (count : ℕ) × (lines ≡ take count (brought_lines text)))
 
 -- the first of the lines that an input brings were answered so, and perhaps some others behind them have taken effect
-abbrev pub SendsInput : Setup → Option (List ℕ) → Tenures → Tenures → Option (List ℕ) → Option (List ℕ) → TableFault → Type 0
-SendsInput s input log new_log old new fault =
-    (lines others : List (List ℕ)) × AreFirstBrought input (lines ++ others) × AreSent s lines others log new_log old new fault
+abbrev pub SendsInput : FolderSetup → Option (List ℕ) → Tenures → Tenures → Option (List ℕ) → Option (List ℕ) → TableFault → Type 0
+SendsInput f input log new_log old new fault =
+    (lines others : List (List ℕ)) × AreFirstBrought input (lines ++ others) × AreSent f lines others log new_log old new fault
 
 -- The same, as the setup of some file has it.
 pub record IsInputSent (input : Option (List ℕ)) (log new_log : Tenures) (old new : Option (List ℕ)) (fault : TableFault) : Type 0 where
   pub file : List ℕ
   pub found : FolderSetup
   pub read : IsReadFrom file found
-  pub sends : SendsInput found.setup input log new_log old new fault
+  pub sends : SendsInput found input log new_log old new fault

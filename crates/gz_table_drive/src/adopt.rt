@@ -1,8 +1,8 @@
 //! The table of a folder is brought to the modules that a kernel has, as a file lists them.
-ghost use Rattle.std.specs.Prelude.{◌≡◌, [], OnOk, IfOk};
+ghost use Rattle.std.specs.Prelude.{◌≡◌, OnOk, IfOk};
 ghost use Rattle.durable_table.specs.Durable.{Stands};
 ghost use Rattle.gz_table_drive.specs.Adopting.{AdoptsListing, HasAdopted, adopting_lines};
-ghost use Rattle.gz_table_drive.specs.Log.{HasGrown, HasMade, LeavesBehind};
+ghost use Rattle.gz_table_drive.specs.Log.{HasGrown, HasMade, IsOf, LeavesAfter, LeavesOf};
 
 use crate::adopting::{AdoptError, adopt_modules};
 use crate::answering::Replies;
@@ -22,17 +22,20 @@ use table_folder::{
     read_setup,
 };
 
-/// Brings the table of a journal's file to these modules.
+/// Brings the table of a journal's file of this setup to these modules.
 fn adopt_file<R: Files + Drop>(
     alloc: Global,
+    setup: &FolderSetup,
     table: &mut FileTable<'_, R>,
     kernel: &[KernelModule],
     replies: &mut Replies,
 ) -> Result<(), TableFault>
-    requires { Stands ⟦<FileDevice<R> as Device>⟧.content ⟦<FileDevice<R> as Device>⟧.history table.old.session.setup.now table.old.session.holders.held table.old.journal }
+    requires stands { Stands ⟦<FileDevice<R> as Device>⟧.content ⟦<FileDevice<R> as Device>⟧.history table.old.session.setup.now table.old.session.holders.held table.old.journal }
+    requires of { IsOf setup.now (⟦<FileDevice<R> as Device>⟧.content table.old.journal.lines.device) }
     ensures adopted { OnOk result (HasAdopted table.old.session.setup.now table.old.session.holders.held kernel.now replies.old replies.new) }
-    ensures left { OnOk result (LeavesBehind table.old.session.setup.now table.old.session.holders.held
-        (adopting_lines table.old.session.setup.now table.old.session.holders.held kernel.now) [] table.new.journal.lines.device.belief) }
+    ensures left { OnOk result (LeavesAfter table.old.session.setup.now table.old.session.holders.held
+        (adopting_lines table.old.session.setup.now table.old.session.holders.held kernel.now) table.new.journal.lines.device.belief) }
+    ensures left_of { LeavesOf setup.now table.new.journal.lines.device.belief }
 {
     match adopt_modules(alloc, table, kernel, replies) {
         Ok(()) => Ok(()),
@@ -51,23 +54,19 @@ fn adopt_into<'r, R: Files<File = File> + Clock + AllocGlobal>(
     kernel: &[KernelModule],
     replies: &mut Replies,
 ) -> Result<(), TableFault>
-    requires { Stands ⟦<FileDevice<&'r R> as Device>⟧.content ⟦<FileDevice<&'r R> as Device>⟧.history table.session.setup.now table.session.holders.held table.journal }
-    ensures adopted { OnOk result (HasAdopted table.entry.session.setup.now table.entry.session.holders.held kernel.now replies.old replies.new) }
-    ensures made { OnOk result (HasMade table.entry.session.setup.now table.entry.session.holders.held
-        (adopting_lines table.entry.session.setup.now table.entry.session.holders.held kernel.now) log.old log.new) }
+    requires of_setup { table.session.setup.now ≡ setup.now.setup }
+    requires stands { Stands ⟦<FileDevice<&'r R> as Device>⟧.content ⟦<FileDevice<&'r R> as Device>⟧.history setup.now.setup table.session.holders.held table.journal }
+    requires of { IsOf setup.now (⟦<FileDevice<&'r R> as Device>⟧.content table.journal.lines.device) }
+    ensures adopted { OnOk result (HasAdopted setup.now.setup table.entry.session.holders.held kernel.now replies.old replies.new) }
+    ensures made { OnOk result (HasMade setup.now table.entry.session.holders.held
+        (adopting_lines setup.now.setup table.entry.session.holders.held kernel.now) log.old log.new) }
     ensures grown { HasGrown log.old log.new }
 {
     begin_over(table.device(), log)?;
-    let adopted = adopt_file(shared.alloc(), &mut table, kernel, replies);
+    let adopted = adopt_file(shared.alloc(), setup, &mut table, kernel, replies);
     log.end(table.device().believed());
     if let Err(fault) = &adopted {
-        cut_unwritten(
-            shared,
-            &setup.setup,
-            &setup.name,
-            fault,
-            table.into_device(),
-        );
+        cut_unwritten(shared, setup, fault, table.into_device());
     }
     adopted
 }

@@ -2,9 +2,11 @@
 ghost use Rattle.std.specs.Prelude.{◌≡◌, ◌⊎◌, ◌<◌, ◌≤◌, ◌++◌, ◌∷◌, [], map, IfOk, IfErr, OnOk, IsErrOf};
 ghost use Rattle.line_journal.specs.Device.{AlwaysLeaves};
 ghost use Rattle.line_journal.specs.declared.device.DeviceError.TheVariants.{Failed};
-ghost use Rattle.line_journal.specs.Lines.{AreLines, bytes_of};
+ghost use Rattle.line_journal.specs.Lines.{AreLines, bytes_of, lines_of};
+ghost use Rattle.line_journal.specs.Journal.{lines_in};
 ghost use Rattle.held_lines.specs.Laws.{KeepsHeld};
 ghost use Rattle.held_lines.specs.Outcomes.{after};
+ghost use Rattle.durable_table.specs.Commands.{StaysOf};
 ghost use Rattle.durable_table.specs.Durable.{Stands};
 ghost use Rattle.durable_table.specs.Groups.{AfterFirstOf};
 ghost use Rattle.table_adopt.specs.Reports.{report_of};
@@ -110,6 +112,9 @@ fn perform_group<D: Device>(
     ensures stands { OnOk result (Stands D.content D.history table.old.session.setup.now table.new.session.holders.held table.new.journal) }
     ensures any_moment { AlwaysLeaves (D.history table.old.journal.lines.device) (D.history table.new.journal.lines.device)
         (AfterFirstOf table.old.session.setup.now table.old.session.holders.held (bytes_of group.now)) }
+    ensures of { OnOk result (StaysOf (lines_in D.content table.old.journal.lines) (lines_in D.content table.new.journal.lines)) }
+    ensures any_of { AlwaysLeaves (D.history table.old.journal.lines.device) (D.history table.new.journal.lines.device)
+        (λ file. StaysOf (lines_in D.content table.old.journal.lines) (lines_of file)) }
     ensures faults { IsErrOf result (PerformError.Device Failed) → D.faults table.old.journal.lines.device < D.faults table.new.journal.lines.device }
     ensures no_fewer { D.faults table.old.journal.lines.device ≤ D.faults table.new.journal.lines.device }
     ensures setup { table.new.session.setup ≡ table.old.session.setup }
@@ -136,6 +141,9 @@ fn perform_lines<D: Device>(
     ensures stands { OnOk result (Stands D.content D.history table.old.session.setup.now table.new.session.holders.held table.new.journal) }
     ensures any_moment { AlwaysLeaves (D.history table.old.journal.lines.device) (D.history table.new.journal.lines.device)
         (AfterFirstOf table.old.session.setup.now table.old.session.holders.held (bytes_of lines.now)) }
+    ensures of { OnOk result (StaysOf (lines_in D.content table.old.journal.lines) (lines_in D.content table.new.journal.lines)) }
+    ensures any_of { AlwaysLeaves (D.history table.old.journal.lines.device) (D.history table.new.journal.lines.device)
+        (λ file. StaysOf (lines_in D.content table.old.journal.lines) (lines_of file)) }
     ensures faults { IsErrOf result (PerformError.Device Failed) → D.faults table.old.journal.lines.device < D.faults table.new.journal.lines.device }
     ensures no_fewer { D.faults table.old.journal.lines.device ≤ D.faults table.new.journal.lines.device }
     ensures setup { table.new.session.setup ≡ table.old.session.setup }
@@ -208,6 +216,8 @@ pub fn adopt_modules<D: Device>(
     ensures any_moment { AlwaysLeaves (D.history table.old.journal.lines.device) (D.history table.new.journal.lines.device)
         (AfterFirstOf table.old.session.setup.now table.old.session.holders.held
         (adopting_lines table.old.session.setup.now table.old.session.holders.held kernel.now)) }
+    ensures any_of { AlwaysLeaves (D.history table.old.journal.lines.device) (D.history table.new.journal.lines.device)
+        (λ file. StaysOf (lines_in D.content table.old.journal.lines) (lines_of file)) }
     ensures bad_name { IsErrOf result AdoptError.BadName → AreLines (adopting_lines table.old.session.setup.now table.old.session.holders.held kernel.now) → ⊥ }
     ensures faults { IsErrOf result (AdoptError.Device Failed) → D.faults table.old.journal.lines.device < D.faults table.new.journal.lines.device }
     ensures no_fewer { D.faults table.old.journal.lines.device ≤ D.faults table.new.journal.lines.device }

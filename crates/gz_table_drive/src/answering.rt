@@ -2,8 +2,10 @@
 ghost use Rattle.std.specs.Prelude.{◌≡◌, ◌<◌, ◌≤◌, ℕ, [], ◌∷◌, length, map, take, IfOk, OnOk, OnErr, IsErrOf};
 ghost use Rattle.line_journal.specs.Device.{AlwaysLeaves};
 ghost use Rattle.line_journal.specs.declared.device.DeviceError.TheVariants.{Failed};
-ghost use Rattle.line_journal.specs.Lines.{AreLines, bytes_of};
+ghost use Rattle.line_journal.specs.Lines.{AreLines, bytes_of, lines_of};
+ghost use Rattle.line_journal.specs.Journal.{lines_in};
 ghost use Rattle.held_lines.specs.Outcomes.{after};
+ghost use Rattle.durable_table.specs.Commands.{StaysOf};
 ghost use Rattle.durable_table.specs.Durable.{Stands};
 ghost use Rattle.durable_table.specs.Groups.{AfterFirstOf};
 ghost use Rattle.gz_table_drive.specs.Answers.{HasMore, HasAnswered, StoppedWithin};
@@ -108,6 +110,9 @@ fn answer_group<D: Device>(
     ensures becomes { OnOk result (table.new.session.holders.held
         ≡ after table.old.session.setup.now table.old.session.holders.held (bytes_of group.now)) }
     ensures stands { OnOk result (Stands D.content D.history table.old.session.setup.now table.new.session.holders.held table.new.journal) }
+    ensures of { OnOk result (StaysOf (lines_in D.content table.old.journal.lines) (lines_in D.content table.new.journal.lines)) }
+    ensures any_of { AlwaysLeaves (D.history table.old.journal.lines.device) (D.history table.new.journal.lines.device)
+        (λ file. StaysOf (lines_in D.content table.old.journal.lines) (lines_of file)) }
     ensures stopped { OnErr result (StoppedWithin table.old.session.setup.now table.old.session.holders.held (bytes_of group.now)
         (D.history table.new.journal.lines.device).leaves replies.old replies.new) }
     ensures any_moment { AlwaysLeaves (D.history table.old.journal.lines.device) (D.history table.new.journal.lines.device)
@@ -147,6 +152,9 @@ pub fn answer_lines<D: Device>(
     ensures becomes { IfOk result (λ count. table.new.session.holders.held
         ≡ after table.old.session.setup.now table.old.session.holders.held (take count (bytes_of lines.now))) }
     ensures stands { OnOk result (Stands D.content D.history table.old.session.setup.now table.new.session.holders.held table.new.journal) }
+    ensures of { OnOk result (StaysOf (lines_in D.content table.old.journal.lines) (lines_in D.content table.new.journal.lines)) }
+    ensures any_of { AlwaysLeaves (D.history table.old.journal.lines.device) (D.history table.new.journal.lines.device)
+        (λ file. StaysOf (lines_in D.content table.old.journal.lines) (lines_of file)) }
     ensures stopped { OnErr result (StoppedWithin table.old.session.setup.now table.old.session.holders.held (bytes_of lines.now)
         (D.history table.new.journal.lines.device).leaves replies.old replies.new) }
     ensures any_moment { AlwaysLeaves (D.history table.old.journal.lines.device) (D.history table.new.journal.lines.device)

@@ -65,7 +65,7 @@ fn count_table(
 ) -> Result<(usize, usize), TableFault>
     ensures { IfOk result (AreCounted (table_of setup.now.setup bytes.items)) }
 {
-    let table = copy_of(alloc, &setup.setup, &setup.name, bytes)?;
+    let table = copy_of(alloc, setup, bytes)?;
     let holders = table.session().holders();
     Ok((holders.loaded(), holders.holders()))
 }

@@ -2,11 +2,11 @@
 ghost use Rattle.std.specs.Prelude.{◌≡◌, true, Ok, IsErrOf, IfOk, OnOk};
 ghost use Rattle.line_journal.specs.Device.{AlwaysLeaves};
 ghost use Rattle.line_journal.specs.Journal.{lines_in};
-ghost use Rattle.durable_table.specs.Durable.{Stands, FileStands};
+ghost use Rattle.durable_table.specs.Durable.{Stands};
 ghost use Rattle.durable_table.specs.Compacting.{compacted, CanBeRemade};
 ghost use Rattle.file_journal.specs.declared.lock.LockKind.TheVariants.{Exclusive};
 ghost use Rattle.gz_table_drive.specs.Ended.{IsCompacted};
-ghost use Rattle.gz_table_drive.specs.Log.{CannotCompact, HasCompacted, HasGrown};
+ghost use Rattle.gz_table_drive.specs.Log.{CannotCompact, HasCompacted, HasGrown, IsJournalOf, IsOf};
 
 use crate::kept::Kept;
 use crate::log::Tenures;
@@ -15,7 +15,6 @@ use crate::tenure::{begin_over, changing_table};
 use durable_table::{Compacted, DurableTable, PerformError};
 use file_journal::{FolderLock, LockKind};
 use line_journal::{DeviceError, Renewable};
-use modprobe::Setup;
 use std::alloc::Global;
 use std::fs::File;
 use std::io::Write;
@@ -23,49 +22,51 @@ use std::rt::Files;
 use std::time::Clock;
 use table_folder::{FolderSetup, Shared, TableFault, Teller, journal_fault, read_setup};
 
-/// Writes the journal anew, as the lines that make its table, of the setup of this name.
+/// Writes the journal anew, as the lines that make its table, with the name of its setup.
 fn compact_table<D: Renewable + Drop>(
     alloc: Global,
-    setup: &Setup,
-    name: &[u8],
+    setup: &FolderSetup,
     table: &mut DurableTable<'_, D>,
 ) -> Result<Compacted, PerformError>
-    requires stands { Stands D.content D.history setup.now table.old.session.holders.held table.old.journal }
-    requires of_setup { table.old.session.setup.now ≡ setup.now }
-    ensures written { result ≡ Ok Compacted.Done → lines_in D.content table.new.journal.lines ≡ compacted name.now setup.now table.old.session.holders.held }
+    requires stands { Stands D.content D.history setup.now.setup table.old.session.holders.held table.old.journal }
+    requires of_setup { table.old.session.setup.now ≡ setup.now.setup }
+    requires of { IsOf setup.now (D.content table.old.journal.lines.device) }
+    ensures written { result ≡ Ok Compacted.Done → lines_in D.content table.new.journal.lines ≡ compacted setup.now.name.items setup.now.setup table.old.session.holders.held }
     ensures kept { result ≡ Ok Compacted.Kept → table.new.journal ≡ table.old.journal }
     ensures unchanged { IsErrOf result PerformError.OutOfMemory → table.new.journal ≡ table.old.journal }
-    ensures needed { result ≡ Ok Compacted.Kept → CanBeRemade name.now setup.now table.old.session.holders.held → ⊥ }
-    ensures stands { OnOk result (Stands D.content D.history setup.now table.new.session.holders.held table.new.journal) }
+    ensures needed { result ≡ Ok Compacted.Kept → CanBeRemade setup.now.name.items setup.now.setup table.old.session.holders.held → ⊥ }
+    ensures stands { OnOk result (Stands D.content D.history setup.now.setup table.new.session.holders.held table.new.journal) }
+    ensures of { OnOk result (IsOf setup.now (D.content table.new.journal.lines.device)) }
     ensures any_moment { AlwaysLeaves (D.history table.old.journal.lines.device) (D.history table.new.journal.lines.device)
-        (FileStands setup.now table.old.session.holders.held) }
+        (IsJournalOf setup.now table.old.session.holders.held) }
     ensures session { table.new.session ≡ table.old.session }
 {
-    match no_holders(alloc, setup) {
-        Ok(fresh) => table.compact(alloc, name, fresh),
+    match no_holders(alloc, &setup.setup) {
+        Ok(fresh) => table.compact(alloc, &setup.name, fresh),
         Err(_) => Err(PerformError::OutOfMemory),
     }
 }
 
-/// Writes a journal that has become long anew, of the setup of this name. Returns whether the table may be kept: if the journal
+/// Writes a journal that has become long anew, with the name of its setup. Returns whether the table may be kept: if the journal
 /// could not be written, it stands for the same table all the same, but that is to be opened anew.
 pub(crate) fn shorten<D: Renewable + Drop>(
     alloc: Global,
-    setup: &Setup,
-    name: &[u8],
+    setup: &FolderSetup,
     table: &mut DurableTable<'_, D>,
 ) -> bool
-    requires stands { Stands D.content D.history setup.now table.old.session.holders.held table.old.journal }
-    requires of_setup { table.old.session.setup.now ≡ setup.now }
-    ensures stands { result ≡ true → Stands D.content D.history setup.now table.new.session.holders.held table.new.journal }
+    requires stands { Stands D.content D.history setup.now.setup table.old.session.holders.held table.old.journal }
+    requires of_setup { table.old.session.setup.now ≡ setup.now.setup }
+    requires of { IsOf setup.now (D.content table.old.journal.lines.device) }
+    ensures stands { result ≡ true → Stands D.content D.history setup.now.setup table.new.session.holders.held table.new.journal }
+    ensures of { result ≡ true → IsOf setup.now (D.content table.new.journal.lines.device) }
     ensures any_moment { AlwaysLeaves (D.history table.old.journal.lines.device) (D.history table.new.journal.lines.device)
-        (FileStands setup.now table.old.session.holders.held) }
+        (IsJournalOf setup.now table.old.session.holders.held) }
     ensures session { table.new.session ≡ table.old.session }
 {
-    if !matches!(table.is_long(alloc, name), Ok(true)) {
+    if !matches!(table.is_long(alloc, &setup.name), Ok(true)) {
         return true;
     }
-    compact_table(alloc, setup, name, table).is_ok()
+    compact_table(alloc, setup, table).is_ok()
 }
 
 /// Writes the journal of a folder anew, as the lines that make its table, unless they would not make it. It is one tenure.
@@ -77,13 +78,13 @@ fn compact_folder<R: Files<File = File> + Clock + AllocGlobal, E: Write>(
     teller: &mut Teller<'_, E>,
 ) -> Result<Compacted, TableFault>
     requires { lock.kind ≡ Exclusive }
-    ensures done { IfOk result (λ made. made ≡ Compacted.Done → HasCompacted setup.now.setup setup.now.name.items log.old log.new) }
-    ensures kept { IfOk result (λ made. made ≡ Compacted.Kept → CannotCompact setup.now.setup setup.now.name.items log.old log.new) }
+    ensures done { IfOk result (λ made. made ≡ Compacted.Done → HasCompacted setup.now log.old log.new) }
+    ensures kept { IfOk result (λ made. made ≡ Compacted.Kept → CannotCompact setup.now log.old log.new) }
     ensures grown { HasGrown log.old log.new }
 {
     let mut table = changing_table(shared, &mut Kept::new(setup), lock, teller)?;
     begin_over(table.device(), log)?;
-    let compacted = compact_table(shared.alloc(), &setup.setup, &setup.name, &mut table);
+    let compacted = compact_table(shared.alloc(), setup, &mut table);
     log.end(table.device().believed());
     match compacted {
         Ok(compacted) => Ok(compacted),

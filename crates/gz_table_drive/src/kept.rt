@@ -2,23 +2,23 @@
 ghost use Rattle.std.specs.Prelude.{◌≡◌, IfSome};
 ghost use Rattle.std.proofs.Props.{props};
 ghost use Rattle.durable_table.specs.Durable.{Reads};
+ghost use Rattle.gz_table_drive.specs.Log.{IsOf};
 ghost use Rattle.gz_table_drive.specs.Taken.{IsTaken};
 
 use durable_table::{CaughtUp, DurableTable};
 use line_journal::{Device, Renewable};
-use modprobe::Setup;
 use std::alloc::Global;
 use table_folder::FolderSetup;
 
-/// A table that is kept, if there is one. It read as its journal did when it was put here.
+/// The setup that a process goes by, and a table that is kept of it, if there is one. It read as its journal did when it was
+/// put here, and that was of this setup.
 #[derive(Drop)]
 pub(crate) struct Kept<'s, D: Device + Drop> {
-    setup: &'s Setup,
-    /// The name of the setup.
-    name: &'s [u8],
+    setup: &'s FolderSetup,
     table: Option<DurableTable<'s, D>>,
-    ghost of_setup: { IfSome table (λ t. t.session.setup.now ≡ setup.now) } by { Prim.hlevel props },
-    ghost reads: { IfSome table (λ t. Reads D.content setup.now t.session.holders.held t.journal) } by { Prim.hlevel props },
+    ghost of_setup: { IfSome table (λ t. t.session.setup.now ≡ setup.now.setup) } by { Prim.hlevel props },
+    ghost reads: { IfSome table (λ t. Reads D.content setup.now.setup t.session.holders.held t.journal) } by { Prim.hlevel props },
+    ghost of: { IfSome table (λ t. IsOf setup.now (D.content t.journal.lines.device)) } by { Prim.hlevel props },
 }
 
 /// What there is of a table that is kept, once it is taken. Its device has the turn.
@@ -40,6 +40,7 @@ pub(crate) fn rested<'s, D: Renewable + Drop>(mut table: DurableTable<'s, D>) ->
     requires reads { Reads D.content table.session.setup.now table.session.holders.held table.journal }
     ensures reads { Reads D.content table.entry.session.setup.now result.session.holders.held result.journal }
     ensures session { result.session ≡ table.entry.session }
+    ensures content { D.content result.journal.lines.device ≡ D.content table.entry.journal.lines.device }
 {
     table.rest();
     table
@@ -48,31 +49,20 @@ pub(crate) fn rested<'s, D: Renewable + Drop>(mut table: DurableTable<'s, D>) ->
 impl<'s, D: Renewable + Drop> Kept<'s, D> {
     /// No table is kept yet, of the setup of a folder.
     pub(crate) fn new(setup: &'s FolderSetup) -> Kept<'s, D>
-        ensures setup { result.setup.now ≡ setup.now.setup }
-        ensures name { result.name.now ≡ setup.now.name.items }
+        ensures { result.setup.now ≡ setup.now }
     {
-        Kept {
-            setup: &setup.setup,
-            name: &setup.name,
-            table: None,
-        }
+        Kept { setup, table: None }
     }
 
-    /// What the setup says.
-    pub(crate) fn setup(&self) -> &'s Setup
+    /// The setup.
+    pub(crate) fn setup(&self) -> &'s FolderSetup
         ensures { result.now ≡ self.now.setup.now }
     {
         self.setup
     }
 
-    /// The name of the setup.
-    pub(crate) fn name(&self) -> &'s [u8]
-        ensures { result.now ≡ self.now.name.now }
-    {
-        self.name
-    }
-
     /// The turn of this process begins: takes the table, and looks at what others have made of its journal. None is kept then.
+    #[tactic(auto, using(crate::proofs::TenureLemmas::stays_of))]
     pub(crate) fn take(&mut self, alloc: Global, turn: D::Turn) -> Taken<'s, D>
         ensures taken { IsTaken D.content D.looks self.old.setup.now self.old.table result }
         ensures setup { self.new.setup.now ≡ self.old.setup.now }
@@ -89,8 +79,9 @@ impl<'s, D: Renewable + Drop> Kept<'s, D> {
 
     /// The turn of this process is over: keeps a table that reads as its journal does.
     pub(crate) fn keep(&mut self, table: DurableTable<'s, D>)
-        requires of_setup { table.session.setup.now ≡ self.old.setup.now }
-        requires reads { Reads D.content self.old.setup.now table.session.holders.held table.journal }
+        requires of_setup { table.session.setup.now ≡ self.old.setup.now.setup }
+        requires reads { Reads D.content self.old.setup.now.setup table.session.holders.held table.journal }
+        requires of { IsOf self.old.setup.now (D.content table.journal.lines.device) }
         ensures { self.new.setup.now ≡ self.old.setup.now }
     {
         self.table = Some(rested(table));

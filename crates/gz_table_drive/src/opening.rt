@@ -1,12 +1,12 @@
 //! How a table is read from its folder.
-ghost use Rattle.std.specs.Prelude.{◌≡◌, ◌⊎◌, Some, true, IfOk, OnOk};
+ghost use Rattle.std.specs.Prelude.{◌≡◌, ◌⊎◌, Some, IfOk, OnOk};
 ghost use Rattle.line_journal.specs.Device.{AlwaysLeaves};
 ghost use Rattle.line_journal.specs.Lines.{lines_of, StandsFor};
 ghost use Rattle.dep_index.specs.Catalogue.{modules_of};
-ghost use Rattle.durable_table.specs.Commands.{is_of};
 ghost use Rattle.durable_table.specs.Tables.{opening_of, table_of};
 ghost use Rattle.durable_table.specs.Durable.{Stands};
 ghost use Rattle.durable_table.specs.Opened.{IsTableRead};
+ghost use Rattle.gz_table_drive.specs.Log.{IsOf};
 
 use crate::answering::GROUP;
 use durable_table::{DurableTable, OpenedTable, ReadTable, open, open_reading};
@@ -19,7 +19,9 @@ use std::fs::File;
 use std::io::Write;
 use std::rt::Files;
 use std::time::Clock;
-use table_folder::{Damage, Shared, TableFault, Teller, damage_of, found_in, keep_cut};
+use table_folder::{
+    Damage, FolderSetup, Shared, TableFault, Teller, damage_of, found_in, keep_cut,
+};
 
 /// How many lines with open gates a crash leaves behind the journal's lines, at the most. More are damage.
 const TORN: usize = GROUP - 1;
@@ -54,22 +56,29 @@ pub(crate) fn no_holders(alloc: Global, setup: &Setup) -> Result<HeldTable, Allo
     HeldTable::new(alloc, setup.catalogue().slots(alloc)?)
 }
 
-/// The table that a journal stands for, by the setup of this name.
+/// The table that a journal of this setup stands for.
 pub(crate) fn open_table<'s, D: Device + Drop>(
     alloc: Global,
-    setup: &'s Setup,
-    name: &[u8],
+    setup: &'s FolderSetup,
     device: D,
 ) -> Result<DurableTable<'s, D>, OpenFault<D>>
-    ensures stands { IfOk result (λ t. Stands D.content D.history setup.now t.session.holders.held t.journal) }
-    ensures same { IfOk result (λ t. table_of setup.now (D.content device) ≡ Some t.session.holders.held) }
-    ensures of { OnOk result (is_of name.now (lines_of (D.content device)) ≡ true) }
-    ensures setup { IfOk result (λ t. t.session.setup.now ≡ setup.now) }
+    ensures stands { IfOk result (λ t. Stands D.content D.history setup.now.setup t.session.holders.held t.journal) }
+    ensures same { IfOk result (λ t. table_of setup.now.setup (D.content device) ≡ Some t.session.holders.held) }
+    ensures of { OnOk result (IsOf setup.now (D.content device)) }
+    ensures lines { IfOk result (λ t. lines_of (D.content t.journal.lines.device) ≡ lines_of (D.content device)) }
+    ensures setup { IfOk result (λ t. t.session.setup.now ≡ setup.now.setup) }
     ensures any_moment { IfOk result (λ t. AlwaysLeaves (D.history device) (D.history t.journal.lines.device)
         (λ file. StandsFor (lines_of (D.content device)) file ⊎ (D.history device).leaves file)) }
 {
-    let holders = no_holders(alloc, setup)?;
-    match open(alloc, setup, name, holders, device, Repair::CutAtMost(TORN)) {
+    let holders = no_holders(alloc, &setup.setup)?;
+    match open(
+        alloc,
+        &setup.setup,
+        &setup.name,
+        holders,
+        device,
+        Repair::CutAtMost(TORN),
+    ) {
         Ok(OpenedTable::Ready(table, _)) => Ok(table),
         Ok(OpenedTable::Foreign(_)) => Err(OpenFault::Foreign),
         Ok(OpenedTable::Other(_)) => Err(OpenFault::Other),
@@ -79,17 +88,16 @@ pub(crate) fn open_table<'s, D: Device + Drop>(
     }
 }
 
-/// The table that a journal reads as, by the setup of this name, if it is whole and at rest, and of that setup.
+/// The table that a journal reads as, if it is whole and at rest, and of this setup.
 pub(crate) fn read_table<'s, D: Device + Drop>(
     alloc: Global,
-    setup: &'s Setup,
-    name: &[u8],
+    setup: &'s FolderSetup,
     device: D,
 ) -> Result<ReadTable<'s, D>, OpenFault<D>>
-    ensures read { IfOk result (IsTableRead D.content setup.now name.now (D.content device)) }
+    ensures read { IfOk result (IsTableRead D.content setup.now.setup setup.now.name.items (D.content device)) }
 {
-    let fresh = no_holders(alloc, setup)?;
-    match open_reading(alloc, setup, name, fresh, device) {
+    let fresh = no_holders(alloc, &setup.setup)?;
+    match open_reading(alloc, &setup.setup, &setup.name, fresh, device) {
         Ok(table) => Ok(table),
         Err((error, device)) => Err(OpenFault::Device(error, device)),
     }

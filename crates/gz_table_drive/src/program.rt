@@ -76,8 +76,8 @@ struct Answered {
     replies: Replies,
 }
 
-/// Answers the first of some lines in one tenure, and writes their replies. If a line has none, those to the lines before it are
-/// written all the same.
+/// Answers the first of some lines in one tenure, and writes their replies. If a line has none, those to the lines before it
+/// are written all the same.
 fn answer_turn<'s, 'r, R: Files<File = File> + Clock + AllocGlobal, O: Write, E: Write>(
     shared: &Shared<'r, R>,
     kept: &mut Kept<'s, FileDevice<&'r R>>,
@@ -153,8 +153,8 @@ fn first_ending(replies: &Replies) -> Ending
     }
 }
 
-/// Answers one line by the setup that lies in the folder now, and writes its reply. None if another setup lies there once the lock
-/// is had: nothing is done then.
+/// Answers one line by the setup that lies in the folder now, and writes its reply. None if another setup lies there once the
+/// lock is had: nothing is done then.
 fn answer_once<R: Files<File = File> + Clock + AllocGlobal, O: Write, E: Write>(
     shared: &Shared<'_, R>,
     log: &mut Tenures,
@@ -466,8 +466,9 @@ fn slices(alloc: Global, words: &[Vec<u8>]) -> Result<Vec<&[u8]>, AllocError>
 /// lines of an input. If the output failed, with 3, it has a beginning of what is written otherwise. `input` is read for its
 /// lines and by `adopt` alone.
 ///
-/// Each reply to a command or a line is that of a tenure of `log`, which only clauses read: of the table that the journal stood for
-/// which the tenure found under the folder's lock. What a tenure left, whatever crashes, stands for the table behind its lines.
+/// Each reply to a command or a line is that of a tenure of `log`, which only clauses read: of the table that the journal stood
+/// for which the tenure found under the folder's lock. That journal was of the setup that was read. What a tenure left,
+/// whatever crashes, is so too, and stands for the table behind its lines.
 pub fn drive<R: Files<File = File> + Env + Clock + AllocGlobal, I: Read, O: Write, E: Write>(
     rt: &R,
     words: &[Vec<u8>],

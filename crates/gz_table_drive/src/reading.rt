@@ -1,19 +1,18 @@
 //! Lines that change nothing, and their replies from a copy of the journal.
 ghost use Rattle.std.specs.Prelude.{◌≡◌, Some, true, take, ◌<◌, ◌≤◌, length, IfOk, OnOk, OnErr};
-ghost use Rattle.line_journal.specs.Lines.{AreLines, bytes_of, lines_of};
-ghost use Rattle.durable_table.specs.Commands.{is_of};
+ghost use Rattle.line_journal.specs.Lines.{AreLines, bytes_of};
 ghost use Rattle.durable_table.specs.Durable.{Reads, Stands};
 ghost use Rattle.durable_table.specs.Groups.{AreAsking};
 ghost use Rattle.durable_table.specs.Tables.{table_of};
 ghost use Rattle.gz_table_drive.specs.Answers.{HasAnswered, HasAnsweredFirst};
+ghost use Rattle.gz_table_drive.specs.Log.{IsOf};
 
 use crate::answering::{GROUP, Replies, answer_lines};
 use crate::opening::{OpenFault, open_table};
 use durable_table::DurableTable;
 use line_journal::{Device, KillOnly};
-use modprobe::Setup;
 use std::alloc::{AllocError, Global};
-use table_folder::{TableFault, is_reading};
+use table_folder::{FolderSetup, TableFault, is_reading};
 
 /// Whether all lines ask, or are no commands. It fails only if memory runs out.
 pub(crate) fn are_reading(alloc: Global, lines: &[Vec<u8>]) -> Result<bool, AllocError>
@@ -27,19 +26,18 @@ pub(crate) fn are_reading(alloc: Global, lines: &[Vec<u8>]) -> Result<bool, Allo
     Ok(true)
 }
 
-/// The table that a journal's bytes stand for, by the setup of this name, over a copy of them in memory.
+/// The table that a journal's bytes stand for, if they are of this setup, over a copy of them in memory.
 pub(crate) fn copy_of<'s>(
     alloc: Global,
-    setup: &'s Setup,
-    name: &[u8],
+    setup: &'s FolderSetup,
     bytes: Vec<u8>,
 ) -> Result<DurableTable<'s, KillOnly>, TableFault>
-    ensures stands { IfOk result (λ t. Stands ⟦<KillOnly as Device>⟧.content ⟦<KillOnly as Device>⟧.history setup.now t.session.holders.held t.journal) }
-    ensures same { IfOk result (λ t. table_of setup.now bytes.items ≡ Some t.session.holders.held) }
-    ensures of { OnOk result (is_of name.now (lines_of bytes.items) ≡ true) }
-    ensures setup { IfOk result (λ t. t.session.setup.now ≡ setup.now) }
+    ensures stands { IfOk result (λ t. Stands ⟦<KillOnly as Device>⟧.content ⟦<KillOnly as Device>⟧.history setup.now.setup t.session.holders.held t.journal) }
+    ensures same { IfOk result (λ t. table_of setup.now.setup bytes.items ≡ Some t.session.holders.held) }
+    ensures of { OnOk result (IsOf setup.now bytes.items) }
+    ensures setup { IfOk result (λ t. t.session.setup.now ≡ setup.now.setup) }
 {
-    match open_table(alloc, setup, name, KillOnly::new(alloc, bytes)) {
+    match open_table(alloc, setup, KillOnly::new(alloc, bytes)) {
         Ok(table) => Ok(table),
         Err(OpenFault::Foreign) => Err(TableFault::Foreign),
         Err(OpenFault::Other) => Err(TableFault::Other),

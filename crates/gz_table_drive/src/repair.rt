@@ -1,13 +1,12 @@
 //! What is damaged behind a journal's lines is cut off.
-ghost use Rattle.std.specs.Prelude.{◌≡◌, ◌≢◌, ◌⊎◌, [], ◌∷◌, Some, IfOk, true, IfSome, IfNone, OnOk};
+ghost use Rattle.std.specs.Prelude.{◌≡◌, ◌≢◌, ◌⊎◌, [], ◌∷◌, Some, IfOk, IfSome, IfNone, OnOk};
 ghost use Rattle.line_journal.specs.Device.{AlwaysLeaves};
 ghost use Rattle.line_journal.specs.Journal.{IsFound};
 ghost use Rattle.line_journal.specs.Lines.{lines_of, at_rest, StandsFor};
-ghost use Rattle.durable_table.specs.Commands.{is_of};
 ghost use Rattle.durable_table.specs.Tables.{table_of};
 ghost use Rattle.durable_table.specs.Durable.{Stands};
 ghost use Rattle.file_journal.specs.declared.lock.LockKind.TheVariants.{Exclusive};
-ghost use Rattle.gz_table_drive.specs.Log.{HasGrown, HasRepaired};
+ghost use Rattle.gz_table_drive.specs.Log.{HasGrown, HasRepaired, HasRepairedOf, IsOf};
 
 use crate::log::Tenures;
 use crate::opening::{OpenFault, no_holders};
@@ -15,7 +14,6 @@ use crate::tenure::{begin_over, unopened};
 use durable_table::{DurableTable, OpenedTable, open};
 use file_journal::{FileDevice, FolderLock, LockKind};
 use line_journal::{Device, Found, KillOnly, Repair};
-use modprobe::Setup;
 use std::alloc::Global;
 use std::fs::File;
 use std::io::Write;
@@ -46,26 +44,32 @@ fn damage_in(found: Found) -> Option<Found>
     }
 }
 
-/// The table that the lines of a journal stand for, by the setup of this name. What stands behind them is cut off, however much
-/// it is.
+/// The table that the lines of a journal of this setup stand for. What stands behind them is cut off, however much it is.
 ///
 /// A crash at any moment leaves the same lines, or what it might have left before.
 fn repair_table<'s, D: Device + Drop>(
     alloc: Global,
-    setup: &'s Setup,
-    name: &[u8],
+    setup: &'s FolderSetup,
     device: D,
 ) -> Result<Repaired<'s, D>, OpenFault<D>>
-    ensures stands { IfOk result (λ r. Stands D.content D.history setup.now r.table.session.holders.held r.table.journal) }
-    ensures same { IfOk result (λ r. table_of setup.now (D.content device) ≡ Some r.table.session.holders.held) }
-    ensures of { OnOk result (is_of name.now (lines_of (D.content device)) ≡ true) }
+    ensures stands { IfOk result (λ r. Stands D.content D.history setup.now.setup r.table.session.holders.held r.table.journal) }
+    ensures same { IfOk result (λ r. table_of setup.now.setup (D.content device) ≡ Some r.table.session.holders.held) }
+    ensures of { OnOk result (IsOf setup.now (D.content device)) }
+    ensures lines { IfOk result (λ r. lines_of (D.content r.table.journal.lines.device) ≡ lines_of (D.content device)) }
     ensures found { IfOk result (λ r. IsFound (D.content device) r.found) }
-    ensures setup { IfOk result (λ r. r.table.session.setup.now ≡ setup.now) }
+    ensures setup { IfOk result (λ r. r.table.session.setup.now ≡ setup.now.setup) }
     ensures any_moment { IfOk result (λ r. AlwaysLeaves (D.history device) (D.history r.table.journal.lines.device)
         (λ file. StandsFor (lines_of (D.content device)) file ⊎ (D.history device).leaves file)) }
 {
-    let holders = no_holders(alloc, setup)?;
-    match open(alloc, setup, name, holders, device, Repair::Cut) {
+    let holders = no_holders(alloc, &setup.setup)?;
+    match open(
+        alloc,
+        &setup.setup,
+        &setup.name,
+        holders,
+        device,
+        Repair::Cut,
+    ) {
         Ok(OpenedTable::Ready(table, found)) => Ok(Repaired { table, found }),
         Ok(OpenedTable::Foreign(_)) => Err(OpenFault::Foreign),
         Ok(OpenedTable::Other(_)) => Err(OpenFault::Other),
@@ -75,9 +79,11 @@ fn repair_table<'s, D: Device + Drop>(
     }
 }
 
-/// Refuses the bytes of a journal of which no table can be made.
-fn try_copy(alloc: Global, setup: &Setup, name: &[u8], bytes: Vec<u8>) -> Result<(), TableFault> {
-    match repair_table(alloc, setup, name, KillOnly::new(alloc, bytes)) {
+/// Refuses the bytes of a journal of which no table of this setup can be made.
+fn try_copy(alloc: Global, setup: &FolderSetup, bytes: Vec<u8>) -> Result<(), TableFault>
+    ensures { OnOk result (IsOf setup.now bytes.items) }
+{
+    match repair_table(alloc, setup, KillOnly::new(alloc, bytes)) {
         Ok(_) => Ok(()),
         Err(OpenFault::Foreign) => Err(TableFault::Foreign),
         Err(OpenFault::Other) => Err(TableFault::Other),
@@ -86,24 +92,25 @@ fn try_copy(alloc: Global, setup: &Setup, name: &[u8], bytes: Vec<u8>) -> Result
     }
 }
 
-/// The device of a journal, behind whose lines nothing stands any more. It is kept in `journal.cut` first, and it is told how
-/// many lines it has.
+/// The device of a journal of this setup, behind whose lines nothing stands any more. It is kept in `journal.cut` first, and it
+/// is told how many lines it has.
 fn repaired_device<'r, R: Files<File = File> + Clock + AllocGlobal, E: Write>(
     shared: &Shared<'r, R>,
     setup: &FolderSetup,
     mut device: FileDevice<&'r R>,
     teller: &mut Teller<'_, E>,
 ) -> Result<FileDevice<&'r R>, TableFault>
-    ensures { IfOk result (λ device. ⟦<FileDevice<&'r R> as Device>⟧.content device ≡ at_rest (lines_of (⟦<FileDevice<&'r R> as Device>⟧.content device))) }
+    ensures of { OnOk result (IsOf setup.now (⟦<FileDevice<&'r R> as Device>⟧.content device.entry)) }
+    ensures left { IfOk result (λ left. ⟦<FileDevice<&'r R> as Device>⟧.content left ≡ at_rest (lines_of (⟦<FileDevice<&'r R> as Device>⟧.content device.entry))) }
 {
     let alloc = shared.alloc();
     let bytes = bytes_of(alloc, &mut device)?;
-    try_copy(alloc, &setup.setup, &setup.name, bytes)?;
+    try_copy(alloc, setup, bytes)?;
     let Some(damage) = damage_in(found_in(alloc, &mut device)?) else {
         return Ok(device);
     };
     keep_cut(shared, &damage.behind)?;
-    match repair_table(alloc, &setup.setup, &setup.name, device) {
+    match repair_table(alloc, setup, device) {
         Ok(repaired) => {
             teller.repaired(shared.folder, &repaired.found);
             Ok(repaired.table.into_device())
@@ -121,7 +128,7 @@ fn repair_journal<R: Files<File = File> + Clock + AllocGlobal, E: Write>(
     teller: &mut Teller<'_, E>,
 ) -> Result<(), TableFault>
     requires { lock.kind ≡ Exclusive }
-    ensures repaired { OnOk result (HasRepaired log.old log.new) }
+    ensures repaired { OnOk result (HasRepairedOf setup.now log.old log.new) }
     ensures grown { HasGrown log.old log.new }
 {
     let device = open_journal(shared, lock)?;

@@ -6,8 +6,9 @@ ghost use Rattle.durable_table.specs.Groups.{AreAsking};
 ghost use Rattle.file_journal.specs.Belief.{history_of};
 ghost use Rattle.file_journal.specs.declared.lock.LockKind.TheVariants.{Exclusive};
 ghost use Rattle.gz_table_drive.specs.Answers.{HasAnswered, HasAnsweredFirst, StoppedWithin};
-ghost use Rattle.gz_table_drive.specs.Log.{HasBegun, HasBegunOver, HasTold, HasToldFirst, LeavesBehind};
+ghost use Rattle.gz_table_drive.specs.Log.{HasBegun, HasBegunOver, HasTold, HasToldFirst, IsJournalOf, IsOf, LeavesAfter, LeavesOf};
 ghost use Rattle.gz_table_drive.specs.Turns.{IsTurnFor};
+ghost use Rattle.table_folder.specs.declared.folder_setup.FolderSetup.{FolderSetup as AnyFolderSetup};
 
 use crate::answering::{AnswerError, Replies, answer_lines};
 use crate::compaction::shorten;
@@ -18,14 +19,14 @@ use crate::reading::{answer_copy, are_reading, ask_lines, copy_of};
 use durable_table::{DurableTable, ReadTable};
 use file_journal::{Cause, FileDevice, FileFault, FolderLock, LockKind, OpenError};
 use line_journal::{Device, DeviceError};
-use modprobe::Setup;
 use std::alloc::Global;
 use std::fs::File;
 use std::io::Write;
 use std::rt::Files;
 use std::time::Clock;
 use table_folder::{
-    Shared, Sight, TableFault, Teller, bytes_of, journal_fault, open_journal, read_journal,
+    FolderSetup, Shared, Sight, TableFault, Teller, bytes_of, journal_fault, open_journal,
+    read_journal,
 };
 
 /// The table over the file of a journal.
@@ -91,7 +92,9 @@ fn begun_asking<'s, R: Files + Drop>(
     requires reads { Reads ⟦<FileDevice<R> as Device>⟧.content table.session.setup.now table.session.holders.held table.journal }
     ensures reads { IfOk result (λ t. Reads ⟦<FileDevice<R> as Device>⟧.content table.entry.session.setup.now t.session.holders.held t.journal) }
     ensures setup { IfOk result (λ t. t.session.setup ≡ table.entry.session.setup) }
-    ensures begun { IfOk result (λ t. HasBegunOver table.entry.session.setup.now t.session.holders.held log.old log.new) }
+    ensures content { IfOk result (λ t. ⟦<FileDevice<R> as Device>⟧.content t.journal.lines.device ≡ ⟦<FileDevice<R> as Device>⟧.content table.entry.journal.lines.device) }
+    ensures begun { (f : AnyFolderSetup) → IsJournalOf f table.entry.session.holders.held (⟦<FileDevice<R> as Device>⟧.content table.entry.journal.lines.device)
+        → IfOk result (λ t. HasBegunOver f t.session.holders.held log.old log.new) }
     ensures none { OnErr result (log.new.noted.items ≡ log.old.noted.items) }
 {
     match begin_over(table.device(), log) {
@@ -108,8 +111,9 @@ fn reading_table<'s, 'r, R: Files<File = File> + Clock + AllocGlobal>(
     log: &mut Tenures,
     lock: FolderLock,
 ) -> Result<FileTable<'s, &'r R>, Option<FolderLock>>
-    ensures of_setup { IfOk result (λ t. t.session.setup.now ≡ kept.old.setup.now) }
-    ensures reads { IfOk result (λ t. Reads ⟦<FileDevice<&'r R> as Device>⟧.content kept.old.setup.now t.session.holders.held t.journal) }
+    ensures of_setup { IfOk result (λ t. t.session.setup.now ≡ kept.old.setup.now.setup) }
+    ensures reads { IfOk result (λ t. Reads ⟦<FileDevice<&'r R> as Device>⟧.content kept.old.setup.now.setup t.session.holders.held t.journal) }
+    ensures of { IfOk result (λ t. IsOf kept.old.setup.now (⟦<FileDevice<&'r R> as Device>⟧.content t.journal.lines.device)) }
     ensures setup { kept.new.setup.now ≡ kept.old.setup.now }
     ensures begun { IfOk result (λ t. HasBegunOver kept.old.setup.now t.session.holders.held log.old log.new) }
     ensures none { OnErr result (log.new.noted.items ≡ log.old.noted.items) }
@@ -120,7 +124,7 @@ fn reading_table<'s, 'r, R: Files<File = File> + Clock + AllocGlobal>(
         taken => taken,
     };
     let device = reading_device(shared, taken)?;
-    match read_table(alloc, kept.setup(), kept.name(), device) {
+    match read_table(alloc, kept.setup(), device) {
         Ok(ReadTable::Ready(table)) => begun_asking(table, log),
         Ok(ReadTable::Anew(device)) => Err(device.into_lock()),
         Err(fault) => Err(lock_of(fault)),
@@ -130,8 +134,7 @@ fn reading_table<'s, 'r, R: Files<File = File> + Clock + AllocGlobal>(
 /// Answers lines that ask from a copy of the journal, which need not be at rest.
 fn answer_unkept<R: Files<File = File> + Clock + AllocGlobal>(
     shared: &Shared<'_, R>,
-    setup: &Setup,
-    name: &[u8],
+    setup: &FolderSetup,
     log: &mut Tenures,
     lock: Option<FolderLock>,
     lines: &[Vec<u8>],
@@ -150,7 +153,7 @@ fn answer_unkept<R: Files<File = File> + Clock + AllocGlobal>(
     };
     let (bytes, found) = read_journal(shared, &lock)?;
     lock.release();
-    let mut table = copy_of(shared.alloc(), setup, name, bytes)?;
+    let mut table = copy_of(shared.alloc(), setup, bytes)?;
     log.begin(found)?;
     answer_copy(shared.alloc(), &mut table, lines, replies)
 }
@@ -165,10 +168,11 @@ fn ask_table<'s, R: Files + Drop>(
 ) -> Result<usize, TableFault>
     requires lines { AreLines (bytes_of lines.now) }
     requires asks { AreAsking (bytes_of lines.now) }
-    requires of_setup { table.session.setup.now ≡ kept.old.setup.now }
-    requires reads { Reads ⟦<FileDevice<R> as Device>⟧.content kept.old.setup.now table.session.holders.held table.journal }
-    ensures answered { IfOk result (λ count. HasAnswered kept.old.setup.now table.entry.session.holders.held (take count (bytes_of lines.now)) replies.old replies.new) }
-    ensures stopped { OnErr result (HasAnsweredFirst kept.old.setup.now table.entry.session.holders.held (bytes_of lines.now) replies.old replies.new) }
+    requires of_setup { table.session.setup.now ≡ kept.old.setup.now.setup }
+    requires reads { Reads ⟦<FileDevice<R> as Device>⟧.content kept.old.setup.now.setup table.session.holders.held table.journal }
+    requires of { IsOf kept.old.setup.now (⟦<FileDevice<R> as Device>⟧.content table.journal.lines.device) }
+    ensures answered { IfOk result (λ count. HasAnswered kept.old.setup.now.setup table.entry.session.holders.held (take count (bytes_of lines.now)) replies.old replies.new) }
+    ensures stopped { OnErr result (HasAnsweredFirst kept.old.setup.now.setup table.entry.session.holders.held (bytes_of lines.now) replies.old replies.new) }
     ensures some { IfOk result (λ count. 0 < length lines.now → 0 < count) }
     ensures within { IfOk result (λ count. count ≤ length lines.now) }
     ensures setup { kept.new.setup.now ≡ kept.old.setup.now }
@@ -197,7 +201,7 @@ fn answer_reading<'s, 'r, R: Files<File = File> + Clock + AllocGlobal>(
 {
     match reading_table(shared, kept, log, lock) {
         Ok(table) => ask_table(shared.alloc(), kept, table, lines, replies),
-        Err(lock) => answer_unkept(shared, kept.setup(), kept.name(), log, lock, lines, replies),
+        Err(lock) => answer_unkept(shared, kept.setup(), log, lock, lines, replies),
     }
 }
 
@@ -207,6 +211,7 @@ fn settled<'s, D: Device + Drop>(
 ) -> Result<DurableTable<'s, D>, OpenFault<D>>
     requires reads { Reads D.content table.session.setup.now table.session.holders.held table.journal }
     ensures of_setup { IfOk result (λ t. t.session.setup.now ≡ table.entry.session.setup.now) }
+    ensures content { IfOk result (λ t. D.content t.journal.lines.device ≡ D.content table.entry.journal.lines.device) }
     ensures stands { IfOk result (λ t. Stands D.content D.history table.entry.session.setup.now t.session.holders.held t.journal) }
 {
     match table.settle() {
@@ -219,18 +224,18 @@ fn settled<'s, D: Device + Drop>(
 /// table can be made of it, which is tried on a copy, nothing is written.
 fn repaired<'s, 'r, R: Files<File = File> + Clock + AllocGlobal, E: Write>(
     shared: &Shared<'r, R>,
-    setup: &'s Setup,
-    name: &[u8],
+    setup: &'s FolderSetup,
     mut device: FileDevice<&'r R>,
     teller: &mut Teller<'_, E>,
 ) -> Result<FileTable<'s, &'r R>, TableFault>
-    ensures of_setup { IfOk result (λ t. t.session.setup.now ≡ setup.now) }
-    ensures stands { IfOk result (λ t. Stands ⟦<FileDevice<&'r R> as Device>⟧.content ⟦<FileDevice<&'r R> as Device>⟧.history setup.now t.session.holders.held t.journal) }
+    ensures of_setup { IfOk result (λ t. t.session.setup.now ≡ setup.now.setup) }
+    ensures of { IfOk result (λ t. IsOf setup.now (⟦<FileDevice<&'r R> as Device>⟧.content t.journal.lines.device)) }
+    ensures stands { IfOk result (λ t. Stands ⟦<FileDevice<&'r R> as Device>⟧.content ⟦<FileDevice<&'r R> as Device>⟧.history setup.now.setup t.session.holders.held t.journal) }
 {
     let bytes = bytes_of(shared.alloc(), &mut device)?;
-    copy_of(shared.alloc(), setup, name, bytes)?;
+    copy_of(shared.alloc(), setup, bytes)?;
     keep_torn(shared, &mut device, teller)?;
-    match open_table(shared.alloc(), setup, name, device) {
+    match open_table(shared.alloc(), setup, device) {
         Ok(table) => Ok(table),
         Err(fault) => Err(unopened(fault)),
     }
@@ -260,8 +265,9 @@ pub(crate) fn changing_table<'s, 'r, R: Files<File = File> + Clock + AllocGlobal
     teller: &mut Teller<'_, E>,
 ) -> Result<FileTable<'s, &'r R>, TableFault>
     requires { lock.kind ≡ Exclusive }
-    ensures of_setup { IfOk result (λ t. t.session.setup.now ≡ kept.old.setup.now) }
-    ensures stands { IfOk result (λ t. Stands ⟦<FileDevice<&'r R> as Device>⟧.content ⟦<FileDevice<&'r R> as Device>⟧.history kept.old.setup.now t.session.holders.held t.journal) }
+    ensures of_setup { IfOk result (λ t. t.session.setup.now ≡ kept.old.setup.now.setup) }
+    ensures of { IfOk result (λ t. IsOf kept.old.setup.now (⟦<FileDevice<&'r R> as Device>⟧.content t.journal.lines.device)) }
+    ensures stands { IfOk result (λ t. Stands ⟦<FileDevice<&'r R> as Device>⟧.content ⟦<FileDevice<&'r R> as Device>⟧.history kept.old.setup.now.setup t.session.holders.held t.journal) }
     ensures setup { kept.new.setup.now ≡ kept.old.setup.now }
 {
     let alloc = shared.alloc();
@@ -270,9 +276,9 @@ pub(crate) fn changing_table<'s, 'r, R: Files<File = File> + Clock + AllocGlobal
         taken => taken,
     };
     let device = changing_device(shared, taken)?;
-    match read_table(alloc, kept.setup(), kept.name(), device) {
+    match read_table(alloc, kept.setup(), device) {
         Ok(ReadTable::Ready(table)) => settled(table).map_err(unopened),
-        Ok(ReadTable::Anew(device)) => repaired(shared, kept.setup(), kept.name(), device, teller),
+        Ok(ReadTable::Anew(device)) => repaired(shared, kept.setup(), device, teller),
         Err(fault) => Err(unopened(fault)),
     }
 }
@@ -281,26 +287,28 @@ pub(crate) fn changing_table<'s, 'r, R: Files<File = File> + Clock + AllocGlobal
 /// anew. Returns how many were answered, and whether the table may be kept.
 fn answer_table<R: Files + Drop>(
     alloc: Global,
-    setup: &Setup,
-    name: &[u8],
+    setup: &FolderSetup,
     table: &mut FileTable<'_, R>,
     lines: &[Vec<u8>],
     replies: &mut Replies,
 ) -> Result<(usize, bool), TableFault>
     requires lines { AreLines (bytes_of lines.now) }
-    requires of_setup { table.old.session.setup.now ≡ setup.now }
-    requires stands { Stands ⟦<FileDevice<R> as Device>⟧.content ⟦<FileDevice<R> as Device>⟧.history setup.now table.old.session.holders.held table.old.journal }
-    ensures answered { IfOk result (λ done. HasAnswered setup.now table.old.session.holders.held (take done.0 (bytes_of lines.now)) replies.old replies.new) }
-    ensures left { IfOk result (λ done. LeavesBehind setup.now table.old.session.holders.held (take done.0 (bytes_of lines.now)) [] table.new.journal.lines.device.belief) }
-    ensures stopped { OnErr result (StoppedWithin setup.now table.old.session.holders.held (bytes_of lines.now)
+    requires of_setup { table.old.session.setup.now ≡ setup.now.setup }
+    requires stands { Stands ⟦<FileDevice<R> as Device>⟧.content ⟦<FileDevice<R> as Device>⟧.history setup.now.setup table.old.session.holders.held table.old.journal }
+    requires of { IsOf setup.now (⟦<FileDevice<R> as Device>⟧.content table.old.journal.lines.device) }
+    ensures answered { IfOk result (λ done. HasAnswered setup.now.setup table.old.session.holders.held (take done.0 (bytes_of lines.now)) replies.old replies.new) }
+    ensures left { IfOk result (λ done. LeavesAfter setup.now.setup table.old.session.holders.held (take done.0 (bytes_of lines.now)) table.new.journal.lines.device.belief) }
+    ensures left_of { LeavesOf setup.now table.new.journal.lines.device.belief }
+    ensures stopped { OnErr result (StoppedWithin setup.now.setup table.old.session.holders.held (bytes_of lines.now)
         (history_of table.new.journal.lines.device.belief).leaves replies.old replies.new) }
     ensures some { IfOk result (λ done. 0 < length lines.now → 0 < done.0) }
     ensures within { IfOk result (λ done. done.0 ≤ length lines.now) }
-    ensures reads { IfOk result (λ done. done.1 ≡ true → Reads ⟦<FileDevice<R> as Device>⟧.content setup.now table.new.session.holders.held table.new.journal) }
+    ensures reads { IfOk result (λ done. done.1 ≡ true → Reads ⟦<FileDevice<R> as Device>⟧.content setup.now.setup table.new.session.holders.held table.new.journal) }
+    ensures of { IfOk result (λ done. done.1 ≡ true → IsOf setup.now (⟦<FileDevice<R> as Device>⟧.content table.new.journal.lines.device)) }
     ensures setup { table.new.session.setup ≡ table.old.session.setup }
 {
     match answer_lines(alloc, table, lines, replies) {
-        Ok(count) => Ok((count, shorten(alloc, setup, name, table))),
+        Ok(count) => Ok((count, shorten(alloc, setup, table))),
         Err(AnswerError::Device(DeviceError::Failed)) => Err(journal_fault(table.device().fault())),
         Err(_) => Err(TableFault::OutOfMemory),
     }
@@ -310,8 +318,7 @@ fn answer_table<R: Files + Drop>(
 /// run's own, whose device still has the lock. If that fails too, it is left to the next run.
 pub(crate) fn cut_unwritten<R: Files<File = File> + Clock + AllocGlobal>(
     shared: &Shared<'_, R>,
-    setup: &Setup,
-    name: &[u8],
+    setup: &FolderSetup,
     fault: &TableFault,
     mut device: FileDevice<&R>,
 ) {
@@ -325,7 +332,7 @@ pub(crate) fn cut_unwritten<R: Files<File = File> + Clock + AllocGlobal>(
         return;
     };
     if device.read_again().is_ok() {
-        let _ = open_table(shared.alloc(), setup, name, device);
+        let _ = open_table(shared.alloc(), setup, device);
     }
 }
 
@@ -349,14 +356,7 @@ fn answer_changing<'s, 'r, R: Files<File = File> + Clock + AllocGlobal, E: Write
 {
     let mut table = changing_table(shared, kept, lock, teller)?;
     begin_over(table.device(), log)?;
-    let answered = answer_table(
-        shared.alloc(),
-        kept.setup(),
-        kept.name(),
-        &mut table,
-        lines,
-        replies,
-    );
+    let answered = answer_table(shared.alloc(), kept.setup(), &mut table, lines, replies);
     log.end(table.device().believed());
     match answered {
         Ok((count, may_keep)) => {
@@ -366,13 +366,7 @@ fn answer_changing<'s, 'r, R: Files<File = File> + Clock + AllocGlobal, E: Write
             Ok(count)
         }
         Err(fault) => {
-            cut_unwritten(
-                shared,
-                kept.setup(),
-                kept.name(),
-                &fault,
-                table.into_device(),
-            );
+            cut_unwritten(shared, kept.setup(), &fault, table.into_device());
             Err(fault)
         }
     }

@@ -1,5 +1,4 @@
 use Rattle.std.proofs.Common.{◌≡◌, ◌∙◌, ap, subst, ℕ, List, Ok}
-use Rattle.modprobe.specs.Setup.{Setup}
 use Rattle.table_adopt.specs.Kernel.{modules_of_text}
 use Rattle.table_adopt.specs.declared.kernel.KernelModule.{KernelModule}
 use Rattle.gz_table_drive.specs.Adopting.{HasAdopted, adopting_lines}
@@ -12,8 +11,7 @@ returns-clause-adopted g c =
     let found = c.in_ok-setup.setup.value in
     let table = c.in_ok-table.table in
     let held = table.session.holders.held in
-    let kernel = c.in_ok-kernel.kernel.items in
-    let same : c.new.result.setup.now ≡ found.setup = c.new.ensures.setup ∙ ap (λ (f : FolderSetup). f.setup) c.deref-3.ensures in (
+    let kernel = c.in_ok-kernel.kernel.items in (
       c.new-replies.result,
       record { text = c.new-replies.ensures.text; endings = c.new-replies.ensures.endings },
       record {
@@ -25,9 +23,9 @@ returns-clause-adopted g c =
         kernel = kernel;
         listed = (c.in_ok-text.text.items, c.in_ok-text.ensures.text, subst (λ (text : List ℕ). modules_of_text text ≡ Ok kernel) c.deref-2.ensures.value c.in_ok-kernel.ensures.modules);
         held = held;
-        made = subst (λ (s : Setup). HasMade s held (adopting_lines s held kernel) c.args.log.now c.adopt_into.new.log) (c.in_ok-table.ensures.of_setup ∙ same)
-            (subst (λ (ks : List KernelModule). HasMade table.session.setup.now held (adopting_lines table.session.setup.now held ks) c.args.log.now c.adopt_into.new.log) c.deref-5.ensures.value c.in_ok-adopt_into.ensures.made);
-        answered = subst (λ (s : Setup). HasAdopted s held kernel c.new-replies.result c.adopt_into.new.replies) (c.in_ok-table.ensures.of_setup ∙ same)
-            (subst (λ (ks : List KernelModule). HasAdopted table.session.setup.now held ks c.new-replies.result c.adopt_into.new.replies) c.deref-5.ensures.value c.in_ok-adopt_into.ensures.adopted);
+        made = subst (λ (f : FolderSetup). HasMade f held (adopting_lines f.setup held kernel) c.args.log.now c.adopt_into.new.log) c.deref-4.ensures
+            (subst (λ (ks : List KernelModule). HasMade c.deref-4.result.now held (adopting_lines c.deref-4.result.now.setup held ks) c.args.log.now c.adopt_into.new.log) c.deref-5.ensures.value c.in_ok-adopt_into.ensures.made);
+        answered = subst (λ (f : FolderSetup). HasAdopted f.setup held kernel c.new-replies.result c.adopt_into.new.replies) c.deref-4.ensures
+            (subst (λ (ks : List KernelModule). HasAdopted c.deref-4.result.now.setup held ks c.new-replies.result c.adopt_into.new.replies) c.deref-5.ensures.value c.in_ok-adopt_into.ensures.adopted);
       },
     )

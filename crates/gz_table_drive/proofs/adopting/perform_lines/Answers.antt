@@ -2,9 +2,10 @@ use Rattle.std.proofs.Common.{arith, refl, sym, ap, subst, ◌∙◌, ◌≤◌,
 use Rattle.line_journal.specs.Lines.{bytes_of}
 use Rattle.held_lines.specs.Outcomes.{after}
 use Rattle.gz_table_drive.specs.Adopting.{HasRefused}
-use Rattle.durable_table.proofs.GroupLemmas.{none_written}
+use Rattle.durable_table.proofs.GroupLemmas.{none_written, none_written_of}
 use Rattle.gz_table_drive.proofs.AnswerLemmas.{after_more, none_more, moments_more, group_behind, group_lines, take_end}
 use Rattle.gz_table_drive.proofs.AdoptLemmas.{refused_more}
+use Rattle.gz_table_drive.proofs.TenureLemmas.{stays_moments}
 use Rattle.gz_table_drive.proofs.adopting.perform_lines.Goals as goal
 
 pub perform_group-requires-clause-lines : goal.perform_group-requires-clause-lines
@@ -21,6 +22,9 @@ returns-in_err-perform_group-clause-any_moment g c =
     let group = bytes_of (take (end - start) (drop start lines)) in
     moments_more s h front group (bytes_of lines) _ _ _ (group_behind lines start end) c.loop-start.invariant.moments
     (rw c.loop-start.invariant.becomes at (rw c.loop-start.invariant.setup at c.perform_group.ensures.any_moment))
+
+pub returns-in_err-perform_group-clause-any_of : goal.returns-in_err-perform_group-clause-any_of
+returns-in_err-perform_group-clause-any_of g c = stays_moments _ _ c.loop-start.invariant.any_of c.loop-start.invariant.of c.perform_group.ensures.any_of
 
 pub loop-start-preserved : goal.loop-start-preserved
 loop-start-preserved g c =
@@ -42,6 +46,8 @@ loop-start-preserved g c =
       becomes = (rw inv.becomes at (rw inv.setup at made.becomes)) ∙ sym (after_more s h front group) ∙ ap (after s h) (sym all);
       stands = rw inv.setup at made.stands;
       moments = moments_more s h front group (bytes_of lines) _ _ _ (group_behind lines start end) inv.moments (rw inv.becomes at (rw inv.setup at c.perform_group.ensures.any_moment));
+      of = λ name is. made.of name (inv.of name is);
+      any_of = stays_moments _ _ inv.any_of inv.of c.perform_group.ensures.any_of;
       no_fewer = omega (arith, inv.no_fewer, c.perform_group.ensures.no_fewer);
       setup = made.setup ∙ inv.setup;
     }
@@ -54,6 +60,8 @@ loop-start-init g c =
       becomes = refl;
       stands = c.requires.stands;
       moments = none_written g.D.Device.content g.D.Device.history c.args.table.now.session.setup.now c.args.table.now.session.holders.held (bytes_of c.args.lines.now) c.args.table.now.journal c.requires.stands;
+      of = λ name is. is;
+      any_of = none_written_of g.D.Device.content g.D.Device.history c.args.table.now.session.setup.now c.args.table.now.session.holders.held c.args.table.now.journal c.requires.stands;
       no_fewer = omega arith;
       setup = refl;
     }

@@ -1,4 +1,4 @@
-use Rattle.std.proofs.Common.{ap, subst}
+use Rattle.std.proofs.Common.{subst}
 use Rattle.std.proofs.lemmas.Result.{IfOk-weaker}
 use Rattle.table_folder.specs.declared.folder_setup.FolderSetup.{FolderSetup}
 use Rattle.gz_table_drive.specs.Log.{HasCompacted}
@@ -11,5 +11,5 @@ returns-clause-done g c =
       c.in_ok-setup.ensures.found.0,
       c.in_ok-setup.setup.value,
       c.in_ok-setup.ensures.found.1,
-      subst (λ (f : FolderSetup). HasCompacted f.setup f.name.items c.args.log.now c.compact_folder.new.log) c.deref-2.ensures (told done),
+      subst (λ (f : FolderSetup). HasCompacted f c.args.log.now c.compact_folder.new.log) c.deref-2.ensures (told done),
     )) c.compact_folder.ensures.done

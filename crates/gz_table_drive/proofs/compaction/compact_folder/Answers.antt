@@ -2,9 +2,9 @@ use Rattle.std.proofs.Common.{◌≡◌, List, ℕ, Ok, refl, sym, ap, subst, �
 use Rattle.line_journal.specs.Device.{AlwaysLeaves}
 use Rattle.line_journal.specs.Lines.{lines_of}
 use Rattle.line_journal.proofs.Moments.{leaves_now}
-use Rattle.durable_table.specs.Compacting.{compacted, CanBeRemade}
-use Rattle.durable_table.specs.Durable.{FileStands}
+use Rattle.durable_table.specs.Compacting.{compacted}
 use Rattle.file_journal.specs.Belief.{history_of}
+use Rattle.gz_table_drive.specs.Log.{IsJournalOf}
 use Rattle.gz_table_drive.proofs.LogLemmas.{ended_with, grown_none}
 use Rattle.gz_table_drive.proofs.compaction.compact_folder.Goals as goal
 
@@ -13,8 +13,7 @@ returns-in_err-begin_over-clause-grown g c = grown_none c.args.log.now c.begin_o
 
 pub returns-in-Ok-clause-done : goal.returns-in-Ok-clause-done
 returns-in-Ok-clause-done g c = λ done.
-    let s = c.args.setup.now.setup in
-    let name = c.args.setup.now.name.items in
+    let f = c.args.setup.now in
     let held = c.in_ok-table.table.session.holders.held in
     let bytes = c.device.result.now.belief.bytes.items in
     let belief = sym (c.believed.ensures ∙ ap (λ device. device.belief) c.device-2.ensures) in
@@ -23,16 +22,15 @@ returns-in-Ok-clause-done g c = λ done.
       bytes = bytes;
       belief = c.believed.result.value;
       noted = ended_with bytes c.believed.result.value c.args.log.now c.begin_over.new.log c.end.new.self c.in_ok-begin_over.ensures.begun c.end.ensures;
-      found = subst (λ device. FileStands s held device.belief.bytes.items) (sym c.device.ensures) (subst (λ s. FileStands s held c.in_ok-table.table.journal.lines.device.belief.bytes.items) c.new.ensures.setup c.in_ok-table.ensures.stands.same);
-      lines = subst (λ belief. lines_of belief.bytes.items ≡ compacted name s held) belief
-          (subst (λ (n : List ℕ). lines_of c.compact_table-compacted.new.table.journal.lines.device.belief.bytes.items ≡ compacted n s held) c.deref.ensures.value (c.in-Ok.ensures.written (ap Ok done)));
-      left = subst (λ belief. (file : _) → (history_of belief).leaves file → FileStands s held file) belief (leaves_now c.in-Ok.ensures.any_moment);
+      found = subst (λ device. IsJournalOf f held device.belief.bytes.items) (sym c.device.ensures)
+          (subst (λ f. IsJournalOf f held c.in_ok-table.table.journal.lines.device.belief.bytes.items) c.new.ensures (record { stands = c.in_ok-table.ensures.stands.same; of = c.in_ok-table.ensures.of }));
+      lines = subst (λ belief. lines_of belief.bytes.items ≡ compacted f.name.items f.setup held) belief (c.in-Ok.ensures.written (ap Ok done));
+      left = subst (λ belief. (file : _) → (history_of belief).leaves file → IsJournalOf f held file) belief (leaves_now c.in-Ok.ensures.any_moment);
     }
 
 pub returns-in-Ok-clause-kept : goal.returns-in-Ok-clause-kept
 returns-in-Ok-clause-kept g c = λ kept.
-    let s = c.args.setup.now.setup in
-    let name = c.args.setup.now.name.items in
+    let f = c.args.setup.now in
     let held = c.in_ok-table.table.session.holders.held in
     let bytes = c.device.result.now.belief.bytes.items in
     record {
@@ -40,6 +38,7 @@ returns-in-Ok-clause-kept g c = λ kept.
       bytes = bytes;
       belief = c.believed.result.value;
       noted = ended_with bytes c.believed.result.value c.args.log.now c.begin_over.new.log c.end.new.self c.in_ok-begin_over.ensures.begun c.end.ensures;
-      found = subst (λ device. FileStands s held device.belief.bytes.items) (sym c.device.ensures) (subst (λ s. FileStands s held c.in_ok-table.table.journal.lines.device.belief.bytes.items) c.new.ensures.setup c.in_ok-table.ensures.stands.same);
-      cannot = subst (λ (n : List ℕ). CanBeRemade n s held → ⊥) c.deref.ensures.value (c.in-Ok.ensures.needed (ap Ok kept));
+      found = subst (λ device. IsJournalOf f held device.belief.bytes.items) (sym c.device.ensures)
+          (subst (λ f. IsJournalOf f held c.in_ok-table.table.journal.lines.device.belief.bytes.items) c.new.ensures (record { stands = c.in_ok-table.ensures.stands.same; of = c.in_ok-table.ensures.of }));
+      cannot = c.in-Ok.ensures.needed (ap Ok kept);
     }

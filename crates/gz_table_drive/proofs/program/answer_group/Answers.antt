@@ -2,7 +2,7 @@ use Rattle.std.proofs.Common.{[], arith, refl, sym, ap, subst, ◌∙◌, take}
 use Rattle.std.proofs.lemmas.Result.{err_from_is_err_and}
 use Rattle.line_journal.specs.Lines.{bytes_of}
 use Rattle.table_words.specs.Endings.{behind}
-use Rattle.modprobe.specs.Setup.{Setup}
+use Rattle.table_folder.specs.declared.folder_setup.FolderSetup.{FolderSetup}
 use Rattle.gz_table_drive.specs.Written.{AreFirstSent, IsAnswered}
 use Rattle.gz_table_drive.proofs.SentLemmas.{none_sent, turn_stopped}
 use Rattle.gz_table_drive.proofs.WrittenLemmas.{Turns, turn_more, turns_begin}
@@ -29,7 +29,7 @@ loop-rest-preserved g c =
       turns = subst (Turns s c.args.lines.now c.lines_behind-rest.result.now c.args.log.now log old new) (sym (c.behind-ending.ensures ∙ ap (behind c.loop-rest.ending) c.ending.ensures))
           (turn_more s c.args.lines.now c.loop-rest.rest.now c.lines_behind-rest.result.now c.args.log.now c.loop-rest.log log old mid new c.loop-rest.ending answered.replies answered.count
           inv.turns c.in_ok-answered.ensures.within
-          (subst (λ (s : Setup). IsAnswered s (take answered.count (bytes_of c.loop-rest.rest.now)) c.loop-rest.log log answered.replies) inv.setup c.in_ok-answered.ensures.answered)
+          (subst (λ (f : FolderSetup). IsAnswered f (take answered.count (bytes_of c.loop-rest.rest.now)) c.loop-rest.log log answered.replies) inv.setup c.in_ok-answered.ensures.answered)
           c.in_ok-answered.ensures.written c.lines_behind-rest.ensures.rest);
       setup = c.answer_turn.ensures.setup ∙ inv.setup;
     }
@@ -54,4 +54,4 @@ returns-in_err-answered-clause-stopped g c =
     let fault = c.in_err-answered.field-0.0 in
     let p = err_from_is_err_and c.from_residual-in_err-answered.result c.from_residual-in_err-answered.ensures.1 in
     rw (p.1, p.2) (turn_stopped s c.args.lines.now c.loop-rest.rest.now c.args.log.now c.loop-rest.log c.answer_turn.new.log old mid new c.loop-rest.ending fault inv.turns
-    (subst (λ (s : Setup). AreFirstSent s (bytes_of c.loop-rest.rest.now) c.loop-rest.log c.answer_turn.new.log mid new fault) inv.setup c.in_err-answered.ensures.stopped))
+    (subst (λ (f : FolderSetup). AreFirstSent f (bytes_of c.loop-rest.rest.now) c.loop-rest.log c.answer_turn.new.log mid new fault) inv.setup c.in_err-answered.ensures.stopped))

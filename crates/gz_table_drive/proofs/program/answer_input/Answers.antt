@@ -2,7 +2,7 @@ use Rattle.std.proofs.Common.{arith, ◌≡◌, length, rules, refl, sym, ap, su
 use Rattle.std.proofs.lemmas.List.{nil_from_length}
 use Rattle.std.proofs.lemmas.Result.{err_from_is_err_and}
 use Rattle.line_journal.specs.Lines.{bytes_of}
-use Rattle.modprobe.specs.Setup.{Setup}
+use Rattle.table_folder.specs.declared.folder_setup.FolderSetup.{FolderSetup}
 use Rattle.table_folder.specs.InputLines.{text_left, BringsLines}
 use Rattle.gz_table_drive.specs.Written.{AreFirstSent, AreWritten, AnswersSoFar}
 use Rattle.gz_table_drive.proofs.SentLemmas.{group_stopped, input_stopped}
@@ -30,7 +30,7 @@ loop-preserved g c =
       begun = c.in-Ok.ensures.begun;
       written = subst (AnswersSoFar s input left c.args.log.now c.answer_group.new.log old new) (sym c.behind-ending.ensures)
           (answered_more s group input (text_left g.I.Read.remaining c.loop.reader) left c.args.log.now c.loop.log c.answer_group.new.log old mid new c.loop.ending next inv.written brings
-          (subst (λ (s : Setup). AreWritten s group c.loop.log c.answer_group.new.log mid new next) inv.setup c.in_ok-answer_group.ensures.written));
+          (subst (λ (f : FolderSetup). AreWritten f group c.loop.log c.answer_group.new.log mid new next) inv.setup c.in_ok-answer_group.ensures.written));
       setup = c.answer_group.ensures.setup ∙ inv.setup;
     }
 
@@ -65,7 +65,7 @@ returns-in_err-answer_group-clause-stopped g c =
     let brings : BringsLines before left group = subst (BringsLines before left) (ap bytes_of (sym c.deref.ensures.value)) c.in-Ok.ensures.brings in
     let p = err_from_is_err_and c.from_residual.result c.from_residual.ensures.1 in
     rw (p.1, p.2) (group_stopped s group (g.I.Read.remaining c.args.input.now) before left c.args.log.now c.loop.log c.answer_group.new.log (g.O.Write.contents c.args.output.now) mid new c.loop.ending c.in_err-answer_group.field-0.0
-    inv.written brings (subst (λ (s : Setup). AreFirstSent s group c.loop.log c.answer_group.new.log mid new c.in_err-answer_group.field-0.0) inv.setup c.in_err-answer_group.ensures.stopped))
+    inv.written brings (subst (λ (f : FolderSetup). AreFirstSent f group c.loop.log c.answer_group.new.log mid new c.in_err-answer_group.field-0.0) inv.setup c.in_err-answer_group.ensures.stopped))
 
 pub returns-clause-stopped : goal.returns-clause-stopped
 returns-clause-stopped g c =

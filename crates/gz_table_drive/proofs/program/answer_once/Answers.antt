@@ -6,7 +6,6 @@ use Rattle.std.proofs.lemmas.Result.{err_from_is_err_and}
 use Rattle.text_parts.specs.Text.{texts_of}
 use Rattle.line_journal.specs.Lines.{bytes_of}
 use Rattle.table_words.specs.Lines.{line_of}
-use Rattle.modprobe.specs.Setup.{Setup}
 use Rattle.table_folder.specs.declared.folder_setup.FolderSetup.{FolderSetup}
 use Rattle.gz_table_drive.specs.Written.{AreFirstSent, IsAnswered}
 use Rattle.gz_table_drive.proofs.WrittenLemmas.{alone_answered, line_written}
@@ -22,8 +21,8 @@ returns-clause-written g c =
     line_written c.in_ok-setup.ensures.found.0 c.in_ok-setup.setup.value line (take answered.count (bytes_of lines)) c.args.log.now c.answer_turn.new.log
     (g.O.Write.contents c.args.output.now) (g.O.Write.contents c.answer_turn.new.output) answered.replies c.first_ending.result c.in_ok-setup.ensures.found.1
     (alone_answered line (bytes_of lines) answered.count one some)
-    (subst (λ (s : Setup). IsAnswered s (take answered.count (bytes_of lines)) c.args.log.now c.answer_turn.new.log answered.replies)
-    (c.new-kept.ensures.setup ∙ ap (λ (f : FolderSetup). f.setup) c.deref-3.ensures) c.in_ok-answered.ensures.answered)
+    (subst (λ (f : FolderSetup). IsAnswered f (take answered.count (bytes_of lines)) c.args.log.now c.answer_turn.new.log answered.replies)
+    (c.new-kept.ensures ∙ c.deref-3.ensures) c.in_ok-answered.ensures.answered)
     c.in_ok-answered.ensures.written c.first_ending.ensures
 
 pub returns-in_err-answered-clause-failed : goal.returns-in_err-answered-clause-failed
@@ -37,7 +36,7 @@ returns-in_err-answered-clause-failed g c =
       file = c.in_ok-setup.ensures.found.0;
       found = c.in_ok-setup.setup.value;
       read = c.in_ok-setup.ensures.found.1;
-      sends = subst (λ (s : Setup). AreFirstSent s (line ∷ []) c.args.log.now c.answer_turn.new.log (g.O.Write.contents c.args.output.now) (g.O.Write.contents c.answer_turn.new.output) fault)
-          (c.new-kept.ensures.setup ∙ ap (λ (f : FolderSetup). f.setup) c.deref-3.ensures)
+      sends = subst (λ (f : FolderSetup). AreFirstSent f (line ∷ []) c.args.log.now c.answer_turn.new.log (g.O.Write.contents c.args.output.now) (g.O.Write.contents c.answer_turn.new.output) fault)
+          (c.new-kept.ensures ∙ c.deref-3.ensures)
           (subst (λ asked. AreFirstSent c.new-kept.result.setup.now asked c.args.log.now c.answer_turn.new.log (g.O.Write.contents c.args.output.now) (g.O.Write.contents c.answer_turn.new.output) fault) one c.in_err-answered.ensures.stopped);
     })

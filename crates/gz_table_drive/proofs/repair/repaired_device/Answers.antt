@@ -1,6 +1,9 @@
-use Rattle.std.proofs.Common.{◌∙◌}
+use Rattle.std.proofs.Common.{ap, ◌∙◌}
+use Rattle.line_journal.specs.Lines.{at_rest, lines_of}
 use Rattle.gz_table_drive.proofs.TenureLemmas.{found_whole}
 use Rattle.gz_table_drive.proofs.repair.repaired_device.Goals as goal
 
-pub returns-in_default : goal.returns-in_default
-returns-in_default g c = found_whole _ _ _ c.in_ok-found_in.ensures.found c.in_default.ensures.sound c.in_ok-found_in.ensures.fits c.found_in.ensures.content
+pub returns-in_default-clause-left : goal.returns-in_default-clause-left
+returns-in_default-clause-left g c =
+    found_whole _ _ _ c.in_ok-found_in.ensures.found c.in_default.ensures.sound c.in_ok-found_in.ensures.fits c.found_in.ensures.content
+    ∙ ap (λ file. at_rest (lines_of file)) (c.found_in.ensures.content ∙ c.bytes_of.ensures.content)

@@ -1,8 +1,7 @@
 use Rattle.std.proofs.Common.{refl, sym, ap, subst, ◌∙◌, take, IfOk, OnErr}
 use Rattle.line_journal.specs.Lines.{bytes_of}
-use Rattle.durable_table.specs.Durable.{FileStands}
 use Rattle.gz_table_drive.specs.Answers.{HasAnswered, HasAnsweredFirst}
-use Rattle.gz_table_drive.specs.Log.{HasBegunOver}
+use Rattle.gz_table_drive.specs.Log.{IsJournalOf}
 use Rattle.gz_table_drive.proofs.AnswerLemmas.{on_err}
 use Rattle.gz_table_drive.proofs.LogLemmas.{asked_err, asked_ok, none_asked}
 use Rattle.gz_table_drive.proofs.tenure.answer_unkept.Goals as goal
@@ -29,7 +28,7 @@ returns-clause-answered g c =
     let held = c.in_ok-table.table.session.holders.held in
     let lines = bytes_of c.args.lines.now in
     asked_ok c.args.setup.now held lines c.args.log.now c.begin.new.self c.args.replies.now c.answer_copy.new.replies c.answer_copy.result
-    (_, c.in_ok-begin.ensures.ok, subst (λ bytes. FileStands c.args.setup.now held bytes.items) (sym c.in_ok-bytes.ensures.sight) c.in_ok-table.ensures.same) c.requires.asks
+    (_, c.in_ok-begin.ensures.ok, subst (λ bytes. IsJournalOf c.args.setup.now held bytes.items) (sym c.in_ok-bytes.ensures.sight) (record { stands = c.in_ok-table.ensures.same; of = c.in_ok-table.ensures.of })) c.requires.asks
     (subst (λ s. IfOk c.answer_copy.result (λ count. HasAnswered s held (take count lines) c.args.replies.now c.answer_copy.new.replies)) c.in_ok-table.ensures.setup c.answer_copy.ensures.answered)
 
 pub returns-clause-stopped : goal.returns-clause-stopped
@@ -37,5 +36,5 @@ returns-clause-stopped g c =
     let held = c.in_ok-table.table.session.holders.held in
     let lines = bytes_of c.args.lines.now in
     asked_err c.args.setup.now held lines c.args.log.now c.begin.new.self c.args.replies.now c.answer_copy.new.replies c.answer_copy.result
-    (_, c.in_ok-begin.ensures.ok, subst (λ bytes. FileStands c.args.setup.now held bytes.items) (sym c.in_ok-bytes.ensures.sight) c.in_ok-table.ensures.same) c.requires.asks
+    (_, c.in_ok-begin.ensures.ok, subst (λ bytes. IsJournalOf c.args.setup.now held bytes.items) (sym c.in_ok-bytes.ensures.sight) (record { stands = c.in_ok-table.ensures.same; of = c.in_ok-table.ensures.of })) c.requires.asks
     (subst (λ s. OnErr c.answer_copy.result (HasAnsweredFirst s held lines c.args.replies.now c.answer_copy.new.replies)) c.in_ok-table.ensures.setup c.answer_copy.ensures.stopped)
