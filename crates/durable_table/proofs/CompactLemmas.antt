@@ -39,7 +39,7 @@ remade : (name : List ℕ) (s : Setup) (h : Held) (lines : List (List ℕ)) → 
 remade name s h lines made = ap (table_in s) made.is ∙ table_in_journal name s (snapshot_of s h) ∙ ap Some made.makes
 
 -- the commands of a journal that is the snapshot's
-snapshot_behind : (name : List ℕ) (s : Setup) (h : Held) (lines rest : List (Vec ℕ Global)) → bytes_of lines ≡ compacted name s h → rest ≡ drop 1 lines → snapshot_of s h ≡ map (drop 17) (bytes_of rest)
+pub snapshot_behind : (name : List ℕ) (s : Setup) (h : Held) (lines rest : List (Vec ℕ Global)) → bytes_of lines ≡ compacted name s h → rest ≡ drop 1 lines → snapshot_of s h ≡ map (drop 17) (bytes_of rest)
 snapshot_behind name s h lines rest is rest_is =
     sym (chain_unsealed (head name) (snapshot_of s h)) ∙ ap (λ l. map (drop 17) (drop 1 l)) (sym is)
     ∙ ap (map (drop 17)) (drop-map (λ (v : Vec ℕ Global). v.items) 1 lines) ∙ ap (λ l. map (drop 17) (bytes_of l)) (sym rest_is)

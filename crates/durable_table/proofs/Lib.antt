@@ -5,4 +5,5 @@ mod MomentLemmas
 pub mod KeptLemmas
 pub mod GroupLemmas
 mod CompactLemmas
+mod RenewLemmas
 mod SizeLemmas

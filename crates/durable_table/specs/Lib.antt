@@ -4,4 +4,5 @@ pub mod Tables
 pub mod Durable
 pub mod Groups
 pub mod Compacting
+pub mod Renewing
 pub mod Opened

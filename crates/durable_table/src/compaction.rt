@@ -37,7 +37,11 @@ pub enum Compacted {
 }
 
 /// The lines of a journal of these commands, of the setup of this name.
-fn journal_of(alloc: Global, name: &[u8], commands: &[Vec<u8>]) -> Result<Vec<Vec<u8>>, AllocError>
+pub(crate) fn journal_of(
+    alloc: Global,
+    name: &[u8],
+    commands: &[Vec<u8>],
+) -> Result<Vec<Vec<u8>>, AllocError>
     ensures { IfOk result (λ lines. bytes_of lines.items ≡ journal_of name.now (bytes_of commands.now)) }
 {
     let mut lines = Vec::new(alloc);

@@ -8,6 +8,7 @@ mod group;
 mod head;
 mod kept;
 mod opening;
+mod renewal;
 mod replay;
 mod seal;
 
