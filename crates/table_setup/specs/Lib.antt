@@ -1,3 +1,4 @@
 pub mod Sums
 pub mod Sealed
 pub mod Host
+pub mod ForProofs

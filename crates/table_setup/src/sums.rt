@@ -1,57 +1,37 @@
 //! The sum of a text.
-ghost use Rattle.std.specs.Prelude.{◌≡◌};
-ghost use Rattle.table_setup.specs.Sums.{adler32, after_byte, joined, no_bytes};
-
-use std::marker::Model;
+ghost use Rattle.std.specs.Prelude.{◌≡◌, ◌<◌, ◌≤◌, fold, length};
+ghost use Rattle.table_setup.specs.Sums.{adler32, after_byte};
+ghost use Rattle.table_setup.specs.ForProofs.{sums_in};
 
 /// The greatest prime below 2^16.
 const MODULUS: u64 = 65_521;
 
-/// What a sum is kept below, with ample room for one more byte.
-const LARGE: u64 = 1 << 62;
+/// How many bytes are added before the sums are brought below the prime: a division for each byte would take longer than all else.
+const BLOCK: usize = 4096;
 
-/// The two sums of Adler-32: of the bytes, and of what the first sum was after each byte. They count modulo the prime, and
-/// are brought below it only when they are large: a division for each byte would take longer than all else.
-#[derive(Drop)]
+/// The two sums of Adler-32: of the bytes, and of what the first sum was after each byte. Both are below the prime.
+#[derive(Clone, Copy, Drop)]
 struct Sums {
     low: u64,
     high: u64,
 }
 
-impl Model for Sums {
-    ghost use Rattle.std.specs.Prelude.{◌<◌, ◌%◌, ◌^◌};
-    ghost use Rattle.table_setup.specs.Sums as sums;
-
-    ghost Value = { sums.Sums };
-
-    ghost view = { λ s. record { low = s.low % 65521; high = s.high % 65521 } };
-
-    ghost invariant = { λ s. (s.low < 2 ^ 62) × (s.high < 2 ^ 62) };
-}
-
-impl Sums {
-    fn new() -> Sums
-        ensures { result ≡ no_bytes }
-    {
-        Sums { low: 1, high: 0 }
+/// The sums after a block of bytes.
+fn after_block(sums: Sums, block: &[u8]) -> Sums
+    requires below { (sums.low < 65521) × (sums.high < 65521) }
+    requires short { length block.now ≤ 4096 }
+    ensures sums { sums_in result ≡ fold after_byte (sums_in sums) block.now }
+    ensures below { (result.low < 65521) × (result.high < 65521) }
+{
+    // They stay small, so nothing wraps. Said so, no test for that is left in the loop, which goes over all of a setup.
+    let Sums { mut low, mut high } = sums;
+    for byte in block {
+        low = low.wrapping_add(u64::from(*byte));
+        high = high.wrapping_add(low);
     }
-
-    fn add(&mut self, byte: u8)
-        ensures { self.new ≡ after_byte self.old byte }
-    {
-        self.low += byte as u64;
-        self.high += self.low;
-        if self.high >= LARGE {
-            self.low %= MODULUS;
-            self.high %= MODULUS;
-        }
-    }
-
-    fn joined(&self) -> u32
-        ensures { result ≡ joined self.now }
-    {
-        let (low, high) = (self.low % MODULUS, self.high % MODULUS);
-        (high * 65_536 + low) as u32
+    Sums {
+        low: low % MODULUS,
+        high: high % MODULUS,
     }
 }
 
@@ -59,9 +39,11 @@ impl Sums {
 pub fn adler32(text: &[u8]) -> u32
     ensures { result ≡ adler32 text.now }
 {
-    let mut sums = Sums::new();
-    for byte in text {
-        sums.add(*byte);
+    let (mut sums, mut rest) = (Sums { low: 1, high: 0 }, text);
+    while !rest.is_empty() {
+        let (block, later) = rest.split_at(rest.len().min(BLOCK));
+        sums = after_block(sums, block);
+        rest = later;
     }
-    sums.joined()
+    (sums.high * 65_536 + sums.low) as u32
 }
