@@ -2,20 +2,20 @@
 use Rattle.std.specs.Prelude.{◌≡◌, ◌⊎◌, ℕ, Bool, true, false, List, [], ◌∷◌, Contains, Option, Some, Result, Ok, Err, IsUtf8}
 use Rattle.std.specs.Io.KnownBytes.{Appends}
 use Rattle.modprobe_words.specs.Begun.{IsBegun}
-use Rattle.table_words.specs.Asked.{Asked, Job, create, command, lines, adopt, compact, check, repair, asked}
+use Rattle.table_words.specs.Asked.{Asked, Job, create, renew, command, lines, adopt, compact, check, repair, asked}
 use Rattle.table_words.specs.Lines.{line_of}
 use Rattle.table_words.specs.Options.{Stop, help, version, refused}
 use Rattle.table_words.specs.declared.ending.Ending.{Ending}
 use Rattle.table_words.specs.declared.ending.Ending.TheVariants.{Done, Unasked, Fault}
 use Rattle.table_words.specs.declared.help.TheConstants.{HELP, VERSION}
 use Rattle.table_folder.specs.Faults.{ending_of_fault}
-use Rattle.table_folder.specs.Setups.{IsReadFrom}
+use Rattle.table_folder.specs.Setups.{IsNewSetup, IsReadFrom}
 use Rattle.table_folder.specs.declared.fault.TableFault.{TableFault}
 use Rattle.table_folder.specs.declared.folder_setup.FolderSetup.{FolderSetup}
 use Rattle.table_folder.specs.declared.fault.TableFault.TheVariants.{Output}
 use Rattle.gz_table_drive.specs.Counted.{AreCountsWritten}
 use Rattle.gz_table_drive.specs.declared.log.Tenures.{Tenures}
-use Rattle.gz_table_drive.specs.Log.{HasCompacted, HasCreatedTable, HasGrown, HasRepaired}
+use Rattle.gz_table_drive.specs.Log.{HasCompacted, HasCreatedTable, HasGrown, HasRenewed, HasRepaired}
 use Rattle.gz_table_drive.specs.Written.{IsWritten, IsInputAnswered, IsInputSent, IsUntouched, IsUnwritten, IsAdoptionWritten}
 
 -- a text is written whole, and the run is done; or the output failed, and has a beginning of it
@@ -64,9 +64,16 @@ IsDone job old new ending = (ending ≡ Done) × (new ≡ old)
 abbrev pub IsCompacted : Tenures → Tenures → Type 0
 IsCompacted log new_log = (file : List ℕ) × (found : FolderSetup) × IsReadFrom file found × HasCompacted found log new_log
 
+-- a table got another setup, which is a new one
+abbrev pub IsRenewed : Tenures → Tenures → Type 0
+IsRenewed log new_log =
+    (file next_file : List ℕ) × (found next : FolderSetup) × IsReadFrom file found × IsNewSetup next_file × IsReadFrom next_file next
+    × HasRenewed found next log new_log
+
 -- what such a job has left, by a tenure of the log
 abbrev pub HasLeft : Job → Tenures → Tenures → Type 0
 HasLeft (create origin mode) log new_log = HasCreatedTable log new_log
+HasLeft (renew origin) log new_log = IsRenewed log new_log
 HasLeft compact log new_log = IsCompacted log new_log
 HasLeft repair log new_log = HasRepaired log new_log
 HasLeft job log new_log = new_log ≡ log

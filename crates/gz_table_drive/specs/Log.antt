@@ -7,6 +7,7 @@ use Rattle.held_table.specs.Held.{Held}
 use Rattle.held_lines.specs.Outcomes.{after}
 use Rattle.durable_table.specs.Durable.{FileStands}
 use Rattle.durable_table.specs.Commands.{head, is_of}
+use Rattle.durable_table.specs.Renewing.{CanBeRenewed, IsRenewal, OldOrRenewal}
 use Rattle.durable_table.specs.Compacting.{compacted, CanBeRemade}
 use Rattle.durable_table.specs.Groups.{replies_of, AreAsking}
 use Rattle.line_journal.specs.Lines.{at_rest, lines_of}
@@ -141,6 +142,26 @@ pub record CannotCompact (f : FolderSetup) (log new_log : Tenures) : Type 0 wher
   pub noted : HasEndedWith bytes belief log new_log
   pub found : IsJournalOf f held bytes
   pub cannot : CanBeRemade f.name.items f.setup held → ⊥
+
+-- One tenure more, over a journal of this setup that stands for a table. It left a journal of the next setup, whose table is the same
+-- by names, and whatever a crash leaves stands for the table by this setup, or is such a journal.
+pub record HasRenewed (f next : FolderSetup) (log new_log : Tenures) : Type 0 where
+  pub held : Held
+  pub bytes : List ℕ
+  pub belief : Belief
+  pub noted : HasEndedWith bytes belief log new_log
+  pub found : IsJournalOf f held bytes
+  pub renewal : IsRenewal next.name.items f.setup held next.setup belief.bytes.items
+  pub left : (file : List ℕ) → (history_of belief).leaves file → OldOrRenewal next.name.items f.setup held next.setup file
+
+-- One tenure more, over a journal of this setup whose table would be another one by the next setup.
+pub record CannotRenew (f next : FolderSetup) (log new_log : Tenures) : Type 0 where
+  pub held : Held
+  pub bytes : List ℕ
+  pub belief : Belief
+  pub noted : HasEndedWith bytes belief log new_log
+  pub found : IsJournalOf f held bytes
+  pub cannot : CanBeRenewed next.name.items f.setup held next.setup → ⊥
 
 -- one tenure more, that left the journal of a new table of the setup of this name
 abbrev pub HasCreated : List ℕ → Tenures → Tenures → Type 0

@@ -14,6 +14,7 @@ mod log;
 mod opening;
 mod program;
 mod reading;
+mod renewal;
 mod repair;
 mod tenure;
 

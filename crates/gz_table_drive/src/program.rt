@@ -23,6 +23,7 @@ use crate::create::create;
 use crate::in_use::tell_users;
 use crate::kept::Kept;
 use crate::log::Tenures;
+use crate::renewal::renew;
 use crate::repair::repair;
 use crate::tenure::{Turn, answer_in_tenure, take_turn};
 use durable_table::Compacted;
@@ -38,7 +39,7 @@ use std::rt::Files;
 use std::str;
 use std::time::Clock;
 use table_folder::{
-    InputFault, InputLines, Shared, TableFault, Teller, alone, end_run, read_setup,
+    InputFault, InputLines, Shared, TableFault, Teller, alone, end_renewal, end_run, read_setup,
     read_setup_for_command, refuse_others, tell_fault,
 };
 use table_words::{Asked, Ending, HELP, Job, Stop, VERSION, line_of, read_words};
@@ -295,8 +296,10 @@ fn perform<R: Files<File = File> + Env + Clock + AllocGlobal, I: Read, O: Write,
     ensures input { reads_input (job_view job.entry) ≡ false → input.new ≡ input.old }
 {
     refuse_others(shared, teller)?;
+    end_renewal(shared)?;
     match job {
         Job::Create(origin, mode) => create(shared, log, origin, mode, teller),
+        Job::Renew(origin) => renew(shared, log, origin, teller),
         Job::Command(words) => answer_command(shared, log, words, output, teller),
         Job::Lines => answer_lines_of(shared, log, input, output, teller),
         Job::Adopt(file) => answer_adopt(shared, log, file, input, output, teller),

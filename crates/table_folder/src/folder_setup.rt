@@ -86,4 +86,13 @@ impl FolderSetup {
             mark,
         })
     }
+
+    /// What the bytes of a setup say that is to take the place of this one, with its aliases as text. `CutSetup` if they do not end
+    /// with a last line of their length, and `ChangedSetup` if their text has another sum than that line says.
+    pub fn next(&self, alloc: Global, bytes: Vec<u8>) -> Result<FolderSetup, TableFault>
+        ensures found { IfOk result (IsReadFrom bytes.items) }
+        ensures fault { IfErr result IsRefused }
+    {
+        FolderSetup::read(alloc, bytes, self.mark, AliasForm::Text)
+    }
 }

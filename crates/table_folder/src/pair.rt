@@ -25,7 +25,7 @@ pub(crate) struct Pair {
 }
 
 /// The setup that the first line of a journal names: the fourth of its words.
-fn named_in(alloc: Global, journal: &[u8]) -> Option<Vec<u8>> {
+pub(crate) fn named_in(alloc: Global, journal: &[u8]) -> Option<Vec<u8>> {
     let line = whole_lines(journal).next()?;
     let words = words(alloc, line).ok()?;
     let name: &[u8] = words.get(3)?;

@@ -4,7 +4,7 @@ ghost use Rattle.std.specs.Prelude.{◌≡◌, ◌⊎◌, IfErr};
 ghost use Rattle.table_folder.specs.declared.fault.TableFault.TheVariants.{OutOfMemory, Told};
 
 use crate::fault::TableFault;
-use crate::shared::{CUT, JOURNAL, LOCK, SETUP, Shared};
+use crate::shared::{CUT, JOURNAL, LOCK, NEXT, SETUP, Shared};
 use crate::teller::Teller;
 use std::fs::{self, File};
 use std::io::Write;
@@ -12,7 +12,7 @@ use std::rt::Files;
 use std::time::Clock;
 
 /// The files that a run opens. A pipe in the place of one would have it wait for ever.
-const FILES: [&str; 6] = [SETUP, JOURNAL, CUT, LOCK, "setup.new", "journal.new"];
+const FILES: [&str; 7] = [SETUP, NEXT, JOURNAL, CUT, LOCK, "setup.new", "journal.new"];
 
 /// Whether something else than a regular file stands at a path. To read it might take for ever.
 pub(crate) fn is_other_than_file<R: Files>(rt: &R, path: &str) -> bool {

@@ -15,6 +15,9 @@ use std::time::Clock;
 /// What the table was made of.
 pub(crate) const SETUP: &str = "setup";
 
+/// What it is about to be made of.
+pub(crate) const NEXT: &str = "setup.next";
+
 /// What happened since.
 pub(crate) const JOURNAL: &str = "journal";
 

@@ -180,6 +180,17 @@ impl<'e, E: Write> Teller<'e, E> {
         TableFault::Kept
     }
 
+    /// The table does not get another setup: its modules would be others by that.
+    pub fn not_renewed(&mut self, folder: &str) -> TableFault
+        ensures { result ≡ Told }
+    {
+        let _ = writeln!(
+            self.errors,
+            "gz-table: {folder}: by the new setup the modules of the table would be others: one of them is not in it, or needs a module there that is not live, or came later; nothing was changed"
+        );
+        TableFault::Told
+    }
+
     /// So many lines were too long. If none was, nothing is told.
     pub fn too_long(&mut self, lines: u64)
         ensures same_stream { self.new.errors.ghost_name ≡ self.old.errors.ghost_name }

@@ -9,6 +9,8 @@ use Rattle.table_words.specs.declared.asked.Asked as code_asked
 use Rattle.table_words.specs.declared.asked.Job as code_job
 use Rattle.table_words.specs.declared.asked.Job.TheVariants as code_job_is
 use Rattle.table_words.specs.declared.asked.Machine as code_machine
+use Rattle.table_words.specs.declared.asked.Making.{Making}
+use Rattle.table_words.specs.declared.asked.Making.TheVariants as making_is
 use Rattle.table_words.specs.declared.asked.Origin as code_origin
 use Rattle.table_words.specs.declared.asked.Origin.TheVariants as code_origin_is
 
@@ -24,11 +26,12 @@ pub data Origin : Type 0 where
   host : Machine → Origin
   sections : List (List ℕ) → Origin
 
--- a table is made, in a folder of this mode if there is none; the words are one command; the lines of standard input are commands; the table is brought to a
+-- a table is made, in a folder of this mode if there is none; the table gets another setup; the words are one command; the lines of standard input are commands; the table is brought to a
 -- kernel's modules, as a file lists them; the journal is written anew; it is said what stands there; what is damaged is cut
 -- off
 pub data Job : Type 0 where
   create : Origin → ℕ → Job
+  renew : Origin → Job
   command : List (List ℕ) → Job
   lines : Job
   adopt : List ℕ → Job
@@ -56,16 +59,21 @@ asks_machine options = is_some options.release || (is_some options.root || is_so
 abbrev pub machine_in : Options → Machine
 machine_in options = record { release = options.release; root = options.root; kmod = options.kmod }
 
--- what is made of a machine's files has no sections of its own, and something is to be made
-abbrev pub origin_in : Options → List (List ℕ) → Result Job Stop
-origin_in options words =
-    if options.host then alone (create (host (machine_in options)) options.mode) words
-    else (if asks_machine options then Err (refused wants_host)
-    else (if nat_lt 0 (length words) then Ok (create (sections words) options.mode) else Err (refused nothing_to_create)))
+-- what is made of an origin: a table, or the setup of one that is there
+abbrev pub made : Making → Origin → ℕ → Job
+made making_is.Table origin mode = create origin mode
+made making_is.Setup origin mode = renew origin
 
-abbrev pub origin_of_front : Result Front Stop → Result Job Stop
-origin_of_front (Ok read) = origin_in read.options read.rest
-origin_of_front (Err stop) = Err stop
+-- what is made of a machine's files has no sections of its own, and something is to be made
+abbrev pub origin_in : Making → Options → List (List ℕ) → Result Job Stop
+origin_in making options words =
+    if options.host then alone (made making (host (machine_in options)) options.mode) words
+    else (if asks_machine options then Err (refused wants_host)
+    else (if nat_lt 0 (length words) then Ok (made making (sections words) options.mode) else Err (refused nothing_to_create)))
+
+abbrev pub origin_of_front : Making → Result Front Stop → Result Job Stop
+origin_of_front making (Ok read) = origin_in making read.options read.rest
+origin_of_front making (Err stop) = Err stop
 
 -- a word that cannot stand in a line
 abbrev pub is_stray : List ℕ → Bool
@@ -122,11 +130,12 @@ check_of (word ∷ words) = if bytes_eq word (codes "--repair") then alone repai
 abbrev pub job_of : Options → List (List ℕ) → Result Job Stop
 job_of options [] = Ok lines
 job_of options (word ∷ words) =
-    if bytes_eq word (codes "create") then origin_of_front (front true options words)
+    if bytes_eq word (codes "create") then origin_of_front making_is.Table (front true options words)
+    else (if bytes_eq word (codes "renew") then origin_of_front making_is.Setup (front true options words)
     else (if bytes_eq word (codes "compact") then alone compact words
     else (if bytes_eq word (codes "check") then check_of words
     else (if bytes_eq word (codes "adopt") then adopt_of words
-    else command_of (word ∷ words) (find is_stray (word ∷ words)))))
+    else command_of (word ∷ words) (find is_stray (word ∷ words))))))
 
 abbrev pub ask_job : List ℕ → Options → Result Job Stop → Result Asked Stop
 ask_job folder options (Ok job) = Ok (record { folder = folder; wait = options.wait; sync = options.sync; job = job })
@@ -161,6 +170,7 @@ origin_of (code_origin_is.Sections words) = sections (texts_of words.now)
 
 abbrev pub job_view : code_job.Job → Job
 job_view (code_job_is.Create origin mode) = create (origin_of origin) mode
+job_view (code_job_is.Renew origin) = renew (origin_of origin)
 job_view (code_job_is.Command words) = command (texts_of words.now)
 job_view code_job_is.Lines = lines
 job_view (code_job_is.Adopt file) = adopt file.now

@@ -1,8 +1,8 @@
 //! What the words of a program ask for.
-ghost use Rattle.std.specs.Prelude.{◌≡◌, Ok, Err, IfOk, IfErr, find, option_map};
+ghost use Rattle.std.specs.Prelude.{◌≡◌, true, Ok, Err, IfOk, IfErr, find, option_map};
 ghost use Rattle.text_parts.specs.Text.{texts_of};
-ghost use Rattle.table_words.specs.Asked.{adopt_of, alone, asked, asked_in, asked_view, check_of, command_of, first_of, holder_in, if_option, is_again, is_stray, job_of, job_view, machine_in, machine_of, names_holder, origin_in};
-ghost use Rattle.table_words.specs.Options.{front_of, options_of, stop_of, text_of};
+ghost use Rattle.table_words.specs.Asked.{adopt_of, alone, asked, asked_in, asked_view, check_of, command_of, first_of, holder_in, if_option, is_again, is_stray, job_of, job_view, machine_in, machine_of, made, names_holder, origin_in, origin_of, origin_of_front};
+ghost use Rattle.table_words.specs.Options.{front, front_of, options_of, stop_of, text_of};
 
 use crate::fault::{Fault, Stop};
 use crate::line::is_line_word;
@@ -35,6 +35,8 @@ pub enum Origin<'w, 'a> {
 pub enum Job<'w, 'a> {
     /// A table is made. If its folder is not there, it gets this mode.
     Create(Origin<'w, 'a>, u32),
+    /// The table gets another setup.
+    Renew(Origin<'w, 'a>),
     /// The words are one command, each a word of a line.
     Command(&'w [&'a [u8]]),
     /// The lines of standard input are commands.
@@ -82,14 +84,36 @@ fn machine_in<'a>(options: &Options<'a>) -> Machine<'a>
     }
 }
 
+/// What is made of an origin.
+#[derive(Clone, Copy, Debug, PartialEq, Eq)]
+enum Making {
+    Table,
+    Setup,
+}
+
+impl Making {
+    fn job<'w, 'a>(self, origin: Origin<'w, 'a>, mode: u32) -> Job<'w, 'a>
+        ensures { job_view result ≡ made self (origin_of origin.entry) mode }
+    {
+        match self {
+            Making::Table => Job::Create(origin, mode),
+            Making::Setup => Job::Renew(origin),
+        }
+    }
+}
+
 /// What is made, by options and the words behind them.
-fn origin_in<'w, 'a>(options: &Options<'a>, words: &'w [&'a [u8]]) -> Result<Job<'w, 'a>, Stop<'a>>
-    ensures ok { IfOk result (λ job. origin_in (options_of options.entry.now) (texts_of words.entry.now) ≡ Ok (job_view job)) }
-    ensures err { IfErr result (λ stop. origin_in (options_of options.entry.now) (texts_of words.entry.now) ≡ Err (stop_of stop)) }
+fn origin_in<'w, 'a>(
+    making: Making,
+    options: &Options<'a>,
+    words: &'w [&'a [u8]],
+) -> Result<Job<'w, 'a>, Stop<'a>>
+    ensures ok { IfOk result (λ job. origin_in making (options_of options.entry.now) (texts_of words.entry.now) ≡ Ok (job_view job)) }
+    ensures err { IfErr result (λ stop. origin_in making (options_of options.entry.now) (texts_of words.entry.now) ≡ Err (stop_of stop)) }
 {
     if options.host {
         let machine = Origin::Host(machine_in(options));
-        return alone(Job::Create(machine, options.mode), words);
+        return alone(making.job(machine, options.mode), words);
     }
     if options.release.is_some() || options.root.is_some() || options.kmod.is_some() {
         return Err(Stop::Refused(Fault::WantsHost));
@@ -97,7 +121,20 @@ fn origin_in<'w, 'a>(options: &Options<'a>, words: &'w [&'a [u8]]) -> Result<Job
     if words.is_empty() {
         return Err(Stop::Refused(Fault::NothingToCreate));
     }
-    Ok(Job::Create(Origin::Sections(words), options.mode))
+    Ok(making.job(Origin::Sections(words), options.mode))
+}
+
+/// The job of a command that names an origin, with these words behind it.
+fn making_of<'w, 'a>(
+    making: Making,
+    options: Options<'a>,
+    words: &'w [&'a [u8]],
+) -> Result<Job<'w, 'a>, Stop<'a>>
+    ensures ok { IfOk result (λ job. origin_of_front making (front true (options_of options.entry) (texts_of words.entry.now)) ≡ Ok (job_view job)) }
+    ensures err { IfErr result (λ stop. origin_of_front making (front true (options_of options.entry) (texts_of words.entry.now)) ≡ Err (stop_of stop)) }
+{
+    let read = read_front(true, options, words)?;
+    origin_in(making, &read.options, read.rest)
 }
 
 /// The first word that cannot stand in a line.
@@ -213,8 +250,10 @@ fn job_of<'w, 'a>(options: Options<'a>, words: &'w [&'a [u8]]) -> Result<Job<'w,
         return Ok(Job::Lines);
     };
     if is_same(*word, b"create") {
-        let read = read_front(true, options, later)?;
-        return origin_in(&read.options, read.rest);
+        return making_of(Making::Table, options, later);
+    }
+    if is_same(*word, b"renew") {
+        return making_of(Making::Setup, options, later);
     }
     if is_same(*word, b"compact") {
         return alone(Job::Compact, later);
@@ -244,7 +283,7 @@ fn asked_in<'w, 'a>(folder: &'a [u8], read: Read<'w, 'a>) -> Result<Asked<'w, 'a
 
 /// What the words of a program, without its own name, ask for; or why they ask for no work. `table` is the folder that
 /// the environment names: if it names none the first word that is no option does. Options stand before the command,
-/// those of `create` behind it too. All that follows is the command's.
+/// those of `create` and `renew` behind it too. All that follows is the command's.
 pub fn read_words<'w, 'a>(
     table: Option<&'a [u8]>,
     words: &'w [&'a [u8]],

@@ -10,6 +10,7 @@ usage: gz-table [OPTION ..] FOLDER create [--mode MODE] WORD ..
                                                         makes a table: catalogue=PATH, dep=PATH, alias=PATH, conf=PATH
        gz-table [OPTION ..] FOLDER create [--mode MODE] --host [-S VERSION] [--root DIR] [--as 30|34]
                                                         makes one of a machine's modules
+       gz-table [OPTION ..] FOLDER renew WORD ..        gives the table another setup, by words of create
        gz-table [OPTION ..] FOLDER COMMAND [WORD ..]    answers one command
        gz-table [OPTION ..] FOLDER                      answers the lines of standard input
        gz-table [OPTION ..] FOLDER check [--repair]     says what stands in the folder; cuts damage off
