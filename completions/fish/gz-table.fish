@@ -37,7 +37,7 @@ function __gz_table_catalogue -a folder
 end
 
 function __gz_table_commands
-    printf '%s\n' create\t'Make a table' adopt\t'Bring the table to the modules of a kernel' \
+    printf '%s\n' create\t'Make a table' renew\t'Give the table another setup' adopt\t'Bring the table to the modules of a kernel' \
         check\t'Read all files of the folder' compact\t'Write the journal anew' insmod\t'Load one module' \
         rmmod\t'Remove one module' modprobe\t'Load or remove modules with what they need' \
         plan\t'Show what a load would load' lsmod\t'List the modules' proc\t'List them as /proc/modules does' \
@@ -56,7 +56,7 @@ function __gz_table_follow
             __fish_complete_directories (commandline -ct)
         case -1
             __gz_table_commands
-        case '*create'
+        case '*create' '*renew'
             printf '%s\n' catalogue=\t'Descriptions of modules' dep=\t'Lines of modules.dep' \
                 alias=\t'Lines of modules.alias' conf=\t'Lines of modprobe.d'
         case 0get 0put 0hold 0release 0held
@@ -73,7 +73,8 @@ function __gz_table_follow
 end
 
 set -l begins '__gz_table_at 0 (count (string match -- "?*" "$GZ_TABLE")) "*"'
-set -l creates '__gz_table_at 2 99 create'
+set -l makes '__gz_table_at 2 99 create'
+set -l creates "begin; $makes; or __gz_table_at 2 99 renew; end"
 complete -c gz-table -f -a '(__gz_table_follow)'
 complete -c gz-table -n '__gz_table_at 2 2 adopt' -F
 complete -c gz-table -n "$creates; and string match -q '*=*' -- (commandline -ct)" -F
@@ -85,7 +86,7 @@ complete -c gz-table -n $creates -l host -d 'Make it of the files of a machine'
 complete -c gz-table -n $creates -s S -x -a '(path basename /lib/modules/*/)' -d 'Of a release'
 complete -c gz-table -n $creates -l root -x -a '(__fish_complete_directories)' -d 'Below a folder'
 complete -c gz-table -n $creates -l as -x -a '30 34' -d 'As a version of kmod'
-complete -c gz-table -n $creates -l mode -x -a '700 750 755 770' -d 'Who may use it'
+complete -c gz-table -n $makes -l mode -x -a '700 750 755 770' -d 'Who may use it'
 complete -c gz-table -n '__gz_table_at 2 2 check' -l repair -d 'Cut damage off the journal, and keep it'
 complete -c gz-table -n '__gz_table_at 2 2 modprobe' -s r -d 'Remove'
 complete -c gz-table -n '__gz_table_at 2 2 hold' -l again -d 'Also what it holds'
