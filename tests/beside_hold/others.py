@@ -101,7 +101,7 @@ def faults_of_loaded(machine):
             found = machine.hold(["upgrade", name, "--", *map(str, command)])
         failed = ["gz-hold: the command ended with status 1"] if command == ["false"] else []
         said = [it for it in found[2] if not it.startswith("insmod: ")]
-        if (*found[:2], said) != (f"error EEXIST {name}\n", 1, [*failed, LOADED.format(name)]):
+        if (*found[:2], said) != (f"error EEXIST {name}\n", 13, [*failed, LOADED.format(name)]):
             faults.append(f"others load {name} before {at}, with {command[0]}: {found}")
         if (after := machine.hold("check")) != ("", 0, []) or name not in machine.there():
             faults.append(f"after others loaded {name} before {at}, with {command[0]}: {after}, {machine.there()}")
